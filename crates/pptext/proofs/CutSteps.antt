@@ -1,0 +1,54 @@
+-- A cut grows by one piece; the lines_of of the pieces grow with it.
+use Rattle.std.proofs.Common.{◌≡◌, ℕ, zero, suc, ◌+◌, ◌-◌, ◌<◌, ◌≤◌, Bool, true, false, List, [], ◌∷◌, ◌++◌, length, take, drop, refl, sym, ap, ◌∙◌, subst, arith, rules, append_assoc}
+use Rattle.std.specs.List.{flat_map}
+use Rattle.std.proofs.lemmas.List.{append-nil}
+use Rattle.pptext.specs.declared.tokens.Token.{Token}
+use Rattle.pptext.specs.declared.tokens.Kind.{Kind}
+use Rattle.pptext.specs.declared.characters.Char.{Char}
+use Rattle.pptext.specs.Clean.{codes_of}
+use Rattle.pptext.specs.Cut.{Piece, Sort, NewLine, Blank, Comment, Spelled, laid, line_after, with_piece, StandsAt, EachStands, CutUpTo}
+use Rattle.pptext.specs.Lines.{Row, rows_behind, rows_ended, leaves_space, tokens_after}
+
+laid-append : (ps qs : List Piece) → laid (ps ++ qs) ≡ laid ps ++ laid qs
+laid-append [] qs = refl
+laid-append (p ∷ ps) qs = ap (λ z. p.chars ++ z) (laid-append ps qs) ∙ sym (append_assoc p.chars (laid ps) (laid qs))
+
+laid_one : (p : Piece) (ps : List Piece) (rest : List Char) → laid (ps ++ p ∷ []) ++ rest ≡ laid ps ++ (p.chars ++ rest)
+laid_one p ps rest =
+    ap (λ z. z ++ rest) (laid-append ps (p ∷ []) ∙ ap (λ z. laid ps ++ z) (append-nil p.chars)) ∙ append_assoc (laid ps) p.chars rest
+
+each_more : (line : List (List ℕ)) (ps : List Piece) (p : Piece) (rest : List Char) → EachStands line ps (p.chars ++ rest) → StandsAt (line_after line ps) (codes_of (p.chars ++ rest)) (length p.chars) p.sort → EachStands line (ps ++ p ∷ []) rest
+each_more line [] p rest each here = (here, tt)
+each_more line (q ∷ qs) p rest each here =
+    (subst (λ z. StandsAt line (codes_of (q.chars ++ z)) (length q.chars) q.sort) (sym (laid_one p qs rest)) each.0, each_more (with_piece line q q.sort) qs p rest each.1 here)
+
+-- one more piece
+pub cut_more : (chars : List Char) (ps : List Piece) (p : Piece) (rest : List Char) → CutUpTo chars ps (p.chars ++ rest) → StandsAt (line_after [] ps) (codes_of (p.chars ++ rest)) (length p.chars) p.sort → CutUpTo chars (ps ++ p ∷ []) rest
+cut_more chars ps p rest cut here = record {
+  whole = laid_one p ps rest ∙ cut.whole;
+  each = each_more [] ps p rest cut.each here;
+}
+
+pub no_piece : (chars : List Char) → CutUpTo chars [] chars
+no_piece chars = record { whole = refl; each = tt }
+
+pub line_after-append : (line : List (List ℕ)) (ps : List Piece) (p : Piece) → line_after line (ps ++ p ∷ []) ≡ with_piece (line_after line ps) p p.sort
+line_after-append line [] p = refl
+line_after-append line (q ∷ qs) p = line_after-append (with_piece line q q.sort) qs p
+
+-- What the lines_of are, as far as the pieces go: whatever pieces follow give the rest.
+pub RowsSoFar : List Piece → List Row → Bool → List Token → Type 0
+RowsSoFar ps done space open_tokens = (more : List Piece) → rows_behind true [] (ps ++ more) ≡ done ++ rows_behind space open_tokens more
+
+pub rows_start : RowsSoFar [] [] true []
+unfolding RowsSoFar
+rows_start more = refl
+
+pub rows_more : (ps : List Piece) (done : List Row) (space : Bool) (ts : List Token) (p : Piece) → RowsSoFar ps done space ts → RowsSoFar (ps ++ p ∷ []) (done ++ rows_ended ts p.chars p.sort) (leaves_space p.sort) (tokens_after space ts p.chars p.sort)
+unfolding RowsSoFar
+rows_more ps done space ts p sofar more =
+    ap (rows_behind true []) (append_assoc ps (p ∷ []) more) ∙ sofar (p ∷ more) ∙ sym (append_assoc done (rows_ended ts p.chars p.sort) (rows_behind (leaves_space p.sort) (tokens_after space ts p.chars p.sort) more))
+
+pub rows_all : (ps : List Piece) (done : List Row) (space : Bool) (ts : List Token) → RowsSoFar ps done space ts → rows_behind true [] ps ≡ done
+unfolding RowsSoFar
+rows_all ps done space ts sofar = ap (rows_behind true []) (sym (append-nil ps)) ∙ sofar [] ∙ append-nil done

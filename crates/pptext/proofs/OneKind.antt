@@ -1,0 +1,334 @@
+-- No two kinds share a spelling, and no spelling begins with white space.
+use Rattle.std.proofs.Common.{◌≡◌, ℕ, zero, suc, ◌+◌, ◌<◌, ◌≤◌, Bool, true, false, not, ◌||◌, ◌&&◌, ◌==◌, List, [], ◌∷◌, ◌++◌, length, refl, sym, ap, ◌∙◌, subst, inl, inr, ◌⊎◌, arith, rules, append_assoc, length-append, get_or, IsTrue, drop}
+use Rattle.std.specs.Prelude.{Contains}
+use Rattle.std.specs.List.{list_any, list_all, AllByRecursion, AllPass, flat_map}
+use Rattle.std.specs.Str.{bytes_eq}
+use Rattle.std.proofs.lemmas.Bool.{false≢true, and_parts, and_from}
+use Rattle.std.proofs.lemmas.Bool.Decides.{nat_tests}
+use Rattle.std.proofs.lemmas.List.{drop_at}
+use Rattle.std.proofs.lemmas.List.Sums.{AllPass-from_list_all, list_all-from_AllPass}
+use Rattle.std.proofs.lemmas.Slice.Eq.{bytes_eq-Decides}
+use Rattle.pptext.specs.declared.tokens.Kind.{Kind}
+use Rattle.pptext.specs.declared.tokens.Kind.TheVariants.{Ident, Number, CharConst, Str, Punct, Header, Other}
+use Rattle.pptext.specs.Languages.{Exactly, One, Then, Either, IsRun, Repeated}
+use Rattle.pptext.specs.Spellings.{is_digit, is_hex, is_nondigit, is_blank, is_exponent, is_sign, IsUniversal, IsNondigit, IsIdent, IsNumberPart, IsNumber, IsElement, char_prefixes, str_prefixes, IsCharConst, IsStr, punctuators, is_punctuator, IsPunct, IsOther, Spells}
+
+-- the first character passes the test
+abbrev pub begins : (ℕ → Bool) → List ℕ → Bool
+begins test [] = false
+begins test (c ∷ cs) = test c
+
+pub begins-append : (test : ℕ → Bool) (a b : List ℕ) → begins test a ≡ true → begins test (a ++ b) ≡ true
+begins-append test [] b e = absurd (false≢true e)
+begins-append test (c ∷ cs) b e = e
+
+pub begins_also : (test other : ℕ → Bool) → ((c : ℕ) → test c ≡ true → other c ≡ true) → (s : List ℕ) → begins test s ≡ true → begins other s ≡ true
+begins_also test other more [] e = e
+begins_also test other more (c ∷ cs) e = more c e
+
+pub begins_apart : (test other : ℕ → Bool) → ((c : ℕ) → test c ≡ true → other c ≡ true → ⊥) → (s : List ℕ) → begins test s ≡ true → begins other s ≡ true → ⊥
+begins_apart test other apart [] e f = false≢true e
+begins_apart test other apart (c ∷ cs) e f = apart c e f
+
+begins_one : (test : ℕ → Bool) (s : List ℕ) → One test s → begins test s ≡ true
+begins_one test s (c, e, t) = subst (λ z. begins test z ≡ true) (sym e) t
+
+-- the text has no quote in it
+is_plain : ℕ → Bool
+is_plain c = not (c == 39 || c == 34)
+
+abbrev plain : List ℕ → Bool
+plain s = list_all is_plain s
+
+plain-append : (a b : List ℕ) → plain a ≡ true → plain b ≡ true → plain (a ++ b) ≡ true
+plain-append [] b e f = f
+plain-append (c ∷ a) b e f =
+    and_from (is_plain c) (plain (a ++ b)) (and_parts (is_plain c) (plain a) e).0 (plain-append a b (and_parts (is_plain c) (plain a) e).1 f)
+
+plain_behind : (a b : List ℕ) → plain (a ++ b) ≡ true → plain b ≡ true
+plain_behind [] b e = e
+plain_behind (c ∷ a) b e = plain_behind a b (and_parts (is_plain c) (plain (a ++ b)) e).1
+
+-- a language without quotes
+Plain : (List ℕ → Type 0) → Type 0
+Plain P = (s : List ℕ) → P s → plain s ≡ true
+
+one_plain : (test : ℕ → Bool) → ((c : ℕ) → test c ≡ true → is_plain c ≡ true) → Plain (One test)
+unfolding Plain
+one_plain test passes s (c, e, t) = subst (λ z. plain z ≡ true) (sym e) (and_from (is_plain c) true (passes c t) refl)
+
+either_plain : (P Q : List ℕ → Type 0) → Plain P → Plain Q → Plain (Either P Q)
+unfolding Plain
+either_plain P Q p q s (inl a) = p s a
+either_plain P Q p q s (inr b) = q s b
+
+then_plain : (P Q : List ℕ → Type 0) → Plain P → Plain Q → Plain (Then P Q)
+unfolding Plain
+then_plain P Q p q s (a, b, e, x, y) = subst (λ z. plain z ≡ true) (sym e) (plain-append a b (p a x) (q b y))
+
+exactly_plain : (text : List ℕ) → plain text ≡ true → Plain (Exactly text)
+unfolding Plain
+exactly_plain text e s is = subst (λ z. plain z ≡ true) (sym is) e
+
+parts_plain : (P : List ℕ → Type 0) → Plain P → (parts : List (List ℕ)) → AllByRecursion P parts → plain (flat_map (λ p. p) parts) ≡ true
+unfolding Plain
+parts_plain P p [] all = refl
+parts_plain P p (x ∷ xs) all = plain-append x (flat_map (λ q. q) xs) (p x all.0) (parts_plain P p xs all.1)
+
+repeated_plain : (P : List ℕ → Type 0) → Plain P → Plain (Repeated P)
+unfolding Plain
+repeated_plain P p s (parts, all, e) = subst (λ z. plain z ≡ true) (sym e) (parts_plain P p parts all)
+
+nondigit_passes : (c : ℕ) → is_nondigit c ≡ true → is_plain c ≡ true
+unfolding is_plain
+nondigit_passes c t = grind (arith, nat_tests)
+
+digit_passes : (c : ℕ) → is_digit c ≡ true → is_plain c ≡ true
+unfolding is_plain
+digit_passes c t = grind (arith, nat_tests)
+
+hex_passes : (c : ℕ) → is_hex c ≡ true → is_plain c ≡ true
+unfolding is_plain
+hex_passes c t = grind (arith, nat_tests)
+
+dot_passes : (c : ℕ) → is_digit c || c == 46 ≡ true → is_plain c ≡ true
+unfolding is_plain
+dot_passes c t = grind (arith, nat_tests)
+
+exponent_passes : (c : ℕ) → is_exponent c ≡ true → is_plain c ≡ true
+unfolding is_plain
+exponent_passes c t = grind (arith, nat_tests)
+
+sign_passes : (c : ℕ) → is_sign c ≡ true → is_plain c ≡ true
+unfolding is_plain
+sign_passes c t = grind (arith, nat_tests)
+
+run_plain : (n : ℕ) → Plain (IsRun n is_hex)
+unfolding Plain
+run_plain n s (l, all) = list_all-from_AllPass is_plain s (λ k d lt. hex_passes (get_or s k d) (all k d lt))
+
+universal_plain : Plain IsUniversal
+unfolding is_plain
+universal_plain =
+    either_plain (Then (Exactly (92 ∷ 117 ∷ [])) (IsRun 4 is_hex)) (Then (Exactly (92 ∷ 85 ∷ [])) (IsRun 8 is_hex)) (then_plain (Exactly (92 ∷ 117 ∷ [])) (IsRun 4 is_hex) (exactly_plain (92 ∷ 117 ∷ []) refl) (run_plain 4)) (then_plain (Exactly (92 ∷ 85 ∷ [])) (IsRun 8 is_hex) (exactly_plain (92 ∷ 85 ∷ []) refl) (run_plain 8))
+
+nondigit_plain : Plain IsNondigit
+nondigit_plain = either_plain (One is_nondigit) IsUniversal (one_plain is_nondigit nondigit_passes) universal_plain
+
+ident_plain : Plain IsIdent
+ident_plain =
+    then_plain IsNondigit (Repeated (Either IsNondigit (One is_digit))) nondigit_plain (repeated_plain (Either IsNondigit (One is_digit)) (either_plain IsNondigit (One is_digit) nondigit_plain (one_plain is_digit digit_passes)))
+
+number_part_plain : Plain IsNumberPart
+number_part_plain =
+    either_plain IsNondigit (Either (One (λ c. is_digit c || c == 46)) (Then (One is_exponent) (One is_sign))) nondigit_plain (either_plain (One (λ c. is_digit c || c == 46)) (Then (One is_exponent) (One is_sign)) (one_plain (λ c. is_digit c || c == 46) dot_passes) (then_plain (One is_exponent) (One is_sign) (one_plain is_exponent exponent_passes) (one_plain is_sign sign_passes)))
+
+number_plain : Plain IsNumber
+unfolding is_plain
+number_plain =
+    then_plain (Either (One is_digit) (Then (Exactly (46 ∷ [])) (One is_digit))) (Repeated IsNumberPart) (either_plain (One is_digit) (Then (Exactly (46 ∷ [])) (One is_digit)) (one_plain is_digit digit_passes) (then_plain (Exactly (46 ∷ [])) (One is_digit) (exactly_plain (46 ∷ []) refl) (one_plain is_digit digit_passes))) (repeated_plain IsNumberPart number_part_plain)
+
+-- what every entry of a list passes, what equals an entry passes
+any_passes : (test : List ℕ → Bool) (ps : List (List ℕ)) (s : List ℕ) → list_all test ps ≡ true → list_any (λ p. bytes_eq p s) ps ≡ true → test s ≡ true
+any_passes test [] s a b = absurd (false≢true b)
+any_passes test (p ∷ ps) s a b = go (bytes_eq p s) refl b (any_passes test ps s (and_parts (test p) (list_all test ps) a).1)
+  where
+    go : (x : Bool) → bytes_eq p s ≡ x → x || list_any (λ q. bytes_eq q s) ps ≡ true → (list_any (λ q. bytes_eq q s) ps ≡ true → test s ≡ true) → test s ≡ true
+    go true e h later = subst (λ z. test z ≡ true) ((bytes_eq-Decides p s).0 e) (and_parts (test p) (list_all test ps) a).0
+    go false e h later = later h
+
+punct_passes : (test : List ℕ → Bool) → list_all test punctuators ≡ true → (s : List ℕ) → IsPunct s → test s ≡ true
+punct_passes test all s p = any_passes test punctuators s all p
+
+punct_plain : Plain IsPunct
+unfolding Plain is_plain
+punct_plain s p = punct_passes (λ z. list_all is_plain z) refl s p
+
+-- the last of at least two characters
+abbrev EndsIn : ℕ → List ℕ → Type 0
+EndsIn q s = (x : List ℕ) × (0 < length x) × (s ≡ x ++ q ∷ [])
+
+ends_one : (q r : ℕ) (s : List ℕ) → EndsIn q s → EndsIn r s → q ≡ r
+ends_one q r s (x, l, e) (y, m, f) =
+    let lx = length-append x (q ∷ []) in
+    let ly = length-append y (r ∷ []) in
+    let same : length x ≡ length y = (let h = ap length (sym e ∙ f) in omega arith) in
+    let last : q ∷ [] ≡ r ∷ [] = sym (drop_at x (q ∷ []) (length y) same) ∙ ap (drop (length y)) (sym e ∙ f) ∙ drop_at y (r ∷ []) (length y) refl in
+    cc
+
+ends_long : (q : ℕ) (s : List ℕ) (test : ℕ → Bool) → EndsIn q s → One test s → ⊥
+ends_long q s test (x, l, e) (c, f, t) =
+    let lx = length-append x (q ∷ []) in
+    let h = ap length (sym e ∙ f) in
+    omega arith
+
+not_plain : (q : ℕ) (s : List ℕ) → is_plain q ≡ false → EndsIn q s → plain s ≡ true → ⊥
+not_plain q s quote (x, l, e) p =
+    false≢true (sym quote ∙ (and_parts (is_plain q) true (plain_behind x (q ∷ []) (subst (λ z. plain z ≡ true) e p))).0)
+
+char_ends : (s : List ℕ) → IsCharConst s → EndsIn 39 s
+char_ends s (a, b, e, p, (c, d, f, q, (g, h, i, el, (j, k, l, r, m)))) = (a ++ (c ++ (g ++ j)), long, whole)
+  where
+    long : 0 < length (a ++ (c ++ (g ++ j)))
+    long = let u = length-append a (c ++ (g ++ j)) in let v = length-append c (g ++ j) in let w = ap length q in omega arith
+
+    whole : s ≡ (a ++ (c ++ (g ++ j))) ++ 39 ∷ []
+    whole = e ∙ ap (λ z. a ++ z) (f ∙ ap (λ z. c ++ z) (i ∙ ap (λ z. g ++ z) (l ∙ ap (λ z. j ++ z) m) ∙ sym (append_assoc g j (39 ∷ []))) ∙ sym (append_assoc c (g ++ j) (39 ∷ []))) ∙ sym (append_assoc a (c ++ (g ++ j)) (39 ∷ []))
+
+str_ends : (s : List ℕ) → IsStr s → EndsIn 34 s
+str_ends s (a, b, e, p, (c, d, f, q, (j, k, l, r, m))) = (a ++ (c ++ j), long, whole)
+  where
+    long : 0 < length (a ++ (c ++ j))
+    long = let u = length-append a (c ++ j) in let v = length-append c j in let w = ap length q in omega arith
+
+    whole : s ≡ (a ++ (c ++ j)) ++ 34 ∷ []
+    whole = e ∙ ap (λ z. a ++ z) (f ∙ ap (λ z. c ++ z) (l ∙ ap (λ z. j ++ z) m) ∙ sym (append_assoc c j (34 ∷ []))) ∙ sym (append_assoc a (c ++ j) (34 ∷ []))
+
+-- how identifiers and numbers begin
+abbrev is_ident_head : ℕ → Bool
+is_ident_head c = is_nondigit c || c == 92
+
+abbrev begins_number : List ℕ → Bool
+begins_number [] = false
+begins_number (c ∷ []) = is_digit c
+begins_number (c ∷ d ∷ cs) = is_digit c || (c == 46 && is_digit d)
+
+universal_begins : (s : List ℕ) → IsUniversal s → begins (λ c. c == 92) s ≡ true
+universal_begins s (inl (a, b, e, x, y)) = subst (λ z. begins (λ c. c == 92) z ≡ true) (sym (e ∙ ap (λ z. z ++ b) x)) refl
+universal_begins s (inr (a, b, e, x, y)) = subst (λ z. begins (λ c. c == 92) z ≡ true) (sym (e ∙ ap (λ z. z ++ b) x)) refl
+
+nondigit_head : (c : ℕ) → is_nondigit c ≡ true → is_ident_head c ≡ true
+nondigit_head c t = grind (arith, nat_tests)
+
+backslash_head : (c : ℕ) → c == 92 ≡ true → is_ident_head c ≡ true
+backslash_head c t = grind (arith, nat_tests)
+
+nondigit_begins : (s : List ℕ) → IsNondigit s → begins is_ident_head s ≡ true
+nondigit_begins s (inl a) = begins_also is_nondigit is_ident_head nondigit_head s (begins_one is_nondigit s a)
+nondigit_begins s (inr b) = begins_also (λ c. c == 92) is_ident_head backslash_head s (universal_begins s b)
+
+ident_begins : (s : List ℕ) → IsIdent s → begins is_ident_head s ≡ true
+ident_begins s (a, b, e, x, y) = subst (λ z. begins is_ident_head z ≡ true) (sym e) (begins-append is_ident_head a b (nondigit_begins a x))
+
+digit_first : (c : ℕ) (b : List ℕ) → is_digit c ≡ true → begins_number (c ∷ b) ≡ true
+digit_first c [] t = t
+digit_first c (d ∷ b) t = grind (arith, nat_tests)
+
+number_begins : (s : List ℕ) → IsNumber s → begins_number s ≡ true
+number_begins s (a, b, e, inl (c, f, t), y) = subst (λ z. begins_number z ≡ true) (sym (e ∙ ap (λ z. z ++ b) f)) (digit_first c b t)
+number_begins s (a, b, e, inr (v, w, f, x, (d, g, t)), y) =
+    subst (λ z. begins_number z ≡ true) (sym (e ∙ ap (λ z. z ++ b) (f ∙ ap (λ z. z ++ w) x ∙ ap (λ z. 46 ∷ z) g))) t
+
+abbrev is_number_head : ℕ → Bool
+is_number_head c = is_digit c || c == 46
+
+number_head : (s : List ℕ) → begins_number s ≡ true → begins is_number_head s ≡ true
+number_head [] t = t
+number_head (c ∷ []) t = grind (arith, nat_tests)
+number_head (c ∷ d ∷ cs) t = grind (arith, nat_tests)
+
+heads_apart : (c : ℕ) → is_ident_head c ≡ true → is_number_head c ≡ true → ⊥
+heads_apart c t u = grind (arith, nat_tests)
+
+not_true : (b : Bool) → not b ≡ true → b ≡ true → ⊥
+not_true true e f = false≢true e
+not_true false e f = false≢true f
+
+-- the pairs of kinds
+ident_number : (s : List ℕ) → IsIdent s → IsNumber s → ⊥
+ident_number s a b = begins_apart is_ident_head is_number_head heads_apart s (ident_begins s a) (number_head s (number_begins s b))
+
+ident_punct : (s : List ℕ) → IsIdent s → IsPunct s → ⊥
+ident_punct s a b = not_true (begins is_ident_head s) (punct_passes (λ p. not (begins is_ident_head p)) refl s b) (ident_begins s a)
+
+number_punct : (s : List ℕ) → IsNumber s → IsPunct s → ⊥
+number_punct s a b = not_true (begins_number s) (punct_passes (λ p. not (begins_number p)) refl s b) (number_begins s a)
+
+char_not_plain : (s : List ℕ) → IsCharConst s → plain s ≡ true → ⊥
+unfolding is_plain
+char_not_plain s a p = not_plain 39 s refl (char_ends s a) p
+
+str_not_plain : (s : List ℕ) → IsStr s → plain s ≡ true → ⊥
+unfolding is_plain
+str_not_plain s a p = not_plain 34 s refl (str_ends s a) p
+
+char_str : (s : List ℕ) → IsCharConst s → IsStr s → ⊥
+char_str s a b = let e : ◌≡◌ {A = ℕ} 39 34 = ends_one 39 34 s (char_ends s a) (str_ends s b) in absurd (omega arith)
+
+pub one_kind : (s : List ℕ) (k l : Kind) → Spells k s → Spells l s → k ≡ l
+unfolding Plain
+one_kind s Ident Ident a b = refl
+one_kind s Ident Number a b = absurd (ident_number s a b)
+one_kind s Ident CharConst a b = absurd (char_not_plain s b (ident_plain s a))
+one_kind s Ident Str a b = absurd (str_not_plain s b (ident_plain s a))
+one_kind s Ident Punct a b = absurd (ident_punct s a b)
+one_kind s Ident Header a b = absurd b
+one_kind s Ident Other a b = absurd (b.1 a)
+one_kind s Number Ident a b = absurd (ident_number s b a)
+one_kind s Number Number a b = refl
+one_kind s Number CharConst a b = absurd (char_not_plain s b (number_plain s a))
+one_kind s Number Str a b = absurd (str_not_plain s b (number_plain s a))
+one_kind s Number Punct a b = absurd (number_punct s a b)
+one_kind s Number Header a b = absurd b
+one_kind s Number Other a b = absurd (b.2 a)
+one_kind s CharConst Ident a b = absurd (char_not_plain s a (ident_plain s b))
+one_kind s CharConst Number a b = absurd (char_not_plain s a (number_plain s b))
+one_kind s CharConst CharConst a b = refl
+one_kind s CharConst Str a b = absurd (char_str s a b)
+one_kind s CharConst Punct a b = absurd (char_not_plain s a (punct_plain s b))
+one_kind s CharConst Header a b = absurd b
+one_kind s CharConst Other a b = absurd (ends_long 39 s _ (char_ends s a) b.0)
+one_kind s Str Ident a b = absurd (str_not_plain s a (ident_plain s b))
+one_kind s Str Number a b = absurd (str_not_plain s a (number_plain s b))
+one_kind s Str CharConst a b = absurd (char_str s b a)
+one_kind s Str Str a b = refl
+one_kind s Str Punct a b = absurd (str_not_plain s a (punct_plain s b))
+one_kind s Str Header a b = absurd b
+one_kind s Str Other a b = absurd (ends_long 34 s _ (str_ends s a) b.0)
+one_kind s Punct Ident a b = absurd (ident_punct s b a)
+one_kind s Punct Number a b = absurd (number_punct s b a)
+one_kind s Punct CharConst a b = absurd (char_not_plain s b (punct_plain s a))
+one_kind s Punct Str a b = absurd (str_not_plain s b (punct_plain s a))
+one_kind s Punct Punct a b = refl
+one_kind s Punct Header a b = absurd b
+one_kind s Punct Other a b = absurd (b.3 a)
+one_kind s Header l a b = absurd a
+one_kind s Other Ident a b = absurd (a.1 b)
+one_kind s Other Number a b = absurd (a.2 b)
+one_kind s Other CharConst a b = absurd (ends_long 39 s _ (char_ends s b) a.0)
+one_kind s Other Str a b = absurd (ends_long 34 s _ (str_ends s b) a.0)
+one_kind s Other Punct a b = absurd (a.3 b)
+one_kind s Other Header a b = absurd b
+one_kind s Other Other a b = refl
+
+-- no white space
+abbrev pub is_visible : ℕ → Bool
+is_visible c = not (is_blank c || c == 10)
+
+abbrev empty_or_visible : List ℕ → Bool
+empty_or_visible [] = true
+empty_or_visible (c ∷ cs) = is_visible c
+
+contains_passes : (ps : List (List ℕ)) (s : List ℕ) → list_all empty_or_visible ps ≡ true → Contains ps s → empty_or_visible s ≡ true
+contains_passes ps s all (k, lt, e) = subst (λ z. empty_or_visible z ≡ true) e (AllPass-from_list_all empty_or_visible ps all k s lt)
+
+prefixed_visible : (a b : List ℕ) → empty_or_visible a ≡ true → begins is_visible b ≡ true → begins is_visible (a ++ b) ≡ true
+prefixed_visible [] b e f = f
+prefixed_visible (c ∷ a) b e f = e
+
+ident_visible : (c : ℕ) → is_ident_head c ≡ true → is_visible c ≡ true
+ident_visible c t = grind (arith, nat_tests)
+
+number_visible : (c : ℕ) → is_number_head c ≡ true → is_visible c ≡ true
+number_visible c t = grind (arith, nat_tests)
+
+pub spelling_visible : (s : List ℕ) (k : Kind) → Spells k s → begins is_visible s ≡ true
+spelling_visible s Ident a = begins_also is_ident_head is_visible ident_visible s (ident_begins s a)
+spelling_visible s Number a = begins_also is_number_head is_visible number_visible s (number_head s (number_begins s a))
+spelling_visible s CharConst (a, b, e, p, (c, d, f, q, r)) =
+    subst (λ z. begins is_visible z ≡ true) (sym e) (prefixed_visible a b (contains_passes char_prefixes a refl p) (subst (λ z. begins is_visible z ≡ true) (sym (f ∙ ap (λ z. z ++ d) q)) refl))
+spelling_visible s Str (a, b, e, p, (c, d, f, q, r)) =
+    subst (λ z. begins is_visible z ≡ true) (sym e) (prefixed_visible a b (contains_passes str_prefixes a refl p) (subst (λ z. begins is_visible z ≡ true) (sym (f ∙ ap (λ z. z ++ d) q)) refl))
+spelling_visible s Punct a = punct_passes (λ p. begins is_visible p) refl s a
+spelling_visible s Header a = absurd a
+spelling_visible s Other a = begins_one is_visible s a.0

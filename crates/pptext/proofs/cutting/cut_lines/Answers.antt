@@ -1,0 +1,88 @@
+use Rattle.std.proofs.Common.{◌≡◌, ℕ, ◌+◌, ◌-◌, ◌≤◌, ◌<◌, List, length, drop, take, get_or, sym, ◌∙◌, ap, subst, refl, arith, rules, ◌++◌, ◌∷◌, []}
+use Rattle.std.proofs.lemmas.List.{take_rest, length-drop, length-map, get_or-drop}
+use Rattle.pptext.specs.declared.characters.Char.{Char}
+use Rattle.pptext.specs.declared.tokens.Place.{Place}
+use Rattle.pptext.specs.declared.cutting.Ending.{Ending}
+use Rattle.pptext.specs.Clean.{place, codes_of}
+use Rattle.pptext.proofs.CutLoop.{State, state_start, skip_blanks, skip_comment, end_line, add_token, cut_all, never_closed, codes_length, head_of_drop, head_of_take, token_is}
+use Rattle.pptext.specs.Lines.{token_of}
+use Rattle.pptext.specs.Texts.{Reading}
+use Rattle.pptext.proofs.cutting.cut_lines.Goals as goal
+
+first : Char
+first = record { code = 0; at = place 0 0 0 }
+
+pub loop-at-init : goal.loop-at-init
+loop-at-init c = record {
+  same = refl;
+  passed = omega arith;
+  state = rw (c.requires.no_tokens, c.requires.no_lines) (state_start c.args.text.now.chars);
+}
+
+pub loop-at-preserved-in-NewLine : goal.loop-at-preserved-in-NewLine
+loop-at-preserved-in-NewLine c =
+    let chars = c.args.text.now.chars in
+    let l = codes_length chars in
+    let d = length-drop c.loop-at.at (codes_of chars) in
+    let same = c.codes-in-loop-at.ensures ∙ ap codes_of c.loop-at.invariant.same in
+    let found = simp (take_rest, same) at c.in-NewLine.ensures in
+    let first_length = ap length (c.codes.ensures ∙ ap codes_of c.loop-at.invariant.same) in
+    let e : Ending = record { end = c.len-start.result; number = c.place-number.result.line } in
+    let number = ap (λ (p : Place). p.line) (c.place-number.ensures.place first ∙ ap (λ (z : List Char). (get_or z c.loop-at.at first).at) c.loop-at.invariant.same ∙ head_of_take chars c.loop-at.at 1 first (omega arith) (omega arith)) in
+    record {
+      same = ap (λ (r : Reading). r.chars) c.place-number.ensures.after ∙ c.loop-at.invariant.same;
+      passed = omega (arith, ap (λ (r : Reading). r.passed) c.place-number.ensures.after);
+      state = rw c.in_ok-push-in-NewLine.ensures.items (end_line chars c.loop-at.at c.loop-at.start c.len-start.result c.loop-at.space c.loop-at.tokens.items c.loop-at.lines.items e c.loop-at.invariant.state (c.len-start.ensures ∙ c.loop-at.tokens.ok.0) refl number (omega arith) found);
+    }
+
+pub loop-at-preserved-in-Blank : goal.loop-at-preserved-in-Blank
+loop-at-preserved-in-Blank c =
+    let chars = c.args.text.now.chars in
+    let l = codes_length chars in
+    let d = length-drop c.loop-at.at (codes_of chars) in
+    let same = c.codes-in-loop-at.ensures ∙ ap codes_of c.loop-at.invariant.same in
+    let found = simp (take_rest, same) at c.in-Blank.ensures in
+    record {
+      same = c.loop-at.invariant.same;
+      passed = omega (arith, c.loop-at.invariant.passed);
+      state = skip_blanks chars c.in-Blank.n c.loop-at.at c.loop-at.start c.loop-at.space c.loop-at.tokens.items c.loop-at.lines.items c.loop-at.invariant.state found.1 (omega (arith, found.0, c.loop-at.invariant.state.within)) (λ k lt. simp get_or-drop at (found.2 k lt));
+    }
+
+pub loop-at-preserved-in-Comment : goal.loop-at-preserved-in-Comment
+loop-at-preserved-in-Comment c =
+    let chars = c.args.text.now.chars in
+    let same = c.codes-in-loop-at.ensures ∙ ap codes_of c.loop-at.invariant.same in
+    let found = simp (take_rest, same) at c.in-Comment.ensures in
+    record {
+      same = c.loop-at.invariant.same;
+      passed = omega (arith, c.loop-at.invariant.passed);
+      state = skip_comment chars c.loop-at.at c.loop-at.start c.in-Comment.n c.loop-at.space c.loop-at.tokens.items c.loop-at.lines.items c.loop-at.invariant.state found.0 found.2;
+    }
+
+pub loop-at-preserved : goal.loop-at-preserved
+loop-at-preserved c =
+    let chars = c.args.text.now.chars in
+    let same = c.codes-in-loop-at.ensures ∙ ap codes_of c.loop-at.invariant.same in
+    let found = simp (take_rest, c.deref.ensures.value, same) at c.in-Token.ensures in
+    let token = c.in_ok-token_from-in-Token.ensures.token ∙ ap (λ (z : List Char). token_of c.in-Token.kind c.loop-at.space (take c.in-Token.n (drop c.loop-at.at z))) c.loop-at.invariant.same in
+    record {
+      same = c.token_from.ensures.chars ∙ c.loop-at.invariant.same;
+      passed = omega (arith, c.token_from.ensures.passed);
+      state = rw c.in_ok-push-in-Token.ensures.items (add_token chars c.loop-at.at c.loop-at.start c.in-Token.n c.loop-at.space c.loop-at.tokens.items c.loop-at.lines.items c.in-Token.kind c.in_ok-token_from-in-Token.field-0 c.loop-at.invariant.state token found.0 found.2);
+    }
+
+pub returns-in-Unclosed : goal.returns-in-Unclosed
+returns-in-Unclosed c =
+    let chars = c.args.text.now.chars in
+    let l = codes_length chars in
+    let same = c.codes-in-loop-at.ensures ∙ ap codes_of c.loop-at.invariant.same in
+    let found = simp (take_rest, same) at c.in-Unclosed.ensures in
+    let first_length = ap length (c.codes.ensures ∙ ap codes_of c.loop-at.invariant.same) in
+    let here = c.place.ensures.place first ∙ ap (λ (z : List Char). (get_or z c.loop-at.at first).at) c.loop-at.invariant.same ∙ head_of_drop chars c.loop-at.at first (omega arith) in
+    never_closed chars c.loop-at.at c.loop-at.start c.loop-at.space c.loop-at.tokens.items c.loop-at.lines.items c.place.result c.loop-at.invariant.state here found
+
+pub returns : goal.returns
+returns c =
+    let chars = c.args.text.now.chars in
+    let first_length = ap length (c.codes.ensures ∙ ap codes_of c.loop-at.invariant.same) in
+    rw c.truncate.ensures.items (cut_all chars c.loop-at.at c.loop-at.start c.loop-at.space c.loop-at.tokens.items c.loop-at.lines.items c.loop-at.invariant.state (omega arith))

@@ -1,0 +1,13 @@
+use Rattle.std.proofs.Common.{◌≡◌, ℕ, ◌+◌, ◌-◌, ◌≤◌, length}
+use Rattle.pptext.proofs.CutLoop.{State}
+use Rattle.pptext.proofs.cutting.cut_lines.Given as goal
+
+abbrev pub invariant-loop-at : goal.invariant-loop-at
+invariant-loop-at l = record {
+  same : l.text.chars ≡ l.initial.text.chars;
+  passed : l.text.passed ≤ l.at;
+  state : State l.initial.text.chars l.at l.start l.space l.tokens.items l.lines.items;
+}
+
+abbrev pub decreases-loop-at : goal.decreases-loop-at
+decreases-loop-at l = length l.initial.text.chars - l.at

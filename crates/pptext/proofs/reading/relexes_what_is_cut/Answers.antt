@@ -1,0 +1,5 @@
+use Rattle.pptext.proofs.OneToken.{relexes_what_is_cut}
+use Rattle.pptext.proofs.reading.relexes_what_is_cut.Goals as goal
+
+pub returns : goal.returns
+returns c = relexes_what_is_cut

@@ -1,0 +1,107 @@
+-- Translation phase 3 (5.1.1.2, 6.4): the characters of a text cut into comments, white space, new-lines and tokens.
+use Rattle.std.specs.Prelude.{◌≡◌, ℕ, ◌+◌, ◌<◌, ◌≤◌, List, [], ◌∷◌, ◌++◌, Bool, IsTrue, length, take, drop, ◌⊎◌, codes, Option, None, Some, unwrap_or}
+use Rattle.std.specs.List.{flat_map}
+use Rattle.memchr.specs.Find.{FindsNeedle, IsFirstByte, is_byte}
+use Rattle.pptext.specs.declared.tokens.Place.{Place}
+use Rattle.pptext.specs.declared.tokens.Kind.{Kind}
+use Rattle.pptext.specs.declared.tokens.Kind.TheVariants.{Ident, Number, CharConst, Str, Punct, Header, Other}
+use Rattle.pptext.specs.declared.characters.Char.{Char}
+use Rattle.pptext.specs.Clean.{codes_of, place}
+use Rattle.pptext.specs.Languages.{Longest}
+use Rattle.pptext.specs.Spellings.{is_blank, IsHeader, Spells, IsSpelling}
+
+pub data Sort : Type 0 where
+  NewLine : Sort
+  Blank : Sort
+  Comment : Sort
+  Spelled : Kind → Sort
+
+-- a piece of the text
+pub record Piece : Type 0 where
+  pub sort : Sort
+  pub chars : List Char
+
+-- the pieces laid end to end
+abbrev pub laid : List Piece → List Char
+laid ps = flat_map (λ p. p.chars) ps
+
+-- the spellings of the tokens of a line, as far as the pieces go
+abbrev pub with_piece : List (List ℕ) → Piece → Sort → List (List ℕ)
+with_piece line p NewLine = []
+with_piece line p Blank = line
+with_piece line p Comment = line
+with_piece line p (Spelled k) = line ++ codes_of p.chars ∷ []
+
+abbrev pub line_after : List (List ℕ) → List Piece → List (List ℕ)
+line_after line [] = line
+line_after line (p ∷ ps) = line_after (with_piece line p p.sort) ps
+
+-- `#` or `%:`, and `include`: a header name may follow (6.4.7)
+abbrev pub AwaitsHeader : List (List ℕ) → Type 0
+AwaitsHeader line = (line ≡ codes "#" ∷ codes "include" ∷ []) ⊎ (line ≡ codes "%:" ∷ codes "include" ∷ [])
+
+abbrev pub BeginsWith : List ℕ → List ℕ → Type 0
+BeginsWith text front = take (length front) text ≡ front
+
+abbrev pub OpensBlock : List ℕ → Type 0
+OpensBlock text = BeginsWith text (codes "/*")
+
+abbrev pub OpensLine : List ℕ → Type 0
+OpensLine text = BeginsWith text (codes "//")
+
+-- where the comment that opens here has its `*/`, counted from behind the opening
+abbrev pub ClosesAt : List ℕ → Option ℕ → Type 0
+ClosesAt text r = FindsNeedle (drop 2 text) (codes "*/") 0 r
+
+-- a comment of n characters: up to the next `*/`, or up to the new-line (6.4.9)
+abbrev pub CommentAt : List ℕ → ℕ → Type 0
+CommentAt text n =
+    (OpensBlock text × (k : ℕ) × ClosesAt text (Some k) × (n ≡ k + 4)) ⊎ (OpensLine text × (r : Option ℕ) × IsFirstByte (is_byte 10) text r × (n ≡ unwrap_or r (length text)))
+
+-- a header name of n characters, behind these tokens of its line
+pub record HeaderAt (line : List (List ℕ)) (text : List ℕ) (n : ℕ) : Type 0 where
+  pub awaited : AwaitsHeader line
+  pub fits : n ≤ length text
+  pub spelled : IsHeader (take n text)
+
+-- another token of n characters: the longest front that some kind spells
+pub record PlainTokenAt (line : List (List ℕ)) (text : List ℕ) (n : ℕ) (kind : Kind) : Type 0 where
+  pub no_comment : ¬ (OpensBlock text ⊎ OpensLine text)
+  pub no_header : (m : ℕ) → ¬ HeaderAt line text m
+  pub longest : Longest IsSpelling text n
+  pub spelled : Spells kind (take n text)
+
+-- n characters of this sort begin the text, behind these tokens of its line
+abbrev pub StandsAt : List (List ℕ) → List ℕ → ℕ → Sort → Type 0
+StandsAt line text n NewLine = (n ≡ 1) × BeginsWith text (10 ∷ [])
+StandsAt line text n Blank = (n ≡ 1) × (c : ℕ) × BeginsWith text (c ∷ []) × IsTrue (is_blank c)
+StandsAt line text n Comment = CommentAt text n
+StandsAt line text n (Spelled k) = (HeaderAt line text n × (k ≡ Header)) ⊎ PlainTokenAt line text n k
+
+-- each piece stands in its place, behind these tokens of the line and before this rest
+abbrev pub EachStands : List (List ℕ) → List Piece → List Char → Type 0
+EachStands line [] rest = Unit {0}
+EachStands line (p ∷ ps) rest =
+    StandsAt line (codes_of (p.chars ++ (laid ps ++ rest))) (length p.chars) p.sort × EachStands (with_piece line p p.sort) ps rest
+
+-- the pieces of a front of the text, and the rest
+pub record CutUpTo (chars : List Char) (pieces : List Piece) (rest : List Char) : Type 0 where
+  pub whole : laid pieces ++ rest ≡ chars
+  pub each : EachStands [] pieces rest
+
+-- the pieces of the whole text
+abbrev pub Cut : List Char → List Piece → Type 0
+Cut chars pieces = CutUpTo chars pieces []
+
+abbrev pub head_place : List Char → Place
+head_place [] = place 0 0 0
+head_place (c ∷ cs) = c.at
+
+-- a comment that opens at this place is not closed
+pub record Unclosed (chars : List Char) (at : Place) : Type 0 where
+  pub pieces : List Piece
+  pub rest : List Char
+  pub cut : CutUpTo chars pieces rest
+  pub opens : OpensBlock (codes_of rest)
+  pub never : ClosesAt (codes_of rest) None
+  pub here : at ≡ head_place rest

@@ -1,0 +1,46 @@
+-- A file that is one guarded section: what a guard is, and of which lines it is one.
+use Rattle.std.specs.Prelude.{◌≡◌, ℕ, List, [], ◌∷◌, Bool, true, false, ◌&&◌, if◌then◌else◌, Option, None, Some, codes}
+use Rattle.std.specs.List.{AllByRecursion}
+use Rattle.std.specs.Str.{bytes_eq}
+use Rattle.pptext.specs.declared.tokens.Token.{Token}
+use Rattle.pptext.specs.declared.tokens.Kind.{Kind}
+use Rattle.pptext.specs.declared.tokens.Kind.TheVariants.{Ident}
+use Rattle.pptext.specs.Lines.{Row}
+use Rattle.pptext.specs.Tree.{Parts, Done, Run, Control, Section, Branches, End, Branch, Tree}
+
+-- a line without tokens
+abbrev pub IsBlankRow : Row → Type 0
+IsBlankRow r = r.tokens ≡ []
+
+abbrev pub AreBlank : Parts → Type 0
+AreBlank Done = Unit {0}
+AreBlank (Run rs ps) = AllByRecursion IsBlankRow rs × AreBlank ps
+AreBlank ps = ⊥
+
+abbrev pub is_ident : Kind → Bool
+is_ident Ident = true
+is_ident k = false
+
+abbrev pub named : Token → List ℕ → Bool
+named t text = bytes_eq t.text text
+
+abbrev pub ident_if : Bool → Token → Option (List ℕ)
+ident_if b t = if b && is_ident t.kind then Some t.text else None
+
+-- the X of `#ifndef X`, `#if ! defined X` and `#if ! defined ( X )`
+abbrev pub guard_name : List Token → Option (List ℕ)
+guard_name (s ∷ d ∷ x ∷ []) = ident_if (named d (codes "ifndef")) x
+guard_name (s ∷ d ∷ n ∷ f ∷ x ∷ []) = ident_if (named d (codes "if") && (named n (codes "!") && named f (codes "defined"))) x
+guard_name (s ∷ d ∷ n ∷ f ∷ l ∷ x ∷ r ∷ []) =
+    ident_if (named d (codes "if") && (named n (codes "!") && (named f (codes "defined") && (named l (codes "(") && named r (codes ")"))))) x
+guard_name ts = None
+
+-- one if-section without other branches, and no token outside it
+abbrev pub GuardedParts : Parts → List ℕ → Type 0
+GuardedParts (Run rs ps) x = AllByRecursion IsBlankRow rs × GuardedParts ps x
+GuardedParts (Section r ps (End e) qs) x = (guard_name r.tokens ≡ Some x) × AreBlank qs
+GuardedParts ps x = ⊥
+
+-- the whole file is one section under this guard
+abbrev pub GuardedBy : List Row → List ℕ → Type 0
+GuardedBy lines x = (parts : Parts) × Tree lines parts × GuardedParts parts x

@@ -1,0 +1,12 @@
+pub mod Tokens
+pub mod Clean
+pub mod Texts
+pub mod Languages
+pub mod Spellings
+pub mod Cut
+pub mod Lines
+pub mod Tree
+pub mod Guard
+pub mod Sources
+pub mod Answers
+pub mod Finds

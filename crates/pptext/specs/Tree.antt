@@ -1,0 +1,129 @@
+-- The groups of a file by the grammar of 6.10, by directive names alone.
+use Rattle.std.specs.Prelude.{◌≡◌, ◌≢◌, ℕ, zero, suc, ◌+◌, List, [], ◌∷◌, ◌++◌, Bool, true, false, ◌&&◌, if◌then◌else◌, Option, None, Some, ◌⊎◌, IfSome, codes}
+use Rattle.std.specs.List.{AllByRecursion}
+use Rattle.pptext.specs.declared.tokens.Place.{Place}
+use Rattle.pptext.specs.declared.tokens.Token.{Token}
+use Rattle.std.specs.Str.{bytes_eq}
+use Rattle.pptext.specs.declared.tokens.Kind.{Kind}
+use Rattle.pptext.specs.declared.tokens.Kind.TheVariants.{Ident}
+use Rattle.pptext.specs.declared.tokens.Fault.{Fault}
+use Rattle.pptext.specs.declared.sources.Directive.{Directive}
+use Rattle.pptext.specs.declared.sources.Directive.TheVariants.{If, Ifdef, Ifndef, Elif, Else, Endif, Include, Define, Undef, Line, Error, Pragma, Null, Unknown}
+use Rattle.pptext.specs.Clean.{place}
+use Rattle.pptext.specs.Lines.{Row, directive_of}
+
+-- what a line does to the groups
+pub data Role : Type 0 where
+  IsText : Role
+  IsControl : Role
+  Opens : Role
+  Elses : Bool → Role
+  Closes : Role
+
+-- `Elses true` is `#else`, `Elses false` is `#elif`
+abbrev pub role_named : Directive → Role
+role_named If = Opens
+role_named Ifdef = Opens
+role_named Ifndef = Opens
+role_named Elif = Elses false
+role_named Else = Elses true
+role_named Endif = Closes
+role_named d = IsControl
+
+abbrev pub role_by : Option Directive → Role
+role_by None = IsText
+role_by (Some d) = role_named d
+
+abbrev pub role : Row → Role
+role r = role_by (directive_of r.tokens)
+
+-- A group: text runs, control lines and if-sections. An if-section has its opening line, its first group, and its branches.
+mutual
+  pub data Parts : Type 0 where
+    Done : Parts
+    Run : List Row → Parts → Parts
+    Control : Row → Parts → Parts
+    Section : Row → Parts → Branches → Parts → Parts
+
+  -- the lines of `#elif` and `#else` with their groups, and the line of `#endif`
+  pub data Branches : Type 0 where
+    End : Row → Branches
+    Branch : Row → Parts → Branches → Branches
+
+-- the lines of the parts, laid end to end
+abbrev mutual
+  pub part_lines : Parts → List Row
+  part_lines Done = []
+  part_lines (Run rs ps) = rs ++ part_lines ps
+  part_lines (Control r ps) = r ∷ part_lines ps
+  part_lines (Section r ps bs qs) = r ∷ part_lines ps ++ branch_lines bs ++ part_lines qs
+
+  pub branch_lines : Branches → List Row
+  branch_lines (End r) = r ∷ []
+  branch_lines (Branch r ps bs) = r ∷ part_lines ps ++ branch_lines bs
+
+abbrev pub BeginsRun : Parts → Type 0
+BeginsRun (Run rs ps) = Unit {0}
+BeginsRun ps = ⊥
+
+-- Each line is where its directive's name puts it, a text run is as long as it can be, and nothing but `#endif` follows `#else`.
+abbrev mutual
+  pub AreParts : Parts → Type 0
+  AreParts Done = Unit {0}
+  AreParts (Run rs ps) = (rs ≢ []) × AllByRecursion (λ r. role r ≡ IsText) rs × (¬ BeginsRun ps) × AreParts ps
+  AreParts (Control r ps) = (role r ≡ IsControl) × AreParts ps
+  AreParts (Section r ps bs qs) = (role r ≡ Opens) × AreParts ps × AreBranches false bs × AreParts qs
+
+  pub AreBranches : Bool → Branches → Type 0
+  AreBranches last (End r) = role r ≡ Closes
+  AreBranches last (Branch r ps bs) = (last ≡ false) × (final : Bool) × (role r ≡ Elses final) × AreParts ps × AreBranches final bs
+
+-- the tree of a file
+pub record Tree (lines : List Row) (parts : Parts) : Type 0 where
+  pub whole : part_lines parts ≡ lines
+  pub each : AreParts parts
+
+-- the open if-sections, the innermost first: the line that opened it, and whether its `#else` has come
+abbrev pub Open : Type 0
+Open = Row × Bool
+
+abbrev pub name_of : List Token → List ℕ
+name_of (a ∷ b ∷ ts) = b.text
+name_of ts = []
+
+abbrev pub sign_place : List Token → Place
+sign_place [] = place 0 0 0
+sign_place (t ∷ ts) = t.at
+
+abbrev pub fault_at : ℕ → Row → Fault
+fault_at number r = record { number = number; at = sign_place r.tokens; text = name_of r.tokens }
+
+-- what a line does to the open sections, or its fault: 3 without a section, 4 after `#else`
+abbrev pub opened : Role → Row → List Open → Option ℕ × List Open
+opened Opens r open_sections = (None, (r, false) ∷ open_sections)
+opened (Elses final) r [] = (Some 3, [])
+opened (Elses final) r ((o, true) ∷ os) = (Some 4, [])
+opened (Elses final) r ((o, false) ∷ os) = (None, (o, final) ∷ os)
+opened Closes r [] = (Some 3, [])
+opened Closes r (o ∷ os) = (None, os)
+opened s r os = (None, os)
+
+-- The first fault of the lines from the top, behind these open sections; 5 for a section that is open at the end.
+abbrev pub group_fault : List Open → List Row → Option Fault
+group_fault [] [] = None
+group_fault (o ∷ os) [] = Some (fault_at 5 o.0)
+group_fault os (r ∷ rs) = fault_or (opened (role r) r os).0 (group_fault (opened (role r) r os).1 rs)
+  where
+    fault_or : Option ℕ → Option Fault → Option Fault
+    fault_or (Some n) later = Some (fault_at n r)
+    fault_or None later = later
+
+-- The place in the list, counted from k, of the next branch line of the section around, behind `depth` inner openings.
+abbrev pub branch_behind : ℕ → ℕ → List Role → Option ℕ
+branch_behind depth k [] = None
+branch_behind depth k (Opens ∷ rs) = branch_behind (suc depth) (k + 1) rs
+branch_behind zero k (Closes ∷ rs) = Some k
+branch_behind (suc depth) k (Closes ∷ rs) = branch_behind depth (k + 1) rs
+branch_behind zero k (Elses final ∷ rs) = Some k
+branch_behind (suc depth) k (Elses final ∷ rs) = branch_behind (suc depth) (k + 1) rs
+branch_behind depth k (s ∷ rs) = branch_behind depth (k + 1) rs

@@ -1,0 +1,212 @@
+// The text cut into lines of tokens.
+ghost use Rattle.std.specs.Prelude.{◌≡◌, ◌↔◌, ◌+◌, ◌<◌, ◌≤◌, ℕ, [], length, take, drop, IsTrue, slice_index, None, IfOk, IfSome, IfNone};
+ghost use Rattle.pptext.specs.Spellings.{is_blank};
+ghost use Rattle.pptext.specs.Cut.{OpensBlock, OpensLine, CommentAt, ClosesAt, StandsAt, Spelled};
+ghost use Rattle.pptext.specs.Lines.{token_of};
+ghost use Rattle.pptext.specs.Tokens.{spelled};
+ghost use Rattle.pptext.specs.Finds.{Finds, CutsInto};
+
+use crate::scanning::is_blank;
+use crate::texts::Text;
+use crate::tokenizing::token_at;
+use crate::tokens::{Kind, Place, Spelling, Token};
+use memchr::{memchr, memmem};
+use std::alloc::{AllocError, AllocFailed, Global};
+
+/// What begins a text.
+#[derive(Clone, Copy)]
+pub(crate) enum Found {
+    NewLine,
+    Blank(usize),
+    Comment(usize),
+    Unclosed,
+    Token(Kind, usize),
+}
+
+/// A line: where its tokens end, and the physical line of its new-line.
+#[derive(Clone, Copy)]
+pub(crate) struct Ending {
+    pub(crate) end: usize,
+    pub(crate) number: u32,
+}
+
+/// Why a text isn't cut.
+#[derive(Drop)]
+pub(crate) enum CutFault {
+    Unclosed(Place),
+    Memory,
+}
+
+impl From<AllocError> for CutFault {
+    ghost use Rattle.pptext.specs.declared.cutting.CutFault.TheVariants.{Memory};
+
+    ghost from_gives = { λ _ e. e ≡ Memory };
+
+    fn from(_error: AllocError) -> CutFault {
+        CutFault::Memory
+    }
+}
+
+impl<T: Drop> From<AllocFailed<T>> for CutFault {
+    ghost use Rattle.pptext.specs.declared.cutting.CutFault.TheVariants.{Memory};
+
+    ghost from_gives = { λ _ e. e ≡ Memory };
+
+    fn from(_error: AllocFailed<T>) -> CutFault {
+        CutFault::Memory
+    }
+}
+
+/// Whether a block comment opens here.
+fn opens_block(text: &[u8]) -> bool
+    ensures { IsTrue result ↔ OpensBlock text.now }
+{
+    text.len() >= 2 && text[0] == b'/' && text[1] == b'*'
+}
+
+/// Whether a line comment opens here.
+fn opens_line(text: &[u8]) -> bool
+    ensures { IsTrue result ↔ OpensLine text.now }
+{
+    text.len() >= 2 && text[0] == b'/' && text[1] == b'/'
+}
+
+/// The length of the block comment that opens here, up to the next `*/`.
+fn block_len(text: &[u8]) -> Option<usize>
+    requires { OpensBlock text.now }
+    ensures none { IfNone result (ClosesAt text.now None) }
+    ensures some { IfSome result (λ n. CommentAt text.now n) }
+    ensures fits { IfSome result (λ n. (0 < n) × (n ≤ length text.now)) }
+{
+    if text.len() < 2 {
+        return None;
+    }
+    match memmem::find(&text[2..], b"*/") {
+        Some(k) => Some(k + 4),
+        None => None,
+    }
+}
+
+/// The length of the line comment that opens here, up to the new-line.
+fn line_len(text: &[u8]) -> usize
+    requires { OpensLine text.now }
+    ensures comment { CommentAt text.now result }
+    ensures fits { (0 < result) × (result ≤ length text.now) }
+{
+    match memchr(b'\n', text) {
+        Some(n) => n,
+        None => text.len(),
+    }
+}
+
+/// How many blanks begin the text.
+fn blank_len(text: &[u8]) -> usize
+    ensures fits { result ≤ length text.now }
+    ensures blank { (k : ℕ) → k < result → IsTrue (is_blank (slice_index text.now k)) }
+    ensures longest { 0 < length text.now → IsTrue (is_blank (slice_index text.now 0)) → 0 < result }
+{
+    for (i, c) in text.iter().enumerate() {
+        if !is_blank(*c) {
+            return i;
+        }
+    }
+    text.len()
+}
+
+/// What begins the text behind these tokens of its line.
+pub(crate) fn next_piece(text: &[u8], line: &[Token]) -> Found
+    requires { 0 < length text.now }
+    ensures { Finds (spelled line.now) text.now result }
+{
+    if text[0] == b'\n' {
+        return Found::NewLine;
+    }
+    if is_blank(text[0]) {
+        return Found::Blank(blank_len(text));
+    }
+    if opens_block(text) {
+        return match block_len(text) {
+            Some(n) => Found::Comment(n),
+            None => Found::Unclosed,
+        };
+    }
+    if opens_line(text) {
+        return Found::Comment(line_len(text));
+    }
+    let (kind, n) = token_at(text, line);
+    Found::Token(kind, n)
+}
+
+/// The token of n characters at this place of the text.
+fn token_from(
+    alloc: Global,
+    text: &mut Text<'_>,
+    at: usize,
+    n: usize,
+    kind: Kind,
+    space: bool,
+) -> Result<Token, AllocError>
+    requires forward { text.old.passed ≤ at }
+    requires some { 0 < n }
+    requires fits { at + n ≤ length text.old.chars }
+    ensures token { IfOk result (λ t. t ≡ token_of kind space (take n (drop at text.old.chars))) }
+    ensures chars { text.new.chars ≡ text.old.chars }
+    ensures passed { text.new.passed ≤ at }
+{
+    let spelling = Spelling::new(Vec::from_slice(alloc, &text.codes()[at..at + n])?);
+    let place = text.place(at);
+    Ok(Token {
+        kind,
+        text: spelling,
+        space,
+        at: place,
+        used: place,
+    })
+}
+
+/// Cuts a text into lines of tokens. Each line is told by where its tokens end.
+pub(crate) fn cut_lines(
+    alloc: Global,
+    text: &mut Text<'_>,
+    tokens: &mut Vec<Token>,
+    lines: &mut Vec<Ending>,
+) -> Result<(), CutFault>
+    requires unread { text.old.passed ≡ 0 }
+    requires no_tokens { tokens.old.items ≡ [] }
+    requires no_lines { lines.old.items ≡ [] }
+    ensures { CutsInto text.old.chars tokens.new.items lines.new.items result }
+{
+    let mut at = 0;
+    let mut start = 0;
+    let mut space = true;
+    while at < text.codes().len() {
+        match next_piece(&text.codes()[at..], &tokens[start..]) {
+            Found::NewLine => {
+                start = tokens.len();
+                let number = text.place(at).line;
+                lines.push(Ending { end: start, number })?;
+                at += 1;
+                space = true;
+            }
+            Found::Blank(n) => {
+                at += n;
+                space = true;
+            }
+            Found::Comment(n) => {
+                at += n;
+                space = true;
+            }
+            Found::Unclosed => {
+                return Err(CutFault::Unclosed(text.place(at)));
+            }
+            Found::Token(kind, n) => {
+                tokens.push(token_from(alloc, text, at, n, kind, space)?)?;
+                at += n;
+                space = false;
+            }
+        }
+    }
+    // No token is lost: a text that phase 2 leaves ends in a new-line (5.1.1.2).
+    tokens.truncate(start);
+    Ok(())
+}

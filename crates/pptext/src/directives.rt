@@ -1,0 +1,73 @@
+// Directives by name.
+ghost use Rattle.std.specs.Prelude.{◌≡◌, ℕ, List, length, Option, Some, None, codes, ◌||◌};
+ghost use Rattle.std.specs.Str.{bytes_eq};
+ghost use Rattle.pptext.specs.Lines.{directive_named, directive_of};
+
+use crate::sources::Directive;
+use crate::tokens::Token;
+
+/// The directive of a name.
+fn directive_named(name: &[u8]) -> Directive
+    ensures { result ≡ directive_named name.now }
+{
+    if name == b"if".as_slice() {
+        return Directive::If;
+    }
+    if name == b"ifdef".as_slice() {
+        return Directive::Ifdef;
+    }
+    if name == b"ifndef".as_slice() {
+        return Directive::Ifndef;
+    }
+    if name == b"elif".as_slice() {
+        return Directive::Elif;
+    }
+    if name == b"else".as_slice() {
+        return Directive::Else;
+    }
+    if name == b"endif".as_slice() {
+        return Directive::Endif;
+    }
+    if name == b"include".as_slice() {
+        return Directive::Include;
+    }
+    if name == b"define".as_slice() {
+        return Directive::Define;
+    }
+    if name == b"undef".as_slice() {
+        return Directive::Undef;
+    }
+    if name == b"line".as_slice() {
+        return Directive::Line;
+    }
+    if name == b"error".as_slice() {
+        return Directive::Error;
+    }
+    if name == b"pragma".as_slice() {
+        return Directive::Pragma;
+    }
+    Directive::Unknown
+}
+
+/// Whether `#` or its digraph.
+fn is_hash(text: &[u8]) -> bool
+    ensures { result ≡ (bytes_eq text.now (codes "#") || bytes_eq text.now (codes "%:")) }
+{
+    text == b"#".as_slice() || text == b"%:".as_slice()
+}
+
+/// The directive of a line's tokens.
+pub(crate) fn directive_of(line: &[Token]) -> Option<Directive>
+    ensures { result ≡ directive_of line.now }
+{
+    if line.is_empty() {
+        return None;
+    }
+    if !is_hash(line[0].text.as_bytes()) {
+        return None;
+    }
+    if line.len() == 1 {
+        return Some(Directive::Null);
+    }
+    Some(directive_named(line[1].text.as_bytes()))
+}

@@ -1,0 +1,22 @@
+// Translation phases 1 to 3 of C11 (5.1.1.2): a file's bytes as preprocessing tokens, lines and groups.
+#![tactic(auto)]
+
+mod characters;
+mod cleaning;
+mod cutting;
+mod directives;
+mod grouping;
+mod punctuators;
+mod reading;
+mod scanning;
+mod sources;
+mod texts;
+mod tokenizing;
+mod tokens;
+
+pub use characters::Char;
+pub use reading::{
+    one_cut, one_reading, read_source, relex, relexes_what_is_cut, tree_unless_fault,
+};
+pub use sources::{Directive, Line, Source, SourceFault};
+pub use tokens::{Fault, Kind, Memory, Place, Spelling, Token, Tokens};

@@ -1,0 +1,279 @@
+// Reading a file.
+ghost use Rattle.std.specs.Prelude.{◌≡◌, ◌≢◌, ◌↔◌, ◌≤◌, ℕ, List, [], length, IsTrue, IfSome, IfNone, None, Result, Contains};
+ghost use Rattle.pptext.specs.declared.tokens.Fault.{Fault};
+ghost use Rattle.pptext.specs.declared.tokens.Kind.{Kind};
+ghost use Rattle.pptext.specs.declared.tokens.Kind.TheVariants.{Header};
+ghost use Rattle.pptext.specs.declared.characters.Char.{Char};
+ghost use Rattle.pptext.specs.declared.sources.SourceFault.TheVariants.{Bad};
+ghost use Rattle.pptext.specs.Clean.{codes_of};
+ghost use Rattle.pptext.specs.Cut.{Piece, Spelled, Cut};
+ghost use Rattle.pptext.specs.Lines.{Row};
+ghost use Rattle.pptext.specs.Tree.{group_fault, Parts, Tree};
+ghost use Rattle.pptext.specs.Guard.{GuardedBy};
+ghost use Rattle.pptext.specs.Sources.{Reads, tokens_of, spans, file_fault, IsOneToken, IsLoneQuote};
+ghost use Rattle.pptext.specs.Answers.{Answers};
+
+use crate::cleaning::clean_text;
+use crate::cutting::{CutFault, Found, cut_lines, next_piece};
+use crate::grouping::group_lines;
+use crate::sources::{Line, Source, SourceFault};
+use crate::tokens::{Fault, Kind, Place, Spelling, Token};
+use std::alloc::Global;
+
+impl Source {
+    /// The tokens of all lines, from the first on.
+    pub fn tokens(&self) -> &[Token]
+        ensures { result.now ≡ tokens_of self.now }
+    {
+        self.tokens.as_slice()
+    }
+
+    /// The lines, from the first on, as spans of the tokens.
+    pub fn lines(&self) -> &[Line]
+        ensures { result.now ≡ spans 0 0 self.now }
+    {
+        self.lines.as_slice()
+    }
+}
+
+/// A fault of the file with an empty text. Takes no memory.
+fn fault_at(alloc: Global, number: u8, at: Place) -> SourceFault
+    ensures { result ≡ Bad (file_fault number at) }
+{
+    let text = Spelling::new(Vec::new(alloc));
+    SourceFault::Bad(Fault { number, at, text })
+}
+
+/// Reads a file of at most 16,777,216 bytes: its lines of preprocessing tokens behind translation phases 1 to 3 (5.1.1.2, 6.4),
+/// and its groups (6.10). Every place has this file number, and the line and the byte, both from 1, at which the character was
+/// spelled in the file; a byte order mark has no place.
+///
+/// # Errors
+///
+/// `Bad` with the file's first fault, so that nothing of the file is processed:
+/// 2, at the `\` of a last line that ends in one; else
+/// 1, at the opening of a comment that isn't closed; else the first of
+/// 3, an `#elif`, `#else` or `#endif` without an open section, and
+/// 4, an `#elif` or `#else` behind the `#else` of its section; else
+/// 5, at the innermost section that isn't closed. The last three are told at the line's `#`, with the directive's name.
+/// `Memory` where memory ran out.
+pub fn read_source(alloc: Global, bytes: &[u8], file: u32) -> Result<Source, SourceFault>
+    requires { length bytes.now ≤ 16_777_216 }
+    ensures { Answers result (Reads file bytes.now) }
+{
+    let mut text = match clean_text(alloc, bytes, file) {
+        Ok(Ok(text)) => text,
+        Ok(Err(place)) => return Err(fault_at(alloc, 2, place)),
+        Err(_) => return Err(SourceFault::Memory),
+    };
+    let mut tokens = Vec::new(alloc);
+    let mut endings = Vec::new(alloc);
+    match cut_lines(alloc, &mut text, &mut tokens, &mut endings) {
+        Ok(()) => {}
+        Err(CutFault::Unclosed(place)) => return Err(fault_at(alloc, 1, place)),
+        Err(CutFault::Memory) => return Err(SourceFault::Memory),
+    }
+    drop(text);
+    group_lines(alloc, tokens, endings.as_slice())
+}
+
+impl Source {
+    /// The name X where the whole file is one if-section of `#ifndef X`, `#if !defined X` or `#if !defined ( X )` without other
+    /// branches, and no line outside it has a token.
+    pub fn guard(&self) -> Option<&[u8]>
+        ensures none { IfNone result ((x : List ℕ) → ¬ GuardedBy self.now x) }
+        ensures some { IfSome result (λ x. GuardedBy self.now x.now) }
+    {
+        match self.guard {
+            Some(i) => Some(self.tokens[i].text.as_bytes()),
+            None => None,
+        }
+    }
+}
+
+/// Whether the text is `'` or `"` alone.
+fn is_lone_quote(text: &[u8]) -> bool
+    ensures { IsTrue result ↔ IsLoneQuote text.now }
+{
+    text.len() == 1 && (text[0] == b'\'' || text[0] == b'"')
+}
+
+/// The kind of the one preprocessing token (6.4) that the whole text is outside an include line. None where it is no token, more
+/// than one, white space, a comment, or a quote alone (6.4p3). Takes no memory.
+pub fn relex(text: &[u8]) -> Option<Kind>
+    ensures none { IfNone result ((k : Kind) → IsOneToken text.now k → IsLoneQuote text.now) }
+    ensures some { IfSome result (λ k. IsOneToken text.now k × (¬ IsLoneQuote text.now)) }
+{
+    if text.is_empty() {
+        return None;
+    }
+    if is_lone_quote(text) {
+        return None;
+    }
+    let Found::Token(kind, n) = next_piece(text, &[]) else {
+        return None;
+    };
+    if n != text.len() {
+        return None;
+    }
+    Some(kind)
+}
+
+/// A law: a text is cut into comments, white space, new-lines and tokens in one way (5.1.1.2, 6.4).
+pub fn one_cut()
+    ensures { (cs : List Char) (a b : List Piece) → Cut cs a → Cut cs b → a ≡ b }
+{}
+
+/// A law: reading a file gives these lines or this fault, and nothing else.
+pub fn one_reading()
+    ensures { (file : ℕ) (bytes : List ℕ) (a b : Result (List Row) Fault) → Reads file bytes a → Reads file bytes b → a ≡ b }
+{}
+
+/// A law: each token of a text but a header name (6.4.7) is the one token of its spelling, so that `relex` finds its kind again,
+/// unless it is a lone quote.
+pub fn relexes_what_is_cut()
+    ensures { (chars : List Char) (pieces : List Piece) → Cut chars pieces → (p : Piece) (k : Kind) → Contains pieces p → p.sort ≡ Spelled k → k ≢ Header → IsOneToken (codes_of p.chars) k }
+{}
+
+/// A file's lines have a tree exactly where they have no fault.
+pub fn tree_unless_fault()
+    ensures { (lines : List Row) → (group_fault [] lines ≡ None) ↔ ((parts : Parts) × Tree lines parts) }
+{}
+
+#[cfg(test)]
+mod tests {
+    use super::*;
+    use crate::sources::Directive;
+    use std::process::Abort;
+    use std::test::Fail;
+
+    fn place(line: u32, col: u32) -> Place {
+        Place { file: 7, line, col }
+    }
+
+    /// That reading these bytes gives this fault, with this directive's name.
+    fn assert_fault(
+        rt: &impl Abort,
+        alloc: Global,
+        bytes: &[u8],
+        number: u8,
+        at: Place,
+        name: &[u8],
+    )
+        requires { length bytes.now ≤ 16_777_216 }
+    {
+        match read_source(alloc, bytes, 7) {
+            Err(SourceFault::Bad(fault)) => {
+                assert_eq!(rt; fault.number, number, "of {bytes:?}");
+                assert_eq!(rt; fault.at, at, "of {bytes:?}");
+                assert_eq!(rt; fault.text.as_bytes(), name, "of {bytes:?}");
+            }
+            _ => assert!(rt; false, "no fault of {bytes:?}"),
+        }
+    }
+
+    #[test]
+    fn reads_tokens(rt: HostRuntime) -> Result<(), Fail> {
+        let source = read_source(rt.alloc(), b"a+b/**/c", 7)?;
+        let wanted = [
+            (Kind::Ident, b"a".as_slice(), true, place(1, 1)),
+            (Kind::Punct, b"+".as_slice(), false, place(1, 2)),
+            (Kind::Ident, b"b".as_slice(), false, place(1, 3)),
+            (Kind::Ident, b"c".as_slice(), true, place(1, 8)),
+        ];
+        assert_eq!(rt; source.tokens().len(), wanted.len());
+        for (token, (kind, text, space, at)) in source.tokens().iter().zip(wanted) {
+            assert_eq!(rt; token.kind, kind);
+            assert_eq!(rt; token.text.as_bytes(), text);
+            assert_eq!(rt; token.space, space);
+            assert_eq!(rt; token.at, at);
+            assert_eq!(rt; token.used, at);
+        }
+        Ok(())
+    }
+
+    #[test]
+    fn reads_lines(rt: HostRuntime) -> Result<(), Fail> {
+        let bytes = b"#ifndef X\n\t/*\n*/ # def\\\nine X\n\n??=endif\n";
+        let source = read_source(rt.alloc(), bytes, 7)?;
+        let wanted = [
+            (0, 3, 1, Some(Directive::Ifndef), Some(3)),
+            (3, 6, 4, Some(Directive::Define), None),
+            (6, 6, 5, None, None),
+            (6, 8, 6, Some(Directive::Endif), None),
+        ];
+        assert_eq!(rt; source.lines().len(), wanted.len());
+        for (line, (start, end, number, directive, next_branch)) in source
+            .lines()
+            .iter()
+            .zip(wanted)
+        {
+            assert_eq!(rt;
+                *line,
+                Line {
+                    start,
+                    end,
+                    number,
+                    directive,
+                    next_branch
+                }
+            );
+        }
+        assert_eq!(rt; source.guard().ok_or("no guard")?, b"X".as_slice());
+        Ok(())
+    }
+
+    #[test]
+    fn tells_the_first_fault(rt: HostRuntime) {
+        assert_fault(&rt, rt.alloc(), b"/*\na \\", 2, place(2, 3), b"");
+        assert_fault(
+            &rt,
+            rt.alloc(),
+            b"\xef\xbb\xbf#else\n/\\\n* ",
+            1,
+            place(2, 1),
+            b"",
+        );
+        assert_fault(
+            &rt,
+            rt.alloc(),
+            b"#if 1\n# else\n#elif\n",
+            4,
+            place(3, 1),
+            b"elif",
+        );
+        assert_fault(
+            &rt,
+            rt.alloc(),
+            b"#if 1\n#ifdef X\n",
+            5,
+            place(2, 1),
+            b"ifdef",
+        );
+    }
+
+    #[test]
+    fn relexes_one_token(rt: HostRuntime) {
+        for (text, kind) in [
+            (b"".as_slice(), None),
+            (b"x1".as_slice(), Some(Kind::Ident)),
+            (b"1e+x".as_slice(), Some(Kind::Number)),
+            (b"L'\\''".as_slice(), Some(Kind::CharConst)),
+            (b"u8\"/*\"".as_slice(), Some(Kind::Str)),
+            (b"%:%:".as_slice(), Some(Kind::Punct)),
+            (b"@".as_slice(), Some(Kind::Other)),
+            (b"'".as_slice(), None),
+            (b"\"".as_slice(), None),
+            (b"''".as_slice(), None),
+            (b"-+".as_slice(), None),
+            (b" x".as_slice(), None),
+            (b"x ".as_slice(), None),
+            (b"\n".as_slice(), None),
+            (b"/**/".as_slice(), None),
+            (b"//".as_slice(), None),
+            (b"<x>".as_slice(), None),
+        ] {
+            assert_eq!(rt; relex(text), kind, "of {text:?}");
+        }
+    }
+}

@@ -1,0 +1,130 @@
+// Bytes, universal character names and identifiers: what begins a text, by its length.
+ghost use Rattle.std.specs.Prelude.{◌≡◌, ◌≢◌, ◌↔◌, ◌⊎◌, [], ◌∷◌, ◌+◌, ◌-◌, ◌||◌, ◌<◌, ◌≤◌, ℕ, List, length, take, drop, IsTrue, slice_index};
+ghost use Rattle.std.specs.List.{AllPass};
+ghost use Rattle.pptext.specs.Languages.{OnlyPart, LongestOrNone, Longest, Repeated, One, Either};
+ghost use Rattle.pptext.specs.Cut.{BeginsWith};
+ghost use Rattle.pptext.specs.Spellings.{is_digit, is_hex, is_nondigit, is_blank, IsUniversal, IsNondigit, IsIdent};
+
+pub(crate) mod headers;
+pub(crate) mod literals;
+pub(crate) mod numbers;
+
+/// Whether a digit.
+fn is_digit(c: u8) -> bool
+    ensures { result ≡ is_digit c }
+{
+    b'0' <= c && c <= b'9'
+}
+
+/// Whether a hexadecimal digit.
+fn is_hex(c: u8) -> bool
+    ensures { result ≡ is_hex c }
+{
+    is_digit(c) || b'A' <= c && c <= b'F' || b'a' <= c && c <= b'f'
+}
+
+/// Whether a letter, `_`, `$` or a byte from 128 up.
+fn is_nondigit(c: u8) -> bool
+    ensures { result ≡ is_nondigit c }
+{
+    b'A' <= c && c <= b'Z' || b'a' <= c && c <= b'z' || c == b'_' || c == b'$' || c >= 128
+}
+
+/// Whether n hexadecimal digits begin the text.
+fn begins_with_hexes(text: &[u8], n: usize) -> bool
+    ensures { IsTrue result ↔ (n ≤ length text.now) × AllPass is_hex (take n text.now) }
+{
+    n <= text.len() && text[..n].iter().all(|c| is_hex(*c))
+}
+
+/// How many digits follow what begins a universal character name, or 0 where none begins.
+fn universal_digits(text: &[u8]) -> usize
+    ensures short { result ≡ 4 → BeginsWith text.now (92 ∷ 117 ∷ []) }
+    ensures long { result ≡ 8 → BeginsWith text.now (92 ∷ 85 ∷ []) }
+    ensures none { result ≡ 0 → (¬ BeginsWith text.now (92 ∷ 117 ∷ [])) × (¬ BeginsWith text.now (92 ∷ 85 ∷ [])) }
+    ensures room { 0 < result → 2 ≤ length text.now }
+    ensures values { (result ≡ 0) ⊎ ((result ≡ 4) ⊎ (result ≡ 8)) }
+{
+    if text.len() < 2 || text[0] != b'\\' {
+        return 0;
+    }
+    if text[1] == b'u' {
+        4
+    } else if text[1] == b'U' {
+        8
+    } else {
+        0
+    }
+}
+
+/// The length of a universal character name that begins the text, or 0.
+fn universal_len(text: &[u8]) -> usize
+    ensures { OnlyPart IsUniversal text.now result }
+{
+    let digits = universal_digits(text);
+    if digits == 0 {
+        return 0;
+    }
+    if !begins_with_hexes(&text[2..], digits) {
+        return 0;
+    }
+    digits + 2
+}
+
+/// The length of a nondigit that begins the text, or 0.
+fn nondigit_len(text: &[u8]) -> usize
+    ensures { OnlyPart IsNondigit text.now result }
+{
+    if text.is_empty() {
+        return 0;
+    }
+    if is_nondigit(text[0]) {
+        return 1;
+    }
+    universal_len(text)
+}
+
+/// Whether a nondigit or a digit.
+fn is_ident_byte(c: u8) -> bool
+    ensures { result ≡ (is_nondigit c || is_digit c) }
+{
+    is_nondigit(c) || is_digit(c)
+}
+
+/// The length of the nondigits and digits that begin the text.
+fn ident_rest_len(text: &[u8]) -> usize
+    ensures fits { result ≤ length text.now }
+    ensures longest { Longest (Repeated (Either IsNondigit (One is_digit))) text.now result }
+{
+    let mut at = 0;
+    while at < text.len() {
+        if is_ident_byte(text[at]) {
+            at += 1;
+            continue;
+        }
+        let n = universal_len(&text[at..]);
+        if n == 0 {
+            return at;
+        }
+        at += n;
+    }
+    at
+}
+
+/// The length of the longest identifier that begins the text (6.4.2), or 0.
+pub(crate) fn ident_len(text: &[u8]) -> usize
+    ensures { LongestOrNone IsIdent text.now result }
+{
+    let first = nondigit_len(text);
+    if first == 0 {
+        return 0;
+    }
+    first + ident_rest_len(&text[first..])
+}
+
+/// Whether the byte is white space other than new-line.
+pub(crate) fn is_blank(c: u8) -> bool
+    ensures { result ≡ is_blank c }
+{
+    c == b' ' || c == b'\t' || c == 11 || c == 12 || c == b'\r'
+}

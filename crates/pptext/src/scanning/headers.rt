@@ -1,0 +1,55 @@
+// Header names (6.4.7).
+ghost use Rattle.std.specs.Prelude.{◌≡◌, ◌≢◌, ◌↔◌, ◌<◌, ◌≤◌, ◌||◌, ◌==◌, not, ℕ, List, [], ◌∷◌, length, IsTrue};
+ghost use Rattle.pptext.specs.Languages.{OnlyPart, Repeated, Then, Exactly, One};
+ghost use Rattle.pptext.specs.Spellings.{IsBetween, IsHeader};
+
+/// The length of the characters up to the closing one, with it, or 0 where none closes in this line.
+fn between_rest_len(text: &[u8], closing: u8) -> usize
+    ensures { OnlyPart (Then (Repeated (One (λ c. not (c == closing || c == 10)))) (Exactly (closing ∷ []))) text.now result }
+{
+    let mut at = 0;
+    while at < text.len() {
+        if text[at] == closing {
+            return at + 1;
+        }
+        if text[at] == b'\n' {
+            return 0;
+        }
+        at += 1;
+    }
+    0
+}
+
+/// The length of what begins the text between two characters, with both, or 0.
+fn between_len(text: &[u8], opening: u8, closing: u8) -> usize
+    ensures { OnlyPart (IsBetween opening closing) text.now result }
+{
+    if text.len() < 2 {
+        return 0;
+    }
+    if text[0] != opening {
+        return 0;
+    }
+    if text[1] == closing {
+        return 0;
+    }
+    if text[1] == b'\n' {
+        return 0;
+    }
+    let rest = between_rest_len(&text[2..], closing);
+    if rest == 0 {
+        return 0;
+    }
+    rest + 2
+}
+
+/// The length of the header name that begins the text, or 0.
+pub(crate) fn header_len(text: &[u8]) -> usize
+    ensures { OnlyPart IsHeader text.now result }
+{
+    let angled = between_len(text, b'<', b'>');
+    if angled > 0 {
+        return angled;
+    }
+    between_len(text, b'"', b'"')
+}

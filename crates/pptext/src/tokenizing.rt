@@ -1,0 +1,146 @@
+// The token that begins a text: the longest that some kind's grammar allows (6.4).
+ghost use Rattle.std.specs.Prelude.{◌≡◌, ◌≢◌, ◌↔◌, ◌<◌, ◌≤◌, ℕ, List, length, take, IsTrue, slice_index, false, ◌⊎◌, codes};
+ghost use Rattle.pptext.specs.Languages.{Longest};
+ghost use Rattle.pptext.specs.Spellings.{IsSpelling, Spells, is_blank};
+ghost use Rattle.pptext.specs.Cut.{OpensBlock, OpensLine, AwaitsHeader, HeaderAt, StandsAt, Spelled};
+ghost use Rattle.pptext.specs.Tokens.{spelled};
+
+use crate::punctuators::punct_len;
+use crate::scanning::headers::header_len;
+use crate::scanning::ident_len;
+use crate::scanning::literals::{char_const_len, str_len};
+use crate::scanning::numbers::number_len;
+use crate::tokens::{Kind, Token};
+
+/// Whether `#` or its digraph.
+fn is_hash(text: &[u8]) -> bool
+    ensures { IsTrue result ↔ (text.now ≡ codes "#") ⊎ (text.now ≡ codes "%:") }
+{
+    text == b"#".as_slice() || text == b"%:".as_slice()
+}
+
+/// Whether a header name may follow these tokens of a line (6.4.7).
+fn awaits_header(line: &[Token]) -> bool
+    ensures { IsTrue result ↔ AwaitsHeader (spelled line.now) }
+{
+    if line.len() != 2 {
+        return false;
+    }
+    if line[1].text.as_bytes() != b"include".as_slice() {
+        return false;
+    }
+    is_hash(line[0].text.as_bytes())
+}
+
+/// The length of the header name that begins the text behind these tokens of its line, or 0.
+fn header_at(text: &[u8], line: &[Token]) -> usize
+    ensures none { result ≡ 0 → (m : ℕ) → ¬ HeaderAt (spelled line.now) text.now m }
+    ensures some { 0 < result → HeaderAt (spelled line.now) text.now result }
+{
+    if !awaits_header(line) {
+        return 0;
+    }
+    header_len(text)
+}
+
+/// The kind and length of the token that begins the text where no header name stands.
+fn plain_token_at(text: &[u8]) -> (Kind, usize)
+    requires some { 0 < length text.now }
+    requires no_newline { slice_index text.now 0 ≢ 10 }
+    requires no_blank { is_blank (slice_index text.now 0) ≡ false }
+    ensures some { 0 < result.1 }
+    ensures longest { Longest IsSpelling text.now result.1 }
+    ensures spelled { Spells result.0 (take result.1 text.now) }
+{
+    let char_const = char_const_len(text);
+    if char_const > 0 {
+        return (Kind::CharConst, char_const);
+    }
+    let string = str_len(text);
+    if string > 0 {
+        return (Kind::Str, string);
+    }
+    let ident = ident_len(text);
+    if ident > 0 {
+        return (Kind::Ident, ident);
+    }
+    let number = number_len(text);
+    if number > 0 {
+        return (Kind::Number, number);
+    }
+    let punct = punct_len(text);
+    if punct > 0 {
+        return (Kind::Punct, punct);
+    }
+    (Kind::Other, 1)
+}
+
+/// The kind and length of the token that begins here, behind these tokens of its line.
+pub(crate) fn token_at(text: &[u8], line: &[Token]) -> (Kind, usize)
+    requires some { 0 < length text.now }
+    requires no_newline { slice_index text.now 0 ≢ 10 }
+    requires no_blank { is_blank (slice_index text.now 0) ≡ false }
+    requires no_block { ¬ OpensBlock text.now }
+    requires no_line { ¬ OpensLine text.now }
+    ensures fits { (0 < result.1) × (result.1 ≤ length text.now) }
+    ensures stands { StandsAt (spelled line.now) text.now result.1 (Spelled result.0) }
+{
+    let header = header_at(text, line);
+    if header > 0 {
+        return (Kind::Header, header);
+    }
+    plain_token_at(text)
+}
+
+#[cfg(test)]
+mod tests {
+    use super::*;
+    use crate::tokens::{Place, Spelling};
+    use std::alloc::AllocError;
+    use std::test::Fail;
+
+    #[test]
+    fn cuts_each_kind(rt: HostRuntime) {
+        for (text, kind, len) in [
+            (b".5e+3.x,".as_slice(), Kind::Number, 7),
+            (b"0x1p-3 ".as_slice(), Kind::Number, 6),
+            (b"1..2-3".as_slice(), Kind::Number, 4),
+            (b"1e+e+-".as_slice(), Kind::Number, 5),
+            (b"1\\u00e9z'".as_slice(), Kind::Number, 8),
+            (b"a$\x80\xff_9Z-".as_slice(), Kind::Ident, 7),
+            (b"\\u00e9\\U0001F600x1+".as_slice(), Kind::Ident, 18),
+            (b"a\\u00e".as_slice(), Kind::Ident, 1),
+            (b"\\u12".as_slice(), Kind::Other, 1),
+            (b"u8\"a\\\"b\"c".as_slice(), Kind::Str, 8),
+            (b"u8'a'".as_slice(), Kind::Ident, 2),
+            (b"u'a'".as_slice(), Kind::CharConst, 4),
+            (b"U\"\"".as_slice(), Kind::Str, 3),
+            (b"L'x'".as_slice(), Kind::CharConst, 4),
+            (b"'\\''x".as_slice(), Kind::CharConst, 4),
+            (b"'\"'".as_slice(), Kind::CharConst, 3),
+            (b"\"'\"".as_slice(), Kind::Str, 3),
+            (b"''".as_slice(), Kind::Other, 1),
+            (b"'a".as_slice(), Kind::Other, 1),
+            (b"'a\n'".as_slice(), Kind::Other, 1),
+            (b"'a\\\n'".as_slice(), Kind::Other, 1),
+            (b"\"abc".as_slice(), Kind::Other, 1),
+            (b"L'".as_slice(), Kind::Ident, 1),
+            (b"%:%:x".as_slice(), Kind::Punct, 4),
+            (b"%:%".as_slice(), Kind::Punct, 2),
+            (b"....".as_slice(), Kind::Punct, 3),
+            (b"..".as_slice(), Kind::Punct, 1),
+            (b"<<=".as_slice(), Kind::Punct, 3),
+            (b"->".as_slice(), Kind::Punct, 2),
+            (b"<a b>".as_slice(), Kind::Punct, 1),
+            (b"@".as_slice(), Kind::Other, 1),
+            (b"`".as_slice(), Kind::Other, 1),
+            (b"\\".as_slice(), Kind::Other, 1),
+            (b"\x00".as_slice(), Kind::Other, 1),
+        ] {
+            assert!(rt; !text.is_empty() && text[0] != b'\n' && text[0] != b' ');
+            let found = plain_token_at(text);
+            assert_eq!(rt; found.0, kind, "{text:?}");
+            assert_eq!(rt; found.1, len, "{text:?}");
+        }
+    }
+}

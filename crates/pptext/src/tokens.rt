@@ -1,0 +1,156 @@
+// Places, preprocessing tokens and faults.
+ghost use Rattle.std.specs.Prelude.{◌≡◌, ◌↔◌, ◌==◌, List, ℕ, IfOk, length, IsTrue, [], ◌∷◌, ◌++◌, Some, None};
+
+use std::alloc::{AllocError, Global};
+use std::marker::Model;
+
+/// Want of memory.
+#[derive(Clone, Copy, PartialEq, Eq, Debug)]
+pub struct Memory;
+
+impl From<AllocError> for Memory {
+    fn from(_error: AllocError) -> Memory {
+        Memory
+    }
+}
+
+/// A place in a file: its number, and the line and the byte in it, which count from 1.
+#[derive(Clone, Copy, PartialEq, Eq, Debug)]
+pub struct Place {
+    pub file: u32,
+    pub line: u32,
+    pub col: u32,
+}
+
+/// The kinds of preprocessing tokens.
+#[derive(Clone, Copy, PartialEq, Eq, Debug)]
+pub enum Kind {
+    Ident,
+    Number,
+    CharConst,
+    Str,
+    Punct,
+    Header,
+    Other,
+}
+
+/// A spelling, which contracts see as the list of its bytes.
+#[derive(Drop, Debug)]
+pub struct Spelling {
+    bytes: Vec<u8>,
+}
+
+impl Model for Spelling {
+    ghost Value = { List ℕ };
+
+    ghost view = { λ s. s.bytes.items };
+}
+
+impl Spelling {
+    /// A spelling of these bytes.
+    pub fn new(bytes: Vec<u8>) -> Spelling
+        ensures { result ≡ bytes.items }
+    {
+        Spelling { bytes }
+    }
+
+    /// The bytes, given back.
+    pub fn into_bytes(self) -> Vec<u8>
+        ensures { result.items ≡ self }
+    {
+        self.bytes
+    }
+
+    /// The bytes.
+    pub fn as_bytes(&self) -> &[u8]
+        ensures { result.now ≡ self.now }
+    {
+        self.bytes.as_slice()
+    }
+}
+
+impl Clone for Spelling {
+    ghost is_clone = { λ a b. b ≡ a };
+
+    fn clone(&self) -> Result<Spelling, AllocError> {
+        Ok(Spelling {
+            bytes: Vec::from_slice(self.bytes.allocator().clone()?, self.bytes.as_slice())?,
+        })
+    }
+}
+
+impl PartialEq for Spelling {
+    ghost use Rattle.std.specs.Str.{bytes_eq};
+    ghost use Rattle.std.specs.Cmp as Cmp;
+    ghost use Rattle.std.specs.Cmp.Lexicographic.{nat_list_eq_equiv};
+
+    ghost eq = { bytes_eq };
+
+    ghost laws = { Cmp.partial_equiv_from_equiv nat_list_eq_equiv };
+
+    fn eq(&self, other: &Spelling) -> bool {
+        self.as_bytes() == other.as_bytes()
+    }
+}
+
+impl Eq for Spelling {
+    ghost use Rattle.std.specs.Cmp.Lexicographic.{nat_list_eq_equiv};
+
+    ghost laws = { nat_list_eq_equiv };
+}
+
+/// A preprocessing token.
+#[derive(Clone, PartialEq, Eq, Drop, Debug)]
+pub struct Token {
+    pub kind: Kind,
+    pub text: Spelling,
+    pub space: bool,
+    pub at: Place,
+    pub used: Place,
+}
+
+/// A fault of a file or a unit, by its number.
+#[derive(Clone, PartialEq, Eq, Drop, Debug)]
+pub struct Fault {
+    pub number: u8,
+    pub at: Place,
+    pub text: Spelling,
+}
+
+/// Tokens, which contracts see as their list.
+#[derive(Clone, Drop, Debug)]
+pub struct Tokens {
+    tokens: Vec<Token>,
+}
+
+impl Model for Tokens {
+    ghost use Rattle.std.specs.Prelude.{List};
+    ghost use Rattle.pptext.specs.declared.tokens.Token.{Token};
+
+    ghost Value = { List Token };
+
+    ghost view = { λ s. s.tokens.items };
+}
+
+impl Tokens {
+    /// These tokens.
+    pub fn new(tokens: Vec<Token>) -> Tokens
+        ensures { result ≡ tokens.items }
+    {
+        Tokens { tokens }
+    }
+
+    /// The tokens, given back.
+    pub fn into_vec(self) -> Vec<Token>
+        ensures { result.items ≡ self }
+    {
+        self.tokens
+    }
+
+    /// The tokens.
+    pub fn as_slice(&self) -> &[Token]
+        ensures { result.now ≡ self.now }
+    {
+        self.tokens.as_slice()
+    }
+}
