@@ -20,7 +20,7 @@ abbrev pub Inner : ℕ → List ℕ → Type 0
 Inner q = One (λ c. not (c == q || c == 10))
 
 -- The closing character alone, or a part first.
-closed_front : (P : List ℕ → Type 0) (q : ℕ) (text : List ℕ) (m : ℕ) → m ≤ length text → Closed P q (take m text) → ((m ≡ 1) × (0 < length text) × (get_or text 0 0 ≡ q)) ⊎ ((j : ℕ) × (j ≤ m) × P (take j text) × Closed P q (take (m - j) (drop j text)))
+pub closed_front : (P : List ℕ → Type 0) (q : ℕ) (text : List ℕ) (m : ℕ) → m ≤ length text → Closed P q (take m text) → ((m ≡ 1) × (0 < length text) × (get_or text 0 0 ≡ q)) ⊎ ((j : ℕ) × (j ≤ m) × P (take j text) × Closed P q (take (m - j) (drop j text)))
 closed_front P q text m fits (a, b, e, ([], all, ea), eb) =
     let e' : take m text ≡ (q ∷ []) ++ [] = cc in
     let l : length (q ∷ []) + 0 ≡ m = front_length text (q ∷ []) [] m fits e' in

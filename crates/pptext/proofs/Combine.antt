@@ -179,3 +179,13 @@ part_along P Q text n forth back p = (λ z. lacks_along P Q text back (p.0 z), �
 pub exactly_lacks : (c : ℕ) (w text : List ℕ) → (get_or text 0 0 ≡ c → ⊥) → NoFront (Exactly (c ∷ w)) text
 exactly_lacks c w text h m fits e =
     h (begins_one text c w (sym (front_of text (c ∷ w) [] m fits (e ∙ sym (append-nil (c ∷ w)))))).1
+
+-- a first part of a known length, and then what a search behind it answered
+pub then_found : (P Q : List ℕ → Type 0) (text : List ℕ) (n k : ℕ) → OnlyPart P text n → (n ≡ 0 → ⊥) → (k ≡ 0 → NoFront Q (drop n text)) → (0 < k → (n < k) × IsOnly Q (drop n text) (k - n)) → OnlyPart (Then P Q) text k
+then_found P Q text n k p some none found = (λ z. then_lacks_rest P Q text n first (none z), λ s. whole (found s))
+  where
+    first : IsOnly P text n
+    first = p.1 (grind arith)
+
+    whole : (n < k) × IsOnly Q (drop n text) (k - n) → IsOnly (Then P Q) text k
+    whole (lt, q) = let e : n + (k - n) ≡ k = omega arith in subst (λ i. IsOnly (Then P Q) text i) e (then_only P Q text n (k - n) first q)

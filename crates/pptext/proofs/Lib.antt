@@ -2,6 +2,10 @@ pub mod Parts
 pub mod Fronts
 pub mod Passes
 pub mod Columns
+pub mod CleanSteps
+pub mod Offsets
+pub mod Copies
+pub mod Cursors
 pub mod CutSteps
 pub mod CutLoop
 pub mod OneCut
@@ -16,3 +20,11 @@ pub mod Idents
 pub mod Closing
 pub mod Literals
 pub mod LongestOf
+pub mod LastLine
+pub mod LoneQuotes
+pub mod Spans
+pub mod Faults
+pub mod Branches
+pub mod Trees
+pub mod Guards
+pub mod GuardScan

@@ -9,16 +9,16 @@ use Rattle.pptext.proofs.Parts.{front_of, front_length}
 use Rattle.pptext.proofs.Fronts.{one_here, one_lacks, either_lacks, either_left, either_right, only_zero}
 use Rattle.pptext.proofs.Combine.{begins_one, begins_two, begins_three, one_begins, two_begins, three_begins, then_lacks, then_lacks_rest, then_only, only_some, exactly_lacks, exactly_here, head_behind, part_along, then_left, then_right}
 
-abbrev plain : ℕ → ℕ → Bool
+abbrev pub plain : ℕ → ℕ → Bool
 plain quote c = not (c == quote || (c == 92 || c == 10))
 
-abbrev escaped : ℕ → Bool
+abbrev pub escaped : ℕ → Bool
 escaped c = not (c == 10)
 
-abbrev Escape : List ℕ → Type 0
+abbrev pub Escape : List ℕ → Type 0
 Escape = Then (Exactly (92 ∷ [])) (One escaped)
 
-plain-no_quote : (quote c : ℕ) → c ≡ quote → plain quote c ≡ false
+pub plain-no_quote : (quote c : ℕ) → c ≡ quote → plain quote c ≡ false
 plain-no_quote quote c e = grind (arith, nat_tests)
 
 pub quote_lacks : (quote : ℕ) (text : List ℕ) → (quote ≡ 92 → ⊥) → get_or text 0 0 ≡ quote → NoFront (IsElement quote) text

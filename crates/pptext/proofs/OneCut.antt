@@ -19,6 +19,9 @@ halts_here line p ps rest here halts e stands =
     let h = ap length whole in
     halts line (length p.chars) p.sort (omega arith) (subst (λ z. StandsAt line (codes_of z) (length p.chars) p.sort) (sym whole) stands)
 
+same_piece : (p q : Piece) → p.chars ≡ q.chars → p.sort ≡ q.sort → p ≡ q
+same_piece p q chars sort = ap (λ (z : List Char). record { sort = p.sort; chars = z }) chars ∙ ap (λ (z : Sort). record { sort = z; chars = q.chars }) sort
+
 -- two cuts of one text that go on as far as pieces can stand are one
 one_each : (line : List (List ℕ)) (ps qs : List Piece) (r s : List Char) → EachStands line ps r → EachStands line qs s → Halts r → Halts s → laid ps ++ r ≡ laid qs ++ s → (ps ≡ qs) × (r ≡ s)
 one_each line [] [] r s a b x y e = (refl, e)
@@ -29,7 +32,7 @@ one_each line (p ∷ ps) (q ∷ qs) r s a b x y e =
     let same : (length p.chars ≡ length q.chars) × (p.sort ≡ q.sort) = one_piece line (codes_of (p.chars ++ (laid ps ++ r))) (length p.chars) (length q.chars) p.sort q.sort a.0 (subst (λ z. StandsAt line (codes_of z) (length q.chars) q.sort) (sym whole) b.0) in
     let chars : p.chars ≡ q.chars = sym (take_at p.chars (laid ps ++ r) (length q.chars) same.0) ∙ ap (take (length q.chars)) whole ∙ take_at q.chars (laid qs ++ s) (length q.chars) refl in
     let behind : laid ps ++ r ≡ laid qs ++ s = sym (drop_at p.chars (laid ps ++ r) (length q.chars) same.0) ∙ ap (drop (length q.chars)) whole ∙ drop_at q.chars (laid qs ++ s) (length q.chars) refl in
-    let piece : p ≡ q = ap (λ (z : List Char). record { sort = p.sort; chars = z }) chars ∙ ap (λ (z : Sort). record { sort = z; chars = q.chars }) same.1 in
+    let piece : p ≡ q = same_piece p q chars same.1 in
     let rest = one_each (with_piece line p p.sort) ps qs r s a.1 (subst (λ (z : Piece). EachStands (with_piece line z z.sort) qs s) (sym piece) b.1) x y behind in
     (ap (λ (z : Piece). z ∷ ps) piece ∙ ap (λ (z : List Piece). q ∷ z) rest.0, rest.1)
 

@@ -72,12 +72,12 @@ parts_pass test (p ∷ ps) (one, all) =
     subst (λ z. list_all test (z ++ flat_map (λ q. q) ps) ≡ true) (sym one.1) (and_from (test one.0) (list_all test (flat_map (λ q. q) ps)) one.2 (parts_pass test ps all))
 
 -- a text between two characters, seen as its body
-record Between (open_code close_code : ℕ) (inner : ℕ → Bool) (s : List ℕ) : Type 0 where
-  body : List ℕ
-  passes : list_all inner body ≡ true
-  is : s ≡ open_code ∷ (body ++ close_code ∷ [])
+pub record Between (open_code close_code : ℕ) (inner : ℕ → Bool) (s : List ℕ) : Type 0 where
+  pub body : List ℕ
+  pub passes : list_all inner body ≡ true
+  pub is : s ≡ open_code ∷ (body ++ close_code ∷ [])
 
-between : (open_code close_code : ℕ) (s : List ℕ) → IsBetween open_code close_code s → Between open_code close_code (λ c. not (c == close_code || c == 10)) s
+pub between : (open_code close_code : ℕ) (s : List ℕ) → IsBetween open_code close_code s → Between open_code close_code (λ c. not (c == close_code || c == 10)) s
 between open_code close_code s (a, b, e, p, (c, d, f, (x, g, t), (j, k, l, (parts, all, h), m))) = record {
   body = x ∷ j;
   passes = and_from (not (x == close_code || x == 10)) (list_all (λ z. not (z == close_code || z == 10)) j) t (subst (λ z. list_all (λ c. not (c == close_code || c == 10)) z ≡ true) (sym h) (parts_pass (λ c. not (c == close_code || c == 10)) parts all));

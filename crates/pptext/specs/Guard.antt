@@ -6,7 +6,7 @@ use Rattle.pptext.specs.declared.tokens.Token.{Token}
 use Rattle.pptext.specs.declared.tokens.Kind.{Kind}
 use Rattle.pptext.specs.declared.tokens.Kind.TheVariants.{Ident}
 use Rattle.pptext.specs.Lines.{Row}
-use Rattle.pptext.specs.Tree.{Parts, Done, Run, Control, Section, Branches, End, Branch, Tree}
+use Rattle.pptext.specs.Tree.{Parts, Done, Run, Section, End, Tree}
 
 -- a line without tokens
 abbrev pub IsBlankRow : Row → Type 0
@@ -27,12 +27,18 @@ named t text = bytes_eq t.text text
 abbrev pub ident_if : Bool → Token → Option (List ℕ)
 ident_if b t = if b && is_ident t.kind then Some t.text else None
 
+-- `if ! defined`
+abbrev pub is_not_defined : Token → Token → Token → Bool
+is_not_defined d n f = named d (codes "if") && (named n (codes "!") && named f (codes "defined"))
+
+abbrev pub are_parentheses : Token → Token → Bool
+are_parentheses l r = named l (codes "(") && named r (codes ")")
+
 -- the X of `#ifndef X`, `#if ! defined X` and `#if ! defined ( X )`
 abbrev pub guard_name : List Token → Option (List ℕ)
 guard_name (s ∷ d ∷ x ∷ []) = ident_if (named d (codes "ifndef")) x
-guard_name (s ∷ d ∷ n ∷ f ∷ x ∷ []) = ident_if (named d (codes "if") && (named n (codes "!") && named f (codes "defined"))) x
-guard_name (s ∷ d ∷ n ∷ f ∷ l ∷ x ∷ r ∷ []) =
-    ident_if (named d (codes "if") && (named n (codes "!") && (named f (codes "defined") && (named l (codes "(") && named r (codes ")"))))) x
+guard_name (s ∷ d ∷ n ∷ f ∷ x ∷ []) = ident_if (is_not_defined d n f) x
+guard_name (s ∷ d ∷ n ∷ f ∷ l ∷ x ∷ r ∷ []) = ident_if (is_not_defined d n f && are_parentheses l r) x
 guard_name ts = None
 
 -- one if-section without other branches, and no token outside it

@@ -1,8 +1,10 @@
 pub mod Tokens
 pub mod Clean
+pub mod Steps
 pub mod Texts
 pub mod Languages
 pub mod Spellings
+pub mod Lone
 pub mod Cut
 pub mod Lines
 pub mod Tree
@@ -10,3 +12,5 @@ pub mod Guard
 pub mod Sources
 pub mod Answers
 pub mod Finds
+pub mod Laws
+pub mod Grouping

@@ -1,8 +1,10 @@
 -- A cleaned text that is read from the front.
-use Rattle.std.specs.Prelude.{◌≡◌, ℕ, List, Result, Ok, Err}
+use Rattle.std.specs.Prelude.{◌≡◌, ◌≤◌, ◌<◌, ℕ, List, [], ◌∷◌, ◌++◌, Bool, Option, None, Some, Result, Ok, Err, length, take, drop, if◌then◌else◌}
 use Rattle.pptext.specs.declared.tokens.Place.{Place}
 use Rattle.pptext.specs.declared.characters.Char.{Char}
-use Rattle.pptext.specs.Clean.{cleaned}
+use Rattle.pptext.specs.declared.texts.Cursor.{Cursor}
+use Rattle.pptext.specs.Clean.{cleaned, place, placed, newline, without_returns, trigraphs, splices, splice_at_end, codes_of}
+use Rattle.pptext.specs.Steps.{open_end, place_behind}
 
 -- its characters, and how far their places have been asked for
 pub record Reading : Type 0 where
@@ -13,3 +15,48 @@ pub record Reading : Type 0 where
 abbrev pub Cleans : ℕ → List ℕ → Result Reading Place → Type 0
 Cleans file bytes (Ok text) = (cleaned file bytes ≡ Ok text.chars) × (text.passed ≡ 0)
 Cleans file bytes (Err place) = cleaned file bytes ≡ Err place
+
+-- the last new-line, where it is supplied
+abbrev pub supply : Bool → Place → List Char
+supply supplied end = if supplied then record { code = newline; at = end } ∷ [] else []
+
+-- the characters behind line ends and trigraphs, with the last new-line at a place if it is supplied
+abbrev pub logical : Bool → Place → List Char → List Char
+logical supplied end cs = trigraphs (without_returns cs ++ supply supplied end)
+
+abbrev pub start : ℕ → Place
+start file = place file 1 1
+
+-- the same of a file's bytes behind its byte order mark, from an offset on
+abbrev pub logical_from : ℕ → List ℕ → ℕ → List Char
+logical_from file raw offset = logical (open_end raw) (place_behind (start file) raw) (drop offset (placed file 1 1 raw))
+
+-- the characters behind phases 1 and 2, from an offset on
+abbrev pub text_from : ℕ → List ℕ → ℕ → List Char
+text_from file raw offset = splices (logical_from file raw offset)
+
+-- the place of a backslash at the end of the file, from an offset on
+abbrev pub end_from : ℕ → List ℕ → ℕ → Option Place
+end_from file raw offset = splice_at_end (logical_from file raw offset)
+
+-- A cursor stands where its next character is sought.
+pub record Stands (file : ℕ) (raw : List ℕ) (c : Cursor) : Type 0 where
+  pub within : c.offset ≤ length raw
+  pub at : c.at ≡ place_behind (start file) (take c.offset raw)
+  pub rest : drop c.passed (text_from file raw 0) ≡ text_from file raw c.offset
+  pub ends : end_from file raw c.offset ≡ None
+
+-- These are the codes of what stands in front of an offset.
+pub record Copied (raw : List ℕ) (offset : ℕ) (done : List ℕ) : Type 0 where
+  pub codes : (file : ℕ) → codes_of (text_from file raw 0) ≡ done ++ codes_of (text_from file raw offset)
+  pub ends : (file : ℕ) → end_from file raw 0 ≡ end_from file raw offset
+
+-- These are the codes of a file whose end is no splice.
+pub record Whole (raw : List ℕ) (done : List ℕ) : Type 0 where
+  pub codes : (file : ℕ) → done ≡ codes_of (text_from file raw 0)
+  pub ends : (file : ℕ) → end_from file raw 0 ≡ None
+
+-- The file ends in a splice, whose backslash stands at this offset.
+pub record EndsAt (raw : List ℕ) (offset : ℕ) : Type 0 where
+  pub within : offset < length raw
+  pub ends : (file : ℕ) → end_from file raw 0 ≡ Some (place_behind (start file) (take offset raw))

@@ -1,26 +1,17 @@
 -- The groups of a file by the grammar of 6.10, by directive names alone.
-use Rattle.std.specs.Prelude.{◌≡◌, ◌≢◌, ℕ, zero, suc, ◌+◌, List, [], ◌∷◌, ◌++◌, Bool, true, false, ◌&&◌, if◌then◌else◌, Option, None, Some, ◌⊎◌, IfSome, codes}
+use Rattle.std.specs.Prelude.{◌≡◌, ◌≢◌, ℕ, zero, suc, ◌+◌, List, [], ◌∷◌, ◌++◌, Bool, true, false, Option, None, Some}
 use Rattle.std.specs.List.{AllByRecursion}
 use Rattle.pptext.specs.declared.tokens.Place.{Place}
 use Rattle.pptext.specs.declared.tokens.Token.{Token}
-use Rattle.std.specs.Str.{bytes_eq}
-use Rattle.pptext.specs.declared.tokens.Kind.{Kind}
-use Rattle.pptext.specs.declared.tokens.Kind.TheVariants.{Ident}
 use Rattle.pptext.specs.declared.tokens.Fault.{Fault}
 use Rattle.pptext.specs.declared.sources.Directive.{Directive}
-use Rattle.pptext.specs.declared.sources.Directive.TheVariants.{If, Ifdef, Ifndef, Elif, Else, Endif, Include, Define, Undef, Line, Error, Pragma, Null, Unknown}
+use Rattle.pptext.specs.declared.sources.Directive.TheVariants.{If, Ifdef, Ifndef, Elif, Else, Endif}
+use Rattle.pptext.specs.declared.directives.Role.{Role}
+use Rattle.pptext.specs.declared.directives.Role.TheVariants.{Text as IsText, Control as IsControl, Opens, Elses, Closes}
 use Rattle.pptext.specs.Clean.{place}
 use Rattle.pptext.specs.Lines.{Row, directive_of}
 
--- what a line does to the groups
-pub data Role : Type 0 where
-  IsText : Role
-  IsControl : Role
-  Opens : Role
-  Elses : Bool → Role
-  Closes : Role
-
--- `Elses true` is `#else`, `Elses false` is `#elif`
+-- What a line with this directive does to the groups. `Elses true` is `#else`, `Elses false` is `#elif`.
 abbrev pub role_named : Directive → Role
 role_named If = Opens
 role_named Ifdef = Opens
@@ -99,8 +90,8 @@ abbrev pub fault_at : ℕ → Row → Fault
 fault_at number r = record { number = number; at = sign_place r.tokens; text = name_of r.tokens }
 
 -- what a line does to the open sections, or its fault: 3 without a section, 4 after `#else`
-abbrev pub opened : Role → Row → List Open → Option ℕ × List Open
-opened Opens r open_sections = (None, (r, false) ∷ open_sections)
+abbrev pub opened : {L : Type 0} → Role → L → List (L × Bool) → Option ℕ × List (L × Bool)
+opened Opens r os = (None, (r, false) ∷ os)
 opened (Elses final) r [] = (Some 3, [])
 opened (Elses final) r ((o, true) ∷ os) = (Some 4, [])
 opened (Elses final) r ((o, false) ∷ os) = (None, (o, final) ∷ os)
@@ -108,15 +99,20 @@ opened Closes r [] = (Some 3, [])
 opened Closes r (o ∷ os) = (None, os)
 opened s r os = (None, os)
 
+-- the fault of a file that ends with these sections open
+abbrev pub fault_at_end : List Open → Option Fault
+fault_at_end [] = None
+fault_at_end (o ∷ os) = Some (fault_at 5 o.0)
+
+-- the fault of this number at a line, or else the fault of the later lines
+abbrev pub fault_or : Row → Option ℕ → Option Fault → Option Fault
+fault_or r (Some n) later = Some (fault_at n r)
+fault_or r None later = later
+
 -- The first fault of the lines from the top, behind these open sections; 5 for a section that is open at the end.
 abbrev pub group_fault : List Open → List Row → Option Fault
-group_fault [] [] = None
-group_fault (o ∷ os) [] = Some (fault_at 5 o.0)
-group_fault os (r ∷ rs) = fault_or (opened (role r) r os).0 (group_fault (opened (role r) r os).1 rs)
-  where
-    fault_or : Option ℕ → Option Fault → Option Fault
-    fault_or (Some n) later = Some (fault_at n r)
-    fault_or None later = later
+group_fault os [] = fault_at_end os
+group_fault os (r ∷ rs) = fault_or r (opened (role r) r os).0 (group_fault (opened (role r) r os).1 rs)
 
 -- The place in the list, counted from k, of the next branch line of the section around, behind `depth` inner openings.
 abbrev pub branch_behind : ℕ → ℕ → List Role → Option ℕ

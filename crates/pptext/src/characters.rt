@@ -1,8 +1,5 @@
-// Translation phases 1 and 2, in plain passes.
-ghost use Rattle.std.specs.Prelude.{◌≡◌, ◌+◌, ◌<◌, ◌≤◌, ℕ, List, length, IfOk, OnOk, OnErr, Some, None};
-
+// Translation phases 1 and 2 (5.1.1.2): what the bytes of a file stand for.
 use crate::tokens::Place;
-use std::alloc::{AllocError, Global};
 
 /// A character, and the place of its first byte.
 #[derive(Clone, Copy, PartialEq, Eq, Debug)]
@@ -11,4 +8,7 @@ pub struct Char {
     pub at: Place,
 }
 
+#[cfg(test)]
 pub(crate) mod passes;
+pub(crate) mod places;
+pub(crate) mod steps;

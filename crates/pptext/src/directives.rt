@@ -1,10 +1,49 @@
 // Directives by name.
-ghost use Rattle.std.specs.Prelude.{◌≡◌, ℕ, List, length, Option, Some, None, codes, ◌||◌};
+ghost use Rattle.std.specs.Prelude.{◌≡◌, codes, ◌||◌};
 ghost use Rattle.std.specs.Str.{bytes_eq};
 ghost use Rattle.pptext.specs.Lines.{directive_named, directive_of};
+ghost use Rattle.pptext.specs.Tree.{role_named, role_by};
 
 use crate::sources::Directive;
 use crate::tokens::Token;
+
+/// What a line does to the groups of its file (6.10).
+#[derive(Clone, Copy)]
+pub(crate) enum Role {
+    /// a text line
+    Text,
+    /// a directive that neither opens, branches nor closes an if-section
+    Control,
+    /// `#if`, `#ifdef`, `#ifndef`
+    Opens,
+    /// `#else`, where true, or `#elif`
+    Elses(bool),
+    /// `#endif`
+    Closes,
+}
+
+/// The role of a directive.
+fn role_named(directive: Directive) -> Role
+    ensures { result ≡ role_named directive }
+{
+    match directive {
+        Directive::If | Directive::Ifdef | Directive::Ifndef => Role::Opens,
+        Directive::Elif => Role::Elses(false),
+        Directive::Else => Role::Elses(true),
+        Directive::Endif => Role::Closes,
+        _ => Role::Control,
+    }
+}
+
+/// The role of a line by its directive.
+pub(crate) fn role_of(directive: Option<Directive>) -> Role
+    ensures { result ≡ role_by directive }
+{
+    match directive {
+        None => Role::Text,
+        Some(directive) => role_named(directive),
+    }
+}
 
 /// The directive of a name.
 fn directive_named(name: &[u8]) -> Directive

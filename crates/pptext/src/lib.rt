@@ -6,6 +6,7 @@ mod cleaning;
 mod cutting;
 mod directives;
 mod grouping;
+mod laws;
 mod punctuators;
 mod reading;
 mod scanning;
@@ -15,8 +16,9 @@ mod tokenizing;
 mod tokens;
 
 pub use characters::Char;
+pub use laws::{one_tree, tree_unless_fault};
 pub use reading::{
-    one_cut, one_reading, read_source, relex, relexes_what_is_cut, tree_unless_fault,
+    keeps_every_token, one_cut, one_reading, read_source, relex, relexes_what_is_cut,
 };
 pub use sources::{Directive, Line, Source, SourceFault};
 pub use tokens::{Fault, Kind, Memory, Place, Spelling, Token, Tokens};

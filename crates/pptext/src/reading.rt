@@ -1,17 +1,18 @@
 // Reading a file.
-ghost use Rattle.std.specs.Prelude.{◌≡◌, ◌≢◌, ◌↔◌, ◌≤◌, ℕ, List, [], length, IsTrue, IfSome, IfNone, None, Result, Contains};
+ghost use Rattle.std.specs.Prelude.{◌≡◌, ◌≢◌, ◌↔◌, ◌≤◌, ℕ, List, [], length, IsTrue, IfSome, IfNone, None, Result, Ok, Contains};
 ghost use Rattle.pptext.specs.declared.tokens.Fault.{Fault};
 ghost use Rattle.pptext.specs.declared.tokens.Kind.{Kind};
 ghost use Rattle.pptext.specs.declared.tokens.Kind.TheVariants.{Header};
 ghost use Rattle.pptext.specs.declared.characters.Char.{Char};
 ghost use Rattle.pptext.specs.declared.sources.SourceFault.TheVariants.{Bad};
-ghost use Rattle.pptext.specs.Clean.{codes_of};
+ghost use Rattle.pptext.specs.Clean.{cleaned, codes_of};
 ghost use Rattle.pptext.specs.Cut.{Piece, Spelled, Cut};
-ghost use Rattle.pptext.specs.Lines.{Row};
-ghost use Rattle.pptext.specs.Tree.{group_fault, Parts, Tree};
+ghost use Rattle.pptext.specs.Lines.{Row, lines_of};
 ghost use Rattle.pptext.specs.Guard.{GuardedBy};
 ghost use Rattle.pptext.specs.Sources.{Reads, tokens_of, spans, file_fault, IsOneToken, IsLoneQuote};
 ghost use Rattle.pptext.specs.Answers.{Answers};
+ghost use Rattle.pptext.specs.Tokens.{spelled};
+ghost use Rattle.pptext.specs.Laws.{spellings_of};
 
 use crate::cleaning::clean_text;
 use crate::cutting::{CutFault, Found, cut_lines, next_piece};
@@ -129,15 +130,15 @@ pub fn one_reading()
     ensures { (file : ℕ) (bytes : List ℕ) (a b : Result (List Row) Fault) → Reads file bytes a → Reads file bytes b → a ≡ b }
 {}
 
+/// A law: each token of a file stands on one of its lines, since a text behind phase 2 ends in a new-line (5.1.1.2).
+pub fn keeps_every_token()
+    ensures { (file : ℕ) (bytes : List ℕ) (chars : List Char) (pieces : List Piece) → cleaned file bytes ≡ Ok chars → Cut chars pieces → spelled (tokens_of (lines_of pieces)) ≡ spellings_of pieces }
+{}
+
 /// A law: each token of a text but a header name (6.4.7) is the one token of its spelling, so that `relex` finds its kind again,
 /// unless it is a lone quote.
 pub fn relexes_what_is_cut()
     ensures { (chars : List Char) (pieces : List Piece) → Cut chars pieces → (p : Piece) (k : Kind) → Contains pieces p → p.sort ≡ Spelled k → k ≢ Header → IsOneToken (codes_of p.chars) k }
-{}
-
-/// A file's lines have a tree exactly where they have no fault.
-pub fn tree_unless_fault()
-    ensures { (lines : List Row) → (group_fault [] lines ≡ None) ↔ ((parts : Parts) × Tree lines parts) }
 {}
 
 #[cfg(test)]

@@ -1,41 +1,62 @@
 // A file as its tokens, lines and groups.
-ghost use Rattle.std.specs.Prelude.{◌≡◌, ℕ, List, IfOk, IfErr, MatchResult, length, Ok, Err, ◌≤◌, Option, None, Some};
-ghost use Rattle.std.specs.Option.{option_copied, option_map};
+ghost use Rattle.std.specs.Prelude.{◌≡◌};
 
-use crate::tokens::{Fault, Kind, Memory, Place, Spelling, Token};
-use std::alloc::{AllocError, Global};
+use crate::tokens::{Fault, Token};
+use std::alloc::{AllocError, AllocFailed};
 use std::marker::Model;
 
-/// What the name of a directive says; a line of `#` alone is null (6.10.7).
+/// What a directive's name says (6.10).
+///
+/// A line is a directive if its first token is `#` or `%:`. The name is the token after it.
 #[derive(Clone, Copy, PartialEq, Eq, Debug)]
 pub enum Directive {
+    /// `#if` (6.10.1)
     If,
+    /// `#ifdef` (6.10.1)
     Ifdef,
+    /// `#ifndef` (6.10.1)
     Ifndef,
+    /// `#elif` (6.10.1)
     Elif,
+    /// `#else` (6.10.1)
     Else,
+    /// `#endif` (6.10.1)
     Endif,
+    /// `#include` (6.10.2)
     Include,
+    /// `#define` (6.10.3)
     Define,
+    /// `#undef` (6.10.3.5)
     Undef,
+    /// `#line` (6.10.4)
     Line,
+    /// `#error` (6.10.5)
     Error,
+    /// `#pragma` (6.10.6)
     Pragma,
+    /// `#` alone, the null directive (6.10.7)
     Null,
+    /// any other token after the `#`, a non-directive (6.10)
     Unknown,
 }
 
-/// A line: its tokens' span, the physical line of its new-line, its directive, and in an if-section the next branch line.
+/// A logical line of a file, which a new-line outside a comment ends (5.1.1.2).
 #[derive(Clone, Copy, PartialEq, Eq, Debug)]
 pub struct Line {
+    /// The index of its first token among the file's tokens, from 0; where it has none, that of the next one.
     pub start: usize,
+    /// The index behind its last token.
     pub end: usize,
+    /// The physical line that its new-line stands in, from 1.
     pub number: u32,
+    /// The directive, where it is one.
     pub directive: Option<Directive>,
+    /// For `#if`, `#ifdef`, `#ifndef`, `#elif` and `#else` the index, from 0, of the line of the next `#elif`, `#else` or `#endif`
+    /// of the same if-section (6.10.1); for other lines nothing.
     pub next_branch: Option<usize>,
 }
 
-/// A file without fault. Contracts see the list of its lines.
+/// A file without fault: its tokens, lines and groups (6.10). Contracts see the list of its lines.
 #[derive(Drop)]
 pub struct Source {
     pub(crate) tokens: Vec<Token>,
@@ -58,9 +79,39 @@ impl Model for Source {
     ghost invariant = { λ s. (tokens_of (rows_of s.tokens.items s.lines.items) ≡ s.tokens.items) × (spans 0 0 (rows_of s.tokens.items s.lines.items) ≡ s.lines.items) × MatchOption s.guard ((x : List ℕ) → GuardedBy (rows_of s.tokens.items s.lines.items) x → ⊥) (λ i. (i < length s.tokens.items) × ((d : Token) → GuardedBy (rows_of s.tokens.items s.lines.items) (slice_index_or s.tokens.items i d).text)) };
 }
 
-/// Why a file has no lines.
+/// Why a file can't be read.
 #[derive(Drop, Debug)]
 pub enum SourceFault {
+    /// The file's first fault: its number, place and text.
+    ///
+    /// - 2: the last line ends in a backslash (5.1.1.2). The text is empty.
+    /// - 1: a comment is not closed (6.4.9). The text is empty.
+    /// - 3: `#elif`, `#else` or `#endif` outside an if-section (6.10.1).
+    /// - 4: `#elif` or `#else` behind the `#else` of its if-section (6.10.1).
+    /// - 5: an if-section has no `#endif` (6.10.1), told of the innermost one that is open.
+    ///
+    /// At 3, 4 and 5 the place is that of the line's `#`, and the text is the directive's name; at 5 those of the opening line.
     Bad(Fault),
+    /// Memory ran out.
     Memory,
+}
+
+impl From<AllocError> for SourceFault {
+    ghost use Rattle.pptext.specs.declared.sources.SourceFault.TheVariants.{Memory};
+
+    ghost from_gives = { λ _ e. e ≡ Memory };
+
+    fn from(_error: AllocError) -> SourceFault {
+        SourceFault::Memory
+    }
+}
+
+impl<T: Drop> From<AllocFailed<T>> for SourceFault {
+    ghost use Rattle.pptext.specs.declared.sources.SourceFault.TheVariants.{Memory};
+
+    ghost from_gives = { λ _ e. e ≡ Memory };
+
+    fn from(_error: AllocFailed<T>) -> SourceFault {
+        SourceFault::Memory
+    }
 }

@@ -3,12 +3,13 @@ ghost use Rattle.std.specs.Prelude.{◌≡◌, ◌≢◌, ◌↔◌, ◌<◌, �
 ghost use Rattle.pptext.specs.Languages.{Longest};
 ghost use Rattle.pptext.specs.Spellings.{IsSpelling, Spells, is_blank};
 ghost use Rattle.pptext.specs.Cut.{OpensBlock, OpensLine, AwaitsHeader, HeaderAt, StandsAt, Spelled};
+ghost use Rattle.pptext.specs.Lone.{KnowsLone};
 ghost use Rattle.pptext.specs.Tokens.{spelled};
 
 use crate::punctuators::punct_len;
 use crate::scanning::headers::header_len;
 use crate::scanning::ident_len;
-use crate::scanning::literals::{char_const_len, str_len};
+use crate::scanning::literals::{LoneQuotes, char_const_len, str_len};
 use crate::scanning::numbers::number_len;
 use crate::tokens::{Kind, Token};
 
@@ -43,20 +44,24 @@ fn header_at(text: &[u8], line: &[Token]) -> usize
     header_len(text)
 }
 
-/// The kind and length of the token that begins the text where no header name stands.
-fn plain_token_at(text: &[u8]) -> (Kind, usize)
+/// The kind and length of the token that begins the text where no header name stands. A literal is
+/// longer than the identifier that its prefix is, and a number than a period; no other kinds begin
+/// alike. So the first that is found is the longest.
+fn plain_token_at(text: &[u8], lone: &mut LoneQuotes) -> (Kind, usize)
     requires some { 0 < length text.now }
     requires no_newline { slice_index text.now 0 ≢ 10 }
     requires no_blank { is_blank (slice_index text.now 0) ≡ false }
+    requires lone { KnowsLone text.now lone.old }
     ensures some { 0 < result.1 }
     ensures longest { Longest IsSpelling text.now result.1 }
     ensures spelled { Spells result.0 (take result.1 text.now) }
+    ensures lone { KnowsLone text.now lone.new }
 {
-    let char_const = char_const_len(text);
+    let char_const = char_const_len(text, &mut lone.single);
     if char_const > 0 {
         return (Kind::CharConst, char_const);
     }
-    let string = str_len(text);
+    let string = str_len(text, &mut lone.double);
     if string > 0 {
         return (Kind::Str, string);
     }
@@ -75,6 +80,26 @@ fn plain_token_at(text: &[u8]) -> (Kind, usize)
     (Kind::Other, 1)
 }
 
+/// The kind and length of the token that begins here, behind these tokens of its line, where this much is
+/// known of the quotes.
+pub(crate) fn token_knowing(text: &[u8], line: &[Token], lone: &mut LoneQuotes) -> (Kind, usize)
+    requires some { 0 < length text.now }
+    requires no_newline { slice_index text.now 0 ≢ 10 }
+    requires no_blank { is_blank (slice_index text.now 0) ≡ false }
+    requires no_block { ¬ OpensBlock text.now }
+    requires no_line { ¬ OpensLine text.now }
+    requires lone { KnowsLone text.now lone.old }
+    ensures fits { (0 < result.1) × (result.1 ≤ length text.now) }
+    ensures stands { StandsAt (spelled line.now) text.now result.1 (Spelled result.0) }
+    ensures lone { KnowsLone text.now lone.new }
+{
+    let header = header_at(text, line);
+    if header > 0 {
+        return (Kind::Header, header);
+    }
+    plain_token_at(text, lone)
+}
+
 /// The kind and length of the token that begins here, behind these tokens of its line.
 pub(crate) fn token_at(text: &[u8], line: &[Token]) -> (Kind, usize)
     requires some { 0 < length text.now }
@@ -85,18 +110,16 @@ pub(crate) fn token_at(text: &[u8], line: &[Token]) -> (Kind, usize)
     ensures fits { (0 < result.1) × (result.1 ≤ length text.now) }
     ensures stands { StandsAt (spelled line.now) text.now result.1 (Spelled result.0) }
 {
-    let header = header_at(text, line);
-    if header > 0 {
-        return (Kind::Header, header);
-    }
-    plain_token_at(text)
+    let mut lone = LoneQuotes::unknown(text.len());
+    token_knowing(text, line, &mut lone)
 }
 
 #[cfg(test)]
 mod tests {
     use super::*;
+    use crate::scanning::is_blank;
     use crate::tokens::{Place, Spelling};
-    use std::alloc::AllocError;
+    use std::alloc::{AllocError, Global};
     use std::test::Fail;
 
     #[test]
@@ -137,10 +160,48 @@ mod tests {
             (b"\\".as_slice(), Kind::Other, 1),
             (b"\x00".as_slice(), Kind::Other, 1),
         ] {
-            assert!(rt; !text.is_empty() && text[0] != b'\n' && text[0] != b' ');
-            let found = plain_token_at(text);
+            assert!(rt; !text.is_empty());
+            assert!(rt; text[0] != b'\n');
+            assert!(rt; !is_blank(text[0]));
+            let found = plain_token_at(text, &mut LoneQuotes::unknown(text.len()));
             assert_eq!(rt; found.0, kind, "{text:?}");
             assert_eq!(rt; found.1, len, "{text:?}");
         }
+    }
+
+    fn token(alloc: Global, text: &[u8]) -> Result<Token, AllocError> {
+        let at = Place {
+            file: 0,
+            line: 1,
+            col: 1,
+        };
+        Ok(Token {
+            kind: Kind::Other,
+            text: Spelling::new(Vec::from_slice(alloc, text)?),
+            space: false,
+            at,
+            used: at,
+        })
+    }
+
+    #[test]
+    fn finds_header_names(rt: HostRuntime) -> Result<(), Fail> {
+        let mut line = Vec::new(rt.alloc());
+        line.push(token(rt.alloc(), b"%:")?)?;
+        line.push(token(rt.alloc(), b"include")?)?;
+        for (text, len) in [
+            (b"<a b>c".as_slice(), 5),
+            (b"\"a\\\"b\"".as_slice(), 4),
+            (b"<a\"b>".as_slice(), 5),
+            (b"<>".as_slice(), 0),
+            (b"<a\n>".as_slice(), 0),
+            (b"\"a".as_slice(), 0),
+            (b"x<a>".as_slice(), 0),
+        ] {
+            assert_eq!(rt; header_at(text, &line), len, "{text:?}");
+        }
+        line.push(token(rt.alloc(), b"include")?)?;
+        assert_eq!(rt; header_at(b"<a>", &line), 0);
+        Ok(())
     }
 }

@@ -1,20 +1,11 @@
-// The passes of phases 1 and 2.
+// Phases 1 and 2 as plain passes over lists of characters: what the tests compare the cleaned text with.
 ghost use Rattle.std.specs.Prelude.{◌≡◌, ◌+◌, ◌<◌, ◌≤◌, ℕ, List, length, IfOk, OnOk, OnErr, Some, None, All, ◌-◌, ◌^◌};
 ghost use Rattle.pptext.specs.Clean.{placed, is_return_at, without_returns, terminated, trigraphs, trigraph_at, trigraph, splice_at, splices, unmarked, splice_at_end};
 
 use crate::characters::Char;
+use crate::characters::steps::trigraph;
 use crate::tokens::Place;
 use std::alloc::{AllocError, Global};
-
-/// The bytes behind a byte order mark.
-pub(crate) fn unmarked(bytes: &[u8]) -> &[u8]
-    ensures { result.now ≡ unmarked bytes.now }
-{
-    match bytes {
-        [0xef, 0xbb, 0xbf, rest @ ..] => rest,
-        _ => bytes,
-    }
-}
 
 /// Each byte with its place.
 pub(crate) fn place_bytes(alloc: Global, file: u32, bytes: &[u8]) -> Result<Vec<Char>, AllocError>
@@ -58,24 +49,6 @@ pub(crate) fn drop_returns(alloc: Global, chars: &[Char]) -> Result<Vec<Char>, A
         kept.push(chars[i])?;
     }
     Ok(kept)
-}
-
-/// What `??` and this character stand for, or 0.
-fn trigraph(code: u8) -> u8
-    ensures { result ≡ trigraph code }
-{
-    match code {
-        b'=' => b'#',
-        b'(' => b'[',
-        b'/' => b'\\',
-        b')' => b']',
-        b'\'' => b'^',
-        b'<' => b'{',
-        b'!' => b'|',
-        b'>' => b'}',
-        b'-' => b'~',
-        _ => 0,
-    }
 }
 
 /// The character of the trigraph that begins here, or 0.

@@ -1,7 +1,38 @@
 // Character constants (6.4.4.4) and string literals (6.4.5).
-ghost use Rattle.std.specs.Prelude.{◌≡◌, ◌≢◌, ◌↔◌, ◌⊎◌, ◌<◌, ◌≤◌, ℕ, List, [], ◌∷◌, length, IsTrue, slice_index, Contains};
-ghost use Rattle.pptext.specs.Languages.{OnlyPart, Repeated, Then, Exactly};
+ghost use Rattle.std.specs.Prelude.{◌≡◌, ◌≢◌, ◌↔◌, ◌⊎◌, ◌+◌, ◌-◌, ◌<◌, ◌≤◌, ℕ, List, [], ◌∷◌, length, drop, IsTrue, slice_index, Contains};
+ghost use Rattle.pptext.specs.Languages.{OnlyPart, NoFront, IsOnly, Then, Exactly};
 ghost use Rattle.pptext.specs.Spellings.{IsElement, IsCharConst, IsStr, char_prefixes, str_prefixes};
+ghost use Rattle.pptext.specs.Lone.{IsQuoted, AreLone, FollowsQuote};
+
+/// How far the quotes of each kind are known to be lone, that is closed by no other in their line.
+/// Each number counts the bytes that are left there, so it holds as the text is passed over.
+/// Without it a line of n lone quotes would be searched n times.
+#[derive(Clone, Copy)]
+pub(crate) struct LoneQuotes {
+    pub(crate) single: usize,
+    pub(crate) double: usize,
+}
+
+impl LoneQuotes {
+    /// Nothing is known of the quotes of a text of so many bytes.
+    pub(crate) fn unknown(len: usize) -> LoneQuotes
+        ensures { result ≡ record { single = len; double = len } }
+    {
+        LoneQuotes {
+            single: len,
+            double: len,
+        }
+    }
+}
+
+/// What follows an opening quote.
+#[derive(Clone, Copy)]
+pub(crate) enum Quoted {
+    /// So many bytes, with the closing quote.
+    Closed(usize),
+    /// No closing quote in this line. The quotes among so many bytes aren't closed either.
+    Lone(usize),
+}
 
 /// Whether a prefix of one letter: u, U or L.
 fn is_prefix(c: u8) -> bool
@@ -94,66 +125,84 @@ fn element_len(text: &[u8], quote: u8) -> usize
     2
 }
 
-/// The length of the elements and the closing quote that begin the text, or 0 where none closes.
-fn quoted_rest_len(text: &[u8], quote: u8) -> usize
+/// What follows an opening quote: its elements (6.4.4.4, 6.4.5) up to the closing one.
+fn quoted_rest(text: &[u8], quote: u8) -> Quoted
     requires { quote ≢ 92 }
-    ensures { OnlyPart (Then (Repeated (IsElement quote)) (Exactly (quote ∷ []))) text.now result }
+    ensures { FollowsQuote quote text.now result }
 {
     let mut at = 0;
     while at < text.len() {
         if text[at] == quote {
-            return at + 1;
+            return Quoted::Closed(at + 1);
         }
         let n = element_len(&text[at..], quote);
         if n == 0 {
-            return 0;
+            return Quoted::Lone(at);
         }
         at += n;
     }
-    0
+    Quoted::Lone(at)
 }
 
-/// The length of at least one element and the closing quote of a character constant, or 0.
-fn char_rest_len(text: &[u8]) -> usize
-    ensures { OnlyPart (Then (IsElement 39) (Then (Repeated (IsElement 39)) (Exactly (39 ∷ [])))) text.now result }
+/// The length of the literal that begins with an opening of this length, or 0 where no quote closes it.
+/// The quotes of its kind are known to be lone up to where `left` bytes are left.
+fn literal_len(text: &[u8], opening: usize, quote: u8, left: &mut usize) -> usize
+    requires some { 0 < opening }
+    requires fits { opening ≤ length text.now }
+    requires last { slice_index text.now (opening - 1) ≡ quote }
+    requires first { (r : ℕ) → r + 1 < opening → slice_index text.now r ≢ quote }
+    requires no_backslash { quote ≢ 92 }
+    requires lone { AreLone quote text.now (length text.now - left.old) }
+    ensures none { result ≡ 0 → NoFront (IsQuoted quote) (drop opening text.now) }
+    ensures some { 0 < result → (opening < result) × IsOnly (IsQuoted quote) (drop opening text.now) (result - opening) }
+    ensures lone { AreLone quote text.now (length text.now - left.new) }
 {
-    let first = element_len(text, b'\'');
-    if first == 0 {
+    if *left <= text.len() - opening {
         return 0;
     }
-    let rest = quoted_rest_len(&text[first..], b'\'');
-    if rest == 0 {
-        return 0;
+    match quoted_rest(&text[opening..], quote) {
+        Quoted::Closed(n) => opening + n,
+        Quoted::Lone(n) => {
+            *left = text.len() - opening - n;
+            0
+        }
     }
-    first + rest
+}
+
+/// Whether this byte begins the text.
+fn begins_with_byte(text: &[u8], c: u8) -> bool
+    ensures { IsTrue result ↔ (0 < length text.now) × (slice_index text.now 0 ≡ c) }
+{
+    !text.is_empty() && text[0] == c
 }
 
 /// The length of the character constant that begins the text, or 0.
-pub(crate) fn char_const_len(text: &[u8]) -> usize
-    ensures { OnlyPart IsCharConst text.now result }
+/// Single quotes are known to be lone up to where `left` bytes are left.
+pub(crate) fn char_const_len(text: &[u8], left: &mut usize) -> usize
+    requires { AreLone 39 text.now (length text.now - left.old) }
+    ensures part { OnlyPart IsCharConst text.now result }
+    ensures lone { AreLone 39 text.now (length text.now - left.new) }
 {
     let opening = char_opening_len(text);
     if opening == 0 {
         return 0;
     }
-    let rest = char_rest_len(&text[opening..]);
-    if rest == 0 {
+    if begins_with_byte(&text[opening..], b'\'') {
         return 0;
     }
-    opening + rest
+    literal_len(text, opening, b'\'', left)
 }
 
 /// The length of the string literal that begins the text, or 0.
-pub(crate) fn str_len(text: &[u8]) -> usize
-    ensures { OnlyPart IsStr text.now result }
+/// Double quotes are known to be lone up to where `left` bytes are left.
+pub(crate) fn str_len(text: &[u8], left: &mut usize) -> usize
+    requires { AreLone 34 text.now (length text.now - left.old) }
+    ensures part { OnlyPart IsStr text.now result }
+    ensures lone { AreLone 34 text.now (length text.now - left.new) }
 {
     let opening = str_opening_len(text);
     if opening == 0 {
         return 0;
     }
-    let rest = quoted_rest_len(&text[opening..], b'"');
-    if rest == 0 {
-        return 0;
-    }
-    opening + rest
+    literal_len(text, opening, b'"', left)
 }

@@ -1,25 +1,28 @@
-use Rattle.std.proofs.Common.{ℕ, List, drop}
+use Rattle.std.proofs.Common.{◌≡◌, ℕ, ◌+◌, ◌-◌, ◌<◌, List, length, drop, take, get_or, true, arith, sym, ◌∙◌}
+use Rattle.std.proofs.lemmas.Bool.{false≢true}
 use Rattle.std.proofs.lemmas.List.{take_rest}
-use Rattle.pptext.specs.Languages.{OnlyPart, Then}
-use Rattle.pptext.specs.Spellings.{IsElement}
-use Rattle.pptext.proofs.Closing.{Closed}
-use Rattle.pptext.proofs.Combine.{then_none_first, then_none_rest, then_both}
+use Rattle.pptext.specs.Languages.{OnlyPart}
+use Rattle.pptext.proofs.Fronts.{only_zero}
+use Rattle.pptext.proofs.Combine.{then_none_first, then_lacks_rest, then_found}
 use Rattle.pptext.proofs.Literals.{CharOpening, char_const_part}
+use Rattle.pptext.proofs.LoneQuotes.{CharRest, char_rest_lacks, char_rest_only, char_rest_empty}
 use Rattle.pptext.proofs.scanning.literals.char_const_len.Goals as goal
 
-abbrev CharRest : List ℕ → Type 0
-CharRest = Then (IsElement 39) (Closed (IsElement 39) 39)
-
-pub returns-then-opening-eq0 : goal.returns-then-opening-eq0
-returns-then-opening-eq0 c =
+pub returns-then-opening-eq0-clause-part : goal.returns-then-opening-eq0-clause-part
+returns-then-opening-eq0-clause-part c =
     char_const_part c.args.text.now 0 (then_none_first CharOpening CharRest c.args.text.now c.char_opening_len-opening.result c.char_opening_len-opening.ensures c.if-opening-eq0.true)
 
-pub returns-then-rest-eq0 : goal.returns-then-rest-eq0
-returns-then-rest-eq0 c =
-    let q : OnlyPart CharRest (drop c.char_opening_len-opening.result c.args.text.now) c.char_rest_len-rest.result = simp take_rest at c.char_rest_len-rest.ensures in
-    char_const_part c.args.text.now 0 (then_none_rest CharOpening CharRest c.args.text.now c.char_opening_len-opening.result c.char_rest_len-rest.result c.char_opening_len-opening.ensures c.if-opening-eq0.false q c.if-rest-eq0.true)
+pub returns-then-begins_with_byte-clause-part : goal.returns-then-begins_with_byte-clause-part
+returns-then-begins_with_byte-clause-part c =
+    let text = c.args.text.now in
+    let opening = c.char_opening_len-opening.result in
+    let some : 0 < opening = omega arith in
+    let empty : (0 < length (drop opening text)) × (get_or (drop opening text) 0 0 ≡ 39) = simp take_rest at (c.begins_with_byte.ensures.0 c.if-begins_with_byte.true) in
+    char_const_part text 0 (only_zero _ text (then_lacks_rest CharOpening CharRest text opening (c.char_opening_len-opening.ensures.1 some) (char_rest_empty (drop opening text) empty.1)))
 
-pub returns : goal.returns
-returns c =
-    let q : OnlyPart CharRest (drop c.char_opening_len-opening.result c.args.text.now) c.char_rest_len-rest.result = simp take_rest at c.char_rest_len-rest.ensures in
-    char_const_part c.args.text.now _ (then_both CharOpening CharRest c.args.text.now c.char_opening_len-opening.result c.char_rest_len-rest.result c.char_opening_len-opening.ensures c.if-opening-eq0.false q c.if-rest-eq0.false)
+pub returns-clause-part : goal.returns-clause-part
+returns-clause-part c =
+    let text = c.args.text.now in
+    let opening = c.char_opening_len-opening.result in
+    let full : (0 < length (drop opening text)) × (get_or (drop opening text) 0 0 ≡ 39) → c.begins_with_byte.result ≡ true = simp take_rest at c.begins_with_byte.ensures.1 in
+    char_const_part text c.literal_len.result (then_found CharOpening CharRest text opening c.literal_len.result c.char_opening_len-opening.ensures c.if-opening-eq0.false (λ z. char_rest_lacks (drop opening text) (c.literal_len.ensures.none z)) (λ s. let f = c.literal_len.ensures.some s in (f.0, char_rest_only (drop opening text) (c.literal_len.result - opening) (λ h. false≢true (sym c.if-begins_with_byte.false ∙ full h)) f.1)))

@@ -1,0 +1,440 @@
+-- One step of phases 1 and 2 in one reading, against the three passes.
+use Rattle.std.proofs.Common.{◌≡◌, ℕ, zero, suc, ◌+◌, ◌-◌, ◌<◌, ◌≤◌, Bool, true, false, not, ◌==◌, ◌&&◌, ◌||◌, if◌then◌else◌, List, [], ◌∷◌, ◌++◌, length, take, drop, map, get_or, refl, sym, ap, ◌∙◌, subst, arith, rules, Option, None, Some, length-append, length-drop}
+use Rattle.std.proofs.lemmas.Bool.{false≢true}
+use Rattle.std.proofs.lemmas.Bool.Decides.{nat_tests}
+use Rattle.std.proofs.lemmas.List.{drop-map, drop-drop, drop_all, length-map}
+use Rattle.pptext.specs.declared.tokens.Place.{Place}
+use Rattle.pptext.specs.declared.characters.Char.{Char}
+use Rattle.pptext.specs.declared.characters.steps.Step.{Step}
+use Rattle.pptext.specs.declared.characters.steps.Step.TheVariants.{Code, Removed}
+use Rattle.pptext.specs.Clean.{codes_of, head_code, newline, backslash, is_return_at, without_returns, trigraph, trigraph_at, trigraphs_behind, trigraphs, splice_at, splices_behind, splices, splice_at_end}
+use Rattle.pptext.specs.Steps.{open_end, is_special, PlainFront, trigraph_front, return_front, newline_front, spliced, coded, step_of}
+use Rattle.pptext.specs.Texts.{supply, logical}
+
+pub and_false : (b : Bool) → (b && false) ≡ false
+and_false true = refl
+and_false false = refl
+
+test_is : (n m : ℕ) → (n == m) ≡ true → n ≡ m
+test_is n m e = grind (arith, nat_tests)
+
+test_not : (n m : ℕ) → (n ≡ m → ⊥) → (n == m) ≡ false
+test_not n m e = grind (arith, nat_tests)
+
+both : (a b : Bool) → (a && b) ≡ true → (a ≡ true) × (b ≡ true)
+both true b e = (refl, e)
+both false b e = absurd (false≢true e)
+
+-- The tests on bytes are those on characters.
+pub return_same : (cs : List Char) → return_front (codes_of cs) ≡ is_return_at cs
+return_same [] = refl
+return_same (c ∷ []) = sym (and_false (c.code == 13))
+return_same (c ∷ d ∷ cs) = refl
+
+pub trigraph_same : (cs : List Char) → trigraph_front (codes_of cs) ≡ trigraph_at cs
+trigraph_same [] = refl
+trigraph_same (a ∷ []) = refl
+trigraph_same (a ∷ b ∷ []) = refl
+trigraph_same (a ∷ b ∷ c ∷ cs) = refl
+
+-- what a CR directly before an LF stands on
+record Return (a : Char) (cs : List Char) : Type 0 where
+  cr : a.code ≡ 13
+  lf : head_code cs ≡ 10
+  room : 0 < length cs
+  kept : is_return_at cs ≡ false
+
+lf_kept : (c : Char) (cs : List Char) → c.code ≡ 10 → is_return_at (c ∷ cs) ≡ false
+lf_kept c cs e = rw e refl
+
+return_is : (a : Char) (cs : List Char) → is_return_at (a ∷ cs) ≡ true → Return a cs
+return_is a [] h = absurd (false≢true (sym (and_false (a.code == 13)) ∙ h))
+return_is a (b ∷ cs) h =
+    let parts = both (a.code == 13) (b.code == 10) h in
+    record { cr = test_is a.code 13 parts.0; lf = test_is b.code 10 parts.1; room = omega arith; kept = lf_kept b cs (test_is b.code 10 parts.1) }
+
+pub kept : (c : Char) (cs : List Char) → is_return_at (c ∷ cs) ≡ false → without_returns (c ∷ cs) ≡ c ∷ without_returns cs
+kept c cs h = rw h refl
+
+pub dropped : (c : Char) (cs : List Char) → is_return_at (c ∷ cs) ≡ true → without_returns (c ∷ cs) ≡ without_returns cs
+dropped c cs h = rw h refl
+
+-- an LF in front is kept
+lf_head : (cs tail : List Char) → 0 < length cs → is_return_at cs ≡ false → head_code (without_returns cs ++ tail) ≡ head_code cs
+lf_head [] tail lt h = absurd (omega arith)
+lf_head (c ∷ cs) tail lt h = rw (kept c cs h) refl
+
+-- A front that is no question mark begins no trigraph.
+third : (c a : Char) (xs : List Char) → trigraph_at (c ∷ a ∷ xs) ≡ (if c.code == 63 && a.code == 63 then trigraph (head_code xs) else 0)
+third c a [] = elim (c.code == 63 && a.code == 63) as (λ t. zero ≡ (if t then zero else zero)) [ true ↦ refl | false ↦ refl ]
+third c a (x ∷ xs) = refl
+
+no_second : (c : Char) (xs : List Char) → (head_code xs ≡ 63 → ⊥) → trigraph_at (c ∷ xs) ≡ 0
+no_second c [] h = refl
+no_second c (a ∷ xs) h = third c a xs ∙ rw (test_not a.code 63 h, and_false (c.code == 63)) refl
+
+third_same : (s : Bool) (e : Place) (cs : List Char) → trigraph (head_code (without_returns cs ++ supply s e)) ≡ trigraph (head_code cs)
+third_same true e [] = refl
+third_same false e [] = refl
+third_same s e (c ∷ cs) = by (is_return_at (c ∷ cs)) refl
+  where
+    by : (t : Bool) → is_return_at (c ∷ cs) ≡ t → trigraph (head_code (without_returns (c ∷ cs) ++ supply s e)) ≡ trigraph c.code
+    by true h =
+        let r = return_is c cs h in
+        rw (dropped c cs h, lf_head cs (supply s e) r.room r.kept, r.lf, r.cr) refl
+    by false h = rw (kept c cs h) refl
+
+-- A trigraph begins where it begins in the file.
+pub trigraph_kept : (s : Bool) (e : Place) (c : Char) (cs : List Char) → trigraph_at (c ∷ (without_returns cs ++ supply s e)) ≡ trigraph_at (c ∷ cs)
+trigraph_kept true e c [] = refl
+trigraph_kept false e c [] = refl
+trigraph_kept s e c (a ∷ cs) = by (is_return_at (a ∷ cs)) refl
+  where
+    by : (t : Bool) → is_return_at (a ∷ cs) ≡ t → trigraph_at (c ∷ (without_returns (a ∷ cs) ++ supply s e)) ≡ trigraph_at (c ∷ a ∷ cs)
+    by true h =
+        let r = return_is a cs h in
+        let lf = lf_head cs (supply s e) r.room r.kept ∙ r.lf in
+        ap (λ z. trigraph_at (c ∷ (z ++ supply s e))) (dropped a cs h)
+        ∙ no_second c (without_returns cs ++ supply s e) (λ q. cc)
+        ∙ sym (no_second c (a ∷ cs) (λ q. cc))
+    by false h =
+        ap (λ z. trigraph_at (c ∷ (z ++ supply s e))) (kept a cs h)
+        ∙ third c a (without_returns cs ++ supply s e)
+        ∙ ap (λ n. if c.code == 63 && a.code == 63 then n else 0) (third_same s e cs)
+        ∙ sym (third c a cs)
+
+-- Phases 1 and 2 from a character on, one character at a time.
+pub return_step : (s : Bool) (e : Place) (c : Char) (cs : List Char) → is_return_at (c ∷ cs) ≡ true → logical s e (c ∷ cs) ≡ logical s e cs
+return_step s e c cs h = ap (λ z. trigraphs (z ++ supply s e)) (dropped c cs h)
+
+pub own_step : (s : Bool) (e : Place) (c : Char) (cs : List Char) → is_return_at (c ∷ cs) ≡ false → trigraph_at (c ∷ cs) ≡ 0 → logical s e (c ∷ cs) ≡ c ∷ logical s e cs
+own_step s e c cs h t =
+    let k = trigraph_kept s e c cs ∙ t in
+    ap (λ z. trigraphs (z ++ supply s e)) (kept c cs h) ∙ rw k refl
+
+-- what begins a trigraph
+record Three (c : Char) (cs : List Char) : Type 0 where
+  room : 2 ≤ length cs
+  kept : without_returns (c ∷ cs) ≡ c ∷ take 2 cs ++ without_returns (drop 2 cs)
+
+not_zero : (n : ℕ) → (n ≡ 0 → ⊥) → (n == 0) ≡ false
+not_zero n h = test_not n 0 h
+
+no_return : (c : Char) (cs : List Char) → (c.code ≡ 13 → ⊥) → is_return_at (c ∷ cs) ≡ false
+no_return c cs h = rw (test_not c.code 13 h) refl
+
+mark_kept : (c : Char) (cs : List Char) → c.code ≡ 63 → without_returns (c ∷ cs) ≡ c ∷ without_returns cs
+mark_kept c cs h = kept c cs (no_return c cs (λ q. cc))
+
+no_trigraph_cr : (n : ℕ) → (trigraph n ≡ 0 → ⊥) → n ≡ 13 → ⊥
+no_trigraph_cr n h e = h (ap trigraph e)
+
+marks : (t : Bool) (n : ℕ) → ((if t then n else 0) ≡ 0 → ⊥) → (t ≡ true) × (n ≡ 0 → ⊥)
+marks true n h = (refl, h)
+marks false n h = absurd (h refl)
+
+three : (a : Char) (cs : List Char) → (trigraph_at (a ∷ cs) ≡ 0 → ⊥) → Three a cs
+three a [] h = absurd (h refl)
+three a (b ∷ []) h = absurd (h refl)
+three a (b ∷ c ∷ cs) h =
+    let m = marks (a.code == 63 && b.code == 63) (trigraph c.code) h in
+    let q = both (a.code == 63) (b.code == 63) m.0 in
+    record {
+      room = omega arith;
+      kept = mark_kept a (b ∷ c ∷ cs) (test_is a.code 63 q.0) ∙ ap (λ z. a ∷ z) (mark_kept b (c ∷ cs) (test_is b.code 63 q.1) ∙ ap (λ z. b ∷ z) (kept c cs (no_return c cs (no_trigraph_cr c.code m.1))));
+    }
+
+trigraph_step : (s : Bool) (e : Place) (a : Char) (cs : List Char) → (trigraph_at (a ∷ cs) ≡ 0 → ⊥) → logical s e (a ∷ cs) ≡ record { code = trigraph_at (a ∷ cs); at = a.at } ∷ logical s e (drop 2 cs)
+trigraph_step s e a [] h = absurd (h refl)
+trigraph_step s e a (b ∷ []) h = absurd (h refl)
+trigraph_step s e a (b ∷ c ∷ cs) h =
+    let t = three a (b ∷ c ∷ cs) h in
+    ap (λ z. trigraphs (z ++ supply s e)) t.kept ∙ rw (not_zero (trigraph_at (a ∷ b ∷ c ∷ cs)) h) refl
+
+-- a new-line of this length in front, or the supplied one
+record NewLine (s : Bool) (e : Place) (cs : List Char) (m : ℕ) : Type 0 where
+  fits : m ≤ length cs
+  more : 0 < m → (nl : Char) × (nl.code ≡ 10) × (logical s e cs ≡ nl ∷ logical s e (drop m cs))
+  none : m ≡ 0 → (cs ≡ []) × (s ≡ true)
+  last : 0 < m → m ≡ length cs → open_end (codes_of cs) ≡ false
+
+some_is : (m n : ℕ) → Some m ≡ Some n → m ≡ n
+some_is m n e = cc
+
+plain_lf : (s : Bool) (e : Place) (c : Char) (cs : List Char) → c.code ≡ 10 → logical s e (c ∷ cs) ≡ c ∷ logical s e cs
+plain_lf s e c cs h = own_step s e c cs (lf_kept c cs h) (no_mark c cs (λ q. cc))
+  where
+    no_mark : (a : Char) (xs : List Char) → (a.code ≡ 63 → ⊥) → trigraph_at (a ∷ xs) ≡ 0
+    no_mark a [] k = refl
+    no_mark a (b ∷ []) k = refl
+    no_mark a (b ∷ x ∷ xs) k = rw (test_not a.code 63 k) refl
+
+last_lf : (y : Char) (ys : List Char) → y.code ≡ 10 → length ys ≡ 0 → open_end (codes_of (y ∷ ys)) ≡ false
+last_lf y [] p l0 = rw p refl
+last_lf y (w ∷ ys) p l0 = absurd (omega arith)
+
+newline_at : (s : Bool) (e : Place) (cs : List Char) (m : ℕ) → newline_front s (codes_of cs) ≡ Some m → NewLine s e cs m
+newline_at true e [] m h =
+    let z = some_is 0 m h in
+    record { fits = omega arith; more = λ lt. absurd (omega arith); none = λ q. (refl, refl); last = λ lt. absurd (omega arith) }
+newline_at false e [] m h = cc
+newline_at s e (c ∷ cs) m h = by (c.code == 10) refl
+  where
+    two : (t : Bool) → return_front (codes_of (c ∷ cs)) ≡ t → (if t then Some 2 else None) ≡ Some m → NewLine s e (c ∷ cs) m
+    two false q k = cc
+    two true q k =
+        let z = some_is 2 m k in
+        crlf cs z (sym (return_same (c ∷ cs)) ∙ q)
+      where
+        crlf : (xs : List Char) → 2 ≡ m → is_return_at (c ∷ xs) ≡ true → NewLine s e (c ∷ xs) m
+        crlf [] z r = absurd (false≢true (sym (and_false (c.code == 13)) ∙ r))
+        crlf (b ∷ xs) z r =
+            let lf = (return_is c (b ∷ xs) r).lf in
+            record {
+              fits = omega arith;
+              more = λ lt. (b, lf, return_step s e c (b ∷ xs) r ∙ plain_lf s e b xs lf ∙ ap (λ n. b ∷ logical s e (drop n (c ∷ b ∷ xs))) z);
+              none = λ q2. absurd (omega arith);
+              last = λ lt. λ l. last_lf b xs lf (omega arith);
+            }
+
+    by : (t : Bool) → (c.code == 10) ≡ t → NewLine s e (c ∷ cs) m
+    by true q =
+        let lf = test_is c.code 10 q in
+        let z = some_is 1 m (rw q at h) in
+        record {
+          fits = omega arith;
+          more = λ lt. (c, lf, plain_lf s e c cs lf ∙ ap (λ n. c ∷ logical s e (drop n (c ∷ cs))) z);
+          none = λ r. absurd (omega arith);
+          last = λ lt. λ l. last_lf c cs lf (omega arith);
+        }
+    by false q = two (return_front (codes_of (c ∷ cs))) refl (rw q at h)
+
+if_not : (b : Bool) (x y : ℕ) → (x == 10) ≡ false → (y == 10) ≡ false → ((if b then x else y) == 10) ≡ false
+if_not true x y p q = p
+if_not false x y p q = q
+
+trigraph_not : (n : ℕ) → (trigraph n == 10) ≡ false
+trigraph_not n =
+    if_not (n == 61) 35 _ refl (if_not (n == 40) 91 _ refl (if_not (n == 47) 92 _ refl (if_not (n == 41) 93 _ refl (if_not (n == 39) 94 _ refl (if_not (n == 60) 123 _ refl (if_not (n == 33) 124 _ refl (if_not (n == 62) 125 _ refl (if_not (n == 45) 126 0 refl refl))))))))
+
+trigraph_at_not : (cs : List Char) → (trigraph_at cs == 10) ≡ false
+trigraph_at_not [] = refl
+trigraph_at_not (a ∷ []) = refl
+trigraph_at_not (a ∷ b ∷ []) = refl
+trigraph_at_not (a ∷ b ∷ c ∷ cs) = if_not (a.code == 63 && b.code == 63) (trigraph c.code) 0 (trigraph_not c.code) refl
+
+some_not : (n : ℕ) → Some n ≡ None → ⊥
+some_not n e = cc
+
+abbrev two_bytes : Option ℕ
+two_bytes = Some 2
+
+no_newline : (s : Bool) (e : Place) (cs : List Char) → newline_front s (codes_of cs) ≡ None → (head_code (logical s e cs) == 10) ≡ false
+no_newline true e [] h = cc
+no_newline false e [] h = refl
+no_newline s e (c ∷ cs) h = by (c.code == 10) refl
+  where
+    own : (n : ℕ) → trigraph_at (c ∷ cs) ≡ n → (n == 0) ≡ true → (c.code == 10) ≡ false → is_return_at (c ∷ cs) ≡ false → (head_code (logical s e (c ∷ cs)) == 10) ≡ false
+    own n t z q r = rw (own_step s e c cs r (t ∙ test_is n 0 z)) q
+
+    three_bytes : (trigraph_at (c ∷ cs) == 0) ≡ false → (head_code (logical s e (c ∷ cs)) == 10) ≡ false
+    three_bytes z = rw (trigraph_step s e c cs (λ k. false≢true (sym z ∙ rw k refl))) (trigraph_at_not (c ∷ cs))
+
+    kinds : (t : Bool) → (trigraph_at (c ∷ cs) == 0) ≡ t → (c.code == 10) ≡ false → is_return_at (c ∷ cs) ≡ false → (head_code (logical s e (c ∷ cs)) == 10) ≡ false
+    kinds true z q r = own (trigraph_at (c ∷ cs)) refl z q r
+    kinds false z q r = three_bytes z
+
+    two : (t : Bool) → return_front (codes_of (c ∷ cs)) ≡ t → (if t then two_bytes else None) ≡ None → (c.code == 10) ≡ false → (head_code (logical s e (c ∷ cs)) == 10) ≡ false
+    two true r k q = absurd (some_not 2 k)
+    two false r k q = kinds (trigraph_at (c ∷ cs) == 0) refl q (sym (return_same (c ∷ cs)) ∙ r)
+
+    by : (t : Bool) → (c.code == 10) ≡ t → (head_code (logical s e (c ∷ cs)) == 10) ≡ false
+    by true q =
+        absurd (some_not 1 (rw q at h))
+    by false q = two (return_front (codes_of (c ∷ cs))) refl (rw q at h) q
+
+-- What the last pass and the end of the file make of a character in front.
+splice_yes : (x nl : Char) (ys : List Char) → x.code ≡ 92 → nl.code ≡ 10 → splices (x ∷ nl ∷ ys) ≡ splices ys
+splice_yes x nl ys p q = rw (p, q) refl
+
+not_one : (n : ℕ) → 0 < n → (suc n == 1) ≡ false
+not_one n h = grind (arith, nat_tests)
+
+end_more : (x nl : Char) (ys : List Char) → nl.code ≡ 10 → 0 < length ys → splice_at_end (x ∷ nl ∷ ys) ≡ splice_at_end ys
+end_more x nl ys q lt = rw (not_one (length ys) lt, q, and_false (length ys == 1)) refl
+
+end_here : (x nl : Char) → x.code ≡ 92 → nl.code ≡ 10 → splice_at_end (x ∷ nl ∷ []) ≡ Some x.at
+end_here x nl p q = rw (p, q) refl
+
+not_splice : (x : Char) (ys : List Char) → (x.code == 92 && head_code ys == 10) ≡ false → splices (x ∷ ys) ≡ x ∷ splices ys
+not_splice x ys h = rw h refl
+
+not_end : (x : Char) (ys : List Char) → (x.code == 92 && head_code ys == 10) ≡ false → splice_at_end (x ∷ ys) ≡ splice_at_end ys
+not_end x ys h = rw (h, and_false (length ys == 1)) refl
+
+-- What a step leaves: a character and the rest, or the rest alone.
+pub record CodeStep (s : Bool) (e : Place) (c : Char) (cs : List Char) (code n : ℕ) : Type 0 where
+  pub some : 0 < n
+  pub fits : n ≤ suc (length cs)
+  pub text : splices (logical s e (c ∷ cs)) ≡ record { code = code; at = c.at } ∷ splices (logical s e (drop n (c ∷ cs)))
+  pub ends : splice_at_end (logical s e (c ∷ cs)) ≡ splice_at_end (logical s e (drop n (c ∷ cs)))
+
+pub record RemovedStep (s : Bool) (e : Place) (c : Char) (cs : List Char) (n : ℕ) : Type 0 where
+  pub some : 0 < n
+  pub fits : n ≤ suc (length cs)
+  pub text : n < suc (length cs) → splices (logical s e (c ∷ cs)) ≡ splices (logical s e (drop n (c ∷ cs)))
+  pub ends : n < suc (length cs) → splice_at_end (logical s e (c ∷ cs)) ≡ splice_at_end (logical s e (drop n (c ∷ cs)))
+  pub last : n ≡ suc (length cs) → s ≡ open_end (codes_of (c ∷ cs)) → splice_at_end (logical s e (c ∷ cs)) ≡ Some c.at
+
+abbrev pub Outcome : Bool → Place → Char → List Char → Step → Type 0
+Outcome s e c cs (Code code n) = CodeStep s e c cs code n
+Outcome s e c cs (Removed n) = RemovedStep s e c cs n
+
+-- rest is never used up by the passes alone
+pub returns_some : (cs : List Char) → 0 < length cs → 0 < length (without_returns cs)
+returns_some [] lt = absurd (omega arith)
+returns_some (c ∷ cs) lt = by (λ k. returns_some cs k) (is_return_at (c ∷ cs)) refl
+  where
+    by : (0 < length cs → 0 < length (without_returns cs)) → (t : Bool) → is_return_at (c ∷ cs) ≡ t → 0 < length (without_returns (c ∷ cs))
+    by more true h = rw (dropped c cs h) (more (return_is c cs h).room)
+    by more false h = rw (kept c cs h) (omega arith)
+
+trigraphs_some : (cs : List Char) → 0 < length cs → 0 < length (trigraphs cs)
+trigraphs_some [] lt = absurd (omega arith)
+trigraphs_some (c ∷ cs) lt =
+    elim (trigraph_at (c ∷ cs) == 0) as (λ t. 0 < length (if t then c ∷ trigraphs_behind 0 cs else record { code = trigraph_at (c ∷ cs); at = c.at } ∷ trigraphs_behind 2 cs)) [ true ↦ omega arith | false ↦ omega arith ]
+
+logical_some : (s : Bool) (e : Place) (cs : List Char) → 0 < length cs → 0 < length (logical s e cs)
+logical_some s e cs lt =
+    let w = returns_some cs lt in
+    trigraphs_some (without_returns cs ++ supply s e) (omega (arith, length-append (without_returns cs) (supply s e)))
+
+-- the same end for each rest
+pub open_end_drop : (n : ℕ) (bs : List ℕ) → n < length bs → open_end (drop n bs) ≡ open_end bs
+open_end_drop n [] lt = absurd (omega arith)
+open_end_drop zero (b ∷ bs) lt = refl
+open_end_drop (suc n) (b ∷ []) lt = absurd (omega arith)
+open_end_drop (suc n) (b ∷ c ∷ bs) lt = open_end_drop n (c ∷ bs) (omega arith)
+
+no_code : (x : Char) (ys : List Char) → (x.code == 92) ≡ false → (x.code == 92 && head_code ys == 10) ≡ false
+no_code x ys h = rw h refl
+
+no_line : (x : Char) (ys : List Char) → (head_code ys == 10) ≡ false → (x.code == 92 && head_code ys == 10) ≡ false
+no_line x ys h = rw (h, and_false (x.code == 92)) refl
+
+-- a character that a backslash or no new-line keeps
+as_code : (s : Bool) (e : Place) (c : Char) (cs : List Char) (code k : ℕ) → 0 < k → k ≤ suc (length cs) → logical s e (c ∷ cs) ≡ record { code = code; at = c.at } ∷ logical s e (drop k (c ∷ cs))
+    → (code == 92 && head_code (logical s e (drop k (c ∷ cs))) == 10) ≡ false → CodeStep s e c cs code k
+as_code s e c cs code k lt fits is other =
+    let x : Char = record { code = code; at = c.at } in
+    let ys = logical s e (drop k (c ∷ cs)) in
+    record {
+      some = lt;
+      fits = fits;
+      text = ap splices is ∙ not_splice x ys other;
+      ends = ap splice_at_end is ∙ not_end x ys other;
+    }
+
+-- a backslash and a new-line that the file or its end has
+splice_more : (s : Bool) (e : Place) (c : Char) (cs : List Char) (code k m : ℕ) → k ≤ suc (length cs) → logical s e (c ∷ cs) ≡ record { code = code; at = c.at } ∷ logical s e (drop k (c ∷ cs)) → code ≡ 92 → NewLine s e (drop k (c ∷ cs)) m → k + m < suc (length cs)
+    → (splices (logical s e (c ∷ cs)) ≡ splices (logical s e (drop (k + m) (c ∷ cs)))) × (splice_at_end (logical s e (c ∷ cs)) ≡ splice_at_end (logical s e (drop (k + m) (c ∷ cs))))
+splice_more s e c cs code k zero fits is p line lt =
+    let l = length-drop k (c ∷ cs) in
+    let z : length (drop k (c ∷ cs)) ≡ 0 = ap length (line.none refl).0 in
+    absurd (omega arith)
+splice_more s e c cs code k (suc m) fits is p line lt =
+    let x : Char = record { code = code; at = c.at } in
+    let rest = drop k (c ∷ cs) in
+    let l = length-drop k (c ∷ cs) in
+    let l2 = length-drop (suc m) rest in
+    let f = line.more (omega arith) in
+    let ys = logical s e (drop (suc m) rest) in
+    let same = drop-drop (suc m) k (c ∷ cs) in (
+      ap splices (is ∙ ap (λ z. x ∷ z) f.2) ∙ splice_yes x f.0 ys p f.1 ∙ ap (λ z. splices (logical s e z)) same,
+      ap splice_at_end (is ∙ ap (λ z. x ∷ z) f.2) ∙ end_more x f.0 ys f.1 (logical_some s e (drop (suc m) rest) (omega arith)) ∙ ap (λ z. splice_at_end (logical s e z)) same,
+    )
+
+splice_last : (s : Bool) (e : Place) (c : Char) (cs : List Char) (code k m : ℕ) → k ≤ suc (length cs) → logical s e (c ∷ cs) ≡ record { code = code; at = c.at } ∷ logical s e (drop k (c ∷ cs)) → code ≡ 92 → NewLine s e (drop k (c ∷ cs)) m → k + m ≡ suc (length cs) → s ≡ open_end (codes_of (c ∷ cs))
+    → splice_at_end (logical s e (c ∷ cs)) ≡ Some c.at
+splice_last s e c cs code k zero fits is p line lt o =
+    let x : Char = record { code = code; at = c.at } in
+    let nl : Char = record { code = 10; at = e } in
+    let n = line.none refl in
+    ap splice_at_end (is ∙ ap (λ z. x ∷ logical s e z) n.0 ∙ ap (λ t. x ∷ logical t e []) n.1) ∙ end_here x nl p refl
+splice_last s e c cs code k (suc m) fits is p line lt o =
+    let x : Char = record { code = code; at = c.at } in
+    let rest = drop k (c ∷ cs) in
+    let l = length-drop k (c ∷ cs) in
+    let f = line.more (omega arith) in
+    let lf = line.last (omega arith) (omega arith) in
+    let room : k < length (codes_of (c ∷ cs)) = rw (length-map (c ∷ cs) (λ (y : Char). y.code)) (omega arith) in
+    let closed : s ≡ false = o ∙ sym (open_end_drop k (codes_of (c ∷ cs)) room) ∙ ap open_end (drop-map (λ (y : Char). y.code) k (c ∷ cs)) ∙ lf in
+    let none = drop_all (suc m) rest (omega arith) in
+    ap splice_at_end (is ∙ ap (λ z. x ∷ z) f.2 ∙ ap (λ z. x ∷ f.0 ∷ logical s e z) none ∙ ap (λ t. x ∷ f.0 ∷ logical t e []) closed) ∙ end_here x f.0 p f.1
+
+as_splice : (s : Bool) (e : Place) (c : Char) (cs : List Char) (code k m : ℕ) → 0 < k → k ≤ suc (length cs) → logical s e (c ∷ cs) ≡ record { code = code; at = c.at } ∷ logical s e (drop k (c ∷ cs)) → code ≡ 92 → NewLine s e (drop k (c ∷ cs)) m → RemovedStep s e c cs (k + m)
+as_splice s e c cs code k m lt fits is p line =
+    let l = length-drop k (c ∷ cs) in
+    let f = line.fits in
+    record {
+      some = omega arith;
+      fits = omega arith;
+      text = λ h. (splice_more s e c cs code k m fits is p line h).0;
+      ends = λ h. (splice_more s e c cs code k m fits is p line h).1;
+      last = λ h o. splice_last s e c cs code k m fits is p line h o;
+    }
+
+-- a character in front, spliced or not
+as_coded : (s : Bool) (e : Place) (c : Char) (cs : List Char) (code k : ℕ) → 0 < k → k ≤ suc (length cs) → logical s e (c ∷ cs) ≡ record { code = code; at = c.at } ∷ logical s e (drop k (c ∷ cs)) → Outcome s e c cs (coded s (codes_of (c ∷ cs)) code k)
+as_coded s e c cs code k lt fits is = by (code == 92) refl
+  where
+    rest : List Char
+    rest = drop k (c ∷ cs)
+
+    x : Char
+    x = record { code = code; at = c.at }
+
+    line : code ≡ 92 → (found : Option ℕ) → newline_front s (drop k (codes_of (c ∷ cs))) ≡ found → Outcome s e c cs (spliced found code k)
+    line p None h =
+        as_code s e c cs code k lt fits is (no_line x (logical s e rest) (no_newline s e rest (ap (newline_front s) (sym (drop-map (λ (y : Char). y.code) k (c ∷ cs))) ∙ h)))
+    line p (Some m) h = as_splice s e c cs code k m lt fits is p (newline_at s e rest m (ap (newline_front s) (sym (drop-map (λ (y : Char). y.code) k (c ∷ cs))) ∙ h))
+
+    by : (t : Bool) → (code == 92) ≡ t → Outcome s e c cs (if t then spliced (newline_front s (drop k (codes_of (c ∷ cs)))) code k else Code code k)
+    by true h = line (test_is code 92 h) (newline_front s (drop k (codes_of (c ∷ cs)))) refl
+    by false h = as_code s e c cs code k lt fits is (no_code x (logical s e rest) h)
+
+-- a CR directly before an LF
+as_return : (s : Bool) (e : Place) (c : Char) (cs : List Char) → is_return_at (c ∷ cs) ≡ true → RemovedStep s e c cs 1
+as_return s e c cs h =
+    let r = return_is c cs h in
+    let room = r.room in
+    let same = return_step s e c cs h in
+    record {
+      some = omega arith;
+      fits = omega arith;
+      text = λ lt. ap splices same;
+      ends = λ lt. ap splice_at_end same;
+      last = λ q o. absurd (omega arith);
+    }
+
+-- The step that the bytes show is the step of the three passes.
+pub outcome : (s : Bool) (e : Place) (c : Char) (cs : List Char) → Outcome s e c cs (step_of s (codes_of (c ∷ cs)))
+outcome s e c cs = first (return_front (codes_of (c ∷ cs))) refl
+  where
+    one : is_return_at (c ∷ cs) ≡ false → (trigraph_at (c ∷ cs) == 0) ≡ true → Outcome s e c cs (coded s (codes_of (c ∷ cs)) c.code 1)
+    one r z = as_coded s e c cs c.code 1 (omega arith) (omega arith) (own_step s e c cs r (test_is (trigraph_at (c ∷ cs)) 0 z))
+
+    three_bytes : (trigraph_at (c ∷ cs) == 0) ≡ false → Outcome s e c cs (coded s (codes_of (c ∷ cs)) (trigraph_at (c ∷ cs)) 3)
+    three_bytes z =
+        let some : trigraph_at (c ∷ cs) ≡ 0 → ⊥ = λ k. false≢true (sym z ∙ rw k refl) in
+        let room = (three c cs some).room in
+        as_coded s e c cs (trigraph_at (c ∷ cs)) 3 (omega arith) (omega arith) (trigraph_step s e c cs some)
+
+    second : is_return_at (c ∷ cs) ≡ false → (t : Bool) → (trigraph_at (c ∷ cs) == 0) ≡ t → Outcome s e c cs (if t then coded s (codes_of (c ∷ cs)) c.code 1 else coded s (codes_of (c ∷ cs)) (trigraph_at (c ∷ cs)) 3)
+    second r true z = one r z
+    second r false z = three_bytes z
+
+    first : (t : Bool) → return_front (codes_of (c ∷ cs)) ≡ t → Outcome s e c cs (if t then Removed 1 else (if trigraph_front (codes_of (c ∷ cs)) == 0 then coded s (codes_of (c ∷ cs)) c.code 1 else coded s (codes_of (c ∷ cs)) (trigraph_front (codes_of (c ∷ cs))) 3))
+    first true h = as_return s e c cs (sym (return_same (c ∷ cs)) ∙ h)
+    first false h =
+        subst (λ n. Outcome s e c cs (if n == 0 then coded s (codes_of (c ∷ cs)) c.code 1 else coded s (codes_of (c ∷ cs)) n 3)) (sym (trigraph_same (c ∷ cs))) (second (sym (return_same (c ∷ cs)) ∙ h) (trigraph_at (c ∷ cs) == 0) refl)

@@ -1,0 +1,150 @@
+-- The first fault of a file's groups, with the open sections kept as their opening lines' indices.
+use Rattle.std.proofs.Common.{◌≡◌, ℕ, suc, ◌+◌, ◌-◌, ◌<◌, ◌≤◌, Bool, true, false, List, [], ◌∷◌, ◌++◌, map, length, take, drop, get_or, refl, sym, ap, ◌∙◌, subst, arith, Option, None, Some, if◌then◌else◌, ◌||◌, codes}
+use Rattle.std.specs.Str.{bytes_eq}
+use Rattle.std.specs.List.{AllByRecursion}
+use Rattle.std.proofs.lemmas.List.{at_drop_more, at_drop_all, length-map, get_or_default, drop_more, reverse-append}
+use Rattle.pptext.specs.declared.tokens.Token.{Token}
+use Rattle.pptext.specs.declared.tokens.Fault.{Fault}
+use Rattle.pptext.specs.declared.sources.Line.{Line}
+use Rattle.pptext.specs.declared.sources.Directive.{Directive}
+use Rattle.pptext.specs.declared.sources.Directive.TheVariants.{Null}
+use Rattle.pptext.specs.declared.directives.Role.{Role}
+use Rattle.pptext.specs.declared.directives.Role.TheVariants.{Text as IsText, Control as IsControl, Opens, Elses, Closes}
+use Rattle.pptext.specs.declared.tokens.Kind.TheVariants.{Ident}
+use Rattle.pptext.specs.Clean.{place}
+use Rattle.pptext.specs.Lines.{Row, directive_of}
+use Rattle.pptext.specs.Tree.{role, role_by, Open, opened, fault_at, fault_at_end, fault_or, group_fault, sign_place, name_of}
+use Rattle.pptext.specs.Sources.{rows_of}
+use Rattle.pptext.specs.Grouping.{AreLines, line_role, IsBranching, sections}
+use Rattle.pptext.specs.declared.grouping.faults.Section.{Section}
+use Rattle.pptext.proofs.Spans.{line_at, row_of}
+
+pub no_token : Token
+no_token = record { kind = Ident; text = []; space = false; at = place 0 0 0; used = place 0 0 0 }
+
+pub no_row : Row
+no_row = record { tokens = []; number = 0 }
+
+lone : (b : Bool) → IsBranching (role_by (if b then Some Null else None)) → ⊥
+lone true h = h
+lone false h = h
+
+-- a line of a directive's name has two tokens
+pub two_tokens : (ts : List Token) → IsBranching (role_by (directive_of ts)) → 2 ≤ length ts
+two_tokens [] h = absurd h
+two_tokens (a ∷ []) h = absurd (lone (bytes_eq a.text (codes "#") || bytes_eq a.text (codes "%:")) h)
+two_tokens (a ∷ b ∷ ts) h = omega arith
+
+-- the open sections by their opening lines
+abbrev pub open_rows : List Row → List (ℕ × Bool) → List Open
+open_rows rs os = map (λ o. (get_or rs o.0 no_row, o.1)) os
+
+opened_rows : (rs : List Row) (s : Role) (at : ℕ) (os : List (ℕ × Bool)) → opened s (get_or rs at no_row) (open_rows rs os) ≡ ((opened s at os).0, open_rows rs (opened s at os).1)
+opened_rows rs Opens at os = refl
+opened_rows rs (Elses final) at [] = refl
+opened_rows rs (Elses final) at ((o, true) ∷ os) = refl
+opened_rows rs (Elses final) at ((o, false) ∷ os) = refl
+opened_rows rs Closes at [] = refl
+opened_rows rs Closes at (o ∷ os) = refl
+opened_rows rs IsText at os = refl
+opened_rows rs IsControl at os = refl
+
+opened_all : (Q : ℕ → Type 0) (s : Role) (at : ℕ) (os : List (ℕ × Bool)) → AllByRecursion (λ o. Q o.0) os → (s ≡ Opens → Q at) → AllByRecursion (λ o. Q o.0) (opened s at os).1
+opened_all Q Opens at os all here = (here refl, all)
+opened_all Q (Elses final) at [] all here = tt
+opened_all Q (Elses final) at ((o, true) ∷ os) all here = tt
+opened_all Q (Elses final) at ((o, false) ∷ os) all here = (all.0, all.1)
+opened_all Q Closes at [] all here = tt
+opened_all Q Closes at (o ∷ os) all here = all.1
+opened_all Q IsText at os all here = all
+opened_all Q IsControl at os all here = all
+
+faulty_branches : (s : Role) (at n : ℕ) (os : List (ℕ × Bool)) → (opened s at os).0 ≡ Some n → IsBranching s
+faulty_branches Opens at n os e = tt
+faulty_branches (Elses final) at n os e = tt
+faulty_branches Closes at n os e = tt
+faulty_branches IsText at n os e = absurd (cc)
+faulty_branches IsControl at n os e = absurd (cc)
+
+-- the line at an index opens a section
+pub record OpensAt (ls : List Line) (at : ℕ) : Type 0 where
+  pub within : at < length ls
+  pub opens : (d : Line) → line_role (get_or ls at d) ≡ Opens
+
+pub sections_more : (ss : List Section) (s : Section) → sections (ss ++ s ∷ []) ≡ (s.opening, s.last) ∷ sections ss
+sections_more ss s = ap (map (λ (z : Section). (z.opening, z.last))) (reverse-append ss (s ∷ []))
+
+-- before the line at an index, with these sections open
+pub record FaultsSoFar (ts : List Token) (ls : List Line) (at : ℕ) (os : List (ℕ × Bool)) : Type 0 where
+  pub same : group_fault (open_rows (rows_of ts ls) os) (drop at (rows_of ts ls)) ≡ group_fault [] (rows_of ts ls)
+  pub opens : AllByRecursion (λ o. OpensAt ls o.0) os
+
+pub faults_start : (ts : List Token) (ls : List Line) → FaultsSoFar ts ls 0 []
+faults_start ts ls = record { same = refl; opens = tt }
+
+module _ (ts : List Token) (ls : List Line) (lines : AreLines ts ls) where
+  role_at : (at : ℕ) (d : Line) → at < length ls → role (get_or (rows_of ts ls) at no_row) ≡ line_role (get_or ls at d)
+  role_at at d l =
+      let x = line_at ts ls at d lines l in
+      ap role (x.row no_row) ∙ ap role_by (sym x.directive)
+
+  -- what the line at an index does
+  step_at : (at : ℕ) (os : List (ℕ × Bool)) (d : Line) → at < length ls → FaultsSoFar ts ls at os → fault_or (get_or (rows_of ts ls) at no_row) (opened (line_role (get_or ls at d)) at os).0 (group_fault (open_rows (rows_of ts ls) (opened (line_role (get_or ls at d)) at os).1) (drop (at + 1) (rows_of ts ls))) ≡ group_fault [] (rows_of ts ls)
+  step_at at os d l sofar =
+      let rs = rows_of ts ls in
+      let r = get_or rs at no_row in
+      let m : at < length rs = omega (arith, length-map ls (row_of ts)) in
+      let step : opened (role r) r (open_rows rs os) ≡ ((opened (line_role (get_or ls at d)) at os).0, open_rows rs (opened (line_role (get_or ls at d)) at os).1) = ap (λ (z : Role). opened z r (open_rows rs os)) (role_at at d l) ∙ opened_rows rs (line_role (get_or ls at d)) at os in
+      sym (ap (λ (z : Option ℕ × List Open). fault_or r z.0 (group_fault z.1 (drop (at + 1) rs))) step) ∙ sym (at_drop_more (group_fault (open_rows rs os)) rs at no_row m) ∙ sofar.same
+
+  pub faults_step : (at : ℕ) (os after : List (ℕ × Bool)) (d : Line) → at < length ls → FaultsSoFar ts ls at os → opened (line_role (get_or ls at d)) at os ≡ (None, after) → FaultsSoFar ts ls (at + 1) after
+  faults_step at os after d l sofar e =
+      let rs = rows_of ts ls in
+      let r = get_or rs at no_row in
+      let here : line_role (get_or ls at d) ≡ Opens → OpensAt ls at = λ (o : line_role (get_or ls at d) ≡ Opens). record { within = l; opens = λ (f : Line). ap line_role (get_or_default ls at f d l) ∙ o } in
+      record {
+        same = sym (ap (λ (z : Option ℕ × List (ℕ × Bool)). fault_or r z.0 (group_fault (open_rows rs z.1) (drop (at + 1) rs))) e) ∙ step_at at os d l sofar;
+        opens = subst (λ (z : Option ℕ × List (ℕ × Bool)). AllByRecursion (λ o. OpensAt ls o.0) z.1) e (opened_all (OpensAt ls) (line_role (get_or ls at d)) at os sofar.opens here);
+      }
+
+  pub fault_here : (at n : ℕ) (os : List (ℕ × Bool)) (d : Line) → at < length ls → FaultsSoFar ts ls at os → (opened (line_role (get_or ls at d)) at os).0 ≡ Some n → Some (fault_at n (get_or (rows_of ts ls) at no_row)) ≡ group_fault [] (rows_of ts ls)
+  fault_here at n os d l sofar e =
+      let rs = rows_of ts ls in
+      sym (ap (λ (z : Option ℕ). fault_or (get_or rs at no_row) z (group_fault (open_rows rs (opened (line_role (get_or ls at d)) at os).1) (drop (at + 1) rs))) e) ∙ step_at at os d l sofar
+
+  pub branching_here : (at n : ℕ) (os : List (ℕ × Bool)) (d f : Line) → at < length ls → (opened (line_role (get_or ls at d)) at os).0 ≡ Some n → IsBranching (line_role (get_or ls at f))
+  branching_here at n os d f l e =
+      subst (λ (z : Line). IsBranching (line_role z)) (get_or_default ls at d f l) (faulty_branches (line_role (get_or ls at d)) at n os e)
+
+  -- at the end
+  pub fault_at_last : (at : ℕ) (os : List (ℕ × Bool)) → length ls ≤ at → FaultsSoFar ts ls at os → fault_at_end (open_rows (rows_of ts ls) os) ≡ group_fault [] (rows_of ts ls)
+  fault_at_last at os l sofar =
+      let rs = rows_of ts ls in
+      sym (at_drop_all (group_fault (open_rows rs os)) rs at (omega (arith, length-map ls (row_of ts)))) ∙ sofar.same
+
+  pub opens_branching : (at : ℕ) → OpensAt ls at → (d : Line) → IsBranching (line_role (get_or ls at d))
+  opens_branching at opens d = subst IsBranching (sym (opens.opens d)) tt
+
+  -- the tokens of a line of a directive's name
+  pub named_within : (at : ℕ) (d : Line) → at < length ls → IsBranching (line_role (get_or ls at d)) → (get_or ls at d).start + 1 < length ts
+  named_within at d l b =
+      let x = get_or ls at d in
+      let a = line_at ts ls at d lines l in
+      let two : 2 ≤ length (row_of ts x).tokens = two_tokens (row_of ts x).tokens (subst (λ (z : Option Directive). IsBranching (role_by z)) a.directive b) in
+      omega (arith, a.begins, a.behind, a.tokens, two)
+
+  pub fault_is : (at number : ℕ) (d : Line) (e : Token) (r : Row) → at < length ls → IsBranching (line_role (get_or ls at d)) → record { number = number; at = (get_or ts (get_or ls at d).start e).at; text = (get_or ts ((get_or ls at d).start + 1) e).text } ≡ fault_at number (get_or (rows_of ts ls) at r)
+  fault_is at number d e r l branching =
+      let x = get_or ls at d in
+      let start = x.start in
+      let more = x.end - start - 2 in
+      let n = line_at ts ls at d lines l in
+      let two : 2 ≤ length (row_of ts x).tokens = two_tokens (row_of ts x).tokens (subst (λ (z : Option Directive). IsBranching (role_by z)) n.directive branching) in
+      let within : start + 1 < length ts = named_within at d l branching in
+      let count : x.end - start ≡ suc (suc more) = omega (arith, n.tokens, two) in
+      let rest : drop start ts ≡ get_or ts start e ∷ get_or ts (start + 1) e ∷ drop (start + 1 + 1) ts = drop_more ts start e (omega arith) ∙ ap (λ (z : List Token). get_or ts start e ∷ z) (drop_more ts (start + 1) e within) in
+      let tokens : (row_of ts x).tokens ≡ get_or ts start e ∷ get_or ts (start + 1) e ∷ take more (drop (start + 1 + 1) ts) = ap (λ (z : ℕ). take z (drop start ts)) count ∙ ap (take (suc (suc more))) rest in
+      sym (ap (fault_at number) (n.row r) ∙ ap (λ (z : List Token). record { number = number; at = sign_place z; text = name_of z }) tokens)
+
+  pub fault_last : (at : ℕ) (o : ℕ × Bool) (os : List (ℕ × Bool)) (f : Fault) → length ls ≤ at → FaultsSoFar ts ls at (o ∷ os) → f ≡ fault_at 5 (get_or (rows_of ts ls) o.0 no_row) → Some f ≡ group_fault [] (rows_of ts ls)
+  fault_last at o os f l sofar e = ap Some e ∙ fault_at_last at (o ∷ os) l sofar

@@ -1,0 +1,212 @@
+-- A cleaned text ends in a new-line, so that each token stands on a line.
+use Rattle.std.proofs.Common.{◌≡◌, ℕ, zero, suc, ◌+◌, ◌-◌, ◌<◌, ◌≤◌, Bool, true, false, ◌||◌, ◌&&◌, ◌==◌, if◌then◌else◌, List, [], ◌∷◌, ◌++◌, length, take, drop, refl, sym, ap, ◌∙◌, subst, inl, inr, ◌⊎◌, arith, append_assoc, length-append, get_or, IsTrue, None, Some, Ok, Err}
+use Rattle.std.specs.Prelude.{Option, Result, codes}
+use Rattle.std.proofs.lemmas.Bool.{false≢true, and_parts}
+use Rattle.std.proofs.lemmas.Bool.Decides.{nat_tests}
+use Rattle.std.proofs.lemmas.List.{append-nil, length-map, map-append, take_all, get_or-drop}
+use Rattle.pptext.specs.declared.tokens.Place.{Place}
+use Rattle.pptext.specs.declared.tokens.Token.{Token}
+use Rattle.pptext.specs.declared.tokens.Kind.{Kind}
+use Rattle.pptext.specs.declared.characters.Char.{Char}
+use Rattle.pptext.specs.Clean.{codes_of, newline, next_col, missing_newline, terminated, line_ends, trigraph, trigraph_at, trigraphs_behind, trigraphs, splice_at, splices_behind, splices, splice_at_end, unless_at, cleaned}
+use Rattle.pptext.specs.Spellings.{is_blank, IsHeader, Spells}
+use Rattle.pptext.specs.Cut.{Piece, Sort, NewLine, Blank, Comment, Spelled, StandsAt, CommentAt, EachStands, Cut, laid, with_piece, BeginsWith}
+use Rattle.pptext.specs.Lines.{lines_of, rows_behind, rows_ended, leaves_space, tokens_after, token_of}
+use Rattle.pptext.specs.Sources.{tokens_of}
+use Rattle.pptext.specs.Tokens.{spelled}
+use Rattle.pptext.specs.Laws.{spelling_of, spellings_of}
+use Rattle.pptext.proofs.OneKind.{last, last-append, spelling_last}
+use Rattle.pptext.proofs.OnePiece.{some_piece, between}
+
+-- the text is empty or ends in a new-line
+abbrev Ended : List Char → Type 0
+Ended cs = (cs ≡ []) ⊎ (last (codes_of cs) ≡ 10)
+
+last_behind : (c : ℕ) (s : List ℕ) → last s ≡ 10 → last (c ∷ s) ≡ 10
+last_behind c [] e = absurd (omega arith)
+last_behind c (d ∷ s) e = e
+
+last_at : (s : List ℕ) (i : ℕ) → length s ≡ i + 1 → last s ≡ get_or s i 0
+last_at [] i e = absurd (omega arith)
+last_at (c ∷ []) zero e = refl
+last_at (c ∷ []) (suc i) e = absurd (omega arith)
+last_at (c ∷ d ∷ s) zero e = absurd (omega arith)
+last_at (c ∷ d ∷ s) (suc i) e = last_at (d ∷ s) i (omega arith)
+
+terminated_end : (cs : List Char) → Ended (terminated cs)
+terminated_end [] = inl refl
+terminated_end (c ∷ []) = inr (cases (c.code == newline) refl)
+  where
+    cases : (b : Bool) → (c.code == newline) ≡ b → last (codes_of (c ∷ (if b then [] else record { code = newline; at = next_col c.at } ∷ []))) ≡ 10
+    cases true e = grind (arith, nat_tests)
+    cases false e = refl
+terminated_end (c ∷ d ∷ cs) = cases (terminated_end (d ∷ cs))
+  where
+    cases : Ended (terminated (d ∷ cs)) → Ended (terminated (c ∷ d ∷ cs))
+    cases (inl e) = cc
+    cases (inr e) = inr e
+
+-- no trigraph takes the last new-line
+trigraphs_end : (skip : ℕ) (cs : List Char) → last (codes_of (drop skip cs)) ≡ 10 → last (codes_of (trigraphs_behind skip cs)) ≡ 10
+trigraphs_end zero [] e = e
+trigraphs_end (suc skip) [] e = e
+trigraphs_end (suc skip) (c ∷ cs) e = trigraphs_end skip cs e
+trigraphs_end zero (c ∷ []) e = e
+trigraphs_end zero (c ∷ d ∷ []) e = trigraphs_end zero (d ∷ []) e
+trigraphs_end zero (c ∷ d ∷ f ∷ []) e = cases (trigraph_at (c ∷ d ∷ f ∷ []) == 0) refl (trigraphs_end zero (d ∷ f ∷ []) e)
+  where
+    none : (b : Bool) → (if b then trigraph f.code else 0) == 0 ≡ true
+    none true = ap (λ z. trigraph z == 0) e
+    none false = refl
+
+    cases : (b : Bool) → (trigraph_at (c ∷ d ∷ f ∷ []) == 0) ≡ b → last (codes_of (trigraphs_behind 0 (d ∷ f ∷ []))) ≡ 10 → last (codes_of (if b then c ∷ trigraphs_behind 0 (d ∷ f ∷ []) else record { code = trigraph_at (c ∷ d ∷ f ∷ []); at = c.at } ∷ trigraphs_behind 2 (d ∷ f ∷ []))) ≡ 10
+    cases true is later = last_behind c.code (codes_of (trigraphs_behind 0 (d ∷ f ∷ []))) later
+    cases false is later = absurd (false≢true (sym is ∙ none (c.code == 63 && d.code == 63)))
+trigraphs_end zero (c ∷ d ∷ f ∷ g ∷ cs) e = cases (trigraph_at (c ∷ d ∷ f ∷ g ∷ cs) == 0) (trigraphs_end zero (d ∷ f ∷ g ∷ cs) e) (trigraphs_end zero (g ∷ cs) e)
+  where
+    cases : (b : Bool) → last (codes_of (trigraphs_behind 0 (d ∷ f ∷ g ∷ cs))) ≡ 10 → last (codes_of (trigraphs_behind 0 (g ∷ cs))) ≡ 10 → last (codes_of (if b then c ∷ trigraphs_behind 0 (d ∷ f ∷ g ∷ cs) else record { code = trigraph_at (c ∷ d ∷ f ∷ g ∷ cs); at = c.at } ∷ trigraphs_behind 2 (d ∷ f ∷ g ∷ cs))) ≡ 10
+    cases true later last_later = last_behind c.code (codes_of (trigraphs_behind 0 (d ∷ f ∷ g ∷ cs))) later
+    cases false later last_later = last_behind (trigraph_at (c ∷ d ∷ f ∷ g ∷ cs)) (codes_of (trigraphs_behind 0 (g ∷ cs))) last_later
+
+no_splice : (c : Char) (cs : List Char) → splice_at_end (c ∷ cs) ≡ None → (length cs == 1 && splice_at (c ∷ cs) ≡ false) × (splice_at_end cs ≡ None)
+no_splice c cs = cases (length cs == 1 && splice_at (c ∷ cs))
+  where
+    cases : (b : Bool) → (if b then Some c.at else splice_at_end cs) ≡ None → (b ≡ false) × (splice_at_end cs ≡ None)
+    cases true e = cc
+    cases false e = (refl, e)
+
+-- no splice takes the last new-line, unless the text ends in one
+splices_end : (skip : ℕ) (cs : List Char) → splice_at_end cs ≡ None → last (codes_of (drop skip cs)) ≡ 10 → last (codes_of (splices_behind skip cs)) ≡ 10
+splices_end zero [] none e = e
+splices_end (suc skip) [] none e = e
+splices_end (suc skip) (c ∷ cs) none e = splices_end skip cs (no_splice c cs none).1 e
+splices_end zero (c ∷ []) none e = cases (c.code == 92)
+  where
+    cases : (b : Bool) → last (codes_of (if b && false then splices_behind 1 [] else c ∷ splices_behind 0 [])) ≡ 10
+    cases true = e
+    cases false = e
+splices_end zero (c ∷ d ∷ []) none e = cases (splice_at (c ∷ d ∷ [])) (no_splice c (d ∷ []) none).0 (splices_end zero (d ∷ []) (no_splice c (d ∷ []) none).1 e)
+  where
+    cases : (b : Bool) → b ≡ false → last (codes_of (splices_behind 0 (d ∷ []))) ≡ 10 → last (codes_of (if b then splices_behind 1 (d ∷ []) else c ∷ splices_behind 0 (d ∷ []))) ≡ 10
+    cases true is later = absurd (false≢true (sym is))
+    cases false is later = last_behind c.code (codes_of (splices_behind 0 (d ∷ []))) later
+splices_end zero (c ∷ d ∷ f ∷ cs) none e =
+    cases (splice_at (c ∷ d ∷ f ∷ cs)) (splices_end zero (d ∷ f ∷ cs) (no_splice c (d ∷ f ∷ cs) none).1 e) (splices_end zero (f ∷ cs) (no_splice d (f ∷ cs) (no_splice c (d ∷ f ∷ cs) none).1).1 e)
+  where
+    cases : (b : Bool) → last (codes_of (splices_behind 0 (d ∷ f ∷ cs))) ≡ 10 → last (codes_of (splices_behind 0 (f ∷ cs))) ≡ 10 → last (codes_of (if b then splices_behind 1 (d ∷ f ∷ cs) else c ∷ splices_behind 0 (d ∷ f ∷ cs))) ≡ 10
+    cases true later after = after
+    cases false later after = last_behind c.code (codes_of (splices_behind 0 (d ∷ f ∷ cs))) later
+
+spliced_end : (cs chars : List Char) → Ended cs → unless_at (splice_at_end cs) (splices cs) ≡ Ok chars → Ended chars
+spliced_end cs chars ended = cases (splice_at_end cs) refl
+  where
+    kept : splice_at_end cs ≡ None → Ended cs → Ended (splices cs)
+    kept none (inl e) = inl (ap splices e)
+    kept none (inr e) = inr (splices_end 0 cs none e)
+
+    cases : (o : Option Place) → splice_at_end cs ≡ o → unless_at o (splices cs) ≡ Ok chars → Ended chars
+    cases None none e = let same : splices cs ≡ chars = cc in subst (λ (z : List Char). Ended z) same (kept none ended)
+    cases (Some p) some e = cc
+
+pub cleaned_end : (file : ℕ) (bytes : List ℕ) (chars : List Char) → cleaned file bytes ≡ Ok chars → Ended chars
+cleaned_end file bytes chars e = spliced_end (trigraphs (line_ends file bytes)) chars (kept (line_ends file bytes) (terminated_end _)) e
+  where
+    kept : (cs : List Char) → Ended cs → Ended (trigraphs cs)
+    kept cs (inl is) = inl (ap trigraphs is)
+    kept cs (inr is) = inr (trigraphs_end 0 cs is)
+
+-- a piece that is the whole text and ends in a new-line is a new-line
+blank_last : (text : List ℕ) → length text ≡ 1 → (c : ℕ) → BeginsWith text (c ∷ []) → IsTrue (is_blank c) → last text ≡ 10 → ⊥
+blank_last [] l c b t e = omega arith
+blank_last (x ∷ []) l c b t e =
+    let same : x ≡ c = cc in
+    false≢true (ap is_blank (sym (sym same ∙ e)) ∙ t)
+blank_last (x ∷ y ∷ text) l c b t e = omega arith
+
+comment_last : (text : List ℕ) → CommentAt text (length text) → last text ≡ 10 → ⊥
+comment_last [] a e = absurd (omega arith)
+comment_last (x ∷ xs) (inl (o, k, f, n)) e =
+    let at : last (x ∷ xs) ≡ get_or (x ∷ xs) (k + 3) 0 = last_at (x ∷ xs) (k + 3) (omega arith) in
+    let slash : get_or (drop 2 (x ∷ xs)) (k + 1) 0 ≡ 47 = f.1.reads 1 (omega arith) in
+    let there : get_or (drop 2 (x ∷ xs)) (k + 1) 0 ≡ get_or (x ∷ xs) (2 + (k + 1)) 0 = get_or-drop 2 (x ∷ xs) (k + 1) 0 in
+    let same : get_or (x ∷ xs) (2 + (k + 1)) 0 ≡ get_or (x ∷ xs) (k + 3) 0 = ap (λ i. get_or (x ∷ xs) i 0) (omega arith) in
+    let ten : ◌≡◌ {A = ℕ} 47 10 = sym slash ∙ there ∙ same ∙ sym at ∙ e in
+    absurd (omega arith)
+comment_last (x ∷ xs) (inr (o, None, f, n)) e =
+    f (length xs) (omega arith) (omega arith) (ap (λ z. z == 10) (sym (last_at (x ∷ xs) (length xs) (omega arith)) ∙ e))
+comment_last (x ∷ xs) (inr (o, Some k, f, n)) e = absurd (omega (arith, f.0.high))
+
+header_last : (s : List ℕ) → IsHeader s → last s ≡ 10 → ⊥
+header_last s (inl a) e =
+    let b = between 60 62 s a in
+    let ten : ◌≡◌ {A = ℕ} 62 10 = sym (ap last b.is ∙ last-append (60 ∷ b.body) (62 ∷ []) (omega arith)) ∙ e in
+    absurd (omega arith)
+header_last s (inr a) e =
+    let b = between 34 34 s a in
+    let ten : ◌≡◌ {A = ℕ} 34 10 = sym (ap last b.is ∙ last-append (34 ∷ b.body) (34 ∷ []) (omega arith)) ∙ e in
+    absurd (omega arith)
+
+ends_line : (line : List (List ℕ)) (text : List ℕ) (s : Sort) → StandsAt line text (length text) s → last text ≡ 10 → s ≡ NewLine
+ends_line line text NewLine a e = refl
+ends_line line text Blank a e = absurd (blank_last text a.0 a.1 a.2 a.3 e)
+ends_line line text Comment a e = absurd (comment_last text a e)
+ends_line line text (Spelled k) (inl (h, is)) e = absurd (header_last text (subst IsHeader (take_all (length text) text (omega arith)) h.spelled) e)
+ends_line line text (Spelled k) (inr p) e = absurd (spelling_last text k (subst (Spells k) (take_all (length text) text (omega arith)) p.spelled) e)
+
+-- the last piece is a new-line
+abbrev EndsLine : List Piece → Type 0
+EndsLine [] = ⊥
+EndsLine (p ∷ []) = p.sort ≡ NewLine
+EndsLine (p ∷ q ∷ ps) = EndsLine (q ∷ ps)
+
+pieces_end : (line : List (List ℕ)) (ps : List Piece) → EachStands line ps [] → last (codes_of (laid ps)) ≡ 10 → EndsLine ps
+pieces_end line [] each e = absurd (omega arith)
+pieces_end line (p ∷ []) each e =
+    let l : length p.chars ≡ length (codes_of (p.chars ++ [])) = sym (length-map (p.chars ++ []) (λ (c : Char). c.code) ∙ ap length (append-nil p.chars)) in
+    ends_line line (codes_of (p.chars ++ [])) p.sort (subst (λ n. StandsAt line (codes_of (p.chars ++ [])) n p.sort) l each.0) e
+pieces_end line (p ∷ q ∷ ps) each e =
+    let behind : List Char = laid (q ∷ ps) in
+    let some = some_piece (with_piece line p p.sort) (codes_of (q.chars ++ (laid ps ++ []))) (length q.chars) q.sort each.1.0 in
+    let l = length-append q.chars (laid ps) in
+    let m = length-map (laid (q ∷ ps)) (λ (c : Char). c.code) in
+    let split : last (codes_of (p.chars ++ laid (q ∷ ps))) ≡ last (codes_of (laid (q ∷ ps))) = ap last (map-append (λ (c : Char). c.code) p.chars (laid (q ∷ ps))) ∙ last-append (codes_of p.chars) (codes_of (laid (q ∷ ps))) (omega arith) in
+    pieces_end (with_piece line p p.sort) (q ∷ ps) each.1 (sym split ∙ e)
+
+spelled-append : (a b : List Token) → spelled (a ++ b) ≡ spelled a ++ spelled b
+spelled-append [] b = refl
+spelled-append (t ∷ a) b = ap (λ z. t.text ∷ z) (spelled-append a b)
+
+kept_one : (space : Bool) (ts : List Token) (chars : List Char) (s : Sort) → s ≡ NewLine → spelled (tokens_of (rows_ended ts chars s ++ rows_behind (leaves_space s) (tokens_after space ts chars s) [])) ≡ spelled ts ++ (spelling_of chars s ++ [])
+kept_one space ts chars NewLine e = ap spelled (append-nil ts) ∙ sym (append-nil (spelled ts))
+kept_one space ts chars Blank e = cc
+kept_one space ts chars Comment e = cc
+kept_one space ts chars (Spelled k) e = cc
+
+kept_more : (space : Bool) (ts : List Token) (chars : List Char) (s : Sort) (ps : List Piece) → ((after : Bool) (us : List Token) → spelled (tokens_of (rows_behind after us ps)) ≡ spelled us ++ spellings_of ps) → spelled (tokens_of (rows_ended ts chars s ++ rows_behind (leaves_space s) (tokens_after space ts chars s) ps)) ≡ spelled ts ++ (spelling_of chars s ++ spellings_of ps)
+kept_more space ts chars NewLine ps later = spelled-append ts (tokens_of (rows_behind true [] ps)) ∙ ap (λ z. spelled ts ++ z) (later true [])
+kept_more space ts chars Blank ps later = later true ts
+kept_more space ts chars Comment ps later = later true ts
+kept_more space ts chars (Spelled k) ps later =
+    later false (ts ++ token_of k space chars ∷ []) ∙ ap (λ z. z ++ spellings_of ps) (spelled-append ts (token_of k space chars ∷ [])) ∙ append_assoc (spelled ts) (codes_of chars ∷ []) (spellings_of ps)
+
+kept : (space : Bool) (ts : List Token) (ps : List Piece) → EndsLine ps → spelled (tokens_of (rows_behind space ts ps)) ≡ spelled ts ++ spellings_of ps
+kept space ts [] e = absurd e
+kept space ts (p ∷ []) e = kept_one space ts p.chars p.sort e
+kept space ts (p ∷ q ∷ ps) e = kept_more space ts p.chars p.sort (q ∷ ps) (λ after us. kept after us (q ∷ ps) e)
+
+pub keeps_every_token : (file : ℕ) (bytes : List ℕ) (chars : List Char) (pieces : List Piece) → cleaned file bytes ≡ Ok chars → Cut chars pieces → spelled (tokens_of (lines_of pieces)) ≡ spellings_of pieces
+keeps_every_token file bytes chars [] clean cut = refl
+keeps_every_token file bytes chars (p ∷ ps) clean cut = cases (cleaned_end file bytes chars clean)
+  where
+    some : 0 < length (laid (p ∷ ps))
+    some =
+        let one = some_piece [] (codes_of (p.chars ++ (laid ps ++ []))) (length p.chars) p.sort cut.each.0 in
+        let l = length-append p.chars (laid ps) in
+        omega arith
+
+    same : laid (p ∷ ps) ≡ chars
+    same = sym (append-nil (laid (p ∷ ps))) ∙ cut.whole
+
+    cases : Ended chars → spelled (tokens_of (lines_of (p ∷ ps))) ≡ spellings_of (p ∷ ps)
+    cases (inl e) = let none = ap length (same ∙ e) in absurd (omega (arith, some))
+    cases (inr e) = kept true [] (p ∷ ps) (pieces_end [] (p ∷ ps) cut.each (ap (λ (z : List Char). last (codes_of z)) same ∙ e))

@@ -1,0 +1,88 @@
+-- A file's characters from an offset on, and where they stand.
+use Rattle.std.proofs.Common.{◌≡◌, ℕ, zero, suc, ◌+◌, ◌-◌, ◌<◌, ◌≤◌, Bool, true, false, not, ◌==◌, ◌&&◌, if◌then◌else◌, List, [], ◌∷◌, ◌++◌, length, take, drop, get_or, refl, sym, ap, ◌∙◌, subst, arith, Option, None, Some, length-drop}
+use Rattle.std.proofs.lemmas.List.{drop_more, drop-drop, drop_all, take_all, take-append-drop, take-take, drop-take, length-map}
+use Rattle.pptext.specs.declared.tokens.Place.{Place}
+use Rattle.pptext.specs.declared.characters.Char.{Char}
+use Rattle.pptext.specs.declared.characters.steps.Step.{Step}
+use Rattle.pptext.specs.declared.characters.steps.Step.TheVariants.{Code, Removed}
+use Rattle.pptext.specs.Clean.{codes_of, newline, placed, place, next_col, without_returns, is_return_at, missing_newline, splices, splice_at_end}
+use Rattle.pptext.specs.Steps.{open_end, step_of, behind_byte, place_behind}
+use Rattle.pptext.specs.Texts.{supply, logical, start, logical_from, text_from, end_from}
+use Rattle.pptext.proofs.CleanSteps.{CodeStep, RemovedStep, Outcome, outcome}
+
+pub end_is : (n : ℕ) (bs : List ℕ) → length bs ≡ suc n → open_end bs ≡ not (get_or bs n 0 == 10)
+end_is n [] e = absurd (omega arith)
+end_is zero (b ∷ []) e = refl
+end_is zero (b ∷ c ∷ bs) e = absurd (omega arith)
+end_is (suc n) (b ∷ []) e = absurd (omega arith)
+end_is (suc n) (b ∷ c ∷ bs) e = end_is n (c ∷ bs) (omega arith)
+
+abbrev pub placed_at : Place → List ℕ → List Char
+placed_at p bs = placed p.file p.line p.col bs
+
+pub placed_tail : (p : Place) (b : ℕ) (bs : List ℕ) → placed_at p (b ∷ bs) ≡ record { code = b; at = p } ∷ placed_at (behind_byte b p) bs
+placed_tail p b bs =
+    elim (b == newline) as (λ t. record { code = b; at = p } ∷ (if t then placed p.file (p.line + 1) 1 bs else placed p.file p.line (p.col + 1) bs) ≡ record { code = b; at = p } ∷ placed_at (if t then place p.file (p.line + 1) 1 else next_col p) bs) [
+      | true ↦ refl
+      | false ↦ refl
+    ]
+
+pub placed_codes : (bs : List ℕ) (p : Place) → codes_of (placed_at p bs) ≡ bs
+placed_codes [] p = refl
+placed_codes (b ∷ bs) p = ap codes_of (placed_tail p b bs) ∙ ap (λ z. b ∷ z) (placed_codes bs (behind_byte b p))
+
+pub placed_drop : (n : ℕ) (bs : List ℕ) (p : Place) → drop n (placed_at p bs) ≡ placed_at (place_behind p (take n bs)) (drop n bs)
+placed_drop zero bs p = refl
+placed_drop (suc n) [] p = refl
+placed_drop (suc n) (b ∷ bs) p = ap (drop (suc n)) (placed_tail p b bs) ∙ placed_drop n bs (behind_byte b p)
+
+pub behind_append : (xs ys : List ℕ) (p : Place) → place_behind p (xs ++ ys) ≡ place_behind (place_behind p xs) ys
+behind_append [] ys p = refl
+behind_append (x ∷ xs) ys p = behind_append xs ys (behind_byte x p)
+
+-- what is known of a place behind bytes
+pub record Behind (p q : Place) (n : ℕ) : Type 0 where
+  pub file : q.file ≡ p.file
+  pub line : q.line ≤ p.line + n
+  pub col : q.col ≤ p.col + n
+  pub one : 1 ≤ q.col
+
+grown : (p q r : Place) (n : ℕ) → q.file ≡ p.file → q.line ≤ p.line + 1 → q.col ≤ p.col + 1 → Behind q r n → Behind p r (suc n)
+grown p q r n f l c h = record { file = h.file ∙ f; line = omega (arith, h.line); col = omega (arith, h.col); one = h.one }
+
+pub behind_bounds : (bs : List ℕ) (p : Place) → 1 ≤ p.col → Behind p (place_behind p bs) (length bs)
+behind_bounds [] p h = record { file = refl; line = omega arith; col = omega arith; one = h }
+behind_bounds (b ∷ bs) p h =
+    elim (b == newline) as (λ t. Behind p (place_behind (if t then place p.file (p.line + 1) 1 else next_col p) bs) (suc (length bs))) [
+      | true ↦ grown p (place p.file (p.line + 1) 1) _ (length bs) refl (omega arith) (omega arith) (behind_bounds bs (place p.file (p.line + 1) 1) (omega arith))
+      | false ↦ grown p (next_col p) _ (length bs) refl (omega arith) (omega arith) (behind_bounds bs (next_col p) (omega arith))
+    ]
+
+pub take_add : {X : Type 0} (n m : ℕ) (xs : List X) → take (n + m) xs ≡ take n xs ++ take m (drop n xs)
+take_add n m xs = sym (take-append-drop n (take (n + m) xs)) ∙ ap (λ z. z ++ drop n (take (n + m) xs)) (take-take n (n + m) xs (omega arith)) ∙ ap (λ z. take n xs ++ z) (drop-take n m xs)
+
+-- the character at an offset, and those behind it
+pub record Here (file : ℕ) (raw : List ℕ) (offset : ℕ) : Type 0 where
+  pub head : Char
+  pub rest : List Char
+  pub is : drop offset (placed file 1 1 raw) ≡ head ∷ rest
+  pub codes : codes_of (head ∷ rest) ≡ drop offset raw
+  pub at : head.at ≡ place_behind (start file) (take offset raw)
+  pub room : suc (length rest) ≡ length raw - offset
+
+pub here : (file : ℕ) (raw : List ℕ) (offset : ℕ) → offset < length raw → Here file raw offset
+here file raw offset lt =
+    let q = place_behind (start file) (take offset raw) in
+    let b = get_or raw offset 0 in
+    let c : Char = record { code = b; at = q } in
+    let cs = placed_at (behind_byte b q) (drop (offset + 1) raw) in
+    let is : drop offset (placed file 1 1 raw) ≡ c ∷ cs = placed_drop offset raw (start file) ∙ ap (placed_at q) (drop_more raw offset 0 lt) ∙ placed_tail q b (drop (offset + 1) raw) in
+    let codes : codes_of (c ∷ cs) ≡ drop offset raw = ap (λ z. b ∷ z) (placed_codes (drop (offset + 1) raw) (behind_byte b q)) ∙ sym (drop_more raw offset 0 lt) in
+    record {
+      head = c;
+      rest = cs;
+      is = is;
+      codes = codes;
+      at = refl;
+      room = sym (length-map (c ∷ cs) (λ (y : Char). y.code)) ∙ ap length codes ∙ length-drop offset raw;
+    }

@@ -1,0 +1,100 @@
+use Rattle.std.proofs.Common.{◌≡◌, ◌+◌, ◌-◌, ◌<◌, length, drop, get_or, sym, ap, ◌∙◌, subst, arith}
+use Rattle.std.proofs.lemmas.List.{take_rest}
+use Rattle.pptext.specs.declared.texts.Cursor.{Cursor}
+use Rattle.pptext.specs.declared.characters.steps.Step.TheVariants.{Code, Removed}
+use Rattle.pptext.specs.Steps.{open_end, step_of}
+use Rattle.pptext.specs.Texts.{Stands, text_from}
+use Rattle.pptext.proofs.Cursors.{bounds, skip_removed, pass_code, stands_at_code, stands_at_end}
+use Rattle.pptext.proofs.texts.Cursor.walk.Goals as goal
+
+pub skip-cursor-requires-clause-line : goal.skip-cursor-requires-clause-line
+skip-cursor-requires-clause-line c = (bounds c.args.self.at.file c.args.raw.now c.loop-cursor.cursor c.loop-cursor.invariant.stands).line
+
+pub skip-cursor-requires-clause-col : goal.skip-cursor-requires-clause-col
+skip-cursor-requires-clause-col c = (bounds c.args.self.at.file c.args.raw.now c.loop-cursor.cursor c.loop-cursor.invariant.stands).col
+
+pub skip-cursor-requires-in-Code-clause-line : goal.skip-cursor-requires-in-Code-clause-line
+skip-cursor-requires-in-Code-clause-line c = (bounds c.args.self.at.file c.args.raw.now c.loop-cursor.cursor c.loop-cursor.invariant.stands).line
+
+pub skip-cursor-requires-in-Code-clause-col : goal.skip-cursor-requires-in-Code-clause-col
+skip-cursor-requires-in-Code-clause-col c = (bounds c.args.self.at.file c.args.raw.now c.loop-cursor.cursor c.loop-cursor.invariant.stands).col
+
+pub loop-cursor-smaller-in-Removed : goal.loop-cursor-smaller-in-Removed
+loop-cursor-smaller-in-Removed c =
+    let raw = c.args.raw.now in
+    let cursor = c.loop-cursor.cursor in
+    let o = cursor.offset in
+    let stands = c.loop-cursor.invariant.stands in
+    let n = c.in-Removed.len in
+    let is : step_of (open_end raw) (drop o raw) ≡ Removed n = ap (λ s. step_of s (drop o raw)) (sym c.has_open_end-supplied.ensures) ∙ sym (simp take_rest at c.in-Removed.ensures) in
+    let s = skip_removed c.args.self.at.file raw cursor n stands c.loop-cursor-test.true is in
+    let skip : c.skip-cursor.result.offset ≡ o + n = ap (λ (x : Cursor). x.offset) c.skip-cursor.ensures in
+    let less : length raw - c.skip-cursor.result.offset < length raw - o = omega (arith, s.0) in
+    less
+
+pub loop-cursor-preserved-in-Removed : goal.loop-cursor-preserved-in-Removed
+loop-cursor-preserved-in-Removed c =
+    let raw = c.args.raw.now in
+    let cursor = c.loop-cursor.cursor in
+    let o = cursor.offset in
+    let stands = c.loop-cursor.invariant.stands in
+    let n = c.in-Removed.len in
+    let is : step_of (open_end raw) (drop o raw) ≡ Removed n = ap (λ s. step_of s (drop o raw)) (sym c.has_open_end-supplied.ensures) ∙ sym (simp take_rest at c.in-Removed.ensures) in
+    let s = skip_removed c.args.self.at.file raw cursor n stands c.loop-cursor-test.true is in
+    let passed = ap (λ (x : Cursor). x.passed) c.skip-cursor.ensures in
+    record { forward = omega (arith, c.loop-cursor.invariant.forward); stands = subst (Stands c.args.self.at.file raw) (sym c.skip-cursor.ensures) s.2 }
+
+pub returns-then-cursor-to-clause-file : goal.returns-then-cursor-to-clause-file
+returns-then-cursor-to-clause-file c = (bounds c.args.self.at.file c.args.raw.now c.loop-cursor.cursor c.loop-cursor.invariant.stands).same_file
+
+pub returns-then-cursor-to-clause-place : goal.returns-then-cursor-to-clause-place
+returns-then-cursor-to-clause-place c =
+    let raw = c.args.raw.now in
+    let cursor = c.loop-cursor.cursor in
+    let o = cursor.offset in
+    let stands = c.loop-cursor.invariant.stands in
+    let n = c.in-Code.len in
+    let code = c.in-Code.field-0 in
+    let is : step_of (open_end raw) (drop o raw) ≡ Code code n = ap (λ s. step_of s (drop o raw)) (sym c.has_open_end-supplied.ensures) ∙ sym (simp take_rest at c.in-Code.ensures) in
+    λ d. stands_at_code c.args.self.at.file raw cursor code n d stands c.loop-cursor-test.true is ∙ ap (λ k. (get_or (text_from c.args.self.at.file raw 0) k d).at) c.if-cursor-to.true
+
+pub loop-cursor-smaller : goal.loop-cursor-smaller
+loop-cursor-smaller c =
+    let raw = c.args.raw.now in
+    let cursor = c.loop-cursor.cursor in
+    let o = cursor.offset in
+    let stands = c.loop-cursor.invariant.stands in
+    let n = c.in-Code.len in
+    let code = c.in-Code.field-0 in
+    let is : step_of (open_end raw) (drop o raw) ≡ Code code n = ap (λ s. step_of s (drop o raw)) (sym c.has_open_end-supplied.ensures) ∙ sym (simp take_rest at c.in-Code.ensures) in
+    let s = pass_code c.args.self.at.file raw cursor code n stands c.loop-cursor-test.true is in
+    let skip : c.skip-cursor-in-Code.result.offset ≡ o + n = ap (λ (x : Cursor). x.offset) c.skip-cursor-in-Code.ensures in
+    let less : length raw - c.skip-cursor-in-Code.result.offset < length raw - o = omega (arith, s.0) in
+    less
+
+pub loop-cursor-preserved : goal.loop-cursor-preserved
+loop-cursor-preserved c =
+    let raw = c.args.raw.now in
+    let cursor = c.loop-cursor.cursor in
+    let o = cursor.offset in
+    let stands = c.loop-cursor.invariant.stands in
+    let n = c.in-Code.len in
+    let code = c.in-Code.field-0 in
+    let is : step_of (open_end raw) (drop o raw) ≡ Code code n = ap (λ s. step_of s (drop o raw)) (sym c.has_open_end-supplied.ensures) ∙ sym (simp take_rest at c.in-Code.ensures) in
+    let s = pass_code c.args.self.at.file raw cursor code n stands c.loop-cursor-test.true is in
+    let passed = ap (λ (x : Cursor). x.passed) c.skip-cursor-in-Code.ensures in
+    record {
+      forward = omega (arith, c.loop-cursor.invariant.forward, c.if-cursor-to.false);
+      stands = subst (λ (x : Cursor). Stands c.args.self.at.file raw (record { passed = x.passed + 1; offset = x.offset; at = x.at })) (sym c.skip-cursor-in-Code.ensures) s.2;
+    }
+
+pub returns-clause-passed : goal.returns-clause-passed
+returns-clause-passed c =
+    (stands_at_end c.args.self.at.file c.args.raw.now c.loop-cursor.cursor c.args.to c.loop-cursor.invariant.stands c.loop-cursor-test.false c.loop-cursor.invariant.forward c.requires.within).0
+
+pub returns-clause-file : goal.returns-clause-file
+returns-clause-file c = (bounds c.args.self.at.file c.args.raw.now c.loop-cursor.cursor c.loop-cursor.invariant.stands).same_file
+
+pub returns-clause-place : goal.returns-clause-place
+returns-clause-place c =
+    (stands_at_end c.args.self.at.file c.args.raw.now c.loop-cursor.cursor c.args.to c.loop-cursor.invariant.stands c.loop-cursor-test.false c.loop-cursor.invariant.forward c.requires.within).1

@@ -1,0 +1,87 @@
+-- Words of the pass that groups a file's lines: spans without branches, their links, the open sections by their lines' indices, and a
+-- guard seen without the tree.
+use Rattle.std.specs.Prelude.{◌≡◌, ℕ, ◌+◌, ◌-◌, ◌⊎◌, List, [], ◌∷◌, map, reverse, length, take, drop, Bool, Option, None, Some}
+use Rattle.std.specs.List.{AllByRecursion}
+use Rattle.pptext.specs.declared.tokens.Token.{Token}
+use Rattle.pptext.specs.declared.sources.Line.{Line}
+use Rattle.pptext.specs.declared.cutting.Ending.{Ending}
+use Rattle.pptext.specs.declared.directives.Role.{Role}
+use Rattle.pptext.specs.declared.directives.Role.TheVariants.{Opens, Elses, Closes}
+use Rattle.pptext.specs.declared.grouping.faults.Section.{Section}
+use Rattle.pptext.specs.Lines.{Row, directive_of}
+use Rattle.pptext.specs.Tree.{role, role_by, branch_behind}
+use Rattle.pptext.specs.Sources.{rows_of, tokens_of, spans}
+use Rattle.pptext.specs.Guard.{IsBlankRow, guard_name}
+
+-- the span of a line by where it ends, without its next branch line
+abbrev pub draft : List Token → ℕ → Ending → Line
+draft ts start e =
+    record { start = start; end = e.end; number = e.number; directive = directive_of (take (e.end - start) (drop start ts)); next_branch = None }
+
+-- the spans of the lines from token start on, without next branch lines
+abbrev pub drafts : ℕ → List Row → List Line
+drafts start [] = []
+drafts start (r ∷ rs) =
+    let stop = start + length r.tokens in
+    record { start = start; end = stop; number = r.number; directive = directive_of r.tokens; next_branch = None } ∷ drafts stop rs
+
+abbrev pub line_role : Line → Role
+line_role l = role_by l.directive
+
+-- in an if-section the next branch line of a line at place k, before lines of these roles
+abbrev pub branch_of : ℕ → Role → List Role → Option ℕ
+branch_of k Opens rest = branch_behind 0 (k + 1) rest
+branch_of k (Elses final) rest = branch_behind 0 (k + 1) rest
+branch_of k s rest = None
+
+-- the lines from place k on, each with its next branch line
+abbrev pub linked : ℕ → List Line → List Line
+linked k [] = []
+linked k (l ∷ ls) = record l { next_branch = branch_of k (line_role l) (map line_role ls) } ∷ linked (k + 1) ls
+
+abbrev pub first : List ℕ → Option ℕ
+first [] = None
+first (k ∷ ks) = Some k
+
+-- Going back over a line: its next branch line, and those of the sections that are open before it, the innermost first.
+abbrev pub step_back : ℕ → Role → List ℕ → Option ℕ × List ℕ
+step_back k Opens behind = (first behind, drop 1 behind)
+step_back k (Elses final) behind = (first behind, k ∷ drop 1 behind)
+step_back k Closes behind = (None, k ∷ behind)
+step_back k s behind = (None, behind)
+
+-- the spans are those of the lines that they cut the tokens into
+abbrev pub AreLines : List Token → List Line → Type 0
+AreLines ts ls = (tokens_of (rows_of ts ls) ≡ ts) × (spans 0 0 (rows_of ts ls) ≡ ls)
+
+-- the open sections, the innermost first
+abbrev pub sections : List Section → List (ℕ × Bool)
+sections ss = map (λ s. (s.opening, s.last)) (reverse ss)
+
+-- what a line answers, and leaves of the open sections
+abbrev pub Takes : Option ℕ × List (ℕ × Bool) → Option ℕ → List (ℕ × Bool) → Type 0
+Takes step None after = step ≡ (None, after)
+Takes step (Some n) after = step.0 ≡ Some n
+
+-- a role of lines that have a directive's name
+abbrev pub IsBranching : Role → Type 0
+IsBranching Opens = Unit {0}
+IsBranching (Elses final) = Unit {0}
+IsBranching Closes = Unit {0}
+IsBranching s = ⊥
+
+-- A guard without a tree, for the lines from place k on: the first line with tokens opens a section and names X, the section's next
+-- branch line closes it, and no token stands behind.
+pub record ClosedAtOnce (k : ℕ) (rows : List Row) : Type 0 where
+  pub skipped : ℕ
+  pub last : Row
+  pub rest : List Row
+  pub next : branch_behind 0 k (map role rows) ≡ Some (k + skipped)
+  pub there : drop skipped rows ≡ last ∷ rest
+  pub closes : role last ≡ Closes
+  pub blank : AllByRecursion IsBlankRow rest
+
+abbrev pub FlatGuard : ℕ → List Row → List ℕ → Type 0
+FlatGuard k [] x = ⊥
+FlatGuard k (r ∷ rs) x =
+    (IsBlankRow r × FlatGuard (k + 1) rs x) ⊎ ((role r ≡ Opens) × (guard_name r.tokens ≡ Some x) × ClosedAtOnce (k + 1) rs)

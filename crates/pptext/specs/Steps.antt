@@ -1,0 +1,57 @@
+-- What begins the rest of a file, for phases 1 and 2 in one reading (5.1.1.2).
+use Rattle.std.specs.Prelude.{◌≡◌, ℕ, zero, suc, ◌+◌, ◌<◌, ◌≤◌, List, [], ◌∷◌, Bool, true, false, not, ◌&&◌, ◌||◌, ◌==◌, if◌then◌else◌, Option, None, Some, length, drop, slice_index}
+use Rattle.pptext.specs.declared.tokens.Place.{Place}
+use Rattle.pptext.specs.declared.characters.steps.Step.{Step}
+use Rattle.pptext.specs.declared.characters.steps.Step.TheVariants.{Code, Removed}
+use Rattle.pptext.specs.Clean.{place, next_col, newline, backslash, trigraph}
+
+-- whether the last line of these bytes has no LF
+abbrev pub open_end : List ℕ → Bool
+open_end [] = false
+open_end (b ∷ []) = not (b == newline)
+open_end (b ∷ c ∷ bs) = open_end (c ∷ bs)
+
+-- whether a byte may begin something else than a character of its own
+abbrev pub is_special : ℕ → Bool
+is_special b = b == backslash || b == 63 || b == 13
+
+-- n bytes stand in front of the first special one
+abbrev pub PlainFront : List ℕ → ℕ → Type 0
+PlainFront bs n = (n ≤ length bs) × ((k : ℕ) → k < n → is_special (slice_index bs k) ≡ false)
+
+-- the code of the trigraph that begins here, or 0
+abbrev pub trigraph_front : List ℕ → ℕ
+trigraph_front (a ∷ b ∷ c ∷ bs) = if a == 63 && b == 63 then trigraph c else 0
+trigraph_front bs = 0
+
+-- whether a CR directly before an LF begins here
+abbrev pub return_front : List ℕ → Bool
+return_front (a ∷ b ∷ bs) = a == 13 && b == newline
+return_front bs = false
+
+-- the length of the new-line that begins here, which at the end may be supplied
+abbrev pub newline_front : Bool → List ℕ → Option ℕ
+newline_front supplied [] = if supplied then Some 0 else None
+newline_front supplied (b ∷ bs) = if b == newline then Some 1 else (if return_front (b ∷ bs) then Some 2 else None)
+
+-- a character, unless it is a backslash directly before a new-line
+abbrev pub spliced : Option ℕ → ℕ → ℕ → Step
+spliced None code n = Code code n
+spliced (Some m) code n = Removed (n + m)
+
+abbrev pub coded : Bool → List ℕ → ℕ → ℕ → Step
+coded supplied bs code n = if code == backslash then spliced (newline_front supplied (drop n bs)) code n else Code code n
+
+-- the character that begins here, or what is removed
+abbrev pub step_of : Bool → List ℕ → Step
+step_of supplied bs =
+    if return_front bs then Removed 1 else (if trigraph_front bs == 0 then coded supplied bs (slice_index bs 0) 1 else coded supplied bs (trigraph_front bs) 3)
+
+-- the place behind a byte at a place
+abbrev pub behind_byte : ℕ → Place → Place
+behind_byte b p = if b == newline then place p.file (p.line + 1) 1 else next_col p
+
+-- the place behind these bytes, of which the first stands at a place
+abbrev pub place_behind : Place → List ℕ → Place
+place_behind p [] = p
+place_behind p (b ∷ bs) = place_behind (behind_byte b p) bs

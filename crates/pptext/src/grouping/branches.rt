@@ -1,0 +1,42 @@
+// The next branch line of each line that opens or branches an if-section (6.10.1).
+ghost use Rattle.std.specs.Prelude.{◌≡◌, length, reverse, IfOk, MatchResult, ◌<◌};
+ghost use Rattle.pptext.specs.Grouping.{step_back, linked};
+
+use crate::directives::{Role, role_of};
+use crate::sources::{Line, SourceFault};
+use std::alloc::{AllocFailed, Global};
+
+/// Goes back over the line at this index: its next branch line. The stack has that of each section that is open, the innermost on top.
+fn step_back(
+    behind: &mut Vec<usize>,
+    at: usize,
+    role: Role,
+) -> Result<Option<usize>, AllocFailed<usize>>
+    ensures { IfOk result (λ next. (next, reverse behind.new.items) ≡ step_back at role (reverse behind.old.items)) }
+{
+    match role {
+        Role::Opens => Ok(behind.pop()),
+        Role::Elses(_) => {
+            let next = behind.pop();
+            behind.push(at)?;
+            Ok(next)
+        }
+        Role::Closes => {
+            behind.push(at)?;
+            Ok(None)
+        }
+        Role::Text | Role::Control => Ok(None),
+    }
+}
+
+/// Gives each line its next branch line, from the last line to the first.
+pub(super) fn link_branches(alloc: Global, lines: &mut [Line]) -> Result<(), SourceFault>
+    ensures { MatchResult result (λ _. lines.new ≡ linked 0 lines.old) (λ e. e ≡ SourceFault.Memory) }
+{
+    let mut behind = Vec::new(alloc);
+    for at in (0..lines.len()).rev() {
+        let next = step_back(&mut behind, at, role_of(lines[at].directive))?;
+        lines[at].next_branch = next;
+    }
+    Ok(())
+}

@@ -1,0 +1,100 @@
+// The faults of a file's groups.
+ghost use Rattle.std.specs.Prelude.{◌≡◌, ◌+◌, ◌<◌, [], length, slice_index_or, IfOk, MatchResult};
+ghost use Rattle.pptext.specs.declared.sources.Line.{Line};
+ghost use Rattle.pptext.specs.declared.tokens.Token.{Token};
+ghost use Rattle.pptext.specs.Lines.{Row};
+ghost use Rattle.pptext.specs.Sources.{rows_of};
+ghost use Rattle.pptext.specs.Tree.{opened, fault_at, group_fault};
+ghost use Rattle.pptext.specs.Grouping.{AreLines, line_role, IsBranching, sections, Takes};
+
+use crate::directives::{Role, role_of};
+use crate::sources::{Line, SourceFault};
+use crate::tokens::{Fault, Token};
+use std::alloc::{AllocError, AllocFailed, Global};
+
+/// An open if-section: the index of its opening line, and whether its `#else` has come.
+#[derive(Clone, Copy)]
+pub(crate) struct Section {
+    pub(crate) opening: usize,
+    pub(crate) last: bool,
+}
+
+/// Takes the line at this index in, or answers its fault: 3 outside a section, 4 behind `#else` (6.10.1).
+fn take_line(
+    open_sections: &mut Vec<Section>,
+    at: usize,
+    role: Role,
+) -> Result<Option<u8>, AllocFailed<Section>>
+    ensures { IfOk result (λ n. Takes (opened role at (sections open_sections.old.items)) n (sections open_sections.new.items)) }
+{
+    match role {
+        Role::Opens => {
+            open_sections.push(Section {
+                opening: at,
+                last: false,
+            })?;
+            Ok(None)
+        }
+        Role::Elses(last) => match open_sections.pop() {
+            None => Ok(Some(3)),
+            Some(section) => {
+                if section.last {
+                    return Ok(Some(4));
+                }
+                open_sections.push(Section {
+                    opening: section.opening,
+                    last,
+                })?;
+                Ok(None)
+            }
+        },
+        Role::Closes => match open_sections.pop() {
+            None => Ok(Some(3)),
+            Some(_) => Ok(None),
+        },
+        Role::Text | Role::Control => Ok(None),
+    }
+}
+
+/// The fault of this number at the directive whose `#` has this index: its place is that of the `#`, its text the name behind.
+fn fault_of(number: u8, tokens: &[Token], sign: usize) -> Result<Fault, AllocError>
+    requires { sign + 1 < length tokens.now }
+    ensures { (d : Token) → IfOk result (λ f. f ≡ record { number = number; at = (slice_index_or tokens.now sign d).at; text = (slice_index_or tokens.now (sign + 1) d).text }) }
+{
+    Ok(Fault {
+        number,
+        at: tokens[sign].at,
+        text: tokens[sign + 1].text.clone()?,
+    })
+}
+
+/// The fault of this number at the line of this index.
+fn fault_at(number: u8, tokens: &[Token], lines: &[Line], at: usize) -> Result<Fault, AllocError>
+    requires are_lines { AreLines tokens.now lines.now }
+    requires within { at < length lines.now }
+    requires branching { (d : Line) → IsBranching (line_role (slice_index_or lines.now at d)) }
+    ensures { (r : Row) → IfOk result (λ f. f ≡ fault_at number (slice_index_or (rows_of tokens.now lines.now) at r)) }
+{
+    fault_of(number, tokens, lines[at].start)
+}
+
+/// The first fault of the groups.
+pub(super) fn first_fault(
+    alloc: Global,
+    tokens: &[Token],
+    lines: &[Line],
+) -> Result<Option<Fault>, SourceFault>
+    requires { AreLines tokens.now lines.now }
+    ensures { MatchResult result (λ f. f ≡ group_fault [] (rows_of tokens.now lines.now)) (λ e. e ≡ SourceFault.Memory) }
+{
+    let mut open_sections = Vec::new(alloc);
+    for (at, line) in lines.iter().enumerate() {
+        if let Some(number) = take_line(&mut open_sections, at, role_of(line.directive))? {
+            return Ok(Some(fault_at(number, tokens, lines, at)?));
+        }
+    }
+    match open_sections.pop() {
+        None => Ok(None),
+        Some(section) => Ok(Some(fault_at(5, tokens, lines, section.opening)?)),
+    }
+}

@@ -1,0 +1,139 @@
+// The guard of a file: one if-section without other branches, and no token outside it.
+ghost use Rattle.std.specs.Prelude.{◌≡◌, ◌&&◌, ◌+◌, ◌<◌, ◌≤◌, length, ℕ, List, take, drop, ◌-◌, None, Some, IfNone, IfSome, slice_index_or, IsTrue, ◌↔◌};
+ghost use Rattle.std.specs.Str.{bytes_eq};
+ghost use Rattle.pptext.specs.declared.sources.Line.{Line};
+ghost use Rattle.pptext.specs.declared.tokens.Token.{Token};
+ghost use Rattle.pptext.specs.Sources.{rows_of};
+ghost use Rattle.pptext.specs.Guard.{are_parentheses, guard_name, ident_if, is_ident, is_not_defined};
+ghost use Rattle.pptext.specs.Grouping.{AreLines, line_role, ClosedAtOnce, FlatGuard};
+
+use crate::directives::{Role, role_of};
+use crate::sources::Line;
+use crate::tokens::{Kind, Token};
+
+/// Whether an identifier.
+fn is_ident(kind: Kind) -> bool
+    ensures { result ≡ is_ident kind }
+{
+    match kind {
+        Kind::Ident => true,
+        _ => false,
+    }
+}
+
+/// Whether the token is spelled so.
+fn is_named(token: &Token, text: &[u8]) -> bool
+    ensures { result ≡ bytes_eq token.now.text text.now }
+{
+    token.text.as_bytes() == text
+}
+
+/// Whether `if ! defined`.
+fn is_not_defined(name: &Token, not: &Token, defined: &Token) -> bool
+    ensures { result ≡ is_not_defined name.now not.now defined.now }
+{
+    is_named(name, b"if") && is_named(not, b"!") && is_named(defined, b"defined")
+}
+
+/// Whether `(` and `)`.
+fn are_parentheses(left: &Token, right: &Token) -> bool
+    ensures { result ≡ are_parentheses left.now right.now }
+{
+    is_named(left, b"(") && is_named(right, b")")
+}
+
+/// This index, where the token is an identifier and the test is true.
+fn ident_if(test: bool, token: &Token, index: usize) -> Option<usize>
+    ensures none { IfNone result (ident_if test token.now ≡ None) }
+    ensures some { IfSome result (λ i. (i ≡ index) × (ident_if test token.now ≡ Some token.now.text)) }
+{
+    if test && is_ident(token.kind) {
+        return Some(index);
+    }
+    None
+}
+
+/// The index of X in a line `#ifndef X`, `#if ! defined X` or `#if ! defined ( X )`.
+fn name_index(line: &[Token]) -> Option<usize>
+    ensures none { IfNone result (guard_name line.now ≡ None) }
+    ensures some { IfSome result (λ i. (i < length line.now) × ((d : Token) → guard_name line.now ≡ Some (slice_index_or line.now i d).text)) }
+{
+    match line {
+        [_, name, guard] => ident_if(is_named(name, b"ifndef"), guard, 2),
+        [_, name, not, defined, guard] => ident_if(is_not_defined(name, not, defined), guard, 4),
+        [_, name, not, defined, left, guard, right] => {
+            let named = is_not_defined(name, not, defined) && are_parentheses(left, right);
+            ident_if(named, guard, 5)
+        }
+        _ => None,
+    }
+}
+
+/// The index of that X among the file's tokens.
+fn guard_index(tokens: &[Token], line: Line) -> Option<usize>
+    requires begins { line.start ≤ line.end }
+    requires within { line.end ≤ length tokens.now }
+    ensures none { IfNone result (guard_name (take (line.end - line.start) (drop line.start tokens.now)) ≡ None) }
+    ensures some { IfSome result (λ i. (i < length tokens.now) × ((d : Token) → guard_name (take (line.end - line.start) (drop line.start tokens.now)) ≡ Some (slice_index_or tokens.now i d).text)) }
+{
+    let Some(index) = name_index(&tokens[line.start..line.end]) else {
+        return None;
+    };
+    Some(line.start + index)
+}
+
+/// Whether the line at this index is an `#endif`, and the file's last with tokens.
+fn ends_file(tokens: &[Token], lines: &[Line], last: usize) -> bool
+    requires { last < length lines.now }
+    ensures { (d : Line) → IsTrue result ↔ (line_role (slice_index_or lines.now last d) ≡ Role.Closes) × ((slice_index_or lines.now last d).end ≡ length tokens.now) }
+{
+    let line = lines[last];
+    match role_of(line.directive) {
+        Role::Closes => line.end == tokens.len(),
+        _ => false,
+    }
+}
+
+/// Whether the section that the line at this index opens has no other branch, and no token stands behind it.
+fn closes_file(tokens: &[Token], lines: &[Line], at: usize) -> bool
+    requires are_lines { AreLines tokens.now lines.now }
+    requires within { at < length lines.now }
+    requires opens { (d : Line) → line_role (slice_index_or lines.now at d) ≡ Role.Opens }
+    ensures { IsTrue result ↔ ClosedAtOnce (at + 1) (drop (at + 1) (rows_of tokens.now lines.now)) }
+{
+    match lines[at].next_branch {
+        Some(last) => ends_file(tokens, lines, last),
+        None => false,
+    }
+}
+
+/// The index of the guard's token, where the line at this index, the first with tokens, opens the one section.
+fn guard_at(tokens: &[Token], lines: &[Line], at: usize) -> Option<usize>
+    requires are_lines { AreLines tokens.now lines.now }
+    requires within { at < length lines.now }
+    requires some { (d : Line) → (slice_index_or lines.now at d).start < (slice_index_or lines.now at d).end }
+    ensures none { IfNone result ((x : List ℕ) → ¬ FlatGuard at (drop at (rows_of tokens.now lines.now)) x) }
+    ensures some { IfSome result (λ i. (i < length tokens.now) × ((d : Token) → FlatGuard at (drop at (rows_of tokens.now lines.now)) (slice_index_or tokens.now i d).text)) }
+{
+    let Role::Opens = role_of(lines[at].directive) else {
+        return None;
+    };
+    if !closes_file(tokens, lines, at) {
+        return None;
+    }
+    guard_index(tokens, lines[at])
+}
+
+/// The index of the guard's token, where the file is one guarded section.
+pub(super) fn guard_token(tokens: &[Token], lines: &[Line]) -> Option<usize>
+    requires { AreLines tokens.now lines.now }
+    ensures none { IfNone result ((x : List ℕ) → ¬ FlatGuard 0 (rows_of tokens.now lines.now) x) }
+    ensures some { IfSome result (λ i. (i < length tokens.now) × ((d : Token) → FlatGuard 0 (rows_of tokens.now lines.now) (slice_index_or tokens.now i d).text)) }
+{
+    for (at, line) in lines.iter().enumerate() {
+        if line.start < line.end {
+            return guard_at(tokens, lines, at);
+        }
+    }
+    None
+}
