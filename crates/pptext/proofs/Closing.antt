@@ -1,11 +1,10 @@
 -- Parts up to a closing character that begins none of them.
-use Rattle.std.proofs.Common.{◌≡◌, ℕ, zero, suc, ◌+◌, ◌-◌, ◌<◌, ◌≤◌, Bool, true, false, not, ◌||◌, ◌==◌, List, [], ◌∷◌, ◌++◌, length, take, drop, refl, sym, ap, ◌∙◌, subst, inl, inr, ◌⊎◌, arith, length-append, length-drop, append_assoc, IsTrue, get_or}
-use Rattle.std.specs.List.{AllByRecursion, flat_map}
-use Rattle.std.proofs.lemmas.List.{append-nil, drop-drop}
+use Rattle.std.proofs.Common.{◌≡◌, ℕ, ◌+◌, ◌-◌, ◌<◌, ◌≤◌, Bool, true, false, not, ◌||◌, ◌==◌, List, [], ◌∷◌, ◌++◌, length, take, drop, refl, sym, ap, ◌∙◌, subst, inl, inr, ◌⊎◌, arith, length-drop, append_assoc, get_or}
+use Rattle.std.specs.List.{flat_map}
+use Rattle.std.proofs.lemmas.List.{drop-drop}
 use Rattle.std.proofs.Math.Seq.{take-add}
 use Rattle.std.proofs.lemmas.Bool.Decides.{nat_tests}
 use Rattle.pptext.specs.Languages.{Exactly, One, Then, Repeated, NoFront, IsOnly, OnlyPart}
-use Rattle.pptext.specs.Cut.{BeginsWith}
 use Rattle.pptext.specs.Spellings.{IsBetween, IsHeader}
 use Rattle.pptext.proofs.Parts.{front_of, front_length, behind_front}
 use Rattle.pptext.proofs.Fronts.{one_here, one_lacks, one_empty, only_zero, exactly_then, either_left, either_right}
@@ -31,10 +30,6 @@ closed_front P q text m fits (a, b, e, (y ∷ ys, all, ea), eb) =
     let e' : take m text ≡ y ++ rest = e ∙ ap (λ z. z ++ b) ea ∙ append_assoc y (flat_map (λ p. p) ys) b in
     let l : length y + length rest ≡ m = front_length text y rest m fits e' in
     inr (length y, omega arith, subst P (front_of text y rest m fits e') all.0, (flat_map (λ p. p) ys, b, sym (behind_front text y rest m fits e'), (ys, all.1, refl), eb))
-
--- the closing character begins no part
-abbrev Apart : (List ℕ → Type 0) → ℕ → List ℕ → Type 0
-Apart P q text = get_or text 0 0 ≡ q → NoFront P text
 
 pub closes_here : (P : List ℕ → Type 0) (q : ℕ) (text : List ℕ) → 0 < length text → get_or text 0 0 ≡ q → NoFront P text → IsOnly (Closed P q) text 1
 closes_here P q text l h none = record {

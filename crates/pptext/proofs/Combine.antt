@@ -1,12 +1,11 @@
 -- Fronts of a text in languages that are put together.
-use Rattle.std.proofs.Common.{◌≡◌, ℕ, zero, suc, ◌+◌, ◌-◌, ◌<◌, ◌≤◌, Bool, true, false, ◌||◌, List, [], ◌∷◌, ◌++◌, length, take, drop, refl, sym, ap, ◌∙◌, subst, inl, inr, ◌⊎◌, arith, rules, length-append, length-drop, append_assoc, IsTrue, get_or}
-use Rattle.std.proofs.lemmas.Bool.{false≢true}
+use Rattle.std.proofs.Common.{◌≡◌, ℕ, zero, suc, ◌+◌, ◌-◌, ◌<◌, ◌≤◌, Bool, true, List, [], ◌∷◌, ◌++◌, length, take, drop, refl, sym, ap, ◌∙◌, subst, arith, length-drop, append_assoc, get_or}
 use Rattle.std.proofs.Math.Seq.{take-add}
 use Rattle.std.proofs.lemmas.List.{append-nil, drop-drop, get_or-drop}
-use Rattle.pptext.specs.Languages.{Exactly, One, Then, Either, Repeated, Longest, LongestOrNone, NoFront, IsNext, NextPart, IsOnly, OnlyPart}
+use Rattle.pptext.specs.Languages.{Exactly, One, Then, Repeated, Longest, LongestOrNone, NoFront, IsNext, NextPart, IsOnly, OnlyPart}
 use Rattle.pptext.specs.Cut.{BeginsWith}
 use Rattle.pptext.proofs.Parts.{front_of, front_length, behind_front, then_longest, more_repeated, none_repeated}
-use Rattle.pptext.proofs.Fronts.{one_front, one_here, exactly_then, only_zero}
+use Rattle.pptext.proofs.Fronts.{one_here, only_zero}
 
 pub then_lacks : (P Q : List ℕ → Type 0) (text : List ℕ) → NoFront P text → NoFront (Then P Q) text
 then_lacks P Q text none m fits (a, b, e, pa, qb) =
@@ -161,17 +160,6 @@ end_at text at l = let d : length (drop at text) ≡ length text - at = length-d
 -- the one part, and then the one part behind it
 pub then_none_first : (P Q : List ℕ → Type 0) (text : List ℕ) (n : ℕ) → OnlyPart P text n → n ≡ 0 → OnlyPart (Then P Q) text 0
 then_none_first P Q text n p z = only_zero (Then P Q) text (then_lacks P Q text (p.0 z))
-
-pub then_none_rest : (P Q : List ℕ → Type 0) (text : List ℕ) (n k : ℕ) → OnlyPart P text n → (n ≡ 0 → ⊥) → OnlyPart Q (drop n text) k → k ≡ 0 → OnlyPart (Then P Q) text 0
-then_none_rest P Q text n k p some q z =
-    let s : 0 < n = grind arith in
-    only_zero (Then P Q) text (then_lacks_rest P Q text n (p.1 s) (q.0 z))
-
-pub then_both : (P Q : List ℕ → Type 0) (text : List ℕ) (n k : ℕ) → OnlyPart P text n → (n ≡ 0 → ⊥) → OnlyPart Q (drop n text) k → (k ≡ 0 → ⊥) → OnlyPart (Then P Q) text (n + k)
-then_both P Q text n k p some q more =
-    let s : 0 < n = grind arith in
-    let t : 0 < k = grind arith in
-    only_some (Then P Q) text (n + k) (then_only P Q text n k (p.1 s) (q.1 t))
 
 pub part_along : (P Q : List ℕ → Type 0) (text : List ℕ) (n : ℕ) → ((s : List ℕ) → P s → Q s) → ((s : List ℕ) → Q s → P s) → OnlyPart P text n → OnlyPart Q text n
 part_along P Q text n forth back p = (λ z. lacks_along P Q text back (p.0 z), λ s. only_along P Q text n forth back (p.1 s))

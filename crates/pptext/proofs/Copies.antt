@@ -120,22 +120,46 @@ plain_step s b bs h =
     let n = neither (b == 92) (b == 63) (b == 13) h in
     rw (no_cr b bs n.2, no_mark b bs n.1, n.0) refl
 
-pub copied_plain : (n : ℕ) (raw : List ℕ) (offset : ℕ) (done : List ℕ) → Copied raw offset done → PlainFront (drop offset raw) n → Copied raw (offset + n) (done ++ take n (drop offset raw))
-copied_plain zero raw offset done h front = rw (add-zero, append-nil) h
-copied_plain (suc n) raw offset done h front =
+-- a plain byte, and the rest of the plain front
+record PlainAt (raw : List ℕ) (offset n : ℕ) : Type 0 where
+  room : offset < length raw
+  step : step_of (open_end raw) (drop offset raw) ≡ Code (get_or raw offset 0) 1
+  more : PlainFront (drop (offset + 1) raw) n
+
+plain_at : (raw : List ℕ) (offset n : ℕ) → PlainFront (drop offset raw) (suc n) → PlainAt raw offset n
+plain_at raw offset n front =
     let l = length-drop offset raw in
     let fits = front.0 in
     let lt : offset < length raw = omega arith in
     let b = get_or raw offset 0 in
     let rest = drop (offset + 1) raw in
     let is : drop offset raw ≡ b ∷ rest = drop_more raw offset 0 lt in
-    let no : is_special b ≡ false = ap is_special (sym (ap (λ z. get_or z 0 0) is)) ∙ front.1 0 (omega arith) in
-    let one = copied_code raw offset done b 1 h lt (ap (step_of (open_end raw)) is ∙ plain_step (open_end raw) b rest no) in
+    let plain : is_special b ≡ false = ap is_special (sym (ap (λ z. get_or z 0 0) is)) ∙ front.1 0 (omega arith) in
     let l2 = length-drop (offset + 1) raw in
-    let more : PlainFront rest n = (omega arith, λ k lk. ap is_special (sym (ap (λ z. get_or z (suc k) 0) is)) ∙ front.1 (suc k) (omega arith)) in
+    record {
+      room = lt;
+      step = ap (step_of (open_end raw)) is ∙ plain_step (open_end raw) b rest plain;
+      more = (omega arith, λ k lk. ap is_special (sym (ap (λ z. get_or z (suc k) 0) is)) ∙ front.1 (suc k) (omega arith));
+    }
+
+pub plain_from : (n : ℕ) (file : ℕ) (raw : List ℕ) (offset : ℕ) → PlainFront (drop offset raw) n → (drop n (text_from file raw offset) ≡ text_from file raw (offset + n)) × (end_from file raw offset ≡ end_from file raw (offset + n))
+plain_from zero file raw offset front = (ap (text_from file raw) (sym (add-zero offset)), ap (end_from file raw) (sym (add-zero offset)))
+plain_from (suc n) file raw offset front =
+    let one = plain_at raw offset n front in
+    let c = code_at file raw offset (get_or raw offset 0) 1 one.room one.step in
+    let more = plain_from n file raw (offset + 1) one.more in
+    let e : offset + 1 + n ≡ offset + suc n = omega arith in
+    (ap (drop (suc n)) c.text ∙ more.0 ∙ ap (text_from file raw) e, c.ends ∙ more.1 ∙ ap (end_from file raw) e)
+
+pub copied_plain : (n : ℕ) (raw : List ℕ) (offset : ℕ) (done : List ℕ) → Copied raw offset done → PlainFront (drop offset raw) n → Copied raw (offset + n) (done ++ take n (drop offset raw))
+copied_plain zero raw offset done h front = rw (add-zero, append-nil) h
+copied_plain (suc n) raw offset done h front =
+    let one = plain_at raw offset n front in
+    let b = get_or raw offset 0 in
+    let rest = drop (offset + 1) raw in
     let e : offset + 1 + n ≡ offset + suc n = omega arith in
     subst (λ k. Copied raw k (done ++ take (suc n) (drop offset raw))) e
-    (subst (λ z. Copied raw (offset + 1 + n) z) (append_assoc done (b ∷ []) (take n rest) ∙ ap (λ z. done ++ take (suc n) z) (sym is)) (copied_plain n raw (offset + 1) (done ++ b ∷ []) one more))
+    (subst (λ z. Copied raw (offset + 1 + n) z) (append_assoc done (b ∷ []) (take n rest) ∙ ap (λ z. done ++ take (suc n) z) (sym (drop_more raw offset 0 one.room))) (copied_plain n raw (offset + 1) (done ++ b ∷ []) (copied_code raw offset done b 1 h one.room one.step) one.more))
 
 -- the same of the file's own bytes
 pub own_plain : (n : ℕ) (raw : List ℕ) (offset : ℕ) → Copied raw offset (take offset raw) → PlainFront (drop offset raw) n → Copied raw (offset + n) (take (offset + n) raw)

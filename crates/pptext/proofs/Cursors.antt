@@ -1,15 +1,15 @@
 -- A cursor over a file's bytes, which stands in front of one character after another.
 use Rattle.std.proofs.Common.{◌≡◌, ℕ, zero, suc, ◌+◌, ◌-◌, ◌<◌, ◌≤◌, Bool, true, false, if◌then◌else◌, List, [], ◌∷◌, ◌++◌, length, take, drop, get_or, refl, sym, ap, ◌∙◌, subst, arith, Option, None, Some, length-drop, add-zero}
-use Rattle.std.proofs.lemmas.List.{drop-drop, get_or-drop, take_all, length-take-le}
+use Rattle.std.proofs.lemmas.List.{drop-drop, get_or-drop, get_or-take, take_all, length-take, length-take-le}
 use Rattle.pptext.specs.declared.tokens.Place.{Place}
 use Rattle.pptext.specs.declared.characters.Char.{Char}
 use Rattle.pptext.specs.declared.characters.steps.Step.TheVariants.{Code, Removed}
 use Rattle.pptext.specs.declared.texts.Cursor.{Cursor}
 use Rattle.pptext.specs.Clean.{splices, splice_at_end}
-use Rattle.pptext.specs.Steps.{open_end, step_of, place_behind}
+use Rattle.pptext.specs.Steps.{PlainFront, is_special, open_end, step_of, place_behind}
 use Rattle.pptext.specs.Texts.{supply, start, text_from, end_from, Stands}
 use Rattle.pptext.proofs.Offsets.{Behind, behind_append, behind_bounds, take_add}
-use Rattle.pptext.proofs.Copies.{CodeAt, RemovedAt, code_at, removed_at, at_end}
+use Rattle.pptext.proofs.Copies.{CodeAt, RemovedAt, code_at, removed_at, at_end, plain_from}
 
 -- the bounds of a cursor's place
 pub record Bounds (file : ℕ) (c : Cursor) : Type 0 where
@@ -64,6 +64,33 @@ pass_code file raw c code n s lt is =
         at = moved file raw c n s;
         rest = sym (drop-drop 1 c.passed (text_from file raw 0)) ∙ ap (drop 1) (s.rest ∙ r.text);
         ends = sym r.ends ∙ s.ends;
+      },
+    )
+
+-- a plain front of some bytes is one of them all
+pub plain_short : (m : ℕ) (bs : List ℕ) (n : ℕ) → PlainFront (take m bs) n → n ≤ m
+plain_short m bs n front =
+    let l = length-take m bs in
+    let f = front.0 in
+    omega arith
+
+pub plain_taken : (m : ℕ) (bs : List ℕ) (n : ℕ) → PlainFront (take m bs) n → PlainFront bs n
+plain_taken m bs n front =
+    let l = length-take m bs in
+    let f = front.0 in
+    (omega arith, λ k lt. ap is_special (sym (get_or-take m bs k 0 (omega arith))) ∙ front.1 k lt)
+
+pub pass_plain : (file : ℕ) (raw : List ℕ) (c : Cursor) (n : ℕ) → Stands file raw c → c.offset ≤ length raw → PlainFront (drop c.offset raw) n → (c.offset + n ≤ length raw) × Stands file raw (record { passed = c.passed + n; offset = c.offset + n; at = place_behind c.at (take n (drop c.offset raw)) })
+pass_plain file raw c n s within front =
+    let p = plain_from n file raw c.offset front in
+    let l = length-drop c.offset raw in
+    let fits : c.offset + n ≤ length raw = omega (arith, front.0) in (
+      fits,
+      record {
+        within = fits;
+        at = moved file raw c n s;
+        rest = sym (drop-drop n c.passed (text_from file raw 0)) ∙ ap (drop n) s.rest ∙ p.0;
+        ends = sym p.1 ∙ s.ends;
       },
     )
 

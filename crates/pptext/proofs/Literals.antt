@@ -1,13 +1,12 @@
 -- Character constants and string literals: what opens them, their elements, and their end.
-use Rattle.std.proofs.Common.{◌≡◌, ◌≢◌, ℕ, zero, suc, ◌+◌, ◌-◌, ◌<◌, ◌≤◌, Bool, true, false, not, ◌||◌, ◌==◌, List, [], ◌∷◌, ◌++◌, length, take, drop, refl, sym, ap, ◌∙◌, subst, inl, inr, ◌⊎◌, arith, length-drop, IsTrue, get_or, Contains, codes}
+use Rattle.std.proofs.Common.{◌≡◌, ℕ, zero, suc, ◌+◌, ◌-◌, ◌<◌, ◌≤◌, Bool, true, false, not, ◌||◌, ◌==◌, List, [], ◌∷◌, ◌++◌, length, take, drop, refl, sym, ap, ◌∙◌, inl, inr, ◌⊎◌, arith, length-drop, get_or, Contains}
 use Rattle.std.proofs.lemmas.List.{append-nil}
-use Rattle.std.proofs.lemmas.Bool.{false≢true}
 use Rattle.std.proofs.lemmas.Bool.Decides.{nat_tests}
-use Rattle.pptext.specs.Languages.{Exactly, One, Then, Either, Repeated, NoFront, IsOnly, OnlyPart}
+use Rattle.pptext.specs.Languages.{Exactly, One, Then, Repeated, NoFront, IsOnly, OnlyPart}
 use Rattle.pptext.specs.Spellings.{IsElement, IsCharConst, IsStr, char_prefixes, str_prefixes}
 use Rattle.pptext.proofs.Parts.{front_of, front_length}
-use Rattle.pptext.proofs.Fronts.{one_here, one_lacks, either_lacks, either_left, either_right, only_zero}
-use Rattle.pptext.proofs.Combine.{begins_one, begins_two, begins_three, one_begins, two_begins, three_begins, then_lacks, then_lacks_rest, then_only, only_some, exactly_lacks, exactly_here, head_behind, part_along, then_left, then_right}
+use Rattle.pptext.proofs.Fronts.{one_here, one_lacks, either_lacks, either_right, only_zero}
+use Rattle.pptext.proofs.Combine.{begins_one, begins_two, begins_three, one_begins, three_begins, then_lacks, then_lacks_rest, then_only, only_some, exactly_lacks, exactly_here, head_behind, part_along, then_left, then_right}
 
 abbrev pub plain : ℕ → ℕ → Bool
 plain quote c = not (c == quote || (c == 92 || c == 10))
@@ -104,7 +103,7 @@ str_opens text m fits (a, b, e, (suc (suc (suc zero)), l, p), q) = let f = one_l
 str_opens text m fits (a, b, e, (suc (suc (suc (suc zero))), l, p), q) = let f = one_letter 76 34 text m fits cc in inr (inl (f.0, inr (inr f.1), f.2))
 str_opens text m fits (a, b, e, (suc (suc (suc (suc (suc k)))), l, p), q) = absurd (omega arith)
 
-letter-no_quote : (c q : ℕ) → IsLetter c → c ≡ q → q < 76 → ⊥
+pub letter-no_quote : (c q : ℕ) → IsLetter c → c ≡ q → q < 76 → ⊥
 letter-no_quote c q (inl e) f l = absurd (omega arith)
 letter-no_quote c q (inr (inl e)) f l = absurd (omega arith)
 letter-no_quote c q (inr (inr e)) f l = absurd (omega arith)

@@ -1,16 +1,16 @@
 -- Quotes that nothing closes in their line: what the search for one closing quote says of the others.
-use Rattle.std.proofs.Common.{◌≡◌, ℕ, zero, suc, ◌+◌, ◌-◌, ◌<◌, ◌≤◌, Bool, true, false, List, [], ◌∷◌, ◌++◌, length, take, drop, refl, sym, ap, ◌∙◌, subst, inl, inr, ◌⊎◌, arith, length-drop, get_or, append_assoc}
+use Rattle.std.proofs.Common.{◌≡◌, ℕ, zero, suc, ◌+◌, ◌-◌, ◌<◌, ◌≤◌, List, [], ◌∷◌, ◌++◌, length, take, drop, sym, ap, ◌∙◌, subst, inl, inr, ◌⊎◌, arith, length-drop, get_or, append_assoc}
 use Rattle.std.proofs.lemmas.Bool.{false≢true, cases_lt}
 use Rattle.std.proofs.lemmas.List.{drop-drop, get_or-drop}
 use Rattle.std.proofs.Math.Seq.{take-add}
 use Rattle.pptext.specs.declared.scanning.literals.LoneQuotes.{LoneQuotes}
-use Rattle.pptext.specs.Languages.{Exactly, One, Then, Repeated, NoFront, IsOnly, OnlyPart}
+use Rattle.pptext.specs.Languages.{One, Then, NoFront, IsOnly}
 use Rattle.pptext.specs.Spellings.{IsElement}
 use Rattle.pptext.specs.Lone.{IsQuoted, AreLone, KnowsLone}
 use Rattle.pptext.proofs.Fronts.{one_front, exactly_then}
 use Rattle.pptext.proofs.Combine.{begins_one, then_lacks}
 use Rattle.pptext.proofs.Closing.{lacks_later, closed_front}
-use Rattle.pptext.proofs.Literals.{plain, escaped, Escape, plain-no_quote, quote_lacks}
+use Rattle.pptext.proofs.Literals.{plain, escaped, plain-no_quote, quote_lacks}
 
 -- nothing is known
 pub knows_nothing : (text : List ℕ) (n : ℕ) → n ≡ length text → KnowsLone text (record { single = n; double = n })

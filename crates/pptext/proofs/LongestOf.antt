@@ -1,19 +1,20 @@
 -- The longest spelling that begins a text, from the longest of each kind.
-use Rattle.std.proofs.Common.{◌≡◌, ℕ, zero, suc, ◌+◌, ◌-◌, ◌<◌, ◌≤◌, Bool, true, false, not, ◌||◌, ◌&&◌, ◌==◌, List, [], ◌∷◌, ◌++◌, length, take, drop, refl, sym, ap, ◌∙◌, subst, inl, inr, ◌⊎◌, arith, length-drop, get_or, IsTrue, Contains}
-use Rattle.std.specs.List.{list_all}
+use Rattle.std.proofs.Common.{◌≡◌, ℕ, zero, suc, ◌-◌, ◌<◌, ◌≤◌, Bool, true, false, not, ◌||◌, ◌&&◌, ◌==◌, List, [], ◌∷◌, length, take, drop, refl, sym, ap, ◌∙◌, subst, inl, inr, ◌⊎◌, arith, length-drop, get_or, Contains}
 use Rattle.std.proofs.lemmas.Bool.{false≢true}
 use Rattle.std.proofs.lemmas.Bool.Decides.{nat_tests}
 use Rattle.pptext.specs.declared.tokens.Kind.{Kind}
 use Rattle.pptext.specs.declared.tokens.Kind.TheVariants.{Ident, Number, CharConst, Str, Punct, Header, Other}
-use Rattle.pptext.specs.Languages.{Exactly, One, Then, Either, Repeated, Longest, NoFront, IsNext, IsOnly, OnlyPart}
-use Rattle.pptext.specs.Spellings.{is_digit, is_nondigit, is_blank, IsNondigit, IsIdent, IsNumber, IsNumberPart, IsElement, IsCharConst, IsStr, IsPunct, IsOther, Spells, IsSpelling, punctuators, char_prefixes, str_prefixes}
+use Rattle.pptext.specs.Languages.{Exactly, One, Then, Repeated, Longest, NoFront, IsNext, IsOnly}
+use Rattle.pptext.specs.Spellings.{is_digit, is_nondigit, is_blank, IsNondigit, IsIdent, IsNumber, IsNumberPart, IsCharConst, IsStr, IsPunct, IsOther, Spells, IsSpelling, punctuators, char_prefixes, str_prefixes}
+use Rattle.pptext.specs.Lone.{IsQuoted}
 use Rattle.pptext.proofs.Parts.{front_of, front_length, none_repeated, more_repeated, then_longest}
 use Rattle.pptext.proofs.Fronts.{one_front, one_lacks, either_lacks, nondigit_here}
 use Rattle.pptext.proofs.Table.{any_passes}
 use Rattle.pptext.proofs.Combine.{then_lacks, exactly_lacks, head_behind, then_left, one_begins, begins_one}
 use Rattle.pptext.proofs.Numbers.{lacks_nondigit, Fraction, NumberStart, period_front}
 use Rattle.pptext.proofs.Idents.{IdentPart, ident_byte}
-use Rattle.pptext.proofs.Literals.{CharOpening, StrOpening, CharOpens, StrOpens, IsLetter, char_opens, str_opens}
+use Rattle.pptext.proofs.LoneQuotes.{CharRest}
+use Rattle.pptext.proofs.Literals.{CharOpening, StrOpening, CharOpens, StrOpens, IsLetter, char_opens, str_opens, letter-no_quote}
 
 -- nothing longer begins the text
 abbrev pub NoLonger : (List ℕ → Type 0) → List ℕ → ℕ → Type 0
@@ -216,12 +217,6 @@ quote-no_backslash c e f = grind (arith, nat_tests)
 quote-no_digit : (c : ℕ) → is_quote c ≡ true → is_digit c ≡ false
 quote-no_digit c e = grind (arith, nat_tests)
 
-quote-word : (c : ℕ) → is_quote c ≡ true → begins_word c ≡ true
-quote-word c e = grind (arith, nat_tests)
-
-quote-no_ident_head : (c : ℕ) → is_quote c ≡ true → is_ident_head c ≡ false
-quote-no_ident_head c e = grind (arith, nat_tests)
-
 letter-nondigit : (c : ℕ) → IsLetter c → is_nondigit c ≡ true
 letter-nondigit c (inl e) = ap is_nondigit e
 letter-nondigit c (inr (inl e)) = ap is_nondigit e
@@ -262,12 +257,6 @@ opened_by P Q text n fits (a, b, e, p, q) =
     let l = front_length text a b n fits e in
     (length a, omega arith, subst P (front_of text a b n fits e) p)
 
-abbrev CharRest : List ℕ → Type 0
-CharRest = Then (IsElement 39) (Then (Repeated (IsElement 39)) (Exactly (39 ∷ [])))
-
-abbrev StrRest : List ℕ → Type 0
-StrRest = Then (Repeated (IsElement 34)) (Exactly (34 ∷ []))
-
 char_opened : (text : List ℕ) (n : ℕ) → n ≤ length text → IsCharConst (take n text) → (o : ℕ) × (o ≤ n) × CharOpens text o
 char_opened text n fits p =
     let o = opened_by CharOpening CharRest text n fits (then_left (Contains char_prefixes) (Exactly (39 ∷ [])) CharRest (take n text) p) in
@@ -275,19 +264,14 @@ char_opened text n fits p =
 
 str_opened : (text : List ℕ) (n : ℕ) → n ≤ length text → IsStr (take n text) → (o : ℕ) × (o ≤ n) × StrOpens text o
 str_opened text n fits p =
-    let o = opened_by StrOpening StrRest text n fits (then_left (Contains str_prefixes) (Exactly (34 ∷ [])) StrRest (take n text) p) in
+    let o = opened_by StrOpening (IsQuoted 34) text n fits (then_left (Contains str_prefixes) (Exactly (34 ∷ [])) (IsQuoted 34) (take n text) p) in
     (o.0, o.1, str_opens text o.0 (omega (arith, o.1)) o.2)
-
-letter-code : (c q : ℕ) → IsLetter c → c ≡ q → q < 76 → ⊥
-letter-code c q (inl e) f l = absurd (omega arith)
-letter-code c q (inr (inl e)) f l = absurd (omega arith)
-letter-code c q (inr (inr e)) f l = absurd (omega arith)
 
 opens_apart : (text : List ℕ) (o r : ℕ) → CharOpens text o → StrOpens text r → ⊥
 opens_apart text o r (inl a) (inl b) = let e : ◌≡◌ {A = ℕ} 39 34 = sym a.1 ∙ b.1 in omega arith
-opens_apart text o r (inl a) (inr (inl b)) = letter-code (get_or text 0 0) 39 b.1 a.1 (omega arith)
+opens_apart text o r (inl a) (inr (inl b)) = letter-no_quote (get_or text 0 0) 39 b.1 a.1 (omega arith)
 opens_apart text o r (inl a) (inr (inr b)) = let e : ◌≡◌ {A = ℕ} 39 117 = sym a.1 ∙ b.1 in omega arith
-opens_apart text o r (inr a) (inl b) = letter-code (get_or text 0 0) 34 a.1 b.1 (omega arith)
+opens_apart text o r (inr a) (inl b) = letter-no_quote (get_or text 0 0) 34 a.1 b.1 (omega arith)
 opens_apart text o r (inr a) (inr (inl b)) = let e : ◌≡◌ {A = ℕ} 39 34 = sym a.2 ∙ b.2 in omega arith
 opens_apart text o r (inr a) (inr (inr b)) = let e : ◌≡◌ {A = ℕ} 39 56 = sym a.2 ∙ b.2 in omega arith
 

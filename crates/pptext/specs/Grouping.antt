@@ -70,8 +70,7 @@ IsBranching (Elses final) = Unit {0}
 IsBranching Closes = Unit {0}
 IsBranching s = ⊥
 
--- A guard without a tree, for the lines from place k on: the first line with tokens opens a section and names X, the section's next
--- branch line closes it, and no token stands behind.
+-- Of the lines behind an opening line, from place k on: the section's next branch line closes it, and no token stands behind that.
 pub record ClosedAtOnce (k : ℕ) (rows : List Row) : Type 0 where
   pub skipped : ℕ
   pub last : Row
@@ -81,6 +80,8 @@ pub record ClosedAtOnce (k : ℕ) (rows : List Row) : Type 0 where
   pub closes : role last ≡ Closes
   pub blank : AllByRecursion IsBlankRow rest
 
+-- A guard seen without the tree, of the lines from place k on: the first line with tokens opens a section and names X, and the section
+-- is closed at once.
 abbrev pub FlatGuard : ℕ → List Row → List ℕ → Type 0
 FlatGuard k [] x = ⊥
 FlatGuard k (r ∷ rs) x =

@@ -3,10 +3,12 @@ ghost use Rattle.std.specs.Prelude.{◌≡◌, ◌↔◌, ◌+◌, ◌<◌, ◌�
 ghost use Rattle.pptext.specs.Spellings.{is_blank};
 ghost use Rattle.pptext.specs.Cut.{OpensBlock, OpensLine, CommentAt, ClosesAt, StandsAt, Spelled};
 ghost use Rattle.pptext.specs.Lines.{token_of};
+ghost use Rattle.pptext.specs.Lone.{KnowsLone};
 ghost use Rattle.pptext.specs.Tokens.{spelled};
 ghost use Rattle.pptext.specs.Finds.{Finds, CutsInto};
 
 use crate::scanning::is_blank;
+use crate::scanning::literals::LoneQuotes;
 use crate::texts::Text;
 use crate::tokenizing::token_at;
 use crate::tokens::{Kind, Place, Spelling, Token};
@@ -113,10 +115,12 @@ fn blank_len(text: &[u8]) -> usize
     text.len()
 }
 
-/// What begins the text behind these tokens of its line.
-pub(crate) fn next_piece(text: &[u8], line: &[Token]) -> Found
-    requires { 0 < length text.now }
-    ensures { Finds (spelled line.now) text.now result }
+/// What begins the text behind these tokens of its line, where this much is known of its quotes.
+fn piece_at(text: &[u8], line: &[Token], lone: &mut LoneQuotes) -> Found
+    requires some { 0 < length text.now }
+    requires lone { KnowsLone text.now lone.old }
+    ensures finds { Finds (spelled line.now) text.now result }
+    ensures lone { KnowsLone text.now lone.new }
 {
     if text[0] == b'\n' {
         return Found::NewLine;
@@ -133,8 +137,17 @@ pub(crate) fn next_piece(text: &[u8], line: &[Token]) -> Found
     if opens_line(text) {
         return Found::Comment(line_len(text));
     }
-    let (kind, n) = token_at(text, line);
+    let (kind, n) = token_at(text, line, lone);
     Found::Token(kind, n)
+}
+
+/// What begins the text behind these tokens of its line.
+pub(crate) fn next_piece(text: &[u8], line: &[Token]) -> Found
+    requires { 0 < length text.now }
+    ensures { Finds (spelled line.now) text.now result }
+{
+    let mut lone = LoneQuotes::unknown(text.len());
+    piece_at(text, line, &mut lone)
 }
 
 /// The token of n characters at this place of the text.
@@ -179,8 +192,10 @@ pub(crate) fn cut_lines(
     let mut at = 0;
     let mut start = 0;
     let mut space = true;
+    let codes = text.codes();
+    let mut lone = LoneQuotes::unknown(codes.len());
     while at < text.codes().len() {
-        match next_piece(&text.codes()[at..], &tokens[start..]) {
+        match piece_at(&text.codes()[at..], &tokens[start..], &mut lone) {
             Found::NewLine => {
                 start = tokens.len();
                 let number = text.place(at).line;

@@ -1,5 +1,5 @@
 // Reading a file.
-ghost use Rattle.std.specs.Prelude.{◌≡◌, ◌≢◌, ◌↔◌, ◌≤◌, ℕ, List, [], length, IsTrue, IfSome, IfNone, None, Result, Ok, Contains};
+ghost use Rattle.std.specs.Prelude.{◌≡◌, ◌≢◌, ◌↔◌, ◌≤◌, ℕ, List, length, IsTrue, IfSome, IfNone, Result, Ok, Contains};
 ghost use Rattle.pptext.specs.declared.tokens.Fault.{Fault};
 ghost use Rattle.pptext.specs.declared.tokens.Kind.{Kind};
 ghost use Rattle.pptext.specs.declared.tokens.Kind.TheVariants.{Header};
@@ -62,10 +62,9 @@ pub fn read_source(alloc: Global, bytes: &[u8], file: u32) -> Result<Source, Sou
     requires { length bytes.now ≤ 16_777_216 }
     ensures { Answers result (Reads file bytes.now) }
 {
-    let mut text = match clean_text(alloc, bytes, file) {
-        Ok(Ok(text)) => text,
-        Ok(Err(place)) => return Err(fault_at(alloc, 2, place)),
-        Err(_) => return Err(SourceFault::Memory),
+    let mut text = match clean_text(alloc, bytes, file)? {
+        Ok(text) => text,
+        Err(place) => return Err(fault_at(alloc, 2, place)),
     };
     let mut tokens = Vec::new(alloc);
     let mut endings = Vec::new(alloc);

@@ -6,7 +6,7 @@ ghost use Rattle.pptext.specs.Texts.{Stands, end_from, text_from};
 ghost use Rattle.pptext.specs.declared.characters.Char.{Char};
 
 use crate::characters::places::place_behind;
-use crate::characters::steps::{Step, has_open_end, next_step};
+use crate::characters::steps::{Step, has_open_end, next_step, plain_len};
 use crate::tokens::Place;
 use std::marker::Model;
 
@@ -50,7 +50,14 @@ impl Cursor {
         let supplied = has_open_end(raw);
         let mut cursor = self;
         while cursor.offset < raw.len() {
-            match next_step(&raw[cursor.offset..], supplied) {
+            let rest = &raw[cursor.offset..];
+            let plain = plain_len(&rest[..rest.len().min(to - cursor.passed)]);
+            if plain > 0 {
+                cursor = cursor.skip(raw, plain);
+                cursor.passed += plain;
+                continue;
+            }
+            match next_step(rest, supplied) {
                 Step::Removed(len) => cursor = cursor.skip(raw, len),
                 Step::Code(_, len) => {
                     if cursor.passed == to {

@@ -82,7 +82,7 @@ fn plain_token_at(text: &[u8], lone: &mut LoneQuotes) -> (Kind, usize)
 
 /// The kind and length of the token that begins here, behind these tokens of its line, where this much is
 /// known of the quotes.
-pub(crate) fn token_knowing(text: &[u8], line: &[Token], lone: &mut LoneQuotes) -> (Kind, usize)
+pub(crate) fn token_at(text: &[u8], line: &[Token], lone: &mut LoneQuotes) -> (Kind, usize)
     requires some { 0 < length text.now }
     requires no_newline { slice_index text.now 0 ≢ 10 }
     requires no_blank { is_blank (slice_index text.now 0) ≡ false }
@@ -98,20 +98,6 @@ pub(crate) fn token_knowing(text: &[u8], line: &[Token], lone: &mut LoneQuotes) 
         return (Kind::Header, header);
     }
     plain_token_at(text, lone)
-}
-
-/// The kind and length of the token that begins here, behind these tokens of its line.
-pub(crate) fn token_at(text: &[u8], line: &[Token]) -> (Kind, usize)
-    requires some { 0 < length text.now }
-    requires no_newline { slice_index text.now 0 ≢ 10 }
-    requires no_blank { is_blank (slice_index text.now 0) ≡ false }
-    requires no_block { ¬ OpensBlock text.now }
-    requires no_line { ¬ OpensLine text.now }
-    ensures fits { (0 < result.1) × (result.1 ≤ length text.now) }
-    ensures stands { StandsAt (spelled line.now) text.now result.1 (Spelled result.0) }
-{
-    let mut lone = LoneQuotes::unknown(text.len());
-    token_knowing(text, line, &mut lone)
 }
 
 #[cfg(test)]

@@ -1,5 +1,5 @@
 // The next branch line of each line that opens or branches an if-section (6.10.1).
-ghost use Rattle.std.specs.Prelude.{◌≡◌, length, reverse, IfOk, MatchResult, ◌<◌};
+ghost use Rattle.std.specs.Prelude.{◌≡◌, reverse, IfOk, MatchResult};
 ghost use Rattle.pptext.specs.Grouping.{step_back, linked};
 
 use crate::directives::{Role, role_of};

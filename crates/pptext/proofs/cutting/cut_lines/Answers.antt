@@ -4,6 +4,8 @@ use Rattle.pptext.specs.declared.characters.Char.{Char}
 use Rattle.pptext.specs.declared.tokens.Place.{Place}
 use Rattle.pptext.specs.declared.cutting.Ending.{Ending}
 use Rattle.pptext.specs.Clean.{place, codes_of}
+use Rattle.pptext.specs.Lone.{KnowsLone}
+use Rattle.pptext.proofs.LoneQuotes.{knows_later, knows_nothing}
 use Rattle.pptext.proofs.CutLoop.{State, state_start, skip_blanks, skip_comment, end_line, add_token, cut_all, never_closed, codes_length, head_of_drop, head_of_take, token_is}
 use Rattle.pptext.specs.Lines.{token_of}
 use Rattle.pptext.specs.Texts.{Reading}
@@ -17,6 +19,7 @@ loop-at-init c = record {
   same = refl;
   passed = omega arith;
   state = rw (c.requires.no_tokens, c.requires.no_lines) (state_start c.args.text.now.chars);
+  lone = rw c.unknown-lone.ensures (knows_nothing (codes_of c.args.text.now.chars) (length c.codes-codes.result.now) (ap length c.codes-codes.ensures));
 }
 
 pub loop-at-preserved-in-NewLine : goal.loop-at-preserved-in-NewLine
@@ -25,14 +28,16 @@ loop-at-preserved-in-NewLine c =
     let l = codes_length chars in
     let d = length-drop c.loop-at.at (codes_of chars) in
     let same = c.codes-in-loop-at.ensures ∙ ap codes_of c.loop-at.invariant.same in
-    let found = simp (take_rest, same) at c.in-NewLine.ensures in
+    let found = simp (take_rest, same) at c.in-NewLine.ensures.finds in
     let first_length = ap length (c.codes.ensures ∙ ap codes_of c.loop-at.invariant.same) in
     let e : Ending = record { end = c.len-start.result; number = c.place-number.result.line } in
     let number = ap (λ (p : Place). p.line) (c.place-number.ensures.place first ∙ ap (λ (z : List Char). (get_or z c.loop-at.at first).at) c.loop-at.invariant.same ∙ head_of_take chars c.loop-at.at 1 first (omega arith) (omega arith)) in
+    let known : KnowsLone (drop c.loop-at.at (codes_of chars)) c.piece_at.new.lone = simp (take_rest, same) at c.piece_at.ensures.lone in
     record {
       same = ap (λ (r : Reading). r.chars) c.place-number.ensures.after ∙ c.loop-at.invariant.same;
       passed = omega (arith, ap (λ (r : Reading). r.passed) c.place-number.ensures.after);
       state = rw c.in_ok-push-in-NewLine.ensures.items (end_line chars c.loop-at.at c.loop-at.start c.len-start.result c.loop-at.space c.loop-at.tokens.items c.loop-at.lines.items e c.loop-at.invariant.state (c.len-start.ensures ∙ c.loop-at.tokens.ok.0) refl number (omega arith) found);
+      lone = knows_later (codes_of chars) c.loop-at.at 1 c.piece_at.new.lone known;
     }
 
 pub loop-at-preserved-in-Blank : goal.loop-at-preserved-in-Blank
@@ -41,34 +46,40 @@ loop-at-preserved-in-Blank c =
     let l = codes_length chars in
     let d = length-drop c.loop-at.at (codes_of chars) in
     let same = c.codes-in-loop-at.ensures ∙ ap codes_of c.loop-at.invariant.same in
-    let found = simp (take_rest, same) at c.in-Blank.ensures in
+    let found = simp (take_rest, same) at c.in-Blank.ensures.finds in
+    let known : KnowsLone (drop c.loop-at.at (codes_of chars)) c.piece_at.new.lone = simp (take_rest, same) at c.piece_at.ensures.lone in
     record {
       same = c.loop-at.invariant.same;
       passed = omega (arith, c.loop-at.invariant.passed);
       state = skip_blanks chars c.in-Blank.n c.loop-at.at c.loop-at.start c.loop-at.space c.loop-at.tokens.items c.loop-at.lines.items c.loop-at.invariant.state found.1 (omega (arith, found.0, c.loop-at.invariant.state.within)) (λ k lt. simp get_or-drop at (found.2 k lt));
+      lone = knows_later (codes_of chars) c.loop-at.at c.in-Blank.n c.piece_at.new.lone known;
     }
 
 pub loop-at-preserved-in-Comment : goal.loop-at-preserved-in-Comment
 loop-at-preserved-in-Comment c =
     let chars = c.args.text.now.chars in
     let same = c.codes-in-loop-at.ensures ∙ ap codes_of c.loop-at.invariant.same in
-    let found = simp (take_rest, same) at c.in-Comment.ensures in
+    let found = simp (take_rest, same) at c.in-Comment.ensures.finds in
+    let known : KnowsLone (drop c.loop-at.at (codes_of chars)) c.piece_at.new.lone = simp (take_rest, same) at c.piece_at.ensures.lone in
     record {
       same = c.loop-at.invariant.same;
       passed = omega (arith, c.loop-at.invariant.passed);
       state = skip_comment chars c.loop-at.at c.loop-at.start c.in-Comment.n c.loop-at.space c.loop-at.tokens.items c.loop-at.lines.items c.loop-at.invariant.state found.0 found.2;
+      lone = knows_later (codes_of chars) c.loop-at.at c.in-Comment.n c.piece_at.new.lone known;
     }
 
 pub loop-at-preserved : goal.loop-at-preserved
 loop-at-preserved c =
     let chars = c.args.text.now.chars in
     let same = c.codes-in-loop-at.ensures ∙ ap codes_of c.loop-at.invariant.same in
-    let found = simp (take_rest, c.deref.ensures.value, same) at c.in-Token.ensures in
+    let found = simp (take_rest, c.deref.ensures.value, same) at c.in-Token.ensures.finds in
     let token = c.in_ok-token_from-in-Token.ensures.token ∙ ap (λ (z : List Char). token_of c.in-Token.kind c.loop-at.space (take c.in-Token.n (drop c.loop-at.at z))) c.loop-at.invariant.same in
+    let known : KnowsLone (drop c.loop-at.at (codes_of chars)) c.piece_at.new.lone = simp (take_rest, same) at c.piece_at.ensures.lone in
     record {
       same = c.token_from.ensures.chars ∙ c.loop-at.invariant.same;
       passed = omega (arith, c.token_from.ensures.passed);
       state = rw c.in_ok-push-in-Token.ensures.items (add_token chars c.loop-at.at c.loop-at.start c.in-Token.n c.loop-at.space c.loop-at.tokens.items c.loop-at.lines.items c.in-Token.kind c.in_ok-token_from-in-Token.field-0 c.loop-at.invariant.state token found.0 found.2);
+      lone = knows_later (codes_of chars) c.loop-at.at c.in-Token.n c.piece_at.new.lone known;
     }
 
 pub returns-in-Unclosed : goal.returns-in-Unclosed
@@ -76,7 +87,7 @@ returns-in-Unclosed c =
     let chars = c.args.text.now.chars in
     let l = codes_length chars in
     let same = c.codes-in-loop-at.ensures ∙ ap codes_of c.loop-at.invariant.same in
-    let found = simp (take_rest, same) at c.in-Unclosed.ensures in
+    let found = simp (take_rest, same) at c.in-Unclosed.ensures.finds in
     let first_length = ap length (c.codes.ensures ∙ ap codes_of c.loop-at.invariant.same) in
     let here = c.place.ensures.place first ∙ ap (λ (z : List Char). (get_or z c.loop-at.at first).at) c.loop-at.invariant.same ∙ head_of_drop chars c.loop-at.at first (omega arith) in
     never_closed chars c.loop-at.at c.loop-at.start c.loop-at.space c.loop-at.tokens.items c.loop-at.lines.items c.place.result c.loop-at.invariant.state here found

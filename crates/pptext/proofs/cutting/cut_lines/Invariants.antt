@@ -1,4 +1,6 @@
-use Rattle.std.proofs.Common.{◌≡◌, ℕ, ◌+◌, ◌-◌, ◌≤◌, length}
+use Rattle.std.proofs.Common.{◌≡◌, ℕ, ◌+◌, ◌-◌, ◌≤◌, length, drop}
+use Rattle.pptext.specs.Clean.{codes_of}
+use Rattle.pptext.specs.Lone.{KnowsLone}
 use Rattle.pptext.proofs.CutLoop.{State}
 use Rattle.pptext.proofs.cutting.cut_lines.Given as goal
 
@@ -7,6 +9,7 @@ invariant-loop-at l = record {
   same : l.text.chars ≡ l.initial.text.chars;
   passed : l.text.passed ≤ l.at;
   state : State l.initial.text.chars l.at l.start l.space l.tokens.items l.lines.items;
+  lone : KnowsLone (drop l.at (codes_of l.initial.text.chars)) l.lone;
 }
 
 abbrev pub decreases-loop-at : goal.decreases-loop-at

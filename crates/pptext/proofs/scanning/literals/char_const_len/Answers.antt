@@ -1,7 +1,6 @@
-use Rattle.std.proofs.Common.{◌≡◌, ℕ, ◌+◌, ◌-◌, ◌<◌, List, length, drop, take, get_or, true, arith, sym, ◌∙◌}
+use Rattle.std.proofs.Common.{◌≡◌, ◌-◌, ◌<◌, length, drop, get_or, true, arith, sym, ◌∙◌}
 use Rattle.std.proofs.lemmas.Bool.{false≢true}
 use Rattle.std.proofs.lemmas.List.{take_rest}
-use Rattle.pptext.specs.Languages.{OnlyPart}
 use Rattle.pptext.proofs.Fronts.{only_zero}
 use Rattle.pptext.proofs.Combine.{then_none_first, then_lacks_rest, then_found}
 use Rattle.pptext.proofs.Literals.{CharOpening, char_const_part}

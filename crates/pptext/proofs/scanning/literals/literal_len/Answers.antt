@@ -1,4 +1,4 @@
-use Rattle.std.proofs.Common.{◌≡◌, ℕ, ◌+◌, ◌-◌, ◌≤◌, ◌<◌, length, drop, take, arith, List, sym, subst}
+use Rattle.std.proofs.Common.{◌≡◌, ◌+◌, ◌-◌, ◌≤◌, length, drop, arith, subst}
 use Rattle.std.proofs.lemmas.List.{take_rest, length-drop}
 use Rattle.pptext.specs.Languages.{NoFront, IsOnly}
 use Rattle.pptext.specs.Lone.{IsQuoted, AreLone}

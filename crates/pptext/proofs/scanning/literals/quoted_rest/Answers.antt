@@ -1,4 +1,4 @@
-use Rattle.std.proofs.Common.{◌≡◌, ℕ, ◌+◌, ◌-◌, ◌≤◌, ◌<◌, length, drop, take, get_or, arith, List, sym, ◌∙◌}
+use Rattle.std.proofs.Common.{◌≡◌, ◌<◌, drop, get_or, arith, sym, ◌∙◌}
 use Rattle.std.proofs.lemmas.List.{take_rest}
 use Rattle.pptext.specs.Languages.{OnlyPart, NoFront}
 use Rattle.pptext.specs.Spellings.{IsElement}

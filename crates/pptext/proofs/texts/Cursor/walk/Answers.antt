@@ -1,10 +1,10 @@
-use Rattle.std.proofs.Common.{◌≡◌, ◌+◌, ◌-◌, ◌<◌, length, drop, get_or, sym, ap, ◌∙◌, subst, arith}
+use Rattle.std.proofs.Common.{◌≡◌, ◌+◌, ◌-◌, ◌<◌, ◌≤◌, length, drop, take, get_or, sym, ap, ◌∙◌, subst, arith}
 use Rattle.std.proofs.lemmas.List.{take_rest}
 use Rattle.pptext.specs.declared.texts.Cursor.{Cursor}
 use Rattle.pptext.specs.declared.characters.steps.Step.TheVariants.{Code, Removed}
-use Rattle.pptext.specs.Steps.{open_end, step_of}
+use Rattle.pptext.specs.Steps.{PlainFront, open_end, step_of}
 use Rattle.pptext.specs.Texts.{Stands, text_from}
-use Rattle.pptext.proofs.Cursors.{bounds, skip_removed, pass_code, stands_at_code, stands_at_end}
+use Rattle.pptext.proofs.Cursors.{bounds, pass_code, pass_plain, plain_short, plain_taken, skip_removed, stands_at_code, stands_at_end}
 use Rattle.pptext.proofs.texts.Cursor.walk.Goals as goal
 
 pub skip-cursor-requires-clause-line : goal.skip-cursor-requires-clause-line
@@ -13,11 +13,33 @@ skip-cursor-requires-clause-line c = (bounds c.args.self.at.file c.args.raw.now 
 pub skip-cursor-requires-clause-col : goal.skip-cursor-requires-clause-col
 skip-cursor-requires-clause-col c = (bounds c.args.self.at.file c.args.raw.now c.loop-cursor.cursor c.loop-cursor.invariant.stands).col
 
+pub skip-cursor-requires-in-Removed-clause-line : goal.skip-cursor-requires-in-Removed-clause-line
+skip-cursor-requires-in-Removed-clause-line c = (bounds c.args.self.at.file c.args.raw.now c.loop-cursor.cursor c.loop-cursor.invariant.stands).line
+
+pub skip-cursor-requires-in-Removed-clause-col : goal.skip-cursor-requires-in-Removed-clause-col
+skip-cursor-requires-in-Removed-clause-col c = (bounds c.args.self.at.file c.args.raw.now c.loop-cursor.cursor c.loop-cursor.invariant.stands).col
+
 pub skip-cursor-requires-in-Code-clause-line : goal.skip-cursor-requires-in-Code-clause-line
 skip-cursor-requires-in-Code-clause-line c = (bounds c.args.self.at.file c.args.raw.now c.loop-cursor.cursor c.loop-cursor.invariant.stands).line
 
 pub skip-cursor-requires-in-Code-clause-col : goal.skip-cursor-requires-in-Code-clause-col
 skip-cursor-requires-in-Code-clause-col c = (bounds c.args.self.at.file c.args.raw.now c.loop-cursor.cursor c.loop-cursor.invariant.stands).col
+
+pub loop-cursor-preserved-then-plain-gt0 : goal.loop-cursor-preserved-then-plain-gt0
+loop-cursor-preserved-then-plain-gt0 c =
+    let raw = c.args.raw.now in
+    let cursor = c.loop-cursor.cursor in
+    let o = cursor.offset in
+    let n = c.plain_len-plain.result in
+    let m = c.min.result in
+    let front : PlainFront (take m (drop o raw)) n = simp take_rest at c.plain_len-plain.ensures in
+    let short : n ≤ m = plain_short m (drop o raw) n front in
+    let s = pass_plain c.args.self.at.file raw cursor n c.loop-cursor.invariant.stands (omega arith) (plain_taken m (drop o raw) n front) in
+    let passed : c.skip-cursor.result.passed ≡ cursor.passed = ap (λ (x : Cursor). x.passed) c.skip-cursor.ensures in
+    record {
+      forward = omega (arith, c.min.ensures, c.loop-cursor.invariant.forward);
+      stands = subst (λ (x : Cursor). Stands c.args.self.at.file raw (record { passed = x.passed + n; offset = x.offset; at = x.at })) (sym c.skip-cursor.ensures) s.1;
+    }
 
 pub loop-cursor-smaller-in-Removed : goal.loop-cursor-smaller-in-Removed
 loop-cursor-smaller-in-Removed c =
@@ -28,8 +50,8 @@ loop-cursor-smaller-in-Removed c =
     let n = c.in-Removed.len in
     let is : step_of (open_end raw) (drop o raw) ≡ Removed n = ap (λ s. step_of s (drop o raw)) (sym c.has_open_end-supplied.ensures) ∙ sym (simp take_rest at c.in-Removed.ensures) in
     let s = skip_removed c.args.self.at.file raw cursor n stands c.loop-cursor-test.true is in
-    let skip : c.skip-cursor.result.offset ≡ o + n = ap (λ (x : Cursor). x.offset) c.skip-cursor.ensures in
-    let less : length raw - c.skip-cursor.result.offset < length raw - o = omega (arith, s.0) in
+    let skip : c.skip-cursor-in-Removed.result.offset ≡ o + n = ap (λ (x : Cursor). x.offset) c.skip-cursor-in-Removed.ensures in
+    let less : length raw - c.skip-cursor-in-Removed.result.offset < length raw - o = omega (arith, s.0) in
     less
 
 pub loop-cursor-preserved-in-Removed : goal.loop-cursor-preserved-in-Removed
@@ -41,8 +63,8 @@ loop-cursor-preserved-in-Removed c =
     let n = c.in-Removed.len in
     let is : step_of (open_end raw) (drop o raw) ≡ Removed n = ap (λ s. step_of s (drop o raw)) (sym c.has_open_end-supplied.ensures) ∙ sym (simp take_rest at c.in-Removed.ensures) in
     let s = skip_removed c.args.self.at.file raw cursor n stands c.loop-cursor-test.true is in
-    let passed = ap (λ (x : Cursor). x.passed) c.skip-cursor.ensures in
-    record { forward = omega (arith, c.loop-cursor.invariant.forward); stands = subst (Stands c.args.self.at.file raw) (sym c.skip-cursor.ensures) s.2 }
+    let passed = ap (λ (x : Cursor). x.passed) c.skip-cursor-in-Removed.ensures in
+    record { forward = omega (arith, c.loop-cursor.invariant.forward); stands = subst (Stands c.args.self.at.file raw) (sym c.skip-cursor-in-Removed.ensures) s.2 }
 
 pub returns-then-cursor-to-clause-file : goal.returns-then-cursor-to-clause-file
 returns-then-cursor-to-clause-file c = (bounds c.args.self.at.file c.args.raw.now c.loop-cursor.cursor c.loop-cursor.invariant.stands).same_file

@@ -1,5 +1,5 @@
 use Rattle.std.proofs.Common.{◌≡◌, inr, ⊎_elim, arith}
-use Rattle.pptext.proofs.tokenizing.token_knowing.Goals as goal
+use Rattle.pptext.proofs.tokenizing.token_at.Goals as goal
 
 pub returns-clause-stands : goal.returns-clause-stands
 returns-clause-stands c =
