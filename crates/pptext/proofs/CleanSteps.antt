@@ -1,5 +1,5 @@
 -- One step of phases 1 and 2 in one reading, against the three passes.
-use Rattle.std.proofs.Common.{◌≡◌, ℕ, zero, suc, ◌+◌, ◌-◌, ◌<◌, ◌≤◌, Bool, true, false, not, ◌==◌, ◌&&◌, ◌||◌, if◌then◌else◌, List, [], ◌∷◌, ◌++◌, length, take, drop, map, get_or, refl, sym, ap, ◌∙◌, subst, arith, rules, Option, None, Some, length-append, length-drop}
+use Rattle.std.proofs.Common.{◌≡◌, ℕ, zero, suc, ◌+◌, ◌<◌, ◌≤◌, Bool, true, false, ◌==◌, ◌&&◌, if◌then◌else◌, List, [], ◌∷◌, ◌++◌, length, take, drop, refl, sym, ap, ◌∙◌, subst, arith, Option, None, Some, length-append, length-drop}
 use Rattle.std.proofs.lemmas.Bool.{false≢true}
 use Rattle.std.proofs.lemmas.Bool.Decides.{nat_tests}
 use Rattle.std.proofs.lemmas.List.{drop-map, drop-drop, drop_all, length-map}
@@ -7,8 +7,8 @@ use Rattle.pptext.specs.declared.tokens.Place.{Place}
 use Rattle.pptext.specs.declared.characters.Char.{Char}
 use Rattle.pptext.specs.declared.characters.steps.Step.{Step}
 use Rattle.pptext.specs.declared.characters.steps.Step.TheVariants.{Code, Removed}
-use Rattle.pptext.specs.Clean.{codes_of, head_code, newline, backslash, is_return_at, without_returns, trigraph, trigraph_at, trigraphs_behind, trigraphs, splice_at, splices_behind, splices, splice_at_end}
-use Rattle.pptext.specs.Steps.{open_end, is_special, PlainFront, trigraph_front, return_front, newline_front, spliced, coded, step_of}
+use Rattle.pptext.specs.Clean.{codes_of, head_code, is_return_at, without_returns, trigraph, trigraph_at, trigraphs_behind, trigraphs, splices, splice_at_end}
+use Rattle.pptext.specs.Steps.{open_end, trigraph_front, return_front, newline_front, spliced, coded, step_of}
 use Rattle.pptext.specs.Texts.{supply, logical}
 
 pub and_false : (b : Bool) → (b && false) ≡ false

@@ -1,13 +1,12 @@
 -- A file's text from an offset on, one step of the reading after another, and the copy made of it.
-use Rattle.std.proofs.Common.{◌≡◌, ℕ, zero, suc, ◌+◌, ◌-◌, ◌<◌, ◌≤◌, Bool, true, false, not, ◌==◌, ◌&&◌, ◌||◌, if◌then◌else◌, List, [], ◌∷◌, ◌++◌, length, take, drop, get_or, refl, sym, ap, ◌∙◌, subst, arith, Option, None, Some, Result, Ok, Err, length-drop, append_assoc, add-zero}
+use Rattle.std.proofs.Common.{◌≡◌, ℕ, zero, suc, ◌+◌, ◌<◌, ◌≤◌, Bool, true, false, not, ◌==◌, ◌||◌, if◌then◌else◌, List, [], ◌∷◌, ◌++◌, length, take, drop, get_or, refl, sym, ap, ◌∙◌, subst, arith, Option, None, Some, Ok, Err, length-drop, append_assoc, add-zero}
 use Rattle.std.proofs.lemmas.Bool.{false≢true}
-use Rattle.std.proofs.lemmas.Bool.Decides.{nat_tests}
 use Rattle.std.proofs.lemmas.List.{drop_more, drop-drop, drop_all, take_all, take_more, get_or-drop, length-map, append-nil}
 use Rattle.pptext.specs.declared.tokens.Place.{Place}
 use Rattle.pptext.specs.declared.characters.Char.{Char}
 use Rattle.pptext.specs.declared.characters.steps.Step.{Step}
 use Rattle.pptext.specs.declared.characters.steps.Step.TheVariants.{Code, Removed}
-use Rattle.pptext.specs.Clean.{cleaned, codes_of, line_ends, newline, backslash, placed, place, next_col, without_returns, is_return_at, missing_newline, splices, splice_at_end, terminated, trigraphs, unless_at, unmarked}
+use Rattle.pptext.specs.Clean.{cleaned, codes_of, newline, backslash, placed, place, next_col, without_returns, is_return_at, missing_newline, splices, splice_at_end, trigraphs, unless_at, unmarked}
 use Rattle.pptext.specs.Steps.{open_end, step_of, is_special, PlainFront, return_front, trigraph_front, newline_front, coded, spliced, behind_byte, place_behind}
 use Rattle.pptext.specs.Texts.{supply, logical, start, logical_from, text_from, end_from, Copied, Whole, EndsAt}
 use Rattle.pptext.proofs.CleanSteps.{CodeStep, RemovedStep, Outcome, outcome, open_end_drop, and_false, dropped, kept, returns_some}

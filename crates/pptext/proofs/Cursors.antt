@@ -1,15 +1,15 @@
 -- A cursor over a file's bytes, which stands in front of one character after another.
-use Rattle.std.proofs.Common.{◌≡◌, ℕ, zero, suc, ◌+◌, ◌-◌, ◌<◌, ◌≤◌, Bool, true, false, if◌then◌else◌, List, [], ◌∷◌, ◌++◌, length, take, drop, get_or, refl, sym, ap, ◌∙◌, subst, arith, Option, None, Some, length-drop, add-zero}
+use Rattle.std.proofs.Common.{◌≡◌, ℕ, ◌+◌, ◌<◌, ◌≤◌, Bool, true, false, List, [], ◌∷◌, length, take, drop, get_or, sym, ap, ◌∙◌, arith, None, Some, length-drop, add-zero}
 use Rattle.std.proofs.lemmas.List.{drop-drop, get_or-drop, get_or-take, take_all, length-take, length-take-le}
 use Rattle.pptext.specs.declared.tokens.Place.{Place}
 use Rattle.pptext.specs.declared.characters.Char.{Char}
 use Rattle.pptext.specs.declared.characters.steps.Step.TheVariants.{Code, Removed}
 use Rattle.pptext.specs.declared.texts.Cursor.{Cursor}
-use Rattle.pptext.specs.Clean.{splices, splice_at_end}
+use Rattle.pptext.specs.Clean.{splices}
 use Rattle.pptext.specs.Steps.{PlainFront, is_special, open_end, step_of, place_behind}
-use Rattle.pptext.specs.Texts.{supply, start, text_from, end_from, Stands}
-use Rattle.pptext.proofs.Offsets.{Behind, behind_append, behind_bounds, take_add}
-use Rattle.pptext.proofs.Copies.{CodeAt, RemovedAt, code_at, removed_at, at_end, plain_from}
+use Rattle.pptext.specs.Texts.{supply, start, text_from, Stands}
+use Rattle.pptext.proofs.Offsets.{behind_append, behind_bounds, take_add}
+use Rattle.pptext.proofs.Copies.{RemovedAt, code_at, removed_at, at_end, plain_from}
 
 -- the bounds of a cursor's place
 pub record Bounds (file : ℕ) (c : Cursor) : Type 0 where

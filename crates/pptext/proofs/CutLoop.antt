@@ -1,15 +1,14 @@
 -- The loop that cuts a text: what it keeps, and each of its turns.
-use Rattle.std.proofs.Common.{◌≡◌, ℕ, zero, suc, ◌+◌, ◌-◌, ◌<◌, ◌≤◌, Bool, true, false, List, [], ◌∷◌, ◌++◌, length, take, drop, map, refl, sym, ap, ◌∙◌, subst, inl, inr, ◌⊎◌, arith, rules, append_assoc, length-append, length-drop, length-take, get_or, None, Ok, IsTrue, add-zero}
+use Rattle.std.proofs.Common.{◌≡◌, ℕ, zero, suc, ◌+◌, ◌-◌, ◌<◌, ◌≤◌, Bool, true, false, List, [], ◌∷◌, ◌++◌, length, take, drop, refl, sym, ap, ◌∙◌, subst, arith, length-drop, get_or, None, Ok, IsTrue, add-zero}
 use Rattle.std.proofs.lemmas.List.{append-nil, length-map, take-append-drop, drop-drop, length-take-le, take-append-le, drop-append-le, take_rest, drop_all, length_push, take-map, drop-map, drop_more, drop-take, take-take}
-use Rattle.std.proofs.lemmas.Bool.{cases_lt}
 use Rattle.pptext.specs.declared.tokens.Token.{Token}
 use Rattle.pptext.specs.declared.tokens.Place.{Place}
 use Rattle.pptext.specs.declared.tokens.Kind.{Kind}
 use Rattle.pptext.specs.declared.characters.Char.{Char}
 use Rattle.pptext.specs.declared.cutting.Ending.{Ending}
-use Rattle.pptext.specs.Clean.{codes_of, place}
-use Rattle.pptext.specs.Cut.{Piece, Sort, NewLine, Blank, Comment, Spelled, laid, line_after, with_piece, StandsAt, CutUpTo, Cut, head_place, Unclosed, OpensBlock, ClosesAt, BeginsWith}
-use Rattle.pptext.specs.Lines.{Row, lines_of, rows_behind, rows_ended, leaves_space, tokens_after, token_of}
+use Rattle.pptext.specs.Clean.{codes_of}
+use Rattle.pptext.specs.Cut.{Piece, Sort, NewLine, Blank, Comment, Spelled, line_after, with_piece, StandsAt, CutUpTo, head_place, Unclosed, OpensBlock, ClosesAt, BeginsWith}
+use Rattle.pptext.specs.Lines.{Row, rows_ended, leaves_space, tokens_after, token_of}
 use Rattle.pptext.specs.Tokens.{spelled}
 use Rattle.pptext.specs.Spellings.{is_blank}
 use Rattle.pptext.specs.Finds.{rows_by_ends, AreEnds, CutsInto}

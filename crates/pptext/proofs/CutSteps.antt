@@ -1,12 +1,10 @@
 -- A cut grows by one piece; the lines_of of the pieces grow with it.
-use Rattle.std.proofs.Common.{◌≡◌, ℕ, zero, suc, ◌+◌, ◌-◌, ◌<◌, ◌≤◌, Bool, true, false, List, [], ◌∷◌, ◌++◌, length, take, drop, refl, sym, ap, ◌∙◌, subst, arith, rules, append_assoc}
-use Rattle.std.specs.List.{flat_map}
+use Rattle.std.proofs.Common.{◌≡◌, ℕ, Bool, true, List, [], ◌∷◌, ◌++◌, length, refl, sym, ap, ◌∙◌, subst, append_assoc}
 use Rattle.std.proofs.lemmas.List.{append-nil}
 use Rattle.pptext.specs.declared.tokens.Token.{Token}
-use Rattle.pptext.specs.declared.tokens.Kind.{Kind}
 use Rattle.pptext.specs.declared.characters.Char.{Char}
 use Rattle.pptext.specs.Clean.{codes_of}
-use Rattle.pptext.specs.Cut.{Piece, Sort, NewLine, Blank, Comment, Spelled, laid, line_after, with_piece, StandsAt, EachStands, CutUpTo}
+use Rattle.pptext.specs.Cut.{Piece, laid, line_after, with_piece, StandsAt, EachStands, CutUpTo}
 use Rattle.pptext.specs.Lines.{Row, rows_behind, rows_ended, leaves_space, tokens_after}
 
 laid-append : (ps qs : List Piece) → laid (ps ++ qs) ≡ laid ps ++ laid qs

@@ -1,11 +1,11 @@
 -- Fronts of a text in a language.
-use Rattle.std.proofs.Common.{◌≡◌, ℕ, zero, suc, ◌+◌, ◌-◌, ◌<◌, ◌≤◌, Bool, true, false, ◌||◌, List, [], ◌∷◌, ◌++◌, length, take, drop, refl, sym, ap, ◌∙◌, subst, inl, inr, ◌⊎◌, arith, rules, length-append, length-take, length-drop, append_assoc, IsTrue, get_or}
-use Rattle.std.specs.List.{AllByRecursion, AllPass, flat_map}
-use Rattle.std.proofs.lemmas.List.{length-take-le, take-append-drop, take_at, drop_at}
+use Rattle.std.proofs.Common.{◌≡◌, ℕ, ◌+◌, ◌-◌, ◌<◌, ◌≤◌, Bool, true, false, List, [], ◌∷◌, ◌++◌, length, take, drop, refl, sym, ap, ◌∙◌, subst, inl, inr, ◌⊎◌, arith, length-drop, IsTrue, get_or}
+use Rattle.std.specs.List.{AllPass}
+use Rattle.std.proofs.lemmas.List.{length-take-le}
 use Rattle.std.proofs.Math.Seq.{take-add}
 use Rattle.std.proofs.lemmas.Bool.{false≢true}
 use Rattle.std.proofs.lemmas.Bool.Decides.{nat_tests}
-use Rattle.pptext.specs.Languages.{Exactly, One, Then, Either, IsRun, Repeated, Longest, NoFront, IsNext, NextPart, IsOnly, OnlyPart}
+use Rattle.pptext.specs.Languages.{Exactly, One, Then, Either, IsRun, NoFront, IsNext, IsOnly, OnlyPart}
 use Rattle.pptext.specs.Spellings.{is_digit, is_hex, is_nondigit, IsUniversal, IsNondigit}
 use Rattle.pptext.specs.Cut.{BeginsWith}
 use Rattle.pptext.proofs.Parts.{front_of, front_length, behind_front}

@@ -1,14 +1,13 @@
 -- A cleaned text ends in a new-line, so that each token stands on a line.
-use Rattle.std.proofs.Common.{◌≡◌, ℕ, zero, suc, ◌+◌, ◌-◌, ◌<◌, ◌≤◌, Bool, true, false, ◌||◌, ◌&&◌, ◌==◌, if◌then◌else◌, List, [], ◌∷◌, ◌++◌, length, take, drop, refl, sym, ap, ◌∙◌, subst, inl, inr, ◌⊎◌, arith, append_assoc, length-append, get_or, IsTrue, None, Some, Ok, Err}
-use Rattle.std.specs.Prelude.{Option, Result, codes}
-use Rattle.std.proofs.lemmas.Bool.{false≢true, and_parts}
+use Rattle.std.proofs.Common.{◌≡◌, ℕ, zero, suc, ◌+◌, ◌<◌, Bool, true, false, ◌&&◌, ◌==◌, if◌then◌else◌, List, [], ◌∷◌, ◌++◌, length, drop, refl, sym, ap, ◌∙◌, subst, inl, inr, ◌⊎◌, arith, append_assoc, length-append, get_or, IsTrue, None, Some, Ok}
+use Rattle.std.specs.Prelude.{Option}
+use Rattle.std.proofs.lemmas.Bool.{false≢true}
 use Rattle.std.proofs.lemmas.Bool.Decides.{nat_tests}
 use Rattle.std.proofs.lemmas.List.{append-nil, length-map, map-append, take_all, get_or-drop}
 use Rattle.pptext.specs.declared.tokens.Place.{Place}
 use Rattle.pptext.specs.declared.tokens.Token.{Token}
-use Rattle.pptext.specs.declared.tokens.Kind.{Kind}
 use Rattle.pptext.specs.declared.characters.Char.{Char}
-use Rattle.pptext.specs.Clean.{codes_of, newline, next_col, missing_newline, terminated, line_ends, trigraph, trigraph_at, trigraphs_behind, trigraphs, splice_at, splices_behind, splices, splice_at_end, unless_at, cleaned}
+use Rattle.pptext.specs.Clean.{codes_of, newline, next_col, terminated, line_ends, trigraph, trigraph_at, trigraphs_behind, trigraphs, splice_at, splices_behind, splices, splice_at_end, unless_at, cleaned}
 use Rattle.pptext.specs.Spellings.{is_blank, IsHeader, Spells}
 use Rattle.pptext.specs.Cut.{Piece, Sort, NewLine, Blank, Comment, Spelled, StandsAt, CommentAt, EachStands, Cut, laid, with_piece, BeginsWith}
 use Rattle.pptext.specs.Lines.{lines_of, rows_behind, rows_ended, leaves_space, tokens_after, token_of}

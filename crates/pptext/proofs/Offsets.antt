@@ -1,14 +1,11 @@
 -- A file's characters from an offset on, and where they stand.
-use Rattle.std.proofs.Common.{◌≡◌, ℕ, zero, suc, ◌+◌, ◌-◌, ◌<◌, ◌≤◌, Bool, true, false, not, ◌==◌, ◌&&◌, if◌then◌else◌, List, [], ◌∷◌, ◌++◌, length, take, drop, get_or, refl, sym, ap, ◌∙◌, subst, arith, Option, None, Some, length-drop}
-use Rattle.std.proofs.lemmas.List.{drop_more, drop-drop, drop_all, take_all, take-append-drop, take-take, drop-take, length-map}
+use Rattle.std.proofs.Common.{◌≡◌, ℕ, zero, suc, ◌+◌, ◌-◌, ◌<◌, ◌≤◌, true, false, not, ◌==◌, if◌then◌else◌, List, [], ◌∷◌, ◌++◌, length, take, drop, get_or, refl, sym, ap, ◌∙◌, arith, length-drop}
+use Rattle.std.proofs.lemmas.List.{drop_more, take-append-drop, take-take, drop-take, length-map}
 use Rattle.pptext.specs.declared.tokens.Place.{Place}
 use Rattle.pptext.specs.declared.characters.Char.{Char}
-use Rattle.pptext.specs.declared.characters.steps.Step.{Step}
-use Rattle.pptext.specs.declared.characters.steps.Step.TheVariants.{Code, Removed}
-use Rattle.pptext.specs.Clean.{codes_of, newline, placed, place, next_col, without_returns, is_return_at, missing_newline, splices, splice_at_end}
-use Rattle.pptext.specs.Steps.{open_end, step_of, behind_byte, place_behind}
-use Rattle.pptext.specs.Texts.{supply, logical, start, logical_from, text_from, end_from}
-use Rattle.pptext.proofs.CleanSteps.{CodeStep, RemovedStep, Outcome, outcome}
+use Rattle.pptext.specs.Clean.{codes_of, newline, placed, place, next_col}
+use Rattle.pptext.specs.Steps.{open_end, behind_byte, place_behind}
+use Rattle.pptext.specs.Texts.{start}
 
 pub end_is : (n : ℕ) (bs : List ℕ) → length bs ≡ suc n → open_end bs ≡ not (get_or bs n 0 == 10)
 end_is n [] e = absurd (omega arith)

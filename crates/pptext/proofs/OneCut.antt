@@ -1,10 +1,10 @@
 -- A text has one cut, and one place at most where a comment is not closed.
-use Rattle.std.proofs.Common.{◌≡◌, ℕ, ◌+◌, ◌<◌, ◌≤◌, List, [], ◌∷◌, ◌++◌, length, take, drop, refl, sym, ap, ◌∙◌, subst, arith, append_assoc, length-append, None}
-use Rattle.std.proofs.lemmas.List.{append-nil, take_at, drop_at}
+use Rattle.std.proofs.Common.{◌≡◌, ℕ, ◌≤◌, List, [], ◌∷◌, ◌++◌, length, take, drop, refl, sym, ap, ◌∙◌, subst, arith, append_assoc, length-append, None}
+use Rattle.std.proofs.lemmas.List.{take_at, drop_at}
 use Rattle.pptext.specs.declared.tokens.Place.{Place}
 use Rattle.pptext.specs.declared.characters.Char.{Char}
 use Rattle.pptext.specs.Clean.{codes_of}
-use Rattle.pptext.specs.Cut.{Piece, Sort, laid, with_piece, StandsAt, EachStands, CutUpTo, Cut, OpensBlock, ClosesAt, Unclosed, head_place}
+use Rattle.pptext.specs.Cut.{Piece, Sort, laid, with_piece, StandsAt, EachStands, Cut, OpensBlock, ClosesAt, Unclosed, head_place}
 use Rattle.pptext.proofs.OnePiece.{one_piece, some_piece, no_piece_open}
 
 -- no piece can stand at the beginning of this rest

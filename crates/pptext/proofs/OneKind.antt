@@ -1,7 +1,7 @@
 -- No two kinds share a spelling, and no spelling begins with white space.
-use Rattle.std.proofs.Common.{◌≡◌, ℕ, zero, suc, ◌+◌, ◌<◌, ◌≤◌, Bool, true, false, not, ◌||◌, ◌&&◌, ◌==◌, List, [], ◌∷◌, ◌++◌, length, refl, sym, ap, ◌∙◌, subst, inl, inr, ◌⊎◌, arith, rules, append_assoc, length-append, get_or, IsTrue, drop}
+use Rattle.std.proofs.Common.{◌≡◌, ℕ, ◌<◌, Bool, true, false, not, ◌||◌, ◌&&◌, ◌==◌, List, [], ◌∷◌, ◌++◌, length, refl, sym, ap, ◌∙◌, subst, inl, inr, arith, append_assoc, length-append, get_or, drop}
 use Rattle.std.specs.Prelude.{Contains}
-use Rattle.std.specs.List.{list_any, list_all, AllByRecursion, AllPass, flat_map}
+use Rattle.std.specs.List.{list_any, list_all, AllByRecursion, flat_map}
 use Rattle.std.specs.Str.{bytes_eq}
 use Rattle.std.proofs.lemmas.Bool.{false≢true, and_parts, and_from}
 use Rattle.std.proofs.lemmas.Bool.Decides.{nat_tests}
@@ -11,7 +11,7 @@ use Rattle.std.proofs.lemmas.Slice.Eq.{bytes_eq-Decides}
 use Rattle.pptext.specs.declared.tokens.Kind.{Kind}
 use Rattle.pptext.specs.declared.tokens.Kind.TheVariants.{Ident, Number, CharConst, Str, Punct, Header, Other}
 use Rattle.pptext.specs.Languages.{Exactly, One, Then, Either, IsRun, Repeated}
-use Rattle.pptext.specs.Spellings.{is_digit, is_hex, is_nondigit, is_blank, is_exponent, is_sign, IsUniversal, IsNondigit, IsIdent, IsNumberPart, IsNumber, IsElement, char_prefixes, str_prefixes, IsCharConst, IsStr, punctuators, is_punctuator, IsPunct, IsOther, Spells}
+use Rattle.pptext.specs.Spellings.{is_digit, is_hex, is_nondigit, is_blank, is_exponent, is_sign, IsUniversal, IsNondigit, IsIdent, IsNumberPart, IsNumber, char_prefixes, str_prefixes, IsCharConst, IsStr, punctuators, IsPunct, Spells}
 
 -- the first character passes the test
 abbrev pub begins : (ℕ → Bool) → List ℕ → Bool

@@ -1,17 +1,17 @@
 -- At each place of a text one piece can stand, and it isn't empty; where an unclosed comment opens, none can.
-use Rattle.std.proofs.Common.{◌≡◌, ℕ, zero, suc, ◌+◌, ◌-◌, ◌<◌, ◌≤◌, Bool, true, false, not, ◌||◌, ◌==◌, List, [], ◌∷◌, ◌++◌, length, take, drop, refl, sym, ap, ◌∙◌, subst, inl, inr, ◌⊎◌, arith, rules, append_assoc, length-append, IsTrue, None, Some}
+use Rattle.std.proofs.Common.{◌≡◌, ℕ, zero, suc, ◌+◌, ◌<◌, ◌≤◌, Bool, true, false, not, ◌||◌, ◌==◌, List, [], ◌∷◌, ◌++◌, length, take, drop, refl, sym, ap, ◌∙◌, subst, inl, inr, ◌⊎◌, arith, append_assoc, length-append, IsTrue, None, Some}
 use Rattle.std.specs.Prelude.{Option, codes, unwrap_or}
 use Rattle.std.specs.List.{list_all, AllByRecursion, flat_map}
 use Rattle.std.proofs.lemmas.Bool.{false≢true, and_parts, and_from, cases_lt}
 use Rattle.std.proofs.lemmas.Bool.Decides.{nat_tests}
 use Rattle.std.proofs.lemmas.List.{take-append-drop, length-take-le}
-use Rattle.memchr.specs.Find.{IsFirst, Nowhere, FindsNeedle, IsFirstByte, OccursAt, Passes, is_byte}
+use Rattle.memchr.specs.Find.{IsFirst, OccursAt, Passes, is_byte}
 use Rattle.pptext.specs.declared.tokens.Kind.{Kind}
 use Rattle.pptext.specs.declared.tokens.Kind.TheVariants.{Header}
-use Rattle.pptext.specs.Languages.{Exactly, One, Then, Either, Repeated, Longest}
+use Rattle.pptext.specs.Languages.{One, Longest}
 use Rattle.pptext.specs.Spellings.{is_blank, IsBetween, IsHeader, Spells, IsSpelling}
 use Rattle.pptext.specs.Cut.{Sort, NewLine, Blank, Comment, Spelled, StandsAt, CommentAt, HeaderAt, PlainTokenAt, BeginsWith, OpensBlock, OpensLine, ClosesAt}
-use Rattle.pptext.proofs.OneKind.{begins, begins_also, begins_apart, is_visible, one_kind, spelling_visible}
+use Rattle.pptext.proofs.OneKind.{begins, begins_apart, is_visible, one_kind, spelling_visible}
 
 -- two longest fronts are one
 longest_one : (P : List ℕ → Type 0) (text : List ℕ) (m n : ℕ) → Longest P text m → Longest P text n → m ≡ n

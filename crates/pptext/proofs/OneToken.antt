@@ -1,5 +1,5 @@
 -- A text that is one token, and what the scanner finds there.
-use Rattle.std.proofs.Common.{◌≡◌, ℕ, ◌+◌, ◌<◌, ◌≤◌, Bool, true, false, if◌then◌else◌, ◌==◌, List, [], ◌∷◌, ◌++◌, length, take, drop, refl, sym, ap, ◌∙◌, subst, inl, inr, ◌⊎◌, zero, suc, ◌≢◌, arith, append_assoc, get_or, IsTrue}
+use Rattle.std.proofs.Common.{◌≡◌, ℕ, ◌+◌, ◌<◌, ◌≤◌, Bool, true, false, if◌then◌else◌, ◌==◌, List, [], ◌∷◌, ◌++◌, length, take, refl, sym, ap, ◌∙◌, subst, inl, inr, ◌⊎◌, zero, suc, ◌≢◌, arith, get_or}
 use Rattle.std.proofs.lemmas.List.{append-nil, length-map, take_at, take_all, map-append}
 use Rattle.std.specs.Prelude.{Contains}
 use Rattle.pptext.specs.declared.tokens.Kind.{Kind}
@@ -8,8 +8,8 @@ use Rattle.pptext.specs.declared.characters.Char.{Char}
 use Rattle.pptext.specs.declared.cutting.Found.{Found}
 use Rattle.pptext.specs.declared.cutting.Found.TheVariants as found
 use Rattle.pptext.specs.Clean.{codes_of, placed, newline}
-use Rattle.pptext.specs.Spellings.{is_blank, IsSpelling, Spells}
-use Rattle.pptext.specs.Cut.{Sort, NewLine, Blank, Comment, Spelled, StandsAt, EachStands, Cut, Piece, laid, with_piece, BeginsWith, OpensBlock, OpensLine, AwaitsHeader}
+use Rattle.pptext.specs.Spellings.{IsSpelling, Spells}
+use Rattle.pptext.specs.Cut.{NewLine, Blank, Comment, Spelled, StandsAt, EachStands, Cut, Piece, laid, with_piece, BeginsWith, OpensBlock, OpensLine, AwaitsHeader}
 use Rattle.pptext.specs.Sources.{IsOneToken}
 use Rattle.pptext.specs.Finds.{Finds, AreBlanks}
 use Rattle.pptext.proofs.OnePiece.{one_piece, no_piece_open}

@@ -1,11 +1,11 @@
 -- One step of each pass of phases 1 and 2.
-use Rattle.std.proofs.Common.{◌≡◌, ℕ, zero, suc, ◌+◌, ◌-◌, ◌<◌, ◌≤◌, Bool, true, false, cond, ◌==◌, ◌&&◌, eqb, List, [], ◌∷◌, ◌++◌, length, take, drop, refl, sym, ap, ◌∙◌, subst, inl, inr, arith, rules, get_or, append_assoc, add-zero, Some, None}
+use Rattle.std.proofs.Common.{◌≡◌, ℕ, zero, suc, ◌+◌, ◌-◌, ◌<◌, ◌≤◌, Bool, true, false, cond, ◌==◌, ◌&&◌, List, [], ◌∷◌, ◌++◌, length, drop, refl, sym, ap, ◌∙◌, arith, get_or, append_assoc, add-zero, Some, None}
 use Rattle.std.proofs.lemmas.Bool.{false≢true}
 use Rattle.std.proofs.lemmas.Bool.Decides.{nat_tests}
-use Rattle.std.proofs.lemmas.List.{drop-drop, length-drop, drop_more, get_or-drop, get_or_default}
+use Rattle.std.proofs.lemmas.List.{drop-drop, length-drop, get_or-drop, get_or_default}
 use Rattle.pptext.specs.declared.tokens.Place.{Place}
 use Rattle.pptext.specs.declared.characters.Char.{Char}
-use Rattle.pptext.specs.Clean.{splice_at, splices_behind, trigraph_at, trigraphs_behind, trigraph, is_return_at, without_returns, place, head_code, missing_newline, next_col, splice_at_end}
+use Rattle.pptext.specs.Clean.{splice_at, splices_behind, trigraph_at, trigraphs_behind, is_return_at, without_returns, place, missing_newline, next_col, splice_at_end}
 
 and_false : (b : Bool) → b && false ≡ true → ⊥
 and_false true e = false≢true e

@@ -1,5 +1,5 @@
 -- What reading a file answers, unless memory ran out.
-use Rattle.std.specs.Prelude.{◌≡◌, List, [], Result, Ok, Err, Option, None, Some}
+use Rattle.std.specs.Prelude.{◌≡◌, List, [], Result, Ok, Err, None, Some}
 use Rattle.pptext.specs.declared.tokens.Fault.{Fault}
 use Rattle.pptext.specs.declared.sources.Source.{Source}
 use Rattle.pptext.specs.declared.sources.SourceFault.{SourceFault}

@@ -1,10 +1,10 @@
 -- Translation phase 3 (5.1.1.2, 6.4): the characters of a text cut into comments, white space, new-lines and tokens.
-use Rattle.std.specs.Prelude.{◌≡◌, ℕ, ◌+◌, ◌<◌, ◌≤◌, List, [], ◌∷◌, ◌++◌, Bool, IsTrue, length, take, drop, ◌⊎◌, codes, Option, None, Some, unwrap_or}
+use Rattle.std.specs.Prelude.{◌≡◌, ℕ, ◌+◌, ◌≤◌, List, [], ◌∷◌, ◌++◌, IsTrue, length, take, drop, ◌⊎◌, codes, Option, None, Some, unwrap_or}
 use Rattle.std.specs.List.{flat_map}
 use Rattle.memchr.specs.Find.{FindsNeedle, IsFirstByte, is_byte}
 use Rattle.pptext.specs.declared.tokens.Place.{Place}
 use Rattle.pptext.specs.declared.tokens.Kind.{Kind}
-use Rattle.pptext.specs.declared.tokens.Kind.TheVariants.{Ident, Number, CharConst, Str, Punct, Header, Other}
+use Rattle.pptext.specs.declared.tokens.Kind.TheVariants.{Header}
 use Rattle.pptext.specs.declared.characters.Char.{Char}
 use Rattle.pptext.specs.Clean.{codes_of, place}
 use Rattle.pptext.specs.Languages.{Longest}

@@ -1,6 +1,5 @@
 -- What begins a text, and what a text is cut into, as the scanner answers them.
-use Rattle.std.specs.Prelude.{◌≡◌, ℕ, ◌+◌, ◌-◌, ◌<◌, ◌≤◌, List, [], ◌∷◌, ◌++◌, length, take, drop, Option, None, Some, Result, Ok, Err, IsTrue, slice_index}
-use Rattle.pptext.specs.declared.tokens.Kind.{Kind}
+use Rattle.std.specs.Prelude.{◌≡◌, ℕ, ◌-◌, ◌<◌, ◌≤◌, List, [], ◌∷◌, length, take, drop, None, Result, Ok, Err, IsTrue, slice_index}
 use Rattle.pptext.specs.declared.tokens.Token.{Token}
 use Rattle.pptext.specs.declared.characters.Char.{Char}
 use Rattle.pptext.specs.declared.cutting.Found.{Found}

@@ -1,5 +1,5 @@
 -- The grammar of preprocessing tokens (6.4): which spellings each kind has.
-use Rattle.std.specs.Prelude.{◌≡◌, ◌≢◌, ℕ, ◌+◌, ◌<◌, ◌≤◌, List, [], ◌∷◌, ◌++◌, Bool, true, false, not, ◌&&◌, ◌||◌, ◌==◌, nat_le, IsTrue, length, ◌⊎◌, Contains, codes}
+use Rattle.std.specs.Prelude.{ℕ, List, [], ◌∷◌, Bool, not, ◌&&◌, ◌||◌, ◌==◌, nat_le, IsTrue, Contains, codes}
 use Rattle.std.specs.List.{list_any}
 use Rattle.std.specs.Str.{bytes_eq}
 use Rattle.pptext.specs.Languages.{Exactly, One, Then, Either, IsRun, Repeated}

@@ -1,12 +1,12 @@
-use Rattle.std.proofs.Common.{◌≡◌, ℕ, ◌+◌, ◌-◌, ◌≤◌, ◌<◌, List, length, drop, take, get_or, sym, ◌∙◌, ap, subst, refl, arith, rules, ◌++◌, ◌∷◌, []}
-use Rattle.std.proofs.lemmas.List.{take_rest, length-drop, length-map, get_or-drop}
+use Rattle.std.proofs.Common.{List, length, drop, take, get_or, ◌∙◌, ap, refl, arith}
+use Rattle.std.proofs.lemmas.List.{take_rest, length-drop, get_or-drop}
 use Rattle.pptext.specs.declared.characters.Char.{Char}
 use Rattle.pptext.specs.declared.tokens.Place.{Place}
 use Rattle.pptext.specs.declared.cutting.Ending.{Ending}
 use Rattle.pptext.specs.Clean.{place, codes_of}
 use Rattle.pptext.specs.Lone.{KnowsLone}
 use Rattle.pptext.proofs.LoneQuotes.{knows_later, knows_nothing}
-use Rattle.pptext.proofs.CutLoop.{State, state_start, skip_blanks, skip_comment, end_line, add_token, cut_all, never_closed, codes_length, head_of_drop, head_of_take, token_is}
+use Rattle.pptext.proofs.CutLoop.{state_start, skip_blanks, skip_comment, end_line, add_token, cut_all, never_closed, codes_length, head_of_drop, head_of_take}
 use Rattle.pptext.specs.Lines.{token_of}
 use Rattle.pptext.specs.Texts.{Reading}
 use Rattle.pptext.proofs.cutting.cut_lines.Goals as goal

@@ -1,7 +1,5 @@
-use Rattle.std.proofs.Common.{◌≡◌, ℕ, [], length, subst, sym, ◌∙◌}
+use Rattle.std.proofs.Common.{◌≡◌, [], length, subst, sym, ◌∙◌}
 use Rattle.std.proofs.lemmas.Bool.{false≢true}
-use Rattle.pptext.specs.declared.tokens.Kind.{Kind}
-use Rattle.pptext.specs.declared.cutting.Found.{Found}
 use Rattle.pptext.specs.declared.cutting.Found.TheVariants as found
 use Rattle.pptext.specs.Cut.{Spelled, StandsAt}
 use Rattle.pptext.proofs.OneToken.{finds_token, stands_one_token}

@@ -1,4 +1,4 @@
-use Rattle.std.proofs.Common.{◌≡◌, ◌+◌, ◌≤◌, ◌++◌, drop}
+use Rattle.std.proofs.Common.{◌≡◌, ◌++◌, drop}
 use Rattle.pptext.specs.Clean.{without_returns}
 use Rattle.pptext.proofs.characters.passes.drop_returns.Given as goal
 

@@ -1,7 +1,5 @@
-use Rattle.std.proofs.Common.{arith, sym, ◌∙◌, ap, ◌++◌, ◌∷◌, [], append_assoc, refl}
 use Rattle.std.proofs.lemmas.List.{take_rest}
 use Rattle.pptext.proofs.Passes.{trigraph_next}
-use Rattle.pptext.specs.Clean.{trigraphs_behind}
 use Rattle.pptext.proofs.characters.passes.replace_trigraphs.Goals as goal
 
 pub loop-i-preserved : goal.loop-i-preserved

@@ -1,4 +1,4 @@
-use Rattle.std.proofs.Common.{◌≡◌, ◌+◌, ◌-◌, ◌≤◌, ◌++◌, drop, length}
+use Rattle.std.proofs.Common.{◌≡◌, ◌-◌, ◌≤◌, ◌++◌, drop, length}
 use Rattle.pptext.specs.Clean.{trigraphs_behind}
 use Rattle.pptext.proofs.characters.passes.replace_trigraphs.Given as goal
 

@@ -1,7 +1,6 @@
-use Rattle.std.proofs.Common.{◌≡◌, ℕ, ◌-◌, suc, length, drop, take, sym, ap, ◌∙◌, arith, cond, true, false, refl}
+use Rattle.std.proofs.Common.{◌≡◌, ◌-◌, length, drop, sym, ◌∙◌, arith, true, false, refl}
 use Rattle.std.proofs.lemmas.List.{take_rest}
 use Rattle.pptext.specs.Clean.{splice_at, place}
-use Rattle.pptext.specs.declared.characters.Char.{Char}
 use Rattle.pptext.proofs.Passes.{no_end, end_is}
 use Rattle.pptext.proofs.characters.passes.splice_at_end.Goals as goal
 

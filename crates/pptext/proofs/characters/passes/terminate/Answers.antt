@@ -1,7 +1,6 @@
-use Rattle.std.proofs.Common.{◌≡◌, ℕ, ◌-◌, ◌++◌, ◌∷◌, [], suc, length, get_or, sym, ap, ◌∙◌, arith, cond, true, false, refl, List, ◌==◌}
+use Rattle.std.proofs.Common.{◌≡◌, ℕ, ◌-◌, get_or, sym, ap, ◌∙◌, arith, true, false, refl, ◌==◌}
 use Rattle.std.proofs.lemmas.Bool.Decides.{nat_tests}
 use Rattle.std.proofs.lemmas.List.{append-nil}
-use Rattle.pptext.specs.Clean.{missing_newline, next_col}
 use Rattle.pptext.specs.declared.characters.Char.{Char}
 use Rattle.pptext.proofs.Passes.{missing_is}
 use Rattle.pptext.proofs.characters.passes.terminate.Goals as goal

@@ -1,0 +1,12 @@
+pub mod Objects
+pub mod Each
+pub mod Hex
+pub mod JsonValue
+pub mod Judged
+pub mod Giving
+pub mod Known
+pub mod Numbered
+pub mod Passing
+pub mod Quotes
+pub mod Received
+pub mod Spans

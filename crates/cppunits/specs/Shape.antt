@@ -1,0 +1,113 @@
+-- The shape of a list: which members its objects have, and of which kinds.
+use Rattle.std.specs.Prelude.{ℕ, ◌+◌, ◌-◌, ◌*◌, ◌&&◌, Bool, true, false, List, [], ◌∷◌, if◌then◌else◌, nat_le, codes, Option, Some, None, option_map, option_and_then, unwrap_or}
+use Rattle.std.specs.List.{list_any}
+use Rattle.std.specs.Str.{bytes_eq}
+use Rattle.serde_json.specs.Data.{Data, Items, no_items, item, Members, no_members, member}
+use Rattle.serde_json.specs.Find.{get, as_str, as_array, as_object}
+use Rattle.cppunits.specs.declared.units.Setting.{Setting}
+use Rattle.cppunits.specs.declared.list.drafts.DraftFile.{DraftFile}
+use Rattle.cppunits.specs.declared.list.drafts.DraftUnit.{DraftUnit}
+use Rattle.cppunits.specs.declared.list.drafts.SoleDraft.{SoleDraft}
+
+-- a list as it stands, before its names and times are judged
+pub record Draft : Type 0 where
+  pub setting : Setting
+  pub files : List DraftFile
+  pub units : List DraftUnit
+
+-- the draft of one file and one unit
+abbrev pub sole : SoleDraft → Draft
+sole d = record { setting = d.setting; files = d.file ∷ []; units = d.unit ∷ [] }
+
+abbrev pub has_text : List ℕ → List (List ℕ) → Bool
+has_text t = list_any (bytes_eq t)
+
+-- each member's name is one of these
+abbrev pub has_only : List (List ℕ) → Members → Bool
+has_only names no_members = true
+has_only names (member k d ms) = has_text k names && has_only names ms
+
+-- an object with no other members than these
+abbrev pub is_object_of : List (List ℕ) → Data → Bool
+is_object_of names d = unwrap_or (option_map (has_only names) (as_object d)) false
+
+abbrev pub text_at : List ℕ → Data → Option (List ℕ)
+text_at name d = option_and_then as_str (get name d)
+
+-- what `read` gives of each item
+abbrev pub each_item : {A : Type 0} → (Data → Option A) → Items → Option (List A)
+each_item read no_items = Some []
+each_item read (item d ds) = option_and_then (λ x. option_map (λ xs. x ∷ xs) (each_item read ds)) (read d)
+
+abbrev pub items_at : List ℕ → Data → Option Items
+items_at name d = option_and_then as_array (get name d)
+
+abbrev pub array_at : {A : Type 0} → (Data → Option A) → List ℕ → Data → Option (List A)
+array_at read name d = option_and_then (each_item read) (items_at name d)
+
+-- a list of exactly one item
+abbrev pub only_one : {A : Type 0} → List A → Option (List A)
+only_one [] = None
+only_one (x ∷ []) = Some (x ∷ [])
+only_one (x ∷ y ∷ more) = None
+
+-- the item of an array of exactly one
+abbrev pub only_item : Items → Option Data
+only_item no_items = None
+only_item (item d no_items) = Some d
+only_item (item d (item e ds)) = None
+
+-- the value of a hexadecimal digit, a letter in lower case
+abbrev pub hex_value : ℕ → Option ℕ
+hex_value b = if nat_le 48 b && nat_le b 57 then Some (b - 48) else (if nat_le 97 b && nat_le b 102 then Some (b - 87) else None)
+
+-- the byte that two hexadecimal digits spell
+abbrev pub hex_byte : ℕ → ℕ → Option ℕ
+hex_byte high low = option_and_then (λ h. option_map (λ l. h * 16 + l) (hex_value low)) (hex_value high)
+
+-- the bytes that pairs of hexadecimal digits spell
+abbrev pub hex_bytes : List ℕ → Option (List ℕ)
+hex_bytes [] = Some []
+hex_bytes (a ∷ []) = None
+hex_bytes (a ∷ b ∷ more) = option_and_then (λ x. option_map (λ xs. x ∷ xs) (hex_bytes more)) (hex_byte a b)
+
+-- the content by exactly one of `text` and `hex`
+abbrev pub content_from : Option Data → Option Data → Option (List ℕ)
+content_from None None = None
+content_from None (Some h) = option_and_then hex_bytes (as_str h)
+content_from (Some t) None = as_str t
+content_from (Some t) (Some h) = None
+
+-- a file's content, where lists hold contents
+abbrev pub content_of : Bool → Data → Option (List ℕ)
+content_of true d = content_from (get (codes "text") d) (get (codes "hex") d)
+content_of false d = Some []
+
+abbrev pub file_members : Bool → List (List ℕ)
+file_members true = codes "name" ∷ codes "text" ∷ codes "hex" ∷ []
+file_members false = codes "name" ∷ []
+
+abbrev pub draft_file : Bool → Data → Option DraftFile
+draft_file inline d = if is_object_of (file_members inline) d then option_and_then (λ n. option_map (λ c. record { name = n; content = c }) (content_of inline d)) (text_at (codes "name") d) else None
+
+abbrev pub unit_members : List (List ℕ)
+unit_members = codes "file" ∷ []
+
+abbrev pub draft_unit : Data → Option DraftUnit
+draft_unit d = if is_object_of unit_members d then option_map (λ f. record { file = f }) (text_at (codes "file") d) else None
+
+abbrev pub draft_setting : Data → Option Setting
+draft_setting d = option_and_then (λ day. option_map (λ hour. record { date = day; time = hour; search = [] }) (text_at (codes "time") d)) (text_at (codes "date") d)
+
+abbrev pub draft_files : Bool → Data → Option (List DraftFile)
+draft_files inline d = option_and_then only_one (array_at (draft_file inline) (codes "files") d)
+
+abbrev pub draft_units : Data → Option (List DraftUnit)
+draft_units d = option_and_then only_one (array_at draft_unit (codes "units") d)
+
+abbrev pub list_members : List (List ℕ)
+list_members = codes "date" ∷ codes "time" ∷ codes "files" ∷ codes "units" ∷ []
+
+-- the list as it stands, where it has its shape: exactly one file and one unit, and no other members
+abbrev pub draft : Bool → Data → Option Draft
+draft inline d = if is_object_of list_members d then option_and_then (λ s. option_and_then (λ fs. option_map (λ us. record { setting = s; files = fs; units = us }) (draft_units d)) (draft_files inline d)) (draft_setting d) else None

@@ -1,0 +1,157 @@
+// The list of translation units, read from JSON.
+ghost use Rattle.std.specs.Prelude.{◌≡◌, ◌<◌, ◌≤◌, ℕ, Some, None, IfOk, IfErr, IsErrOf, true, length, All};
+ghost use Rattle.serde_json.specs.View.{view};
+ghost use Rattle.cppunits.specs.Listing.{RefusedFor, json_value, outcome_of, accepted, refused};
+ghost use Rattle.cppunits.specs.declared.list.ListFault.TheVariants.{Bad, Memory};
+
+mod drafts;
+mod judging;
+mod names;
+#[cfg(test)]
+mod tests;
+
+use crate::list::drafts::draft_of;
+use crate::list::judging::judge;
+use crate::units::{Setting, Texts, Unit};
+use serde_json::{Category, Value};
+use std::alloc::{AllocError, AllocFailed, Global};
+use std::marker::Model;
+use thiserror::Error;
+
+/// Units, which contracts see as their list.
+#[derive(Drop, Debug)]
+pub struct Units {
+    units: Vec<Unit>,
+}
+
+impl Model for Units {
+    ghost use Rattle.std.specs.Prelude.{List};
+    ghost use Rattle.cppunits.specs.declared.units.Unit.{Unit};
+
+    ghost Value = { List Unit };
+
+    ghost view = { λ u. u.units.items };
+}
+
+impl Units {
+    /// These units.
+    pub fn new(units: Vec<Unit>) -> Units
+        ensures { result ≡ units.items }
+    {
+        Units { units }
+    }
+
+    /// The units.
+    pub fn as_slice(&self) -> &[Unit]
+        ensures { result.now ≡ self.now }
+    {
+        self.units.as_slice()
+    }
+}
+
+/// The contents of files, which contracts see as the list of their bytes.
+#[derive(Drop, Debug)]
+pub struct Contents {
+    contents: Vec<Vec<u8>>,
+}
+
+impl Model for Contents {
+    ghost use Rattle.std.specs.Prelude.{ℕ, List, map};
+
+    ghost Value = { List (List ℕ) };
+
+    ghost view = { λ c. map (λ bytes. bytes.items) c.contents.items };
+}
+
+impl Contents {
+    ghost use Rattle.std.specs.Prelude.{map};
+
+    /// These contents.
+    pub fn new(contents: Vec<Vec<u8>>) -> Contents
+        ensures { result ≡ map (λ bytes. bytes.items) contents.items }
+    {
+        Contents { contents }
+    }
+
+    /// The contents.
+    pub fn as_slice(&self) -> &[Vec<u8>]
+        ensures { map (λ bytes. bytes.items) result.now ≡ self.now }
+    {
+        self.contents.as_slice()
+    }
+}
+
+/// A list of translation units with its files: a file's row is its place among the names, and among the contents.
+#[derive(Drop, Debug)]
+pub struct List {
+    pub setting: Setting,
+    pub names: Texts,
+    pub contents: Contents,
+    pub units: Units,
+}
+
+/// Why bytes give no list.
+#[derive(Debug, Drop, Error)]
+pub enum ListFault {
+    /// They are refused, with the least number of a refusal that applies.
+    #[error("list refused L{0}")]
+    Bad(u8),
+    /// Want of memory.
+    #[error("out of memory")]
+    Memory,
+}
+
+impl From<AllocError> for ListFault {
+    ghost from_gives = { λ _ e. e ≡ Memory };
+
+    fn from(_error: AllocError) -> ListFault {
+        ListFault::Memory
+    }
+}
+
+impl<T: Drop> From<AllocFailed<T>> for ListFault {
+    ghost from_gives = { λ _ e. e ≡ Memory };
+
+    fn from(_error: AllocFailed<T>) -> ListFault {
+        ListFault::Memory
+    }
+}
+
+/// The most bytes of a list.
+pub(crate) const MOST_INPUT: usize = 268_435_456;
+
+/// The list that bytes hold. Where `inline` is false its files have names alone, and it holds no contents.
+///
+/// # Errors
+///
+/// `Bad` with the least number that applies: 1 for bytes that are too many or no JSON value, 2 for a member
+/// that is missing, unknown or of another shape, 3 for a name that is out of normal form, 4 for a content
+/// that is too long, 5 for a unit's file that isn't among the names, 6 for the date or the time; and `Memory`.
+pub fn read_list(alloc: Global, bytes: &[u8], inline: bool) -> Result<List, ListFault>
+    ensures ok { IfOk result (λ l. outcome_of inline bytes.now ≡ accepted l) }
+    ensures files { IfOk result (λ l. All (λ u. u.file < length l.names) l.units) }
+    ensures few { IfOk result (λ l. length l.names ≤ 65_535) }
+    ensures contents { inline ≡ true → IfOk result (λ l. length l.contents ≡ length l.names) }
+    ensures sizes { IfOk result (λ l. All (λ bytes. length bytes ≤ 16_777_216) l.contents) }
+    ensures bad { (n : ℕ) → IsErrOf result (Bad n) → outcome_of inline bytes.now ≡ refused n }
+{
+    if bytes.len() > MOST_INPUT {
+        return Err(ListFault::Bad(1));
+    }
+    let value = json_of(alloc, bytes)?;
+    let draft = draft_of(alloc, &value, inline)?;
+    judge(alloc, draft, inline)
+}
+
+fn json_of(alloc: Global, bytes: &[u8]) -> Result<Value, ListFault>
+    ensures ok { IfOk result (λ v. json_value bytes.now ≡ Some (view v)) }
+    ensures err { IfErr result (RefusedFor 1 (json_value bytes.now ≡ None)) }
+{
+    match Value::from_slice(alloc, bytes) {
+        Ok(value) => Ok(value),
+        Err(error) => match error.classify() {
+            Category::Memory => Err(ListFault::Memory),
+            _ => Err(ListFault::Bad(1)),
+        },
+    }
+}

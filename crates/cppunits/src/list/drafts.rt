@@ -1,0 +1,285 @@
+// A list as it stands in JSON, before its names and times are judged.
+ghost use Rattle.std.specs.Prelude.{◌≡◌, ◌+◌, ◌*◌, ◌∷◌, ◌++◌, [], Some, None, IfOk, IfErr, codes, map, option_map, option_and_then, length, ◌<◌, IfSome};
+ghost use Rattle.serde_json.specs.Data.{Items};
+ghost use Rattle.serde_json.specs.Find.{as_str};
+ghost use Rattle.serde_json.specs.View.{view, members_view, items_view};
+ghost use Rattle.cppunits.specs.Listing.{RefusedFor};
+ghost use Rattle.cppunits.specs.Shape as shape;
+
+use crate::list::ListFault;
+use crate::units::{Setting, Text, Texts};
+use serde_json::{Map, Value};
+use std::alloc::Global;
+use std::marker::Model;
+
+/// A file's content, which contracts see as the list of its bytes.
+#[derive(Drop, Debug)]
+pub(super) struct Content {
+    bytes: Vec<u8>,
+}
+
+impl Model for Content {
+    ghost use Rattle.std.specs.Prelude.{ℕ, List};
+
+    ghost Value = { List ℕ };
+
+    ghost view = { λ c. c.bytes.items };
+}
+
+impl Content {
+    /// A content of these bytes.
+    pub(super) fn new(bytes: Vec<u8>) -> Content
+        ensures { result ≡ bytes.items }
+    {
+        Content { bytes }
+    }
+
+    /// The bytes, given back.
+    pub(super) fn into_bytes(self) -> Vec<u8>
+        ensures { result.items ≡ self }
+    {
+        self.bytes
+    }
+
+    /// The number of its bytes.
+    pub(super) fn len(&self) -> usize
+        ensures { result ≡ length self.now }
+    {
+        self.bytes.len()
+    }
+}
+
+/// A file of a list as it stands.
+#[derive(Drop, Debug)]
+pub(super) struct DraftFile {
+    pub(super) name: Text,
+    pub(super) content: Content,
+}
+
+/// A unit of a list as it stands, with the name of its file.
+#[derive(Drop, Debug)]
+pub(super) struct DraftUnit {
+    pub(super) file: Text,
+}
+
+/// A list of one file and one unit as it stands.
+#[derive(Drop, Debug)]
+pub(super) struct SoleDraft {
+    pub(super) setting: Setting,
+    pub(super) file: DraftFile,
+    pub(super) unit: DraftUnit,
+}
+
+/// The list as it stands.
+///
+/// # Errors
+///
+/// `Bad(2)` where a member is missing, unknown or of another shape, and `Memory`.
+pub(super) fn draft_of(alloc: Global, value: &Value, inline: bool) -> Result<SoleDraft, ListFault>
+    ensures ok { IfOk result (λ d. shape.draft inline (view value.now) ≡ Some (shape.sole d)) }
+    ensures err { IfErr result (RefusedFor 2 (shape.draft inline (view value.now) ≡ None)) }
+{
+    if !is_object_of(value, &["date", "time", "files", "units"]) {
+        return Err(ListFault::Bad(2));
+    }
+    let setting = setting_of(alloc, value)?;
+    let file = file_of(alloc, value, inline)?;
+    let unit = unit_of(alloc, value)?;
+    Ok(SoleDraft {
+        setting,
+        file,
+        unit,
+    })
+}
+
+fn setting_of(alloc: Global, value: &Value) -> Result<Setting, ListFault>
+    ensures ok { IfOk result (λ s. shape.draft_setting (view value.now) ≡ Some s) }
+    ensures err { IfErr result (RefusedFor 2 (shape.draft_setting (view value.now) ≡ None)) }
+{
+    let date = text_at(alloc, value, "date")?;
+    let time = text_at(alloc, value, "time")?;
+    Ok(Setting {
+        date,
+        time,
+        search: Texts::new(Vec::new(alloc)),
+    })
+}
+
+/// The only file.
+fn file_of(alloc: Global, value: &Value, inline: bool) -> Result<DraftFile, ListFault>
+    ensures ok { IfOk result (λ f. shape.draft_files inline (view value.now) ≡ Some (f ∷ [])) }
+    ensures err { IfErr result (RefusedFor 2 (shape.draft_files inline (view value.now) ≡ None)) }
+{
+    let Some(item) = only_item_at(value, "files") else {
+        return Err(ListFault::Bad(2));
+    };
+    file_from(alloc, item, inline)
+}
+
+fn file_from(alloc: Global, value: &Value, inline: bool) -> Result<DraftFile, ListFault>
+    ensures ok { IfOk result (λ f. shape.draft_file inline (view value.now) ≡ Some f) }
+    ensures err { IfErr result (RefusedFor 2 (shape.draft_file inline (view value.now) ≡ None)) }
+{
+    if !is_file_object(value, inline) {
+        return Err(ListFault::Bad(2));
+    }
+    let name = text_at(alloc, value, "name")?;
+    let content = content_of(alloc, value, inline)?;
+    Ok(DraftFile { name, content })
+}
+
+fn is_file_object(value: &Value, inline: bool) -> bool
+    ensures { result ≡ shape.is_object_of (shape.file_members inline) (view value.now) }
+{
+    if inline {
+        is_object_of(value, &["name", "text", "hex"])
+    } else {
+        is_object_of(value, &["name"])
+    }
+}
+
+/// The content of a file by exactly one of `text` and `hex`, or nothing where lists hold no contents.
+fn content_of(alloc: Global, value: &Value, inline: bool) -> Result<Content, ListFault>
+    ensures ok { IfOk result (λ c. shape.content_of inline (view value.now) ≡ Some c) }
+    ensures err { IfErr result (RefusedFor 2 (shape.content_of inline (view value.now) ≡ None)) }
+{
+    if !inline {
+        return Ok(Content::new(Vec::new(alloc)));
+    }
+    match (value.get("text"), value.get("hex")) {
+        (Some(text), None) => plain_content(alloc, text),
+        (None, Some(hex)) => hex_content(alloc, hex),
+        _ => Err(ListFault::Bad(2)),
+    }
+}
+
+fn plain_content(alloc: Global, value: &Value) -> Result<Content, ListFault>
+    ensures ok { IfOk result (λ c. as_str (view value.now) ≡ Some c) }
+    ensures err { IfErr result (RefusedFor 2 (as_str (view value.now) ≡ None)) }
+{
+    let Some(text) = value.as_str() else {
+        return Err(ListFault::Bad(2));
+    };
+    Ok(Content::new(Vec::from_slice(alloc, text.as_bytes())?))
+}
+
+fn hex_content(alloc: Global, value: &Value) -> Result<Content, ListFault>
+    ensures ok { IfOk result (λ c. option_and_then shape.hex_bytes (as_str (view value.now)) ≡ Some c) }
+    ensures err { IfErr result (RefusedFor 2 (option_and_then shape.hex_bytes (as_str (view value.now)) ≡ None)) }
+{
+    let Some(text) = value.as_str() else {
+        return Err(ListFault::Bad(2));
+    };
+    Ok(Content::new(hex_bytes(alloc, text.as_bytes())?))
+}
+
+/// The only unit.
+fn unit_of(alloc: Global, value: &Value) -> Result<DraftUnit, ListFault>
+    ensures ok { IfOk result (λ u. shape.draft_units (view value.now) ≡ Some (u ∷ [])) }
+    ensures err { IfErr result (RefusedFor 2 (shape.draft_units (view value.now) ≡ None)) }
+{
+    let Some(item) = only_item_at(value, "units") else {
+        return Err(ListFault::Bad(2));
+    };
+    unit_from(alloc, item)
+}
+
+fn unit_from(alloc: Global, value: &Value) -> Result<DraftUnit, ListFault>
+    ensures ok { IfOk result (λ u. shape.draft_unit (view value.now) ≡ Some u) }
+    ensures err { IfErr result (RefusedFor 2 (shape.draft_unit (view value.now) ≡ None)) }
+{
+    if !is_object_of(value, &["file"]) {
+        return Err(ListFault::Bad(2));
+    }
+    let file = text_at(alloc, value, "file")?;
+    Ok(DraftUnit { file })
+}
+
+fn text_at(alloc: Global, value: &Value, name: &str) -> Result<Text, ListFault>
+    ensures ok { IfOk result (λ t. shape.text_at name.now (view value.now) ≡ Some t) }
+    ensures err { IfErr result (RefusedFor 2 (shape.text_at name.now (view value.now) ≡ None)) }
+{
+    let Some(text) = value.get(name).and_then(Value::as_str) else {
+        return Err(ListFault::Bad(2));
+    };
+    Ok(Text::new(String::from_str(alloc, text)?))
+}
+
+/// The item of an array of exactly one.
+fn only_item_at<'a>(value: &'a Value, name: &str) -> Option<&'a Value>
+    ensures { option_map (λ v. view v.now) result ≡ option_and_then shape.only_item (shape.items_at name.now (view value.now)) }
+{
+    let items = value.get(name).and_then(Value::as_array)?;
+    only_item(items.as_slice())
+}
+
+fn only_item(items: &[Value]) -> Option<&Value>
+    ensures { option_map (λ v. view v.now) result ≡ shape.only_item (items_view items.now) }
+{
+    if items.len() == 1 {
+        Some(&items[0])
+    } else {
+        None
+    }
+}
+
+/// Whether the value is an object with no other members than these.
+fn is_object_of(value: &Value, names: &[&str]) -> bool
+    ensures { result ≡ shape.is_object_of (map (λ n. n.now) names.now) (view value.now) }
+{
+    match value.as_object() {
+        Some(members) => has_only(members, names),
+        None => false,
+    }
+}
+
+fn has_only(members: &Map<String, Value>, names: &[&str]) -> bool
+    ensures { result ≡ shape.has_only (map (λ n. n.now) names.now) (members_view members.now.entries) }
+{
+    members.keys().all(|key| is_among(key.as_str(), names))
+}
+
+fn is_among(text: &str, names: &[&str]) -> bool
+    ensures { result ≡ shape.has_text text.now (map (λ n. n.now) names.now) }
+{
+    names.iter().any(|name| text == *name)
+}
+
+/// The bytes that pairs of hexadecimal digits spell.
+fn hex_bytes(alloc: Global, text: &[u8]) -> Result<Vec<u8>, ListFault>
+    ensures ok { IfOk result (λ bytes. shape.hex_bytes text.now ≡ Some bytes.items) }
+    ensures err { IfErr result (RefusedFor 2 (shape.hex_bytes text.now ≡ None)) }
+{
+    let mut bytes = Vec::with_capacity(alloc, text.len() / 2)?;
+    let mut rest = text;
+    while let [high, low, more @ ..] = rest {
+        let Some(byte) = hex_byte(*high, *low) else {
+            return Err(ListFault::Bad(2));
+        };
+        bytes.push(byte)?;
+        rest = more;
+    }
+    if !rest.is_empty() {
+        return Err(ListFault::Bad(2));
+    }
+    Ok(bytes)
+}
+
+fn hex_byte(high: u8, low: u8) -> Option<u8>
+    ensures { result ≡ shape.hex_byte high low }
+{
+    let high = hex_value(high)?;
+    let low = hex_value(low)?;
+    Some(high * 16 + low)
+}
+
+fn hex_value(digit: u8) -> Option<u8>
+    ensures value { result ≡ shape.hex_value digit }
+    ensures small { IfSome result (λ n. n < 16) }
+{
+    match digit {
+        b'0'..=b'9' => Some(digit - b'0'),
+        b'a'..=b'f' => Some(digit - b'a' + 10),
+        _ => None,
+    }
+}

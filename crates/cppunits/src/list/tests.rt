@@ -1,0 +1,291 @@
+use crate::list::{ListFault, read_list};
+use std::alloc::{AllocError, Global};
+use std::test::Fail;
+
+const PLAIN: &str =
+    r#"{"date":"Feb  9 2024","time":"08:05:03","files":[{"name":"a.c","text":"a+b\n"}],"units":[{"file":"a.c"}]}"#;
+
+/// The number of the refusal of a list with its contents, or 0.
+fn refusal(alloc: Global, text: &str) -> Result<u8, AllocError> {
+    match read_list(alloc, text.as_bytes(), true) {
+        Ok(_) => Ok(0),
+        Err(ListFault::Bad(number)) => Ok(number),
+        Err(ListFault::Memory) => Err(AllocError),
+    }
+}
+
+/// A list of one file and one unit.
+fn list_of(
+    alloc: Global,
+    date: &str,
+    time: &str,
+    file: &str,
+    unit: &str,
+) -> Result<String, AllocError> {
+    format!(in alloc;
+        "{{\"date\":\"{date}\",\"time\":\"{time}\",\"files\":[{file}],\"units\":[{unit}]}}"
+    )
+}
+
+#[test]
+fn reads_a_list(rt: HostRuntime) -> Result<(), Fail> {
+    let list = read_list(rt.alloc(), PLAIN.as_bytes(), true)?;
+    assert_eq!(rt; list.setting.date.as_str(), "Feb  9 2024");
+    assert_eq!(rt; list.setting.time.as_str(), "08:05:03");
+    assert!(rt; list.setting.search.as_slice().is_empty());
+    assert!(rt; matches!(list.names.as_slice(), [name] if name.as_str() == "a.c"));
+    assert!(rt;
+        matches!(list.contents.as_slice(), [content] if content.as_slice() == b"a+b\n".as_slice())
+    );
+    let unit = list.units.as_slice().first().ok_or("a unit")?;
+    assert_eq!(rt; unit.file, 0);
+    assert!(rt; unit.defines.as_slice().is_empty());
+    assert!(rt; unit.search.as_slice().is_empty());
+    Ok(())
+}
+
+#[test]
+fn reads_contents_in_hex(rt: HostRuntime) -> Result<(), Fail> {
+    let text = list_of(
+        rt.alloc(),
+        "Dec 31 1999",
+        "23:59:60",
+        r#"{"hex":"00ff0a6b","name":"d/a.c"}"#,
+        r#"{"file":"d/a.c"}"#,
+    )?;
+    let list = read_list(rt.alloc(), text.as_bytes(), true)?;
+    assert!(rt;
+        matches!(list.contents.as_slice(), [content] if content.as_slice() == [0, 255, 10, 107].as_slice())
+    );
+    Ok(())
+}
+
+#[test]
+fn reads_names_alone(rt: HostRuntime) -> Result<(), Fail> {
+    let text = list_of(
+        rt.alloc(),
+        "Feb  9 2024",
+        "08:05:03",
+        r#"{"name":"a.c"}"#,
+        r#"{"file":"a.c"}"#,
+    )?;
+    let list = read_list(rt.alloc(), text.as_bytes(), false)?;
+    assert!(rt; matches!(list.names.as_slice(), [name] if name.as_str() == "a.c"));
+    assert!(rt; list.contents.as_slice().is_empty());
+    assert!(rt;
+        matches!(
+            read_list(rt.alloc(), PLAIN.as_bytes(), false),
+            Err(ListFault::Bad(2))
+        )
+    );
+    Ok(())
+}
+
+#[test]
+fn refuses_what_is_no_json(rt: HostRuntime) -> Result<(), Fail> {
+    assert_eq!(rt; refusal(rt.alloc(), "")?, 1);
+    assert_eq!(rt; refusal(rt.alloc(), "{\"date\":")?, 1);
+    assert_eq!(rt; refusal(rt.alloc(), "{\"date\":1e999}")?, 1);
+    assert!(rt;
+        matches!(
+            read_list(rt.alloc(), b"\"\xff\"".as_slice(), true),
+            Err(ListFault::Bad(1))
+        )
+    );
+    for (depth, number) in [(100, 2), (200, 1)] {
+        let mut text = String::new(rt.alloc());
+        for _ in 0..depth {
+            text.push('[')?;
+        }
+        for _ in 0..depth {
+            text.push(']')?;
+        }
+        assert_eq!(rt; refusal(rt.alloc(), &text)?, number);
+    }
+    Ok(())
+}
+
+#[test]
+fn refuses_shapes(rt: HostRuntime) -> Result<(), Fail> {
+    let file = r#"{"name":"a.c","text":""}"#;
+    let unit = r#"{"file":"a.c"}"#;
+    for text in [
+        "[]",
+        r#"{"date":"Feb  9 2024","time":"08:05:03","files":[{"name":"a.c","text":""}]}"#,
+        r#"{"date":"Feb  9 2024","time":8,"files":[{"name":"a.c","text":""}],"units":[{"file":"a.c"}]}"#,
+        r#"{"date":"Feb  9 2024","time":"08:05:03","files":{"name":"a.c","text":""},"units":[{"file":"a.c"}]}"#,
+        r#"{"date":"Feb  9 2024","time":"08:05:03","files":[{"name":"a.c","text":""}],"units":[{"file":"a.c"}],"search":[]}"#,
+    ] {
+        assert_eq!(rt; refusal(rt.alloc(), text)?, 2, "at {text}");
+    }
+    for file in [
+        "",
+        "7",
+        r#"{"text":""}"#,
+        r#"{"name":"a.c"}"#,
+        r#"{"name":"a.c","text":"","hex":""}"#,
+        r#"{"name":"a.c","hex":"0"}"#,
+        r#"{"name":"a.c","hex":"0A"}"#,
+        r#"{"name":"a.c","text":null}"#,
+        r#"{"name":"a.c","text":"","kind":"c"}"#,
+        r#"{"name":"a.c","text":""},{"name":"b.c","text":""}"#,
+    ] {
+        let text = list_of(rt.alloc(), "Feb  9 2024", "08:05:03", file, unit)?;
+        assert_eq!(rt; refusal(rt.alloc(), &text)?, 2, "at {file}");
+    }
+    for unit in [
+        "",
+        r#"{}"#,
+        r#"{"file":["a.c"]}"#,
+        r#"{"file":"a.c","define":[]}"#,
+        r#"{"file":"a.c"},{"file":"a.c"}"#,
+    ] {
+        let text = list_of(rt.alloc(), "Feb  9 2024", "08:05:03", file, unit)?;
+        assert_eq!(rt; refusal(rt.alloc(), &text)?, 2, "at {unit}");
+    }
+    Ok(())
+}
+
+#[test]
+fn judges_names(rt: HostRuntime) -> Result<(), Fail> {
+    for (name, number) in [
+        ("a.c", 0),
+        ("a/b/.c", 0),
+        ("...", 0),
+        ("a b", 0),
+        ("\u{e9}", 0),
+        ("", 3),
+        (".", 3),
+        ("/a.c", 3),
+        ("a.c/", 3),
+        ("a//b.c", 3),
+        ("./a.c", 3),
+        ("b/../a.c", 3),
+        ("a\\u001f", 3),
+        ("a\u{7f}", 3),
+    ] {
+        let file = format!(in rt.alloc(); "{{\"name\":\"{name}\",\"text\":\"\"}}")?;
+        let unit = format!(in rt.alloc(); "{{\"file\":\"{name}\"}}")?;
+        let text = list_of(rt.alloc(), "Feb  9 2024", "08:05:03", &file, &unit)?;
+        assert_eq!(rt; refusal(rt.alloc(), &text)?, number, "at {name}");
+    }
+    Ok(())
+}
+
+#[test]
+fn judges_lengths_of_names(rt: HostRuntime) -> Result<(), Fail> {
+    for (len, number) in [(1024, 0), (1025, 3)] {
+        let mut name = String::new(rt.alloc());
+        for _ in 0..len {
+            name.push('n')?;
+        }
+        let file = format!(in rt.alloc(); "{{\"name\":\"{name}\",\"text\":\"\"}}")?;
+        let unit = format!(in rt.alloc(); "{{\"file\":\"{name}\"}}")?;
+        let text = list_of(rt.alloc(), "Feb  9 2024", "08:05:03", &file, &unit)?;
+        assert_eq!(rt; refusal(rt.alloc(), &text)?, number, "at {len}");
+    }
+    Ok(())
+}
+
+#[test]
+fn judges_lengths_of_contents(rt: HostRuntime) -> Result<(), Fail> {
+    for (len, number) in [(16_777_216, 0), (16_777_217, 4)] {
+        let mut content = String::with_capacity(rt.alloc(), 16_777_217)?;
+        for _ in 0..len {
+            content.push(' ')?;
+        }
+        let file = format!(in rt.alloc(); "{{\"name\":\"a.c\",\"text\":\"{content}\"}}")?;
+        let text = list_of(
+            rt.alloc(),
+            "Feb  9 2024",
+            "08:05:03",
+            &file,
+            r#"{"file":"a.c"}"#,
+        )?;
+        assert_eq!(rt; refusal(rt.alloc(), &text)?, number, "at {len}");
+    }
+    Ok(())
+}
+
+#[test]
+fn judges_dates_and_times(rt: HostRuntime) -> Result<(), Fail> {
+    for (date, time, number) in [
+        ("Jan  1 0000", "00:00:00", 0),
+        ("May 10 2024", "19:09:60", 0),
+        ("Oct 31 9999", "23:59:59", 0),
+        ("Feb 09 2024", "08:05:03", 6),
+        ("Feb  0 2024", "08:05:03", 6),
+        ("Feb 32 2024", "08:05:03", 6),
+        ("feb  9 2024", "08:05:03", 6),
+        ("Feb  9 202x", "08:05:03", 6),
+        ("Feb  9 20240", "08:05:03", 6),
+        ("Feb  9 2024", "24:00:00", 6),
+        ("Feb  9 2024", "08:60:03", 6),
+        ("Feb  9 2024", "08:05:61", 6),
+        ("Feb  9 2024", "8:05:03", 6),
+        ("Feb  9 2024", "08.05.03", 6),
+    ] {
+        let text = list_of(
+            rt.alloc(),
+            date,
+            time,
+            r#"{"name":"a.c","text":""}"#,
+            r#"{"file":"a.c"}"#,
+        )?;
+        assert_eq!(rt; refusal(rt.alloc(), &text)?, number, "at {date} {time}");
+    }
+    Ok(())
+}
+
+#[test]
+fn tells_the_least_number(rt: HostRuntime) -> Result<(), Fail> {
+    for (date, file, unit, number) in [
+        (
+            "Feb  9 2024",
+            r#"{"name":"a.c","text":""}"#,
+            r#"{"file":"b.c"}"#,
+            5,
+        ),
+        (
+            "Feb  9 2024",
+            r#"{"name":"a//c","text":""}"#,
+            r#"{"file":"b.c"}"#,
+            3,
+        ),
+        (
+            "9 Feb",
+            r#"{"name":"a.c","text":""}"#,
+            r#"{"file":"b.c"}"#,
+            5,
+        ),
+        (
+            "9 Feb",
+            r#"{"name":"a.c","text":""}"#,
+            r#"{"file":"a.c","define":["X"]}"#,
+            2,
+        ),
+        (
+            "9 Feb",
+            r#"{"name":"a//c","hex":"A0"}"#,
+            r#"{"file":"a.c"}"#,
+            2,
+        ),
+    ] {
+        let text = list_of(rt.alloc(), date, "08:05:03", file, unit)?;
+        assert_eq!(rt; refusal(rt.alloc(), &text)?, number, "at {text}");
+    }
+    Ok(())
+}
+
+#[test]
+fn takes_the_last_of_a_member_that_stands_twice(rt: HostRuntime) -> Result<(), Fail> {
+    let text = list_of(
+        rt.alloc(),
+        "x\",\"date\":\"Feb  9 2024",
+        "08:05:03",
+        r#"{"name":"a.c","text":""}"#,
+        r#"{"file":"a.c"}"#,
+    )?;
+    assert_eq!(rt; refusal(rt.alloc(), &text)?, 0);
+    Ok(())
+}

@@ -1,0 +1,204 @@
+// Where a list's bytes come from, and where its output goes.
+ghost use Rattle.std.specs.Prelude.{◌≡◌, [], ◌<◌, ◌≤◌, ℕ, List, Bool, false, Option, Some, None, length, IfOk, ◌||◌, is_err};
+ghost use Rattle.std.specs.Io.KnownBytes.{ReadConsumes, WriteAppends};
+
+use std::alloc::Global;
+use std::io::{Read, Write};
+
+/// A read or a write failed.
+#[derive(Clone, Copy, Debug, PartialEq, Eq)]
+pub struct Failed;
+
+/// Bytes that come in.
+pub trait Feed {
+    // The bytes that are left, where the feed tells them.
+    ghost rest: { Self → Option (List ℕ) };
+
+    // A read has failed.
+    ghost has_failed: { Self → Bool };
+
+    /// Reads some bytes into `buf`, and gives their number, which is 0 only at the end and where `buf` is empty.
+    fn read(&mut self, buf: &mut [u8]) -> Result<usize, Failed>
+        ensures bound { IfOk result (λ n. n ≤ length buf.new) }
+        ensures bytes { ReadConsumes (rest self.old) (rest self.new) result buf.new }
+        ensures fails { has_failed self.new ≡ (has_failed self.old || is_err result) };
+
+    /// Whether a read has failed.
+    fn failed(&self) -> bool
+        ensures { result ≡ has_failed self.now };
+}
+
+/// Bytes that go out.
+pub trait Sink {
+    // The bytes that went out, where the sink tells them.
+    ghost written: { Self → Option (List ℕ) };
+
+    // A write has failed.
+    ghost has_failed: { Self → Bool };
+
+    /// Writes a front of these bytes, and gives its length, which is 0 only where there are none.
+    fn write(&mut self, bytes: &[u8]) -> Result<usize, Failed>
+        ensures bound { IfOk result (λ n. n ≤ length bytes.now) }
+        ensures progress { IfOk result (λ n. 0 < length bytes.now → 0 < n) }
+        ensures bytes { WriteAppends (written self.old) (written self.new) result bytes.now }
+        ensures fails { has_failed self.new ≡ (has_failed self.old || is_err result) };
+
+    /// Whether a write has failed.
+    fn failed(&self) -> bool
+        ensures { result ≡ has_failed self.now };
+}
+
+/// A feed of bytes in memory, which never fails.
+#[derive(Drop)]
+pub struct SliceFeed<'a> {
+    bytes: &'a [u8],
+}
+
+impl<'a> SliceFeed<'a> {
+    /// A feed of these bytes.
+    pub fn new(bytes: &'a [u8]) -> SliceFeed<'a>
+        ensures rest { ⟦<SliceFeed<'a> as Feed>⟧.rest result ≡ Some bytes.entry.now }
+        ensures unfailed { ⟦<SliceFeed<'a> as Feed>⟧.has_failed result ≡ false }
+    {
+        SliceFeed { bytes }
+    }
+}
+
+impl Feed for SliceFeed<'_> {
+    ghost rest = { λ s. Some s.bytes.now };
+
+    ghost has_failed = { λ _. false };
+
+    fn read(&mut self, buf: &mut [u8]) -> Result<usize, Failed> {
+        let count = self.bytes.len().min(buf.len());
+        let (front, back) = self.bytes.split_at(count);
+        buf[..count].copy_from_slice(front);
+        self.bytes = back;
+        Ok(count)
+    }
+
+    fn failed(&self) -> bool {
+        false
+    }
+}
+
+/// A sink that keeps all bytes in memory, and fails only where there is none left.
+#[derive(Drop)]
+pub struct VecSink {
+    bytes: Vec<u8>,
+    failed: bool,
+}
+
+impl VecSink {
+    /// A sink without bytes.
+    pub fn new(alloc: Global) -> VecSink
+        ensures written { ⟦<VecSink as Sink>⟧.written result ≡ Some [] }
+        ensures unfailed { ⟦<VecSink as Sink>⟧.has_failed result ≡ false }
+    {
+        VecSink {
+            bytes: Vec::new(alloc),
+            failed: false,
+        }
+    }
+
+    /// The bytes that went out.
+    pub fn bytes(&self) -> &[u8]
+        ensures { ⟦<VecSink as Sink>⟧.written self.now ≡ Some result.now }
+    {
+        self.bytes.as_slice()
+    }
+}
+
+impl Sink for VecSink {
+    ghost written = { λ s. Some s.bytes.items };
+
+    ghost has_failed = { λ s. s.failed };
+
+    fn write(&mut self, bytes: &[u8]) -> Result<usize, Failed> {
+        if self.bytes.extend_from_slice(bytes).is_err() {
+            self.failed = true;
+            return Err(Failed);
+        }
+        Ok(bytes.len())
+    }
+
+    fn failed(&self) -> bool {
+        self.failed
+    }
+}
+
+/// A feed over a reader, of whose bytes nothing is claimed. Any error of the reader is a failure.
+#[derive(Drop)]
+pub struct ReaderFeed<R> {
+    reader: R,
+    failed: bool,
+}
+
+impl<R: Read + Drop> ReaderFeed<R> {
+    /// A feed of what the reader gives.
+    pub fn new(reader: R) -> ReaderFeed<R>
+        ensures { ⟦<ReaderFeed<R> as Feed>⟧.has_failed result ≡ false }
+    {
+        ReaderFeed {
+            reader,
+            failed: false,
+        }
+    }
+}
+
+impl<R: Read + Drop> Feed for ReaderFeed<R> {
+    ghost rest = { λ _. None };
+
+    ghost has_failed = { λ s. s.failed };
+
+    fn read(&mut self, buf: &mut [u8]) -> Result<usize, Failed> {
+        let Ok(count) = self.reader.read(buf) else {
+            self.failed = true;
+            return Err(Failed);
+        };
+        Ok(count)
+    }
+
+    fn failed(&self) -> bool {
+        self.failed
+    }
+}
+
+/// A sink over a writer, of whose bytes nothing is claimed. Any error of the writer is a failure, and so is a write that takes nothing.
+#[derive(Drop)]
+pub struct WriterSink<W> {
+    writer: W,
+    failed: bool,
+}
+
+impl<W: Write + Drop> WriterSink<W> {
+    /// A sink into the writer.
+    pub fn new(writer: W) -> WriterSink<W>
+        ensures { ⟦<WriterSink<W> as Sink>⟧.has_failed result ≡ false }
+    {
+        WriterSink {
+            writer,
+            failed: false,
+        }
+    }
+}
+
+impl<W: Write + Drop> Sink for WriterSink<W> {
+    ghost written = { λ _. None };
+
+    ghost has_failed = { λ s. s.failed };
+
+    fn write(&mut self, bytes: &[u8]) -> Result<usize, Failed> {
+        match self.writer.write(bytes) {
+            Ok(count) if count > 0 || bytes.is_empty() => Ok(count),
+            _ => {
+                self.failed = true;
+                Err(Failed)
+            }
+        }
+    }
+
+    fn failed(&self) -> bool {
+        self.failed
+    }
+}

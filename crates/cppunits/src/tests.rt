@@ -1,0 +1,272 @@
+// The program's rows: lists with their output, and streams that fail.
+ghost use Rattle.std.specs.Prelude.{None};
+
+use crate::ending::{status, words};
+use crate::output::Mode;
+use crate::serving::{RunFault, serve};
+use crate::streams::{Failed, Feed, ReaderFeed, Sink, SliceFeed, VecSink, WriterSink};
+use std::process::Abort;
+use std::test::Fail;
+use std::thread::Threads;
+
+const EXAMPLE: &str =
+    r#"{"date":"Feb  9 2024","time":"08:05:03","files":[{"name":"a.c","text":"a+b/**/c\n"}],"units":[{"file":"a.c"}]}"#;
+
+const EXAMPLE_OUTPUT: &str =
+    "unit 0 a.c\ntok 0:1:1 0:1:1 i+ a\ntok 0:1:2 0:1:2 p- +\ntok 0:1:3 0:1:3 i- b\ntok 0:1:8 0:1:8 i+ c\ndep 0 a.c\nok\n";
+
+/// The file's `text` or `hex`, what is printed between the unit's name and its dependency, and the last line.
+fn prints<R: Threads + AllocGlobal + Abort>(
+    rt: &R,
+    content: &str,
+    items: &str,
+    last: &str,
+) -> Result<(), Fail> {
+    let list = format!(in rt.alloc();
+        "{{\"date\":\"Feb  9 2024\",\"time\":\"08:05:03\",\"files\":[{{\"name\":\"a.c\",{content}}}],\"units\":[{{\"file\":\"a.c\"}}]}}"
+    )?;
+    let want = format!(in rt.alloc(); "unit 0 a.c\n{items}dep 0 a.c\n{last}")?;
+    let mut reader = SliceFeed::new(list.as_bytes());
+    let mut writer = VecSink::new(rt.alloc());
+    let outcome = serve(rt, rt.alloc(), &mut reader, &mut writer, Mode::Dump, 4, 8);
+    assert!(rt; writer.bytes() == want.as_bytes(), "at {content}");
+    assert_eq!(rt; status(&outcome), u8::from(last != "ok\n"), "at {content}");
+    Ok(())
+}
+
+#[test]
+fn prints_the_tokens_of_a_file(rt: HostRuntime) -> Result<(), Fail> {
+    prints(&rt, "\"text\":\"\"", "", "ok\n")?;
+    prints(
+        &rt,
+        "\"text\":\"a+b/**/c\\n\"",
+        "tok 0:1:1 0:1:1 i+ a\ntok 0:1:2 0:1:2 p- +\ntok 0:1:3 0:1:3 i- b\ntok 0:1:8 0:1:8 i+ c\n",
+        "ok\n",
+    )?;
+    prints(
+        &rt,
+        "\"hex\":\"efbbbf780d0a79\"",
+        "tok 0:1:1 0:1:1 i+ x\ntok 0:2:1 0:2:1 i+ y\n",
+        "ok\n",
+    )?;
+    prints(
+        &rt,
+        "\"hex\":\"c3a9\"",
+        "tok 0:1:1 0:1:1 i+ %C3%A9\n",
+        "ok\n",
+    )?;
+    prints(
+        &rt,
+        "\"text\":\"a\\\\\\nb \\\"/*\\\"//\\n\"",
+        "tok 0:1:1 0:1:1 i+ ab\ntok 0:2:3 0:2:3 s+ \"/*\"\n",
+        "ok\n",
+    )?;
+    prints(
+        &rt,
+        "\"text\":\"a%:b\\n%:\\n50%\\n\"",
+        "tok 0:1:1 0:1:1 i+ a\ntok 0:1:2 0:1:2 p- %25:\ntok 0:1:4 0:1:4 i- b\ntok 0:3:1 0:3:1 n+ 50\ntok 0:3:3 0:3:3 p- %25\n",
+        "ok\n",
+    )
+}
+
+#[test]
+fn prints_the_fault_of_a_file(rt: HostRuntime) -> Result<(), Fail> {
+    prints(&rt, "\"hex\":\"785c\"", "", "fault 2 0:1:2\n")?;
+    prints(
+        &rt,
+        "\"text\":\"x ' y\\n\"",
+        "tok 0:1:1 0:1:1 i+ x\n",
+        "fault 7 0:1:3 '\n",
+    )?;
+    prints(&rt, "\"text\":\"#foo\\n\"", "", "fault 8 0:1:1 foo\n")?;
+    prints(&rt, "\"text\":\"#foo 'z\\n\"", "", "fault 7 0:1:6 '\n")?;
+    prints(
+        &rt,
+        "\"text\":\"??=\\n#define X\\n\"",
+        "",
+        "fault 8 0:2:1 define\n",
+    )
+}
+
+#[test]
+fn refuses_by_the_least_number(rt: HostRuntime) -> Result<(), Fail> {
+    let arrays = format!(in rt.alloc();
+        "{}{}",
+        "[".repeat(rt.alloc(), 100)?,
+        "]".repeat(rt.alloc(), 100)?
+    )?;
+    let more_arrays = format!(in rt.alloc();
+        "{}{}",
+        "[".repeat(rt.alloc(), 200)?,
+        "]".repeat(rt.alloc(), 200)?
+    )?;
+    let name = "n".repeat(rt.alloc(), 1025)?;
+    let long_name = format!(in rt.alloc();
+        "{{\"date\":\"Feb  9 2024\",\"time\":\"08:05:03\",\"files\":[{{\"name\":\"{name}\",\"text\":\"\"}}],\"units\":[{{\"file\":\"{name}\"}}]}}"
+    )?;
+    let rows = [
+        (
+            r#"{"date":"Feb  9 2024","time":"08:05:03","files":[{"name":"b/../a.c","text":""}],"units":[{"file":"a.c"}]}"#,
+            3,
+        ),
+        (
+            r#"{"date":"Feb  9 2024","time":"08:05:03","files":[{"name":"a.c","text":""}],"units":[{"file":"a.c"}]"#,
+            1,
+        ),
+        (
+            r#"{"date":"Feb  9 2024","time":"24:00:00","files":[{"name":"a.c","text":""}],"units":[{"file":"a.c"}]}"#,
+            6,
+        ),
+        (arrays.as_str(), 2),
+        (more_arrays.as_str(), 1),
+        (long_name.as_str(), 3),
+    ];
+    for (list, want) in rows {
+        let mut reader = SliceFeed::new(list.as_bytes());
+        let mut writer = VecSink::new(rt.alloc());
+        let outcome = serve(&rt, rt.alloc(), &mut reader, &mut writer, Mode::Dump, 4, 8);
+        let Err(RunFault::List(number)) = &outcome else {
+            return Err(Fail::new("a list that was not refused"));
+        };
+        assert_eq!(rt; *number, want, "at {list}");
+        assert_eq!(rt; status(&outcome), 3);
+        assert!(rt; writer.bytes().is_empty());
+    }
+    Ok(())
+}
+
+#[test]
+fn prints_a_name_of_1024_bytes(rt: HostRuntime) -> Result<(), Fail> {
+    let name = "n".repeat(rt.alloc(), 1024)?;
+    let list = format!(in rt.alloc();
+        "{{\"date\":\"Feb  9 2024\",\"time\":\"08:05:03\",\"files\":[{{\"name\":\"{name}\",\"text\":\"\"}}],\"units\":[{{\"file\":\"{name}\"}}]}}"
+    )?;
+    let want = format!(in rt.alloc(); "unit 0 {name}\ndep 0 {name}\nok\n")?;
+    let mut reader = SliceFeed::new(list.as_bytes());
+    let mut writer = VecSink::new(rt.alloc());
+    let outcome = serve(&rt, rt.alloc(), &mut reader, &mut writer, Mode::Dump, 4, 8);
+    assert_eq!(rt; status(&outcome), 0);
+    assert!(rt; writer.bytes() == want.as_bytes());
+    Ok(())
+}
+
+/// Gives 30 bytes, and then fails.
+#[derive(Drop)]
+struct Broken<'a> {
+    bytes: SliceFeed<'a>,
+    calls: usize,
+    failed: bool,
+}
+
+impl Feed for Broken<'_> {
+    ghost rest = { λ _. None };
+
+    ghost has_failed = { λ s. s.failed };
+
+    fn read(&mut self, buf: &mut [u8]) -> Result<usize, Failed> {
+        self.calls = self.calls.saturating_add(1);
+        if self.calls > 1 {
+            self.failed = true;
+            return Err(Failed);
+        }
+        let room = buf.len().min(30);
+        let Ok(count) = self.bytes.read(&mut buf[..room]) else {
+            self.failed = true;
+            return Err(Failed);
+        };
+        Ok(count)
+    }
+
+    fn failed(&self) -> bool {
+        self.failed
+    }
+}
+
+#[test]
+fn writes_nothing_after_a_failed_read(rt: HostRuntime) -> Result<(), Fail> {
+    let mut reader = Broken {
+        bytes: SliceFeed::new(EXAMPLE.as_bytes()),
+        calls: 0,
+        failed: false,
+    };
+    let mut writer = VecSink::new(rt.alloc());
+    let outcome = serve(&rt, rt.alloc(), &mut reader, &mut writer, Mode::Dump, 4, 8);
+    assert!(rt; matches!(outcome, Err(RunFault::Read)));
+    assert_eq!(rt; status(&outcome), 5);
+    assert!(rt; reader.failed());
+    assert!(rt; !writer.failed());
+    assert!(rt; writer.bytes().is_empty());
+    Ok(())
+}
+
+/// Takes 5 bytes a call, and fails at its third.
+#[derive(Drop)]
+struct Short {
+    bytes: VecSink,
+    calls: usize,
+    failed: bool,
+}
+
+impl Sink for Short {
+    ghost written = { λ _. None };
+
+    ghost has_failed = { λ s. s.failed };
+
+    fn write(&mut self, bytes: &[u8]) -> Result<usize, Failed> {
+        self.calls = self.calls.saturating_add(1);
+        if self.calls >= 3 {
+            self.failed = true;
+            return Err(Failed);
+        }
+        let room = bytes.len().min(5);
+        let Ok(count) = self.bytes.write(&bytes[..room]) else {
+            self.failed = true;
+            return Err(Failed);
+        };
+        Ok(count)
+    }
+
+    fn failed(&self) -> bool {
+        self.failed
+    }
+}
+
+#[test]
+fn breaks_off_at_a_failed_write(rt: HostRuntime) -> Result<(), Fail> {
+    let mut reader = SliceFeed::new(EXAMPLE.as_bytes());
+    let mut writer = Short {
+        bytes: VecSink::new(rt.alloc()),
+        calls: 0,
+        failed: false,
+    };
+    let outcome = serve(&rt, rt.alloc(), &mut reader, &mut writer, Mode::Dump, 4, 8);
+    assert!(rt; matches!(outcome, Err(RunFault::Write)));
+    assert_eq!(rt; status(&outcome), 5);
+    assert!(rt; writer.failed());
+    assert!(rt; !reader.failed());
+    assert_eq!(rt; writer.calls, 3);
+    assert!(rt; writer.bytes.bytes() == b"unit 0 a.c".as_slice());
+    Ok(())
+}
+
+#[test]
+fn serves_over_a_reader_and_a_writer(rt: HostRuntime) -> Result<(), Fail> {
+    let mut reader = ReaderFeed::new(EXAMPLE.as_bytes());
+    let mut bytes = Vec::new(rt.alloc());
+    let mut writer = WriterSink::new(&mut bytes);
+    let outcome = serve(&rt, rt.alloc(), &mut reader, &mut writer, Mode::Dump, 4, 8);
+    assert_eq!(rt; status(&outcome), 0);
+    assert!(rt; bytes.as_slice() == EXAMPLE_OUTPUT.as_bytes());
+    Ok(())
+}
+
+#[test]
+fn says_what_failed(rt: HostRuntime) {
+    for number in 1..=8 {
+        assert_eq!(rt; words(&RunFault::List(number)).len(), 25);
+    }
+    assert!(rt; words(&RunFault::List(3)) == "cppunits: list refused L3");
+    assert!(rt; words(&RunFault::Memory) == "cppunits: out of memory");
+    assert!(rt; words(&RunFault::Read) == "cppunits: read failed");
+    assert!(rt; words(&RunFault::Write) == "cppunits: write failed");
+}
