@@ -154,3 +154,37 @@ impl Tokens {
         self.tokens.as_slice()
     }
 }
+
+#[cfg(test)]
+mod tests {
+    use super::*;
+    use std::test::Fail;
+
+    #[test]
+    fn gives_back_what_it_was_made_of(rt: HostRuntime) -> Result<(), Fail> {
+        let spelling = Spelling::new([b'a', b'b'].to_vec(rt.alloc())?);
+        assert_eq!(rt; spelling.as_bytes(), b"ab".as_slice());
+        assert!(rt; spelling.clone()? == spelling);
+        let at = Place {
+            file: 1,
+            line: 2,
+            col: 3,
+        };
+        let mut tokens = Vec::new(rt.alloc());
+        tokens.push(Token {
+            kind: Kind::Ident,
+            text: spelling,
+            space: true,
+            at,
+            used: at,
+        })?;
+        let tokens = Tokens::new(tokens);
+        assert_eq!(rt; tokens.as_slice().len(), 1);
+        let mut tokens = tokens.into_vec();
+        let token = tokens.pop().ok_or("no token")?;
+        assert_eq!(rt; token.at, at);
+        let bytes = token.text.into_bytes();
+        assert_eq!(rt; bytes.as_slice(), b"ab".as_slice());
+        Ok(())
+    }
+}

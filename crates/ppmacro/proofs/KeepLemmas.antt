@@ -1,0 +1,50 @@
+-- Tokens stand for the same while hide sets are added.
+use Rattle.std.proofs.Common.{◌≡◌, ℕ, zero, suc, ◌<◌, ◌≤◌, List, [], ◌∷◌, ◌++◌, map, length, get_or, refl, sym, ap, ◌∙◌, subst, arith, append_assoc, append-nil, length-append}
+use Rattle.std.proofs.lemmas.List.{get_or_append_left}
+use Rattle.std.specs.FinSet as set
+use Rattle.ppmacro.specs.Numbered.{Numbered}
+use Rattle.ppmacro.specs.HideSets.{set_at, IsKnown, Hiding, hiding, hidings, AllKnown, Keeps}
+use Rattle.ppmacro.specs.declared.hide_sets.Hidden.{Hidden}
+
+pub set-keeps : {old new : Numbered} (n : ℕ) → Keeps old new → IsKnown old n → set_at new n ≡ set_at old n
+set-keeps {old} {new} n k known = ap (λ s. get_or s n set.empty) k.is ∙ get_or_append_left old.sets k.more set.empty n known
+
+pub known-set : {old new : Numbered} (n : ℕ) → Keeps old new → IsKnown old n → IsKnown new n
+known-set {old} {new} n k known = omega (arith, ap length k.is, length-append old.sets k.more)
+
+pub hiding-keeps : {old new : Numbered} (h : Hidden) → Keeps old new → IsKnown old h.hide → hiding new h ≡ hiding old h
+hiding-keeps h k known = λ i. record { token = h.token; hide = set-keeps h.hide k known i }
+
+pub hidings-keeps : {old new : Numbered} (hs : List Hidden) → Keeps old new → AllKnown old hs → hidings new hs ≡ hidings old hs
+hidings-keeps [] k known = refl
+hidings-keeps (h ∷ hs) k known =
+    let rest = hidings-keeps hs k (record { each = known.each.1 }) in
+    λ i. hiding-keeps h k known.each.0 i ∷ rest i
+
+pub known-keeps : {old new : Numbered} (hs : List Hidden) → Keeps old new → AllKnown old hs → AllKnown new hs
+known-keeps [] k known = record { each = tt }
+known-keeps (h ∷ hs) k known =
+    let rest = known-keeps hs k (record { each = known.each.1 }) in
+    record { each = (known-set h.hide k known.each.0, rest.each) }
+
+pub keeps-all : (s : Numbered) → Keeps s s
+keeps-all s = record { more = []; is = sym (append-nil s.sets) }
+
+pub keeps-after : {a b c : Numbered} → Keeps a b → Keeps b c → Keeps a c
+keeps-after h k = record { more = h.more ++ k.more; is = k.is ∙ ap (λ s. s ++ k.more) h.is ∙ append_assoc _ h.more k.more }
+
+pub known-append : {s : Numbered} (gs hs : List Hidden) → AllKnown s gs → AllKnown s hs → AllKnown s (gs ++ hs)
+known-append [] hs g h = h
+known-append (x ∷ gs) hs g h =
+    let rest = known-append gs hs (record { each = g.each.1 }) h in
+    record { each = (g.each.0, rest.each) }
+
+pub known-front : {s : Numbered} (gs hs : List Hidden) → AllKnown s (gs ++ hs) → AllKnown s gs
+known-front [] hs k = record { each = tt }
+known-front (x ∷ gs) hs k =
+    let rest = known-front gs hs (record { each = k.each.1 }) in
+    record { each = (k.each.0, rest.each) }
+
+pub known-behind : {s : Numbered} (gs hs : List Hidden) → AllKnown s (gs ++ hs) → AllKnown s hs
+known-behind [] hs k = k
+known-behind (x ∷ gs) hs k = known-behind gs hs (record { each = k.each.1 })

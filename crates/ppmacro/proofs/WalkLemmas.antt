@@ -1,0 +1,75 @@
+-- The chains' tokens one behind the other, and what they gain, while hide sets are added.
+use Rattle.std.proofs.Common.{◌≡◌, ℕ, zero, suc, ◌+◌, ◌<◌, Bool, false, not, ◌||◌, ◌&&◌, List, [], ◌∷◌, ◌++◌, map, take, drop, length, get_or, Option, Some, None, Vec, Global, Result, Ok, Err, refl, sym, ap, ◌∙◌, append_assoc, arith}
+use Rattle.std.proofs.lemmas.List.{map-append, drop_more, take_more}
+use Rattle.std.specs.Option.{option_map}
+use Rattle.pptext.specs.declared.tokens.Kind.{Kind}
+use Rattle.pptext.specs.declared.tokens.Place.{Place}
+use Rattle.pptext.specs.declared.tokens.Fault.{Fault}
+use Rattle.ppmacro.specs.Numbered.{Numbered}
+use Rattle.ppmacro.specs.HideSets.{set_at, IsKnown, Hiding, hiding, hidings, AllKnown, Keeps}
+use Rattle.ppmacro.specs.Substitution.{Arguments, Marked, after_ok, argument_at, expanded_at, chain_tokens, mark_first, chains_tokens, gained}
+use Rattle.ppmacro.specs.Substituting.{lists_of, options_of, ArgumentsKnown, arguments_in, marked_behind}
+use Rattle.ppmacro.specs.declared.hide_sets.Hidden.{Hidden}
+use Rattle.ppmacro.specs.declared.macros.Chain.{Chain}
+use Rattle.ppmacro.proofs.KeepLemmas.{set-keeps, hiding-keeps, hidings-keeps, known-keeps}
+
+pub drop-item : {X : Type 0} (xs : List X) (i : ℕ) (x : X) → i < length xs → x ≡ get_or xs i x → drop i xs ≡ x ∷ drop (i + 1) xs
+drop-item xs i x h e = drop_more xs i x h ∙ ap (λ y. y ∷ drop (i + 1) xs) (sym e)
+
+pub take-item : {X : Type 0} (xs : List X) (i : ℕ) (x : X) → i < length xs → x ≡ get_or xs i x → take (i + 1) xs ≡ take i xs ++ x ∷ []
+take-item xs i x h e = take_more xs i x h ∙ ap (λ y. take i xs ++ y ∷ []) (sym e)
+
+pub known-at : (s : Numbered) (hs : List Hidden) (i : ℕ) (h : Hidden) → i < length hs → h ≡ get_or hs i h → AllKnown s hs → IsKnown s h.hide
+known-at s [] i h less e known = absurd (omega arith)
+known-at s (x ∷ hs) zero h less e known = rw e known.each.0
+known-at s (x ∷ hs) (suc i) h less e known = known-at s hs i h (omega arith) e (record { each = known.each.1 })
+
+-- ---- arguments stand for the same
+
+given-keeps : {s t : Numbered} (given : List (Vec Hidden Global)) → Keeps s t → ((i : ℕ) → AllKnown s (argument_at (lists_of given) i)) → map (hidings t) (lists_of given) ≡ map (hidings s) (lists_of given)
+given-keeps [] k known = refl
+given-keeps (v ∷ vs) k known = λ i. hidings-keeps v.items k (known 0) i ∷ given-keeps vs k (λ n. known (suc n)) i
+
+option-keeps : {s t : Numbered} (o : Option (Vec Hidden Global)) (os : List (Option (Vec Hidden Global))) → Keeps s t → AllKnown s (expanded_at (options_of (o ∷ os)) 0) → option_map (hidings t) (option_map (λ (v : Vec Hidden Global). v.items) o) ≡ option_map (hidings s) (option_map (λ (v : Vec Hidden Global). v.items) o)
+option-keeps None os k known = refl
+option-keeps (Some v) os k known = ap Some (hidings-keeps v.items k known)
+
+expanded-keeps : {s t : Numbered} (expanded : List (Option (Vec Hidden Global))) → Keeps s t → ((i : ℕ) → AllKnown s (expanded_at (options_of expanded) i)) → map (λ o. option_map (hidings t) o) (options_of expanded) ≡ map (λ o. option_map (hidings s) o) (options_of expanded)
+expanded-keeps [] k known = refl
+expanded-keeps (o ∷ os) k known = λ i. option-keeps o os k (known 0) i ∷ expanded-keeps os k (λ n. known (suc n)) i
+
+pub arguments-keeps : {s t : Numbered} (given : List (Vec Hidden Global)) (expanded : List (Option (Vec Hidden Global))) → Keeps s t → ArgumentsKnown s given expanded → arguments_in t given expanded ≡ arguments_in s given expanded
+arguments-keeps given expanded k known = λ i. record { given = given-keeps given k known.given_known i; expanded = expanded-keeps expanded k known.expanded_known i }
+
+pub arguments-known : {s t : Numbered} (given : List (Vec Hidden Global)) (expanded : List (Option (Vec Hidden Global))) → Keeps s t → ArgumentsKnown s given expanded → ArgumentsKnown t given expanded
+arguments-known given expanded k known = record { given_known = λ i. known-keeps _ k (known.given_known i); expanded_known = λ i. known-keeps _ k (known.expanded_known i) }
+
+-- ---- chains
+
+abbrev Kinds : Type 0
+Kinds = List ℕ → Option Kind
+
+abbrev goes_on : Kinds → Arguments → Place → Bool → List Chain → List Hiding → Result Marked Fault
+goes_on kinds args used mark cs ts = after_ok (chains_tokens kinds args used (mark_first mark ts).pending false cs) (λ rest. Ok (record { tokens = (mark_first mark ts).tokens ++ rest.tokens; pending = rest.pending }))
+
+behind-behind : (xs ys : List Hiding) (r : Result Marked Fault) → marked_behind xs (after_ok r (λ m. Ok (record { tokens = ys ++ m.tokens; pending = m.pending }))) ≡ marked_behind (xs ++ ys) r
+behind-behind xs ys (Ok m) = λ i. Ok (record { tokens = sym (append_assoc xs ys m.tokens) i; pending = m.pending })
+behind-behind xs ys (Err f) = refl
+
+pub chains-more : (kinds : Kinds) (args : Arguments) (used : Place) (pending first : Bool) (c : Chain) (cs : List Chain) (front ts : List Hiding) → Ok ts ≡ chain_tokens kinds args used c → marked_behind (front ++ (mark_first (pending || (not first && c.mark)) ts).tokens) (chains_tokens kinds args used (mark_first (pending || (not first && c.mark)) ts).pending false cs) ≡ marked_behind front (chains_tokens kinds args used pending first (c ∷ cs))
+chains-more kinds args used pending first c cs front ts h =
+    sym (behind-behind front (mark_first (pending || (not first && c.mark)) ts).tokens (chains_tokens kinds args used (mark_first (pending || (not first && c.mark)) ts).pending false cs))
+    ∙ ap (λ r. marked_behind front (after_ok r (goes_on kinds args used (pending || (not first && c.mark)) cs))) h
+
+pub chains-refused : (kinds : Kinds) (args : Arguments) (used : Place) (pending first : Bool) (c : Chain) (cs : List Chain) (front : List Hiding) (f : Fault) → Err f ≡ chain_tokens kinds args used c → Err f ≡ marked_behind front (chains_tokens kinds args used pending first (c ∷ cs))
+chains-refused kinds args used pending first c cs front f h = ap (λ r. marked_behind front (after_ok r (goes_on kinds args used (pending || (not first && c.mark)) cs))) h
+
+-- ---- the gain
+
+pub gained-more : (s t u : Numbered) (g : ℕ) (used : Place) (done earlier : List Hidden) (item one : Hidden) → Keeps s t → Keeps t u → IsKnown s g → AllKnown t done → IsKnown s item.hide → hiding u one ≡ gained (set_at t g) used (hiding t item) → hidings t done ≡ map (gained (set_at s g) used) (hidings s earlier) → hidings u (done ++ one ∷ []) ≡ map (gained (set_at s g) used) (hidings s (earlier ++ item ∷ []))
+gained-more s t u g used done earlier item one k l gain known here is so_far =
+    let last : hiding u one ≡ gained (set_at s g) used (hiding s item) = is ∙ (λ i. gained (set-keeps g k gain i) used (hiding-keeps item k here i)) in
+    map-append (hiding u) done (one ∷ [])
+    ∙ (λ i. (hidings-keeps done l known ∙ so_far) i ++ last i ∷ [])
+    ∙ sym (map-append (gained (set_at s g) used) (hidings s earlier) (hiding s item ∷ []))
+    ∙ ap (map (gained (set_at s g) used)) (sym (map-append (hiding s) earlier (item ∷ [])))

@@ -1,0 +1,93 @@
+-- The replacement list as a list of chains, whose operands `##` joins (6.10.3.3).
+use Rattle.std.specs.Prelude.{ℕ, Bool, true, false, ◌&&◌, ◌||◌, List, [], ◌∷◌, ◌++◌, Option, Some, None, codes, length, position, if◌then◌else◌}
+use Rattle.std.specs.Str.{bytes_eq}
+use Rattle.pptext.specs.declared.tokens.Token.{Token}
+use Rattle.ppmacro.specs.Spellings.{is_identifier, is_hash, is_paste}
+use Rattle.ppmacro.specs.Names.{Name}
+use Rattle.ppmacro.specs.declared.macros.Shape.{Shape}
+use Rattle.ppmacro.specs.declared.macros.Shape.TheVariants.{FunctionLike}
+use Rattle.ppmacro.specs.declared.macros.Definition.{Definition}
+use Rattle.ppmacro.specs.declared.macros.Chain.{Chain}
+use Rattle.ppmacro.specs.declared.macros.Operand.{Operand}
+use Rattle.ppmacro.specs.declared.macros.Operand.TheVariants.{Tok, Param, Str}
+use Rattle.ppmacro.specs.declared.chains.HashSign.{HashSign}
+use Rattle.ppmacro.specs.declared.chains.Item.{Item}
+use Rattle.ppmacro.specs.declared.chains.Item.TheVariants.{Operates, Joins}
+
+abbrev pub or_at : Option ℕ → Bool → ℕ → Option ℕ
+or_at (Some i) last n = Some i
+or_at None true n = Some n
+or_at None false n = None
+
+-- which parameter a name is: `__VA_ARGS__` comes behind the named ones, where `...` ends them
+abbrev pub parameter_named : Shape → Name → Option ℕ
+parameter_named (FunctionLike names variadic) text = or_at (position (λ p. bytes_eq p text) names) (variadic && bytes_eq (codes "__VA_ARGS__") text) (length names)
+parameter_named _ text = None
+
+-- which parameter a token is
+abbrev pub parameter_of : Shape → Token → Option ℕ
+parameter_of shape t = if is_identifier t then parameter_named shape t.text else None
+
+abbrev pub is_function_like : Shape → Bool
+is_function_like (FunctionLike names variadic) = true
+is_function_like _ = false
+
+-- `#` that is an operator
+abbrev pub is_operator_hash : Shape → Token → Bool
+is_operator_hash shape t = is_function_like shape && is_hash t
+
+abbrev pub plain_item : Option ℕ → Token → Item
+plain_item (Some i) t = Operates t.space (Param i)
+plain_item None t = Operates t.space (Tok t)
+
+-- a token behind `#`
+abbrev pub stringized_item : Option ℕ → HashSign → Token → Item
+stringized_item (Some i) hash t = Operates hash.mark (Str i hash.at)
+stringized_item None hash t = plain_item None t
+
+abbrev pub hash_sign : Token → HashSign
+hash_sign t = record { mark = t.space; at = t.at }
+
+-- a replacement list as operands and `##`; `hash` is the `#` that stands directly before, if one does
+abbrev pub items_behind : Shape → Option HashSign → List Token → List Item
+items_behind shape hash [] = []
+items_behind shape (Some hash) (t ∷ ts) = stringized_item (parameter_of shape t) hash t ∷ items_behind shape None ts
+items_behind shape None (t ∷ ts) = elim (is_paste t) [ true ↦ Joins ∷ items_behind shape None ts | false ↦ elim (is_operator_hash shape t) [ true ↦ items_behind shape (Some (hash_sign t)) ts | false ↦ plain_item (parameter_of shape t) t ∷ items_behind shape None ts ] ]
+
+-- the items where this one is the next, or none at a `#`
+abbrev pub led_by : Shape → Token → Option Item → List Token → List Item
+led_by shape t (Some item) ts = item ∷ items_behind shape None ts
+led_by shape t None ts = items_behind shape (Some (hash_sign t)) ts
+
+abbrev pub begins_joined : List Item → Bool
+begins_joined (Joins ∷ is) = true
+begins_joined _ = false
+
+-- an operand before these chains, joined to the first
+abbrev pub join_first : Bool → Operand → List Chain → List Chain
+join_first mark o [] = record { mark = mark; operands = o ∷ [] } ∷ []
+join_first mark o (c ∷ cs) = record { mark = mark; operands = o ∷ c.operands } ∷ cs
+
+abbrev pub grouped : List Item → List Chain
+grouped [] = []
+grouped (Joins ∷ is) = grouped is
+grouped (Operates mark o ∷ is) = elim (begins_joined is) [ true ↦ join_first mark o (grouped is) | false ↦ record { mark = mark; operands = o ∷ [] } ∷ grouped is ]
+
+abbrev pub chains_of : Definition → List Chain
+chains_of d = grouped (items_behind d.shape None d.body)
+
+-- a chain with more behind it, joined to the first
+abbrev pub joined_to : Chain → List Chain → List Chain
+joined_to c [] = c ∷ []
+joined_to c (d ∷ ds) = record { mark = c.mark; operands = c.operands ++ d.operands } ∷ ds
+
+-- these chains with more behind them; `##` stands in between where it joins
+abbrev pub followed : Bool → List Chain → List Chain → List Chain
+followed false cs ds = cs ++ ds
+followed true [] ds = ds
+followed true (c ∷ []) ds = joined_to c ds
+followed true (c ∷ (b ∷ cs)) ds = c ∷ followed true (b ∷ cs) ds
+
+-- the chains so far, and what these items add to them; `joined`: `##` stands directly before
+abbrev pub resumed : Bool → List Chain → List Item → List Chain
+resumed joined cs is = followed (joined || begins_joined is) cs (grouped is)

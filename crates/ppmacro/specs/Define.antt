@@ -1,0 +1,188 @@
+-- `#define` and `#undef` (6.10.3, 6.10.3.5): the table afterwards, or the one fault. The tests stand in their order.
+use Rattle.std.specs.Prelude.{◌≡◌, ℕ, Bool, true, false, not, ◌&&◌, ◌||◌, List, [], ◌∷◌, Option, Some, None, is_some, Result, Ok, Err, codes, if◌then◌else◌}
+use Rattle.std.specs.List.{list_any}
+use Rattle.std.specs.Option.{option_map}
+use Rattle.std.specs.Str.{bytes_eq}
+use Rattle.std.specs.Cmp.Lexicographic.{pointwise}
+use Rattle.std.specs.FinMap as table
+use Rattle.pptext.specs.declared.tokens.Place.{Place}
+use Rattle.pptext.specs.declared.tokens.Token.{Token}
+use Rattle.pptext.specs.declared.tokens.Fault.{Fault}
+use Rattle.ppmacro.specs.Names.{Name, Macros}
+use Rattle.ppmacro.specs.Spellings.{is_identifier, is_name, is_punct, is_hash, is_paste}
+use Rattle.ppmacro.specs.Chains.{parameter_of, is_function_like}
+use Rattle.ppmacro.specs.declared.macros.Shape.{Shape}
+use Rattle.ppmacro.specs.declared.macros.Shape.TheVariants.{Predefined, ObjectLike, FunctionLike}
+use Rattle.ppmacro.specs.declared.macros.Definition.{Definition}
+use Rattle.ppmacro.specs.declared.defining.Refusal.{Refusal}
+use Rattle.ppmacro.specs.declared.defining.Refusal.TheVariants.{ParameterList, Spacing, Pasting, Stringizing, VariableArguments, Redefinition}
+use Rattle.ppmacro.specs.declared.defining.Named.{Named}
+use Rattle.ppmacro.specs.declared.defining.headings.Heading.{Heading}
+
+-- ---- the parameters (6.10p1, 6.10.3p10)
+
+-- `)` is wanted here, and behind it stands the replacement list
+abbrev pub closed : Bool → List Token → Option Heading
+closed variadic [] = None
+closed variadic (t ∷ ts) = if is_punct (codes ")") t then Some (record { names = []; variadic = variadic; body = ts }) else None
+
+abbrev pub with_name : Name → Heading → Heading
+with_name n h = record h { names = n ∷ h.names }
+
+-- behind a name `,` or `)` is wanted, elsewhere a name or `...`
+abbrev pub parameters_from : Bool → List Token → Option Heading
+parameters_from named [] = None
+parameters_from true (t ∷ ts) = if is_punct (codes ",") t then parameters_from false ts else closed false (t ∷ ts)
+parameters_from false (t ∷ ts) = if is_punct (codes "...") t then closed true ts else (if is_identifier t then option_map (with_name t.text) (parameters_from true ts) else None)
+
+-- what stands behind `(`
+abbrev pub parameter_list : List Token → Option Heading
+parameter_list [] = None
+parameter_list (t ∷ ts) = if is_punct (codes ")") t then Some (record { names = []; variadic = false; body = ts }) else parameters_from false (t ∷ ts)
+
+abbrev pub repeats : List Name → Bool
+repeats [] = false
+repeats (n ∷ ns) = list_any (λ m. bytes_eq m n) ns || repeats ns
+
+abbrev pub function_like : Option Heading → Result Definition Refusal
+function_like None = Err ParameterList
+function_like (Some h) =
+    if repeats h.names then Err ParameterList else (
+    if list_any (λ n. bytes_eq n (codes "__VA_ARGS__")) h.names then Err VariableArguments else
+    Ok (record { shape = FunctionLike h.names h.variadic; body = h.body }))
+
+-- what stands behind the macro's name
+abbrev pub read_definition : List Token → Result Definition Refusal
+read_definition [] = Ok (record { shape = ObjectLike; body = [] })
+read_definition (t ∷ ts) =
+    if t.space then Ok (record { shape = ObjectLike; body = t ∷ ts }) else (
+    if is_punct (codes "(") t then function_like (parameter_list ts) else Err Spacing)
+
+-- ---- the replacement list
+
+abbrev pub is_variadic : Shape → Bool
+is_variadic (FunctionLike names variadic) = variadic
+is_variadic _ = false
+
+abbrev pub is_empty : List Token → Bool
+is_empty [] = true
+is_empty (t ∷ ts) = false
+
+-- `##` first, last or beside another (6.10.3.3p1); `bare`: no operand stands directly before
+abbrev pub misplaces_paste : Bool → List Token → Bool
+misplaces_paste bare [] = false
+misplaces_paste bare (t ∷ ts) = if is_paste t then bare || (is_empty ts || misplaces_paste true ts) else misplaces_paste false ts
+
+abbrev pub begins_with_parameter : Shape → List Token → Bool
+begins_with_parameter shape [] = false
+begins_with_parameter shape (t ∷ ts) = is_some (parameter_of shape t)
+
+-- `#` that does not stand directly before a parameter (6.10.3.2p1)
+abbrev pub misplaces_hash : Shape → List Token → Bool
+misplaces_hash shape [] = false
+misplaces_hash shape (t ∷ ts) = (is_hash t && not (begins_with_parameter shape ts)) || misplaces_hash shape ts
+
+-- ---- two definitions of one name (6.10.3p1, p2)
+
+abbrev pub same_bool : Bool → Bool → Bool
+same_bool true b = b
+same_bool false b = not b
+
+abbrev pub same_token : Token → Token → Bool
+same_token t u = bytes_eq t.text u.text && same_bool t.space u.space
+
+-- the space mark before a replacement list is no part of it
+abbrev pub same_body : List Token → List Token → Bool
+same_body [] [] = true
+same_body (t ∷ ts) (u ∷ us) = bytes_eq t.text u.text && pointwise same_token ts us
+same_body _ _ = false
+
+abbrev pub same_shape : Shape → Shape → Bool
+same_shape ObjectLike ObjectLike = true
+same_shape (FunctionLike ms v) (FunctionLike ns w) = same_bool v w && pointwise bytes_eq ms ns
+same_shape _ _ = false
+
+abbrev pub agrees : Definition → Definition → Bool
+agrees d e = same_shape d.shape e.shape && same_body d.body e.body
+
+abbrev pub clashes : Option Definition → Definition → Bool
+clashes None d = false
+clashes (Some e) d = not (agrees e d)
+
+-- ---- the whole line
+
+abbrev pub is_predefined_shape : Shape → Bool
+is_predefined_shape (Predefined b) = true
+is_predefined_shape _ = false
+
+abbrev pub is_predefined : Option Definition → Bool
+is_predefined None = false
+is_predefined (Some d) = is_predefined_shape d.shape
+
+-- names that are not defined or undefined by a directive (6.10.8p4)
+abbrev pub is_reserved : Macros → Name → Bool
+is_reserved macros name = is_predefined (table.get macros name) || (bytes_eq name (codes "defined") || bytes_eq name (codes "__VA_ARGS__"))
+
+abbrev pub refusal_of : Macros → Name → Definition → Option Refusal
+refusal_of macros name d =
+    if not (is_variadic d.shape) && list_any (is_name (codes "__VA_ARGS__")) d.body then Some VariableArguments else (
+    if misplaces_paste true d.body then Some Pasting else (
+    if is_function_like d.shape && misplaces_hash d.shape d.body then Some Stringizing else (
+    if clashes (table.get macros name) d then Some Redefinition else None)))
+
+abbrev pub unless_refused : Option Refusal → Definition → Result Definition Refusal
+unless_refused None d = Ok d
+unless_refused (Some r) d = Err r
+
+abbrev pub fitting : Macros → Name → Result Definition Refusal → Result Definition Refusal
+fitting macros name (Ok d) = unless_refused (refusal_of macros name d) d
+fitting macros name (Err r) = Err r
+
+-- the faults' numbers
+abbrev pub number_of : Refusal → ℕ
+number_of ParameterList = 11
+number_of Spacing = 12
+number_of Pasting = 13
+number_of Stringizing = 14
+number_of VariableArguments = 15
+number_of Redefinition = 16
+
+abbrev pub fault : ℕ → Place → List ℕ → Fault
+fault n at text = record { number = n; at = at; text = text }
+
+abbrev pub under_name : Place → Name → Result Definition Refusal → Result Named Fault
+under_name at name (Ok d) = Ok (record { name = name; definition = d })
+under_name at name (Err r) = Err (fault (number_of r) at name)
+
+-- the macro that a line behind `define` defines; `at` is the place of `#`
+abbrev pub judged : Macros → Place → List Token → Result Named Fault
+judged macros at [] = Err (fault 9 at (codes "define"))
+judged macros at (t ∷ ts) =
+    if is_identifier t then (
+    if is_reserved macros t.text then Err (fault 10 at t.text) else
+    under_name at t.text (fitting macros t.text (read_definition ts))) else Err (fault 9 at (codes "define"))
+
+abbrev pub entered : Macros → Result Named Fault → Result Macros Fault
+entered macros (Ok n) = Ok (table.insert macros n.name n.definition)
+entered macros (Err f) = Err f
+
+abbrev pub after_define : Macros → Place → List Token → Result Macros Fault
+after_define macros at line = entered macros (judged macros at line)
+
+-- the name that a line behind `undef` takes out
+abbrev pub undefined : Macros → Place → List Token → Result Name Fault
+undefined macros at (t ∷ []) =
+    if is_identifier t then (if is_reserved macros t.text then Err (fault 10 at t.text) else Ok t.text) else Err (fault 9 at (codes "undef"))
+undefined macros at _ = Err (fault 9 at (codes "undef"))
+
+abbrev pub taken_out : Macros → Result Name Fault → Result Macros Fault
+taken_out macros (Ok name) = Ok (table.remove macros name)
+taken_out macros (Err f) = Err f
+
+abbrev pub after_undef : Macros → Place → List Token → Result Macros Fault
+after_undef macros at line = taken_out macros (undefined macros at line)
+
+-- what a call left: the new table, or the old one with the fault
+abbrev pub Leaves : Macros → Macros → Result (Unit {0}) Fault → Result Macros Fault → Type 0
+Leaves old new (Ok u) r = r ≡ Ok new
+Leaves old new (Err f) r = (r ≡ Err f) × (new ≡ old)

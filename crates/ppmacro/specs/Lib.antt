@@ -1,0 +1,11 @@
+pub mod Names
+pub mod Numbered
+pub mod Spellings
+pub mod Chains
+pub mod Entries
+pub mod HideSets
+pub mod Define
+pub mod Headings
+pub mod Predefined
+pub mod Substitution
+pub mod Substituting

@@ -1,0 +1,23 @@
+-- Names, hide sets and tables of macros.
+use Rattle.std.specs.Prelude.{ℕ, Bool, true, false, not, List}
+use Rattle.std.specs.Ordering.{nat_cmp}
+use Rattle.std.specs.Cmp.Lexicographic.{slice_cmp}
+use Rattle.std.specs.FinSet as set
+use Rattle.std.specs.FinMap.{FinMap}
+use Rattle.ppmacro.specs.declared.macros.Definition.{Definition}
+
+-- the spelling of an identifier
+abbrev pub Name : Type 0
+Name = List ℕ
+
+-- the names that a token is not replaced by any more
+abbrev pub HideSet : Type 0
+HideSet = set.FinSet (slice_cmp nat_cmp)
+
+abbrev pub Macros : Type 0
+Macros = FinMap (slice_cmp nat_cmp) Definition
+
+-- whether the set's answer for a name is `held`
+abbrev pub holds : HideSet → Bool → Name → Bool
+holds s true name = set.contains s name
+holds s false name = not (set.contains s name)

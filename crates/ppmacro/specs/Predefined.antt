@@ -1,0 +1,25 @@
+-- The table that a unit begins with (6.10.8.1).
+use Rattle.std.specs.Prelude.{[], ◌∷◌, codes}
+use Rattle.std.specs.FinMap.{from_entries}
+use Rattle.ppmacro.specs.declared.macros.Builtin.{Builtin}
+use Rattle.ppmacro.specs.declared.macros.Builtin.TheVariants.{File, Line, Date, Time, Stdc, StdcHosted, StdcVersion}
+use Rattle.ppmacro.specs.declared.macros.Shape.TheVariants.{Predefined}
+use Rattle.ppmacro.specs.declared.macros.Definition.{Definition}
+use Rattle.ppmacro.specs.Names.{Name, Macros}
+
+abbrev pub predefined_as : Builtin → Definition
+predefined_as b = record { shape = Predefined b; body = [] }
+
+abbrev pub predefined_entry : Name → Builtin → Name × Definition
+predefined_entry name b = (name, predefined_as b)
+
+abbrev pub predefined : Macros
+predefined = from_entries (
+    predefined_entry (codes "__FILE__") File
+    ∷ predefined_entry (codes "__LINE__") Line
+    ∷ predefined_entry (codes "__DATE__") Date
+    ∷ predefined_entry (codes "__TIME__") Time
+    ∷ predefined_entry (codes "__STDC__") Stdc
+    ∷ predefined_entry (codes "__STDC_HOSTED__") StdcHosted
+    ∷ predefined_entry (codes "__STDC_VERSION__") StdcVersion
+    ∷ [])

@@ -1,0 +1,63 @@
+-- What the parts of a substitution answer, in terms of hide sets' members.
+use Rattle.std.specs.Prelude.{ℕ, List, [], ◌∷◌, ◌++◌, map, Option, Vec, Bool, Result, Ok, Err}
+use Rattle.std.specs.Global.{Global}
+use Rattle.std.specs.List.{AllByRecursion}
+use Rattle.std.specs.Option.{option_map}
+use Rattle.pptext.specs.declared.tokens.Token.{Token}
+use Rattle.pptext.specs.declared.tokens.Fault.{Fault}
+use Rattle.ppmacro.specs.Numbered.{Numbered}
+use Rattle.ppmacro.specs.HideSets.{Hiding, hiding, hidings, AllKnown}
+use Rattle.ppmacro.specs.Substitution.{Arguments, Marked, argument_at, expanded_at}
+use Rattle.ppmacro.specs.declared.hide_sets.Hidden.{Hidden}
+
+abbrev pub tokens_of : List Hidden → List Token
+tokens_of hs = map (λ h. h.token) hs
+
+abbrev pub hidden_in : Numbered → Result Hidden Fault → Result Hiding Fault
+hidden_in sets (Ok h) = Ok (hiding sets h)
+hidden_in sets (Err f) = Err f
+
+abbrev pub list_in : Numbered → Result (Vec Hidden Global) Fault → Result (List Hiding) Fault
+list_in sets (Ok v) = Ok (hidings sets v.items)
+list_in sets (Err f) = Err f
+
+-- a list that a call changed, unless it raised a fault
+abbrev pub left_in : Numbered → List Hidden → Result (Unit {0}) Fault → Result (List Hiding) Fault
+left_in sets hs (Ok u) = Ok (hidings sets hs)
+left_in sets hs (Err f) = Err f
+
+abbrev pub lists_of : List (Vec Hidden Global) → List (List Hidden)
+lists_of vs = map (λ v. v.items) vs
+
+abbrev pub options_of : List (Option (Vec Hidden Global)) → List (Option (List Hidden))
+options_of os = map (λ o. option_map (λ v. v.items) o) os
+
+-- the sets of all lists' tokens are there
+pub record ListsKnown (sets : Numbered) (vs : List (Vec Hidden Global)) : Type 0 where
+  pub each : AllByRecursion (λ v. AllKnown sets v.items) vs
+
+-- the sets of all arguments' tokens are there
+pub record ArgumentsKnown (sets : Numbered) (given : List (Vec Hidden Global)) (expanded : List (Option (Vec Hidden Global))) : Type 0 where
+  pub given_known : (i : ℕ) → AllKnown sets (argument_at (lists_of given) i)
+  pub expanded_known : (i : ℕ) → AllKnown sets (expanded_at (options_of expanded) i)
+
+abbrev pub arguments_in : Numbered → List (Vec Hidden Global) → List (Option (Vec Hidden Global)) → Arguments
+arguments_in sets given expanded = record { given = map (hidings sets) (lists_of given); expanded = map (λ o. option_map (hidings sets) o) (options_of expanded) }
+
+abbrev pub lists_in : Numbered → Result (Vec (Vec Hidden Global) Global) Fault → Result (List (List Hiding)) Fault
+lists_in sets (Ok v) = Ok (map (hidings sets) (lists_of v.items))
+lists_in sets (Err f) = Err f
+
+-- these before what comes of the rest
+abbrev pub behind : {A : Type 0} → List A → Result (List A) Fault → Result (List A) Fault
+behind xs (Ok ys) = Ok (xs ++ ys)
+behind xs (Err f) = Err f
+
+abbrev pub marked_in : Numbered → Result (Vec Hidden Global × Bool) Fault → Result Marked Fault
+marked_in sets (Ok m) = Ok (record { tokens = hidings sets m.0.items; pending = m.1 })
+marked_in sets (Err f) = Err f
+
+-- these tokens before what comes of the rest
+abbrev pub marked_behind : List Hiding → Result Marked Fault → Result Marked Fault
+marked_behind ts (Ok m) = Ok (record { tokens = ts ++ m.tokens; pending = m.pending })
+marked_behind ts (Err f) = Err f

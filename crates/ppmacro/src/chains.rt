@@ -1,0 +1,192 @@
+// The chains of a replacement list, whose operands `##` joins (6.10.3.2, 6.10.3.3).
+ghost use Rattle.std.specs.Prelude.{◌≡◌, IfOk, OnOk, List, [], ◌∷◌, ◌++◌, false, position, codes};
+ghost use Rattle.std.specs.Str.{bytes_eq};
+ghost use Rattle.ppmacro.specs.Chains.{or_at, parameter_named, parameter_of, is_function_like, is_operator_hash, plain_item, stringized_item, items_behind, led_by, resumed, chains_of};
+ghost use Rattle.ppmacro.specs.declared.chains.Item.{Item};
+ghost use Rattle.ppmacro.specs.declared.chains.Item.TheVariants.{Operates};
+ghost use Rattle.pptext.specs.declared.tokens.Token.{Token};
+
+use crate::macros::{Chain, Chains, Definition, Operand, Operands, Shape};
+use crate::spellings::{is_hash, is_identifier, is_paste};
+use pptext::{Place, Spelling, Token};
+use std::alloc::{AllocError, Global};
+
+/// A `#`: its space mark, and where it stands.
+#[derive(Clone, Copy)]
+pub(crate) struct HashSign {
+    mark: bool,
+    at: Place,
+}
+
+/// A part of a replacement list: an operand with the space mark of its first token, or `##`.
+#[derive(Drop)]
+pub(crate) enum Item {
+    Operates(bool, Operand),
+    Joins,
+}
+
+// The index of a name.
+fn index_of(names: &[Spelling], name: &[u8]) -> Option<usize>
+    ensures { result ≡ position (λ n. bytes_eq n name.now) names.now }
+{
+    names.iter().position(|n| n.as_bytes() == name)
+}
+
+// Whether it is the name of the arguments that `...` takes.
+fn is_variable_arguments(name: &[u8]) -> bool
+    ensures { result ≡ bytes_eq (codes "__VA_ARGS__") name.now }
+{
+    b"__VA_ARGS__".as_slice() == name
+}
+
+// What was found, or what comes behind the others.
+fn or_last(found: Option<usize>, last: bool, count: usize) -> Option<usize>
+    ensures { result ≡ or_at found last count }
+{
+    match found {
+        Some(index) => Some(index),
+        None if last => Some(count),
+        None => None,
+    }
+}
+
+// Which parameter has this name.
+fn parameter_named(shape: &Shape, name: &[u8]) -> Option<usize>
+    ensures { result ≡ parameter_named shape.now name.now }
+{
+    let Shape::FunctionLike {
+        parameters,
+        variadic,
+    } = shape
+    else {
+        return None;
+    };
+    let names = parameters.as_slice();
+    let last = *variadic && is_variable_arguments(name);
+    or_last(index_of(names, name), last, names.len())
+}
+
+/// Which parameter a token is.
+pub(crate) fn parameter_of(shape: &Shape, token: &Token) -> Option<usize>
+    ensures { result ≡ parameter_of shape.now token.now }
+{
+    if is_identifier(token) {
+        parameter_named(shape, token.text.as_bytes())
+    } else {
+        None
+    }
+}
+
+/// Whether it has parameters, or may have.
+pub(crate) fn is_function_like(shape: &Shape) -> bool
+    ensures { result ≡ is_function_like shape.now }
+{
+    matches!(shape, Shape::FunctionLike { .. })
+}
+
+/// Whether a token is `#` as an operator.
+pub(crate) fn is_operator_hash(shape: &Shape, token: &Token) -> bool
+    ensures { result ≡ is_operator_hash shape.now token.now }
+{
+    is_function_like(shape) && is_hash(token)
+}
+
+// A token as an operand.
+fn plain_item(shape: &Shape, token: &Token) -> Result<Item, AllocError>
+    ensures { IfOk result (λ i. i ≡ plain_item (parameter_of shape.now token.now) token.now) }
+{
+    let Some(index) = parameter_of(shape, token) else {
+        return Ok(Item::Operates(token.space, Operand::Tok(token.clone()?)));
+    };
+    Ok(Item::Operates(token.space, Operand::Param(index)))
+}
+
+// A token behind `#` as an operand.
+fn stringized_item(shape: &Shape, hash: HashSign, token: &Token) -> Result<Item, AllocError>
+    ensures { IfOk result (λ i. i ≡ stringized_item (parameter_of shape.now token.now) hash token.now) }
+{
+    let Some(index) = parameter_of(shape, token) else {
+        return Ok(Item::Operates(token.space, Operand::Tok(token.clone()?)));
+    };
+    Ok(Item::Operates(hash.mark, Operand::Str(index, hash.at)))
+}
+
+// The next part, or none at a `#`, which goes with the token behind it.
+fn next_item(
+    shape: &Shape,
+    hash: Option<HashSign>,
+    token: &Token,
+) -> Result<Option<Item>, AllocError>
+    ensures { IfOk result (λ i. (ts : List Token) → items_behind shape.now hash (token.now ∷ ts) ≡ led_by shape.now token.now i ts) }
+{
+    if let Some(sign) = hash {
+        return Ok(Some(stringized_item(shape, sign, token)?));
+    }
+    if is_paste(token) {
+        return Ok(Some(Item::Joins));
+    }
+    if is_operator_hash(shape, token) {
+        return Ok(None);
+    }
+    Ok(Some(plain_item(shape, token)?))
+}
+
+// Puts a chain of one operand behind the others.
+fn begin_chain(chains: &mut Vec<Chain>, mark: bool, operand: Operand) -> Result<(), AllocError>
+    ensures { OnOk result (chains.new.items ≡ chains.old.items ++ record { mark = mark; operands = operand ∷ [] } ∷ []) }
+{
+    let mut operands = Vec::new(chains.allocator().clone()?);
+    operands.push(operand)?;
+    chains.push(Chain {
+        mark,
+        operands: Operands::new(operands),
+    })?;
+    Ok(())
+}
+
+// Puts an operand behind the chains, into the last one where it is joined.
+fn put(
+    chains: &mut Vec<Chain>,
+    joined: bool,
+    mark: bool,
+    operand: Operand,
+) -> Result<(), AllocError>
+    ensures { OnOk result ((is : List Item) → resumed false chains.new.items is ≡ resumed joined chains.old.items (Operates mark operand ∷ is)) }
+{
+    if !joined {
+        return begin_chain(chains, mark, operand);
+    }
+    let Some(last) = chains.len().checked_sub(1) else {
+        return begin_chain(chains, mark, operand);
+    };
+    let chain = &mut chains[last];
+    chain.operands.push(operand)?;
+    Ok(())
+}
+
+/// The chains of a definition's replacement list.
+pub(crate) fn chains_of(alloc: Global, definition: &Definition) -> Result<Chains, AllocError>
+    ensures { IfOk result (λ c. c ≡ chains_of definition.now) }
+{
+    let shape = &definition.shape;
+    let mut chains = Vec::new(alloc);
+    let mut joined = false;
+    let mut hash = None;
+    for token in definition.body.as_slice() {
+        let Some(item) = next_item(shape, hash, token)? else {
+            hash = Some(HashSign {
+                mark: token.space,
+                at: token.at,
+            });
+            continue;
+        };
+        hash = None;
+        let Item::Operates(mark, operand) = item else {
+            joined = true;
+            continue;
+        };
+        put(&mut chains, joined, mark, operand)?;
+        joined = false;
+    }
+    Ok(Chains::new(chains))
+}

@@ -1,0 +1,261 @@
+// `#define` and `#undef` (6.10.3, 6.10.3.5).
+ghost use Rattle.std.specs.Prelude.{◌≡◌, IfOk, OnOk, OnErr};
+ghost use Rattle.std.specs.FinMap as finite_map;
+ghost use Rattle.ppmacro.specs.declared.macros.Shape.TheVariants.{ObjectLike};
+ghost use Rattle.ppmacro.specs.Define.{parameter_list, read_definition, function_like, is_variadic, refusal_of, fitting, number_of, under_name, judged, after_define, undefined, after_undef, Leaves};
+
+mod agreement;
+mod bodies;
+mod headings;
+
+use self::agreement::clashes;
+use self::bodies::{misplaces_hash, misplaces_paste, says_variable_arguments};
+use self::headings::{has_variable_arguments, read_heading, repeats};
+use crate::chains::is_function_like;
+use crate::macros::{Definition, Macro, Shape};
+use crate::spellings::{fault, is_identifier, is_punct};
+use crate::tables::Table;
+use pptext::{Fault, Memory, Place, Spelling, Token, Tokens};
+use std::alloc::{AllocError, Global};
+
+/// Why a definition is refused, once its name is allowed.
+#[derive(Clone, Copy)]
+pub(crate) enum Refusal {
+    ParameterList,
+    Spacing,
+    Pasting,
+    Stringizing,
+    VariableArguments,
+    Redefinition,
+}
+
+impl Refusal {
+    // The fault's number.
+    fn number(self) -> u8
+        ensures { result ≡ number_of self }
+    {
+        match self {
+            Refusal::ParameterList => 11,
+            Refusal::Spacing => 12,
+            Refusal::Pasting => 13,
+            Refusal::Stringizing => 14,
+            Refusal::VariableArguments => 15,
+            Refusal::Redefinition => 16,
+        }
+    }
+}
+
+/// A definition with the macro's name.
+#[derive(Drop)]
+pub(crate) struct Named {
+    name: Spelling,
+    definition: Definition,
+}
+
+// The macro behind `(`.
+fn function_like(alloc: Global, line: &[Token]) -> Result<Result<Definition, Refusal>, AllocError>
+    ensures { IfOk result (λ r. r ≡ function_like (parameter_list line.now)) }
+{
+    let Some(heading) = read_heading(alloc, line)? else {
+        return Ok(Err(Refusal::ParameterList));
+    };
+    if repeats(heading.names.as_slice()) {
+        return Ok(Err(Refusal::ParameterList));
+    }
+    if has_variable_arguments(heading.names.as_slice()) {
+        return Ok(Err(Refusal::VariableArguments));
+    }
+    Ok(Ok(Definition {
+        shape: Shape::FunctionLike {
+            parameters: heading.names,
+            variadic: heading.variadic,
+        },
+        body: heading.body,
+    }))
+}
+
+// The macro without parameters.
+fn object_like(alloc: Global, body: &[Token]) -> Result<Definition, AllocError>
+    ensures { IfOk result (λ d. d ≡ record { shape = ObjectLike; body = body.now }) }
+{
+    Ok(Definition {
+        shape: Shape::ObjectLike,
+        body: Tokens::new(Vec::from_clones(alloc, body)?),
+    })
+}
+
+// What stands behind the macro's name.
+fn read_definition(alloc: Global, line: &[Token]) -> Result<Result<Definition, Refusal>, AllocError>
+    ensures { IfOk result (λ r. r ≡ read_definition line.now) }
+{
+    let Some(first) = line.first() else {
+        return Ok(Ok(object_like(alloc, line)?));
+    };
+    if first.space {
+        return Ok(Ok(object_like(alloc, line)?));
+    }
+    if !is_punct(first, b"(") {
+        return Ok(Err(Refusal::Spacing));
+    }
+    function_like(alloc, &line[1..])
+}
+
+// Why a definition is refused, if it is.
+fn refusal_of(table: &Table, name: &[u8], definition: &Definition) -> Option<Refusal>
+    ensures { result ≡ refusal_of table.now name.now definition.now }
+{
+    let shape = &definition.shape;
+    let body = definition.body.as_slice();
+    if !is_variadic(shape) && says_variable_arguments(body) {
+        return Some(Refusal::VariableArguments);
+    }
+    if misplaces_paste(body) {
+        return Some(Refusal::Pasting);
+    }
+    if is_function_like(shape) && misplaces_hash(shape, body) {
+        return Some(Refusal::Stringizing);
+    }
+    if clashes(table, name, definition) {
+        return Some(Refusal::Redefinition);
+    }
+    None
+}
+
+// Whether `...` ends the parameters.
+fn is_variadic(shape: &Shape) -> bool
+    ensures { result ≡ is_variadic shape.now }
+{
+    match shape {
+        Shape::FunctionLike { variadic, .. } => *variadic,
+        _ => false,
+    }
+}
+
+// The definition behind an allowed name.
+fn fitting(
+    alloc: Global,
+    table: &Table,
+    name: &[u8],
+    line: &[Token],
+) -> Result<Result<Definition, Refusal>, AllocError>
+    ensures { IfOk result (λ r. r ≡ fitting table.now name.now (read_definition line.now)) }
+{
+    let definition = match read_definition(alloc, line)? {
+        Ok(definition) => definition,
+        Err(refusal) => return Ok(Err(refusal)),
+    };
+    match refusal_of(table, name, &definition) {
+        Some(refusal) => Ok(Err(refusal)),
+        None => Ok(Ok(definition)),
+    }
+}
+
+// The definition with the macro's name, or the fault.
+fn under_name(
+    alloc: Global,
+    at: Place,
+    name: &Token,
+    fitting: Result<Definition, Refusal>,
+) -> Result<Result<Named, Fault>, AllocError>
+    ensures { IfOk result (λ r. r ≡ under_name at name.now.text fitting) }
+{
+    match fitting {
+        Ok(definition) => Ok(Ok(Named {
+            name: name.text.clone()?,
+            definition,
+        })),
+        Err(refusal) => Ok(Err(fault(alloc, refusal.number(), at, name.text.as_bytes())?)),
+    }
+}
+
+// The macro that a line behind `define` defines, or the fault.
+fn judged(
+    alloc: Global,
+    table: &Table,
+    at: Place,
+    line: &[Token],
+) -> Result<Result<Named, Fault>, AllocError>
+    ensures { IfOk result (λ r. r ≡ judged table.now at line.now) }
+{
+    let Some(name) = line.first() else {
+        return Ok(Err(fault(alloc, 9, at, b"define")?));
+    };
+    if !is_identifier(name) {
+        return Ok(Err(fault(alloc, 9, at, b"define")?));
+    }
+    if table.is_reserved(name.text.as_bytes()) {
+        return Ok(Err(fault(alloc, 10, at, name.text.as_bytes())?));
+    }
+    let fitting = fitting(alloc, table, name.text.as_bytes(), &line[1..])?;
+    under_name(alloc, at, name, fitting)
+}
+
+// Puts a definition into the table.
+fn enter(alloc: Global, table: &mut Table, named: Named) -> Result<(), AllocError>
+    ensures ok { OnOk result (table.new ≡ finite_map.insert table.old named.name named.definition) }
+    ensures err { OnErr result (table.new ≡ table.old) }
+{
+    let definition = Macro::new(alloc, named.definition)?;
+    table.insert(named.name.into_bytes(), definition)
+}
+
+/// Defines a macro. `at` is the place of `#`, `line` what stands behind `define`; an agreeing definition
+/// takes the place of the one before. The faults are 9 to 16; with one, and with `Memory`, the table stays as it was.
+pub fn define(
+    alloc: Global,
+    table: &mut Table,
+    at: Place,
+    line: &[Token],
+) -> Result<Result<(), Fault>, Memory>
+    ensures defined { IfOk result (λ r. Leaves table.old table.new r (after_define table.old at line.now)) }
+    ensures memory { OnErr result (table.new ≡ table.old) }
+{
+    match judged(alloc, table, at, line)? {
+        Ok(named) => {
+            enter(alloc, table, named)?;
+            Ok(Ok(()))
+        }
+        Err(fault) => Ok(Err(fault)),
+    }
+}
+
+// The name that a line behind `undef` takes out, or the fault.
+fn undefined(
+    alloc: Global,
+    table: &Table,
+    at: Place,
+    line: &[Token],
+) -> Result<Result<Spelling, Fault>, AllocError>
+    ensures { IfOk result (λ r. r ≡ undefined table.now at line.now) }
+{
+    let [name] = line else {
+        return Ok(Err(fault(alloc, 9, at, b"undef")?));
+    };
+    if !is_identifier(name) {
+        return Ok(Err(fault(alloc, 9, at, b"undef")?));
+    }
+    if table.is_reserved(name.text.as_bytes()) {
+        return Ok(Err(fault(alloc, 10, at, name.text.as_bytes())?));
+    }
+    Ok(Ok(name.text.clone()?))
+}
+
+/// Takes a macro out, if there is one of this name. `at` is the place of `#`, `line` what stands behind
+/// `undef`. The faults are 9 and 10; with one, and with `Memory`, the table stays as it was.
+pub fn undef(
+    alloc: Global,
+    table: &mut Table,
+    at: Place,
+    line: &[Token],
+) -> Result<Result<(), Fault>, Memory>
+    ensures undefined { IfOk result (λ r. Leaves table.old table.new r (after_undef table.old at line.now)) }
+    ensures memory { OnErr result (table.new ≡ table.old) }
+{
+    match undefined(alloc, table, at, line)? {
+        Ok(name) => {
+            table.remove(name.as_bytes());
+            Ok(Ok(()))
+        }
+        Err(fault) => Ok(Err(fault)),
+    }
+}

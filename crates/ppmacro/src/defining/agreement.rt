@@ -1,0 +1,79 @@
+// Whether two definitions of one name agree (6.10.3p1, p2).
+ghost use Rattle.std.specs.Prelude.{◌≡◌};
+ghost use Rattle.std.specs.FinMap as finite_map;
+ghost use Rattle.std.specs.Cmp.Lexicographic.{pointwise};
+ghost use Rattle.ppmacro.specs.Define.{same_token, same_body, same_shape, agrees, clashes};
+
+use crate::macros::{Definition, Shape};
+use crate::tables::Table;
+use pptext::Token;
+
+// Whether two tokens have one spelling and one space mark.
+fn same_token(left: &Token, right: &Token) -> bool
+    ensures { result ≡ same_token left.now right.now }
+{
+    left.text.as_bytes() == right.text.as_bytes() && left.space == right.space
+}
+
+// Whether two lists have the same tokens.
+fn same_tokens(left: &[Token], right: &[Token]) -> bool
+    ensures { result ≡ pointwise same_token left.now right.now }
+{
+    if left.len() != right.len() {
+        return false;
+    }
+    for (i, token) in left.iter().enumerate() {
+        if !same_token(token, &right[i]) {
+            return false;
+        }
+    }
+    true
+}
+
+// Whether two replacement lists agree.
+fn same_body(left: &[Token], right: &[Token]) -> bool
+    ensures { result ≡ same_body left.now right.now }
+{
+    let Some(first) = left.first() else {
+        return right.is_empty();
+    };
+    let Some(other) = right.first() else {
+        return false;
+    };
+    if first.text.as_bytes() != other.text.as_bytes() {
+        return false;
+    }
+    same_tokens(&left[1..], &right[1..])
+}
+
+// Whether two macros are of one kind, with the same parameters.
+fn same_shape(left: &Shape, right: &Shape) -> bool
+    ensures { result ≡ same_shape left.now right.now }
+{
+    match (left, right) {
+        (Shape::ObjectLike, Shape::ObjectLike) => true,
+        (
+            Shape::FunctionLike {
+                parameters: names,
+                variadic,
+            },
+            Shape::FunctionLike {
+                parameters: others,
+                variadic: other,
+            },
+        ) => *variadic == *other && names.as_slice() == others.as_slice(),
+        _ => false,
+    }
+}
+
+/// Whether a name has a macro that differs.
+pub(crate) fn clashes(table: &Table, name: &[u8], definition: &Definition) -> bool
+    ensures { result ≡ clashes (finite_map.get table.now name.now) definition.now }
+{
+    let Some(macro_before) = table.get(name) else {
+        return false;
+    };
+    let before = macro_before.definition();
+    !(same_shape(&before.shape, &definition.shape)
+        && same_body(before.body.as_slice(), definition.body.as_slice()))
+}

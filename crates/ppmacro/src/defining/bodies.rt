@@ -1,0 +1,57 @@
+// What a replacement list is refused for (6.10.3p5, 6.10.3.2p1, 6.10.3.3p1).
+ghost use Rattle.std.specs.Prelude.{◌≡◌, codes, true};
+ghost use Rattle.std.specs.List.{list_any};
+ghost use Rattle.ppmacro.specs.Spellings.{is_name};
+ghost use Rattle.ppmacro.specs.Define.{misplaces_paste, begins_with_parameter, misplaces_hash};
+
+use crate::chains::parameter_of;
+use crate::macros::Shape;
+use crate::spellings::{is_hash, is_name, is_paste};
+use pptext::Token;
+
+/// Whether `__VA_ARGS__` stands in it.
+pub(crate) fn says_variable_arguments(body: &[Token]) -> bool
+    ensures { result ≡ list_any (is_name (codes "__VA_ARGS__")) body.now }
+{
+    body.iter().any(|t| is_name(t, b"__VA_ARGS__"))
+}
+
+/// Whether `##` stands first, last or beside another.
+pub(crate) fn misplaces_paste(body: &[Token]) -> bool
+    ensures { result ≡ misplaces_paste true body.now }
+{
+    let mut bare = true;
+    for (i, token) in body.iter().enumerate() {
+        if !is_paste(token) {
+            bare = false;
+            continue;
+        }
+        if bare || i + 1 == body.len() {
+            return true;
+        }
+        bare = true;
+    }
+    false
+}
+
+// Whether a parameter stands first.
+fn begins_with_parameter(shape: &Shape, body: &[Token]) -> bool
+    ensures { result ≡ begins_with_parameter shape.now body.now }
+{
+    match body.first() {
+        Some(token) => parameter_of(shape, token).is_some(),
+        None => false,
+    }
+}
+
+/// Whether a `#` does not stand directly before a parameter.
+pub(crate) fn misplaces_hash(shape: &Shape, body: &[Token]) -> bool
+    ensures { result ≡ misplaces_hash shape.now body.now }
+{
+    for (i, token) in body.iter().enumerate() {
+        if is_hash(token) && !begins_with_parameter(shape, &body[i + 1..]) {
+            return true;
+        }
+    }
+    false
+}

@@ -1,0 +1,19 @@
+// Macros of C11 (6.10.3): tables of them, the names that a token is not replaced by, and what an invocation is replaced by.
+#![tactic(auto)]
+
+mod chains;
+mod defining;
+mod hide_sets;
+mod macros;
+mod name_sets;
+mod spellings;
+mod substituting;
+mod tables;
+#[cfg(test)]
+mod tests;
+
+pub use defining::{define, undef};
+pub use hide_sets::{Hidden, HideSets, Set};
+pub use macros::{Builtin, Chain, Chains, Definition, Macro, Names, Operand, Operands, Shape};
+pub use substituting::substitute;
+pub use tables::Table;

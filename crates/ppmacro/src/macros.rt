@@ -1,0 +1,198 @@
+// What a macro is.
+ghost use Rattle.std.specs.Prelude.{◌≡◌, OnOk, IfOk, ◌++◌, ◌∷◌, []};
+ghost use Rattle.ppmacro.specs.Chains.{chains_of};
+
+use crate::chains::chains_of;
+use pptext::{Place, Spelling, Token, Tokens};
+use std::alloc::{AllocError, Global};
+use std::marker::Model;
+
+/// The predefined macro names (6.10.8.1).
+#[derive(Clone, Copy, Debug, PartialEq, Eq)]
+pub enum Builtin {
+    File,
+    Line,
+    Date,
+    Time,
+    Stdc,
+    StdcHosted,
+    StdcVersion,
+}
+
+/// Names, which contracts see as the list of their spellings.
+#[derive(Drop)]
+pub struct Names {
+    names: Vec<Spelling>,
+}
+
+impl Model for Names {
+    ghost use Rattle.std.specs.Prelude.{List, ℕ};
+
+    ghost Value = { List (List ℕ) };
+
+    ghost view = { λ n. n.names.items };
+}
+
+impl Names {
+    /// These names.
+    pub fn new(names: Vec<Spelling>) -> Names
+        ensures { result ≡ names.items }
+    {
+        Names { names }
+    }
+
+    /// The names.
+    pub fn as_slice(&self) -> &[Spelling]
+        ensures { result.now ≡ self.now }
+    {
+        self.names.as_slice()
+    }
+}
+
+/// What kind of macro it is.
+#[derive(Drop)]
+pub enum Shape {
+    Predefined(Builtin),
+    ObjectLike,
+    /// With the names of its parameters, and whether `...` ends them.
+    FunctionLike { parameters: Names, variadic: bool },
+}
+
+/// What defines a macro: its kind and its replacement list.
+#[derive(Drop)]
+pub struct Definition {
+    pub shape: Shape,
+    pub body: Tokens,
+}
+
+/// What `##` joins (6.10.3.3).
+#[derive(Drop)]
+pub enum Operand {
+    /// A token of the replacement list.
+    Tok(Token),
+    /// A parameter, by its index.
+    Param(usize),
+    /// A parameter behind `#`, which stands at this place.
+    Str(usize, Place),
+}
+
+/// Operands, which contracts see as their list.
+#[derive(Drop)]
+pub struct Operands {
+    operands: Vec<Operand>,
+}
+
+impl Model for Operands {
+    ghost use Rattle.std.specs.Prelude.{List};
+    ghost use Rattle.ppmacro.specs.declared.macros.Operand.{Operand};
+
+    ghost Value = { List Operand };
+
+    ghost view = { λ s. s.operands.items };
+}
+
+impl Operands {
+    /// These operands.
+    pub fn new(operands: Vec<Operand>) -> Operands
+        ensures { result ≡ operands.items }
+    {
+        Operands { operands }
+    }
+
+    /// Puts one more behind them.
+    pub(crate) fn push(&mut self, operand: Operand) -> Result<(), AllocError>
+        ensures ok { OnOk result (self.new ≡ self.old ++ operand ∷ []) }
+    {
+        self.operands.push(operand)?;
+        Ok(())
+    }
+
+    /// The operands.
+    pub fn as_slice(&self) -> &[Operand]
+        ensures { result.now ≡ self.now }
+    {
+        self.operands.as_slice()
+    }
+}
+
+/// Operands that `##` joins, with the space mark of the first token.
+#[derive(Drop)]
+pub struct Chain {
+    pub mark: bool,
+    pub operands: Operands,
+}
+
+/// Chains, which contracts see as their list.
+#[derive(Drop)]
+pub struct Chains {
+    chains: Vec<Chain>,
+}
+
+impl Model for Chains {
+    ghost use Rattle.std.specs.Prelude.{List};
+    ghost use Rattle.ppmacro.specs.declared.macros.Chain.{Chain};
+
+    ghost Value = { List Chain };
+
+    ghost view = { λ s. s.chains.items };
+}
+
+impl Chains {
+    /// These chains.
+    pub fn new(chains: Vec<Chain>) -> Chains
+        ensures { result ≡ chains.items }
+    {
+        Chains { chains }
+    }
+
+    /// The chains.
+    pub fn as_slice(&self) -> &[Chain]
+        ensures { result.now ≡ self.now }
+    {
+        self.chains.as_slice()
+    }
+}
+
+/// A macro: its definition, which contracts see, with its chains.
+#[derive(Drop)]
+pub struct Macro {
+    definition: Definition,
+    chains: Chains,
+}
+
+impl Model for Macro {
+    ghost use Rattle.std.specs.Prelude.{◌≡◌};
+    ghost use Rattle.ppmacro.specs.declared.macros.Definition.{Definition};
+
+    ghost Value = { Definition };
+
+    ghost use Rattle.ppmacro.specs.Chains.{chains_of};
+
+    ghost view = { λ m. m.definition };
+
+    ghost invariant = { λ m. m.chains ≡ chains_of m.definition };
+}
+
+impl Macro {
+    /// The macro that a definition makes.
+    pub(crate) fn new(alloc: Global, definition: Definition) -> Result<Macro, AllocError>
+        ensures { IfOk result (λ m. m ≡ definition) }
+    {
+        let chains = chains_of(alloc, &definition)?;
+        Ok(Macro { definition, chains })
+    }
+
+    /// What defines it.
+    pub fn definition(&self) -> &Definition
+        ensures { result.now ≡ self.now }
+    {
+        &self.definition
+    }
+
+    /// The chains of its replacement list.
+    pub fn chains(&self) -> &[Chain]
+        ensures { result.now ≡ chains_of self.now }
+    {
+        self.chains.as_slice()
+    }
+}

@@ -1,0 +1,85 @@
+// Lists that `##` joins (6.10.3.3).
+ghost use Rattle.std.specs.Prelude.{◌≡◌, ◌++◌, ◌∷◌, IfOk, OnOk, List, [], ℕ, Option, map};
+ghost use Rattle.pptext.specs.declared.tokens.Kind.{Kind};
+ghost use Rattle.ppmacro.specs.HideSets.{hidings, AllKnown, Keeps};
+ghost use Rattle.ppmacro.specs.Substitution.{IsLexer, join, join_all};
+ghost use Rattle.ppmacro.specs.Substituting.{lists_of, ListsKnown, list_in, left_in};
+
+use crate::hide_sets::{Hidden, HideSets};
+use crate::substituting::pasting::paste;
+use pptext::{Fault, Memory, Place};
+use std::alloc::{AllocError, Global};
+
+/// Puts tokens behind others.
+pub(crate) fn push_all(tokens: &mut Vec<Hidden>, more: &[Hidden]) -> Result<(), AllocError>
+    ensures { OnOk result (tokens.new.items ≡ tokens.old.items ++ more.now) }
+{
+    for hidden in more {
+        tokens.push(hidden.clone()?)?;
+    }
+    Ok(())
+}
+
+// Puts a token and others behind a list.
+fn push_joined(tokens: &mut Vec<Hidden>, hidden: Hidden, more: &[Hidden]) -> Result<(), AllocError>
+    ensures { OnOk result (tokens.new.items ≡ tokens.old.items ++ hidden ∷ more.now) }
+{
+    tokens.push(hidden)?;
+    push_all(tokens, more)
+}
+
+// Joins the last token of one list with the first of the other, or raises fault 19.
+fn join(
+    alloc: Global,
+    sets: &mut HideSets,
+    left: &mut Vec<Hidden>,
+    right: &[Hidden],
+    used: Place,
+) -> Result<Result<(), Fault>, Memory>
+    requires left { AllKnown sets.old left.old.items }
+    requires right { AllKnown sets.old right.now }
+    ensures is { IfOk result (λ r. (kinds : List ℕ → Option Kind) → IsLexer kinds → left_in sets.new left.new.items r ≡ join kinds (hidings sets.old left.old.items) (hidings sets.old right.now) used) }
+    ensures known { IfOk result (λ r. OnOk r (AllKnown sets.new left.new.items)) }
+    ensures keeps { Keeps sets.old sets.new }
+{
+    let first = match right.first() {
+        Some(first) => first,
+        None => return Ok(Ok(())),
+    };
+    let last = match left.pop() {
+        Some(last) => last,
+        None => {
+            push_all(left, right)?;
+            return Ok(Ok(()));
+        }
+    };
+    match paste(alloc, sets, &last, first, used)? {
+        Ok(hidden) => {
+            push_joined(left, hidden, &right[1..])?;
+            Ok(Ok(()))
+        }
+        Err(fault) => Ok(Err(fault)),
+    }
+}
+
+/// Joins lists from the left, or raises fault 19.
+pub(crate) fn join_all(
+    alloc: Global,
+    sets: &mut HideSets,
+    lists: &[Vec<Hidden>],
+    used: Place,
+) -> Result<Result<Vec<Hidden>, Fault>, Memory>
+    requires { ListsKnown sets.old lists.now }
+    ensures is { IfOk result (λ r. (kinds : List ℕ → Option Kind) → IsLexer kinds → list_in sets.new r ≡ join_all kinds [] (map (hidings sets.old) (lists_of lists.now)) used) }
+    ensures known { IfOk result (λ r. IfOk r (λ v. AllKnown sets.new v.items)) }
+    ensures keeps { Keeps sets.old sets.new }
+{
+    let mut left = Vec::new(alloc);
+    for right in lists {
+        match join(alloc, sets, &mut left, right.as_slice(), used)? {
+            Ok(()) => {}
+            Err(fault) => return Ok(Err(fault)),
+        }
+    }
+    Ok(Ok(left))
+}

@@ -1,0 +1,52 @@
+// `##` (6.10.3.3).
+ghost use Rattle.std.specs.Prelude.{◌≡◌, ◌++◌, IfOk, List, ℕ, Option};
+ghost use Rattle.pptext.specs.declared.tokens.Kind.{Kind};
+ghost use Rattle.ppmacro.specs.HideSets.{hiding, IsKnown, Keeps};
+ghost use Rattle.ppmacro.specs.Substitution.{IsLexer, pasted};
+ghost use Rattle.ppmacro.specs.Substituting.{hidden_in};
+
+use crate::hide_sets::{Hidden, HideSets};
+use crate::spellings::fault;
+use crate::substituting::lexing::kind_of;
+use pptext::{Fault, Memory, Place, Spelling, Token};
+use std::alloc::{AllocError, Global};
+
+// Both spellings as one.
+fn both(alloc: Global, left: &Token, right: &Token) -> Result<Vec<u8>, AllocError>
+    ensures { IfOk result (λ v. v.items ≡ left.now.text ++ right.now.text) }
+{
+    let mut text = Vec::from_slice(alloc, left.text.as_bytes())?;
+    text.extend_from_slice(right.text.as_bytes())?;
+    Ok(text)
+}
+
+/// Two tokens as one. `used` is the place of the macro's name. Fault 19 where both spellings are no one token.
+pub(crate) fn paste(
+    alloc: Global,
+    sets: &mut HideSets,
+    left: &Hidden,
+    right: &Hidden,
+    used: Place,
+) -> Result<Result<Hidden, Fault>, Memory>
+    requires left { IsKnown sets.old left.now.hide }
+    requires right { IsKnown sets.old right.now.hide }
+    ensures is { IfOk result (λ r. (kinds : List ℕ → Option Kind) → IsLexer kinds → hidden_in sets.new r ≡ pasted kinds (hiding sets.old left.now) (hiding sets.old right.now) used) }
+    ensures known { IfOk result (λ r. IfOk r (λ h. IsKnown sets.new h.hide)) }
+    ensures keeps { Keeps sets.old sets.new }
+{
+    let text = both(alloc, &left.token, &right.token)?;
+    let Some(kind) = kind_of(text.as_slice()) else {
+        return Ok(Err(fault(alloc, 19, used, text.as_slice())?));
+    };
+    let hide = sets.meet(left.hide, right.hide)?;
+    Ok(Ok(Hidden {
+        token: Token {
+            kind,
+            text: Spelling::new(text),
+            space: left.token.space,
+            at: left.token.at,
+            used,
+        },
+        hide,
+    }))
+}

@@ -1,0 +1,88 @@
+// `#` (6.10.3.2).
+ghost use Rattle.std.specs.Prelude.{◌≡◌, ◌++◌, ◌∷◌, [], IfOk, OnOk, List, ℕ, Option};
+ghost use Rattle.pptext.specs.declared.tokens.Kind.{Kind};
+ghost use Rattle.ppmacro.specs.HideSets.{IsKnown};
+ghost use Rattle.ppmacro.specs.Substitution.{IsLexer, escaped, spelled_space, spelled_in_string, string_text, stringized};
+ghost use Rattle.ppmacro.specs.Substituting.{tokens_of, hidden_in};
+
+use crate::hide_sets::{Hidden, HideSets};
+use crate::spellings::fault;
+use crate::substituting::lexing::kind_of;
+use pptext::{Fault, Kind, Place, Spelling, Token};
+use std::alloc::{AllocError, Global};
+
+// Puts a literal's spelling behind a text, with `\` before each `"` and `\`.
+fn push_escaped(text: &mut Vec<u8>, spelling: &[u8]) -> Result<(), AllocError>
+    ensures { OnOk result (text.new.items ≡ text.old.items ++ escaped spelling.now) }
+{
+    for byte in spelling {
+        if *byte == b'"' || *byte == b'\\' {
+            text.push(b'\\')?;
+        }
+        text.push(*byte)?;
+    }
+    Ok(())
+}
+
+// Puts a token's spelling behind a text.
+fn push_spelled(text: &mut Vec<u8>, token: &Token) -> Result<(), AllocError>
+    ensures { OnOk result (text.new.items ≡ text.old.items ++ spelled_in_string token.now) }
+{
+    if matches!(token.kind, Kind::CharConst | Kind::Str) {
+        return push_escaped(text, token.text.as_bytes());
+    }
+    text.extend_from_slice(token.text.as_bytes())
+}
+
+// Puts a token's spelling behind a text, with a space before it where it has a mark and is not the first.
+fn push_marked(text: &mut Vec<u8>, first: bool, token: &Token) -> Result<(), AllocError>
+    ensures { OnOk result (text.new.items ≡ text.old.items ++ (spelled_space first token.now ++ spelled_in_string token.now)) }
+{
+    if token.space && !first {
+        text.push(b' ')?;
+    }
+    push_spelled(text, token)
+}
+
+// The argument's spelling between quotes.
+fn string_text(alloc: Global, argument: &[Hidden]) -> Result<Vec<u8>, AllocError>
+    ensures { IfOk result (λ v. v.items ≡ string_text (tokens_of argument.now)) }
+{
+    let mut text = Vec::new(alloc);
+    text.push(b'"')?;
+    let mut first = true;
+    for hidden in argument {
+        push_marked(&mut text, first, &hidden.token)?;
+        first = false;
+    }
+    text.push(b'"')?;
+    Ok(text)
+}
+
+/// The string literal of an argument. `at` is the place of `#`, `used` that of the macro's name. Fault 20 where the text is none.
+pub(crate) fn stringize(
+    alloc: Global,
+    sets: &HideSets,
+    argument: &[Hidden],
+    at: Place,
+    used: Place,
+) -> Result<Result<Hidden, Fault>, AllocError>
+    ensures is { IfOk result (λ r. (kinds : List ℕ → Option Kind) → IsLexer kinds → hidden_in sets.now r ≡ stringized kinds (tokens_of argument.now) at used) }
+    ensures known { IfOk result (λ r. IfOk r (λ h. IsKnown sets.now h.hide)) }
+{
+    let text = string_text(alloc, argument)?;
+    let kind = kind_of(text.as_slice());
+    if !matches!(kind, Some(Kind::Str)) {
+        return Ok(Err(fault(alloc, 20, used, text.as_slice())?));
+    }
+    Ok(Ok(Hidden {
+        token: Token {
+            kind: Kind::Str,
+            text: Spelling::new(text),
+            space: false,
+            at,
+            used,
+        },
+        hide: sets.empty(),
+    }))
+}

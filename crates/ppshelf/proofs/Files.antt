@@ -1,0 +1,208 @@
+-- What a pass knows at a row.
+use Rattle.std.proofs.Common.{Option, take, ◌-◌, ◌+◌, ◌++◌, replicate, length-append, ◌≡◌, ℕ, ◌<◌, ◌≤◌, List, [], ◌∷◌, length, get_or, set, Some, None, refl, sym, ◌∙◌, ap, arith, inl, inr, subst}
+use Rattle.std.specs.Option.{option_map}
+use Rattle.std.proofs.lemmas.Grind.{common_steps}
+use Rattle.std.proofs.lemmas.List.{map-append, replicate_more, map-set, get_or_past, get_or_read, get_or-set_other, length-set}
+use Rattle.std.proofs.Math.ListN.{get_or-map}
+use Rattle.std.proofs.Math.Seq.{map-set_same}
+use Rattle.std.proofs.lemmas.Bool.{cases_lt, cases_eq}
+use Rattle.std.proofs.lemmas.Option.{none-some, same_Some}
+use Rattle.ppshelf.specs.Content.{Content, Lawful}
+use Rattle.ppshelf.specs.Shelved.{Held, Spot, Sight, Files, file_at, name_at, AllLawful, FitsRow, Placed, IsPass, files_of, or_else, Agree, Joined, Extends, base_of, no_sight, no_spot}
+
+abbrev pub content_of_sight : Sight → Option Content
+content_of_sight s = option_map (λ (h : Held). h.content) s.shown
+
+pub files_of-at : (sights : List Sight) (row : ℕ) → file_at (files_of sights) row ≡ content_of_sight (get_or sights row no_sight)
+files_of-at sights row = get_or-map content_of_sight sights row no_sight
+
+some_of : (o : Option Held) (c : Content) → option_map (λ (h : Held). h.content) o ≡ Some c → (h : Held) × (o ≡ Some h) × (h.content ≡ c)
+some_of None c e = absurd (none-some c e)
+some_of (Some h) c e = (h, refl, same_Some h.content c e)
+
+-- a row that is known was shown
+pub shown_of : (sights : List Sight) (row : ℕ) (c : Content) → file_at (files_of sights) row ≡ Some c → (h : Held) × ((get_or sights row no_sight).shown ≡ Some h) × (h.content ≡ c)
+shown_of sights row c e = some_of (get_or sights row no_sight).shown c (sym (files_of-at sights row) ∙ e)
+
+-- and lies within the list
+pub known_within : (sights : List Sight) (row : ℕ) (c : Content) → file_at (files_of sights) row ≡ Some c → row < length sights
+known_within sights row c e =
+    elim (cases_lt row (length sights)) [
+      | inl h ↦ h
+      | inr h ↦ absurd (none-some c (ap content_of_sight (sym (get_or_past sights row no_sight h)) ∙ (sym (files_of-at sights row) ∙ e)))
+    ]
+
+pub lawful_files : (may : List ℕ → Content → Type 0) (stock : List Spot) (sights : List Sight) → IsPass may stock sights → AllLawful may stock (files_of sights)
+lawful_files may stock sights is row c e =
+    let s = shown_of sights row c e in
+    let within : row < length stock = let k = known_within sights row c e in let l = is.len in omega arith in
+    let f = (is.rows row within).fits s.0 s.1 in
+    let P : Content → Type 0 = λ x. Lawful may (name_at stock row) x in
+    let Q : List ℕ → Type 0 = λ n. Lawful may n s.0.content in
+    subst P s.2 (subst Q f.name_is f.lawful)
+
+-- what is known of a row that was filled is what was put there
+pub filled_files : (may : List ℕ → Content → Type 0) (stock : List Spot) (sights : List Sight) → IsPass may stock sights → Agree (base_of stock) (files_of sights)
+filled_files may stock sights is row c d base known =
+    let s = shown_of sights row d known in
+    let within : row < length stock = let k = known_within sights row d known in let l = is.len in omega arith in
+    let f = (is.rows row within).fits s.0 s.1 in
+    let b = some_of (get_or stock row no_spot).base c (sym (get_or-map (λ (s : Spot). option_map (λ (h : Held). h.content) s.base) stock row no_spot) ∙ base) in
+    elim f.from [
+      | inl e ↦ sym b.2 ∙ (ap (λ (h : Held). h.content) (same_Some b.0 s.0 (sym b.1 ∙ e)) ∙ s.2)
+      | inr n ↦ absurd (none-some b.0 (sym n.0 ∙ b.1))
+    ]
+
+pub placed_read : (stock : List Spot) (row : ℕ) (spot : Spot) → Placed stock → row < length stock → spot ≡ get_or stock row spot → (h : Held) → spot.base ≡ Some h → (h.row ≡ row) × (h.name ≡ spot.name)
+placed_read stock row spot placed within read h is =
+    let same : spot ≡ get_or stock row no_spot = get_or_read stock row spot within read no_spot in
+    let at : (get_or stock row no_spot).base ≡ Some h = ap (λ (s : Spot). s.base) (sym same) ∙ is in
+    let p = placed row h at in
+    (p.0, p.1 ∙ ap (λ (s : Spot). s.name) (sym same))
+
+-- what is known after the row is shown h
+pub files_of-set : (sights : List Sight) (row : ℕ) (s : Sight) (h : Held) → s.shown ≡ Some h → files_of (set sights row s) ≡ set (files_of sights) row (Some h.content)
+files_of-set sights row s h is = map-set content_of_sight sights row s ∙ ap (λ (o : Option Held). set (files_of sights) row (option_map (λ (x : Held). x.content) o)) is
+
+-- where nothing new was shown, what is known stays
+pub files_of-same : (sights : List Sight) (row : ℕ) (s old : Sight) → row < length sights → old ≡ get_or sights row old → s.shown ≡ old.shown → files_of (set sights row s) ≡ files_of sights
+files_of-same sights row s old within read is =
+    let same : old ≡ get_or sights row no_sight = get_or_read sights row old within read no_sight in
+    map-set_same content_of_sight sights row s no_sight (ap (λ (o : Option Held). option_map (λ (x : Held). x.content) o) (is ∙ ap (λ (x : Sight). x.shown) same))
+
+-- a caller that has seen nothing of the first n rows
+pub record Unseen (stock : List Spot) (sights : List Sight) (n : ℕ) : Type 0 where
+  pub len : length sights ≡ n
+  pub each : (row : ℕ) → row < n → ((get_or sights row no_sight).cell ≡ (get_or stock row no_spot).cell) × ((get_or sights row no_sight).shown ≡ None)
+  pub files : files_of sights ≡ replicate n None
+
+get_or_last : (sights : List Sight) (s : Sight) (row : ℕ) → row ≡ length sights → get_or (sights ++ s ∷ []) row no_sight ≡ s
+get_or_last sights s row e = grind (arith, common_steps)
+
+get_or_front : (sights : List Sight) (s : Sight) (row : ℕ) → row < length sights → get_or (sights ++ s ∷ []) row no_sight ≡ get_or sights row no_sight
+get_or_front sights s row e = grind (arith, common_steps)
+
+pub unseen_more : (stock : List Spot) (sights : List Sight) (n : ℕ) (spot : Spot) (s : Sight) → Unseen stock sights n → n < length stock → spot ≡ get_or stock n spot → s.cell ≡ spot.cell → s.shown ≡ None → Unseen stock (sights ++ s ∷ []) (n + 1)
+unseen_more stock sights n spot s u within read cell shown = let len = u.len in record {
+  len = omega (arith, length-append sights (s ∷ []));
+  each = λ row below.
+      elim (cases_lt row n) [
+        | inl h ↦ let at = get_or_front sights s row (omega arith) in let e = u.each row h in (ap (λ (x : Sight). x.cell) at ∙ e.0, ap (λ (x : Sight). x.shown) at ∙ e.1)
+        | inr h ↦
+            let is : row ≡ n = omega arith in
+            let at = get_or_last sights s row (omega arith) in
+            let place : spot ≡ get_or stock row no_spot = get_or_read stock n spot within read no_spot ∙ ap (λ k. get_or stock k no_spot) (sym is) in
+            (ap (λ (x : Sight). x.cell) at ∙ (cell ∙ ap (λ (x : Spot). x.cell) place), ap (λ (x : Sight). x.shown) at ∙ shown)
+      ];
+  files = map-append content_of_sight sights (s ∷ []) ∙ (ap (λ (f : Files). f ++ content_of_sight s ∷ []) u.files ∙ (ap (λ (o : Option Held). replicate n None ++ option_map (λ (h : Held). h.content) o ∷ []) shown ∙ replicate_more n None));
+}
+
+pub unseen_pass : (may : List ℕ → Content → Type 0) (stock : List Spot) (sights : List Sight) → Unseen stock sights (length stock) → IsPass may stock sights
+unseen_pass may stock sights u = record {
+  len = u.len;
+  rows = λ row within. record { cell_is = (u.each row within).0; fits = λ h is. absurd (none-some h (sym (u.each row within).1 ∙ is)) };
+}
+
+-- two passes have met at the rows from n on
+pub record Met (may : List ℕ → Content → Type 0) (stock : List Spot) (old other new : List Sight) (n : ℕ) : Type 0 where
+  pub is : IsPass may stock new
+  pub kept : (row : ℕ) → row < n → get_or new row no_sight ≡ get_or old row no_sight
+  pub joined : (row : ℕ) → n ≤ row → row < length stock → (get_or new row no_sight).shown ≡ or_else (get_or old row no_sight).shown (get_or other row no_sight).shown
+  pub agree : (row : ℕ) → n ≤ row → row < length stock → (h k : Held) → (get_or old row no_sight).shown ≡ Some h → (get_or other row no_sight).shown ≡ Some k → h ≡ k
+
+pub met_none : (may : List ℕ → Content → Type 0) (stock : List Spot) (old other : List Sight) (n : ℕ) → IsPass may stock old → length stock ≤ n → Met may stock old other old n
+met_none may stock old other n is e = record {
+  is = is;
+  kept = λ row below. refl;
+  joined = λ row above within. absurd (omega arith);
+  agree = λ row above within. absurd (omega arith);
+}
+
+set_here : (xs : List Sight) (n row : ℕ) (s : Sight) → row ≡ n → n < length xs → get_or (set xs n s) row no_sight ≡ s
+set_here xs n row s e w = grind (arith, common_steps)
+
+set_there : (xs : List Sight) (n row : ℕ) (s : Sight) → (row ≡ n → ⊥) → get_or (set xs n s) row no_sight ≡ get_or xs row no_sight
+set_there xs n row s e = get_or-set_other xs n row s no_sight e
+
+pub met_more : (may : List ℕ → Content → Type 0) (stock : List Spot) (old other new : List Sight) (n : ℕ) (spot : Spot) (mine theirs s : Sight) → Met may stock old other new (n + 1) → n < length stock
+    → spot ≡ get_or stock n spot → mine ≡ get_or new n mine → theirs ≡ get_or other n no_sight → FitsRow may n spot s → s.shown ≡ or_else mine.shown theirs.shown
+    → ((h k : Held) → mine.shown ≡ Some h → theirs.shown ≡ Some k → h ≡ k) → Met may stock old other (set new n s) n
+met_more may stock old other new n spot mine theirs s m w spot_read mine_read theirs_is fits shown agree =
+    let len = m.is.len in
+    let spot_is : spot ≡ get_or stock n no_spot = get_or_read stock n spot w spot_read no_spot in
+    let mine_is : mine ≡ get_or new n no_sight = get_or_read new n mine (omega arith) mine_read no_sight in
+    let old_is : mine ≡ get_or old n no_sight = mine_is ∙ m.kept n (omega arith) in
+    record {
+      is = record {
+        len = length-set new n s ∙ len;
+        rows = λ row within.
+            elim (cases_eq row n) [
+              | inl e ↦
+                  let P : Sight → Type 0 = λ x. FitsRow may row (get_or stock row no_spot) x in
+                  let Q : Spot → Type 0 = λ x. FitsRow may n x s in
+                  let R : ℕ → Type 0 = λ k. FitsRow may k (get_or stock k no_spot) s in
+                  subst P (sym (set_here new n row s e (omega arith))) (subst R (sym e) (subst Q spot_is fits))
+              | inr e ↦
+                  let P : Sight → Type 0 = λ x. FitsRow may row (get_or stock row no_spot) x in
+                  subst P (sym (set_there new n row s e)) (m.is.rows row within)
+            ];
+      };
+      kept = λ row below. set_there new n row s (λ e. absurd (omega arith)) ∙ m.kept row (omega arith);
+      joined = λ row above within.
+          elim (cases_eq row n) [
+            | inl e ↦
+                let P : ℕ → Type 0 = λ k. (get_or (set new n s) k no_sight).shown ≡ or_else (get_or old k no_sight).shown (get_or other k no_sight).shown in
+                subst P (sym e) (ap (λ (x : Sight). x.shown) (set_here new n n s refl (omega arith)) ∙ (shown ∙ (ap (λ (x : Sight). or_else x.shown theirs.shown) old_is ∙ ap (λ (x : Sight). or_else (get_or old n no_sight).shown x.shown) theirs_is)))
+            | inr e ↦ ap (λ (x : Sight). x.shown) (set_there new n row s e) ∙ m.joined row (omega arith) within
+          ];
+      agree = λ row above within h k a b.
+          elim (cases_eq row n) [
+            | inl e ↦ agree h k (ap (λ (x : Sight). x.shown) (old_is ∙ ap (λ j. get_or old j no_sight) (sym e)) ∙ a) (ap (λ (x : Sight). x.shown) (theirs_is ∙ ap (λ j. get_or other j no_sight) (sym e)) ∙ b)
+            | inr e ↦ m.agree row (omega arith) within h k a b
+          ];
+    }
+
+-- at the end every row has met
+pub met_agree : (may : List ℕ → Content → Type 0) (stock : List Spot) (old other new : List Sight) → Met may stock old other new 0 → length old ≡ length stock → Agree (files_of old) (files_of other)
+met_agree may stock old other new m len row c d a b =
+    let s = shown_of old row c a in
+    let t = shown_of other row d b in
+    let k = known_within old row c a in
+    sym s.2 ∙ (ap (λ (h : Held). h.content) (m.agree row (omega arith) (omega arith) s.0 t.0 s.1 t.1) ∙ t.2)
+
+or_else_content : (a b : Option Held) → option_map (λ (h : Held). h.content) (or_else a b) ≡ or_else (option_map (λ (h : Held). h.content) a) (option_map (λ (h : Held). h.content) b)
+or_else_content None b = refl
+or_else_content (Some h) b = refl
+
+pub met_joined : (may : List ℕ → Content → Type 0) (stock : List Spot) (old other new : List Sight) → Met may stock old other new 0 → length old ≡ length stock → length other ≡ length stock → Joined (files_of old) (files_of other) (files_of new)
+met_joined may stock old other new m lo lt row =
+    let ln = m.is.len in
+    let cs : List Sight → Option Content = λ xs. content_of_sight (get_or xs row no_sight) in
+    files_of-at new row
+    ∙ (elim (cases_lt row (length stock)) [
+      | inl w ↦ ap (λ (o : Option Held). option_map (λ (h : Held). h.content) o) (m.joined row (omega arith) w) ∙ or_else_content (get_or old row no_sight).shown (get_or other row no_sight).shown
+      | inr w ↦
+          let past : (xs : List Sight) → length xs ≡ length stock → cs xs ≡ None = λ xs e. ap content_of_sight (get_or_past xs row no_sight (omega arith)) in
+          past new ln ∙ sym (ap (λ (o : Option Content). or_else o (cs other)) (past old lo) ∙ past other lt)
+    ]
+    ∙ (ap (λ (o : Option Content). or_else o (cs other)) (sym (files_of-at old row)) ∙ ap (λ (o : Option Content). or_else (file_at (files_of old) row) o) (sym (files_of-at other row))))
+
+pub popped_last : (other items : List Sight) (len n : ℕ) (theirs : Sight) → items ≡ take len other → theirs ≡ get_or items (len - 1) no_sight → n + 1 ≡ len → theirs ≡ get_or other n no_sight
+popped_last other items len n theirs is value e = grind (arith, common_steps)
+
+pub popped_rest : (other items rest : List Sight) (len n : ℕ) → items ≡ take len other → rest ≡ take (len - 1) items → n + 1 ≡ len → rest ≡ take n other
+popped_rest other items rest len n is value e = grind (arith, common_steps)
+
+pub fits_read : (may : List ℕ → Content → Type 0) (stock : List Spot) (sights : List Sight) (row : ℕ) (spot : Spot) (s : Sight) → IsPass may stock sights → row < length stock → spot ≡ get_or stock row spot → s ≡ get_or sights row no_sight → FitsRow may row spot s
+fits_read may stock sights row spot s is w read at =
+    let P : Sight → Type 0 = λ x. FitsRow may row spot x in
+    let Q : Spot → Type 0 = λ x. FitsRow may row x (get_or sights row no_sight) in
+    subst P (sym at) (subst Q (sym (get_or_read stock row spot w read no_spot)) (is.rows row w))
+
+some_join : (a b c' : Option Content) (c : Content) → ((d e : Content) → a ≡ Some d → b ≡ Some e → d ≡ e) → c' ≡ or_else a b → b ≡ Some c → c' ≡ Some c
+some_join None b c' c same is e = is ∙ e
+some_join (Some d) b c' c same is e = is ∙ ap (λ (x : Content). Some x) (same d c refl e)
+
+-- what the other pass knew stays
+pub joined_theirs : (one two both : Files) → Agree one two → Joined one two both → Extends both two
+joined_theirs one two both agree joined row c e = some_join (file_at one row) (file_at two row) (file_at both row) c (λ d e. agree row d e) (joined row) e

@@ -1,0 +1,39 @@
+use Rattle.std.proofs.Common.{◌≤◌, Option, ◌≡◌, ◌≢◌, ℕ, ◌<◌, ◌+◌, suc, zero, List, ◌∷◌, length, get_or, drop, drop-cons, replicate, refl, sym, ap, ◌∙◌, subst, arith, None}
+use Rattle.std.specs.String.{string_bytes}
+use Rattle.std.specs.Option.{option_map}
+use Rattle.std.proofs.Math.ListN.{get_or-map}
+use Rattle.std.proofs.lemmas.List.{length-map}
+use Rattle.std.proofs.lemmas.Option.{none-some}
+use Rattle.ppshelf.specs.Content.{Content, readable}
+use Rattle.ppshelf.specs.OnDisk.{IsFile}
+use Rattle.ppshelf.specs.Shelved.{Held, Spot, Files, Placed, IsShelf, base_of, names_of, no_spot}
+use Rattle.ppshelf.specs.declared.memory_disk.File.{File}
+
+cons_at : (files : List File) (i : ℕ) (f : File) → i < length files → f ≡ get_or files i f → f ∷ drop (i + 1) files ≡ drop i files
+cons_at files i f w read =
+    let next : suc i ≡ i + 1 = omega arith in
+    ap (λ x. x ∷ drop (i + 1) files) read ∙ (ap (λ k. get_or files i f ∷ drop k files) (sym next) ∙ sym (drop-cons files i f w))
+
+pub found : (files : List File) (i : ℕ) (f : File) (name : List ℕ) (c : Content) → i < length files → f ≡ get_or files i f → string_bytes f.name ≡ name → c ≡ readable f.bytes.items → IsFile (drop i files) name c
+found files i f name c w read e is = let P : List File → Type 0 = λ xs. IsFile xs name c in subst P (cons_at files i f w read) ((λ _. is), (λ no. absurd (no e)))
+
+pub skipped : (files : List File) (i : ℕ) (f : File) (name : List ℕ) (c : Content) → i < length files → f ≡ get_or files i f → string_bytes f.name ≢ name → IsFile (drop (i + 1) files) name c → IsFile (drop i files) name c
+skipped files i f name c w read other later = let P : List File → Type 0 = λ xs. IsFile xs name c in subst P (cons_at files i f w read) ((λ e. absurd (other e)), (λ _. later))
+
+all_none : (n row : ℕ) → ◌≡◌ {A = Option Content} (get_or (replicate n None) row None) None
+all_none zero row = refl
+all_none (suc n) zero = refl
+all_none (suc n) (suc row) = all_none n row
+
+pub none_placed : (stock : List Spot) (n : ℕ) → base_of stock ≡ replicate n None → Placed stock
+none_placed stock n e row h is =
+    let base : Spot → Option Content = λ (s : Spot). option_map (λ (x : Held). x.content) s.base in
+    absurd (none-some h.content (sym (all_none n row) ∙ (ap (λ (f : Files). get_or f row None) (sym e) ∙ (get_or-map base stock row no_spot ∙ ap (λ (o : Option Held). option_map (λ (x : Held). x.content) o) is))))
+
+-- rows of these names, of which none is filled
+pub empty_shelf : (names : List (List ℕ)) (stock : List Spot) (n : ℕ) → names_of stock ≡ names → base_of stock ≡ replicate n None → length names ≤ 65535 → IsShelf names stock
+empty_shelf names stock n named base small = record {
+  small = let l = length-map stock (λ (s : Spot). s.name) in let m = ap length named in omega arith;
+  named = sym named;
+  placed = none_placed stock n base;
+}

@@ -1,0 +1,6 @@
+pub mod Files
+pub mod Filling
+pub mod Finding
+pub mod Naming
+pub mod Paths
+pub mod Finds

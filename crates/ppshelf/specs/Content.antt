@@ -1,0 +1,28 @@
+-- What a row of the shelf may contain, and when a content is lawful.
+use Rattle.std.specs.Prelude.{ℕ, ◌<◌, ◌≤◌, List, length, ◌⊎◌, Option, None, Some, Result}
+use Rattle.pptext.specs.Lines.{Row}
+use Rattle.pptext.specs.Sources.{Reads}
+use Rattle.pptext.specs.declared.tokens.Fault.{Fault}
+
+-- What a disk answers for a name, and what a row contains: nothing that can be read, or its bytes
+pub data Content : Type 0 where
+  unreadable : Content
+  readable : List ℕ → Content
+
+-- The longest content
+abbrev pub longest : ℕ
+longest = 16777216
+
+-- A content is lawful for a name by a relation where it is bytes that the relation allows, or unreadable and the relation allows unreadable or too many bytes
+abbrev pub Lawful : (List ℕ → Content → Type 0) → List ℕ → Content → Type 0
+Lawful may name unreadable = (may name unreadable) ⊎ ((bytes : List ℕ) × (longest < length bytes) × may name (readable bytes))
+Lawful may name (readable bytes) = (length bytes ≤ longest) × may name (readable bytes)
+
+abbrev pub content_of : Option (List ℕ) → Content
+content_of None = unreadable
+content_of (Some bytes) = readable bytes
+
+-- The content of a row is bytes in which phases 1 to 3 find these lines or this fault
+abbrev pub IsRead : ℕ → Content → Result (List Row) Fault → Type 0
+IsRead row unreadable lines = ⊥
+IsRead row (readable bytes) lines = Reads row bytes lines

@@ -1,0 +1,52 @@
+-- Which texts are names of files, and the row of a name.
+use Rattle.std.specs.Prelude.{◌≡◌, ◌≢◌, ℕ, ◌<◌, ◌==◌, ◌&&◌, ◌||◌, not, Bool, true, List, [], nat_le, codes, length, Option, Some, None, slice_index_or}
+use Rattle.std.specs.List.{list_all, slice_split}
+use Rattle.std.specs.Str.{bytes_eq}
+
+-- the pieces between two `/`, which is 47
+abbrev pub segments : List ℕ → List (List ℕ)
+segments text = slice_split (λ b. b == 47) text
+
+-- those of what is left, if anything is
+abbrev pub segments_left : Option (List ℕ) → List (List ℕ)
+segments_left None = []
+segments_left (Some text) = segments text
+
+-- a piece of a name
+abbrev pub is_segment : List ℕ → Bool
+is_segment s = not (length s == 0) && not (bytes_eq s (codes ".")) && not (bytes_eq s (codes ".."))
+
+-- no control character of ASCII
+abbrev pub is_name_byte : ℕ → Bool
+is_name_byte b = nat_le 32 b && not (b == 127)
+
+-- a name in normal form
+abbrev pub is_name : List ℕ → Bool
+is_name s = nat_le (length s) 1024 && list_all is_name_byte s && list_all is_segment (segments s)
+
+-- the root, or a name in normal form
+abbrev pub is_folder : List ℕ → Bool
+is_folder s = bytes_eq s (codes ".") || is_name s
+
+abbrev pub name_in : List (List ℕ) → ℕ → List ℕ
+name_in names row = slice_index_or names row []
+
+-- the name at this place is in normal form and stands nowhere before
+pub record IsNewName (names : List (List ℕ)) (row : ℕ) : Type 0 where
+  pub form : is_name (name_in names row) ≡ true
+  pub once : (before : ℕ) → before < row → name_in names before ≢ name_in names row
+
+-- names in normal form, each once
+abbrev pub AreNames : List (List ℕ) → Type 0
+AreNames names = (row : ℕ) → row < length names → IsNewName names row
+
+-- the first name that is out of form or stands before
+pub record IsBadName (names : List (List ℕ)) (row : ℕ) : Type 0 where
+  pub within : row < length names
+  pub bad : IsNewName names row → ⊥
+  pub first : (before : ℕ) → before < row → IsNewName names before
+
+-- the row of a name is where it stands among the names
+abbrev pub IsRowOf : List (List ℕ) → List ℕ → Option ℕ → Type 0
+IsRowOf names name None = (row : ℕ) → row < length names → name_in names row ≢ name
+IsRowOf names name (Some row) = (row < length names) × (name_in names row ≡ name)

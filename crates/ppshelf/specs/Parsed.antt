@@ -1,0 +1,14 @@
+-- What is kept of a file.
+use Rattle.std.specs.Prelude.{ℕ, Option, Some, None}
+use Rattle.pptext.specs.Sources.{Reads}
+use Rattle.ppshelf.specs.Content.{Content, unreadable, readable}
+use Rattle.ppshelf.specs.declared.loaded.Parsed.{Parsed}
+
+abbrev pub parsed_content : Option Parsed → Content
+parsed_content None = unreadable
+parsed_content (Some p) = readable p.bytes.items
+
+-- what is kept beside the bytes is their lines or their fault
+abbrev pub HasReading : ℕ → Option Parsed → Type 0
+HasReading row None = Unit {0}
+HasReading row (Some p) = Reads row p.bytes.items p.lines

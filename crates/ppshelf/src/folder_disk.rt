@@ -1,0 +1,78 @@
+// Real files.
+ghost use Rattle.std.specs.Prelude.{◌≡◌, ◌≤◌, ◌++◌, ◌∷◌, take, IfOk, IfSome};
+ghost use Rattle.std.specs.String.{string_bytes};
+ghost use Rattle.ppshelf.specs.Content.{longest};
+
+use crate::disk::{Disk, ReadFault};
+use crate::loaded::LONGEST;
+use std::alloc::{AllocError, Global};
+use std::fs;
+use std::io::{ErrorKind, Read};
+use std::rt::Files;
+
+/// The files under a folder. They may change at any time, so nothing is claimed of what a read answers.
+pub struct FolderDisk<'a, R: Files> {
+    files: &'a R,
+    folder: &'a str,
+}
+
+impl<'a, R: Files> FolderDisk<'a, R> {
+    /// The files under this folder: that of a name has the path of the folder, `/` and the name.
+    pub fn new(files: &'a R, folder: &'a str) -> FolderDisk<'a, R> {
+        FolderDisk { files, folder }
+    }
+}
+
+impl<R: Files> Drop for FolderDisk<'_, R> {
+    fn drop(self) {
+        let FolderDisk {
+            files: _,
+            folder: _,
+        } = self;
+    }
+}
+
+impl<R: Files> Disk for FolderDisk<'_, R> {
+    ghost may = { λ name c. Unit {0} };
+
+    ghost gives = { λ disk name c. Unit {0} };
+
+    ghost gives_may = { λ disk name c h. tt };
+
+    fn read(&self, alloc: Global, name: &str) -> Result<Vec<u8>, ReadFault> {
+        let Ok(path) = path_under(alloc, self.folder, name) else {
+            return Err(ReadFault::Memory);
+        };
+        let Ok(file) = fs::open(self.files, path.as_str()) else {
+            return Err(ReadFault::Unreadable);
+        };
+        read_start(alloc, file)
+    }
+}
+
+fn path_under(alloc: Global, folder: &str, name: &str) -> Result<String, AllocError>
+    ensures { IfOk result (λ path. string_bytes path ≡ folder.now ++ 47 ∷ name.now) }
+{
+    let mut path = String::from_str(alloc, folder)?;
+    path.push_str("/")?;
+    path.push_str(name)?;
+    Ok(path)
+}
+
+// Reads a file, but no more than one byte above the longest content.
+fn read_start<F: Read + Drop>(alloc: Global, file: F) -> Result<Vec<u8>, ReadFault>
+    ensures { IfOk result (λ bytes. IfSome (F.remaining file) (λ all. bytes.items ≡ take 16777217 all)) }
+{
+    let mut bytes = Vec::new(alloc);
+    match file.take(LONGEST as u64 + 1).read_to_end(&mut bytes) {
+        Ok(_) => Ok(bytes),
+        Err(error) => Err(fault_of(error.kind())),
+    }
+}
+
+fn fault_of(kind: ErrorKind) -> ReadFault {
+    if kind == ErrorKind::OutOfMemory {
+        return ReadFault::Memory;
+    }
+    ReadFault::Unreadable
+}

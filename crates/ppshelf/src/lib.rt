@@ -1,0 +1,23 @@
+//! The source files of a list, each read once and shared by every unit and thread without a lock, and the search for included files.
+#![tactic(auto)]
+
+mod disk;
+mod folder_disk;
+mod index;
+mod loaded;
+mod memory_disk;
+mod names;
+mod path;
+mod row;
+mod search;
+mod shelf;
+#[cfg(test)]
+mod tests;
+
+pub use disk::{Disk, ReadFault};
+pub use folder_disk::FolderDisk;
+pub use loaded::{LONGEST, Loaded};
+pub use memory_disk::{File, MemoryDisk};
+pub use names::{is_folder, is_name};
+pub use search::{Folders, Form, resolve};
+pub use shelf::{LookFault, Pass, Shelf, ShelfFault};

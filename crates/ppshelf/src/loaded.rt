@@ -1,0 +1,159 @@
+// A kept content with its row and name.
+ghost use Rattle.std.specs.Prelude.{◌≡◌, ℕ, ◌<◌, ◌≤◌, ◌↔◌, List, length, IfOk, IfSome, IsTrue, MatchOption, MatchResult, OnErr, Option, Ok, Err, option_copied};
+ghost use Rattle.std.specs.String.{string_bytes};
+ghost use Rattle.pptext.specs.Sources.{Reads};
+ghost use Rattle.ppshelf.specs.Content.{Content, unreadable, readable, Lawful, longest, content_of, IsRead};
+ghost use Rattle.ppshelf.specs.Parsed.{parsed_content, HasReading};
+ghost use Rattle.ppshelf.specs.Shelved.{Held};
+
+use crate::disk::{Disk, ReadFault};
+use pptext::{Fault, Memory, Source, SourceFault, read_source};
+use std::alloc::Global;
+use std::marker::{Model, PhantomData};
+
+/// The most bytes that a file may have.
+pub const LONGEST: usize = 16_777_216;
+
+/// The bytes of a file, with its lines or its first fault.
+#[derive(Drop)]
+pub(crate) struct Parsed {
+    bytes: Vec<u8>,
+    lines: Result<Source, Fault>,
+}
+
+/// What is known of one row: the bytes of its file with what phases 1 to 3 make of them, or that it cannot be read.
+pub struct Loaded<D: Disk> {
+    row: usize,
+    name: String,
+    parsed: Option<Parsed>,
+    of: PhantomData<D>,
+}
+
+impl<D: Disk> Model for Loaded<D> {
+    ghost use Rattle.std.specs.Prelude.{ℕ, List};
+    ghost use Rattle.std.specs.String.{string_bytes};
+    ghost use Rattle.ppshelf.specs.Content.{Content, Lawful};
+    ghost use Rattle.ppshelf.specs.Shelved.{Held};
+    ghost use Rattle.ppshelf.specs.Parsed.{parsed_content, HasReading};
+
+    ghost Value = { Held };
+
+    ghost view = { λ l. record { row = l.row; name = string_bytes l.name; content = parsed_content l.parsed } };
+
+    ghost invariant = { λ l. Lawful D.may (string_bytes l.name) (parsed_content l.parsed) × HasReading l.row l.parsed };
+}
+
+impl<D: Disk> Drop for Loaded<D> {
+    fn drop(self) {
+        let Loaded {
+            row: _,
+            name: _,
+            parsed: _,
+            of: _,
+        } = self;
+    }
+}
+
+// The lines of a row's bytes, or their first fault.
+fn read_lines(alloc: Global, row: usize, bytes: &[u8]) -> Result<Result<Source, Fault>, Memory>
+    requires row { row < 65535 }
+    requires short { length bytes.now ≤ 16777216 }
+    ensures { IfOk result (λ lines. Reads row bytes.now lines) }
+{
+    match read_source(alloc, bytes, row as u32) {
+        Ok(source) => Ok(Ok(source)),
+        Err(SourceFault::Bad(fault)) => Ok(Err(fault)),
+        Err(SourceFault::Memory) => Err(Memory),
+    }
+}
+
+// Asks the disk for the file of a name. `None`: it cannot be read, or is too long.
+fn parsed_of<D: Disk>(
+    alloc: Global,
+    disk: &D,
+    row: usize,
+    name: &str,
+) -> Result<Option<Parsed>, Memory>
+    requires { row < 65535 }
+    ensures content { IfOk result (λ p. Lawful (D.gives disk.now) name.now (parsed_content p)) }
+    ensures reading { IfOk result (λ p. HasReading row p) }
+{
+    match disk.read(alloc, name) {
+        Ok(bytes) => {
+            if bytes.len() > LONGEST {
+                return Ok(None);
+            }
+            let lines = read_lines(alloc, row, bytes.as_slice())?;
+            Ok(Some(Parsed { bytes, lines }))
+        }
+        Err(ReadFault::Unreadable) => Ok(None),
+        Err(ReadFault::Memory) => Err(Memory),
+    }
+}
+
+impl<D: Disk> Loaded<D> {
+    // Reads a row from the disk.
+    pub(crate) fn read(alloc: Global, disk: &D, row: usize, name: &str) -> Result<Loaded<D>, Memory>
+        requires { row < 65535 }
+        ensures place { IfOk result (λ l. (l.row ≡ row) × (l.name ≡ name.now)) }
+        ensures content { IfOk result (λ l. Lawful (D.gives disk.now) name.now l.content) }
+    {
+        let parsed = parsed_of(alloc, disk, row, name)?;
+        let name = String::from_str(alloc, name)?;
+        Ok(Loaded {
+            row,
+            name,
+            parsed,
+            of: PhantomData,
+        })
+    }
+
+    /// The file's bytes, or `None` where it cannot be read.
+    pub fn bytes(&self) -> Option<&[u8]>
+        ensures { self.now.content ≡ content_of (option_copied result) }
+    {
+        match &self.parsed {
+            Some(parsed) => Some(parsed.bytes.as_slice()),
+            None => None,
+        }
+    }
+
+    /// The file's lines or its first fault, or `None` where it cannot be read.
+    pub fn lines(&self) -> Option<Result<&Source, &Fault>>
+        ensures { MatchOption result (self.now.content ≡ unreadable) (λ r. MatchResult r (λ s. IsRead self.now.row self.now.content (Ok s.now)) (λ f. IsRead self.now.row self.now.content (Err f.now))) }
+    {
+        match &self.parsed {
+            Some(parsed) => Some(parsed.lines.as_ref()),
+            None => None,
+        }
+    }
+
+    // Whether the content is that of this row and name.
+    pub(crate) fn is_of(&self, row: usize, name: &str) -> bool
+        ensures same { IsTrue result ↔ ((self.now.row ≡ row) × (self.now.name ≡ name.now)) }
+        ensures lawful { Lawful D.may self.now.name self.now.content }
+    {
+        self.row == row && self.name.as_str() == name
+    }
+
+    // For proofs: the content is lawful.
+    pub(crate) fn show_lawful(&self)
+        ensures { Lawful D.may self.now.name self.now.content }
+    {
+        let _row = &self.row;
+    }
+
+    // The content itself where it is that of this row and name. No caller meets another.
+    pub(crate) fn checked(&self, row: usize, name: &str) -> Result<&Loaded<D>, Memory>
+        ensures same { IfOk result (λ l. l.now ≡ self.now) }
+        ensures place { IfOk result (λ l. (l.now.row ≡ row) × (l.now.name ≡ name.now)) }
+        ensures lawful { IfOk result (λ l. Lawful D.may l.now.name l.now.content) }
+        ensures err { OnErr result (((self.now.row ≡ row) × (self.now.name ≡ name.now)) → ⊥) }
+    {
+        if self.is_of(row, name) {
+            Ok(self)
+        } else {
+            Err(Memory)
+        }
+    }
+}

@@ -1,0 +1,46 @@
+// Names of files and folders.
+ghost use Rattle.std.specs.Prelude.{◌≡◌, ◌==◌};
+ghost use Rattle.std.specs.List.{list_all, slice_split};
+ghost use Rattle.ppshelf.specs.Names as spec;
+
+const LONGEST_NAME: usize = 1024;
+
+/// Whether the text is a file's name in normal form: 1 to 1,024 bytes without control characters, in segments between `/`,
+/// none of which is empty, `.` or `..`.
+pub fn is_name(text: &[u8]) -> bool
+    ensures { result ≡ spec.is_name text.now }
+{
+    text.len() <= LONGEST_NAME && has_name_bytes(text) && has_segments(text)
+}
+
+/// Whether the text is a folder: `.` for the root, or a name in normal form.
+pub fn is_folder(text: &[u8]) -> bool
+    ensures { result ≡ spec.is_folder text.now }
+{
+    text == b".".as_slice() || is_name(text)
+}
+
+fn has_name_bytes(text: &[u8]) -> bool
+    ensures { result ≡ list_all spec.is_name_byte text.now }
+{
+    text.iter().all(|byte| is_name_byte(*byte))
+}
+
+fn has_segments(text: &[u8]) -> bool
+    ensures { result ≡ list_all spec.is_segment (spec.segments text.now) }
+{
+    text.split(|byte| *byte == b'/')
+        .all(|segment| is_segment(segment))
+}
+
+fn is_name_byte(byte: u8) -> bool
+    ensures { result ≡ spec.is_name_byte byte }
+{
+    byte >= b' ' && byte != 127
+}
+
+fn is_segment(segment: &[u8]) -> bool
+    ensures { result ≡ spec.is_segment segment.now }
+{
+    !segment.is_empty() && segment != b".".as_slice() && segment != b"..".as_slice()
+}

@@ -1,0 +1,182 @@
+// Rows that are filled once, and what callers know of them.
+ghost use Rattle.std.specs.Prelude.{◌≡◌, ℕ, ◌<◌, IfOk, OnErr, OnOk, IsSome, IfSome, IsOkAnd, Some, None};
+ghost use Rattle.std.specs.String.{string_bytes};
+ghost use Rattle.ppshelf.specs.Content.{Lawful};
+ghost use Rattle.ppshelf.specs.Shelved.{Held, FitsRow, or_else, FilledRow};
+
+use crate::disk::Disk;
+use crate::loaded::Loaded;
+use once_cell::race::{Note, OnceBox};
+use pptext::Memory;
+use std::alloc::Global;
+use std::marker::Model;
+use std::mem;
+
+/// One row: its name, what `fill` read, and the cell in which looks keep a content.
+pub(crate) struct Row<D: Disk> {
+    name: String,
+    base: Option<Loaded<D>>,
+    cell: OnceBox<Loaded<D>>,
+}
+
+impl<D: Disk> Model for Row<D> {
+    ghost use Rattle.std.specs.String.{string_bytes};
+    ghost use Rattle.once_cell.specs.Once.{cell_name};
+    ghost use Rattle.ppshelf.specs.Shelved.{Spot};
+
+    ghost Value = { Spot };
+
+    ghost view = { λ r. record { name = string_bytes r.name; base = r.base; cell = cell_name r.cell } };
+}
+
+impl<D: Disk> Drop for Row<D> {
+    fn drop(self) {
+        let Row {
+            name: _,
+            base: _,
+            cell: _,
+        } = self;
+    }
+}
+
+/// What a caller has seen of one row: what it knows of the row's cell, and the content that it was shown.
+pub(crate) struct Seen<'a, D: Disk> {
+    note: Note<Loaded<D>>,
+    shown: Option<&'a Loaded<D>>,
+}
+
+impl<'a, D: Disk> Model for Seen<'a, D> {
+    ghost use Rattle.std.specs.Option.{option_copied};
+    ghost use Rattle.ppshelf.specs.Shelved.{Sight};
+
+    ghost Value = { Sight };
+
+    ghost view = { λ s. record { cell = s.note.cell; noted = s.note.known; shown = option_copied s.shown } };
+}
+
+impl<D: Disk> Drop for Seen<'_, D> {
+    fn drop(self) {
+        let Seen { note: _, shown: _ } = self;
+    }
+}
+
+impl<D: Disk> Row<D> {
+    pub(crate) fn new(alloc: Global, name: String) -> Row<D>
+        ensures { (result.name ≡ string_bytes name) × (result.base ≡ None) }
+    {
+        Row {
+            name,
+            base: None,
+            cell: OnceBox::new(alloc),
+        }
+    }
+
+    pub(crate) fn name(&self) -> &str
+        ensures { result.now ≡ self.now.name }
+    {
+        self.name.as_str()
+    }
+
+    // A caller that has seen nothing of the row.
+    pub(crate) fn unseen<'a>(&'a self) -> Seen<'a, D>
+        ensures { (result.cell ≡ self.now.cell) × (result.shown ≡ None) }
+    {
+        Seen {
+            note: self.cell.note(),
+            shown: None,
+        }
+    }
+
+    // Reads the row, unless it was filled before.
+    pub(crate) fn fill(&mut self, alloc: Global, row: usize, disk: &D) -> Result<(), Memory>
+        requires { row < 65535 }
+        ensures turned { FilledRow (D.gives disk.now) row self.old self.new }
+        ensures full { OnOk result (IsSome self.new.base) }
+    {
+        if self.base.is_none() {
+            let loaded = Loaded::read(alloc, disk, row, self.name.as_str())?;
+            self.base = Some(loaded);
+        }
+        Ok(())
+    }
+
+    // Shows a caller the row's content.
+    pub(crate) fn look<'a>(
+        &'a self,
+        seen: &mut Seen<'a, D>,
+        alloc: Global,
+        row: usize,
+        disk: &D,
+    ) -> Result<&'a Loaded<D>, Memory>
+        requires row { row < 65535 }
+        requires placed { (h : Held) → self.now.base ≡ Some h → (h.row ≡ row) × (h.name ≡ self.now.name) }
+        requires fits { FitsRow D.may row self.now seen.old }
+        ensures fits { FitsRow D.may row self.now seen.new }
+        ensures shown { IfOk result (λ l. seen.new.shown ≡ Some l.now) }
+        ensures stays { IfSome seen.old.shown (λ h. IsOkAnd result (λ l. l.now ≡ h)) }
+        ensures base { IfSome self.now.base (λ h. IsOkAnd result (λ l. l.now ≡ h)) }
+        ensures err { OnErr result (seen.new.shown ≡ seen.old.shown) }
+    {
+        if let Some(loaded) = seen.shown {
+            return Ok(loaded);
+        }
+        if let Some(loaded) = &self.base {
+            loaded.show_lawful();
+            seen.shown = Some(loaded);
+            return Ok(loaded);
+        }
+        let loaded = self.kept(&mut seen.note, alloc, row, disk)?;
+        seen.shown = Some(loaded);
+        Ok(loaded)
+    }
+
+    // What the row's cell keeps. Where it is empty, reads the disk and keeps what came, or reads what another kept.
+    fn kept<'a>(
+        &'a self,
+        note: &mut Note<Loaded<D>>,
+        alloc: Global,
+        row: usize,
+        disk: &D,
+    ) -> Result<&'a Loaded<D>, Memory>
+        requires row { row < 65535 }
+        requires cell { note.old.cell ≡ self.now.cell }
+        ensures cell { note.new.cell ≡ note.old.cell }
+        ensures known { IfOk result (λ l. note.new.known ≡ Some l.now) }
+        ensures place { IfOk result (λ l. (l.now.row ≡ row) × (l.now.name ≡ self.now.name)) }
+        ensures lawful { IfOk result (λ l. Lawful D.may l.now.name l.now.content) }
+    {
+        if let Some(loaded) = self.cell.get_as(note) {
+            return loaded.checked(row, self.name.as_str());
+        }
+        let made = Loaded::read(alloc, disk, row, self.name.as_str())?;
+        let Ok(made) = Box::new(alloc, made) else {
+            return Err(Memory);
+        };
+        let _lost = self.cell.set_as(made, note);
+        match self.cell.get_as(note) {
+            Some(loaded) => loaded.checked(row, self.name.as_str()),
+            None => unreachable!(),
+        }
+    }
+}
+
+impl<'a, D: Disk> Seen<'a, D> {
+    // Takes in what another caller has seen of the same row.
+    pub(crate) fn join(&mut self, place: &Row<D>, row: usize, other: Self)
+        requires mine { FitsRow D.may row place.now self.old }
+        requires theirs { FitsRow D.may row place.now other }
+        ensures fits { FitsRow D.may row place.now self.new }
+        ensures agree { (h k : Held) → self.old.shown ≡ Some h → other.entry.shown ≡ Some k → h ≡ k }
+        ensures shown { self.new.shown ≡ or_else self.old.shown other.entry.shown }
+    {
+        let Seen { note, shown } = other;
+        let Some(loaded) = shown else {
+            return;
+        };
+        let mine = mem::replace(&mut self.note, note);
+        self.note.compare(mine);
+        if self.shown.is_none() {
+            self.shown = Some(loaded);
+        }
+    }
+}

@@ -1,0 +1,262 @@
+// The shelf, and what one caller knows of it.
+ghost use Rattle.std.specs.Prelude.{◌≡◌, ℕ, ◌<◌, ◌≤◌, List, length, map, replicate, IfErr, IfOk, OnErr, OnOk, IfSome, IsSome, IsOkAnd, Some, None, slice_set, slice_index_or};
+ghost use Rattle.std.specs.String.{string_bytes};
+ghost use Rattle.std.specs.Vec.{vec_len};
+ghost use Rattle.ppshelf.specs.Faults.{IsShelfFault};
+ghost use Rattle.ppshelf.specs.Names.{AreNames, IsRowOf};
+ghost use Rattle.ppshelf.specs.Shelved.{file_at, name_at, names_of, base_of, AllLawful, Agree, Extends, Joined, FilledRow, no_spot};
+
+use crate::disk::Disk;
+use crate::index::{Index, index_names};
+use crate::loaded::Loaded;
+use crate::row::{Row, Seen};
+use pptext::Memory;
+use std::alloc::Global;
+use std::marker::Model;
+
+/// Files by row. Each row is read once, by `fill` or by the first look.
+///
+/// Contracts see the list of its rows. A row's cell has a name of its own, so no two shelves are equal.
+pub struct Shelf<D: Disk> {
+    alloc: Global,
+    index: Index,
+    rows: Vec<Row<D>>,
+}
+
+impl<D: Disk> Model for Shelf<D> {
+    ghost use Rattle.std.specs.Prelude.{List};
+    ghost use Rattle.ppshelf.specs.Shelved.{Spot, IsShelf};
+
+    ghost Value = { List Spot };
+
+    ghost view = { λ s. s.rows.items };
+
+    ghost invariant = { λ s. IsShelf s.index s.rows.items };
+}
+
+impl<D: Disk> Drop for Shelf<D> {
+    fn drop(self) {
+        let Shelf {
+            alloc: _,
+            index: _,
+            rows: _,
+        } = self;
+    }
+}
+
+/// Why no shelf was made.
+#[derive(Clone, Copy, PartialEq, Eq, Debug, Drop)]
+pub enum ShelfFault {
+    /// The first name that is out of form or stands before.
+    Name(usize),
+    /// Memory ran out.
+    Memory,
+}
+
+/// What one caller knows of a shelf: a finite map from rows to contents.
+pub struct Pass<'a, D: Disk> {
+    shelf: &'a Shelf<D>,
+    rows: Vec<Seen<'a, D>>,
+}
+
+impl<'a, D: Disk> Model for Pass<'a, D> {
+    ghost use Rattle.ppshelf.specs.Shelved.{Known, IsPass, files_of};
+
+    ghost Value = { Known };
+
+    ghost view = { λ p. record { shelf = p.shelf.now; files = files_of p.rows.items } };
+
+    ghost invariant = { λ p. IsPass D.may p.shelf.now p.rows.items };
+}
+
+impl<D: Disk> Drop for Pass<'_, D> {
+    fn drop(self) {
+        let Pass { shelf: _, rows: _ } = self;
+    }
+}
+
+/// Why a look showed nothing.
+#[derive(Clone, Copy, PartialEq, Eq, Debug, Drop)]
+pub enum LookFault {
+    /// Memory ran out.
+    Memory,
+}
+
+impl<D: Disk> Shelf<D> {
+    /// Rows with these names, at most 65,535, in order. None is filled.
+    ///
+    /// Fails at the first name that is not in normal form or that stands before.
+    pub fn new(alloc: Global, names: Vec<String>) -> Result<Shelf<D>, ShelfFault>
+        requires { vec_len names ≤ 65535 }
+        ensures names { IfOk result (λ s. names_of s ≡ map string_bytes names.items) }
+        ensures form { OnOk result (AreNames (map string_bytes names.items)) }
+        ensures empty { IfOk result (λ s. base_of s ≡ replicate (length names.items) None) }
+        ensures fault { IfErr result (λ e. IsShelfFault e (map string_bytes names.items)) }
+    {
+        let index = index_names(alloc, names.as_slice())?;
+        let Ok(rows) = empty_rows(alloc, names) else {
+            return Err(ShelfFault::Memory);
+        };
+        Ok(Shelf { alloc, index, rows })
+    }
+
+    /// How many rows there are.
+    pub fn len(&self) -> usize
+        ensures { result ≡ length self.now }
+    {
+        self.rows.len()
+    }
+
+    /// The row of this name.
+    pub fn row_of(&self, name: &[u8]) -> Option<usize>
+        ensures { IsRowOf (names_of self.now) name.now result }
+    {
+        self.index.row_of(name)
+    }
+
+    /// The name of a row.
+    pub fn name(&self, row: usize) -> &str
+        requires { row < length self.now }
+        ensures { result.now ≡ name_at self.now row }
+    {
+        self.rows[row].name()
+    }
+
+    /// Reads each row that no earlier fill read, whatever a look kept. Where memory runs out, the rows that were read stay.
+    pub fn fill(&mut self, disk: &D) -> Result<(), Memory>
+        ensures names { names_of self.new ≡ names_of self.old }
+        ensures rows { (row : ℕ) → row < length self.old → FilledRow (D.gives disk.now) row (slice_index_or self.old row no_spot) (slice_index_or self.new row no_spot) }
+        ensures len { length self.new ≡ length self.old }
+        ensures full { OnOk result ((row : ℕ) → row < length self.new → IsSome (slice_index_or self.new row no_spot).base) }
+    {
+        let alloc = self.alloc;
+        for row in 0..self.rows.len() {
+            self.rows[row].fill(alloc, row, disk)?;
+        }
+        Ok(())
+    }
+
+    /// A pass that knows nothing.
+    pub fn pass(&self) -> Result<Pass<'_, D>, Memory>
+        ensures shelf { IfOk result (λ p. p.shelf ≡ self.now) }
+        ensures empty { IfOk result (λ p. p.files ≡ replicate (length self.now) None) }
+    {
+        let mut rows = Vec::with_capacity(self.alloc, self.rows.len())?;
+        for row in &self.rows {
+            let Ok(()) = rows.push(row.unseen()) else {
+                return Err(Memory);
+            };
+        }
+        Ok(Pass { shelf: self, rows })
+    }
+
+    /// Shows the pass a row's content. From then on the pass knows it.
+    ///
+    /// Takes no memory where the pass knows the row, or where it was filled. Fails only for want of memory, and then the pass
+    /// knows what it knew.
+    pub fn look<'a>(
+        &'a self,
+        pass: &mut Pass<'a, D>,
+        row: usize,
+        disk: &D,
+    ) -> Result<&'a Loaded<D>, LookFault>
+        requires shelf { pass.old.shelf ≡ self.now }
+        requires row { row < length self.now }
+        ensures shelf { pass.new.shelf ≡ self.now }
+        ensures place { IfOk result (λ l. (l.now.row ≡ row) × (l.now.name ≡ name_at self.now row)) }
+        ensures known { IfOk result (λ l. pass.new.files ≡ slice_set pass.old.files row (Some l.now.content)) }
+        ensures knows { IfOk result (λ l. file_at pass.new.files row ≡ Some l.now.content) }
+        ensures grows { Extends pass.new.files pass.old.files }
+        ensures stays { IfSome (file_at pass.old.files row) (λ c. IsOkAnd result (λ l. l.now.content ≡ c)) }
+        ensures base { IfSome (slice_index_or self.now row no_spot).base (λ h. IsOkAnd result (λ l. l.now ≡ h)) }
+        ensures err { OnErr result (pass.new ≡ pass.old) }
+        ensures lawful { AllLawful D.may self.now pass.new.files }
+        ensures filled { Agree (base_of self.now) pass.new.files }
+    {
+        pass.lawful();
+        let shown = pass.show(self, row, disk);
+        pass.lawful();
+        let Ok(loaded) = shown else {
+            return Err(LookFault::Memory);
+        };
+        Ok(loaded)
+    }
+
+    /// Joins two passes of the shelf, which agree wherever both know a row. Takes no memory.
+    pub fn meet<'a>(&'a self, pass: &mut Pass<'a, D>, other: Pass<'a, D>)
+        requires mine { pass.old.shelf ≡ self.now }
+        requires theirs { other.shelf ≡ self.now }
+        ensures shelf { pass.new.shelf ≡ self.now }
+        ensures agree { Agree pass.old.files other.entry.files }
+        ensures joined { Joined pass.old.files other.entry.files pass.new.files }
+        ensures grows { Extends pass.new.files pass.old.files }
+        ensures theirs { Extends pass.new.files other.entry.files }
+        ensures lawful { AllLawful D.may self.now pass.new.files }
+        ensures filled { Agree (base_of self.now) pass.new.files }
+    {
+        pass.join(self, other);
+        pass.lawful();
+    }
+}
+
+fn empty_rows<D: Disk>(alloc: Global, names: Vec<String>) -> Result<Vec<Row<D>>, Memory>
+    ensures names { IfOk result (λ rows. names_of rows.items ≡ map string_bytes names.items) }
+    ensures empty { IfOk result (λ rows. base_of rows.items ≡ replicate (length names.items) None) }
+{
+    let mut rows = Vec::with_capacity(alloc, names.len())?;
+    for name in names {
+        let Ok(()) = rows.push(Row::new(alloc, name)) else {
+            return Err(Memory);
+        };
+    }
+    Ok(rows)
+}
+
+impl<'a, D: Disk> Pass<'a, D> {
+    /// What a pass knows of a row is what `fill` put there, if it did, and lawful for the row's name. For proofs: it does nothing.
+    pub fn lawful(&self)
+        ensures lawful { AllLawful D.may self.now.shelf self.now.files }
+        ensures filled { Agree (base_of self.now.shelf) self.now.files }
+        ensures rows { length self.now.files ≡ length self.now.shelf }
+    {
+        let _rows = &self.rows;
+    }
+
+    // `look`, but for the clauses that say what is lawful.
+    fn show(
+        &mut self,
+        shelf: &'a Shelf<D>,
+        row: usize,
+        disk: &D,
+    ) -> Result<&'a Loaded<D>, LookFault>
+        requires shelf { self.old.shelf ≡ shelf.now }
+        requires row { row < length shelf.now }
+        ensures shelf { self.new.shelf ≡ shelf.now }
+        ensures place { IfOk result (λ l. (l.now.row ≡ row) × (l.now.name ≡ name_at shelf.now row)) }
+        ensures known { IfOk result (λ l. self.new.files ≡ slice_set self.old.files row (Some l.now.content)) }
+        ensures stays { IfSome (file_at self.old.files row) (λ c. IsOkAnd result (λ l. l.now.content ≡ c)) }
+        ensures base { IfSome (slice_index_or shelf.now row no_spot).base (λ h. IsOkAnd result (λ l. l.now ≡ h)) }
+        ensures err { OnErr result (self.new ≡ self.old) }
+    {
+        let seen = &mut self.rows[row];
+        let Ok(loaded) = shelf.rows[row].look(seen, shelf.alloc, row, disk) else {
+            return Err(LookFault::Memory);
+        };
+        Ok(loaded)
+    }
+
+    // Takes in what the other pass knows.
+    fn join(&mut self, shelf: &Shelf<D>, other: Self)
+        requires mine { self.old.shelf ≡ shelf.now }
+        requires theirs { other.shelf ≡ shelf.now }
+        ensures shelf { self.new.shelf ≡ shelf.now }
+        ensures agree { Agree self.old.files other.entry.files }
+        ensures joined { Joined self.old.files other.entry.files self.new.files }
+    {
+        let Pass { shelf: _, mut rows } = other;
+        while let Some(theirs) = rows.pop() {
+            let row = rows.len();
+            self.rows[row].join(&shelf.rows[row], row, theirs);
+        }
+    }
+}

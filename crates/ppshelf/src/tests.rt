@@ -1,0 +1,303 @@
+ghost use Rattle.std.specs.Prelude.{◌≡◌, ◌≤◌, IfOk, length};
+ghost use Rattle.std.specs.Vec.{vec_len};
+
+use crate::{
+    Disk, File, Folders, Form, Loaded, MemoryDisk, Pass, ReadFault, Shelf, ShelfFault, is_folder,
+    is_name, resolve,
+};
+use pptext::Memory;
+use std::alloc::{AllocError, Global};
+use std::sync::atomic::AtomicU64;
+use std::sync::atomic::Ordering::SeqCst;
+use std::test::Fail;
+use std::thread;
+use std::thread::Threads;
+
+// Answers its reads with the texts `0`, `1`, .. in turn, but has no memory for the read of one number.
+#[derive(Drop)]
+struct Counting {
+    reads: AtomicU64,
+    refused: u64,
+}
+
+impl Disk for Counting {
+    ghost use Rattle.std.specs.Prelude.{ℕ};
+
+    ghost may = { λ name c. Unit {0} };
+
+    ghost gives = { λ disk name c. Unit {0} };
+
+    ghost gives_may = { λ disk name c h. tt };
+
+    fn read(&self, alloc: Global, _name: &str) -> Result<Vec<u8>, ReadFault> {
+        let count = self.reads.fetch_add(1, SeqCst);
+        if count == self.refused {
+            return Err(ReadFault::Memory);
+        }
+        let Ok(text) = format!(in alloc; "{count}\n") else {
+            return Err(ReadFault::Memory);
+        };
+        let Ok(bytes) = Vec::from_slice(alloc, text.as_bytes()) else {
+            return Err(ReadFault::Memory);
+        };
+        Ok(bytes)
+    }
+}
+
+fn refusing(refused: u64) -> Counting {
+    Counting {
+        reads: AtomicU64::new(0),
+        refused,
+    }
+}
+
+fn texts(alloc: Global, names: &[&str]) -> Result<Vec<String>, AllocError>
+    ensures { IfOk result (λ texts. vec_len texts ≡ length names.now) }
+{
+    let mut texts = Vec::new(alloc);
+    for name in names {
+        texts.push(String::from_str(alloc, name)?)?;
+    }
+    Ok(texts)
+}
+
+// What a pass is shown of a row.
+fn bytes_of<'a, D: Disk>(
+    shelf: &'a Shelf<D>,
+    pass: &mut Pass<'a, D>,
+    row: usize,
+    disk: &D,
+) -> Result<Option<&'a [u8]>, Memory>
+    requires { pass.old.shelf ≡ shelf.now }
+    ensures { pass.new.shelf ≡ shelf.now }
+{
+    if row >= shelf.len() {
+        return Ok(None);
+    }
+    let Ok(loaded) = shelf.look(pass, row, disk) else {
+        return Err(Memory);
+    };
+    Ok(loaded.bytes())
+}
+
+#[test]
+fn passes_find_the_same(rt: HostRuntime) -> Result<(), Fail> {
+    let alloc = rt.alloc();
+    let shelf: Shelf<Counting> = Shelf::new(alloc, texts(alloc, &["h.h", "a.c"])?)?;
+    let disk = refusing(99);
+    let (mut one, mut two) = (shelf.pass()?, shelf.pass()?);
+    assert!(rt; bytes_of(&shelf, &mut one, 0, &disk)? == Some(b"0\n".as_slice()));
+    assert!(rt; bytes_of(&shelf, &mut two, 0, &disk)? == Some(b"0\n".as_slice()));
+    assert!(rt; bytes_of(&shelf, &mut two, 1, &disk)? == Some(b"1\n".as_slice()));
+    shelf.meet(&mut one, two);
+    assert!(rt; bytes_of(&shelf, &mut one, 1, &disk)? == Some(b"1\n".as_slice()));
+    assert!(rt; disk.reads.load(SeqCst) == 2);
+    Ok(())
+}
+
+// Looks at both rows and hands the pass out.
+fn all_looked_at<'a>(
+    shelf: &'a Shelf<Counting>,
+    disk: &Counting,
+) -> Result<Pass<'a, Counting>, Memory>
+    ensures { IfOk result (λ pass. pass.shelf ≡ shelf.now) }
+{
+    let mut pass = shelf.pass()?;
+    for row in 0..shelf.len() {
+        let _bytes = bytes_of(shelf, &mut pass, row, disk)?;
+    }
+    Ok(pass)
+}
+
+// What two threads are shown, and have met over.
+fn by_two_threads<'a, R: Threads>(
+    rt: &R,
+    shelf: &'a Shelf<Counting>,
+    disk: &Counting,
+) -> Result<Pass<'a, Counting>, Memory>
+    ensures { IfOk result (λ pass. pass.shelf ≡ shelf.now) }
+{
+    let one = || -> Result<Pass<Counting>, Memory>
+        ensures { IfOk result (λ pass. pass.shelf ≡ shelf.entry.now) }
+    { all_looked_at(shelf, disk) };
+    let two = || -> Result<Pass<Counting>, Memory>
+        ensures { IfOk result (λ pass. pass.shelf ≡ shelf.entry.now) }
+    { all_looked_at(shelf, disk) };
+    let (one, two) = thread::join(rt, one, two);
+    let mut met = one?;
+    shelf.meet(&mut met, two?);
+    Ok(met)
+}
+
+// The same of four.
+fn by_four_threads<'a, R: Threads + Sync>(
+    rt: &R,
+    shelf: &'a Shelf<Counting>,
+    disk: &Counting,
+) -> Result<Pass<'a, Counting>, Memory>
+    ensures { IfOk result (λ pass. pass.shelf ≡ shelf.now) }
+{
+    let one = || -> Result<Pass<Counting>, Memory>
+        ensures { IfOk result (λ pass. pass.shelf ≡ shelf.entry.now) }
+    { by_two_threads(rt, shelf, disk) };
+    let two = || -> Result<Pass<Counting>, Memory>
+        ensures { IfOk result (λ pass. pass.shelf ≡ shelf.entry.now) }
+    { by_two_threads(rt, shelf, disk) };
+    let (one, two) = thread::join(rt, one, two);
+    let mut met = one?;
+    shelf.meet(&mut met, two?);
+    Ok(met)
+}
+
+#[test]
+fn threads_find_the_same(rt: HostRuntime) -> Result<(), Fail> {
+    let alloc = rt.alloc();
+    let shelf: Shelf<Counting> = Shelf::new(alloc, texts(alloc, &["h.h", "a.c"])?)?;
+    let disk = refusing(99);
+    let mut pass = by_four_threads(&rt, &shelf, &disk)?;
+    let first = bytes_of(&shelf, &mut pass, 0, &disk)?;
+    let mut other = shelf.pass()?;
+    assert!(rt; first.is_some() && first == bytes_of(&shelf, &mut other, 0, &disk)?);
+    Ok(())
+}
+
+#[test]
+fn a_fill_goes_on_after_want_of_memory(rt: HostRuntime) -> Result<(), Fail> {
+    let alloc = rt.alloc();
+    let mut shelf: Shelf<Counting> = Shelf::new(alloc, texts(alloc, &["a", "b", "c"])?)?;
+    let disk = refusing(1);
+    assert!(rt; shelf.fill(&disk) == Err(Memory));
+    assert!(rt; shelf.fill(&disk) == Ok(()));
+    assert!(rt; disk.reads.load(SeqCst) == 4);
+    let none = refusing(0);
+    let mut pass = shelf.pass()?;
+    assert!(rt; bytes_of(&shelf, &mut pass, 0, &none)? == Some(b"0\n".as_slice()));
+    assert!(rt; bytes_of(&shelf, &mut pass, 2, &none)? == Some(b"3\n".as_slice()));
+    Ok(())
+}
+
+#[test]
+fn a_kept_row_is_not_read_again(rt: HostRuntime) -> Result<(), Fail> {
+    let alloc = rt.alloc();
+    let shelf: Shelf<Counting> = Shelf::new(alloc, texts(alloc, &["h.h"])?)?;
+    let mut pass = shelf.pass()?;
+    assert!(rt; bytes_of(&shelf, &mut pass, 0, &refusing(0)) == Err(Memory));
+    assert!(rt; bytes_of(&shelf, &mut pass, 0, &refusing(1))? == Some(b"0\n".as_slice()));
+    assert!(rt; bytes_of(&shelf, &mut pass, 0, &refusing(0))? == Some(b"0\n".as_slice()));
+    let mut other = shelf.pass()?;
+    assert!(rt; bytes_of(&shelf, &mut other, 0, &refusing(0))? == Some(b"0\n".as_slice()));
+    Ok(())
+}
+
+fn named(alloc: Global, names: &[&str]) -> Result<Shelf<MemoryDisk>, Fail>
+    requires { length names.now ≤ 65535 }
+{
+    Ok(Shelf::new(alloc, texts(alloc, names)?)?)
+}
+
+#[test]
+fn folders_are_searched_in_order(rt: HostRuntime) -> Result<(), Fail> {
+    let alloc = rt.alloc();
+    let shelf = named(alloc, &["src/a.c", "src/x.h", "inc/x.h", "h.h"])?;
+    let (unit, setting) = (texts(alloc, &["."])?, texts(alloc, &["inc", "src"])?);
+    let folders = Folders {
+        unit: unit.as_slice(),
+        setting: setting.as_slice(),
+    };
+    let cases = [
+        (Form::Quote, "x.h", Some(1)),
+        (Form::Angle, "x.h", Some(2)),
+        (Form::Quote, "../inc/x.h", Some(2)),
+        (Form::Angle, "../inc/x.h", Some(2)),
+        (Form::Angle, "y.h", None),
+        (Form::Quote, "h.h", Some(3)),
+        (Form::Angle, "h.h/", Some(3)),
+        (Form::Angle, "./x/../h.h", Some(3)),
+        (Form::Angle, "h.h ", None),
+        (Form::Quote, "..", None),
+        (Form::Quote, "../../h.h", None),
+        (Form::Angle, "../h.h", Some(3)),
+    ];
+    for (form, name, row) in &cases {
+        if shelf.len() == 0 {
+            continue;
+        }
+        let found = resolve(alloc, &shelf, 0, *form, name.as_bytes(), folders)?;
+        assert!(rt; found == *row, "{name}");
+    }
+    Ok(())
+}
+
+#[test]
+fn names_have_one_form(rt: HostRuntime) -> Result<(), Fail> {
+    for name in &["a", "a/b.h", "...", ".a", "a b", "\u{e9}"] {
+        assert!(rt;
+            is_name(name.as_bytes()) && is_folder(name.as_bytes()),
+            "{name}"
+        );
+    }
+    for name in &[
+        "", "/a", "a/", "a//b", "..", "a/../b", "a/.", "a\n", "a\u{7f}",
+    ] {
+        assert!(rt;
+            !is_name(name.as_bytes()) && !is_folder(name.as_bytes()),
+            "{name}"
+        );
+    }
+    assert!(rt; is_folder(b".".as_slice()) && !is_name(b".".as_slice()));
+    let longest = Vec::from_elem(rt.alloc(), b'a', 1024)?;
+    let longer = Vec::from_elem(rt.alloc(), b'a', 1025)?;
+    assert!(rt; is_name(longest.as_slice()) && !is_name(longer.as_slice()));
+    Ok(())
+}
+
+#[test]
+fn a_shelf_refuses_the_first_bad_name(rt: HostRuntime) -> Result<(), Fail> {
+    let alloc = rt.alloc();
+    let twice: Result<Shelf<MemoryDisk>, ShelfFault> = Shelf::new(
+        alloc,
+        texts(alloc, &["a", "b", "a", "."])?,
+    );
+    assert!(rt; twice.map(|_| ()) == Err(ShelfFault::Name(2)));
+    let out_of_form: Result<Shelf<MemoryDisk>, ShelfFault> = Shelf::new(
+        alloc,
+        texts(alloc, &["a", "b/", "a"])?,
+    );
+    assert!(rt; out_of_form.map(|_| ()) == Err(ShelfFault::Name(1)));
+    Ok(())
+}
+
+#[test]
+fn a_shelf_holds_65535_names(rt: HostRuntime) -> Result<(), Fail> {
+    let alloc = rt.alloc();
+    let mut names = Vec::with_capacity(alloc, 65535)?;
+    for i in 0..65535u32 {
+        names.push(format!(in alloc; "f{i:05}.h")?)?;
+    }
+    if names.len() != 65535 {
+        return Ok(());
+    }
+    let shelf: Shelf<MemoryDisk> = Shelf::new(alloc, names)?;
+    assert!(rt; shelf.len() == 65535);
+    assert!(rt; shelf.row_of(b"f00000.h".as_slice()) == Some(0));
+    assert!(rt; shelf.row_of(b"f65534.h".as_slice()) == Some(65534));
+    assert!(rt; shelf.row_of(b"f65535.h".as_slice()) == None);
+    Ok(())
+}
+
+#[test]
+fn a_memory_disk_answers_its_files(rt: HostRuntime) -> Result<(), Fail> {
+    let alloc = rt.alloc();
+    let mut files = Vec::new(alloc);
+    files.push(File {
+        name: String::from_str(alloc, "a")?,
+        bytes: Vec::from_slice(alloc, b"x\n".as_slice())?,
+    })?;
+    let disk = MemoryDisk { files };
+    let mut shelf = named(alloc, &["a", "b"])?;
+    shelf.fill(&disk)?;
+    let mut pass = shelf.pass()?;
+    assert!(rt; bytes_of(&shelf, &mut pass, 0, &disk)? == Some(b"x\n".as_slice()));
+    assert!(rt; bytes_of(&shelf, &mut pass, 1, &disk)? == None);
+    Ok(())
+}
