@@ -77,9 +77,6 @@ at_end file raw =
     alone false = refl
 
 -- The copy grows by a character, by a plain run, or not at all.
-pub copied_start : (raw : List ℕ) → Copied raw 0 (take 0 raw)
-copied_start raw = record { codes = λ file. refl; ends = λ file. refl }
-
 pub copied_code : (raw : List ℕ) (offset : ℕ) (done : List ℕ) (code n : ℕ) → Copied raw offset done → offset < length raw → step_of (open_end raw) (drop offset raw) ≡ Code code n → Copied raw (offset + n) (done ++ code ∷ [])
 copied_code raw offset done code n h lt is = record {
   codes = λ file. h.codes file ∙ ap (λ z. done ++ codes_of z) (code_at file raw offset code n lt is).text ∙ sym (append_assoc done (code ∷ []) (codes_of (text_from file raw (offset + n))));
@@ -120,12 +117,12 @@ plain_step s b bs h =
     rw (no_cr b bs n.2, no_mark b bs n.1, n.0) refl
 
 -- a plain byte, and the rest of the plain front
-record PlainAt (raw : List ℕ) (offset n : ℕ) : Type 0 where
-  room : offset < length raw
-  step : step_of (open_end raw) (drop offset raw) ≡ Code (get_or raw offset 0) 1
-  more : PlainFront (drop (offset + 1) raw) n
+pub record PlainAt (raw : List ℕ) (offset n : ℕ) : Type 0 where
+  pub room : offset < length raw
+  pub step : step_of (open_end raw) (drop offset raw) ≡ Code (get_or raw offset 0) 1
+  pub more : PlainFront (drop (offset + 1) raw) n
 
-plain_at : (raw : List ℕ) (offset n : ℕ) → PlainFront (drop offset raw) (suc n) → PlainAt raw offset n
+pub plain_at : (raw : List ℕ) (offset n : ℕ) → PlainFront (drop offset raw) (suc n) → PlainAt raw offset n
 plain_at raw offset n front =
     let l = length-drop offset raw in
     let fits = front.0 in

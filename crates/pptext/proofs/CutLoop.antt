@@ -1,67 +1,41 @@
 -- The loop that cuts a text: what it keeps, and each of its turns.
 use Rattle.std.proofs.Common.{◌≡◌, ℕ, zero, suc, ◌+◌, ◌-◌, ◌<◌, ◌≤◌, Bool, true, false, List, [], ◌∷◌, ◌++◌, length, take, drop, refl, sym, ap, ◌∙◌, subst, arith, length-drop, get_or, None, Ok, IsTrue, add-zero}
-use Rattle.std.proofs.lemmas.List.{append-nil, length-map, take-append-drop, drop-drop, length-take-le, take-append-le, drop-append-le, take_rest, drop_all, length_push, take-map, drop-map, drop_more, drop-take, take-take}
+use Rattle.std.proofs.lemmas.List.{append-nil, length-map, take-append-drop, drop-drop, length-take-le, take-append-le, drop-append-le, drop_all, length_push, take-map, drop-map, drop_more, take_all}
 use Rattle.pptext.specs.declared.tokens.Token.{Token}
 use Rattle.pptext.specs.declared.tokens.Place.{Place}
 use Rattle.pptext.specs.declared.tokens.Kind.{Kind}
 use Rattle.pptext.specs.declared.characters.Char.{Char}
-use Rattle.pptext.specs.declared.cutting.Ending.{Ending}
+use Rattle.pptext.specs.declared.sources.Line.{Line}
 use Rattle.pptext.specs.Clean.{codes_of}
 use Rattle.pptext.specs.Cut.{Piece, Sort, NewLine, Blank, Comment, Spelled, line_after, with_piece, StandsAt, CutUpTo, head_place, Unclosed, OpensBlock, ClosesAt, BeginsWith}
 use Rattle.pptext.specs.Lines.{Row, rows_ended, leaves_space, tokens_after, token_of}
 use Rattle.pptext.specs.Tokens.{spelled}
 use Rattle.pptext.specs.Spellings.{is_blank}
-use Rattle.pptext.specs.Finds.{rows_by_ends, AreEnds, CutsInto}
+use Rattle.pptext.specs.Sources.{tokens_of}
+use Rattle.pptext.specs.Grouping.{draft, drafts}
+use Rattle.pptext.specs.Finds.{CutsInto}
+use Rattle.pptext.proofs.Spans.{drafts_are, drafts-append, tokens_of-append}
 use Rattle.pptext.proofs.CutSteps.{cut_more, no_piece, line_after-append, RowsSoFar, rows_start, rows_more, rows_all}
-
--- ends that come one behind the other come before the last
-ends_below : (s stop : ℕ) (es : List Ending) → AreEnds s stop es → s ≤ stop
-ends_below s stop [] h = omega arith
-ends_below s stop (e ∷ es) h = let below = ends_below e.end stop es h.1 in omega (arith, h.0)
-
-ends_push : (s stop : ℕ) (es : List Ending) (e : Ending) → AreEnds s stop es → stop ≤ e.end → AreEnds s e.end (es ++ e ∷ [])
-ends_push s stop [] e h le = (omega arith, refl)
-ends_push s stop (d ∷ es) e h le = (h.0, ends_push d.end stop es e h.1 le)
-
--- a line that ends by there is the same in a front of the tokens
-line_of_front : (ts : List Token) (s e stop : ℕ) → s ≤ e → e ≤ stop → take (e - s) (drop s (take stop ts)) ≡ take (e - s) (drop s ts)
-line_of_front ts s e stop lower le =
-    let front : drop s (take stop ts) ≡ take (stop - s) (drop s ts) = ap (λ n. drop s (take n ts)) (omega arith) ∙ drop-take s (stop - s) ts in
-    ap (take (e - s)) front ∙ take-take (e - s) (stop - s) (drop s ts) (omega arith)
-
--- lines that end by there are the same in a front of the tokens
-rows_of_front : (s : ℕ) (ts : List Token) (stop : ℕ) (es : List Ending) → AreEnds s stop es → rows_by_ends s (take stop ts) es ≡ rows_by_ends s ts es
-rows_of_front s ts stop [] h = refl
-rows_of_front s ts stop (e ∷ es) h =
-    rw (line_of_front ts s e.end stop h.0 (ends_below e.end stop es h.1), rows_of_front e.end ts stop es h.1) refl
-
--- one more token changes no line that has ended
-rows_push_token : (ts : List Token) (t : Token) (stop : ℕ) (es : List Ending) → stop ≤ length ts → AreEnds 0 stop es → rows_by_ends 0 (ts ++ t ∷ []) es ≡ rows_by_ends 0 ts es
-rows_push_token ts t stop es le h =
-    sym (rows_of_front 0 (ts ++ t ∷ []) stop es h) ∙ ap (λ (z : List Token). rows_by_ends 0 z es) (take-append-le stop ts (t ∷ []) le) ∙ rows_of_front 0 ts stop es h
-
-rows_push_end : (s : ℕ) (ts : List Token) (stop : ℕ) (es : List Ending) (e : Ending) → AreEnds s stop es → rows_by_ends s ts (es ++ e ∷ []) ≡ rows_by_ends s ts es ++ record { tokens = take (e.end - stop) (drop stop ts); number = e.number } ∷ []
-rows_push_end s ts stop [] e h =
-    ap (λ (z : ℕ). record { tokens = take (e.end - z) (drop z ts); number = e.number } ∷ []) h
-rows_push_end s ts stop (d ∷ es) e h =
-    ap (λ (z : List Row). record { tokens = take (d.end - s) (drop s ts); number = d.number } ∷ z) (rows_push_end d.end ts stop es e h.1)
 
 spelled-append : (ts : List Token) (t : Token) → spelled (ts ++ t ∷ []) ≡ spelled ts ++ t.text ∷ []
 spelled-append [] t = refl
 spelled-append (u ∷ ts) t = ap (λ z. u.text ∷ z) (spelled-append ts t)
 
 -- what the loop keeps
-pub record State (chars : List Char) (at start : ℕ) (space : Bool) (ts : List Token) (es : List Ending) : Type 0 where
+pub record State (chars : List Char) (at start : ℕ) (space : Bool) (ts : List Token) (ls : List Line) : Type 0 where
   pub within : at ≤ length chars
   pub started : start ≤ length ts
-  pub ends : AreEnds 0 start es
+  pub few : length ls ≤ at
   pub pieces : List Piece
   pub cut : CutUpTo chars pieces (drop at chars)
-  pub sofar : RowsSoFar pieces (rows_by_ends 0 ts es) space (drop start ts)
+  pub rows : List Row
+  pub tokens : tokens_of rows ≡ take start ts
+  pub lines : ls ≡ drafts 0 rows
+  pub sofar : RowsSoFar pieces rows space (drop start ts)
   pub line : line_after [] pieces ≡ spelled (drop start ts)
 
 pub state_start : (chars : List Char) → State chars 0 0 true [] []
-state_start chars = record { within = omega arith; started = omega arith; ends = refl; pieces = []; cut = no_piece chars; sofar = rows_start; line = refl }
+state_start chars = record { within = omega arith; started = omega arith; few = omega arith; pieces = []; cut = no_piece chars; rows = []; tokens = refl; lines = refl; sofar = rows_start; line = refl }
 
 abbrev pub piece_at : List Char → ℕ → ℕ → Sort → Piece
 piece_at chars at n s = record { sort = s; chars = take n (drop at chars) }
@@ -93,8 +67,8 @@ pub codes_length : (chars : List Char) → length (codes_of chars) ≡ length ch
 codes_length chars = length-map chars (λ (c : Char). c.code)
 
 module _ (chars : List Char) where
-  pub grown : (at start n : ℕ) (space : Bool) (ts : List Token) (es : List Ending) (s : Sort) (st : State chars at start space ts es) → n ≤ length (drop at (codes_of chars)) → StandsAt (spelled (drop start ts)) (drop at (codes_of chars)) n s → Grown chars at n s space (rows_by_ends 0 ts es) (drop start ts) st.pieces
-  grown at start n space ts es s st fits here =
+  pub grown : (at start n : ℕ) (space : Bool) (ts : List Token) (ls : List Line) (s : Sort) (st : State chars at start space ts ls) → n ≤ length (drop at (codes_of chars)) → StandsAt (spelled (drop start ts)) (drop at (codes_of chars)) n s → Grown chars at n s space st.rows (drop start ts) st.pieces
+  grown at start n space ts ls s st fits here =
       let p = piece_at chars at n s in
       let l = codes_length chars in
       let dc : length (drop at (codes_of chars)) ≡ length (codes_of chars) - at = length-drop at (codes_of chars) in
@@ -105,77 +79,82 @@ module _ (chars : List Char) where
       record {
         room = omega (arith, st.within);
         cut = cut_more chars st.pieces p (drop (at + n) chars) (subst (CutUpTo chars st.pieces) (sym split) st.cut) standing;
-        sofar = rows_more st.pieces (rows_by_ends 0 ts es) space (drop start ts) p st.sofar;
+        sofar = rows_more st.pieces st.rows space (drop start ts) p st.sofar;
         line = line_after-append [] st.pieces p ∙ ap (λ z. with_piece z p s) st.line;
       }
 
   -- one blank
-  skip_blank : (at start : ℕ) (space : Bool) (ts : List Token) (es : List Ending) → State chars at start space ts es → at < length chars → IsTrue (is_blank (get_or (codes_of chars) at 0)) → State chars (at + 1) start true ts es
-  skip_blank at start space ts es st lt here =
+  skip_blank : (at start : ℕ) (space : Bool) (ts : List Token) (ls : List Line) → State chars at start space ts ls → at < length chars → IsTrue (is_blank (get_or (codes_of chars) at 0)) → State chars (at + 1) start true ts ls
+  skip_blank at start space ts ls st lt here =
       let l = codes_length chars in
       let d = length-drop at (codes_of chars) in
       let begins : BeginsWith (drop at (codes_of chars)) (get_or (codes_of chars) at 0 ∷ []) = rw (drop_more (codes_of chars) at 0 (omega arith)) refl in
-      let g = grown at start 1 space ts es Blank st (omega arith) (refl, get_or (codes_of chars) at 0, begins, here) in
-      record { within = g.room; started = st.started; ends = st.ends; pieces = st.pieces ++ piece_at chars at 1 Blank ∷ []; cut = g.cut; sofar = subst (λ (z : List Row). RowsSoFar (st.pieces ++ piece_at chars at 1 Blank ∷ []) z true (drop start ts)) (append-nil (rows_by_ends 0 ts es)) g.sofar; line = g.line }
+      let g = grown at start 1 space ts ls Blank st (omega arith) (refl, get_or (codes_of chars) at 0, begins, here) in
+      record { within = g.room; started = st.started; few = omega (arith, st.few); pieces = st.pieces ++ piece_at chars at 1 Blank ∷ []; cut = g.cut; rows = st.rows; tokens = st.tokens; lines = st.lines; sofar = subst (λ (z : List Row). RowsSoFar (st.pieces ++ piece_at chars at 1 Blank ∷ []) z true (drop start ts)) (append-nil st.rows) g.sofar; line = g.line }
 
   -- blanks
-  pub skip_blanks : (n at start : ℕ) (space : Bool) (ts : List Token) (es : List Ending) → State chars at start space ts es → 0 < n → at + n ≤ length chars → ((k : ℕ) → k < n → IsTrue (is_blank (get_or (codes_of chars) (at + k) 0))) → State chars (at + n) start true ts es
-  skip_blanks zero at start space ts es st some fits blank = absurd (omega arith)
-  skip_blanks (suc zero) at start space ts es st some fits blank =
-      skip_blank at start space ts es st (omega arith) (rw add-zero at (blank 0 (omega arith)))
-  skip_blanks (suc (suc n)) at start space ts es st some fits blank =
-      let one = skip_blank at start space ts es st (omega arith) (rw add-zero at (blank 0 (omega arith))) in
-      subst (λ z. State chars z start true ts es) (omega arith) (skip_blanks (suc n) (at + 1) start true ts es one (omega arith) (omega arith) (λ k lt. subst (λ z. IsTrue (is_blank (get_or (codes_of chars) z 0))) (omega arith) (blank (k + 1) (omega arith))))
+  pub skip_blanks : (n at start : ℕ) (space : Bool) (ts : List Token) (ls : List Line) → State chars at start space ts ls → 0 < n → at + n ≤ length chars → ((k : ℕ) → k < n → IsTrue (is_blank (get_or (codes_of chars) (at + k) 0))) → State chars (at + n) start true ts ls
+  skip_blanks zero at start space ts ls st some fits blank = absurd (omega arith)
+  skip_blanks (suc zero) at start space ts ls st some fits blank =
+      skip_blank at start space ts ls st (omega arith) (rw add-zero at (blank 0 (omega arith)))
+  skip_blanks (suc (suc n)) at start space ts ls st some fits blank =
+      let one = skip_blank at start space ts ls st (omega arith) (rw add-zero at (blank 0 (omega arith))) in
+      subst (λ z. State chars z start true ts ls) (omega arith) (skip_blanks (suc n) (at + 1) start true ts ls one (omega arith) (omega arith) (λ k lt. subst (λ z. IsTrue (is_blank (get_or (codes_of chars) z 0))) (omega arith) (blank (k + 1) (omega arith))))
 
   -- a comment
-  pub skip_comment : (at start n : ℕ) (space : Bool) (ts : List Token) (es : List Ending) → State chars at start space ts es → n ≤ length (drop at (codes_of chars)) → StandsAt (spelled (drop start ts)) (drop at (codes_of chars)) n Comment → State chars (at + n) start true ts es
-  skip_comment at start n space ts es st fits here =
-      let g = grown at start n space ts es Comment st fits here in
-      record { within = g.room; started = st.started; ends = st.ends; pieces = st.pieces ++ piece_at chars at n Comment ∷ []; cut = g.cut; sofar = subst (λ (z : List Row). RowsSoFar (st.pieces ++ piece_at chars at n Comment ∷ []) z true (drop start ts)) (append-nil (rows_by_ends 0 ts es)) g.sofar; line = g.line }
+  pub skip_comment : (at start n : ℕ) (space : Bool) (ts : List Token) (ls : List Line) → State chars at start space ts ls → n ≤ length (drop at (codes_of chars)) → StandsAt (spelled (drop start ts)) (drop at (codes_of chars)) n Comment → State chars (at + n) start true ts ls
+  skip_comment at start n space ts ls st fits here =
+      let g = grown at start n space ts ls Comment st fits here in
+      record { within = g.room; started = st.started; few = omega (arith, st.few); pieces = st.pieces ++ piece_at chars at n Comment ∷ []; cut = g.cut; rows = st.rows; tokens = st.tokens; lines = st.lines; sofar = subst (λ (z : List Row). RowsSoFar (st.pieces ++ piece_at chars at n Comment ∷ []) z true (drop start ts)) (append-nil st.rows) g.sofar; line = g.line }
 
   -- a new-line
-  pub end_line : (at start stop : ℕ) (space : Bool) (ts : List Token) (es : List Ending) (e : Ending) → State chars at start space ts es → stop ≡ length ts → e.end ≡ stop → e.number ≡ (head_place (take 1 (drop at chars))).line → 1 ≤ length (drop at (codes_of chars)) → StandsAt (spelled (drop start ts)) (drop at (codes_of chars)) 1 NewLine → State chars (at + 1) stop true ts (es ++ e ∷ [])
-  end_line at start stop space ts es e st stop_is end_is number_is fits here =
-      let g = grown at start 1 space ts es NewLine st fits here in
+  pub end_line : (at start stop : ℕ) (space : Bool) (ts : List Token) (ls : List Line) (number : ℕ) → State chars at start space ts ls → stop ≡ length ts → number ≡ (head_place (take 1 (drop at chars))).line → 1 ≤ length (drop at (codes_of chars)) → StandsAt (spelled (drop start ts)) (drop at (codes_of chars)) 1 NewLine → State chars (at + 1) stop true ts (ls ++ draft start (drop start ts) number ∷ [])
+  end_line at start stop space ts ls number st stop_is number_is fits here =
+      let g = grown at start 1 space ts ls NewLine st fits here in
+      let row : Row = record { tokens = drop start ts; number = number } in
       let none : drop stop ts ≡ [] = drop_all stop ts (omega arith) in
-      let open_all : take (e.end - start) (drop start ts) ≡ drop start ts = rw (end_is, stop_is) (take_rest ts start) in
-      let done : rows_by_ends 0 ts (es ++ e ∷ []) ≡ rows_by_ends 0 ts es ++ rows_ended (drop start ts) (take 1 (drop at chars)) NewLine = rows_push_end 0 ts start es e st.ends ∙ ap (λ (z : List Token). rows_by_ends 0 ts es ++ record { tokens = z; number = e.number } ∷ []) open_all ∙ ap (λ (z : ℕ). rows_by_ends 0 ts es ++ record { tokens = drop start ts; number = z } ∷ []) number_is in
-      let pushed : AreEnds 0 e.end (es ++ e ∷ []) = ends_push 0 start es e st.ends (omega (arith, st.started)) in
+      let before : 0 + length (tokens_of st.rows) ≡ start = omega (arith, ap length st.tokens, length-take-le start ts st.started) in
+      let done : st.rows ++ rows_ended (drop start ts) (take 1 (drop at chars)) NewLine ≡ st.rows ++ row ∷ [] = ap (λ (z : ℕ). st.rows ++ record { tokens = drop start ts; number = z } ∷ []) (sym number_is) in
       record {
         within = g.room;
         started = omega arith;
-        ends = subst (λ z. AreEnds 0 z (es ++ e ∷ [])) end_is pushed;
+        few = omega (arith, st.few, length_push ls (draft start (drop start ts) number));
         pieces = st.pieces ++ piece_at chars at 1 NewLine ∷ [];
         cut = g.cut;
-        sofar = rw (none, done) g.sofar;
+        rows = st.rows ++ row ∷ [];
+        tokens = tokens_of-append st.rows row ∙ ap (λ (z : List Token). z ++ drop start ts) st.tokens ∙ take-append-drop start ts ∙ sym (take_all stop ts (omega arith));
+        lines = ap (λ (z : List Line). z ++ draft start (drop start ts) number ∷ []) st.lines ∙ ap (λ (n : ℕ). drafts 0 st.rows ++ draft n (drop start ts) number ∷ []) (sym before) ∙ sym (drafts-append 0 st.rows row);
+        sofar = rw (none, sym done) g.sofar;
         line = rw none g.line;
       }
 
   -- a token
-  pub add_token : (at start n : ℕ) (space : Bool) (ts : List Token) (es : List Ending) (k : Kind) (t : Token) → State chars at start space ts es → t ≡ token_of k space (take n (drop at chars)) → n ≤ length (drop at (codes_of chars)) → StandsAt (spelled (drop start ts)) (drop at (codes_of chars)) n (Spelled k) → State chars (at + n) start false (ts ++ t ∷ []) es
-  add_token at start n space ts es k t st is fits here =
-      let g = grown at start n space ts es (Spelled k) st fits here in
+  pub add_token : (at start n : ℕ) (space : Bool) (ts : List Token) (ls : List Line) (k : Kind) (t : Token) → State chars at start space ts ls → t ≡ token_of k space (take n (drop at chars)) → n ≤ length (drop at (codes_of chars)) → StandsAt (spelled (drop start ts)) (drop at (codes_of chars)) n (Spelled k) → State chars (at + n) start false (ts ++ t ∷ []) ls
+  add_token at start n space ts ls k t st is fits here =
+      let g = grown at start n space ts ls (Spelled k) st fits here in
       let wider : length (ts ++ t ∷ []) ≡ length ts + 1 = length_push ts t in
       let more : drop start (ts ++ t ∷ []) ≡ drop start ts ++ t ∷ [] = drop-append-le start ts (t ∷ []) st.started in
-      let kept : rows_by_ends 0 (ts ++ t ∷ []) es ≡ rows_by_ends 0 ts es = rows_push_token ts t start es st.started st.ends in
       let opened : tokens_after space (drop start ts) (take n (drop at chars)) (Spelled k) ≡ drop start ts ++ t ∷ [] = ap (λ (z : Token). drop start ts ++ z ∷ []) (sym is) in
       record {
         within = g.room;
         started = omega (arith, st.started);
-        ends = st.ends;
+        few = omega (arith, st.few);
         pieces = st.pieces ++ piece_at chars at n (Spelled k) ∷ [];
         cut = g.cut;
-        sofar = subst (λ (z : List Token). RowsSoFar (st.pieces ++ piece_at chars at n (Spelled k) ∷ []) (rows_by_ends 0 (ts ++ t ∷ []) es) false z) (opened ∙ sym more) (subst (λ (z : List Row). RowsSoFar (st.pieces ++ piece_at chars at n (Spelled k) ∷ []) z false (tokens_after space (drop start ts) (take n (drop at chars)) (Spelled k))) (append-nil (rows_by_ends 0 ts es) ∙ sym kept) g.sofar);
+        rows = st.rows;
+        tokens = st.tokens ∙ sym (take-append-le start ts (t ∷ []) st.started);
+        lines = st.lines;
+        sofar = subst (λ (z : List Token). RowsSoFar (st.pieces ++ piece_at chars at n (Spelled k) ∷ []) st.rows false z) (opened ∙ sym more) (subst (λ (z : List Row). RowsSoFar (st.pieces ++ piece_at chars at n (Spelled k) ∷ []) z false (tokens_after space (drop start ts) (take n (drop at chars)) (Spelled k))) (append-nil st.rows) g.sofar);
         line = g.line ∙ ap (λ (z : List ℕ). spelled (drop start ts) ++ z ∷ []) (sym (ap (λ (u : Token). u.text) is)) ∙ sym (ap spelled more ∙ spelled-append (drop start ts) t);
       }
 
   -- the end, where the tokens behind the last new-line are dropped
-  pub cut_all : (at start : ℕ) (space : Bool) (ts : List Token) (es : List Ending) → State chars at start space ts es → length (codes_of chars) ≤ at → CutsInto chars (take start ts) es (Ok tt)
-  cut_all at start space ts es st past =
+  pub cut_all : (at start : ℕ) (space : Bool) (ts : List Token) (ls : List Line) → State chars at start space ts ls → length (codes_of chars) ≤ at → CutsInto chars (take start ts) ls (Ok tt)
+  cut_all at start space ts ls st past =
       let l = codes_length chars in
       let none : drop at chars ≡ [] = drop_all at chars (omega arith) in
-      let stop : length (take start ts) ≡ start = length-take-le start ts st.started in
-      (st.pieces, subst (CutUpTo chars st.pieces) none st.cut, rows_all st.pieces (rows_by_ends 0 ts es) space (drop start ts) st.sofar ∙ sym (rows_of_front 0 ts start es st.ends), rw stop st.ends)
+      let are = drafts_are (take start ts) ls st.rows st.tokens st.lines in
+      (st.pieces, subst (CutUpTo chars st.pieces) none st.cut, rows_all st.pieces st.rows space (drop start ts) st.sofar ∙ sym are.0, are.1, omega (arith, st.few, st.within))
 
-  pub never_closed : (at start : ℕ) (space : Bool) (ts : List Token) (es : List Ending) (p : Place) → State chars at start space ts es → p ≡ head_place (drop at chars) → OpensBlock (drop at (codes_of chars)) × ClosesAt (drop at (codes_of chars)) None → Unclosed chars p
-  never_closed at start space ts es p st is open_block = record { pieces = st.pieces; rest = drop at chars; cut = st.cut; opens = rw (codes_from chars at) open_block.0; never = rw (codes_from chars at) open_block.1; here = is }
+  pub never_closed : (at start : ℕ) (space : Bool) (ts : List Token) (ls : List Line) (p : Place) → State chars at start space ts ls → p ≡ head_place (drop at chars) → OpensBlock (drop at (codes_of chars)) × ClosesAt (drop at (codes_of chars)) None → Unclosed chars p
+  never_closed at start space ts ls p st is open_block = record { pieces = st.pieces; rest = drop at chars; cut = st.cut; opens = rw (codes_from chars at) open_block.0; never = rw (codes_from chars at) open_block.1; here = is }

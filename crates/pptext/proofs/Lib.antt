@@ -28,3 +28,6 @@ pub mod Branches
 pub mod Trees
 pub mod Guards
 pub mod GuardScan
+pub mod Decides
+pub mod Lexer
+pub mod Lengths

@@ -1,20 +1,16 @@
--- Lines as spans of tokens: each span at its index, and the lines that given ends cut the tokens into.
-use Rattle.std.proofs.Common.{◌≡◌, ℕ, zero, suc, ◌+◌, ◌-◌, ◌<◌, ◌≤◌, List, [], ◌∷◌, ◌++◌, length, take, drop, get_or, refl, sym, ap, ◌∙◌, subst, arith, add-zero, zero-add, append_assoc, None}
-use Rattle.std.proofs.lemmas.List.{append-nil, at_drop_more, length-append, length-map, length-take-le, length-drop, drop_all, drop-drop, take-append-drop}
+-- Lines as spans of tokens: each span at its index, and the lines that the spans cut the tokens into.
+use Rattle.std.proofs.Common.{◌≡◌, ℕ, zero, suc, ◌+◌, ◌-◌, ◌<◌, ◌≤◌, List, [], ◌∷◌, ◌++◌, length, take, drop, get_or, refl, sym, ap, ◌∙◌, arith, add-zero, zero-add, append_assoc, None}
+use Rattle.std.proofs.lemmas.List.{append-nil, length-append, length-map}
+use Rattle.std.proofs.Math.Seq.{drop-append_seam, take-append_seam}
 use Rattle.pptext.specs.declared.tokens.Token.{Token}
 use Rattle.pptext.specs.declared.sources.Line.{Line}
-use Rattle.pptext.specs.declared.cutting.Ending.{Ending}
 use Rattle.pptext.specs.Lines.{Row, directive_of}
 use Rattle.pptext.specs.Tree.{role}
 use Rattle.pptext.specs.Sources.{next_branch, spans, tokens_of, rows_of}
-use Rattle.pptext.specs.Finds.{rows_by_ends, AreEnds}
-use Rattle.pptext.specs.Grouping.{draft, drafts, AreLines}
+use Rattle.pptext.specs.Grouping.{draft, drafts, AreDrafts, AreLines}
 
 abbrev pub no_line : Line
 no_line = record { start = 0; end = 0; number = 0; directive = None; next_branch = None }
-
-abbrev pub no_ending : Ending
-no_ending = record { end = 0; number = 0 }
 
 -- the span of a line at place k from token start on, before these lines
 abbrev pub span : ℕ → ℕ → Row → List Row → Line
@@ -77,72 +73,32 @@ line_at ts ls i d lines l =
       tokens = omega arith;
     }
 
--- the lines by their ends
+-- the spans without next branch lines
 
-stop_is : (start stop : ℕ) (ts : List Token) → start ≤ stop → stop ≤ length ts → start + length (take (stop - start) (drop start ts)) ≡ stop
-stop_is start stop ts l m = omega (arith, length-take-le (stop - start) (drop start ts) (omega (arith, length-drop start ts)), length-drop start ts)
+pub rows_of_drafts : (before : List Token) (rs : List Row) → rows_of (before ++ tokens_of rs) (drafts (length before) rs) ≡ rs
+rows_of_drafts before [] = refl
+rows_of_drafts before (r ∷ rs) =
+    let wider : length (before ++ r.tokens) ≡ length before + length r.tokens = length-append before r.tokens in
+    let here : take (length before + length r.tokens - length before) (drop (length before) (before ++ (r.tokens ++ tokens_of rs))) ≡ r.tokens = ap (take (length before + length r.tokens - length before)) (drop-append_seam before (r.tokens ++ tokens_of rs)) ∙ ap (λ (n : ℕ). take n (r.tokens ++ tokens_of rs)) (omega arith) ∙ take-append_seam r.tokens (tokens_of rs) in
+    let rest : rows_of (before ++ (r.tokens ++ tokens_of rs)) (drafts (length before + length r.tokens) rs) ≡ rs = ap (λ (z : List Token). rows_of z (drafts (length before + length r.tokens) rs)) (sym (append_assoc before r.tokens (tokens_of rs))) ∙ ap (λ (n : ℕ). rows_of ((before ++ r.tokens) ++ tokens_of rs) (drafts n rs)) (sym wider) ∙ rows_of_drafts (before ++ r.tokens) rs in
+    ap (λ (z : List Token). record { tokens = z; number = r.number } ∷ rows_of (before ++ (r.tokens ++ tokens_of rs)) (drafts (length before + length r.tokens) rs)) here ∙ ap (λ (z : List Row). r ∷ z) rest
 
-pub ends_within : (start stop : ℕ) (es : List Ending) → AreEnds start stop es → start ≤ stop
-ends_within start stop [] ends = omega arith
-ends_within start stop (e ∷ es) ends = omega (arith, ends.0, ends_within e.end stop es ends.1)
+-- the lines that a text is cut into
+pub drafts_are : (ts : List Token) (ls : List Line) (rs : List Row) → tokens_of rs ≡ ts → ls ≡ drafts 0 rs → (rows_of ts ls ≡ rs) × AreDrafts ts ls
+drafts_are ts ls rs tokens lines =
+    let same : rows_of ts ls ≡ rs = ap (rows_of ts) lines ∙ ap (λ (z : List Token). rows_of z (drafts 0 rs)) (sym tokens) ∙ rows_of_drafts [] rs in
+    (same, (ap tokens_of same ∙ tokens, ap (drafts 0) same ∙ sym lines))
 
-pub tokens_by_ends : (start : ℕ) (ts : List Token) (es : List Ending) → AreEnds start (length ts) es → tokens_of (rows_by_ends start ts es) ≡ drop start ts
-tokens_by_ends start ts [] ends = sym (drop_all start ts (omega arith))
-tokens_by_ends start ts (e ∷ es) ends =
-    let front = take (e.end - start) (drop start ts) in
-    let stop : e.end ≡ start + (e.end - start) = omega (arith, ends.0) in
-    ap (λ (z : List Token). front ++ z) (tokens_by_ends e.end ts es ends.1 ∙ ap (λ (z : ℕ). drop z ts) stop ∙ sym (drop-drop (e.end - start) start ts)) ∙ take-append-drop (e.end - start) (drop start ts)
+pub drafts-append : (start : ℕ) (rs : List Row) (r : Row) → drafts start (rs ++ r ∷ []) ≡ drafts start rs ++ draft (start + length (tokens_of rs)) r.tokens r.number ∷ []
+drafts-append start [] r = ap (λ (n : ℕ). draft n r.tokens r.number ∷ []) (sym (add-zero start))
+drafts-append start (q ∷ rs) r =
+    let n : start + length q.tokens + length (tokens_of rs) ≡ start + length (q.tokens ++ tokens_of rs) = omega (arith, length-append q.tokens (tokens_of rs)) in
+    ap (λ (z : List Line). draft start q.tokens q.number ∷ z) (drafts-append (start + length q.tokens) rs r ∙ ap (λ (k : ℕ). drafts (start + length q.tokens) rs ++ draft k r.tokens r.number ∷ []) n)
 
-pub rows_of_spans : (k start : ℕ) (ts : List Token) (es : List Ending) → AreEnds start (length ts) es → rows_of ts (spans k start (rows_by_ends start ts es)) ≡ rows_by_ends start ts es
-rows_of_spans k start ts [] ends = refl
-rows_of_spans k start ts (e ∷ es) ends =
-    let front = take (e.end - start) (drop start ts) in
-    let behind = rows_by_ends e.end ts es in
-    let stop : start + length front ≡ e.end = stop_is start e.end ts ends.0 (ends_within e.end (length ts) es ends.1) in
-    let here : start + length front - start ≡ e.end - start = ap (λ (z : ℕ). z - start) stop in
-    ap (λ (z : ℕ). record { tokens = take z (drop start ts); number = e.number } ∷ rows_of ts (spans (k + 1) (start + length front) behind)) here ∙ ap (λ (z : List Row). record { tokens = front; number = e.number } ∷ z) (ap (λ (z : ℕ). rows_of ts (spans (k + 1) z behind)) stop ∙ rows_of_spans (k + 1) e.end ts es ends.1)
-
--- the lines that the ends cut the tokens into
-pub lines_by_ends : (ts : List Token) (es : List Ending) (ls : List Line) → AreEnds 0 (length ts) es → ls ≡ spans 0 0 (rows_by_ends 0 ts es) → rows_of ts ls ≡ rows_by_ends 0 ts es
-lines_by_ends ts es ls ends is = ap (rows_of ts) is ∙ rows_of_spans 0 0 ts es ends
+pub tokens_of-append : (rs : List Row) (r : Row) → tokens_of (rs ++ r ∷ []) ≡ tokens_of rs ++ r.tokens
+tokens_of-append [] r = append-nil r.tokens
+tokens_of-append (q ∷ rs) r = ap (λ (z : List Token). q.tokens ++ z) (tokens_of-append rs r) ∙ sym (append_assoc q.tokens (tokens_of rs) r.tokens)
 
 -- the same lines of equal tokens and spans
 pub same_rows : (ts ts' : List Token) (ls ls' : List Line) → ts' ≡ ts → ls' ≡ ls → rows_of ts' ls' ≡ rows_of ts ls
 same_rows ts ts' ls ls' st sl = ap (λ (z : List Token). rows_of z ls') st ∙ ap (rows_of ts) sl
-
-pub lines_are : (ts : List Token) (es : List Ending) (ls : List Line) → AreEnds 0 (length ts) es → ls ≡ spans 0 0 (rows_by_ends 0 ts es) → AreLines ts ls
-lines_are ts es ls ends is =
-    let same = lines_by_ends ts es ls ends is in
-    (ap tokens_of same ∙ tokens_by_ends 0 ts es ends, ap (spans 0 0) same ∙ sym is)
-
--- The spans without next branch lines, as far as the ends before this index go.
-pub record DraftsSoFar (ts : List Token) (es : List Ending) (at start : ℕ) (now : List Line) : Type 0 where
-  pub ends : AreEnds start (length ts) (drop at es)
-  pub drafted : now ++ drafts start (rows_by_ends start ts (drop at es)) ≡ drafts 0 (rows_by_ends 0 ts es)
-
-pub drafts_start : (ts : List Token) (es : List Ending) → AreEnds 0 (length ts) es → DraftsSoFar ts es 0 0 []
-drafts_start ts es ends = record { ends = ends; drafted = refl }
-
-pub next_end : (ts : List Token) (es : List Ending) (at start : ℕ) (now : List Line) (d : Ending) → at < length es → DraftsSoFar ts es at start now → (start ≤ (get_or es at d).end) × AreEnds (get_or es at d).end (length ts) (drop (at + 1) es)
-next_end ts es at start now d l sofar = subst (AreEnds start (length ts)) (at_drop_more (λ (z : List Ending). z) es at d l) sofar.ends
-
-pub next_within : (ts : List Token) (es : List Ending) (at start : ℕ) (now : List Line) (d : Ending) → at < length es → DraftsSoFar ts es at start now → (get_or es at d).end ≤ length ts
-next_within ts es at start now d l sofar =
-    ends_within (get_or es at d).end (length ts) (drop (at + 1) es) (next_end ts es at start now d l sofar).1
-
-pub drafts_step : (ts : List Token) (es : List Ending) (at start : ℕ) (now : List Line) (d : Ending) → at < length es → DraftsSoFar ts es at start now → DraftsSoFar ts es (at + 1) (get_or es at d).end (now ++ draft ts start (get_or es at d) ∷ [])
-drafts_step ts es at start now d l sofar =
-    let e = get_or es at d in
-    let next = next_end ts es at start now d l sofar in
-    let front = take (e.end - start) (drop start ts) in
-    let rest = drop (at + 1) es in
-    let stop : start + length front ≡ e.end = stop_is start e.end ts next.0 (next_within ts es at start now d l sofar) in
-    let one : drafts start (rows_by_ends start ts (drop at es)) ≡ draft ts start e ∷ drafts e.end (rows_by_ends e.end ts rest) = at_drop_more (λ (z : List Ending). drafts start (rows_by_ends start ts z)) es at d l ∙ ap (λ (z : ℕ). record { start = start; end = z; number = e.number; directive = directive_of front; next_branch = None } ∷ drafts z (rows_by_ends e.end ts rest)) stop in
-    record {
-      ends = next.1;
-      drafted = append_assoc now (draft ts start e ∷ []) (drafts e.end (rows_by_ends e.end ts rest)) ∙ ap (λ (z : List Line). now ++ z) (sym one) ∙ sofar.drafted;
-    }
-
-pub drafts_all : (ts : List Token) (es : List Ending) (at start : ℕ) (now : List Line) → length es ≤ at → DraftsSoFar ts es at start now → now ≡ drafts 0 (rows_by_ends 0 ts es)
-drafts_all ts es at start now l sofar =
-    sym (append-nil now) ∙ ap (λ (z : List Ending). now ++ drafts start (rows_by_ends start ts z)) (sym (drop_all at es l)) ∙ sofar.drafted

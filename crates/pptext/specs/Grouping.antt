@@ -1,10 +1,9 @@
 -- Words of the pass that groups a file's lines: spans without branches, their links, the open sections by their lines' indices, and a
 -- guard seen without the tree.
-use Rattle.std.specs.Prelude.{◌≡◌, ℕ, ◌+◌, ◌-◌, ◌⊎◌, List, [], ◌∷◌, map, reverse, length, take, drop, Bool, Option, None, Some}
+use Rattle.std.specs.Prelude.{◌≡◌, ℕ, ◌+◌, ◌⊎◌, List, [], ◌∷◌, map, reverse, length, drop, Bool, Option, None, Some}
 use Rattle.std.specs.List.{AllByRecursion}
 use Rattle.pptext.specs.declared.tokens.Token.{Token}
 use Rattle.pptext.specs.declared.sources.Line.{Line}
-use Rattle.pptext.specs.declared.cutting.Ending.{Ending}
 use Rattle.pptext.specs.declared.directives.Role.{Role}
 use Rattle.pptext.specs.declared.directives.Role.TheVariants.{Opens, Elses, Closes}
 use Rattle.pptext.specs.declared.grouping.faults.Section.{Section}
@@ -13,17 +12,19 @@ use Rattle.pptext.specs.Tree.{role, role_by, branch_behind}
 use Rattle.pptext.specs.Sources.{rows_of, tokens_of, spans}
 use Rattle.pptext.specs.Guard.{IsBlankRow, guard_name}
 
--- the span of a line by where it ends, without its next branch line
-abbrev pub draft : List Token → ℕ → Ending → Line
-draft ts start e =
-    record { start = start; end = e.end; number = e.number; directive = directive_of (take (e.end - start) (drop start ts)); next_branch = None }
+-- the span of these tokens of a line, from token start on, without its next branch line
+abbrev pub draft : ℕ → List Token → ℕ → Line
+draft start ts number =
+    record { start = start; end = start + length ts; number = number; directive = directive_of ts; next_branch = None }
 
 -- the spans of the lines from token start on, without next branch lines
 abbrev pub drafts : ℕ → List Row → List Line
 drafts start [] = []
-drafts start (r ∷ rs) =
-    let stop = start + length r.tokens in
-    record { start = start; end = stop; number = r.number; directive = directive_of r.tokens; next_branch = None } ∷ drafts stop rs
+drafts start (r ∷ rs) = draft start r.tokens r.number ∷ drafts (start + length r.tokens) rs
+
+-- the spans, without next branch lines, are those of the lines that they cut the tokens into
+abbrev pub AreDrafts : List Token → List Line → Type 0
+AreDrafts ts ls = (tokens_of (rows_of ts ls) ≡ ts) × (drafts 0 (rows_of ts ls) ≡ ls)
 
 abbrev pub line_role : Line → Role
 line_role l = role_by l.directive

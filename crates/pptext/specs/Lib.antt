@@ -14,3 +14,4 @@ pub mod Answers
 pub mod Finds
 pub mod Laws
 pub mod Grouping
+pub mod Lexing

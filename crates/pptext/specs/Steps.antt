@@ -1,5 +1,5 @@
 -- What begins the rest of a file, for phases 1 and 2 in one reading (5.1.1.2).
-use Rattle.std.specs.Prelude.{◌≡◌, ℕ, ◌+◌, ◌<◌, ◌≤◌, List, [], ◌∷◌, Bool, false, not, ◌&&◌, ◌||◌, ◌==◌, if◌then◌else◌, Option, None, Some, length, drop, slice_index}
+use Rattle.std.specs.Prelude.{◌≡◌, ◌≢◌, ℕ, ◌+◌, ◌<◌, ◌≤◌, List, [], ◌∷◌, Bool, true, false, not, ◌&&◌, ◌||◌, ◌==◌, if◌then◌else◌, Option, None, Some, length, drop, slice_index}
 use Rattle.pptext.specs.declared.tokens.Place.{Place}
 use Rattle.pptext.specs.declared.characters.steps.Step.{Step}
 use Rattle.pptext.specs.declared.characters.steps.Step.TheVariants.{Code, Removed}
@@ -15,9 +15,13 @@ open_end (b ∷ c ∷ bs) = open_end (c ∷ bs)
 abbrev pub is_special : ℕ → Bool
 is_special b = b == backslash || b == 63 || b == 13
 
--- n bytes stand in front of the first special one
+-- the first n bytes are no special ones
 abbrev pub PlainFront : List ℕ → ℕ → Type 0
 PlainFront bs n = (n ≤ length bs) × ((k : ℕ) → k < n → is_special (slice_index bs k) ≡ false)
+
+-- the byte behind the first n, where there is one, is special
+abbrev pub StopsAt : List ℕ → ℕ → Type 0
+StopsAt bs n = n < length bs → is_special (slice_index bs n) ≡ true
 
 -- the code of the trigraph that begins here, or 0
 abbrev pub trigraph_front : List ℕ → ℕ
@@ -46,6 +50,10 @@ coded supplied bs code n = if code == backslash then spliced (newline_front supp
 abbrev pub step_of : Bool → List ℕ → Step
 step_of supplied bs =
     if return_front bs then Removed 1 else (if trigraph_front bs == 0 then coded supplied bs (slice_index bs 0) 1 else coded supplied bs (trigraph_front bs) 3)
+
+-- the byte that begins here isn't a character of its own
+abbrev pub IsChanged : Bool → List ℕ → Type 0
+IsChanged supplied bs = (code : ℕ) → step_of supplied bs ≢ Code code 1
 
 -- the place behind a byte at a place
 abbrev pub behind_byte : ℕ → Place → Place

@@ -4,7 +4,7 @@ use Rattle.pptext.specs.declared.tokens.Place.{Place}
 use Rattle.pptext.specs.declared.characters.Char.{Char}
 use Rattle.pptext.specs.declared.texts.Cursor.{Cursor}
 use Rattle.pptext.specs.Clean.{cleaned, place, placed, newline, without_returns, trigraphs, splices, splice_at_end, codes_of}
-use Rattle.pptext.specs.Steps.{open_end, place_behind}
+use Rattle.pptext.specs.Steps.{PlainFront, open_end, place_behind}
 
 -- its characters, and how far their places have been asked for
 pub record Reading : Type 0 where
@@ -45,6 +45,7 @@ pub record Stands (file : ℕ) (raw : List ℕ) (c : Cursor) : Type 0 where
   pub at : c.at ≡ place_behind (start file) (take c.offset raw)
   pub rest : drop c.passed (text_from file raw 0) ≡ text_from file raw c.offset
   pub ends : end_from file raw c.offset ≡ None
+  pub plain : PlainFront (drop c.offset raw) c.plain
 
 -- These are the codes of what stands in front of an offset.
 pub record Copied (raw : List ℕ) (offset : ℕ) (done : List ℕ) : Type 0 where

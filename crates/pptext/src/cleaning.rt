@@ -1,6 +1,6 @@
 // A file's bytes as the text behind phases 1 and 2.
-ghost use Rattle.std.specs.Prelude.{◌≡◌, ◌≤◌, length, take, IfOk, MatchResult};
-ghost use Rattle.pptext.specs.Steps.{open_end};
+ghost use Rattle.std.specs.Prelude.{◌≡◌, ◌<◌, ◌≤◌, length, take, drop, IfOk, MatchResult};
+ghost use Rattle.pptext.specs.Steps.{IsChanged, open_end};
 ghost use Rattle.pptext.specs.Texts.{Cleans, Copied, EndsAt, Whole};
 
 use crate::characters::places::place_behind;
@@ -14,6 +14,7 @@ fn unchanged_len(raw: &[u8], supplied: bool) -> usize
     requires { supplied ≡ open_end raw.now }
     ensures fits { result ≤ length raw.now }
     ensures copied { Copied raw.now result (take result raw.now) }
+    ensures first { result < length raw.now → IsChanged supplied (drop result raw.now) }
 {
     let mut at = 0;
     while at < raw.len() {
@@ -24,7 +25,7 @@ fn unchanged_len(raw: &[u8], supplied: bool) -> usize
         }
         match next_step(&raw[at..], supplied) {
             Step::Code(_, 1) => at += 1,
-            _ => break,
+            _ => return at,
         }
     }
     at

@@ -6,9 +6,12 @@ ghost use Rattle.pptext.specs.Lines.{token_of};
 ghost use Rattle.pptext.specs.Lone.{KnowsLone};
 ghost use Rattle.pptext.specs.Tokens.{spelled};
 ghost use Rattle.pptext.specs.Finds.{Finds, CutsInto};
+ghost use Rattle.pptext.specs.Grouping.{draft};
 
+use crate::directives::directive_of;
 use crate::scanning::is_blank;
 use crate::scanning::literals::LoneQuotes;
+use crate::sources::Line;
 use crate::texts::Text;
 use crate::tokenizing::token_at;
 use crate::tokens::{Kind, Place, Spelling, Token};
@@ -23,13 +26,6 @@ pub(crate) enum Found {
     Comment(usize),
     Unclosed,
     Token(Kind, usize),
-}
-
-/// A line: where its tokens end, and the physical line of its new-line.
-#[derive(Clone, Copy)]
-pub(crate) struct Ending {
-    pub(crate) end: usize,
-    pub(crate) number: u32,
 }
 
 /// Why a text isn't cut.
@@ -177,12 +173,26 @@ fn token_from(
     })
 }
 
-/// Cuts a text into lines of tokens. Each line is told by where its tokens end.
+/// The line of the tokens from this start on, without its next branch line.
+fn draft_line(tokens: &[Token], start: usize, number: u32) -> Line
+    requires { start ≤ length tokens.now }
+    ensures { result ≡ draft start (drop start tokens.now) number }
+{
+    Line {
+        start,
+        end: tokens.len(),
+        number,
+        directive: directive_of(&tokens[start..]),
+        next_branch: None,
+    }
+}
+
+/// Cuts a text into lines of tokens, each without its next branch line.
 pub(crate) fn cut_lines(
     alloc: Global,
     text: &mut Text<'_>,
     tokens: &mut Vec<Token>,
-    lines: &mut Vec<Ending>,
+    lines: &mut Vec<Line>,
 ) -> Result<(), CutFault>
     requires unread { text.old.passed ≡ 0 }
     requires no_tokens { tokens.old.items ≡ [] }
@@ -197,9 +207,9 @@ pub(crate) fn cut_lines(
     while at < text.codes().len() {
         match piece_at(&text.codes()[at..], &tokens[start..], &mut lone) {
             Found::NewLine => {
-                start = tokens.len();
                 let number = text.place(at).line;
-                lines.push(Ending { end: start, number })?;
+                lines.push(draft_line(tokens, start, number))?;
+                start = tokens.len();
                 at += 1;
                 space = true;
             }

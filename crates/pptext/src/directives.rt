@@ -89,7 +89,7 @@ fn directive_named(name: &[u8]) -> Directive
 }
 
 /// Whether `#` or its digraph.
-fn is_hash(text: &[u8]) -> bool
+pub(crate) fn is_hash(text: &[u8]) -> bool
     ensures { result ≡ (bytes_eq text.now (codes "#") || bytes_eq text.now (codes "%:")) }
 {
     text == b"#".as_slice() || text == b"%:".as_slice()

@@ -1,22 +1,19 @@
 // The groups of a file (6.10), by directive names alone.
-ghost use Rattle.std.specs.Prelude.{◌≡◌, ◌≤◌, [], length, None};
-ghost use Rattle.pptext.specs.Finds.{AreEnds, rows_by_ends};
+ghost use Rattle.std.specs.Prelude.{◌≡◌, ◌<◌, ◌≤◌, ◌^◌, [], length, None};
 ghost use Rattle.pptext.specs.Answers.{GroupsInto};
 ghost use Rattle.pptext.specs.Sources.{rows_of};
 ghost use Rattle.pptext.specs.Tree.{group_fault};
-ghost use Rattle.pptext.specs.Grouping.{AreLines};
+ghost use Rattle.pptext.specs.Grouping.{AreDrafts, AreLines};
 
 mod branches;
 mod faults;
 mod guards;
-mod spans;
 
-use crate::cutting::Ending;
 use crate::sources::{Line, Source, SourceFault};
 use crate::tokens::Token;
+use branches::linked_lines;
 use faults::first_fault;
 use guards::guard_token;
-use spans::lay_lines;
 use std::alloc::Global;
 
 /// The source of these tokens and lines, with its guard.
@@ -33,16 +30,17 @@ fn source_of(tokens: Vec<Token>, lines: Vec<Line>) -> Source
     }
 }
 
-/// The lines that end so as a source, or their first fault.
+/// The source of these tokens and lines, which have no next branch lines yet, or their first fault.
 pub(crate) fn group_lines(
     alloc: Global,
     tokens: Vec<Token>,
-    endings: &[Ending],
+    lines: Vec<Line>,
 ) -> Result<Source, SourceFault>
-    requires { AreEnds 0 (length tokens.items) endings.now }
-    ensures { GroupsInto (rows_by_ends 0 tokens.items endings.now) result }
+    requires are_drafts { AreDrafts tokens.items lines.items }
+    requires few { length lines.items < 2 ^ 32 }
+    ensures { GroupsInto (rows_of tokens.items lines.items) result }
 {
-    let lines = lay_lines(alloc, tokens.as_slice(), endings)?;
+    let lines = linked_lines(alloc, lines)?;
     if let Some(fault) = first_fault(alloc, tokens.as_slice(), lines.as_slice())? {
         return Err(SourceFault::Bad(fault));
     }

@@ -16,9 +16,10 @@ mod tokenizing;
 mod tokens;
 
 pub use characters::Char;
-pub use laws::{one_tree, tree_unless_fault};
-pub use reading::{
-    keeps_every_token, one_cut, one_reading, read_source, relex, relexes_what_is_cut,
+pub use laws::{
+    keeps_every_token, one_cut, one_lexer, one_reading, one_tree, relexes_what_is_cut,
+    tree_unless_fault,
 };
+pub use reading::{read_source, relex};
 pub use sources::{Directive, Line, Source, SourceFault};
 pub use tokens::{Fault, Kind, Memory, Place, Spelling, Token, Tokens};

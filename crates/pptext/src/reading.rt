@@ -1,18 +1,10 @@
 // Reading a file.
-ghost use Rattle.std.specs.Prelude.{◌≡◌, ◌≢◌, ◌↔◌, ◌≤◌, ℕ, List, length, IsTrue, IfSome, IfNone, Result, Ok, Contains};
-ghost use Rattle.pptext.specs.declared.tokens.Fault.{Fault};
+ghost use Rattle.std.specs.Prelude.{◌≡◌, ◌↔◌, ◌≤◌, ℕ, List, length, IsTrue, IfSome, IfNone};
 ghost use Rattle.pptext.specs.declared.tokens.Kind.{Kind};
-ghost use Rattle.pptext.specs.declared.tokens.Kind.TheVariants.{Header};
-ghost use Rattle.pptext.specs.declared.characters.Char.{Char};
 ghost use Rattle.pptext.specs.declared.sources.SourceFault.TheVariants.{Bad};
-ghost use Rattle.pptext.specs.Clean.{cleaned, codes_of};
-ghost use Rattle.pptext.specs.Cut.{Piece, Spelled, Cut};
-ghost use Rattle.pptext.specs.Lines.{Row, lines_of};
 ghost use Rattle.pptext.specs.Guard.{GuardedBy};
 ghost use Rattle.pptext.specs.Sources.{Reads, tokens_of, spans, file_fault, IsOneToken, IsLoneQuote};
 ghost use Rattle.pptext.specs.Answers.{Answers};
-ghost use Rattle.pptext.specs.Tokens.{spelled};
-ghost use Rattle.pptext.specs.Laws.{spellings_of};
 
 use crate::cleaning::clean_text;
 use crate::cutting::{CutFault, Found, cut_lines, next_piece};
@@ -67,14 +59,14 @@ pub fn read_source(alloc: Global, bytes: &[u8], file: u32) -> Result<Source, Sou
         Err(place) => return Err(fault_at(alloc, 2, place)),
     };
     let mut tokens = Vec::new(alloc);
-    let mut endings = Vec::new(alloc);
-    match cut_lines(alloc, &mut text, &mut tokens, &mut endings) {
+    let mut lines = Vec::new(alloc);
+    match cut_lines(alloc, &mut text, &mut tokens, &mut lines) {
         Ok(()) => {}
         Err(CutFault::Unclosed(place)) => return Err(fault_at(alloc, 1, place)),
         Err(CutFault::Memory) => return Err(SourceFault::Memory),
     }
     drop(text);
-    group_lines(alloc, tokens, endings.as_slice())
+    group_lines(alloc, tokens, lines)
 }
 
 impl Source {
@@ -118,27 +110,6 @@ pub fn relex(text: &[u8]) -> Option<Kind>
     }
     Some(kind)
 }
-
-/// A law: a text is cut into comments, white space, new-lines and tokens in one way (5.1.1.2, 6.4).
-pub fn one_cut()
-    ensures { (cs : List Char) (a b : List Piece) → Cut cs a → Cut cs b → a ≡ b }
-{}
-
-/// A law: reading a file gives these lines or this fault, and nothing else.
-pub fn one_reading()
-    ensures { (file : ℕ) (bytes : List ℕ) (a b : Result (List Row) Fault) → Reads file bytes a → Reads file bytes b → a ≡ b }
-{}
-
-/// A law: each token of a file stands on one of its lines, since a text behind phase 2 ends in a new-line (5.1.1.2).
-pub fn keeps_every_token()
-    ensures { (file : ℕ) (bytes : List ℕ) (chars : List Char) (pieces : List Piece) → cleaned file bytes ≡ Ok chars → Cut chars pieces → spelled (tokens_of (lines_of pieces)) ≡ spellings_of pieces }
-{}
-
-/// A law: each token of a text but a header name (6.4.7) is the one token of its spelling, so that `relex` finds its kind again,
-/// unless it is a lone quote.
-pub fn relexes_what_is_cut()
-    ensures { (chars : List Char) (pieces : List Piece) → Cut chars pieces → (p : Piece) (k : Kind) → Contains pieces p → p.sort ≡ Spelled k → k ≢ Header → IsOneToken (codes_of p.chars) k }
-{}
 
 #[cfg(test)]
 mod tests {

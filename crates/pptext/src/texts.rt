@@ -1,7 +1,7 @@
 // A cleaned text: its characters, and where each was spelled.
-ghost use Rattle.std.specs.Prelude.{◌≡◌, ◌+◌, ◌<◌, ◌≤◌, ℕ, List, None, MatchOption, length, slice_index_or, take, drop};
+ghost use Rattle.std.specs.Prelude.{◌≡◌, ◌+◌, ◌-◌, ◌<◌, ◌≤◌, ◌^◌, ℕ, List, None, MatchOption, length, slice_index_or, take, drop};
 ghost use Rattle.pptext.specs.Clean.{codes_of};
-ghost use Rattle.pptext.specs.Steps.{place_behind};
+ghost use Rattle.pptext.specs.Steps.{PlainFront, StopsAt, place_behind};
 ghost use Rattle.pptext.specs.Texts.{Stands, end_from, text_from};
 ghost use Rattle.pptext.specs.declared.characters.Char.{Char};
 
@@ -10,28 +10,51 @@ use crate::characters::steps::{Step, has_open_end, next_step, plain_len};
 use crate::tokens::Place;
 use std::marker::Model;
 
-/// How far the places of a text have been asked for: the character, the byte of the file from which
-/// it is sought, and that byte's place.
+/// How far the places of a text have been asked for: the character, the byte of the file from which it is sought, how many
+/// bytes from there on are known to be characters of their own, and that byte's place.
 #[derive(Clone, Copy)]
 pub(crate) struct Cursor {
     pub(crate) passed: usize,
     pub(crate) offset: usize,
+    pub(crate) plain: usize,
     pub(crate) at: Place,
 }
 
 impl Cursor {
+    /// The cursor behind so many of the bytes that are characters of their own.
+    fn pass(self, raw: &[u8], len: usize) -> Cursor
+        requires small { length raw.now ≤ 16_777_216 }
+        requires fits { self.offset + len ≤ length raw.now }
+        requires plain { len ≤ self.plain }
+        requires counts { self.passed + len < 2 ^ 64 }
+        requires line { self.at.line ≤ self.offset + 1 }
+        requires col { self.at.col ≤ self.offset + 1 }
+        ensures { result ≡ record { passed = self.passed + len; offset = self.offset + len; plain = self.plain - len; at = place_behind self.at (take len (drop self.offset raw.now)) } }
+    {
+        let offset = self.offset + len;
+        Cursor {
+            passed: self.passed + len,
+            offset,
+            plain: self.plain - len,
+            at: place_behind(self.at, &raw[self.offset..offset]),
+        }
+    }
+
     /// The cursor behind so many more bytes of the file.
     fn skip(self, raw: &[u8], len: usize) -> Cursor
         requires small { length raw.now ≤ 16_777_216 }
         requires fits { self.offset + len ≤ length raw.now }
         requires line { self.at.line ≤ self.offset + 1 }
         requires col { self.at.col ≤ self.offset + 1 }
-        ensures { result ≡ record { passed = self.passed; offset = self.offset + len; at = place_behind self.at (take len (drop self.offset raw.now)) } }
+        ensures moved { result ≡ record { passed = self.passed; offset = self.offset + len; plain = result.plain; at = place_behind self.at (take len (drop self.offset raw.now)) } }
+        ensures plain { PlainFront (drop (self.offset + len) raw.now) result.plain }
+        ensures first { StopsAt (drop (self.offset + len) raw.now) result.plain }
     {
         let offset = self.offset + len;
         Cursor {
             passed: self.passed,
             offset,
+            plain: plain_len(&raw[offset..]),
             at: place_behind(self.at, &raw[self.offset..offset]),
         }
     }
@@ -50,14 +73,15 @@ impl Cursor {
         let supplied = has_open_end(raw);
         let mut cursor = self;
         while cursor.offset < raw.len() {
-            let rest = &raw[cursor.offset..];
-            let plain = plain_len(&rest[..rest.len().min(to - cursor.passed)]);
-            if plain > 0 {
-                cursor = cursor.skip(raw, plain);
-                cursor.passed += plain;
+            let ahead = to - cursor.passed;
+            if ahead < cursor.plain {
+                return cursor.pass(raw, ahead);
+            }
+            if cursor.plain > 0 {
+                cursor = cursor.pass(raw, cursor.plain);
                 continue;
             }
-            match next_step(rest, supplied) {
+            match next_step(&raw[cursor.offset..], supplied) {
                 Step::Removed(len) => cursor = cursor.skip(raw, len),
                 Step::Code(_, len) => {
                     if cursor.passed == to {
@@ -110,6 +134,7 @@ impl<'a> Text<'a> {
             cursor: Cursor {
                 passed: 0,
                 offset: 0,
+                plain: 0,
                 at: Place {
                     file,
                     line: 1,

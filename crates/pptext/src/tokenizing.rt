@@ -1,24 +1,18 @@
 // The token that begins a text: the longest that some kind's grammar allows (6.4).
-ghost use Rattle.std.specs.Prelude.{◌≡◌, ◌≢◌, ◌↔◌, ◌<◌, ◌≤◌, ℕ, List, length, take, IsTrue, slice_index, false, ◌⊎◌, codes};
+ghost use Rattle.std.specs.Prelude.{◌≡◌, ◌≢◌, ◌↔◌, ◌<◌, ◌≤◌, ℕ, List, length, take, IsTrue, slice_index, false};
 ghost use Rattle.pptext.specs.Languages.{Longest};
 ghost use Rattle.pptext.specs.Spellings.{IsSpelling, Spells, is_blank};
 ghost use Rattle.pptext.specs.Cut.{OpensBlock, OpensLine, AwaitsHeader, HeaderAt, StandsAt, Spelled};
 ghost use Rattle.pptext.specs.Lone.{KnowsLone};
 ghost use Rattle.pptext.specs.Tokens.{spelled};
 
+use crate::directives::is_hash;
 use crate::punctuators::punct_len;
 use crate::scanning::headers::header_len;
 use crate::scanning::ident_len;
 use crate::scanning::literals::{LoneQuotes, char_const_len, str_len};
 use crate::scanning::numbers::number_len;
 use crate::tokens::{Kind, Token};
-
-/// Whether `#` or its digraph.
-fn is_hash(text: &[u8]) -> bool
-    ensures { IsTrue result ↔ (text.now ≡ codes "#") ⊎ (text.now ≡ codes "%:") }
-{
-    text == b"#".as_slice() || text == b"%:".as_slice()
-}
 
 /// Whether a header name may follow these tokens of a line (6.4.7).
 fn awaits_header(line: &[Token]) -> bool

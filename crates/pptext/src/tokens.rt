@@ -1,7 +1,7 @@
 // Places, preprocessing tokens and faults.
 ghost use Rattle.std.specs.Prelude.{◌≡◌, ◌↔◌, ◌==◌, List, ℕ, IfOk, length, IsTrue, [], ◌∷◌, ◌++◌, Some, None};
 
-use std::alloc::{AllocError, Global};
+use std::alloc::{AllocError, AllocFailed, Global};
 use std::marker::Model;
 
 /// Want of memory.
@@ -10,6 +10,12 @@ pub struct Memory;
 
 impl From<AllocError> for Memory {
     fn from(_error: AllocError) -> Memory {
+        Memory
+    }
+}
+
+impl<T: Drop> From<AllocFailed<T>> for Memory {
+    fn from(_error: AllocFailed<T>) -> Memory {
         Memory
     }
 }
@@ -51,14 +57,15 @@ impl Spelling {
     pub fn new(bytes: Vec<u8>) -> Spelling
         ensures { result ≡ bytes.items }
     {
-        Spelling { bytes }
+        Self { bytes }
     }
 
     /// The bytes, given back.
     pub fn into_bytes(self) -> Vec<u8>
         ensures { result.items ≡ self }
     {
-        self.bytes
+        let Spelling { bytes } = self;
+        bytes
     }
 
     /// The bytes.
@@ -74,7 +81,7 @@ impl Clone for Spelling {
 
     fn clone(&self) -> Result<Spelling, AllocError> {
         Ok(Spelling {
-            bytes: Vec::from_slice(self.bytes.allocator().clone()?, self.bytes.as_slice())?,
+            bytes: Vec::from_slice(self.bytes.allocator().clone()?, self.as_bytes())?,
         })
     }
 }
@@ -137,14 +144,15 @@ impl Tokens {
     pub fn new(tokens: Vec<Token>) -> Tokens
         ensures { result ≡ tokens.items }
     {
-        Tokens { tokens }
+        Self { tokens }
     }
 
     /// The tokens, given back.
     pub fn into_vec(self) -> Vec<Token>
         ensures { result.items ≡ self }
     {
-        self.tokens
+        let Tokens { tokens } = self;
+        tokens
     }
 
     /// The tokens.

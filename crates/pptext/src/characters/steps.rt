@@ -1,7 +1,7 @@
 // What begins the rest of a file, read from the front.
 ghost use Rattle.std.specs.Prelude.{◌≡◌, ◌<◌, ◌≤◌, ℕ, length};
 ghost use Rattle.pptext.specs.Clean.{trigraph, unmarked};
-ghost use Rattle.pptext.specs.Steps.{PlainFront, newline_front, open_end, step_of, trigraph_front};
+ghost use Rattle.pptext.specs.Steps.{PlainFront, StopsAt, newline_front, open_end, step_of, trigraph_front};
 
 use memchr::memchr3;
 
@@ -54,7 +54,8 @@ pub(crate) fn trigraph(code: u8) -> u8
 
 /// How many bytes stand in front of the first that may be no character of its own.
 pub(crate) fn plain_len(rest: &[u8]) -> usize
-    ensures { PlainFront rest.now result }
+    ensures plain { PlainFront rest.now result }
+    ensures first { StopsAt rest.now result }
 {
     match memchr3(b'\\', b'?', b'\r', rest) {
         Some(n) => n,

@@ -30,7 +30,7 @@ fn step_back(
 }
 
 /// Gives each line its next branch line, from the last line to the first.
-pub(super) fn link_branches(alloc: Global, lines: &mut [Line]) -> Result<(), SourceFault>
+fn link_branches(alloc: Global, lines: &mut [Line]) -> Result<(), SourceFault>
     ensures { MatchResult result (λ _. lines.new ≡ linked 0 lines.old) (λ e. e ≡ SourceFault.Memory) }
 {
     let mut behind = Vec::new(alloc);
@@ -39,4 +39,13 @@ pub(super) fn link_branches(alloc: Global, lines: &mut [Line]) -> Result<(), Sou
         lines[at].next_branch = next;
     }
     Ok(())
+}
+
+/// The lines, each with its next branch line.
+pub(super) fn linked_lines(alloc: Global, lines: Vec<Line>) -> Result<Vec<Line>, SourceFault>
+    ensures { MatchResult result (λ v. v.items ≡ linked 0 lines.items) (λ e. e ≡ SourceFault.Memory) }
+{
+    let mut lines = lines;
+    link_branches(alloc, lines.as_mut_slice())?;
+    Ok(lines)
 }

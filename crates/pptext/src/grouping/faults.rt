@@ -1,5 +1,5 @@
 // The faults of a file's groups.
-ghost use Rattle.std.specs.Prelude.{◌≡◌, ◌+◌, ◌<◌, [], length, slice_index_or, IfOk, MatchResult};
+ghost use Rattle.std.specs.Prelude.{◌≡◌, ◌+◌, ◌<◌, ◌^◌, [], length, slice_index_or, IfOk, MatchResult};
 ghost use Rattle.pptext.specs.declared.sources.Line.{Line};
 ghost use Rattle.pptext.specs.declared.tokens.Token.{Token};
 ghost use Rattle.pptext.specs.Lines.{Row};
@@ -15,7 +15,7 @@ use std::alloc::{AllocError, AllocFailed, Global};
 /// An open if-section: the index of its opening line, and whether its `#else` has come.
 #[derive(Clone, Copy)]
 pub(crate) struct Section {
-    pub(crate) opening: usize,
+    pub(crate) opening: u32,
     pub(crate) last: bool,
 }
 
@@ -25,12 +25,13 @@ fn take_line(
     at: usize,
     role: Role,
 ) -> Result<Option<u8>, AllocFailed<Section>>
+    requires { at < 2 ^ 32 }
     ensures { IfOk result (λ n. Takes (opened role at (sections open_sections.old.items)) n (sections open_sections.new.items)) }
 {
     match role {
         Role::Opens => {
             open_sections.push(Section {
-                opening: at,
+                opening: at as u32,
                 last: false,
             })?;
             Ok(None)
@@ -84,10 +85,13 @@ pub(super) fn first_fault(
     tokens: &[Token],
     lines: &[Line],
 ) -> Result<Option<Fault>, SourceFault>
-    requires { AreLines tokens.now lines.now }
+    requires are_lines { AreLines tokens.now lines.now }
+    requires few { length lines.now < 2 ^ 32 }
     ensures { MatchResult result (λ f. f ≡ group_fault [] (rows_of tokens.now lines.now)) (λ e. e ≡ SourceFault.Memory) }
 {
-    let mut open_sections = Vec::new(alloc);
+    // A line that opens a section has two tokens at the least.
+    let most = lines.len().min(tokens.len() / 2);
+    let mut open_sections = Vec::with_capacity(alloc, most)?;
     for (at, line) in lines.iter().enumerate() {
         if let Some(number) = take_line(&mut open_sections, at, role_of(line.directive))? {
             return Ok(Some(fault_at(number, tokens, lines, at)?));
@@ -95,6 +99,6 @@ pub(super) fn first_fault(
     }
     match open_sections.pop() {
         None => Ok(None),
-        Some(section) => Ok(Some(fault_at(5, tokens, lines, section.opening)?)),
+        Some(section) => Ok(Some(fault_at(5, tokens, lines, section.opening as usize)?)),
     }
 }

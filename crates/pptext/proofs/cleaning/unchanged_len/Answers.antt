@@ -9,7 +9,7 @@ pub loop-at-preserved-then-plain-gt0 : goal.loop-at-preserved-then-plain-gt0
 loop-at-preserved-then-plain-gt0 c =
     let raw = c.args.raw.now in
     let at = c.loop-at.at in
-    let front : PlainFront (drop at raw) c.plain_len-plain.result = simp take_rest at c.plain_len-plain.ensures in
+    let front : PlainFront (drop at raw) c.plain_len-plain.result = simp take_rest at c.plain_len-plain.ensures.plain in
     let l = length-drop at raw in
     record { within = omega (arith, front.0); copied = own_plain c.plain_len-plain.result raw at c.loop-at.invariant.copied front }
 

@@ -2,7 +2,6 @@ use Rattle.std.proofs.Common.{List, length, drop, take, get_or, ◌∙◌, ap, r
 use Rattle.std.proofs.lemmas.List.{take_rest, length-drop, get_or-drop}
 use Rattle.pptext.specs.declared.characters.Char.{Char}
 use Rattle.pptext.specs.declared.tokens.Place.{Place}
-use Rattle.pptext.specs.declared.cutting.Ending.{Ending}
 use Rattle.pptext.specs.Clean.{place, codes_of}
 use Rattle.pptext.specs.Lone.{KnowsLone}
 use Rattle.pptext.proofs.LoneQuotes.{knows_later, knows_nothing}
@@ -30,13 +29,12 @@ loop-at-preserved-in-NewLine c =
     let same = c.codes-in-loop-at.ensures ∙ ap codes_of c.loop-at.invariant.same in
     let found = simp (take_rest, same) at c.in-NewLine.ensures.finds in
     let first_length = ap length (c.codes.ensures ∙ ap codes_of c.loop-at.invariant.same) in
-    let e : Ending = record { end = c.len-start.result; number = c.place-number.result.line } in
     let number = ap (λ (p : Place). p.line) (c.place-number.ensures.place first ∙ ap (λ (z : List Char). (get_or z c.loop-at.at first).at) c.loop-at.invariant.same ∙ head_of_take chars c.loop-at.at 1 first (omega arith) (omega arith)) in
     let known : KnowsLone (drop c.loop-at.at (codes_of chars)) c.piece_at.new.lone = simp (take_rest, same) at c.piece_at.ensures.lone in
     record {
       same = ap (λ (r : Reading). r.chars) c.place-number.ensures.after ∙ c.loop-at.invariant.same;
       passed = omega (arith, ap (λ (r : Reading). r.passed) c.place-number.ensures.after);
-      state = rw c.in_ok-push-in-NewLine.ensures.items (end_line chars c.loop-at.at c.loop-at.start c.len-start.result c.loop-at.space c.loop-at.tokens.items c.loop-at.lines.items e c.loop-at.invariant.state (c.len-start.ensures ∙ c.loop-at.tokens.ok.0) refl number (omega arith) found);
+      state = rw (c.in_ok-push-in-NewLine.ensures.items, c.draft_line.ensures, c.deref-in-NewLine.ensures.value) (end_line chars c.loop-at.at c.loop-at.start c.len-start.result c.loop-at.space c.loop-at.tokens.items c.loop-at.lines.items c.place-number.result.line c.loop-at.invariant.state (c.len-start.ensures ∙ c.loop-at.tokens.ok.0) number (omega arith) found);
       lone = knows_later (codes_of chars) c.loop-at.at 1 c.piece_at.new.lone known;
     }
 

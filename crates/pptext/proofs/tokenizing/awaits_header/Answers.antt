@@ -1,4 +1,4 @@
-use Rattle.std.proofs.Common.{◌≡◌, ℕ, suc, ◌⊎◌, inl, inr, Bool, true, false, not, List, [], ◌∷◌, length, get_or, codes, refl, sym, ap, ◌∙◌, arith, IsTrue}
+use Rattle.std.proofs.Common.{◌≡◌, ℕ, suc, ◌⊎◌, inl, inr, Bool, true, false, not, ◌||◌, List, [], ◌∷◌, length, get_or, codes, refl, sym, ap, ◌∙◌, arith, IsTrue}
 use Rattle.std.specs.Str.{bytes_eq}
 use Rattle.std.proofs.lemmas.Bool.{false≢true}
 use Rattle.std.proofs.lemmas.Slice.Eq.{bytes_eq-Decides}
@@ -39,6 +39,15 @@ awaits_by line first second h e i forth back = (λ t. into (forth t), λ a. back
     out (inl f) = inl (cc)
     out (inr f) = inr (cc)
 
+hash_forth : (text : List ℕ) (x y : Bool) → bytes_eq text (codes "#") ≡ x → bytes_eq text (codes "%:") ≡ y → IsTrue (x || y) → (text ≡ codes "#") ⊎ (text ≡ codes "%:")
+hash_forth text true y e f t = inl ((bytes_eq-Decides text (codes "#")).0 e)
+hash_forth text false true e f t = inr ((bytes_eq-Decides text (codes "%:")).0 f)
+hash_forth text false false e f t = absurd (false≢true t)
+
+hash_back : (text : List ℕ) → (text ≡ codes "#") ⊎ (text ≡ codes "%:") → (bytes_eq text (codes "#") || bytes_eq text (codes "%:")) ≡ true
+hash_back text (inl e) = ap (λ (z : List ℕ). bytes_eq z (codes "#") || bytes_eq z (codes "%:")) e
+hash_back text (inr e) = ap (λ (z : List ℕ). bytes_eq z (codes "#") || bytes_eq z (codes "%:")) e
+
 pub returns-then-line-ne2 : goal.returns-then-line-ne2
 returns-then-line-ne2 c = (λ t. absurd (false≢true t), λ a. absurd (c.if-line-ne2.true (awaits_two c.args.line.now a)))
 
@@ -49,5 +58,6 @@ returns c =
     let e = spelled_two line c.index-line-0.result c.index-line-1.result two in
     let same = same_bytes c.as_bytes.result.now c.as_slice.result.now c.ne.result c.ne.ensures c.if-ne.false in
     let second : (get_or line 1 c.index-line-1.result).text ≡ codes "include" = sym c.as_bytes.ensures ∙ same ∙ c.as_slice.ensures in
-    let hash = c.is_hash.ensures in
-    awaits_by line (get_or line 0 c.index-line-0.result).text (get_or line 1 c.index-line-1.result).text c.is_hash.result e second (rw c.as_bytes-2.ensures at hash.0) (rw c.as_bytes-2.ensures at hash.1)
+    let first = (get_or line 0 c.index-line-0.result).text in
+    let hash : c.is_hash.result ≡ (bytes_eq first (codes "#") || bytes_eq first (codes "%:")) = c.is_hash.ensures ∙ ap (λ (z : List ℕ). bytes_eq z (codes "#") || bytes_eq z (codes "%:")) c.as_bytes-2.ensures in
+    awaits_by line first (get_or line 1 c.index-line-1.result).text c.is_hash.result e second (λ t. hash_forth first (bytes_eq first (codes "#")) (bytes_eq first (codes "%:")) refl refl (sym hash ∙ t)) (λ is. hash ∙ hash_back first is)

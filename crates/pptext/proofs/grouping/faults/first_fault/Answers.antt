@@ -10,7 +10,7 @@ use Rattle.pptext.proofs.Faults.{FaultsSoFar, no_row, faults_start, faults_step,
 use Rattle.pptext.proofs.grouping.faults.first_fault.Goals as goal
 
 pub loop-at-init : goal.loop-at-init
-loop-at-init c = rw c.new-open_sections.ensures.items (faults_start c.args.tokens.now c.args.lines.now)
+loop-at-init c = rw c.in_ok-open_sections.ensures.items (faults_start c.args.tokens.now c.args.lines.now)
 
 pub returns-in-Some : goal.returns-in-Some
 returns-in-Some c =
@@ -18,7 +18,7 @@ returns-in-Some c =
     let before = sections c.loop-at.open_sections.items in
     let after = sections c.take_line.new.open_sections.items in
     let step : (opened role c.loop-at.at before).0 ≡ Some c.in-Some.number = ap (λ (z : Role). (opened z c.loop-at.at before).0) (sym c.role_of.ensures) ∙ subst (λ (z : Option ℕ). Takes (opened c.role_of.result c.loop-at.at before) z after) c.in-Some.is c.in_ok-number.ensures in
-    ap Some (c.in_ok-fault_at.ensures no_row) ∙ fault_here c.args.tokens.now c.args.lines.now c.requires c.loop-at.at c.in-Some.number before no_line c.loop-at-test.true c.loop-at.invariant step
+    ap Some (c.in_ok-fault_at.ensures no_row) ∙ fault_here c.args.tokens.now c.args.lines.now c.requires.are_lines c.loop-at.at c.in-Some.number before no_line c.loop-at-test.true c.loop-at.invariant step
 
 pub loop-at-preserved : goal.loop-at-preserved
 loop-at-preserved c =
@@ -26,22 +26,22 @@ loop-at-preserved c =
     let before = sections c.loop-at.open_sections.items in
     let after = sections c.take_line.new.open_sections.items in
     let step : opened role c.loop-at.at before ≡ (None, after) = ap (λ (z : Role). opened z c.loop-at.at before) (sym c.role_of.ensures) ∙ subst (λ (z : Option ℕ). Takes (opened c.role_of.result c.loop-at.at before) z after) c.in_default.is c.in_ok-number.ensures in
-    faults_step c.args.tokens.now c.args.lines.now c.requires c.loop-at.at before after no_line c.loop-at-test.true c.loop-at.invariant step
+    faults_step c.args.tokens.now c.args.lines.now c.requires.are_lines c.loop-at.at before after no_line c.loop-at-test.true c.loop-at.invariant step
 
 pub returns-in-None : goal.returns-in-None
 returns-in-None c =
     let none : c.loop-at.open_sections.items ≡ [] = nil_from_length c.loop-at.open_sections.items (sym c.loop-at.open_sections.ok.0 ∙ c.in-None.ensures.cases.0) in
-    let ended = fault_at_last c.args.tokens.now c.args.lines.now c.requires c.loop-at.at (sections c.loop-at.open_sections.items) c.loop-at-test.false c.loop-at.invariant in
+    let ended = fault_at_last c.args.tokens.now c.args.lines.now c.requires.are_lines c.loop-at.at (sections c.loop-at.open_sections.items) c.loop-at-test.false c.loop-at.invariant in
     subst (λ (z : List Section). fault_at_end (open_rows (rows_of c.args.tokens.now c.args.lines.now) (sections z)) ≡ group_fault [] (rows_of c.args.tokens.now c.args.lines.now)) none ended
 
 pub fault_at-requires-in-Some-pop-clause-branching : goal.fault_at-requires-in-Some-pop-clause-branching
 fault_at-requires-in-Some-pop-clause-branching c =
     let top = ap sections c.in-Some-pop.ensures.items ∙ sections_more c.pop.new.self.items c.in-Some-pop.section in
     let sofar = subst (FaultsSoFar c.args.tokens.now c.args.lines.now c.loop-at.at) top c.loop-at.invariant in
-    opens_branching c.args.tokens.now c.args.lines.now c.requires c.in-Some-pop.section.opening sofar.opens.0
+    opens_branching c.args.tokens.now c.args.lines.now c.requires.are_lines c.in-Some-pop.section.opening sofar.opens.0
 
 pub returns : goal.returns
 returns c =
     let top = ap sections c.in-Some-pop.ensures.items ∙ sections_more c.pop.new.self.items c.in-Some-pop.section in
     let sofar = subst (FaultsSoFar c.args.tokens.now c.args.lines.now c.loop-at.at) top c.loop-at.invariant in
-    fault_last c.args.tokens.now c.args.lines.now c.requires c.loop-at.at (c.in-Some-pop.section.opening, c.in-Some-pop.section.last) (sections c.pop.new.self.items) c.in_ok-fault_at-in-Some-pop.field-0 c.loop-at-test.false sofar (c.in_ok-fault_at-in-Some-pop.ensures no_row)
+    fault_last c.args.tokens.now c.args.lines.now c.requires.are_lines c.loop-at.at (c.in-Some-pop.section.opening, c.in-Some-pop.section.last) (sections c.pop.new.self.items) c.in_ok-fault_at-in-Some-pop.field-0 c.loop-at-test.false sofar (c.in_ok-fault_at-in-Some-pop.ensures no_row)

@@ -1,11 +1,17 @@
-use Rattle.std.proofs.Common.{◌≡◌, ◌+◌, ◌-◌, ◌<◌, ◌≤◌, length, drop, take, get_or, sym, ap, ◌∙◌, subst, arith}
+use Rattle.std.proofs.Common.{◌≡◌, ℕ, List, ◌+◌, ◌-◌, ◌<◌, ◌≤◌, length, drop, take, get_or, sym, ap, ◌∙◌, subst, arith}
 use Rattle.std.proofs.lemmas.List.{take_rest}
 use Rattle.pptext.specs.declared.texts.Cursor.{Cursor}
 use Rattle.pptext.specs.declared.characters.steps.Step.TheVariants.{Code, Removed}
-use Rattle.pptext.specs.Steps.{PlainFront, open_end, step_of}
+use Rattle.pptext.specs.Steps.{open_end, place_behind, step_of}
 use Rattle.pptext.specs.Texts.{Stands, text_from}
-use Rattle.pptext.proofs.Cursors.{bounds, pass_code, pass_plain, plain_short, plain_taken, skip_removed, stands_at_code, stands_at_end}
+use Rattle.pptext.proofs.Cursors.{bounds, pass_code, pass_plain, skip_removed, stands_at_code, stands_at_plain, stands_at_end}
 use Rattle.pptext.proofs.texts.Cursor.walk.Goals as goal
+
+pub pass-cursor-requires-clause-line : goal.pass-cursor-requires-clause-line
+pass-cursor-requires-clause-line c = (bounds c.args.self.at.file c.args.raw.now c.loop-cursor.cursor c.loop-cursor.invariant.stands).line
+
+pub pass-cursor-requires-clause-col : goal.pass-cursor-requires-clause-col
+pass-cursor-requires-clause-col c = (bounds c.args.self.at.file c.args.raw.now c.loop-cursor.cursor c.loop-cursor.invariant.stands).col
 
 pub skip-cursor-requires-clause-line : goal.skip-cursor-requires-clause-line
 skip-cursor-requires-clause-line c = (bounds c.args.self.at.file c.args.raw.now c.loop-cursor.cursor c.loop-cursor.invariant.stands).line
@@ -13,32 +19,53 @@ skip-cursor-requires-clause-line c = (bounds c.args.self.at.file c.args.raw.now 
 pub skip-cursor-requires-clause-col : goal.skip-cursor-requires-clause-col
 skip-cursor-requires-clause-col c = (bounds c.args.self.at.file c.args.raw.now c.loop-cursor.cursor c.loop-cursor.invariant.stands).col
 
-pub skip-cursor-requires-in-Removed-clause-line : goal.skip-cursor-requires-in-Removed-clause-line
-skip-cursor-requires-in-Removed-clause-line c = (bounds c.args.self.at.file c.args.raw.now c.loop-cursor.cursor c.loop-cursor.invariant.stands).line
-
-pub skip-cursor-requires-in-Removed-clause-col : goal.skip-cursor-requires-in-Removed-clause-col
-skip-cursor-requires-in-Removed-clause-col c = (bounds c.args.self.at.file c.args.raw.now c.loop-cursor.cursor c.loop-cursor.invariant.stands).col
-
 pub skip-cursor-requires-in-Code-clause-line : goal.skip-cursor-requires-in-Code-clause-line
 skip-cursor-requires-in-Code-clause-line c = (bounds c.args.self.at.file c.args.raw.now c.loop-cursor.cursor c.loop-cursor.invariant.stands).line
 
 pub skip-cursor-requires-in-Code-clause-col : goal.skip-cursor-requires-in-Code-clause-col
 skip-cursor-requires-in-Code-clause-col c = (bounds c.args.self.at.file c.args.raw.now c.loop-cursor.cursor c.loop-cursor.invariant.stands).col
 
-pub loop-cursor-preserved-then-plain-gt0 : goal.loop-cursor-preserved-then-plain-gt0
-loop-cursor-preserved-then-plain-gt0 c =
+pub pass-requires-clause-line : goal.pass-requires-clause-line
+pass-requires-clause-line c = (bounds c.args.self.at.file c.args.raw.now c.loop-cursor.cursor c.loop-cursor.invariant.stands).line
+
+pub pass-requires-clause-col : goal.pass-requires-clause-col
+pass-requires-clause-col c = (bounds c.args.self.at.file c.args.raw.now c.loop-cursor.cursor c.loop-cursor.invariant.stands).col
+
+-- a cursor that is moved to the character sought, over this many plain bytes
+arrives : (file : ℕ) (raw : List ℕ) (c after : Cursor) (to : ℕ) → Stands file raw c → c.passed ≤ to → to - c.passed < c.plain → after ≡ record { passed = c.passed + (to - c.passed); offset = c.offset + (to - c.passed); plain = c.plain - (to - c.passed); at = place_behind c.at (take (to - c.passed) (drop c.offset raw)) } → Stands file raw after × (0 < after.plain) × (after.passed ≡ to)
+arrives file raw c after to stands forward near is =
+    let s = pass_plain file raw c (to - c.passed) stands (omega arith) in
+    let some : after.plain ≡ c.plain - (to - c.passed) = ap (λ (x : Cursor). x.plain) is in
+    let passed : after.passed ≡ c.passed + (to - c.passed) = ap (λ (x : Cursor). x.passed) is in
+    (subst (Stands file raw) (sym is) s.1, omega arith, omega arith)
+
+pub returns-then-ahead-cursor-clause-stands : goal.returns-then-ahead-cursor-clause-stands
+returns-then-ahead-cursor-clause-stands c =
+    (arrives c.args.self.at.file c.args.raw.now c.loop-cursor.cursor c.pass.result c.args.to c.loop-cursor.invariant.stands c.loop-cursor.invariant.forward c.if-ahead-cursor.true c.pass.ensures).0
+
+pub returns-then-ahead-cursor-clause-passed : goal.returns-then-ahead-cursor-clause-passed
+returns-then-ahead-cursor-clause-passed c =
+    (arrives c.args.self.at.file c.args.raw.now c.loop-cursor.cursor c.pass.result c.args.to c.loop-cursor.invariant.stands c.loop-cursor.invariant.forward c.if-ahead-cursor.true c.pass.ensures).2
+
+pub returns-then-ahead-cursor-clause-file : goal.returns-then-ahead-cursor-clause-file
+returns-then-ahead-cursor-clause-file c =
+    let there = arrives c.args.self.at.file c.args.raw.now c.loop-cursor.cursor c.pass.result c.args.to c.loop-cursor.invariant.stands c.loop-cursor.invariant.forward c.if-ahead-cursor.true c.pass.ensures in
+    (bounds c.args.self.at.file c.args.raw.now c.pass.result there.0).same_file
+
+pub returns-then-ahead-cursor-clause-place : goal.returns-then-ahead-cursor-clause-place
+returns-then-ahead-cursor-clause-place c =
+    let there = arrives c.args.self.at.file c.args.raw.now c.loop-cursor.cursor c.pass.result c.args.to c.loop-cursor.invariant.stands c.loop-cursor.invariant.forward c.if-ahead-cursor.true c.pass.ensures in
+    λ d. stands_at_plain c.args.self.at.file c.args.raw.now c.pass.result d there.0 there.1 ∙ ap (λ k. (get_or (text_from c.args.self.at.file c.args.raw.now 0) k d).at) there.2
+
+pub loop-cursor-preserved-then-cursor-gt0 : goal.loop-cursor-preserved-then-cursor-gt0
+loop-cursor-preserved-then-cursor-gt0 c =
     let raw = c.args.raw.now in
     let cursor = c.loop-cursor.cursor in
-    let o = cursor.offset in
-    let n = c.plain_len-plain.result in
-    let m = c.min.result in
-    let front : PlainFront (take m (drop o raw)) n = simp take_rest at c.plain_len-plain.ensures in
-    let short : n ≤ m = plain_short m (drop o raw) n front in
-    let s = pass_plain c.args.self.at.file raw cursor n c.loop-cursor.invariant.stands (omega arith) (plain_taken m (drop o raw) n front) in
-    let passed : c.skip-cursor.result.passed ≡ cursor.passed = ap (λ (x : Cursor). x.passed) c.skip-cursor.ensures in
+    let s = pass_plain c.args.self.at.file raw cursor cursor.plain c.loop-cursor.invariant.stands (omega arith) in
+    let passed : c.pass-cursor.result.passed ≡ cursor.passed + cursor.plain = ap (λ (x : Cursor). x.passed) c.pass-cursor.ensures in
     record {
-      forward = omega (arith, c.min.ensures, c.loop-cursor.invariant.forward);
-      stands = subst (λ (x : Cursor). Stands c.args.self.at.file raw (record { passed = x.passed + n; offset = x.offset; at = x.at })) (sym c.skip-cursor.ensures) s.1;
+      forward = omega (arith, c.if-ahead-cursor.false, c.loop-cursor.invariant.forward);
+      stands = subst (Stands c.args.self.at.file raw) (sym c.pass-cursor.ensures) s.1;
     }
 
 pub loop-cursor-smaller-in-Removed : goal.loop-cursor-smaller-in-Removed
@@ -49,9 +76,9 @@ loop-cursor-smaller-in-Removed c =
     let stands = c.loop-cursor.invariant.stands in
     let n = c.in-Removed.len in
     let is : step_of (open_end raw) (drop o raw) ≡ Removed n = ap (λ s. step_of s (drop o raw)) (sym c.has_open_end-supplied.ensures) ∙ sym (simp take_rest at c.in-Removed.ensures) in
-    let s = skip_removed c.args.self.at.file raw cursor n stands c.loop-cursor-test.true is in
-    let skip : c.skip-cursor-in-Removed.result.offset ≡ o + n = ap (λ (x : Cursor). x.offset) c.skip-cursor-in-Removed.ensures in
-    let less : length raw - c.skip-cursor-in-Removed.result.offset < length raw - o = omega (arith, s.0) in
+    let s = skip_removed c.args.self.at.file raw cursor n c.skip-cursor.result.plain stands c.loop-cursor-test.true is c.skip-cursor.ensures.plain in
+    let skip : c.skip-cursor.result.offset ≡ o + n = ap (λ (x : Cursor). x.offset) c.skip-cursor.ensures.moved in
+    let less : length raw - c.skip-cursor.result.offset < length raw - o = omega (arith, s.0) in
     less
 
 pub loop-cursor-preserved-in-Removed : goal.loop-cursor-preserved-in-Removed
@@ -62,9 +89,9 @@ loop-cursor-preserved-in-Removed c =
     let stands = c.loop-cursor.invariant.stands in
     let n = c.in-Removed.len in
     let is : step_of (open_end raw) (drop o raw) ≡ Removed n = ap (λ s. step_of s (drop o raw)) (sym c.has_open_end-supplied.ensures) ∙ sym (simp take_rest at c.in-Removed.ensures) in
-    let s = skip_removed c.args.self.at.file raw cursor n stands c.loop-cursor-test.true is in
-    let passed = ap (λ (x : Cursor). x.passed) c.skip-cursor-in-Removed.ensures in
-    record { forward = omega (arith, c.loop-cursor.invariant.forward); stands = subst (Stands c.args.self.at.file raw) (sym c.skip-cursor-in-Removed.ensures) s.2 }
+    let s = skip_removed c.args.self.at.file raw cursor n c.skip-cursor.result.plain stands c.loop-cursor-test.true is c.skip-cursor.ensures.plain in
+    let passed = ap (λ (x : Cursor). x.passed) c.skip-cursor.ensures.moved in
+    record { forward = omega (arith, c.loop-cursor.invariant.forward); stands = subst (Stands c.args.self.at.file raw) (sym c.skip-cursor.ensures.moved) s.2 }
 
 pub returns-then-cursor-to-clause-file : goal.returns-then-cursor-to-clause-file
 returns-then-cursor-to-clause-file c = (bounds c.args.self.at.file c.args.raw.now c.loop-cursor.cursor c.loop-cursor.invariant.stands).same_file
@@ -89,8 +116,8 @@ loop-cursor-smaller c =
     let n = c.in-Code.len in
     let code = c.in-Code.field-0 in
     let is : step_of (open_end raw) (drop o raw) ≡ Code code n = ap (λ s. step_of s (drop o raw)) (sym c.has_open_end-supplied.ensures) ∙ sym (simp take_rest at c.in-Code.ensures) in
-    let s = pass_code c.args.self.at.file raw cursor code n stands c.loop-cursor-test.true is in
-    let skip : c.skip-cursor-in-Code.result.offset ≡ o + n = ap (λ (x : Cursor). x.offset) c.skip-cursor-in-Code.ensures in
+    let s = pass_code c.args.self.at.file raw cursor code n c.skip-cursor-in-Code.result.plain stands c.loop-cursor-test.true is c.skip-cursor-in-Code.ensures.plain in
+    let skip : c.skip-cursor-in-Code.result.offset ≡ o + n = ap (λ (x : Cursor). x.offset) c.skip-cursor-in-Code.ensures.moved in
     let less : length raw - c.skip-cursor-in-Code.result.offset < length raw - o = omega (arith, s.0) in
     less
 
@@ -103,11 +130,11 @@ loop-cursor-preserved c =
     let n = c.in-Code.len in
     let code = c.in-Code.field-0 in
     let is : step_of (open_end raw) (drop o raw) ≡ Code code n = ap (λ s. step_of s (drop o raw)) (sym c.has_open_end-supplied.ensures) ∙ sym (simp take_rest at c.in-Code.ensures) in
-    let s = pass_code c.args.self.at.file raw cursor code n stands c.loop-cursor-test.true is in
-    let passed = ap (λ (x : Cursor). x.passed) c.skip-cursor-in-Code.ensures in
+    let s = pass_code c.args.self.at.file raw cursor code n c.skip-cursor-in-Code.result.plain stands c.loop-cursor-test.true is c.skip-cursor-in-Code.ensures.plain in
+    let passed = ap (λ (x : Cursor). x.passed) c.skip-cursor-in-Code.ensures.moved in
     record {
       forward = omega (arith, c.loop-cursor.invariant.forward, c.if-cursor-to.false);
-      stands = subst (λ (x : Cursor). Stands c.args.self.at.file raw (record { passed = x.passed + 1; offset = x.offset; at = x.at })) (sym c.skip-cursor-in-Code.ensures) s.2;
+      stands = subst (λ (x : Cursor). Stands c.args.self.at.file raw (record { passed = x.passed + 1; offset = x.offset; plain = x.plain; at = x.at })) (sym c.skip-cursor-in-Code.ensures.moved) s.2;
     }
 
 pub returns-clause-passed : goal.returns-clause-passed

@@ -1,5 +1,5 @@
 use Rattle.pptext.proofs.OneReading.{one_reading}
-use Rattle.pptext.proofs.reading.one_reading.Goals as goal
+use Rattle.pptext.proofs.laws.one_reading.Goals as goal
 
 pub returns : goal.returns
 returns c = one_reading
