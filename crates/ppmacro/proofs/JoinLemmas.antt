@@ -1,14 +1,13 @@
 -- Lists that `##` joins, while hide sets are added.
-use Rattle.std.proofs.Common.{◌≡◌, ℕ, suc, zero, ◌+◌, ◌<◌, List, [], ◌∷◌, ◌++◌, map, drop, length, get_or, Option, Some, None, Vec, Global, Result, Ok, Err, refl, sym, ap, ◌∙◌, arith, slice_get}
+use Rattle.std.proofs.Common.{◌≡◌, ℕ, suc, zero, ◌+◌, ◌<◌, List, [], ◌∷◌, ◌++◌, map, drop, length, get_or, Option, Some, None, Vec, Global, Result, Ok, Err, refl, sym, ap, ◌∙◌, slice_get}
 use Rattle.std.proofs.lemmas.List.{map-append, drop_more}
 use Rattle.std.specs.Option.{option_map}
-use Rattle.pptext.specs.declared.tokens.Kind.{Kind}
 use Rattle.pptext.specs.declared.tokens.Place.{Place}
 use Rattle.pptext.specs.declared.tokens.Fault.{Fault}
 use Rattle.ppmacro.specs.Numbered.{Numbered}
 use Rattle.ppmacro.specs.HideSets.{IsKnown, Hiding, hiding, hidings, AllKnown, Keeps}
 use Rattle.ppmacro.specs.Substitution.{after_ok, pasted, join, join_all, argument_at, expanded_at}
-use Rattle.ppmacro.specs.Substituting.{tokens_of, lists_of, options_of, ListsKnown}
+use Rattle.ppmacro.specs.Substituting.{tokens_of, lists_of, options_of}
 use Rattle.ppmacro.specs.declared.hide_sets.Hidden.{Hidden}
 use Rattle.ppmacro.proofs.KeepLemmas.{hidings-keeps, known-keeps, known-append, known-front, known-behind}
 
@@ -31,24 +30,21 @@ expansion-in s (o ∷ os) (suc i) = expansion-in s os i
 
 -- ---- two lists
 
-abbrev Kinds : Type 0
-Kinds = List ℕ → Option Kind
-
 after-twice : (p : Result Hiding Fault) (x : Hiding) (ls rs : List Hiding) → after_ok (after_ok p (λ t. Ok (ls ++ t ∷ rs))) (λ ts. Ok (x ∷ ts)) ≡ after_ok p (λ t. Ok (x ∷ (ls ++ t ∷ rs)))
 after-twice (Ok t) x ls rs = refl
 after-twice (Err f) x ls rs = refl
 
-join-last : (kinds : Kinds) (ls : List Hiding) (l r : Hiding) (rs : List Hiding) (used : Place) → join kinds (ls ++ l ∷ []) (r ∷ rs) used ≡ after_ok (pasted kinds l r used) (λ t. Ok (ls ++ t ∷ rs))
-join-last kinds [] l r rs used = refl
-join-last kinds (x ∷ []) l r rs used = after-twice (pasted kinds l r used) x [] rs
-join-last kinds (x ∷ (y ∷ ls)) l r rs used =
-    ap (λ e. after_ok e (λ ts. Ok (x ∷ ts))) (join-last kinds (y ∷ ls) l r rs used)
-    ∙ after-twice (pasted kinds l r used) x (y ∷ ls) rs
+join-last : (ls : List Hiding) (l r : Hiding) (rs : List Hiding) (used : Place) → join (ls ++ l ∷ []) (r ∷ rs) used ≡ after_ok (pasted l r used) (λ t. Ok (ls ++ t ∷ rs))
+join-last [] l r rs used = refl
+join-last (x ∷ []) l r rs used = after-twice (pasted l r used) x [] rs
+join-last (x ∷ (y ∷ ls)) l r rs used =
+    ap (λ e. after_ok e (λ ts. Ok (x ∷ ts))) (join-last (y ∷ ls) l r rs used)
+    ∙ after-twice (pasted l r used) x (y ∷ ls) rs
 
-opened : (s : Numbered) (kinds : Kinds) (ls : List Hidden) (last first : Hidden) (rest : List Hidden) (used : Place) → join kinds (hidings s (ls ++ last ∷ [])) (hidings s (first ∷ rest)) used ≡ after_ok (pasted kinds (hiding s last) (hiding s first) used) (λ t. Ok (hidings s ls ++ t ∷ hidings s rest))
-opened s kinds ls last first rest used =
-    ap (λ ts. join kinds ts (hidings s (first ∷ rest)) used) (map-append (hiding s) ls (last ∷ []))
-    ∙ join-last kinds (hidings s ls) (hiding s last) (hiding s first) (hidings s rest) used
+opened : (s : Numbered) (ls : List Hidden) (last first : Hidden) (rest : List Hidden) (used : Place) → join (hidings s (ls ++ last ∷ [])) (hidings s (first ∷ rest)) used ≡ after_ok (pasted (hiding s last) (hiding s first) used) (λ t. Ok (hidings s ls ++ t ∷ hidings s rest))
+opened s ls last first rest used =
+    ap (λ ts. join ts (hidings s (first ∷ rest)) used) (map-append (hiding s) ls (last ∷ []))
+    ∙ join-last (hidings s ls) (hiding s last) (hiding s first) (hidings s rest) used
 
 pub split-first : (xs : List Hidden) (x : Hidden) → Some x ≡ slice_get xs 0 → xs ≡ x ∷ drop 1 xs
 split-first [] x h = absurd (cc h)
@@ -61,23 +57,23 @@ pub no-first : (xs : List Hidden) → None ≡ slice_get xs 0 → xs ≡ []
 no-first [] h = refl
 no-first (y ∷ xs) h = absurd (cc h)
 
-pub join-nothing : (kinds : Kinds) (ls : List Hiding) (used : Place) → Ok ls ≡ join kinds ls [] used
-join-nothing kinds [] used = refl
-join-nothing kinds (l ∷ ls) used = refl
+pub join-nothing : (ls : List Hiding) (used : Place) → Ok ls ≡ join ls [] used
+join-nothing [] used = refl
+join-nothing (l ∷ ls) used = refl
 
-pub join-pasted : (s t : Numbered) (kinds : Kinds) (ls : List Hidden) (last first hidden : Hidden) (rest : List Hidden) (used : Place) → Keeps s t → AllKnown s (ls ++ last ∷ []) → AllKnown s (first ∷ rest) → Ok (hiding t hidden) ≡ pasted kinds (hiding s last) (hiding s first) used → Ok (hidings t (ls ++ hidden ∷ rest)) ≡ join kinds (hidings s (ls ++ last ∷ [])) (hidings s (first ∷ rest)) used
-join-pasted s t kinds ls last first hidden rest used k left right p =
+pub join-pasted : (s t : Numbered) (ls : List Hidden) (last first hidden : Hidden) (rest : List Hidden) (used : Place) → Keeps s t → AllKnown s (ls ++ last ∷ []) → AllKnown s (first ∷ rest) → Ok (hiding t hidden) ≡ pasted (hiding s last) (hiding s first) used → Ok (hidings t (ls ++ hidden ∷ rest)) ≡ join (hidings s (ls ++ last ∷ [])) (hidings s (first ∷ rest)) used
+join-pasted s t ls last first hidden rest used k left right p =
     let front : hidings t ls ≡ hidings s ls = hidings-keeps ls k (known-front ls (last ∷ []) left) in
     let behind : hidings t rest ≡ hidings s rest = hidings-keeps rest k (record { each = right.each.1 }) in
     ap Ok (map-append (hiding t) ls (hidden ∷ rest))
     ∙ (λ i. Ok (front i ++ hiding t hidden ∷ behind i))
     ∙ ap (λ r. after_ok r (λ u. Ok (hidings s ls ++ u ∷ hidings s rest))) p
-    ∙ sym (opened s kinds ls last first rest used)
+    ∙ sym (opened s ls last first rest used)
 
-pub join-refused : (s : Numbered) (kinds : Kinds) (ls : List Hidden) (last first : Hidden) (rest : List Hidden) (used : Place) (f : Fault) → Err f ≡ pasted kinds (hiding s last) (hiding s first) used → Err f ≡ join kinds (hidings s (ls ++ last ∷ [])) (hidings s (first ∷ rest)) used
-join-refused s kinds ls last first rest used f p =
+pub join-refused : (s : Numbered) (ls : List Hidden) (last first : Hidden) (rest : List Hidden) (used : Place) (f : Fault) → Err f ≡ pasted (hiding s last) (hiding s first) used → Err f ≡ join (hidings s (ls ++ last ∷ [])) (hidings s (first ∷ rest)) used
+join-refused s ls last first rest used f p =
     ap (λ r. after_ok r (λ u. Ok (hidings s ls ++ u ∷ hidings s rest))) p
-    ∙ sym (opened s kinds ls last first rest used)
+    ∙ sym (opened s ls last first rest used)
 
 pub known-joined : (s t : Numbered) (ls : List Hidden) (last first hidden : Hidden) (rest : List Hidden) → Keeps s t → AllKnown s (ls ++ last ∷ []) → AllKnown s (first ∷ rest) → IsKnown t hidden.hide → AllKnown t (ls ++ hidden ∷ rest)
 known-joined s t ls last first hidden rest k left right here =
@@ -89,11 +85,11 @@ known-last s ls last known = (known-behind ls (last ∷ []) known).each.0
 
 -- ---- all lists
 
-pub join_all-more : (kinds : Kinds) (s t : Numbered) (left next : List Hiding) (right : List Hidden) (rest : List (List Hiding)) (used : Place) → Ok next ≡ join kinds left (hidings s right) used → join_all kinds next rest used ≡ join_all kinds left (hidings s right ∷ rest) used
-join_all-more kinds s t left next right rest used h = ap (λ r. after_ok r (λ ts. join_all kinds ts rest used)) h
+pub join_all-more : (s t : Numbered) (left next : List Hiding) (right : List Hidden) (rest : List (List Hiding)) (used : Place) → Ok next ≡ join left (hidings s right) used → join_all next rest used ≡ join_all left (hidings s right ∷ rest) used
+join_all-more s t left next right rest used h = ap (λ r. after_ok r (λ ts. join_all ts rest used)) h
 
-pub join_all-refused : (kinds : Kinds) (left : List Hiding) (right : List Hiding) (rest : List (List Hiding)) (used : Place) (f : Fault) → Err f ≡ join kinds left right used → Err f ≡ join_all kinds left (right ∷ rest) used
-join_all-refused kinds left right rest used f h = ap (λ r. after_ok r (λ ts. join_all kinds ts rest used)) h
+pub join_all-refused : (left : List Hiding) (right : List Hiding) (rest : List (List Hiding)) (used : Place) (f : Fault) → Err f ≡ join left right used → Err f ≡ join_all left (right ∷ rest) used
+join_all-refused left right rest used f h = ap (λ r. after_ok r (λ ts. join_all ts rest used)) h
 
 -- the next list, joined to what stands so far
 pub lists-drop : (vs : List (Vec Hidden Global)) (i : ℕ) (v : Vec Hidden Global) → i < length vs → v ≡ get_or vs i v → drop i vs ≡ v ∷ drop (i + 1) vs

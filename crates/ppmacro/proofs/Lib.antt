@@ -5,3 +5,4 @@ pub mod LexerLemmas
 pub mod KeepLemmas
 pub mod JoinLemmas
 pub mod WalkLemmas
+pub mod ArgumentLemmas

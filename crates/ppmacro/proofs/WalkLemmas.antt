@@ -2,7 +2,6 @@
 use Rattle.std.proofs.Common.{◌≡◌, ℕ, zero, suc, ◌+◌, ◌<◌, Bool, false, not, ◌||◌, ◌&&◌, List, [], ◌∷◌, ◌++◌, map, take, drop, length, get_or, Option, Some, None, Vec, Global, Result, Ok, Err, refl, sym, ap, ◌∙◌, append_assoc, arith}
 use Rattle.std.proofs.lemmas.List.{map-append, drop_more, take_more}
 use Rattle.std.specs.Option.{option_map}
-use Rattle.pptext.specs.declared.tokens.Kind.{Kind}
 use Rattle.pptext.specs.declared.tokens.Place.{Place}
 use Rattle.pptext.specs.declared.tokens.Fault.{Fault}
 use Rattle.ppmacro.specs.Numbered.{Numbered}
@@ -46,23 +45,20 @@ arguments-known given expanded k known = record { given_known = λ i. known-keep
 
 -- ---- chains
 
-abbrev Kinds : Type 0
-Kinds = List ℕ → Option Kind
-
-abbrev goes_on : Kinds → Arguments → Place → Bool → List Chain → List Hiding → Result Marked Fault
-goes_on kinds args used mark cs ts = after_ok (chains_tokens kinds args used (mark_first mark ts).pending false cs) (λ rest. Ok (record { tokens = (mark_first mark ts).tokens ++ rest.tokens; pending = rest.pending }))
+abbrev goes_on : Arguments → Place → Bool → List Chain → List Hiding → Result Marked Fault
+goes_on args used mark cs ts = after_ok (chains_tokens args used (mark_first mark ts).pending false cs) (λ rest. Ok (record { tokens = (mark_first mark ts).tokens ++ rest.tokens; pending = rest.pending }))
 
 behind-behind : (xs ys : List Hiding) (r : Result Marked Fault) → marked_behind xs (after_ok r (λ m. Ok (record { tokens = ys ++ m.tokens; pending = m.pending }))) ≡ marked_behind (xs ++ ys) r
 behind-behind xs ys (Ok m) = λ i. Ok (record { tokens = sym (append_assoc xs ys m.tokens) i; pending = m.pending })
 behind-behind xs ys (Err f) = refl
 
-pub chains-more : (kinds : Kinds) (args : Arguments) (used : Place) (pending first : Bool) (c : Chain) (cs : List Chain) (front ts : List Hiding) → Ok ts ≡ chain_tokens kinds args used c → marked_behind (front ++ (mark_first (pending || (not first && c.mark)) ts).tokens) (chains_tokens kinds args used (mark_first (pending || (not first && c.mark)) ts).pending false cs) ≡ marked_behind front (chains_tokens kinds args used pending first (c ∷ cs))
-chains-more kinds args used pending first c cs front ts h =
-    sym (behind-behind front (mark_first (pending || (not first && c.mark)) ts).tokens (chains_tokens kinds args used (mark_first (pending || (not first && c.mark)) ts).pending false cs))
-    ∙ ap (λ r. marked_behind front (after_ok r (goes_on kinds args used (pending || (not first && c.mark)) cs))) h
+pub chains-more : (args : Arguments) (used : Place) (pending first : Bool) (c : Chain) (cs : List Chain) (front ts : List Hiding) → Ok ts ≡ chain_tokens args used c → marked_behind (front ++ (mark_first (pending || (not first && c.mark)) ts).tokens) (chains_tokens args used (mark_first (pending || (not first && c.mark)) ts).pending false cs) ≡ marked_behind front (chains_tokens args used pending first (c ∷ cs))
+chains-more args used pending first c cs front ts h =
+    sym (behind-behind front (mark_first (pending || (not first && c.mark)) ts).tokens (chains_tokens args used (mark_first (pending || (not first && c.mark)) ts).pending false cs))
+    ∙ ap (λ r. marked_behind front (after_ok r (goes_on args used (pending || (not first && c.mark)) cs))) h
 
-pub chains-refused : (kinds : Kinds) (args : Arguments) (used : Place) (pending first : Bool) (c : Chain) (cs : List Chain) (front : List Hiding) (f : Fault) → Err f ≡ chain_tokens kinds args used c → Err f ≡ marked_behind front (chains_tokens kinds args used pending first (c ∷ cs))
-chains-refused kinds args used pending first c cs front f h = ap (λ r. marked_behind front (after_ok r (goes_on kinds args used (pending || (not first && c.mark)) cs))) h
+pub chains-refused : (args : Arguments) (used : Place) (pending first : Bool) (c : Chain) (cs : List Chain) (front : List Hiding) (f : Fault) → Err f ≡ chain_tokens args used c → Err f ≡ marked_behind front (chains_tokens args used pending first (c ∷ cs))
+chains-refused args used pending first c cs front f h = ap (λ r. marked_behind front (after_ok r (goes_on args used (pending || (not first && c.mark)) cs))) h
 
 -- ---- the gain
 

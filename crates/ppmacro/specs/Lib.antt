@@ -7,5 +7,6 @@ pub mod HideSets
 pub mod Define
 pub mod Headings
 pub mod Predefined
+pub mod Lexing
 pub mod Substitution
 pub mod Substituting

@@ -1,5 +1,5 @@
 -- What the parts of a substitution answer, in terms of hide sets' members.
-use Rattle.std.specs.Prelude.{ℕ, List, [], ◌∷◌, ◌++◌, map, Option, Vec, Bool, Result, Ok, Err}
+use Rattle.std.specs.Prelude.{ℕ, List, ◌++◌, map, Option, Vec, Bool, Result, Ok, Err}
 use Rattle.std.specs.Global.{Global}
 use Rattle.std.specs.List.{AllByRecursion}
 use Rattle.std.specs.Option.{option_map}

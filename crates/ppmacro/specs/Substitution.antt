@@ -1,29 +1,20 @@
 -- What an invocation is replaced by (6.10.3.1 to 6.10.3.3).
-use Rattle.std.specs.Prelude.{◌≡◌, ℕ, Bool, true, false, not, ◌&&◌, ◌||◌, ◌==◌, List, [], ◌∷◌, ◌++◌, map, Option, Some, None, unwrap_or, slice_get, Result, Ok, Err, if◌then◌else◌}
+use Rattle.std.specs.Prelude.{ℕ, Bool, true, false, not, ◌&&◌, ◌||◌, ◌==◌, List, [], ◌∷◌, ◌++◌, map, Option, Some, None, unwrap_or, slice_get, Result, Ok, Err, if◌then◌else◌}
 use Rattle.std.specs.FinSet as set
 use Rattle.pptext.specs.declared.tokens.Place.{Place}
 use Rattle.pptext.specs.declared.tokens.Token.{Token}
 use Rattle.pptext.specs.declared.tokens.Fault.{Fault}
 use Rattle.pptext.specs.declared.tokens.Kind.{Kind}
 use Rattle.pptext.specs.declared.tokens.Kind.TheVariants.{CharConst, Str as StringLiteral}
-use Rattle.pptext.specs.Sources.{IsOneToken, IsLoneQuote}
 use Rattle.ppmacro.specs.Names.{HideSet}
 use Rattle.ppmacro.specs.HideSets.{Hiding}
 use Rattle.ppmacro.specs.Define.{fault}
 use Rattle.ppmacro.specs.Chains.{chains_of}
+use Rattle.ppmacro.specs.Lexing.{kind_of}
 use Rattle.ppmacro.specs.declared.macros.Definition.{Definition}
 use Rattle.ppmacro.specs.declared.macros.Chain.{Chain}
 use Rattle.ppmacro.specs.declared.macros.Operand.{Operand}
 use Rattle.ppmacro.specs.declared.macros.Operand.TheVariants.{Tok, Param, Str}
-
--- the kind of the one token that a text is, but for a lone quote; or that it is none (6.4)
-abbrev pub Lexes : List ℕ → Option Kind → Type 0
-Lexes text None = (k : Kind) → IsOneToken text k → IsLoneQuote text
-Lexes text (Some k) = IsOneToken text k × (¬ IsLoneQuote text)
-
--- what tells each text's kind
-pub record IsLexer (kind_of : List ℕ → Option Kind) : Type 0 where
-  pub each : (text : List ℕ) → Lexes text (kind_of text)
 
 -- ---- `#` (6.10.3.2)
 
@@ -60,8 +51,8 @@ abbrev pub string_token : List ℕ → Place → Place → Hiding
 string_token text at used = record { token = record { kind = StringLiteral; text = text; space = false; at = at; used = used }; hide = set.empty }
 
 -- the literal of an argument, or fault 20; `at` is the place of `#`
-abbrev pub stringized : (List ℕ → Option Kind) → List Token → Place → Place → Result Hiding Fault
-stringized kind_of argument at used =
+abbrev pub stringized : List Token → Place → Place → Result Hiding Fault
+stringized argument at used =
     if is_string_literal (kind_of (string_text argument)) then Ok (string_token (string_text argument) at used) else Err (fault 20 used (string_text argument))
 
 -- ---- `##` (6.10.3.3)
@@ -72,24 +63,24 @@ pasted_as (Some kind) left right used =
     Ok (record { token = record { kind = kind; text = left.token.text ++ right.token.text; space = left.token.space; at = left.token.at; used = used }; hide = set.intersection left.hide right.hide })
 
 -- two tokens as one, or fault 19
-abbrev pub pasted : (List ℕ → Option Kind) → Hiding → Hiding → Place → Result Hiding Fault
-pasted kind_of left right used = pasted_as (kind_of (left.token.text ++ right.token.text)) left right used
+abbrev pub pasted : Hiding → Hiding → Place → Result Hiding Fault
+pasted left right used = pasted_as (kind_of (left.token.text ++ right.token.text)) left right used
 
 abbrev pub after_ok : {A B E : Type 0} → Result A E → (A → Result B E) → Result B E
 after_ok (Ok a) f = f a
 after_ok (Err e) f = Err e
 
 -- the last token of one list with the first of the other; an empty list is a placemarker
-abbrev pub join : (List ℕ → Option Kind) → List Hiding → List Hiding → Place → Result (List Hiding) Fault
-join kind_of [] right used = Ok right
-join kind_of (l ∷ ls) [] used = Ok (l ∷ ls)
-join kind_of (l ∷ []) (r ∷ rs) used = after_ok (pasted kind_of l r used) (λ t. Ok (t ∷ rs))
-join kind_of (l ∷ (m ∷ ls)) (r ∷ rs) used = after_ok (join kind_of (m ∷ ls) (r ∷ rs) used) (λ ts. Ok (l ∷ ts))
+abbrev pub join : List Hiding → List Hiding → Place → Result (List Hiding) Fault
+join [] right used = Ok right
+join (l ∷ ls) [] used = Ok (l ∷ ls)
+join (l ∷ []) (r ∷ rs) used = after_ok (pasted l r used) (λ t. Ok (t ∷ rs))
+join (l ∷ (m ∷ ls)) (r ∷ rs) used = after_ok (join (m ∷ ls) (r ∷ rs) used) (λ ts. Ok (l ∷ ts))
 
 -- from the left
-abbrev pub join_all : (List ℕ → Option Kind) → List Hiding → List (List Hiding) → Place → Result (List Hiding) Fault
-join_all kind_of left [] used = Ok left
-join_all kind_of left (right ∷ rest) used = after_ok (join kind_of left right used) (λ ts. join_all kind_of ts rest used)
+abbrev pub join_all : List Hiding → List (List Hiding) → Place → Result (List Hiding) Fault
+join_all left [] used = Ok left
+join_all left (right ∷ rest) used = after_ok (join left right used) (λ ts. join_all ts rest used)
 
 -- ---- operands and chains
 
@@ -108,23 +99,23 @@ abbrev pub plain : Token → Hiding
 plain t = record { token = t; hide = set.empty }
 
 -- beside `##` an argument stays unexpanded (6.10.3.1)
-abbrev pub operand_tokens : (List ℕ → Option Kind) → Bool → Arguments → Place → Operand → Result (List Hiding) Fault
-operand_tokens kind_of beside args used (Tok t) = Ok (plain t ∷ [])
-operand_tokens kind_of true args used (Param i) = Ok (argument_at args.given i)
-operand_tokens kind_of false args used (Param i) = Ok (expanded_at args.expanded i)
-operand_tokens kind_of beside args used (Str i at) = after_ok (stringized kind_of (map (λ t. t.token) (argument_at args.given i)) at used) (λ t. Ok (t ∷ []))
+abbrev pub operand_tokens : Bool → Arguments → Place → Operand → Result (List Hiding) Fault
+operand_tokens beside args used (Tok t) = Ok (plain t ∷ [])
+operand_tokens true args used (Param i) = Ok (argument_at args.given i)
+operand_tokens false args used (Param i) = Ok (expanded_at args.expanded i)
+operand_tokens beside args used (Str i at) = after_ok (stringized (map (λ t. t.token) (argument_at args.given i)) at used) (λ t. Ok (t ∷ []))
 
-abbrev pub operands_tokens : (List ℕ → Option Kind) → Bool → Arguments → Place → List Operand → Result (List (List Hiding)) Fault
-operands_tokens kind_of beside args used [] = Ok []
-operands_tokens kind_of beside args used (o ∷ os) = after_ok (operand_tokens kind_of beside args used o) (λ ts. after_ok (operands_tokens kind_of beside args used os) (λ rest. Ok (ts ∷ rest)))
+abbrev pub operands_tokens : Bool → Arguments → Place → List Operand → Result (List (List Hiding)) Fault
+operands_tokens beside args used [] = Ok []
+operands_tokens beside args used (o ∷ os) = after_ok (operand_tokens beside args used o) (λ ts. after_ok (operands_tokens beside args used os) (λ rest. Ok (ts ∷ rest)))
 
 abbrev pub is_joined : List Operand → Bool
 is_joined (o ∷ p ∷ os) = true
 is_joined _ = false
 
 -- each `#` of a chain, and then `##` from the left
-abbrev pub chain_tokens : (List ℕ → Option Kind) → Arguments → Place → Chain → Result (List Hiding) Fault
-chain_tokens kind_of args used c = after_ok (operands_tokens kind_of (is_joined c.operands) args used c.operands) (λ lists. join_all kind_of [] lists used)
+abbrev pub chain_tokens : Arguments → Place → Chain → Result (List Hiding) Fault
+chain_tokens args used c = after_ok (operands_tokens (is_joined c.operands) args used c.operands) (λ lists. join_all [] lists used)
 
 -- ---- the replacement
 
@@ -142,17 +133,17 @@ mark_first mark [] = record { tokens = []; pending = mark }
 mark_first mark (t ∷ ts) = record { tokens = with_mark mark t ∷ ts; pending = false }
 
 -- `first`: the chain is the replacement list's first, whose own mark does not count
-abbrev pub chains_tokens : (List ℕ → Option Kind) → Arguments → Place → Bool → Bool → List Chain → Result Marked Fault
-chains_tokens kind_of args used pending first [] = Ok (record { tokens = []; pending = pending })
-chains_tokens kind_of args used pending first (c ∷ cs) =
-    after_ok (chain_tokens kind_of args used c) (λ ts.
+abbrev pub chains_tokens : Arguments → Place → Bool → Bool → List Chain → Result Marked Fault
+chains_tokens args used pending first [] = Ok (record { tokens = []; pending = pending })
+chains_tokens args used pending first (c ∷ cs) =
+    after_ok (chain_tokens args used c) (λ ts.
     let here : Marked = mark_first (pending || (not first && c.mark)) ts in
-    after_ok (chains_tokens kind_of args used here.pending false cs) (λ rest. Ok (record { tokens = here.tokens ++ rest.tokens; pending = rest.pending })))
+    after_ok (chains_tokens args used here.pending false cs) (λ rest. Ok (record { tokens = here.tokens ++ rest.tokens; pending = rest.pending })))
 
 -- each token gains the names, and is used where the macro's name is
 abbrev pub gained : HideSet → Place → Hiding → Hiding
 gained gain used t = record { token = record t.token { used = used }; hide = set.union t.hide gain }
 
 -- the tokens with the pending mark, or the first of the faults 19 and 20 in the order of work
-abbrev pub substituted : (List ℕ → Option Kind) → Definition → Arguments → HideSet → Place → Bool → Result Marked Fault
-substituted kind_of d args gain used space = after_ok (chains_tokens kind_of args used space true (chains_of d)) (λ m. Ok (record m { tokens = map (gained gain used) m.tokens }))
+abbrev pub substituted : Definition → Arguments → HideSet → Place → Bool → Result Marked Fault
+substituted d args gain used space = after_ok (chains_tokens args used space true (chains_of d)) (λ m. Ok (record m { tokens = map (gained gain used) m.tokens }))

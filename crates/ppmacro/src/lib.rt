@@ -15,5 +15,6 @@ mod tests;
 pub use defining::{define, undef};
 pub use hide_sets::{Hidden, HideSets, Set};
 pub use macros::{Builtin, Chain, Chains, Definition, Macro, Names, Operand, Operands, Shape};
-pub use substituting::substitute;
+pub use spellings::{is_identifier, is_punct};
+pub use substituting::{paste, push_escaped, stringize, substitute, tells_each_kind};
 pub use tables::Table;

@@ -6,7 +6,7 @@ use pptext::{Fault, Kind, Place, Spelling, Token};
 use std::alloc::{AllocError, Global};
 
 /// Whether a token is an identifier.
-pub(crate) fn is_identifier(token: &Token) -> bool
+pub fn is_identifier(token: &Token) -> bool
     ensures { result ≡ is_identifier token.now }
 {
     matches!(token.kind, Kind::Ident)
@@ -20,7 +20,7 @@ pub(crate) fn is_name(token: &Token, text: &[u8]) -> bool
 }
 
 /// Whether a token is the punctuator that is spelled so.
-pub(crate) fn is_punct(token: &Token, text: &[u8]) -> bool
+pub fn is_punct(token: &Token, text: &[u8]) -> bool
     ensures { result ≡ is_punct text.now token.now }
 {
     matches!(token.kind, Kind::Punct) && token.text.as_bytes() == text

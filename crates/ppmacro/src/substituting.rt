@@ -1,9 +1,8 @@
 // What an invocation is replaced by (6.10.3.1 to 6.10.3.3).
-ghost use Rattle.std.specs.Prelude.{◌≡◌, ◌++◌, ◌∷◌, IfOk, OnOk, List, [], ℕ, Option, map, true, not, ◌||◌, ◌&&◌};
-ghost use Rattle.pptext.specs.declared.tokens.Kind.{Kind};
+ghost use Rattle.std.specs.Prelude.{◌≡◌, ◌++◌, ◌∷◌, IfOk, OnOk, [], map, true, not, ◌||◌, ◌&&◌};
 ghost use Rattle.ppmacro.specs.Numbered.{Numbered};
 ghost use Rattle.ppmacro.specs.HideSets.{set_at, IsKnown, hiding, hidings, AllKnown, Keeps};
-ghost use Rattle.ppmacro.specs.Substitution.{IsLexer, is_joined, chain_tokens, mark_first, chains_tokens, gained, substituted};
+ghost use Rattle.ppmacro.specs.Substitution.{is_joined, chain_tokens, mark_first, chains_tokens, gained, substituted};
 ghost use Rattle.ppmacro.specs.Substituting.{ArgumentsKnown, arguments_in, list_in, marked_in};
 
 mod joining;
@@ -13,7 +12,10 @@ mod pasting;
 mod stringizing;
 
 use self::joining::{join_all, push_all};
+pub use self::lexing::tells_each_kind;
 use self::operands::operands_tokens;
+pub use self::pasting::paste;
+pub use self::stringizing::{push_escaped, stringize};
 use crate::hide_sets::{Hidden, HideSets, Set};
 use crate::macros::{Chain, Macro, Operand};
 use pptext::{Fault, Memory, Place};
@@ -36,7 +38,7 @@ fn chain_tokens(
     chain: &Chain,
 ) -> Result<Result<Vec<Hidden>, Fault>, Memory>
     requires { ArgumentsKnown sets.old given.now expanded.now }
-    ensures is { IfOk result (λ r. (kinds : List ℕ → Option Kind) → IsLexer kinds → list_in sets.new r ≡ chain_tokens kinds (arguments_in sets.old given.now expanded.now) used chain.now) }
+    ensures is { IfOk result (λ r. list_in sets.new r ≡ chain_tokens (arguments_in sets.old given.now expanded.now) used chain.now) }
     ensures known { IfOk result (λ r. IfOk r (λ v. AllKnown sets.new v.items)) }
     ensures keeps { Keeps sets.old sets.new }
 {
@@ -86,7 +88,7 @@ fn chains_tokens(
     chains: &[Chain],
 ) -> Result<Result<(Vec<Hidden>, bool), Fault>, Memory>
     requires { ArgumentsKnown sets.old given.now expanded.now }
-    ensures is { IfOk result (λ r. (kinds : List ℕ → Option Kind) → IsLexer kinds → marked_in sets.new r ≡ chains_tokens kinds (arguments_in sets.old given.now expanded.now) used space true chains.now) }
+    ensures is { IfOk result (λ r. marked_in sets.new r ≡ chains_tokens (arguments_in sets.old given.now expanded.now) used space true chains.now) }
     ensures known { IfOk result (λ r. IfOk r (λ m. AllKnown sets.new m.0.items)) }
     ensures keeps { Keeps sets.old sets.new }
 {
@@ -164,7 +166,7 @@ pub fn substitute(
 ) -> Result<Result<(Vec<Hidden>, bool), Fault>, Memory>
     requires arguments { ArgumentsKnown sets.old given.now expanded.now }
     requires gain { IsKnown sets.old gain }
-    ensures is { IfOk result (λ r. (kinds : List ℕ → Option Kind) → IsLexer kinds → marked_in sets.new r ≡ substituted kinds replaced.now (arguments_in sets.old given.now expanded.now) (set_at sets.old gain) used space) }
+    ensures is { IfOk result (λ r. marked_in sets.new r ≡ substituted replaced.now (arguments_in sets.old given.now expanded.now) (set_at sets.old gain) used space) }
     ensures known { IfOk result (λ r. IfOk r (λ m. AllKnown sets.new m.0.items)) }
     ensures keeps { Keeps sets.old sets.new }
 {

@@ -1,257 +1,84 @@
-// Definitions, tables and hide sets on the standard's rules.
-use crate::{HideSets, Set, Table, define, undef};
-use pptext::{Fault, Kind, Memory, Place, Spelling, Token};
+// Lines that the tests read, and what their tokens spell. `rt try --test --fail-alloc N` refuses each test its Nth request
+// for memory. Where a call that is tested meets the refusal, the test looks at what the call left, and calls again.
+mod definitions;
+mod hide_sets;
+mod substitution;
+
+use crate::{Shape, Table, define, undef};
+use pptext::{Fault, Memory, Place, Token, read_source};
 use std::alloc::{AllocError, Global};
 use std::test::Fail;
 
-const AT: Place = Place {
+/// Where the `#` of a line stands.
+const HASH: Place = Place {
     file: 3,
-    line: 7,
+    line: 1,
     col: 1,
 };
 
-/// The token that is spelled so; a space before the spelling is its space mark.
-fn token(alloc: Global, spelled: &str) -> Result<Token, AllocError> {
-    let (space, text) = match spelled.as_bytes() {
-        [b' ', text @ ..] => (true, text),
-        text => (false, text),
+/// The tokens of a line.
+fn lexed(alloc: Global, line: &str) -> Result<Vec<Token>, Fail> {
+    if line.len() > 1_000 {
+        return Err(Fail::new("a long line"));
+    }
+    let source = read_source(alloc, line.as_bytes(), HASH.file)?;
+    Ok(Vec::from_clones(alloc, source.tokens())?)
+}
+
+/// What a `#define` or `#undef` line does to a table.
+fn directed(alloc: Global, table: &mut Table, line: &[Token]) -> Result<Result<(), Fault>, Memory> {
+    let [hash, name, rest @ ..] = line else {
+        return Ok(Ok(()));
     };
-    let kind = match text.first() {
-        Some(b'a'..=b'z' | b'A'..=b'Z' | b'_') => Kind::Ident,
-        Some(b'0'..=b'9') => Kind::Number,
-        Some(b'"') => Kind::Str,
-        Some(b'\'') => Kind::CharConst,
-        _ => Kind::Punct,
+    if name.text.as_bytes() == b"define".as_slice() {
+        return define(alloc, table, hash.at, rest);
+    }
+    undef(alloc, table, hash.at, rest)
+}
+
+/// Puts a token's spelling behind a text, and a space before it where it has a mark.
+fn push_spelled(text: &mut Vec<u8>, token: &Token) -> Result<(), AllocError> {
+    if token.space {
+        text.push(b' ')?;
+    }
+    text.extend_from_slice(token.text.as_bytes())
+}
+
+/// Puts a list of parameters behind a text.
+fn push_parameters(text: &mut Vec<u8>, shape: &Shape) -> Result<(), AllocError> {
+    let Shape::FunctionLike {
+        parameters,
+        variadic,
+    } = shape
+    else {
+        return Ok(());
     };
-    Ok(Token {
-        kind,
-        text: Spelling::new(Vec::from_slice(alloc, text)?),
-        space,
-        at: AT,
-        used: AT,
-    })
-}
-
-fn line(alloc: Global, spellings: &[&str]) -> Result<Vec<Token>, AllocError> {
-    let mut tokens = Vec::new(alloc);
-    for spelled in spellings {
-        tokens.push(token(alloc, spelled)?)?;
+    text.push(b'(')?;
+    for name in parameters.as_slice() {
+        text.extend_from_slice(name.as_bytes())?;
+        text.push(b',')?;
     }
-    Ok(tokens)
-}
-
-/// The number and the text of the fault that a line behind `define` raises.
-fn defined(
-    alloc: Global,
-    table: &mut Table,
-    spellings: &[&str],
-) -> Result<Result<(), Fault>, Memory> {
-    let tokens = line(alloc, spellings)?;
-    define(alloc, table, AT, tokens.as_slice())
-}
-
-#[test]
-fn judges_definitions_in_order(rt: HostRuntime) -> Result<(), Fail> {
-    let alloc = rt.alloc();
-    let mut table = Table::new(alloc)?;
-    for (spellings, number, text) in [
-        ([].as_slice(), 9, "define"),
-        (["1"].as_slice(), 9, "define"),
-        (["__LINE__", " 1"].as_slice(), 10, "__LINE__"),
-        (["__STDC_HOSTED__"].as_slice(), 10, "__STDC_HOSTED__"),
-        (["defined", "+"].as_slice(), 10, "defined"),
-        (["__VA_ARGS__"].as_slice(), 10, "__VA_ARGS__"),
-        (["f", "(", "a", ",", "a", ")", " a"].as_slice(), 11, "f"),
-        (["f", "(", "a", ",", ")"].as_slice(), 11, "f"),
-        (
-            ["f", "(", "a", ",", "...", ",", "b", ")"].as_slice(),
-            11,
-            "f",
-        ),
-        (["f", "(", ".", " .", " .", ")"].as_slice(), 11, "f"),
-        (["f", "(", "a", " b", ")"].as_slice(), 11, "f"),
-        (["f", "("].as_slice(), 11, "f"),
-        (
-            ["f", "(", "__VA_ARGS__", ",", "__VA_ARGS__", ")"].as_slice(),
-            11,
-            "f",
-        ),
-        (
-            ["f", "(", "__VA_ARGS__", ",", "...", ")"].as_slice(),
-            15,
-            "f",
-        ),
-        (["X", "+", "1"].as_slice(), 12, "X"),
-        (["X", " __VA_ARGS__", " ##"].as_slice(), 15, "X"),
-        (["f", "(", "a", ")", " __VA_ARGS__"].as_slice(), 15, "f"),
-        (["X", " ##", " a"].as_slice(), 13, "X"),
-        (["X", " a", " ##"].as_slice(), 13, "X"),
-        (["X", " a", " ##", " %:%:", " b"].as_slice(), 13, "X"),
-        (
-            ["f", "(", "a", ")", " #", " ##", " a", " ##"].as_slice(),
-            13,
-            "f",
-        ),
-        (["f", "(", "a", ")", " #", " b"].as_slice(), 14, "f"),
-        (["f", "(", "a", ")", " a", " %:"].as_slice(), 14, "f"),
-    ] {
-        match defined(alloc, &mut table, spellings)? {
-            Ok(()) => assert!(rt; false, "{spellings:?} is defined"),
-            Err(fault) => {
-                assert_eq!(rt; fault.number, number, "{spellings:?}");
-                assert_eq!(rt; fault.at, AT);
-                assert_eq!(rt; fault.text.as_bytes(), text.as_bytes(), "{spellings:?}");
-            }
-        }
-        assert!(rt; table.get(b"f").is_none() && table.get(b"X").is_none());
+    if *variadic {
+        text.extend_from_slice(b"...")?;
     }
-    for spellings in [
-        ["O", " (", "1", "-", "1", ")"].as_slice(),
-        ["X", " # ", " 1"].as_slice(),
-        ["hash_hash", " #", " ##", " #"].as_slice(),
-        ["e", "(", ")"].as_slice(),
-        [
-            "g",
-            "(",
-            "defined",
-            ",",
-            " __LINE__",
-            ")",
-            " #",
-            " __LINE__",
-        ]
-        .as_slice(),
-        ["v", "(", "...", ")", " #", "__VA_ARGS__"].as_slice(),
-        ["w", "(", "a", ",", "...", ")", "a", "##", "__VA_ARGS__"].as_slice(),
-    ] {
-        assert!(rt;
-            defined(alloc, &mut table, spellings)?.is_ok(),
-            "{spellings:?}"
-        );
-    }
+    text.push(b')')?;
     Ok(())
 }
 
-#[test]
-fn compares_definitions(rt: HostRuntime) -> Result<(), Fail> {
-    let alloc = rt.alloc();
-    for (first, second, agree) in [
-        (
-            ["O", " (", "1", ")"].as_slice(),
-            ["O", "  (", "1", ")"].as_slice(),
-            false,
-        ),
-        (
-            ["O", " (", "1", ")"].as_slice(),
-            ["O", " (", "1", ")"].as_slice(),
-            true,
-        ),
-        (
-            ["O", " (", "1", ")"].as_slice(),
-            ["O", " (", " 1", ")"].as_slice(),
-            false,
-        ),
-        (["O", " 1"].as_slice(), ["O"].as_slice(), false),
-        (["O"].as_slice(), ["O"].as_slice(), true),
-        (
-            ["f", "(", "a", ")", "x"].as_slice(),
-            ["f", "(", "a", ")", " x"].as_slice(),
-            true,
-        ),
-        (
-            ["f", "(", "a", ")", "1"].as_slice(),
-            ["f", "(", "b", ")", "1"].as_slice(),
-            false,
-        ),
-        (
-            ["f", "(", "a", ")", "#", "a"].as_slice(),
-            ["f", "(", "a", ")", "%:", "a"].as_slice(),
-            false,
-        ),
-        (["f", "(", ")"].as_slice(), ["f"].as_slice(), false),
-        (
-            ["f", "(", "...", ")"].as_slice(),
-            ["f", "(", ")"].as_slice(),
-            false,
-        ),
-    ] {
-        let mut table = Table::new(alloc)?;
-        assert!(rt; defined(alloc, &mut table, first)?.is_ok(), "{first:?}");
-        match defined(alloc, &mut table, second)? {
-            Ok(()) => assert!(rt; agree, "{second:?}"),
-            Err(fault) => assert!(rt; !agree && fault.number == 16, "{second:?}"),
-        }
+/// The definition of a name, with each parameter followed by a comma, as `(a,b,...) a` or ` 1`; or `none`.
+fn shown(alloc: Global, table: &Table, name: &str) -> Result<Vec<u8>, AllocError> {
+    let mut text = Vec::new(alloc);
+    let Some(found) = table.get(name.as_bytes()) else {
+        text.extend_from_slice(b"none")?;
+        return Ok(text);
+    };
+    let definition = found.definition();
+    if matches!(definition.shape, Shape::Predefined(_)) {
+        text.extend_from_slice(b"predefined")?;
     }
-    Ok(())
-}
-
-#[test]
-fn takes_macros_out(rt: HostRuntime) -> Result<(), Fail> {
-    let alloc = rt.alloc();
-    let mut table = Table::new(alloc)?;
-    for (spellings, number, text) in [
-        ([].as_slice(), 9, "undef"),
-        (["X", " Y"].as_slice(), 9, "undef"),
-        (["1"].as_slice(), 9, "undef"),
-        (["__FILE__"].as_slice(), 10, "__FILE__"),
-        (["__VA_ARGS__"].as_slice(), 10, "__VA_ARGS__"),
-    ] {
-        let tokens = line(alloc, spellings)?;
-        match undef(alloc, &mut table, AT, tokens.as_slice())? {
-            Ok(()) => assert!(rt; false, "{spellings:?} is taken out"),
-            Err(fault) => {
-                assert_eq!(rt; fault.number, number, "{spellings:?}");
-                assert_eq!(rt; fault.text.as_bytes(), text.as_bytes(), "{spellings:?}");
-            }
-        }
+    push_parameters(&mut text, &definition.shape)?;
+    for token in definition.body.as_slice() {
+        push_spelled(&mut text, token)?;
     }
-    let name = line(alloc, &["X"])?;
-    assert!(rt; undef(alloc, &mut table, AT, name.as_slice())?.is_ok());
-    assert!(rt; defined(alloc, &mut table, &["X", " 1", " 2"])?.is_ok());
-    let found = table.get(b"X").ok_or("no X")?;
-    assert_eq!(rt; found.definition().body.as_slice().len(), 2);
-    assert!(rt; undef(alloc, &mut table, AT, name.as_slice())?.is_ok());
-    assert!(rt; table.get(b"X").is_none());
-    Ok(())
-}
-
-#[test]
-fn joins_operands_in_chains(rt: HostRuntime) -> Result<(), Fail> {
-    let alloc = rt.alloc();
-    let mut table = Table::new(alloc)?;
-    let spellings = ["f", "(", "a", ")", " x", " ##", " #", "a", "##", "a", " y"];
-    assert!(rt; defined(alloc, &mut table, &spellings)?.is_ok());
-    let found = table.get(b"f").ok_or("no f")?;
-    let chains = found.chains();
-    assert_eq!(rt; chains.len(), 2);
-    assert!(rt; chains[0].mark && chains[1].mark);
-    assert_eq!(rt; chains[0].operands.as_slice().len(), 3);
-    assert_eq!(rt; chains[1].operands.as_slice().len(), 1);
-    Ok(())
-}
-
-#[test]
-fn hides_names(rt: HostRuntime) -> Result<(), Fail> {
-    let mut sets = HideSets::new(rt.alloc())?;
-    let none = sets.empty();
-    let a = sets.with(none, b"a")?;
-    let ab = sets.with(a, b"b")?;
-    let b = sets.with(none, b"b")?;
-    let either = sets.union(a, b)?;
-    let both = sets.meet(ab, b)?;
-    for (set, name, is_in) in [
-        (none, b"a", false),
-        (a, b"a", true),
-        (a, b"b", false),
-        (ab, b"a", true),
-        (ab, b"b", true),
-        (either, b"a", true),
-        (either, b"b", true),
-        (both, b"a", false),
-        (both, b"b", true),
-    ] {
-        assert!(rt; sets.knows(set));
-        assert_eq!(rt; sets.has(set, name), is_in);
-    }
-    Ok(())
+    Ok(text)
 }

@@ -1,8 +1,7 @@
 // Lists that `##` joins (6.10.3.3).
-ghost use Rattle.std.specs.Prelude.{◌≡◌, ◌++◌, ◌∷◌, IfOk, OnOk, List, [], ℕ, Option, map};
-ghost use Rattle.pptext.specs.declared.tokens.Kind.{Kind};
+ghost use Rattle.std.specs.Prelude.{◌≡◌, ◌++◌, ◌∷◌, IfOk, OnOk, [], map};
 ghost use Rattle.ppmacro.specs.HideSets.{hidings, AllKnown, Keeps};
-ghost use Rattle.ppmacro.specs.Substitution.{IsLexer, join, join_all};
+ghost use Rattle.ppmacro.specs.Substitution.{join, join_all};
 ghost use Rattle.ppmacro.specs.Substituting.{lists_of, ListsKnown, list_in, left_in};
 
 use crate::hide_sets::{Hidden, HideSets};
@@ -38,7 +37,7 @@ fn join(
 ) -> Result<Result<(), Fault>, Memory>
     requires left { AllKnown sets.old left.old.items }
     requires right { AllKnown sets.old right.now }
-    ensures is { IfOk result (λ r. (kinds : List ℕ → Option Kind) → IsLexer kinds → left_in sets.new left.new.items r ≡ join kinds (hidings sets.old left.old.items) (hidings sets.old right.now) used) }
+    ensures is { IfOk result (λ r. left_in sets.new left.new.items r ≡ join (hidings sets.old left.old.items) (hidings sets.old right.now) used) }
     ensures known { IfOk result (λ r. OnOk r (AllKnown sets.new left.new.items)) }
     ensures keeps { Keeps sets.old sets.new }
 {
@@ -70,7 +69,7 @@ pub(crate) fn join_all(
     used: Place,
 ) -> Result<Result<Vec<Hidden>, Fault>, Memory>
     requires { ListsKnown sets.old lists.now }
-    ensures is { IfOk result (λ r. (kinds : List ℕ → Option Kind) → IsLexer kinds → list_in sets.new r ≡ join_all kinds [] (map (hidings sets.old) (lists_of lists.now)) used) }
+    ensures is { IfOk result (λ r. list_in sets.new r ≡ join_all [] (map (hidings sets.old) (lists_of lists.now)) used) }
     ensures known { IfOk result (λ r. IfOk r (λ v. AllKnown sets.new v.items)) }
     ensures keeps { Keeps sets.old sets.new }
 {

@@ -1,14 +1,18 @@
 // Which token a text is.
-ghost use Rattle.std.specs.Prelude.{◌≡◌, List, ℕ, Option};
-ghost use Rattle.pptext.specs.declared.tokens.Kind.{Kind};
-ghost use Rattle.ppmacro.specs.Substitution.{IsLexer};
+ghost use Rattle.std.specs.Prelude.{◌≡◌};
+ghost use Rattle.pptext.specs.Lexing.{IsLexer};
+ghost use Rattle.ppmacro.specs.Lexing.{kind_of};
 
-use pptext::{Kind, one_cut, relex};
+use pptext::{Kind, relex};
 
 /// The kind of the one token that a text is, but for a lone quote.
 pub(crate) fn kind_of(text: &[u8]) -> Option<Kind>
-    ensures { (kinds : List ℕ → Option Kind) → IsLexer kinds → result ≡ kinds text.now }
+    ensures { result ≡ kind_of text.now }
 {
-    one_cut();
     relex(text)
 }
+
+/// A law: `kind_of` is the kind of the one token that each text is (6.4), but for a lone quote.
+pub fn tells_each_kind()
+    ensures { IsLexer kind_of }
+{}

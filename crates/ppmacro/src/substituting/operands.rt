@@ -1,14 +1,13 @@
 // What an operand stands for (6.10.3.1, 6.10.3.2).
-ghost use Rattle.std.specs.Prelude.{◌≡◌, IfOk, List, [], ◌∷◌, ℕ, Option, Ok};
-ghost use Rattle.pptext.specs.declared.tokens.Kind.{Kind};
+ghost use Rattle.std.specs.Prelude.{◌≡◌, ◌++◌, IfOk, OnOk, [], ◌∷◌, Ok};
 ghost use Rattle.ppmacro.specs.HideSets.{hidings, AllKnown};
-ghost use Rattle.ppmacro.specs.Substitution.{IsLexer, argument_at, expanded_at, plain, after_ok, stringized, operand_tokens, operands_tokens};
+ghost use Rattle.ppmacro.specs.Substitution.{argument_at, expanded_at, plain, after_ok, stringized, operand_tokens, operands_tokens};
 ghost use Rattle.ppmacro.specs.Substituting.{lists_of, options_of, ArgumentsKnown, arguments_in, tokens_of, list_in, lists_in, ListsKnown};
 
 use crate::hide_sets::{Hidden, HideSets};
 use crate::macros::Operand;
 use crate::substituting::stringizing::stringize;
-use pptext::{Fault, Place, Token};
+use pptext::{Fault, Memory, Place, Token};
 use std::alloc::{AllocError, Global};
 
 // The tokens of an argument.
@@ -59,8 +58,8 @@ fn literal(
     argument: &[Hidden],
     at: Place,
     used: Place,
-) -> Result<Result<Vec<Hidden>, Fault>, AllocError>
-    ensures is { IfOk result (λ r. (kinds : List ℕ → Option Kind) → IsLexer kinds → list_in sets.now r ≡ after_ok (stringized kinds (tokens_of argument.now) at used) (λ t. Ok (t ∷ []))) }
+) -> Result<Result<Vec<Hidden>, Fault>, Memory>
+    ensures is { IfOk result (λ r. list_in sets.now r ≡ after_ok (stringized (tokens_of argument.now) at used) (λ t. Ok (t ∷ []))) }
     ensures known { IfOk result (λ r. IfOk r (λ v. AllKnown sets.now v.items)) }
 {
     match stringize(alloc, sets, argument, at, used)? {
@@ -78,9 +77,9 @@ pub(crate) fn operand_tokens(
     expanded: &[Option<Vec<Hidden>>],
     used: Place,
     operand: &Operand,
-) -> Result<Result<Vec<Hidden>, Fault>, AllocError>
+) -> Result<Result<Vec<Hidden>, Fault>, Memory>
     requires { ArgumentsKnown sets.now given.now expanded.now }
-    ensures is { IfOk result (λ r. (kinds : List ℕ → Option Kind) → IsLexer kinds → list_in sets.now r ≡ operand_tokens kinds beside (arguments_in sets.now given.now expanded.now) used operand.now) }
+    ensures is { IfOk result (λ r. list_in sets.now r ≡ operand_tokens beside (arguments_in sets.now given.now expanded.now) used operand.now) }
     ensures known { IfOk result (λ r. IfOk r (λ v. AllKnown sets.now v.items)) }
 {
     match operand {
@@ -98,6 +97,14 @@ pub(crate) fn operand_tokens(
     }
 }
 
+// Puts a list behind the others.
+fn push_list(lists: &mut Vec<Vec<Hidden>>, tokens: Vec<Hidden>) -> Result<(), AllocError>
+    ensures { OnOk result (lists.new.items ≡ lists.old.items ++ tokens ∷ []) }
+{
+    lists.push(tokens)?;
+    Ok(())
+}
+
 /// The tokens of each operand of a chain, or the first fault 20.
 pub(crate) fn operands_tokens(
     alloc: Global,
@@ -107,15 +114,15 @@ pub(crate) fn operands_tokens(
     expanded: &[Option<Vec<Hidden>>],
     used: Place,
     operands: &[Operand],
-) -> Result<Result<Vec<Vec<Hidden>>, Fault>, AllocError>
+) -> Result<Result<Vec<Vec<Hidden>>, Fault>, Memory>
     requires { ArgumentsKnown sets.now given.now expanded.now }
-    ensures is { IfOk result (λ r. (kinds : List ℕ → Option Kind) → IsLexer kinds → lists_in sets.now r ≡ operands_tokens kinds beside (arguments_in sets.now given.now expanded.now) used operands.now) }
+    ensures is { IfOk result (λ r. lists_in sets.now r ≡ operands_tokens beside (arguments_in sets.now given.now expanded.now) used operands.now) }
     ensures known { IfOk result (λ r. IfOk r (λ v. ListsKnown sets.now v.items)) }
 {
     let mut lists = Vec::new(alloc);
     for operand in operands {
         match operand_tokens(alloc, sets, beside, given, expanded, used, operand)? {
-            Ok(tokens) => lists.push(tokens)?,
+            Ok(tokens) => push_list(&mut lists, tokens)?,
             Err(fault) => return Ok(Err(fault)),
         }
     }

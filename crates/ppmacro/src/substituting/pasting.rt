@@ -1,8 +1,7 @@
 // `##` (6.10.3.3).
-ghost use Rattle.std.specs.Prelude.{◌≡◌, ◌++◌, IfOk, List, ℕ, Option};
-ghost use Rattle.pptext.specs.declared.tokens.Kind.{Kind};
+ghost use Rattle.std.specs.Prelude.{◌≡◌, ◌++◌, IfOk};
 ghost use Rattle.ppmacro.specs.HideSets.{hiding, IsKnown, Keeps};
-ghost use Rattle.ppmacro.specs.Substitution.{IsLexer, pasted};
+ghost use Rattle.ppmacro.specs.Substitution.{pasted};
 ghost use Rattle.ppmacro.specs.Substituting.{hidden_in};
 
 use crate::hide_sets::{Hidden, HideSets};
@@ -20,8 +19,10 @@ fn both(alloc: Global, left: &Token, right: &Token) -> Result<Vec<u8>, AllocErro
     Ok(text)
 }
 
-/// Two tokens as one. `used` is the place of the macro's name. Fault 19 where both spellings are no one token.
-pub(crate) fn paste(
+/// Two tokens as one (6.10.3.3), with the left one's place and space mark, and with the names that both are not replaced by.
+/// `used` is the place of the macro's name. Fault 19, at that place with both spellings, where they are no one token or a lone
+/// quote. Whatever the answer is, sets that were there keep their names.
+pub fn paste(
     alloc: Global,
     sets: &mut HideSets,
     left: &Hidden,
@@ -30,7 +31,7 @@ pub(crate) fn paste(
 ) -> Result<Result<Hidden, Fault>, Memory>
     requires left { IsKnown sets.old left.now.hide }
     requires right { IsKnown sets.old right.now.hide }
-    ensures is { IfOk result (λ r. (kinds : List ℕ → Option Kind) → IsLexer kinds → hidden_in sets.new r ≡ pasted kinds (hiding sets.old left.now) (hiding sets.old right.now) used) }
+    ensures is { IfOk result (λ r. hidden_in sets.new r ≡ pasted (hiding sets.old left.now) (hiding sets.old right.now) used) }
     ensures known { IfOk result (λ r. IfOk r (λ h. IsKnown sets.new h.hide)) }
     ensures keeps { Keeps sets.old sets.new }
 {

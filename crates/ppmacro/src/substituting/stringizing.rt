@@ -1,18 +1,17 @@
 // `#` (6.10.3.2).
-ghost use Rattle.std.specs.Prelude.{◌≡◌, ◌++◌, ◌∷◌, [], IfOk, OnOk, List, ℕ, Option};
-ghost use Rattle.pptext.specs.declared.tokens.Kind.{Kind};
+ghost use Rattle.std.specs.Prelude.{◌≡◌, ◌++◌, IfOk, OnOk};
 ghost use Rattle.ppmacro.specs.HideSets.{IsKnown};
-ghost use Rattle.ppmacro.specs.Substitution.{IsLexer, escaped, spelled_space, spelled_in_string, string_text, stringized};
+ghost use Rattle.ppmacro.specs.Substitution.{escaped, spelled_space, spelled_in_string, string_text, stringized};
 ghost use Rattle.ppmacro.specs.Substituting.{tokens_of, hidden_in};
 
 use crate::hide_sets::{Hidden, HideSets};
 use crate::spellings::fault;
 use crate::substituting::lexing::kind_of;
-use pptext::{Fault, Kind, Place, Spelling, Token};
+use pptext::{Fault, Kind, Memory, Place, Spelling, Token};
 use std::alloc::{AllocError, Global};
 
-// Puts a literal's spelling behind a text, with `\` before each `"` and `\`.
-fn push_escaped(text: &mut Vec<u8>, spelling: &[u8]) -> Result<(), AllocError>
+/// Puts a literal's spelling behind a text, with `\` before each `"` and `\`.
+pub fn push_escaped(text: &mut Vec<u8>, spelling: &[u8]) -> Result<(), AllocError>
     ensures { OnOk result (text.new.items ≡ text.old.items ++ escaped spelling.now) }
 {
     for byte in spelling {
@@ -59,15 +58,16 @@ fn string_text(alloc: Global, argument: &[Hidden]) -> Result<Vec<u8>, AllocError
     Ok(text)
 }
 
-/// The string literal of an argument. `at` is the place of `#`, `used` that of the macro's name. Fault 20 where the text is none.
-pub(crate) fn stringize(
+/// The string literal of an argument (6.10.3.2), without space mark and with the empty set. `at` is the place of `#`, `used`
+/// that of the macro's name. Fault 20, at that place with the text, where the text is no string literal.
+pub fn stringize(
     alloc: Global,
     sets: &HideSets,
     argument: &[Hidden],
     at: Place,
     used: Place,
-) -> Result<Result<Hidden, Fault>, AllocError>
-    ensures is { IfOk result (λ r. (kinds : List ℕ → Option Kind) → IsLexer kinds → hidden_in sets.now r ≡ stringized kinds (tokens_of argument.now) at used) }
+) -> Result<Result<Hidden, Fault>, Memory>
+    ensures is { IfOk result (λ r. hidden_in sets.now r ≡ stringized (tokens_of argument.now) at used) }
     ensures known { IfOk result (λ r. IfOk r (λ h. IsKnown sets.now h.hide)) }
 {
     let text = string_text(alloc, argument)?;

@@ -1,35 +1,34 @@
-use Rattle.std.proofs.Common.{◌≡◌, ◌∙◌, sym, ap, subst, List, [], ◌∷◌, ◌++◌, drop, Ok, Err}
+use Rattle.std.proofs.Common.{◌≡◌, ◌∙◌, sym, ap, subst, [], ◌∷◌, ◌++◌, drop, Ok, Err}
 use Rattle.ppmacro.specs.HideSets.{IsKnown, hiding, hidings, AllKnown}
 use Rattle.ppmacro.specs.Substitution.{join, pasted}
 use Rattle.ppmacro.specs.Substituting.{hidden_in}
 use Rattle.std.proofs.lemmas.List.{take_rest}
 use Rattle.std.proofs.lemmas.Result.{IfOk-at_ok}
-use Rattle.ppmacro.specs.declared.hide_sets.Hidden.{Hidden}
 use Rattle.ppmacro.proofs.JoinLemmas.{split-first, no-first, join-nothing, join-pasted, join-refused, known-joined, known-last}
 use Rattle.ppmacro.proofs.substituting.joining.join.Goals as goal
 
 pub returns-in-None-clause-is : goal.returns-in-None-clause-is
-returns-in-None-clause-is c = λ kinds lexer.
+returns-in-None-clause-is c =
     let none : c.args.right.now ≡ [] = no-first c.args.right.now c.in-None.ensures.value in
-    join-nothing kinds (hidings c.args.sets.now c.args.left.now.items) c.args.used
-    ∙ ap (λ hs. join kinds (hidings c.args.sets.now c.args.left.now.items) (hidings c.args.sets.now hs) c.args.used) (sym none)
+    join-nothing (hidings c.args.sets.now c.args.left.now.items) c.args.used
+    ∙ ap (λ hs. join (hidings c.args.sets.now c.args.left.now.items) (hidings c.args.sets.now hs) c.args.used) (sym none)
 
 pub paste-requires-clause-left : goal.paste-requires-clause-left
 paste-requires-clause-left c =
     known-last c.args.sets.now c.pop.new.self.items c.in-Some-pop.last (subst (AllKnown c.args.sets.now) c.in-Some-pop.ensures.items c.requires.left)
 
 pub returns-in-Ok-clause-is : goal.returns-in-Ok-clause-is
-returns-in-Ok-clause-is c = λ kinds lexer.
+returns-in-Ok-clause-is c =
     let s = c.args.sets.now in
     let t = c.paste.new.sets in
     let first = c.in-Some.first.now in
     let rest = drop 1 c.args.right.now in
     let left : c.args.left.now.items ≡ c.pop.new.self.items ++ c.in-Some-pop.last ∷ [] = c.in-Some-pop.ensures.items in
     let right : c.args.right.now ≡ first ∷ rest = split-first c.args.right.now first c.in-Some.ensures.value in
-    let one : Ok (hiding t c.in-Ok.hidden) ≡ pasted kinds (hiding s c.in-Some-pop.last) (hiding s first) c.args.used = ap (hidden_in t) (sym c.in-Ok.is) ∙ c.in_ok-hidden.ensures.is kinds lexer in
+    let one : Ok (hiding t c.in-Ok.hidden) ≡ pasted (hiding s c.in-Some-pop.last) (hiding s first) c.args.used = ap (hidden_in t) (sym c.in-Ok.is) ∙ c.in_ok-hidden.ensures.is in
     ap (λ hs. Ok (hidings t hs)) (c.in_ok-push_joined-in-Ok.ensures ∙ ap (λ hs. c.pop.new.self.items ++ c.in-Ok.hidden ∷ hs) (take_rest c.args.right.now 1))
-    ∙ join-pasted s t kinds c.pop.new.self.items c.in-Some-pop.last first c.in-Ok.hidden rest c.args.used c.in_ok-hidden.ensures.keeps (subst (AllKnown s) left c.requires.left) (subst (AllKnown s) right c.requires.right) one
-    ∙ (λ i. join kinds (hidings s (sym left i)) (hidings s (sym right i)) c.args.used)
+    ∙ join-pasted s t c.pop.new.self.items c.in-Some-pop.last first c.in-Ok.hidden rest c.args.used c.in_ok-hidden.ensures.keeps (subst (AllKnown s) left c.requires.left) (subst (AllKnown s) right c.requires.right) one
+    ∙ (λ i. join (hidings s (sym left i)) (hidings s (sym right i)) c.args.used)
 
 pub returns-in-Ok-clause-known : goal.returns-in-Ok-clause-known
 returns-in-Ok-clause-known c =
@@ -44,13 +43,13 @@ returns-in-Ok-clause-known c =
     subst (AllKnown t) (sym made) (known-joined s t c.pop.new.self.items c.in-Some-pop.last first c.in-Ok.hidden rest c.in_ok-hidden.ensures.keeps (subst (AllKnown s) left c.requires.left) (subst (AllKnown s) right c.requires.right) here)
 
 pub returns-clause-is : goal.returns-clause-is
-returns-clause-is c = λ kinds lexer.
+returns-clause-is c =
     let s = c.args.sets.now in
     let t = c.paste.new.sets in
     let first = c.in-Some.first.now in
     let rest = drop 1 c.args.right.now in
     let left : c.args.left.now.items ≡ c.pop.new.self.items ++ c.in-Some-pop.last ∷ [] = c.in-Some-pop.ensures.items in
     let right : c.args.right.now ≡ first ∷ rest = split-first c.args.right.now first c.in-Some.ensures.value in
-    let none : Err c.in-Err.fault ≡ pasted kinds (hiding s c.in-Some-pop.last) (hiding s first) c.args.used = ap (hidden_in t) (sym c.in-Err.is) ∙ c.in_ok-hidden.ensures.is kinds lexer in
-    join-refused s kinds c.pop.new.self.items c.in-Some-pop.last first rest c.args.used c.in-Err.fault none
-    ∙ (λ i. join kinds (hidings s (sym left i)) (hidings s (sym right i)) c.args.used)
+    let none : Err c.in-Err.fault ≡ pasted (hiding s c.in-Some-pop.last) (hiding s first) c.args.used = ap (hidden_in t) (sym c.in-Err.is) ∙ c.in_ok-hidden.ensures.is in
+    join-refused s c.pop.new.self.items c.in-Some-pop.last first rest c.args.used c.in-Err.fault none
+    ∙ (λ i. join (hidings s (sym left i)) (hidings s (sym right i)) c.args.used)

@@ -1,13 +1,12 @@
-use Rattle.std.proofs.Common.{◌≡◌, ℕ, List, [], Option, map, drop}
-use Rattle.pptext.specs.declared.tokens.Kind.{Kind}
+use Rattle.std.proofs.Common.{◌≡◌, [], map, drop}
 use Rattle.ppmacro.specs.HideSets.{hidings, AllKnown, Keeps}
-use Rattle.ppmacro.specs.Substitution.{IsLexer, join_all}
+use Rattle.ppmacro.specs.Substitution.{join_all}
 use Rattle.ppmacro.specs.Substituting.{lists_of, ListsKnown}
 use Rattle.ppmacro.proofs.substituting.joining.join_all.Given as goal
 
 abbrev pub invariant-loop-right : goal.invariant-loop-right
 invariant-loop-right l = record {
-  same : (kinds : List ℕ → Option Kind) → IsLexer kinds → join_all kinds (hidings l.sets l.left.items) (map (hidings l.initial.sets) (lists_of (drop l.right-index l.lists))) l.used ≡ join_all kinds [] (map (hidings l.initial.sets) (lists_of l.lists)) l.used;
+  same : join_all (hidings l.sets l.left.items) (map (hidings l.initial.sets) (lists_of (drop l.right-index l.lists))) l.used ≡ join_all [] (map (hidings l.initial.sets) (lists_of l.lists)) l.used;
   left_known : AllKnown l.sets l.left.items;
   rest_known : ListsKnown l.initial.sets (drop l.right-index l.lists);
   keeps : Keeps l.initial.sets l.sets;

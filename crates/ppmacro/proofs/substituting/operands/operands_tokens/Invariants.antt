@@ -1,12 +1,11 @@
-use Rattle.std.proofs.Common.{◌≡◌, ℕ, List, Option, map, drop}
-use Rattle.pptext.specs.declared.tokens.Kind.{Kind}
+use Rattle.std.proofs.Common.{◌≡◌, map, drop}
 use Rattle.ppmacro.specs.HideSets.{hidings}
-use Rattle.ppmacro.specs.Substitution.{IsLexer, operands_tokens}
+use Rattle.ppmacro.specs.Substitution.{operands_tokens}
 use Rattle.ppmacro.specs.Substituting.{lists_of, behind, arguments_in, ListsKnown}
 use Rattle.ppmacro.proofs.substituting.operands.operands_tokens.Given as goal
 
 abbrev pub invariant-loop-operand : goal.invariant-loop-operand
 invariant-loop-operand l = record {
-  same : (kinds : List ℕ → Option Kind) → IsLexer kinds → behind (map (hidings l.sets) (lists_of l.lists.items)) (operands_tokens kinds l.beside (arguments_in l.sets l.given l.expanded) l.used (drop l.operand-index l.operands)) ≡ operands_tokens kinds l.beside (arguments_in l.sets l.given l.expanded) l.used l.operands;
+  same : behind (map (hidings l.sets) (lists_of l.lists.items)) (operands_tokens l.beside (arguments_in l.sets l.given l.expanded) l.used (drop l.operand-index l.operands)) ≡ operands_tokens l.beside (arguments_in l.sets l.given l.expanded) l.used l.operands;
   known : ListsKnown l.sets l.lists.items;
 }
