@@ -86,5 +86,6 @@ pub shelf_turned : (gives : List ℕ → Content → Type 0) (names : List (List
 shelf_turned gives names old new s t = record {
   small = let l = t.len in let m = s.small in omega arith;
   named = s.named ∙ sym (names_turned gives old new t);
+  form = s.form;
   placed = placed_turned gives old new s.placed t;
 }

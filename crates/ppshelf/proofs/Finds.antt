@@ -1,7 +1,10 @@
 -- The first of several names that a shelf has.
-use Rattle.std.proofs.Common.{◌≡◌, ℕ, ◌+◌, suc, ◌<◌, ◌≤◌, List, [], ◌∷◌, ◌++◌, length, get_or, drop, drop-cons, Option, Some, None, IsSome, is_some, false, refl, sym, ap, ◌∙◌, subst, arith, inl, inr}
+use Rattle.std.proofs.Common.{◌≡◌, ℕ, ◌+◌, suc, ◌<◌, ◌≤◌, List, [], ◌∷◌, ◌++◌, length, get_or, drop, drop-cons, Option, Some, None, IfSome, IsSome, is_some, false, refl, sym, ap, ◌∙◌, subst, arith, inl, inr}
 use Rattle.std.proofs.lemmas.Grind.{common_steps}
-use Rattle.std.proofs.lemmas.Bool.{false≢true}
+use Rattle.std.proofs.lemmas.Bool.{cases_lt, false≢true}
+use Rattle.std.proofs.lemmas.List.{length-map}
+use Rattle.ppshelf.specs.Names.{AreNames, IsRowOf}
+use Rattle.ppshelf.specs.Shelved.{Spot, names_of}
 use Rattle.ppshelf.specs.Search.{IsFirstRow, inside, spelled, lead}
 
 nothing_left : (folders : List (List ℕ)) (i : ℕ) → length folders ≤ i → drop i folders ≡ []
@@ -23,6 +26,14 @@ module _ (names : List (List ℕ)) where
   pub first_here : (xs ys : List (List ℕ)) (row : Option ℕ) → IsFirstRow names xs row → IsSome row → IsFirstRow names (xs ++ ys) row
   first_here [] ys row h some = absurd (some_is row h some)
   first_here (x ∷ xs) ys row h some = elim h [ inl a ↦ inl a | inr b ↦ inr (b.0, first_here xs ys row b.1 some) ]
+
+  row_within : (c : List ℕ) (row : Option ℕ) → IsRowOf names c row → IfSome row (λ r. r < length names)
+  row_within c None h = tt
+  row_within c (Some r) h = h.0
+
+  pub first_within : (cs : List (List ℕ)) (row : Option ℕ) → IsFirstRow names cs row → IfSome row (λ r. r < length names)
+  first_within [] row e = let P : Option ℕ → Type 0 = λ o. IfSome o (λ r. r < length names) in subst P (sym e) tt
+  first_within (c ∷ cs) row h = elim h [ inl a ↦ row_within c row a.1 | inr b ↦ first_within cs row b.1 ]
 
   -- a search that has passed over the first folders
   pub record Passed (folders : List (List ℕ)) (text : List ℕ) (i : ℕ) : Type 0 where
@@ -64,3 +75,35 @@ module _ (names : List (List ℕ)) where
 
   pub found_third : (xs ys zs : List (List ℕ)) (first second row : Option ℕ) → is_some first ≡ false → IsFirstRow names xs first → is_some second ≡ false → IsFirstRow names ys second → IsFirstRow names zs row → IsFirstRow names (xs ++ (ys ++ zs)) row
   found_third xs ys zs first second row other none other_too none_too h = first_later xs (ys ++ zs) row (none_of xs first other none) (first_later ys zs row (none_of ys second other_too none_too) h)
+
+same_row : (names : List (List ℕ)) → AreNames names → (c : List ℕ) (a b : Option ℕ) → IsSome a → IsRowOf names c a → IsSome b → IsRowOf names c b → a ≡ b
+same_row names good c None b found x other y = absurd (none_is found)
+same_row names good c (Some i) None found x other y = absurd (none_is other)
+same_row names good c (Some i) (Some j) found x other y =
+    elim (cases_lt i j) [
+      | inl l ↦ absurd ((good j y.0).once i l (x.1 ∙ sym y.1))
+      | inr l ↦
+          elim (cases_lt j i) [
+            | inl l' ↦ absurd ((good i x.0).once j l' (y.1 ∙ sym x.1))
+            | inr l' ↦ ap (λ (k : ℕ). Some k) (omega arith)
+          ]
+    ]
+
+not_both : (names : List (List ℕ)) (c : List ℕ) (a : Option ℕ) → IsSome a → IsRowOf names c a → IsRowOf names c None → ⊥
+not_both names c None found x none = none_is found
+not_both names c (Some i) found x none = none i x.0 x.1
+
+-- where each name stands once, at most one row is the first
+pub one_first : (names : List (List ℕ)) → AreNames names → (cs : List (List ℕ)) (a b : Option ℕ) → IsFirstRow names cs a → IsFirstRow names cs b → a ≡ b
+one_first names good [] a b x y = x ∙ sym y
+one_first names good (c ∷ cs) a b x y =
+    elim x [
+      | inl h ↦ elim y [ inl k ↦ same_row names good c a b h.0 h.1 k.0 k.1 | inr k ↦ absurd (not_both names c a h.0 h.1 k.0) ]
+      | inr h ↦ elim y [ inl k ↦ absurd (not_both names c b k.0 k.1 h.0) | inr k ↦ one_first names good cs a b h.1 k.1 ]
+    ]
+
+-- what is found is a row of the shelf
+pub shelf_row : (stock : List Spot) (cs : List (List ℕ)) (row : Option ℕ) → IsFirstRow (names_of stock) cs row → IfSome row (λ r. r < length stock)
+shelf_row stock cs row h =
+    let P : ℕ → Type 0 = λ n. IfSome row (λ r. r < n) in
+    subst P (length-map stock (λ (s : Spot). s.name)) (first_within (names_of stock) cs row h)

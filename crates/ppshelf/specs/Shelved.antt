@@ -2,6 +2,7 @@
 use Rattle.std.specs.Prelude.{◌≡◌, ℕ, ◌<◌, ◌≤◌, List, [], length, map, Option, Some, None, slice_index_or, ◌⊎◌}
 use Rattle.std.specs.Option.{option_map}
 use Rattle.ppshelf.specs.Content.{Content, Lawful}
+use Rattle.ppshelf.specs.Names.{AreNames}
 
 -- A finite map from rows to contents: at each row its content, or nothing where the row is unknown
 abbrev pub Files : Type 0
@@ -75,10 +76,11 @@ pub record FitsRow (may : List ℕ → Content → Type 0) (row : ℕ) (spot : S
 abbrev pub Placed : List Spot → Type 0
 Placed stock = (row : ℕ) (h : Held) → (slice_index_or stock row no_spot).base ≡ Some h → (h.row ≡ row) × (h.name ≡ name_at stock row)
 
--- A shelf: at most 65,535 rows, their names as the index has them, each base content in its own row
+-- A shelf: at most 65,535 rows, their names as the index has them, in normal form and each once, each base content in its own row
 pub record IsShelf (names : List (List ℕ)) (stock : List Spot) : Type 0 where
   pub small : length stock ≤ 65535
   pub named : names ≡ names_of stock
+  pub form : AreNames names
   pub placed : Placed stock
 
 -- The shelf that the pass belongs to, and what the pass knows

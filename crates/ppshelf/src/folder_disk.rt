@@ -10,17 +10,12 @@ use std::fs;
 use std::io::{ErrorKind, Read};
 use std::rt::Files;
 
-/// The files under a folder. They may change at any time, so nothing is claimed of what a read answers.
+/// The files under a folder: that of a name has the path of the folder, `/` and the name.
+///
+/// They may change at any time, so nothing is claimed of what a read answers.
 pub struct FolderDisk<'a, R: Files> {
-    files: &'a R,
-    folder: &'a str,
-}
-
-impl<'a, R: Files> FolderDisk<'a, R> {
-    /// The files under this folder: that of a name has the path of the folder, `/` and the name.
-    pub fn new(files: &'a R, folder: &'a str) -> FolderDisk<'a, R> {
-        FolderDisk { files, folder }
-    }
+    pub files: &'a R,
+    pub folder: &'a str,
 }
 
 impl<R: Files> Drop for FolderDisk<'_, R> {
@@ -43,10 +38,10 @@ impl<R: Files> Disk for FolderDisk<'_, R> {
         let Ok(path) = path_under(alloc, self.folder, name) else {
             return Err(ReadFault::Memory);
         };
-        let Ok(file) = fs::open(self.files, path.as_str()) else {
-            return Err(ReadFault::Unreadable);
-        };
-        read_start(alloc, file)
+        match fs::open(self.files, path.as_str()) {
+            Ok(file) => read_start(alloc, file),
+            Err(error) => Err(fault_of(error.kind())),
+        }
     }
 }
 
@@ -70,6 +65,7 @@ fn read_start<F: Read + Drop>(alloc: Global, file: F) -> Result<Vec<u8>, ReadFau
     }
 }
 
+// Want of memory says nothing about the file.
 fn fault_of(kind: ErrorKind) -> ReadFault {
     if kind == ErrorKind::OutOfMemory {
         return ReadFault::Memory;

@@ -4,6 +4,7 @@
 mod disk;
 mod folder_disk;
 mod index;
+mod laws;
 mod loaded;
 mod memory_disk;
 mod names;
@@ -16,6 +17,7 @@ mod tests;
 
 pub use disk::{Disk, ReadFault};
 pub use folder_disk::FolderDisk;
+pub use laws::one_row;
 pub use loaded::{LONGEST, Loaded};
 pub use memory_disk::{File, MemoryDisk};
 pub use names::{is_folder, is_name};

@@ -1,5 +1,5 @@
 // The search for included files (6.10.2).
-ghost use Rattle.std.specs.Prelude.{◌≡◌, ◌<◌, ℕ, List, length, map, IfOk, Some, []};
+ghost use Rattle.std.specs.Prelude.{◌≡◌, ◌<◌, ℕ, List, length, map, IfOk, IfSome, Some, []};
 ghost use Rattle.std.specs.String.{string_bytes};
 ghost use Rattle.ppshelf.specs.Shelved.{names_of, name_at};
 ghost use Rattle.ppshelf.specs.Search as spec;
@@ -39,7 +39,8 @@ pub fn resolve<D: Disk>(
     folders: Folders<'_>,
 ) -> Result<Option<usize>, Memory>
     requires { from < length shelf.now }
-    ensures { IfOk result (λ row. spec.IsFirstRow (names_of shelf.now) (spec.candidates form (name_at shelf.now from) (map string_bytes folders.entry.unit.now) (map string_bytes folders.entry.setting.now) name.now) row) }
+    ensures first { IfOk result (λ row. spec.IsFirstRow (names_of shelf.now) (spec.candidates form (name_at shelf.now from) (map string_bytes folders.entry.unit.now) (map string_bytes folders.entry.setting.now) name.now) row) }
+    ensures within { IfOk result (λ found. IfSome found (λ row. row < length shelf.now)) }
 {
     let beside = row_beside(alloc, shelf, from, form, name)?;
     if beside.is_some() {

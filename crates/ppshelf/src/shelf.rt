@@ -4,7 +4,7 @@ ghost use Rattle.std.specs.String.{string_bytes};
 ghost use Rattle.std.specs.Vec.{vec_len};
 ghost use Rattle.ppshelf.specs.Faults.{IsShelfFault};
 ghost use Rattle.ppshelf.specs.Names.{AreNames, IsRowOf};
-ghost use Rattle.ppshelf.specs.Shelved.{file_at, name_at, names_of, base_of, AllLawful, Agree, Extends, Joined, FilledRow, no_spot};
+ghost use Rattle.ppshelf.specs.Shelved.{file_at, name_at, names_of, base_of, AllLawful, Agree, Extends, Joined, FilledRow, Placed, no_spot};
 
 use crate::disk::Disk;
 use crate::index::{Index, index_names};
@@ -16,7 +16,7 @@ use std::marker::Model;
 
 /// Files by row. Each row is read once, by `fill` or by the first look.
 ///
-/// Contracts see the list of its rows. A row's cell has a name of its own, so no two shelves are equal.
+/// Contracts see the list of its rows. A row's cell has a name of its own, so no two shelves with a row are equal.
 pub struct Shelf<D: Disk> {
     alloc: Global,
     index: Index,
@@ -100,16 +100,18 @@ impl<D: Disk> Shelf<D> {
         Ok(Shelf { alloc, index, rows })
     }
 
-    /// How many rows there are.
+    /// How many rows there are, at most 65,535.
     pub fn len(&self) -> usize
-        ensures { result ≡ length self.now }
+        ensures count { result ≡ length self.now }
+        ensures small { result ≤ 65535 }
     {
         self.rows.len()
     }
 
-    /// The row of this name.
+    /// The row of this name. Takes no memory.
     pub fn row_of(&self, name: &[u8]) -> Option<usize>
-        ensures { IsRowOf (names_of self.now) name.now result }
+        ensures row { IsRowOf (names_of self.now) name.now result }
+        ensures within { IfSome result (λ row. row < length self.now) }
     {
         self.index.row_of(name)
     }
@@ -120,6 +122,14 @@ impl<D: Disk> Shelf<D> {
         ensures { result.now ≡ name_at self.now row }
     {
         self.rows[row].name()
+    }
+
+    /// A shelf's names are in normal form, each once. For proofs: it does nothing.
+    pub fn lawful(&self)
+        ensures names { AreNames (names_of self.now) }
+        ensures placed { Placed self.now }
+    {
+        let _rows = &self.rows;
     }
 
     /// Reads each row that no earlier fill read, whatever a look kept. Where memory runs out, the rows that were read stay.

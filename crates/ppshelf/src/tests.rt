@@ -2,16 +2,19 @@ ghost use Rattle.std.specs.Prelude.{◌≡◌, ◌≤◌, IfOk, length};
 ghost use Rattle.std.specs.Vec.{vec_len};
 
 use crate::{
-    Disk, File, Folders, Form, Loaded, MemoryDisk, Pass, ReadFault, Shelf, ShelfFault, is_folder,
-    is_name, resolve,
+    Disk, File, FolderDisk, Folders, Form, Loaded, MemoryDisk, Pass, ReadFault, Shelf, ShelfFault,
+    is_folder, is_name, resolve,
 };
-use pptext::Memory;
+use pptext::{Fault, Memory, Source};
 use std::alloc::{AllocError, Global};
+use std::fs::OpenFile;
+use std::process::Abort;
+use std::rt::Files;
 use std::sync::atomic::AtomicU64;
 use std::sync::atomic::Ordering::SeqCst;
 use std::test::Fail;
-use std::thread;
 use std::thread::Threads;
+use std::{env, fs, process, thread};
 
 // Answers its reads with the texts `0`, `1`, .. in turn, but has no memory for the read of one number.
 #[derive(Drop)]
@@ -78,6 +81,25 @@ fn bytes_of<'a, D: Disk>(
         return Err(Memory);
     };
     Ok(loaded.bytes())
+}
+
+// The same for its lines.
+fn lines_of<'a, D: Disk>(
+    shelf: &'a Shelf<D>,
+    pass: &mut Pass<'a, D>,
+    row: usize,
+    disk: &D,
+) -> Result<Option<Result<&'a Source, &'a Fault>>, Memory>
+    requires { pass.old.shelf ≡ shelf.now }
+    ensures { pass.new.shelf ≡ shelf.now }
+{
+    if row >= shelf.len() {
+        return Ok(None);
+    }
+    let Ok(loaded) = shelf.look(pass, row, disk) else {
+        return Err(Memory);
+    };
+    Ok(loaded.lines())
 }
 
 #[test]
@@ -149,6 +171,46 @@ fn by_four_threads<'a, R: Threads + Sync>(
     Ok(met)
 }
 
+// All rows, of which each is looked at while those before it are open.
+fn all_open<'a>(
+    alloc: Global,
+    shelf: &'a Shelf<Counting>,
+    pass: &mut Pass<'a, Counting>,
+    disk: &Counting,
+) -> Result<Vec<&'a Loaded<Counting>>, Memory>
+    requires { pass.old.shelf ≡ shelf.now }
+    ensures { pass.new.shelf ≡ shelf.now }
+{
+    let mut open = Vec::new(alloc);
+    for row in 0..shelf.len() {
+        let Ok(loaded) = shelf.look(pass, row, disk) else {
+            return Err(Memory);
+        };
+        let Ok(()) = open.push(loaded) else {
+            return Err(Memory);
+        };
+    }
+    Ok(open)
+}
+
+#[test]
+fn contents_outlive_later_looks(rt: HostRuntime) -> Result<(), Fail> {
+    let alloc = rt.alloc();
+    let shelf: Shelf<Counting> = Shelf::new(alloc, texts(alloc, &["a", "b", "c"])?)?;
+    let disk = refusing(99);
+    let mut pass = shelf.pass()?;
+    let open = all_open(alloc, &shelf, &mut pass, &disk)?;
+    for (loaded, text) in open.iter().zip(&[b"0\n", b"1\n", b"2\n"]) {
+        let Some(Ok(source)) = loaded.lines() else {
+            return Err(Fail::new("a number and its new-line have no fault"));
+        };
+        assert!(rt; source.lines().len() == 1 && source.tokens().len() == 1);
+        assert!(rt; loaded.bytes() == Some(text.as_slice()));
+    }
+    assert!(rt; open.len() == 3);
+    Ok(())
+}
+
 #[test]
 fn threads_find_the_same(rt: HostRuntime) -> Result<(), Fail> {
     let alloc = rt.alloc();
@@ -177,6 +239,20 @@ fn a_fill_goes_on_after_want_of_memory(rt: HostRuntime) -> Result<(), Fail> {
 }
 
 #[test]
+fn a_fill_reads_what_a_look_has_kept(rt: HostRuntime) -> Result<(), Fail> {
+    let alloc = rt.alloc();
+    let mut shelf: Shelf<Counting> = Shelf::new(alloc, texts(alloc, &["a"])?)?;
+    let disk = refusing(99);
+    let mut pass = shelf.pass()?;
+    assert!(rt; bytes_of(&shelf, &mut pass, 0, &disk)? == Some(b"0\n".as_slice()));
+    drop(pass);
+    assert!(rt; shelf.fill(&disk) == Ok(()));
+    let mut pass = shelf.pass()?;
+    assert!(rt; bytes_of(&shelf, &mut pass, 0, &disk)? == Some(b"1\n".as_slice()));
+    Ok(())
+}
+
+#[test]
 fn a_kept_row_is_not_read_again(rt: HostRuntime) -> Result<(), Fail> {
     let alloc = rt.alloc();
     let shelf: Shelf<Counting> = Shelf::new(alloc, texts(alloc, &["h.h"])?)?;
@@ -195,37 +271,77 @@ fn named(alloc: Global, names: &[&str]) -> Result<Shelf<MemoryDisk>, Fail>
     Ok(Shelf::new(alloc, texts(alloc, names)?)?)
 }
 
-#[test]
-fn folders_are_searched_in_order(rt: HostRuntime) -> Result<(), Fail> {
+fn searched<R: Abort + AllocGlobal>(
+    rt: &R,
+    names: &[&str],
+    unit: &[&str],
+    setting: &[&str],
+    cases: &[(usize, Form, &str, Option<usize>)],
+) -> Result<(), Fail>
+    requires { length names.now ≤ 65535 }
+{
     let alloc = rt.alloc();
-    let shelf = named(alloc, &["src/a.c", "src/x.h", "inc/x.h", "h.h"])?;
-    let (unit, setting) = (texts(alloc, &["."])?, texts(alloc, &["inc", "src"])?);
+    let shelf = named(alloc, names)?;
+    let (unit, setting) = (texts(alloc, unit)?, texts(alloc, setting)?);
     let folders = Folders {
         unit: unit.as_slice(),
         setting: setting.as_slice(),
     };
-    let cases = [
-        (Form::Quote, "x.h", Some(1)),
-        (Form::Angle, "x.h", Some(2)),
-        (Form::Quote, "../inc/x.h", Some(2)),
-        (Form::Angle, "../inc/x.h", Some(2)),
-        (Form::Angle, "y.h", None),
-        (Form::Quote, "h.h", Some(3)),
-        (Form::Angle, "h.h/", Some(3)),
-        (Form::Angle, "./x/../h.h", Some(3)),
-        (Form::Angle, "h.h ", None),
-        (Form::Quote, "..", None),
-        (Form::Quote, "../../h.h", None),
-        (Form::Angle, "../h.h", Some(3)),
-    ];
-    for (form, name, row) in &cases {
-        if shelf.len() == 0 {
-            continue;
+    for (from, form, name, row) in cases {
+        if *from >= shelf.len() {
+            return Err(Fail::new("no such row"));
         }
-        let found = resolve(alloc, &shelf, 0, *form, name.as_bytes(), folders)?;
+        let found = resolve(alloc, &shelf, *from, *form, name.as_bytes(), folders)?;
         assert!(rt; found == *row, "{name}");
     }
     Ok(())
+}
+
+#[test]
+fn the_including_folder_comes_first(rt: HostRuntime) -> Result<(), Fail> {
+    let names = ["src/a.c", "src/x.h", "inc/x.h"];
+    let cases = [
+        (0, Form::Quote, "x.h", Some(1)),
+        (0, Form::Angle, "x.h", Some(2)),
+        (0, Form::Quote, "../inc/x.h", Some(2)),
+        (0, Form::Angle, "y.h", None),
+    ];
+    searched(&rt, &names, &[], &["inc"], &cases)
+}
+
+#[test]
+fn folders_are_searched_in_order(rt: HostRuntime) -> Result<(), Fail> {
+    let names = ["src/a.c", "src/x.h", "inc/x.h", "h.h"];
+    let cases = [
+        (0, Form::Angle, "x.h", Some(2)),
+        (0, Form::Quote, "h.h", Some(3)),
+        (3, Form::Quote, "x.h", Some(2)),
+        (3, Form::Quote, "src/x.h", Some(1)),
+        (0, Form::Angle, "../h.h", Some(3)),
+    ];
+    searched(&rt, &names, &["."], &["inc", "src"], &cases)
+}
+
+// What the name of an include line leads to, by its segments.
+#[test]
+fn names_are_walked_by_segments(rt: HostRuntime) -> Result<(), Fail> {
+    let names = ["src/a.c", "inc/x.h", "h.h"];
+    let cases = [
+        (0, Form::Angle, "h.h/", Some(2)),
+        (0, Form::Angle, "./x/../h.h", Some(2)),
+        (0, Form::Angle, "inc//x.h", Some(1)),
+        (0, Form::Angle, "inc/./x.h", Some(1)),
+        (0, Form::Angle, "h.h ", None),
+        (0, Form::Angle, "inc", None),
+        (0, Form::Angle, ".", None),
+        (0, Form::Quote, "..", None),
+        (0, Form::Quote, "../h.h", Some(2)),
+        (0, Form::Quote, "../../h.h", None),
+        (0, Form::Angle, "../h.h", None),
+        (0, Form::Angle, "x/../../h.h", None),
+        (2, Form::Quote, "../h.h", None),
+    ];
+    searched(&rt, &names, &["."], &[], &cases)
 }
 
 #[test]
@@ -278,10 +394,15 @@ fn a_shelf_holds_65535_names(rt: HostRuntime) -> Result<(), Fail> {
         return Ok(());
     }
     let shelf: Shelf<MemoryDisk> = Shelf::new(alloc, names)?;
-    assert!(rt; shelf.len() == 65535);
+    if shelf.len() != 65535 {
+        return Err(Fail::new("not all names"));
+    }
+    assert!(rt; shelf.len() == 65535 && shelf.name(65534) == "f65534.h");
     assert!(rt; shelf.row_of(b"f00000.h".as_slice()) == Some(0));
     assert!(rt; shelf.row_of(b"f65534.h".as_slice()) == Some(65534));
     assert!(rt; shelf.row_of(b"f65535.h".as_slice()) == None);
+    let empty = named(alloc, &[])?;
+    assert!(rt; empty.len() == 0 && empty.row_of(b"f00000.h".as_slice()) == None);
     Ok(())
 }
 
@@ -299,5 +420,62 @@ fn a_memory_disk_answers_its_files(rt: HostRuntime) -> Result<(), Fail> {
     let mut pass = shelf.pass()?;
     assert!(rt; bytes_of(&shelf, &mut pass, 0, &disk)? == Some(b"x\n".as_slice()));
     assert!(rt; bytes_of(&shelf, &mut pass, 1, &disk)? == None);
+    Ok(())
+}
+
+#[test]
+fn a_file_is_kept_with_its_fault(rt: HostRuntime) -> Result<(), Fail> {
+    let alloc = rt.alloc();
+    let mut files = Vec::new(alloc);
+    files.push(File {
+        name: String::from_str(alloc, "a")?,
+        bytes: Vec::from_slice(alloc, b"x /*".as_slice())?,
+    })?;
+    let shelf = named(alloc, &["a", "b"])?;
+    let mut pass = shelf.pass()?;
+    let disk = MemoryDisk { files };
+    let contents = lines_of(&shelf, &mut pass, 0, &disk)?;
+    assert!(rt; contents.is_some_and(|lines| lines.is_err_and(|fault| fault.number == 1)));
+    assert!(rt; lines_of(&shelf, &mut pass, 1, &disk)?.is_none());
+    Ok(())
+}
+
+// Files of several lengths, of which `long` is longer than what is read of a file, and a folder in place of one.
+fn make_files<R: Files + AllocGlobal>(rt: &R, folder: &str) -> Result<(), Fail> {
+    let alloc = rt.alloc();
+    fs::create_dir(rt, folder)?;
+    fs::create_dir(rt, format!(in alloc; "{folder}/inc")?)?;
+    fs::write(rt, format!(in alloc; "{folder}/inc/x.h")?, "x\n")?;
+    let long = fs::create(rt, format!(in alloc; "{folder}/long")?)?;
+    long.set_len(20_000_000)?;
+    Ok(())
+}
+
+fn read_files<R: Abort + Files + AllocGlobal>(rt: &R, folder: &str) -> Result<(), Fail> {
+    let alloc = rt.alloc();
+    let disk = FolderDisk { files: rt, folder };
+    let long = disk.read(alloc, "long");
+    assert!(rt; long.is_ok_and(|bytes| bytes.len() == 16_777_217));
+    let names = texts(alloc, &["inc/x.h", "inc", "x.h", "long"])?;
+    let shelf: Shelf<FolderDisk<R>> = Shelf::new(alloc, names)?;
+    let mut pass = shelf.pass()?;
+    assert!(rt; bytes_of(&shelf, &mut pass, 0, &disk)? == Some(b"x\n".as_slice()));
+    for row in 1..4 {
+        assert!(rt; bytes_of(&shelf, &mut pass, row, &disk)? == None, "{row}");
+    }
+    Ok(())
+}
+
+#[test]
+fn a_folder_disk_reads_real_files(rt: HostRuntime) -> Result<(), Fail> {
+    let alloc = rt.alloc();
+    let temporary = env::temp_dir(&rt)?;
+    let number = process::id(rt.process());
+    let folder = format!(in alloc; "{}/ppshelf-{number}", temporary.as_str())?;
+    make_files(&rt, folder.as_str())?;
+    let read = read_files(&rt, folder.as_str());
+    let removed = fs::remove_dir_all(&rt, folder.as_str());
+    read?;
+    removed?;
     Ok(())
 }
