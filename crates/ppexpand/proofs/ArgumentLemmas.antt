@@ -1,0 +1,69 @@
+-- How the arguments of an invocation are expanded one after the other.
+use Rattle.std.proofs.Common.{◌≡◌, ℕ, zero, suc, ◌+◌, ◌<◌, ◌≤◌, true, false, List, [], ◌∷◌, drop, Option, Some, None, Ok, Err, Vec, Global, refl, sym, ap, ◌∙◌, subst, get_or, length, add-one, arith}
+use Rattle.pptext.specs.declared.tokens.Token.{Token}
+use Rattle.pptext.specs.declared.tokens.Fault.{Fault}
+use Rattle.ppmacro.specs.Names.{Macros}
+use Rattle.ppmacro.specs.Numbered.{Numbered}
+use Rattle.ppmacro.specs.HideSets.{Hiding, hidings, AllKnown}
+use Rattle.ppmacro.specs.Chains.{chains_of}
+use Rattle.ppmacro.specs.Substituting.{ListsKnown}
+use Rattle.ppmacro.specs.declared.hide_sets.Hidden.{Hidden}
+use Rattle.ppmacro.specs.declared.macros.Chain.{Chain}
+use Rattle.ppmacro.proofs.WalkLemmas.{drop-item}
+use Rattle.ppexpand.specs.declared.env.Env.{Env}
+use Rattle.ppexpand.specs.Turn.{Call, uses_alone, to_expand, wanted}
+use Rattle.ppexpand.specs.Expansion.{Expands, ExpandsTo}
+use Rattle.ppexpand.specs.Shown.{given_in, ExpandsArgument, expands, raises}
+use Rattle.ppexpand.proofs.Follows.{ArgumentsFollow, arguments_start}
+
+pub arguments_first : (macros : Macros) (env : Env) (level : ℕ) (call : Call) → ArgumentsFollow macros env level call (wanted call) [] (to_expand 0 (chains_of call.macro) call.arguments)
+unfolding wanted
+arguments_first macros env level call = arguments_start macros env level call (wanted call)
+
+-- the argument of this parameter is not used alone, or is
+pub to_expand-unused : (i : ℕ) (cs : List Chain) (a : List Hiding) (rest : List (List Hiding)) → uses_alone i cs ≡ false → to_expand i cs (a ∷ rest) ≡ None ∷ to_expand (suc i) cs rest
+to_expand-unused i cs a rest h = rw h refl
+
+pub to_expand-used : (i : ℕ) (cs : List Chain) (a : List Hiding) (rest : List (List Hiding)) → uses_alone i cs ≡ true → to_expand i cs (a ∷ rest) ≡ Some a ∷ to_expand (suc i) cs rest
+to_expand-used i cs a rest h = rw h refl
+
+-- an argument's expansion, or its fault
+pub argument_expands : (macros : Macros) (env : Env) (level : ℕ) (head : Token) (list tokens : List Hiding) (o : Option Fault) → level < 256 → o ≡ None → ExpandsTo macros env (level + 1) list (record { tokens = tokens; fault = o }) → ExpandsArgument macros env level head list (Ok tokens)
+argument_expands macros env level head list tokens o low e one = expands low (subst (λ n. Expands macros env n one.0 list (record { tokens = tokens; fault = None })) (add-one level) (subst (λ p. Expands macros env (level + 1) one.0 list (record { tokens = tokens; fault = p })) e one.1))
+
+pub argument_raises : (macros : Macros) (env : Env) (level : ℕ) (head : Token) (list tokens : List Hiding) (o : Option Fault) (f : Fault) → level < 256 → o ≡ Some f → ExpandsTo macros env (level + 1) list (record { tokens = tokens; fault = o }) → ExpandsArgument macros env level head list (Err f)
+argument_raises macros env level head list tokens o f low e one = raises low (subst (λ n. Expands macros env n one.0 list (record { tokens = tokens; fault = Some f })) (add-one level) (subst (λ p. Expands macros env (level + 1) one.0 list (record { tokens = tokens; fault = p })) e one.1))
+
+-- ---- the argument of a parameter
+
+drop-given : (s : Numbered) (i : ℕ) (vs : List (Vec Hidden Global)) → drop i (given_in s vs) ≡ given_in s (drop i vs)
+drop-given s zero vs = refl
+drop-given s (suc i) [] = refl
+drop-given s (suc i) (v ∷ vs) = drop-given s i vs
+
+pub given-item : (s : Numbered) (vs : List (Vec Hidden Global)) (i : ℕ) (v : Vec Hidden Global) → i < length vs → v ≡ get_or vs i v → drop i (given_in s vs) ≡ hidings s v.items ∷ drop (i + 1) (given_in s vs)
+given-item s vs i v h e = drop-given s i vs ∙ ap (given_in s) (drop-item vs i v h e) ∙ ap (λ xs. hidings s v.items ∷ xs) (sym (drop-given s (i + 1) vs))
+
+pub given-end : (s : Numbered) (vs : List (Vec Hidden Global)) (i : ℕ) → length vs ≤ i → drop i (given_in s vs) ≡ []
+given-end s vs i h = drop-given s i vs ∙ ap (given_in s) (drop_all vs i h)
+  where
+    drop_all : (vs : List (Vec Hidden Global)) (i : ℕ) → length vs ≤ i → drop i vs ≡ []
+    drop_all [] zero h = refl
+    drop_all [] (suc i) h = refl
+    drop_all (v ∷ vs) zero h = absurd (omega arith)
+    drop_all (v ∷ vs) (suc i) h = drop_all vs i (omega arith)
+
+pub known-item : (s : Numbered) (vs : List (Vec Hidden Global)) (i : ℕ) (v : Vec Hidden Global) → i < length vs → v ≡ get_or vs i v → ListsKnown s vs → AllKnown s v.items
+known-item s [] i v h e known = absurd (omega arith)
+known-item s (x ∷ vs) zero v h e known = rw e known.each.0
+known-item s (x ∷ vs) (suc i) v h e known = known-item s vs i v (omega arith) e (record { each = known.each.1 })
+
+-- what is left to expand, where this argument is next
+pub rest-unused : (s : Numbered) (vs : List (Vec Hidden Global)) (cs : List Chain) (i : ℕ) (v : Vec Hidden Global) → i < length vs → v ≡ get_or vs i v → uses_alone i cs ≡ false → to_expand i cs (drop i (given_in s vs)) ≡ None ∷ to_expand (i + 1) cs (drop (i + 1) (given_in s vs))
+rest-unused s vs cs i v h e u = ap (to_expand i cs) (given-item s vs i v h e) ∙ to_expand-unused i cs (hidings s v.items) (drop (i + 1) (given_in s vs)) u ∙ ap (λ n. None ∷ to_expand n cs (drop (i + 1) (given_in s vs))) (sym (add-one i))
+
+pub rest-used : (s : Numbered) (vs : List (Vec Hidden Global)) (cs : List Chain) (i : ℕ) (v : Vec Hidden Global) → i < length vs → v ≡ get_or vs i v → uses_alone i cs ≡ true → to_expand i cs (drop i (given_in s vs)) ≡ Some (hidings s v.items) ∷ to_expand (i + 1) cs (drop (i + 1) (given_in s vs))
+rest-used s vs cs i v h e u = ap (to_expand i cs) (given-item s vs i v h e) ∙ to_expand-used i cs (hidings s v.items) (drop (i + 1) (given_in s vs)) u ∙ ap (λ n. Some (hidings s v.items) ∷ to_expand n cs (drop (i + 1) (given_in s vs))) (sym (add-one i))
+
+pub rest-end : (s : Numbered) (vs : List (Vec Hidden Global)) (cs : List Chain) (i : ℕ) → length vs ≤ i → to_expand i cs (drop i (given_in s vs)) ≡ []
+rest-end s vs cs i h = ap (to_expand i cs) (given-end s vs i h)

@@ -1,0 +1,63 @@
+-- How the search for the matching `)` goes on.
+use Rattle.std.proofs.Common.{◌≡◌, ℕ, zero, suc, true, List, [], ◌∷◌, ◌++◌, Option, Vec, Global, refl, sym, ap, ◌∙◌, append_assoc, append-nil}
+use Rattle.ppmacro.specs.Numbered.{Numbered}
+use Rattle.ppmacro.specs.HideSets.{Hiding, hiding, hidings, IsKnown, AllKnown}
+use Rattle.ppmacro.specs.Substituting.{ListsKnown}
+use Rattle.ppmacro.specs.declared.hide_sets.Hidden.{Hidden}
+use Rattle.ppexpand.specs.Arguments.{Gathered, Closed, Quoted, Unclosed, with_token, with_argument, separates}
+use Rattle.ppexpand.specs.Shown.{given_in}
+
+-- these arguments and the front of the next one, before what is gathered of the rest
+abbrev pub resumed : List (List Hiding) → List Hiding → Gathered → Gathered
+resumed done [] (Closed [] close behind) = Closed done close behind
+resumed done (x ∷ xs) (Closed [] close behind) = Closed (done ++ (x ∷ xs) ∷ []) close behind
+resumed done front (Closed (a ∷ as') close behind) = Closed (done ++ (front ++ a) ∷ as') close behind
+resumed done front (Quoted q) = Quoted q
+resumed done front Unclosed = Unclosed
+
+pub resumed-start : (g : Gathered) → resumed [] [] g ≡ g
+resumed-start (Closed [] close behind) = refl
+resumed-start (Closed (a ∷ as') close behind) = refl
+resumed-start (Quoted q) = refl
+resumed-start Unclosed = refl
+
+pub resumed-token : (done : List (List Hiding)) (front : List Hiding) (t : Hiding) (g : Gathered) → resumed (done) (front ++ t ∷ []) g ≡ resumed done front (with_token t g)
+resumed-token done [] t (Closed [] close behind) = refl
+resumed-token done (x ∷ xs) t (Closed [] close behind) = refl
+resumed-token done [] t (Closed (a ∷ as') close behind) = refl
+resumed-token done (x ∷ xs) t (Closed (a ∷ as') close behind) = ap (λ ys. Closed (done ++ (x ∷ ys) ∷ as') close behind) (append_assoc xs (t ∷ []) a)
+resumed-token done [] t (Quoted q) = refl
+resumed-token done (x ∷ xs) t (Quoted q) = refl
+resumed-token done [] t Unclosed = refl
+resumed-token done (x ∷ xs) t Unclosed = refl
+
+pub resumed-argument : (done : List (List Hiding)) (front : List Hiding) (g : Gathered) → resumed (done ++ front ∷ []) [] g ≡ resumed done front (with_argument g)
+resumed-argument done [] (Closed [] close behind) = refl
+resumed-argument done (x ∷ xs) (Closed [] close behind) = ap (λ ys. Closed (done ++ (x ∷ ys) ∷ []) close behind) (sym (append-nil xs))
+resumed-argument done [] (Closed (a ∷ as') close behind) = ap (λ ys. Closed ys close behind) (append_assoc done ([] ∷ []) (a ∷ as'))
+resumed-argument done (x ∷ xs) (Closed (a ∷ as') close behind) = ap (λ ys. Closed ys close behind) (append_assoc done ((x ∷ xs) ∷ []) (a ∷ as')) ∙ ap (λ ys. Closed (done ++ (x ∷ ys) ∷ (a ∷ as')) close behind) (sym (append-nil xs))
+resumed-argument done [] (Quoted q) = refl
+resumed-argument done (x ∷ xs) (Quoted q) = refl
+resumed-argument done [] Unclosed = refl
+resumed-argument done (x ∷ xs) Unclosed = refl
+
+-- what separates arguments stands outside inner parentheses
+pub outermost : (depth : ℕ) (commas : Option ℕ) → separates depth commas ≡ true → depth ≡ 0
+outermost zero commas e = refl
+outermost (suc depth) commas e = absurd (cc)
+
+pub hidings-push : (s : Numbered) (hs : List Hidden) (h : Hidden) → hidings s (hs ++ h ∷ []) ≡ hidings s hs ++ hiding s h ∷ []
+hidings-push s [] h = refl
+hidings-push s (g ∷ hs) h = ap (λ ts. hiding s g ∷ ts) (hidings-push s hs h)
+
+pub given-push : (s : Numbered) (vs : List (Vec Hidden Global)) (v : Vec Hidden Global) → given_in s (vs ++ v ∷ []) ≡ given_in s vs ++ hidings s v.items ∷ []
+given-push s [] v = refl
+given-push s (w ∷ vs) v = ap (λ ts. hidings s w.items ∷ ts) (given-push s vs v)
+
+pub known-push : {s : Numbered} (hs : List Hidden) (h : Hidden) → AllKnown s hs → IsKnown s h.hide → AllKnown s (hs ++ h ∷ [])
+known-push [] h k known = record { each = (known, tt) }
+known-push (g ∷ hs) h k known = record { each = (k.each.0, (known-push hs h (record { each = k.each.1 }) known).each) }
+
+pub lists_known-push : {s : Numbered} (vs : List (Vec Hidden Global)) (v : Vec Hidden Global) → ListsKnown s vs → AllKnown s v.items → ListsKnown s (vs ++ v ∷ [])
+lists_known-push [] v k known = record { each = (known, tt) }
+lists_known-push (w ∷ vs) v k known = record { each = (k.each.0, (lists_known-push vs v (record { each = k.each.1 }) known).each) }

@@ -1,0 +1,12 @@
+pub mod Termination
+pub mod Steps
+pub mod Total
+pub mod Unique
+pub mod Bounds
+pub mod Follows
+pub mod Settled
+pub mod Invocations
+pub mod Gathering
+pub mod Keeping
+pub mod TurnLemmas
+pub mod ArgumentLemmas

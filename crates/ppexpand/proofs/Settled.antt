@@ -1,0 +1,83 @@
+-- A token that passes is settled.
+use Rattle.std.proofs.Common.{◌≡◌, ℕ, Bool, true, false, not, ◌||◌, List, [], ◌∷◌, Option, Some, None, Result, Ok, Err, if◌then◌else◌, refl, ap, ◌∙◌, subst}
+use Rattle.std.proofs.lemmas.List.Elements.{All-cons, All-nil}
+use Rattle.std.specs.List.{AllPass}
+use Rattle.std.specs.FinSet as set
+use Rattle.pptext.specs.declared.tokens.Fault.{Fault}
+use Rattle.ppmacro.specs.Names.{Name, Macros}
+use Rattle.ppmacro.specs.HideSets.{Hiding}
+use Rattle.ppmacro.specs.Chains.{is_function_like}
+use Rattle.ppmacro.specs.Substitution.{Marked}
+use Rattle.ppmacro.specs.declared.macros.Definition.{Definition}
+use Rattle.ppmacro.specs.declared.macros.Shape.{Shape}
+use Rattle.ppmacro.specs.declared.macros.Shape.TheVariants.{Predefined, ObjectLike, FunctionLike}
+use Rattle.ppexpand.specs.declared.env.Env.{Env}
+use Rattle.ppexpand.specs.Arguments.{is_lone_quote, is_open, Gathered, Closed, Quoted, Unclosed, gather, separators, fitted}
+use Rattle.ppexpand.specs.Turn.{Turn, Refused, Passes, turn, macro_of, quote_fault, named_turn, macro_turn, function_turn, invoked, called, replaced_by}
+use Rattle.ppexpand.specs.Expansion.{Outcome, Expands, done, refused, passes, replaced, argument_refused, call_refused, call_replaced}
+use Rattle.ppexpand.specs.Laws.{is_settled, is_always_replaced}
+
+or_true : (a : Bool) → (a || true) ≡ true
+or_true true = refl
+or_true false = refl
+
+module _ (macros : Macros) (env : Env) where
+  -- the token that passes, if one does, is settled
+  abbrev Settles : Turn → Type 0
+  Settles (Passes t rest) = is_settled macros t ≡ true
+  Settles _ = Unit {0}
+
+  -- a name that is not always replaced
+  by_name : (t : Hiding) → is_lone_quote t.token ≡ false → is_always_replaced (macro_of macros t.token) ≡ false → is_settled macros t ≡ true
+  by_name t unquoted spared = rw (unquoted, spared) (or_true (set.contains t.hide t.token.text))
+
+  replaced_settles : (r : Result Marked Fault) (rest : List Hiding) → Settles (replaced_by r rest)
+  replaced_settles (Ok m) rest = tt
+  replaced_settles (Err f) rest = tt
+
+  invoked_settles : (t : Hiding) (d : Definition) (names : List Name) (variadic : Bool) (g : Gathered) → Settles (invoked t d names variadic g)
+  invoked_settles t d names variadic (Closed as' close behind) = by_count (fitted names variadic as')
+    where
+      by_count : (o : Option (List (List Hiding))) → Settles (called t d o close behind)
+      by_count (Some bs) = tt
+      by_count None = tt
+  invoked_settles t d names variadic (Quoted q) = tt
+  invoked_settles t d names variadic Unclosed = tt
+
+  function_settles : (t : Hiding) (rest : List Hiding) (d : Definition) (names : List Name) (variadic : Bool) → is_settled macros t ≡ true → Settles (function_turn t d names variadic rest)
+  function_settles t [] d names variadic settled = settled
+  function_settles t (p ∷ rest) d names variadic settled =
+      elim (is_open p.token) as (λ b. Settles (if b then invoked t d names variadic (gather 0 (separators names variadic) rest) else Passes t (p ∷ rest))) [
+        | true ↦ invoked_settles t d names variadic _
+        | false ↦ settled
+      ]
+
+  macro_settles : (t : Hiding) (rest : List Hiding) (d : Definition) (shape : Shape) → (is_function_like shape ≡ true → is_settled macros t ≡ true) → Settles (macro_turn env t rest d shape)
+  macro_settles t rest d (Predefined b) settled = tt
+  macro_settles t rest d ObjectLike settled = replaced_settles _ rest
+  macro_settles t rest d (FunctionLike names variadic) settled = function_settles t rest d names variadic (settled refl)
+
+  named_settles : (t : Hiding) (rest : List Hiding) → is_lone_quote t.token ≡ false → (o : Option Definition) → macro_of macros t.token ≡ o → Settles (named_turn env t rest o)
+  named_settles t rest unquoted None is = by_name t unquoted (ap is_always_replaced is)
+  named_settles t rest unquoted (Some d) is = macro_settles t rest d d.shape (λ function. by_name t unquoted (ap is_always_replaced is ∙ ap not function))
+
+  turn_settles : (list : List Hiding) → Settles (turn macros env list)
+  unfolding turn
+  turn_settles [] = tt
+  turn_settles (t ∷ rest) =
+      elim (is_lone_quote t.token) as (λ b. is_lone_quote t.token ≡ b → Settles (if b then Refused (quote_fault t) else (if set.contains t.hide t.token.text then Passes t rest else named_turn env t rest (macro_of macros t.token)))) [
+        | true ↦ λ _. tt
+        | false ↦ λ unquoted. elim (set.contains t.hide t.token.text) as (λ b. set.contains t.hide t.token.text ≡ b → Settles (if b then Passes t rest else named_turn env t rest (macro_of macros t.token))) [
+          | true ↦ λ hidden. rw (unquoted, hidden) refl
+          | false ↦ λ _. named_settles t rest unquoted (macro_of macros t.token) refl
+        ] refl
+      ] refl
+
+  pub all_settled : {level n : ℕ} {list : List Hiding} {out : Outcome} → Expands macros env level n list out → AllPass (is_settled macros) out.tokens
+  all_settled (done e) = All-nil (λ x. is_settled macros x ≡ true)
+  all_settled (refused e) = All-nil (λ x. is_settled macros x ≡ true)
+  all_settled (passes {list = list} {t = t} {rest = rest} {out = out} e d) = All-cons (λ x. is_settled macros x ≡ true) t out.tokens (let settled : Settles (Passes t rest) = subst (λ x. Settles x) e (turn_settles list) in settled) (all_settled d)
+  all_settled (replaced e d) = all_settled d
+  all_settled (argument_refused e a) = All-nil (λ x. is_settled macros x ≡ true)
+  all_settled (call_refused e a f) = All-nil (λ x. is_settled macros x ≡ true)
+  all_settled (call_replaced e a f d) = all_settled d

@@ -1,0 +1,239 @@
+-- A turn that goes on is a step on the hide sets of the list.
+use Rattle.std.proofs.Common.{◌≡◌, ℕ, zero, suc, ◌⊎◌, inl, inr, Bool, true, false, ◌||◌, ◌&&◌, List, [], ◌∷◌, ◌++◌, map, Option, Some, None, Result, Ok, Err, if◌then◌else◌, refl, sym, ap, ◌∙◌, subst, true≢false, is_eq, is_some}
+use Rattle.std.specs.FinSet as set
+use Rattle.std.specs.FinMap as table
+use Rattle.std.specs.Ordering.{nat_cmp, eq_by_cmp}
+use Rattle.std.specs.Cmp.Lexicographic.{slice_cmp}
+use Rattle.std.specs.Cmp.{Equal-is, tied_itself}
+use Rattle.std.specs.List.{list_any}
+use Rattle.std.proofs.lemmas.Cmp.{nat_list_cmp_total}
+use Rattle.pptext.specs.declared.tokens.Token.{Token}
+use Rattle.pptext.specs.declared.tokens.Fault.{Fault}
+use Rattle.pptext.specs.declared.tokens.Place.{Place}
+use Rattle.ppmacro.specs.Names.{Name, HideSet, Macros}
+use Rattle.ppmacro.specs.HideSets.{Hiding}
+use Rattle.ppmacro.specs.declared.macros.Definition.{Definition}
+use Rattle.ppmacro.specs.declared.macros.Shape.{Shape}
+use Rattle.ppmacro.specs.declared.macros.Shape.TheVariants.{Predefined, ObjectLike, FunctionLike}
+use Rattle.ppmacro.specs.Chains.{chains_of}
+use Rattle.ppmacro.specs.Spellings.{is_identifier}
+use Rattle.ppmacro.specs.Substitution.{Arguments, Marked, substituted, after_ok, chains_tokens, gained}
+use Rattle.ppexpand.specs.Arguments.{Gathered, Closed, Quoted, Unclosed, mark_of, gather, separators, fitted, separates, fewer, with_token, with_argument, is_open, is_lone_quote}
+use Rattle.ppexpand.specs.declared.env.Env.{Env}
+use Rattle.ppexpand.specs.declared.spellings.Mark.TheVariants.{Quote, Open, Close, Comma, Inner}
+use Rattle.ppexpand.specs.Turn.{Call, Turn, Done, Refused, Passes, Replaced, Called, turn, finished, mark_next, followed_by, replaced_by, gain_of, quote_fault, called, invoked, function_turn, macro_turn, named_turn, macro_of}
+use Rattle.ppexpand.proofs.Termination.{Each, Among, Step, object, function}
+
+-- the hide sets of a list
+abbrev pub hides : List Hiding → List HideSet
+hides [] = []
+hides (t ∷ ts) = t.hide ∷ hides ts
+
+pub hides-append : (xs ys : List Hiding) → hides (xs ++ ys) ≡ hides xs ++ hides ys
+hides-append [] ys = refl
+hides-append (x ∷ xs) ys = ap (λ hs. x.hide ∷ hs) (hides-append xs ys)
+
+pub hides-mark_next : (b : Bool) (xs : List Hiding) → hides (mark_next b xs) ≡ hides xs
+hides-mark_next true [] = refl
+hides-mark_next true (x ∷ xs) = refl
+hides-mark_next false xs = refl
+
+abbrev pub same_name : Name → Name → Bool
+same_name x y = eq_by_cmp (slice_cmp nat_cmp) x y
+
+pub same_name_is : (x y : Name) → same_name x y ≡ true → x ≡ y
+same_name_is x y e = table.slice_cmp-IsAntisymmetric table.nat_cmp-IsAntisymmetric x y ((Equal-is (slice_cmp nat_cmp x y)).0 e)
+
+pub same_name_self : (x : Name) → same_name x x ≡ true
+same_name_self x = ap is_eq (tied_itself nat_list_cmp_total x)
+
+-- what the gain is contained in
+abbrev pub HasGain : HideSet → Hiding → Type 0
+HasGain gain t = (q : Name) → set.contains gain q ≡ true → set.contains t.hide q ≡ true
+
+true_or : (a : Bool) → (a || true) ≡ true
+true_or true = refl
+true_or false = refl
+
+all_gained : (gain : HideSet) (used : Place) (ts : List Hiding) → Each (HasGain gain) (map (gained gain used) ts)
+all_gained gain used [] = tt
+all_gained gain used (t ∷ ts) = ((λ q e. set.contains-union nat_list_cmp_total t.hide gain q ∙ ap (λ b. set.contains t.hide q || b) e ∙ true_or _), all_gained gain used ts)
+
+gained_after : (r : Result Marked Fault) (gain : HideSet) (used : Place) (m : Marked) → after_ok r (λ m. Ok (record m { tokens = map (gained gain used) m.tokens })) ≡ Ok m → Each (HasGain gain) m.tokens
+gained_after (Ok n) gain used m e =
+    let tokens : map (gained gain used) n.tokens ≡ m.tokens = ap (λ m. m.tokens) (let inner : record n { tokens = map (gained gain used) n.tokens } ≡ m = cc in inner) in
+    subst (Each (HasGain gain)) tokens (all_gained gain used n.tokens)
+gained_after (Err f) gain used m e = absurd (cc)
+
+pub substituted_gain : (d : Definition) (args : Arguments) (gain : HideSet) (used : Place) (space : Bool) (m : Marked) → substituted d args gain used space ≡ Ok m → Each (HasGain gain) m.tokens
+substituted_gain d args gain used space m e = gained_after (chains_tokens args used space true (chains_of d)) gain used m e
+
+among_any : (k : Name) (names : List Name) → list_any (same_name k) names ≡ true → Among k names
+among_any k [] e = true≢false (sym e)
+among_any k (n ∷ ns) e =
+    elim (same_name k n) as (λ a. same_name k n ≡ a → (a || list_any (same_name k) ns) ≡ true → (n ≡ k) ⊎ Among k ns) [
+      | true ↦ λ here _. inl (sym (same_name_is k n here))
+      | false ↦ λ _ more. inr (among_any k ns more)
+    ] refl e
+
+-- a name with a macro is among the table's names
+pub among_names : (macros : Macros) (k : Name) (d : Definition) → table.get macros k ≡ Some d → Among k (table.keys macros)
+among_names macros k d e = among_any k (table.keys macros) (sym (table.contains_key-keys macros k) ∙ ap is_some e)
+
+-- what a name means, where it means something
+pub among_meaning : (macros : Macros) (t : Token) (d : Definition) → macro_of macros t ≡ Some d → Among t.text (table.keys macros)
+among_meaning macros t d = elim (is_identifier t) as (λ b. (if b then table.get macros t.text else None) ≡ Some d → Among t.text (table.keys macros)) [
+  | true ↦ λ e. among_names macros t.text d e
+  | false ↦ λ e. absurd (cc)
+]
+
+-- what was gathered stands in front of the matching `)`
+abbrev pub Stands : List Hiding → Gathered → Type 0
+Stands list (Closed as' close behind) = (inside : List Hiding) × (list ≡ inside ++ close ∷ behind)
+Stands list (Quoted q) = Unit {0}
+Stands list Unclosed = Unit {0}
+
+stands_token : (t : Hiding) (list : List Hiding) (g : Gathered) → Stands list g → Stands (t ∷ list) (with_token t g)
+stands_token t list (Closed [] close behind) h = (t ∷ h.0, ap (λ xs. t ∷ xs) h.1)
+stands_token t list (Closed (a ∷ as') close behind) h = (t ∷ h.0, ap (λ xs. t ∷ xs) h.1)
+stands_token t list (Quoted q) h = tt
+stands_token t list Unclosed h = tt
+
+stands_argument : (t : Hiding) (list : List Hiding) (g : Gathered) → Stands list g → Stands (t ∷ list) (with_argument g)
+stands_argument t list (Closed as' close behind) h = (t ∷ h.0, ap (λ xs. t ∷ xs) h.1)
+stands_argument t list (Quoted q) h = tt
+stands_argument t list Unclosed h = tt
+
+pub gathered_stands : (list : List Hiding) (depth : ℕ) (commas : Option ℕ) → Stands list (gather depth commas list)
+gathered_stands [] depth commas = tt
+gathered_stands (t ∷ ts) depth commas =
+    elim (mark_of t.token) as (λ m. Stands (t ∷ ts) (elim m as (λ _. Gathered) [
+      | Quote ↦ Quoted t
+      | Open ↦ with_token t (gather (suc depth) commas ts)
+      | Close ↦ elim depth as (λ _. Gathered) [ zero ↦ Closed ([] ∷ []) t ts | suc d ↦ with_token t (gather d commas ts) ]
+      | Comma ↦ elim (separates depth commas) as (λ _. Gathered) [ true ↦ with_argument (gather depth (fewer commas) ts) | false ↦ with_token t (gather depth commas ts) ]
+      | Inner ↦ with_token t (gather depth commas ts)
+    ])) [
+      | Quote ↦ tt
+      | Open ↦ stands_token t ts _ (gathered_stands ts (suc depth) commas)
+      | Close ↦ elim depth as (λ n. Stands (t ∷ ts) (elim n as (λ _. Gathered) [ zero ↦ Closed ([] ∷ []) t ts | suc d ↦ with_token t (gather d commas ts) ])) [
+        | zero ↦ ([], refl)
+        | suc d ↦ stands_token t ts _ (gathered_stands ts d commas)
+      ]
+      | Comma ↦ elim (separates depth commas) as (λ b. Stands (t ∷ ts) (elim b as (λ _. Gathered) [ true ↦ with_argument (gather depth (fewer commas) ts) | false ↦ with_token t (gather depth commas ts) ])) [
+        | true ↦ stands_argument t ts _ (gathered_stands ts depth (fewer commas))
+        | false ↦ stands_token t ts _ (gathered_stands ts depth commas)
+      ]
+      | Inner ↦ stands_token t ts _ (gathered_stands ts depth commas)
+    ]
+
+module _ (macros : Macros) (env : Env) where
+  abbrev pub HideStep : List HideSet → List HideSet → Type 0
+  HideStep = Step set.contains same_name (table.keys macros)
+
+  -- where a call was found in a list
+  pub record Found (list : List Hiding) (call : Call) : Type 0 where
+    pub inside : List Hiding
+    pub close : Hiding
+    pub is : list ≡ call.head ∷ (inside ++ close ∷ call.behind)
+    pub named : Among call.head.token.text (table.keys macros)
+    pub free : set.contains call.head.hide call.head.token.text ≡ false
+    pub gains : call.gain ≡ gain_of call.head.hide close.hide call.head.token.text
+
+  -- what a turn says of the list
+  abbrev pub StepsTo : List Hiding → Turn → Type 0
+  StepsTo list Done = Unit {0}
+  StepsTo list (Refused fault) = Unit {0}
+  StepsTo list (Passes t rest) = list ≡ t ∷ rest
+  StepsTo list (Replaced next) = HideStep (hides list) (hides next)
+  StepsTo list (Called call) = Found list call
+
+  -- each of these sets has all that the gain has, so h and h' both and k
+  gains_sets : (h h' : HideSet) (k : Name) (gain : HideSet) → gain ≡ gain_of h h' k → (ts : List Hiding) → Each (HasGain gain) ts → Each (λ r. ((q : Name) → set.contains h q ≡ true → set.contains h' q ≡ true → set.contains r q ≡ true) × (set.contains r k ≡ true)) (hides ts)
+  gains_sets h h' k gain is [] all = tt
+  gains_sets h h' k gain is (t ∷ ts) all = (
+    (
+      λ q in_h in_h'. all.0 q (rw is (set.contains-insert nat_list_cmp_total (set.intersection h h') k q ∙ ap (λ b. same_name q k || b) (set.contains-intersection nat_list_cmp_total h h' q ∙ (λ i. in_h i && in_h' i)) ∙ true_or _)),
+      all.0 k (rw is (set.contains-insert nat_list_cmp_total (set.intersection h h') k k ∙ ap (λ b. b || set.contains (set.intersection h h') k) (same_name_self k))),
+    ),
+    gains_sets h h' k gain is ts all.1,
+  )
+
+  gains_object : (h : HideSet) (k : Name) (ts : List Hiding) → Each (HasGain (set.insert h k)) ts → Each (λ r. ((q : Name) → set.contains h q ≡ true → set.contains h q ≡ true → set.contains r q ≡ true) × (set.contains r k ≡ true)) (hides ts)
+  gains_object h k [] all = tt
+  gains_object h k (t ∷ ts) all = (
+    (
+      λ q in_h _. all.0 q (set.contains-insert nat_list_cmp_total h k q ∙ ap (λ b. same_name q k || b) in_h ∙ true_or _),
+      all.0 k (set.contains-insert nat_list_cmp_total h k k ∙ ap (λ b. b || set.contains h k) (same_name_self k)),
+    ),
+    gains_object h k ts all.1,
+  )
+
+  hides-followed_by : (behind : List Hiding) (m : Marked) → hides (followed_by behind m) ≡ hides m.tokens ++ hides behind
+  hides-followed_by behind m = hides-append m.tokens (mark_next m.pending behind) ∙ ap (λ hs. hides m.tokens ++ hs) (hides-mark_next m.pending behind)
+
+  object_steps : (t : Hiding) (rest : List Hiding) → Among t.token.text (table.keys macros) → set.contains t.hide t.token.text ≡ false → (r : Result Marked Fault) → ((m : Marked) → r ≡ Ok m → Each (HasGain (set.insert t.hide t.token.text)) m.tokens) → StepsTo (t ∷ rest) (replaced_by r rest)
+  object_steps t rest named free (Ok m) gain = object t.token.text named free (hides m.tokens) (gains_object t.hide t.token.text m.tokens (gain m refl)) (hides-followed_by rest m)
+  object_steps t rest named free (Err f) gain = tt
+
+  call_steps : (t p : Hiding) (rest : List Hiding) → Among t.token.text (table.keys macros) → set.contains t.hide t.token.text ≡ false → (d : Definition) (names : List Name) (variadic : Bool) (g : Gathered) → Stands rest g → StepsTo (t ∷ (p ∷ rest)) (invoked t d names variadic g)
+  call_steps t p rest named free d names variadic (Closed as' close behind) stands = by_count (fitted names variadic as')
+    where
+      by_count : (o : Option (List (List Hiding))) → StepsTo (t ∷ (p ∷ rest)) (called t d o close behind)
+      by_count (Some bs) = record { inside = p ∷ stands.0; close = close; is = ap (λ xs. t ∷ (p ∷ xs)) stands.1; named = named; free = free; gains = refl }
+      by_count None = tt
+  call_steps t p rest named free d names variadic (Quoted q) stands = tt
+  call_steps t p rest named free d names variadic Unclosed stands = tt
+
+  function_steps : (t : Hiding) (rest : List Hiding) → Among t.token.text (table.keys macros) → set.contains t.hide t.token.text ≡ false → (d : Definition) (names : List Name) (variadic : Bool) → StepsTo (t ∷ rest) (function_turn t d names variadic rest)
+  function_steps t [] named free d names variadic = refl
+  function_steps t (p ∷ rest) named free d names variadic =
+      elim (is_open p.token) as (λ b. StepsTo (t ∷ (p ∷ rest)) (if b then invoked t d names variadic (gather 0 (separators names variadic) rest) else Passes t (p ∷ rest))) [
+        | true ↦ call_steps t p rest named free d names variadic _ (gathered_stands rest 0 (separators names variadic))
+        | false ↦ refl
+      ]
+
+  macro_steps : (t : Hiding) (rest : List Hiding) → Among t.token.text (table.keys macros) → set.contains t.hide t.token.text ≡ false → (d : Definition) (shape : Shape) → StepsTo (t ∷ rest) (macro_turn env t rest d shape)
+  macro_steps t rest named free d (Predefined b) = object t.token.text named free (set.insert t.hide t.token.text ∷ []) (
+    (
+      (λ q in_h _. set.contains-insert nat_list_cmp_total t.hide t.token.text q ∙ ap (λ b. same_name q t.token.text || b) in_h ∙ true_or _),
+      set.contains-insert nat_list_cmp_total t.hide t.token.text t.token.text ∙ ap (λ b. b || set.contains t.hide t.token.text) (same_name_self t.token.text),
+    ),
+    tt,
+  ) refl
+  macro_steps t rest named free d ObjectLike = object_steps t rest named free _ (λ m e. substituted_gain d _ _ _ _ m e)
+  macro_steps t rest named free d (FunctionLike names variadic) = function_steps t rest named free d names variadic
+
+  named_steps : (t : Hiding) (rest : List Hiding) → set.contains t.hide t.token.text ≡ false → (o : Option Definition) → macro_of macros t.token ≡ o → StepsTo (t ∷ rest) (named_turn env t rest o)
+  named_steps t rest free None e = refl
+  named_steps t rest free (Some d) e = macro_steps t rest (among_meaning macros t.token d e) free d d.shape
+
+  pub turn_steps : (list : List Hiding) → StepsTo list (turn macros env list)
+  unfolding turn
+  turn_steps [] = tt
+  turn_steps (t ∷ rest) =
+      elim (is_lone_quote t.token) as (λ b. StepsTo (t ∷ rest) (if b then Refused (quote_fault t) else (if set.contains t.hide t.token.text then Passes t rest else named_turn env t rest (macro_of macros t.token)))) [
+        | true ↦ tt
+        | false ↦ elim (set.contains t.hide t.token.text) as (λ b. set.contains t.hide t.token.text ≡ b → StepsTo (t ∷ rest) (if b then Passes t rest else named_turn env t rest (macro_of macros t.token))) [
+          | true ↦ λ _. refl
+          | false ↦ λ free. named_steps t rest free _ refl
+        ] refl
+      ]
+
+  -- the turn once a call's arguments are expanded
+  abbrev pub FinishesTo : List Hiding → Turn → Type 0
+  FinishesTo list (Replaced next) = HideStep (hides list) (hides next)
+  FinishesTo list (Refused fault) = Unit {0}
+  FinishesTo list _ = ⊥
+
+  finishes : (list : List Hiding) (call : Call) → Found list call → (r : Result Marked Fault) → ((m : Marked) → r ≡ Ok m → Each (HasGain call.gain) m.tokens) → FinishesTo list (replaced_by r call.behind)
+  finishes list call found (Ok m) gain =
+      let lists : hides list ≡ call.head.hide ∷ (hides found.inside ++ found.close.hide ∷ hides call.behind) = ap hides found.is ∙ ap (λ hs. call.head.hide ∷ hs) (hides-append found.inside (found.close ∷ call.behind)) in
+      subst (λ hs. HideStep hs (hides (followed_by call.behind m))) (sym lists)
+      (function call.head.token.text found.named found.free (hides found.inside) found.close.hide (hides call.behind) refl (hides m.tokens)
+      (gains_sets call.head.hide found.close.hide call.head.token.text call.gain found.gains m.tokens (gain m refl)) (hides-followed_by call.behind m))
+  finishes list call found (Err f) gain = tt
+
+  pub finished_steps : (list : List Hiding) (call : Call) (as' : List (Option (List Hiding))) → Found list call → FinishesTo list (finished call as')
+  unfolding finished
+  finished_steps list call as' found = finishes list call found _ (λ m e. substituted_gain call.macro _ call.gain _ _ m e)

@@ -1,0 +1,64 @@
+use Rattle.std.proofs.Common.{◌≡◌, suc, ◌≤◌, [], ◌∷◌, length, sym, ap, ◌∙◌, subst, arith, length-append}
+use Rattle.ppmacro.specs.Numbered.{Numbered}
+use Rattle.ppmacro.specs.HideSets.{hiding, hidings, AllKnown}
+use Rattle.ppexpand.specs.declared.spellings.Mark.TheVariants.{Comma}
+use Rattle.ppexpand.specs.Arguments.{gather, with_token, mark_of}
+use Rattle.ppexpand.specs.Shown.{given_in}
+use Rattle.ppexpand.proofs.Invocations.{at_inner, at_open, at_close, at_separator, at_comma}
+use Rattle.ppexpand.proofs.Gathering.{resumed, resumed-token, resumed-argument, outermost, hidings-push, given-push, known-push, lists_known-push}
+use Rattle.ppexpand.proofs.arguments.gather.Goals as goal
+use Rattle.ppexpand.proofs.arguments.gather.Goals.{in-Close-2, in-Comma+else-separates, in-Open, in-Inner}
+
+pub returns-in-Close-clause-known : goal.returns-in-Close-clause-known
+returns-in-Close-clause-known c = λ sets known.
+    let list : AllKnown sets (c.in-Some.hidden ∷ c.next.new.self) = subst (AllKnown sets) c.in-Some.ensures (c.loop-hidden.invariant.list_known sets known) in (
+      rw c.in_ok-push-in-Close.ensures.items (lists_known-push _ _ (c.loop-hidden.invariant.arguments_known sets known) (c.loop-hidden.invariant.argument_known sets known)),
+      list.each.0,
+      record { each = list.each.1 },
+    )
+
+pub loop-hidden-preserved-in-Comma : goal.loop-hidden-preserved-in-Comma
+loop-hidden-preserved-in-Comma c =
+    let front = c.loop-hidden in
+    let is_comma : mark_of c.in-Some.hidden.token ≡ Comma = sym c.mark_of.ensures ∙ c.in-Comma.is in
+    let list : (sets : Numbered) → AllKnown sets c.args.list.now → AllKnown sets (c.in-Some.hidden ∷ c.next.new.self) = λ sets known. subst (AllKnown sets) c.in-Some.ensures (c.loop-hidden.invariant.list_known sets known) in
+    record {
+      same = λ sets.
+          (let here = ap (λ hs. resumed (given_in sets front.arguments.items) (hidings sets front.argument.items) (gather front.depth front.commas (hidings sets hs))) c.in-Some.ensures in
+          let cut = at_separator front.depth front.commas (hiding sets c.in-Some.hidden) (hidings sets c.next.new.self) is_comma (sym c.separates.ensures ∙ c.if-separates.true) in
+          rw (c.in_ok-push-in-Comma.ensures.items, c.new-argument-in-Comma.ensures.items, c.fewer-commas.ensures, given-push sets front.arguments.items front.argument)
+          (resumed-argument (given_in sets front.arguments.items) (hidings sets front.argument.items) _ ∙ ap (resumed (given_in sets front.arguments.items) (hidings sets front.argument.items)) (sym cut) ∙ sym here ∙ c.loop-hidden.invariant.same sets));
+      arguments_known = λ sets known. rw c.in_ok-push-in-Comma.ensures.items (lists_known-push _ _ (c.loop-hidden.invariant.arguments_known sets known) (c.loop-hidden.invariant.argument_known sets known));
+      argument_known = λ sets known. rw c.new-argument-in-Comma.ensures.items (record { each = tt });
+      list_known = λ sets known. record { each = (list sets known).each.1 };
+      within = omega (arith, outermost front.depth front.commas (sym c.separates.ensures ∙ c.if-separates.true));
+    }
+
+pub loop-hidden-preserved : goal.loop-hidden-preserved
+loop-hidden-preserved c =
+    let front = c.loop-hidden in
+    let mark : mark_of c.in-Some.hidden.token ≡ c.mark_of.result = sym c.mark_of.ensures in
+    let list : (sets : Numbered) → AllKnown sets c.args.list.now → AllKnown sets (c.in-Some.hidden ∷ c.next.new.self) = λ sets known. subst (AllKnown sets) c.in-Some.ensures (c.loop-hidden.invariant.list_known sets known) in
+    let step : (sets : Numbered) → gather front.depth front.commas (hiding sets c.in-Some.hidden ∷ hidings sets c.next.new.self) ≡ with_token (hiding sets c.in-Some.hidden) (gather c.match-mark_of.depth front.commas (hidings sets c.next.new.self)) = λ sets.
+    elim c.match-mark_of.branch [
+      | in-Close-2 w ↦ (let deeper : front.depth ≡ suc c.match-mark_of.depth = omega (arith, w.depth-is, w.if-depth-eq0.false) in rw deeper (at_close c.match-mark_of.depth front.commas (hiding sets c.in-Some.hidden) (hidings sets c.next.new.self) (mark ∙ w.in-Close.is)))
+      | in-Comma+else-separates w ↦ rw w.depth-is (at_comma front.depth front.commas (hiding sets c.in-Some.hidden) (hidings sets c.next.new.self) (mark ∙ w.in-Comma.is) (sym w.separates.ensures ∙ w.if-separates.false))
+      | in-Open w ↦ (let deeper : c.match-mark_of.depth ≡ suc front.depth = omega (arith, w.depth-is) in rw deeper (at_open front.depth front.commas (hiding sets c.in-Some.hidden) (hidings sets c.next.new.self) (mark ∙ w.in-Open.is)))
+      | in-Inner w ↦ rw w.depth-is (at_inner front.depth front.commas (hiding sets c.in-Some.hidden) (hidings sets c.next.new.self) (mark ∙ w.in-Inner.is))
+    ] in
+    let within : c.match-mark_of.depth ≤ suc (length front.argument.items) = elim c.match-mark_of.branch [
+      | in-Close-2 w ↦ omega (arith, w.depth-is, front.invariant.within)
+      | in-Comma+else-separates w ↦ omega (arith, w.depth-is, front.invariant.within)
+      | in-Open w ↦ omega (arith, w.depth-is, front.invariant.within)
+      | in-Inner w ↦ omega (arith, w.depth-is, front.invariant.within)
+    ] in
+    record {
+      same = λ sets.
+          (let here = ap (λ hs. resumed (given_in sets front.arguments.items) (hidings sets front.argument.items) (gather front.depth front.commas (hidings sets hs))) c.in-Some.ensures in
+          rw (c.in_ok-push.ensures.items, hidings-push sets front.argument.items c.in-Some.hidden)
+          (resumed-token (given_in sets front.arguments.items) (hidings sets front.argument.items) (hiding sets c.in-Some.hidden) _ ∙ ap (resumed (given_in sets front.arguments.items) (hidings sets front.argument.items)) (sym (step sets)) ∙ sym here ∙ c.loop-hidden.invariant.same sets));
+      arguments_known = c.loop-hidden.invariant.arguments_known;
+      argument_known = λ sets known. rw c.in_ok-push.ensures.items (known-push _ _ (c.loop-hidden.invariant.argument_known sets known) (list sets known).each.0);
+      list_known = λ sets known. record { each = (list sets known).each.1 };
+      within = rw c.in_ok-push.ensures.items (omega (arith, length-append front.argument.items (c.in-Some.hidden ∷ []), within));
+    }

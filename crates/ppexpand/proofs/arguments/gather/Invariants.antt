@@ -1,0 +1,20 @@
+use Rattle.std.proofs.Common.{◌≡◌, ◌≤◌, length}
+use Rattle.ppmacro.specs.Numbered.{Numbered}
+use Rattle.ppmacro.specs.HideSets.{hidings, AllKnown}
+use Rattle.ppmacro.specs.Substituting.{ListsKnown}
+use Rattle.ppexpand.specs.Arguments.{gather}
+use Rattle.ppexpand.specs.Shown.{given_in}
+use Rattle.ppexpand.proofs.Gathering.{resumed}
+use Rattle.ppexpand.proofs.arguments.gather.Given as goal
+
+abbrev pub invariant-loop-hidden : goal.invariant-loop-hidden
+invariant-loop-hidden l = record {
+  same : (sets : Numbered) → resumed (given_in sets l.arguments.items) (hidings sets l.argument.items) (gather l.depth l.commas (hidings sets l.list)) ≡ gather 0 l.fn.commas (hidings sets l.initial.list);
+  arguments_known : (sets : Numbered) → AllKnown sets l.initial.list → ListsKnown sets l.arguments.items;
+  argument_known : (sets : Numbered) → AllKnown sets l.initial.list → AllKnown sets l.argument.items;
+  list_known : (sets : Numbered) → AllKnown sets l.initial.list → AllKnown sets l.list;
+  within : l.depth ≤ length l.argument.items;
+}
+
+abbrev pub decreases-loop-hidden : goal.decreases-loop-hidden
+decreases-loop-hidden l = length l.list

@@ -1,0 +1,18 @@
+use Rattle.std.proofs.Common.{◌≡◌, refl, ap, ◌∙◌, map}
+use Rattle.ppmacro.specs.Substitution.{plain}
+use Rattle.ppexpand.proofs.Total.{total}
+use Rattle.ppexpand.proofs.Unique.{same_outcome}
+use Rattle.ppexpand.proofs.laws.one_expansion.Goals as goal
+
+pub returns : goal.returns
+returns c = λ macros env tokens.
+    let one = total macros env 0 (map plain tokens) in
+    record {
+      expanded = record { tokens = map (λ t. t.token) one.1.tokens; fault = one.1.fault };
+      is = record { outcome = one.1; expands = (one.0, one.2); passed = refl; ended = refl };
+      only = λ other d.
+          let same : d.outcome ≡ one.1 = (same_outcome macros env d.expands.1 one.0 one.1 one.2).1 in
+          let passed = d.passed ∙ ap (λ o. map (λ t. t.token) o.tokens) same in
+          let ended = d.ended ∙ ap (λ o. o.fault) same in
+          λ i. record { tokens = passed i; fault = ended i };
+    }

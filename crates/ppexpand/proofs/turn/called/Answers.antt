@@ -1,0 +1,28 @@
+use Rattle.std.proofs.Common.{◌≡◌, ◌∙◌, sym, ap, subst}
+use Rattle.std.specs.FinSet as set
+use Rattle.ppmacro.specs.HideSets.{set_at, hiding, hidings}
+use Rattle.ppmacro.proofs.KeepLemmas.{known-set, known-keeps, keeps-after}
+use Rattle.ppexpand.specs.Turn.{Called, called, gain_of}
+use Rattle.ppexpand.specs.Shown.{fitting_in, FittingKnown}
+use Rattle.ppexpand.proofs.Keeping.{call_made, given_known-keeps}
+use Rattle.ppexpand.proofs.turn.called.Goals as goal
+
+pub returns-clause-is : goal.returns-clause-is
+returns-clause-is c =
+    let s = c.args.sets.now in
+    let head = c.args.head in
+    let keeps = keeps-after c.in_ok-both.ensures.keeps c.in_ok-gain.ensures.keeps in
+    let gains : set_at c.with.new.self c.in_ok-gain.gain ≡ gain_of (set_at s head.hide) (set_at s c.args.close.now.hide) head.token.text = c.in_ok-gain.ensures.set ∙ (λ i. set.insert (c.in_ok-both.ensures.set i) (c.as_bytes.ensures i)) in
+    ap Called (call_made (record { head = head; replaced = c.args.replaced; arguments = c.in-Some.arguments; gain = c.in_ok-gain.gain }) c.args.list.now _ keeps c.requires.head (subst (FittingKnown s) c.in-Some.is c.requires.arguments) c.requires.list gains)
+    ∙ ap (λ a. called (hiding s head) c.args.replaced.now (fitting_in s a) (hiding s c.args.close.now) (hidings s c.args.list.now)) (sym c.in-Some.is)
+
+pub returns-clause-known : goal.returns-clause-known
+returns-clause-known c =
+    let keeps = keeps-after c.in_ok-both.ensures.keeps c.in_ok-gain.ensures.keeps in (
+      record {
+        head = known-set c.args.head.hide keeps c.requires.head;
+        arguments = given_known-keeps c.in-Some.arguments.items keeps (subst (FittingKnown c.args.sets.now) c.in-Some.is c.requires.arguments);
+        gain = c.in_ok-gain.ensures.known;
+      },
+      known-keeps c.args.list.now keeps c.requires.list,
+    )

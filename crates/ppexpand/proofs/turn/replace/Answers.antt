@@ -1,0 +1,29 @@
+use Rattle.std.proofs.Common.{◌≡◌, ◌∙◌, ◌++◌, sym, ap, subst}
+use Rattle.std.proofs.lemmas.List.{map-append}
+use Rattle.ppmacro.specs.HideSets.{hiding, hidings, AllKnown}
+use Rattle.ppmacro.specs.Substituting.{marked_in}
+use Rattle.ppmacro.proofs.KeepLemmas.{hidings-keeps, known-keeps, known-append}
+use Rattle.ppexpand.specs.Turn.{Replaced, mark_next, replaced_by}
+use Rattle.ppexpand.proofs.turn.replace.Goals as goal
+
+pub returns-in_ok-push_all-in-Ok-clause-is : goal.returns-in_ok-push_all-in-Ok-clause-is
+returns-in_ok-push_all-in-Ok-clause-is c =
+    let s = c.args.sets.now in
+    let t = c.substitute.new.sets in
+    let list = c.args.list.now in
+    let tokens = c.in-Ok.tokens.items in
+    let made = ap (marked_in t) (sym c.in-Ok.is) ∙ c.in_ok-tokens.ensures.is in
+    let marked : hidings t c.mark_next.new.self ≡ mark_next c.in-Ok.pending (hidings s list) = c.in_ok-mark_next-in-Ok.ensures.is t ∙ ap (mark_next c.in-Ok.pending) (hidings-keeps list c.in_ok-tokens.ensures.keeps c.requires.list) in
+    let all : hidings t c.push_all.new.self ≡ hidings t tokens ++ mark_next c.in-Ok.pending (hidings s list) = ap (hidings t) c.in_ok-push_all-in-Ok.ensures ∙ map-append (hiding t) tokens c.mark_next.new.self ∙ ap (λ hs. hidings t tokens ++ hs) marked in
+    ap Replaced all ∙ ap (λ r. replaced_by r (hidings s list)) made
+
+pub returns-in_ok-push_all-in-Ok-clause-known : goal.returns-in_ok-push_all-in-Ok-clause-known
+returns-in_ok-push_all-in-Ok-clause-known c =
+    let t = c.substitute.new.sets in
+    let tokens : AllKnown t c.in-Ok.tokens.items = rw c.in-Ok.is at c.in_ok-tokens.ensures.known in
+    let rest : AllKnown t c.mark_next.new.self = c.in_ok-mark_next-in-Ok.ensures.known t (known-keeps c.args.list.now c.in_ok-tokens.ensures.keeps c.requires.list) in
+    subst (AllKnown t) (sym c.in_ok-push_all-in-Ok.ensures) (known-append c.in-Ok.tokens.items c.mark_next.new.self tokens rest)
+
+pub returns-in-Err-clause-is : goal.returns-in-Err-clause-is
+returns-in-Err-clause-is c =
+    ap (λ r. replaced_by r (hidings c.args.sets.now c.args.list.now)) (ap (marked_in c.substitute.new.sets) (sym c.in-Err.is) ∙ c.in_ok-tokens.ensures.is)

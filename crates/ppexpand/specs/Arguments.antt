@@ -1,0 +1,83 @@
+-- The arguments of an invocation: the lists between `(` and its matching `)` (6.10.3, paragraphs 4, 10 to 12).
+use Rattle.std.specs.Prelude.{ℕ, zero, suc, ◌==◌, ◌-◌, Bool, true, false, ◌&&◌, ◌||◌, List, [], ◌∷◌, length, Option, Some, None, codes, if◌then◌else◌}
+use Rattle.std.specs.Str.{bytes_eq}
+use Rattle.pptext.specs.declared.tokens.Token.{Token}
+use Rattle.pptext.specs.declared.tokens.Kind.{Kind}
+use Rattle.pptext.specs.declared.tokens.Kind.TheVariants.{Other}
+use Rattle.ppmacro.specs.Names.{Name}
+use Rattle.ppmacro.specs.HideSets.{Hiding}
+use Rattle.ppmacro.specs.Spellings.{is_punct}
+use Rattle.ppexpand.specs.declared.spellings.Mark.{Mark}
+use Rattle.ppexpand.specs.declared.spellings.Mark.TheVariants.{Quote, Open, Close, Comma, Inner}
+
+abbrev pub is_other_kind : Kind → Bool
+is_other_kind Other = true
+is_other_kind _ = false
+
+-- a quote that begins no literal (6.4, paragraph 3)
+abbrev pub is_lone_quote : Token → Bool
+is_lone_quote t = is_other_kind t.kind && (bytes_eq t.text (codes "'") || bytes_eq t.text (34 ∷ []))
+
+abbrev pub is_open : Token → Bool
+is_open t = is_punct (codes "(") t
+
+-- what a token is to the search for the matching `)`
+abbrev pub mark_of : Token → Mark
+mark_of t =
+    if is_lone_quote t then Quote else (
+    if is_open t then Open else (
+    if is_punct (codes ")") t then Close else (
+    if is_punct (codes ",") t then Comma else Inner)))
+
+-- the arguments, the matching `)` and what stands behind it; or the lone quote that stands first; or no end
+pub data Gathered : Type 0 where
+  Closed : (arguments : List (List Hiding)) → (close : Hiding) → (behind : List Hiding) → Gathered
+  Quoted : Hiding → Gathered
+  Unclosed : Gathered
+
+-- a token before the others of the first argument
+abbrev pub with_token : Hiding → Gathered → Gathered
+with_token t (Closed [] close behind) = Closed ((t ∷ []) ∷ []) close behind
+with_token t (Closed (a ∷ as') close behind) = Closed ((t ∷ a) ∷ as') close behind
+with_token t (Quoted q) = Quoted q
+with_token t Unclosed = Unclosed
+
+-- an argument before the others, as yet without tokens
+abbrev pub with_argument : Gathered → Gathered
+with_argument (Closed as' close behind) = Closed ([] ∷ as') close behind
+with_argument (Quoted q) = Quoted q
+with_argument Unclosed = Unclosed
+
+-- whether a comma inside so many parentheses separates arguments, where so many commas may (none: all)
+abbrev pub separates : ℕ → Option ℕ → Bool
+separates zero None = true
+separates zero (Some zero) = false
+separates zero (Some (suc left)) = true
+separates (suc depth) commas = false
+
+abbrev pub fewer : Option ℕ → Option ℕ
+fewer None = None
+fewer (Some n) = Some (n - 1)
+
+-- the list behind `(`, inside so many more parentheses
+abbrev pub gather : ℕ → Option ℕ → List Hiding → Gathered
+gather depth commas [] = Unclosed
+gather depth commas (t ∷ ts) = elim (mark_of t.token) [
+  | Quote ↦ Quoted t
+  | Open ↦ with_token t (gather (suc depth) commas ts)
+  | Close ↦ elim depth [ zero ↦ Closed ([] ∷ []) t ts | suc d ↦ with_token t (gather d commas ts) ]
+  | Comma ↦ elim (separates depth commas) [ true ↦ with_argument (gather depth (fewer commas) ts) | false ↦ with_token t (gather depth commas ts) ]
+  | Inner ↦ with_token t (gather depth commas ts)
+]
+
+-- how many commas separate arguments: all of them, or with `...` one for each named parameter
+abbrev pub separators : List Name → Bool → Option ℕ
+separators names true = Some (length names)
+separators names false = None
+
+-- the arguments, one for each parameter, or nothing where their number is wrong: nothing between the parentheses
+-- is no argument for a macro with neither parameters nor `...`
+abbrev pub fitted : List Name → Bool → List (List Hiding) → Option (List (List Hiding))
+fitted [] false ([] ∷ []) = Some []
+fitted names false as' = if length as' == length names then Some as' else None
+fitted names true as' = if length as' == suc (length names) then Some as' else None

@@ -1,0 +1,99 @@
+-- What the laws say of expansion.
+use Rattle.std.specs.Prelude.{◌≡◌, ℕ, suc, ◌≤◌, Bool, true, false, not, ◌&&◌, ◌||◌, List, [], ◌∷◌, ◌++◌, Option, Some, None, Ok}
+use Rattle.std.specs.FinSet as set
+use Rattle.pptext.specs.declared.tokens.Token.{Token}
+use Rattle.ppmacro.specs.Names.{Macros}
+use Rattle.ppmacro.specs.HideSets.{Hiding}
+use Rattle.ppmacro.specs.Chains.{is_function_like}
+use Rattle.ppmacro.specs.declared.macros.Definition.{Definition}
+use Rattle.ppexpand.specs.declared.env.Env.{Env}
+use Rattle.ppexpand.specs.declared.spellings.Mark.TheVariants.{Open, Close, Comma, Inner}
+use Rattle.ppexpand.specs.declared.expansion.Expanded.{Expanded}
+use Rattle.ppexpand.specs.Arguments.{is_lone_quote, mark_of, separates, fewer}
+use Rattle.ppexpand.specs.Turn.{Call, Passes, Replaced, Called, macro_of, turn, wanted, finished}
+use Rattle.ppexpand.specs.Expansion.{Outcome, ExpandsTo, ExpandsArguments, IsExpansion}
+
+-- a list has exactly one outcome
+pub record HasOneOutcome (macros : Macros) (env : Env) (level : ℕ) (list : List Hiding) : Type 0 where
+  pub outcome : Outcome
+  pub is : ExpandsTo macros env level list outcome
+  pub only : (other : Outcome) → ExpandsTo macros env level list other → other ≡ outcome
+
+-- a list of tokens has exactly one expansion
+pub record HasOneExpansion (macros : Macros) (env : Env) (tokens : List Token) : Type 0 where
+  pub expanded : Expanded
+  pub is : IsExpansion macros env tokens expanded
+  pub only : (other : Expanded) → IsExpansion macros env tokens other → other ≡ expanded
+
+-- one turn leads from a list to the next
+pub data Leads (macros : Macros) (env : Env) (level : ℕ) (list next : List Hiding) : Type 0 where
+  by_passing : {t : Hiding}
+      → turn macros env list ≡ Passes t next
+      → Leads macros env level list next
+  by_replacing :
+      turn macros env list ≡ Replaced next
+      → Leads macros env level list next
+  by_invoking : {call : Call} {expanded : List (Option (List Hiding))}
+      → turn macros env list ≡ Called call
+      → ExpandsArguments macros env level call (wanted call) (Ok expanded)
+      → finished call expanded ≡ Replaced next
+      → Leads macros env level list next
+
+-- so many turns lead from a list to another
+pub data LeadsOn (macros : Macros) (env : Env) (level : ℕ) : ℕ → List Hiding → List Hiding → Type 0 where
+  stays : {list : List Hiding} → LeadsOn macros env level 0 list list
+  turns : {n : ℕ} {list next last : List Hiding} → Leads macros env level list next → LeadsOn macros env level n next last → LeadsOn macros env level (suc n) list last
+
+-- a list takes no more turns than this
+abbrev pub EndsWithin : Macros → Env → ℕ → ℕ → List Hiding → Type 0
+EndsWithin macros env level most list = (n : ℕ) (last : List Hiding) → LeadsOn macros env level n list last → n ≤ most
+
+-- ---- what comes out
+
+-- whether a macro's name is replaced wherever it stands (6.10.3, paragraph 9)
+abbrev pub is_always_replaced : Option Definition → Bool
+is_always_replaced None = false
+is_always_replaced (Some d) = not (is_function_like d.shape)
+
+-- a token that expansion may leave: no lone quote, and no object-like or predefined macro's name outside its hide set
+abbrev pub is_settled : Macros → Hiding → Bool
+is_settled macros t = not (is_lone_quote t.token) && (set.contains t.hide t.token.text || not (is_always_replaced (macro_of macros t.token)))
+
+-- ---- how an invocation is laid out (6.10.3, paragraphs 10 and 11)
+
+-- tokens whose parentheses are in pairs, without a lone quote; with commas outside the parentheses, or without
+pub data Nested : Bool → List Hiding → Type 0 where
+  nothing : {commas : Bool} → Nested commas []
+  inner : {commas : Bool} {t : Hiding} {ts : List Hiding}
+      → mark_of t.token ≡ Inner
+      → Nested commas ts
+      → Nested commas (t ∷ ts)
+  comma : {t : Hiding} {ts : List Hiding}
+      → mark_of t.token ≡ Comma
+      → Nested true ts
+      → Nested true (t ∷ ts)
+  pair : {commas : Bool} (open' : Hiding) (inside : List Hiding) (close : Hiding) (ts : List Hiding)
+      → mark_of open'.token ≡ Open
+      → Nested true inside
+      → mark_of close.token ≡ Close
+      → Nested commas ts
+      → Nested commas (open' ∷ (inside ++ close ∷ ts))
+
+-- the list between the parentheses is these arguments with a comma between them, where so many commas separate (none: all)
+pub data Separated : Option ℕ → List Hiding → List (List Hiding) → Type 0 where
+  last : {commas : Option ℕ} {a : List Hiding}
+      → Nested (not (separates 0 commas)) a
+      → Separated commas a (a ∷ [])
+  more : {commas : Option ℕ} {as' : List (List Hiding)} (a : List Hiding) (t : Hiding) (rest : List Hiding)
+      → separates 0 commas ≡ true
+      → Nested false a
+      → mark_of t.token ≡ Comma
+      → Separated (fewer commas) rest as'
+      → Separated commas (a ++ t ∷ rest) (a ∷ as')
+
+-- behind `(` stand these arguments, this `)` and this
+pub record IsInvocation (commas : Option ℕ) (list : List Hiding) (arguments : List (List Hiding)) (close : Hiding) (behind : List Hiding) : Type 0 where
+  pub inside : List Hiding
+  pub laid_out : list ≡ inside ++ close ∷ behind
+  pub closes : mark_of close.token ≡ Close
+  pub separated : Separated commas inside arguments

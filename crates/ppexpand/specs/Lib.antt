@@ -1,0 +1,5 @@
+pub mod Arguments
+pub mod Turn
+pub mod Expansion
+pub mod Shown
+pub mod Laws

@@ -1,0 +1,124 @@
+-- What the program's values stand for.
+use Rattle.std.specs.Prelude.{◌≡◌, ℕ, suc, ◌<◌, ◌≤◌, List, [], ◌∷◌, ◌++◌, map, Bool, false, length, ◌==◌, Option, Some, None, Result, Ok, Err, Vec}
+use Rattle.std.specs.Global.{Global}
+use Rattle.std.specs.List.{AllByRecursion}
+use Rattle.std.specs.Option.{option_map}
+use Rattle.pptext.specs.declared.tokens.Token.{Token}
+use Rattle.pptext.specs.declared.tokens.Fault.{Fault}
+use Rattle.ppmacro.specs.Names.{Macros}
+use Rattle.ppmacro.specs.Numbered.{Numbered}
+use Rattle.ppmacro.specs.HideSets.{set_at, IsKnown, Hiding, hiding, hidings, AllKnown}
+use Rattle.ppmacro.specs.Define.{fault}
+use Rattle.ppmacro.specs.Substituting.{lists_of, options_of, ListsKnown}
+use Rattle.ppmacro.specs.declared.hide_sets.Hidden.{Hidden}
+use Rattle.ppexpand.specs.declared.env.Env.{Env}
+use Rattle.ppexpand.specs.declared.arguments.Gathered as gathered
+use Rattle.ppexpand.specs.declared.arguments.Gathered.TheVariants as found
+use Rattle.ppexpand.specs.declared.turn.Invocation.{Invocation}
+use Rattle.ppexpand.specs.declared.turn.Next.{Next}
+use Rattle.ppexpand.specs.declared.turn.Next.TheVariants as next
+use Rattle.ppexpand.specs.declared.expansion.Ended.{Ended}
+use Rattle.ppexpand.specs.Arguments.{Gathered, Closed, Quoted, Unclosed}
+use Rattle.ppexpand.specs.Turn.{Call, Turn, Done, Refused, Passes, Replaced, Called}
+use Rattle.ppexpand.specs.Expansion.{Outcome, ExpandedArguments, Expands}
+
+-- ---- arguments
+
+abbrev pub given_in : Numbered → List (Vec Hidden Global) → List (List Hiding)
+given_in sets given = map (hidings sets) (lists_of given)
+
+abbrev pub expanded_in : Numbered → List (Option (Vec Hidden Global)) → List (Option (List Hiding))
+expanded_in sets expanded = map (λ o. option_map (hidings sets) o) (options_of expanded)
+
+abbrev pub fitting_in : Numbered → Option (Vec (Vec Hidden Global) Global) → Option (List (List Hiding))
+fitting_in sets None = None
+fitting_in sets (Some v) = Some (given_in sets v.items)
+
+abbrev pub FittingKnown : Numbered → Option (Vec (Vec Hidden Global) Global) → Type 0
+FittingKnown sets None = Unit {0}
+FittingKnown sets (Some v) = ListsKnown sets v.items
+
+abbrev pub held : Option (Vec Hidden Global) → List Hidden
+held None = []
+held (Some v) = v.items
+
+-- the sets of all expansions' tokens are there
+pub record ExpansionsKnown (sets : Numbered) (os : List (Option (Vec Hidden Global))) : Type 0 where
+  pub each : AllByRecursion (λ o. AllKnown sets (held o)) os
+
+-- nothing stands between the parentheses
+abbrev pub is_bare : List (Vec Hidden Global) → Bool
+is_bare (v ∷ []) = length v.items == 0
+is_bare _ = false
+
+-- what was gathered, where this list is left
+abbrev pub gathered_in : Numbered → List Hidden → gathered.Gathered → Gathered
+gathered_in sets left (found.Closed arguments close) = Closed (given_in sets arguments.items) (hiding sets close) (hidings sets left)
+gathered_in sets left (found.Quoted quote) = Quoted (hiding sets quote)
+gathered_in sets left found.Unclosed = Unclosed
+
+abbrev pub GatheredKnown : Numbered → List Hidden → gathered.Gathered → Type 0
+GatheredKnown sets left (found.Closed arguments close) = ListsKnown sets arguments.items × IsKnown sets close.hide × AllKnown sets left
+GatheredKnown sets left _ = Unit {0}
+
+-- ---- turns
+
+-- an invocation with what stands behind its `)`
+abbrev pub call_in : Numbered → Invocation → List Hidden → Call
+call_in sets c behind = record { head = hiding sets c.head; macro = c.replaced.now; arguments = given_in sets c.arguments.items; gain = set_at sets c.gain; behind = hidings sets behind }
+
+-- the sets of an invocation are there
+pub record CallKnown (sets : Numbered) (c : Invocation) : Type 0 where
+  pub head : IsKnown sets c.head.hide
+  pub arguments : ListsKnown sets c.arguments.items
+  pub gain : IsKnown sets c.gain
+
+-- the turn, where this list is left
+abbrev pub turn_in : Numbered → List Hidden → Next → Turn
+turn_in sets left next.Done = Done
+turn_in sets left (next.Refused f) = Refused f
+turn_in sets left (next.Passes head) = Passes (hiding sets head) (hidings sets left)
+turn_in sets left next.Replaced = Replaced (hidings sets left)
+turn_in sets left (next.Called c) = Called (call_in sets c left)
+
+abbrev pub NextKnown : Numbered → List Hidden → Next → Type 0
+NextKnown sets left (next.Passes head) = IsKnown sets head.hide × AllKnown sets left
+NextKnown sets left next.Replaced = AllKnown sets left
+NextKnown sets left (next.Called c) = CallKnown sets c × AllKnown sets left
+NextKnown sets left _ = Unit {0}
+
+-- a replacement, where this list is left
+abbrev pub replaced_in : Numbered → List Hidden → Result (Unit {0}) Fault → Turn
+replaced_in sets left (Ok u) = Replaced (hidings sets left)
+replaced_in sets left (Err f) = Refused f
+
+-- ---- expansion
+
+-- an argument used by an invocation at this level has this expansion, or this fault
+pub data ExpandsArgument (macros : Macros) (env : Env) (level : ℕ) (head : Token) (list : List Hiding) : Result (List Hiding) Fault → Type 0 where
+  expands : {turns : ℕ} {tokens : List Hiding} → level < 256 → Expands macros env (suc level) turns list (record { tokens = tokens; fault = None }) → ExpandsArgument macros env level head list (Ok tokens)
+  raises : {turns : ℕ} {tokens : List Hiding} {f : Fault} → level < 256 → Expands macros env (suc level) turns list (record { tokens = tokens; fault = Some f }) → ExpandsArgument macros env level head list (Err f)
+  deep : 256 ≤ level → ExpandsArgument macros env level head list (Err (fault 21 head.used head.text))
+
+abbrev pub expansions_in : Numbered → Result (Vec (Option (Vec Hidden Global)) Global) Fault → ExpandedArguments
+expansions_in sets (Ok v) = Ok (expanded_in sets v.items)
+expansions_in sets (Err f) = Err f
+
+-- one turn led from the first list to the second, and these tokens passed
+pub record Advances (macros : Macros) (env : Env) (level : ℕ) (list : List Hiding) (next : List Hiding) (tokens : List Hiding) : Type 0 where
+  pub turn : (n : ℕ) (out : Outcome) → Expands macros env level n next out → Expands macros env level (suc n) list (record { tokens = tokens ++ out.tokens; fault = out.fault })
+
+-- the list ends here, with this fault or none
+abbrev pub EndsWith : Macros → Env → ℕ → List Hiding → Option Fault → Type 0
+EndsWith macros env level list f = Expands macros env level 0 list (record { tokens = []; fault = f })
+
+-- one turn led from a list, behind these tokens that passed, to another behind more of them
+abbrev pub HasAdvanced : Macros → Env → ℕ → List Hiding → List Hiding → List Hiding → List Hiding → Type 0
+HasAdvanced macros env level list passed next more = (tokens : List Hiding) × (more ≡ passed ++ tokens) × Advances macros env level list next tokens
+
+-- a list ended behind these tokens that passed, with this fault or none, and they stayed
+abbrev pub HasEnded : Macros → Env → ℕ → List Hiding → List Hiding → Option Fault → List Hiding → Type 0
+HasEnded macros env level list passed f more = EndsWith macros env level list f × (more ≡ passed)
+
+abbrev pub outcome_in : Numbered → Ended → Outcome
+outcome_in sets e = record { tokens = hidings sets e.tokens.items; fault = e.fault }

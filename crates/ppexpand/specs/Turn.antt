@@ -1,0 +1,162 @@
+-- What the head of a list calls for: the rules of macro replacement (6.10.3, 6.10.3.1, 6.10.3.4), by cases on whole
+-- lists whose tokens carry hide sets.
+use Rattle.std.specs.Prelude.{ℕ, suc, ℤ, pos, ◌+ℤ◌, nat_abs, decimal, Bool, true, false, List, [], ◌∷◌, ◌++◌, Option, Some, None, Result, Ok, Err, codes, ◌==◌, if◌then◌else◌}
+use Rattle.std.specs.List.{list_any}
+use Rattle.std.specs.FinSet as set
+use Rattle.std.specs.FinMap as table
+use Rattle.pptext.specs.declared.tokens.Token.{Token}
+use Rattle.pptext.specs.declared.tokens.Fault.{Fault}
+use Rattle.pptext.specs.declared.tokens.Place.{Place}
+use Rattle.pptext.specs.declared.tokens.Kind.{Kind}
+use Rattle.pptext.specs.declared.tokens.Kind.TheVariants.{Number, Str as StringLiteral}
+use Rattle.ppmacro.specs.Names.{Name, HideSet, Macros}
+use Rattle.ppmacro.specs.HideSets.{Hiding}
+use Rattle.ppmacro.specs.Spellings.{is_identifier}
+use Rattle.ppmacro.specs.Define.{fault}
+use Rattle.ppmacro.specs.Chains.{chains_of}
+use Rattle.ppmacro.specs.Substitution.{Arguments, Marked, with_mark, substituted}
+use Rattle.ppmacro.specs.declared.macros.Builtin.{Builtin}
+use Rattle.ppmacro.specs.declared.macros.Builtin.TheVariants.{File, Line, Date, Time, Stdc, StdcHosted, StdcVersion}
+use Rattle.ppmacro.specs.declared.macros.Shape.{Shape}
+use Rattle.ppmacro.specs.declared.macros.Shape.TheVariants.{Predefined, ObjectLike, FunctionLike}
+use Rattle.ppmacro.specs.declared.macros.Definition.{Definition}
+use Rattle.ppmacro.specs.declared.macros.Chain.{Chain}
+use Rattle.ppmacro.specs.declared.macros.Operand.{Operand}
+use Rattle.ppmacro.specs.declared.macros.Operand.TheVariants.{Param}
+use Rattle.ppexpand.specs.declared.env.Env.{Env}
+use Rattle.ppexpand.specs.Arguments.{is_lone_quote, is_open, Gathered, Closed, Quoted, Unclosed, gather, separators, fitted}
+
+-- ---- the predefined names (6.10.8.1)
+
+-- the presumed line number of a place
+abbrev pub presumed_line : Env → Place → ℤ
+presumed_line env place = pos place.line +ℤ env.shift
+
+abbrev pub quoted : List ℕ → List ℕ
+quoted text = 34 ∷ (text ++ 34 ∷ [])
+
+abbrev pub predefined_kind : Builtin → Kind
+predefined_kind File = StringLiteral
+predefined_kind Date = StringLiteral
+predefined_kind Time = StringLiteral
+predefined_kind _ = Number
+
+-- where the name is used at this place
+abbrev pub predefined_text : Builtin → Env → Place → List ℕ
+predefined_text File env used = env.name
+predefined_text Line env used = decimal (nat_abs (presumed_line env used))
+predefined_text Date env used = quoted env.date
+predefined_text Time env used = quoted env.time
+predefined_text Stdc env used = codes "1"
+predefined_text StdcHosted env used = codes "1"
+predefined_text StdcVersion env used = codes "201112L"
+
+-- the token that replaces a predefined name: its place and space mark are the name's
+abbrev pub predefined_value : Builtin → Env → Hiding → HideSet → Hiding
+predefined_value b env t gain = record {
+  token = record { kind = predefined_kind b; text = predefined_text b env t.token.used; space = t.token.space; at = t.token.at; used = t.token.used };
+  hide = gain;
+}
+
+-- ---- turns
+
+-- an invocation of a function-like macro: its name, the macro, an argument for each parameter, the names that the
+-- result gains, and what stands behind the matching `)`
+pub record Call : Type 0 where
+  pub head : Hiding
+  pub macro : Definition
+  pub arguments : List (List Hiding)
+  pub gain : HideSet
+  pub behind : List Hiding
+
+-- the list is empty; or it has a fault; or its head passes, and the rest is left; or this list replaces it; or its
+-- head is invoked
+pub data Turn : Type 0 where
+  Done : Turn
+  Refused : Fault → Turn
+  Passes : Hiding → List Hiding → Turn
+  Replaced : List Hiding → Turn
+  Called : Call → Turn
+
+-- a space mark that is left pending goes to the next token
+abbrev pub mark_next : Bool → List Hiding → List Hiding
+mark_next true (t ∷ ts) = with_mark true t ∷ ts
+mark_next true [] = []
+mark_next false ts = ts
+
+-- a replacement in front of the rest of the list (6.10.3.4)
+abbrev pub followed_by : List Hiding → Marked → List Hiding
+followed_by behind m = m.tokens ++ mark_next m.pending behind
+
+abbrev pub replaced_by : Result Marked Fault → List Hiding → Turn
+replaced_by (Ok m) behind = Replaced (followed_by behind m)
+replaced_by (Err f) behind = Refused f
+
+-- a fault at a macro's name, where it is used
+abbrev pub fault_at_use : ℕ → Hiding → Fault
+fault_at_use n t = fault n t.token.used t.token.text
+
+abbrev pub quote_fault : Hiding → Fault
+quote_fault t = fault 7 t.token.at t.token.text
+
+-- what an invocation's result gains: the names that hide both its name and its `)`, and the name
+abbrev pub gain_of : HideSet → HideSet → Name → HideSet
+gain_of hide close name = set.insert (set.intersection hide close) name
+
+abbrev pub called : Hiding → Definition → Option (List (List Hiding)) → Hiding → List Hiding → Turn
+called t d (Some as') close behind = Called (record { head = t; macro = d; arguments = as'; gain = gain_of t.hide close.hide t.token.text; behind = behind })
+called t d None close behind = Refused (fault_at_use 18 t)
+
+abbrev pub invoked : Hiding → Definition → List Name → Bool → Gathered → Turn
+invoked t d names variadic (Closed as' close behind) = called t d (fitted names variadic as') close behind
+invoked t d names variadic (Quoted q) = Refused (quote_fault q)
+invoked t d names variadic Unclosed = Refused (fault_at_use 17 t)
+
+-- a function-like macro's name is invoked where `(` is next, and else passes (6.10.3, paragraph 10)
+abbrev pub function_turn : Hiding → Definition → List Name → Bool → List Hiding → Turn
+function_turn t d names variadic [] = Passes t []
+function_turn t d names variadic (p ∷ rest) = if is_open p.token then invoked t d names variadic (gather 0 (separators names variadic) rest) else Passes t (p ∷ rest)
+
+abbrev pub no_arguments : Arguments
+no_arguments = record { given = []; expanded = [] }
+
+abbrev pub macro_turn : Env → Hiding → List Hiding → Definition → Shape → Turn
+macro_turn env t rest d (Predefined b) = Replaced (predefined_value b env t (set.insert t.hide t.token.text) ∷ rest)
+macro_turn env t rest d ObjectLike = replaced_by (substituted d no_arguments (set.insert t.hide t.token.text) t.token.used t.token.space) rest
+macro_turn env t rest d (FunctionLike names variadic) = function_turn t d names variadic rest
+
+abbrev pub named_turn : Env → Hiding → List Hiding → Option Definition → Turn
+named_turn env t rest (Some d) = macro_turn env t rest d d.shape
+named_turn env t rest None = Passes t rest
+
+-- the macro that a token names
+abbrev pub macro_of : Macros → Token → Option Definition
+macro_of macros t = if is_identifier t then table.get macros t.text else None
+
+unfoldable pub turn : Macros → Env → List Hiding → Turn
+turn macros env [] = Done
+turn macros env (t ∷ rest) =
+    if is_lone_quote t.token then Refused (quote_fault t) else (
+    if set.contains t.hide t.token.text then Passes t rest else named_turn env t rest (macro_of macros t.token))
+
+-- ---- the arguments that are expanded (6.10.3.1)
+
+abbrev pub is_alone : ℕ → List Operand → Bool
+is_alone i (Param j ∷ []) = i == j
+is_alone i _ = false
+
+-- whether the replacement list has this parameter away from `#` and `##`
+abbrev pub uses_alone : ℕ → List Chain → Bool
+uses_alone i cs = list_any (λ c. is_alone i c.operands) cs
+
+-- for the parameters from i on: the arguments that are to be expanded
+abbrev pub to_expand : ℕ → List Chain → List (List Hiding) → List (Option (List Hiding))
+to_expand i cs [] = []
+to_expand i cs (a ∷ as') = (if uses_alone i cs then Some a else None) ∷ to_expand (suc i) cs as'
+
+unfoldable pub wanted : Call → List (Option (List Hiding))
+wanted call = to_expand 0 (chains_of call.macro) call.arguments
+
+-- the turn once they are expanded
+unfoldable pub finished : Call → List (Option (List Hiding)) → Turn
+finished call expanded = replaced_by (substituted call.macro (record { given = call.arguments; expanded = expanded }) call.gain call.head.token.used call.head.token.space) call.behind

@@ -1,0 +1,119 @@
+// The arguments of an invocation (6.10.3p4, p11, p12).
+ghost use Rattle.std.specs.Prelude.{◌≡◌, IfOk};
+ghost use Rattle.ppmacro.specs.Numbered.{Numbered};
+ghost use Rattle.ppmacro.specs.HideSets.{hidings, AllKnown};
+ghost use Rattle.ppmacro.specs.Substituting.{ListsKnown};
+ghost use Rattle.ppexpand.specs.Arguments.{separates, fewer, separators, gather, fitted};
+ghost use Rattle.ppexpand.specs.Shown.{gathered_in, GatheredKnown, given_in, fitting_in, FittingKnown, is_bare};
+
+use crate::cursor::Cursor;
+use crate::spellings::{Mark, mark_of};
+use ppmacro::Hidden;
+use pptext::Spelling;
+use std::alloc::{AllocError, Global};
+
+/// What stands behind the `(` of an invocation.
+#[derive(Drop)]
+pub(crate) enum Gathered {
+    /// Arguments and the matching `)`.
+    Closed(Vec<Vec<Hidden>>, Hidden),
+    /// A lone quote before any matching `)`.
+    Quoted(Hidden),
+    /// No matching `)`.
+    Unclosed,
+}
+
+/// How many commas separate arguments: all, or with `...` one for each named parameter.
+pub(crate) fn separators(names: &[Spelling], variadic: bool) -> Option<usize>
+    ensures { result ≡ separators names.now variadic }
+{
+    if variadic { Some(names.len()) } else { None }
+}
+
+/// Whether a comma inside so many parentheses separates arguments, where so many commas may.
+fn separates(depth: usize, commas: Option<usize>) -> bool
+    ensures { result ≡ separates depth commas }
+{
+    depth == 0 && !matches!(commas, Some(0))
+}
+
+/// How many commas may separate arguments once one has.
+fn fewer(commas: Option<usize>) -> Option<usize>
+    ensures { result ≡ fewer commas }
+{
+    match commas {
+        Some(left) => Some(left.saturating_sub(1)),
+        None => None,
+    }
+}
+
+/// Takes the arguments of an invocation with the matching `)` out of the list behind the `(`.
+pub(crate) fn gather(
+    alloc: Global,
+    list: &mut Cursor,
+    commas: Option<usize>,
+) -> Result<Gathered, AllocError>
+    ensures is { IfOk result (λ g. (sets : Numbered) → gathered_in sets list.new g ≡ gather 0 commas (hidings sets list.old)) }
+    ensures known { IfOk result (λ g. (sets : Numbered) → AllKnown sets list.old → GatheredKnown sets list.new g) }
+{
+    let mut arguments: Vec<Vec<Hidden>> = Vec::new(alloc);
+    let mut argument = Vec::new(alloc);
+    let mut depth: usize = 0;
+    let mut commas = commas;
+    while let Some(hidden) = list.next() {
+        match mark_of(&hidden.token) {
+            Mark::Quote => return Ok(Gathered::Quoted(hidden)),
+            Mark::Close if depth == 0 => {
+                arguments.push(argument)?;
+                return Ok(Gathered::Closed(arguments, hidden));
+            }
+            Mark::Comma if separates(depth, commas) => {
+                arguments.push(argument)?;
+                argument = Vec::new(alloc);
+                commas = fewer(commas);
+                continue;
+            }
+            Mark::Open => depth += 1,
+            Mark::Close => depth -= 1,
+            Mark::Comma => {}
+            Mark::Inner => {}
+        }
+        argument.push(hidden)?;
+    }
+    Ok(Gathered::Unclosed)
+}
+
+/// Whether nothing stands between the parentheses.
+fn is_bare(arguments: &[Vec<Hidden>]) -> bool
+    ensures { result ≡ is_bare arguments.now }
+{
+    match arguments {
+        [argument] => argument.as_slice().is_empty(),
+        _ => false,
+    }
+}
+
+/// The arguments by parameter, or None where their number is wrong.
+pub(crate) fn fit(
+    alloc: Global,
+    arguments: Vec<Vec<Hidden>>,
+    names: &[Spelling],
+    variadic: bool,
+) -> Option<Vec<Vec<Hidden>>>
+    ensures is { (sets : Numbered) → fitting_in sets result ≡ fitted names.now variadic (given_in sets arguments.items) }
+    ensures known { (sets : Numbered) → ListsKnown sets arguments.items → FittingKnown sets result }
+{
+    if names.is_empty() && !variadic && is_bare(arguments.as_slice()) {
+        return Some(Vec::new(alloc));
+    }
+    let named = if variadic {
+        arguments.len().saturating_sub(1)
+    } else {
+        arguments.len()
+    };
+    if named == names.len() && (!variadic || !arguments.is_empty()) {
+        Some(arguments)
+    } else {
+        None
+    }
+}

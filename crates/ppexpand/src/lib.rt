@@ -1,0 +1,20 @@
+// Macro replacement of C11 (6.10.3) by hide sets, and its end.
+#![tactic(auto)]
+
+mod arguments;
+mod cursor;
+mod env;
+mod expansion;
+mod laws;
+mod predefined;
+mod spellings;
+#[cfg(test)]
+mod tests;
+mod turn;
+
+pub use env::Env;
+pub use expansion::{Expanded, expand};
+pub use laws::{
+    expansion_ends, finds_arguments, leaves_settled_tokens, one_expansion, one_outcome,
+};
+pub use spellings::is_lone_quote;

@@ -1,0 +1,82 @@
+// The values of the predefined names (6.10.8.1).
+ghost use Rattle.std.specs.Prelude.{◌≡◌, IfOk, decimal, nat_abs};
+ghost use Rattle.ppmacro.specs.Numbered.{Numbered};
+ghost use Rattle.ppmacro.specs.HideSets.{set_at, hiding};
+ghost use Rattle.ppexpand.specs.Turn.{presumed_line, quoted, predefined_kind, predefined_text, predefined_value};
+
+use crate::env::Env;
+use itoa::Buffer;
+use ppmacro::{Builtin, Hidden, Set};
+use pptext::{Kind, Place, Spelling, Token};
+use std::alloc::{AllocError, Global};
+
+/// The kind of a predefined name's value.
+fn predefined_kind(builtin: Builtin) -> Kind
+    ensures { result ≡ predefined_kind builtin }
+{
+    match builtin {
+        Builtin::File | Builtin::Date | Builtin::Time => Kind::Str,
+        Builtin::Line | Builtin::Stdc | Builtin::StdcHosted | Builtin::StdcVersion => Kind::Number,
+    }
+}
+
+/// A text between quotes.
+fn quoted(alloc: Global, text: &[u8]) -> Result<Vec<u8>, AllocError>
+    ensures { IfOk result (λ v. v.items ≡ quoted text.now) }
+{
+    let mut literal = Vec::from_slice(alloc, b"\"")?;
+    literal.extend_from_slice(text)?;
+    literal.push(b'"')?;
+    Ok(literal)
+}
+
+/// The presumed line of a place, in decimal.
+fn presumed_line(alloc: Global, env: &Env, used: Place) -> Result<Vec<u8>, AllocError>
+    ensures { IfOk result (λ v. v.items ≡ decimal (nat_abs (presumed_line env.now used))) }
+{
+    let line = i128::from(used.line) + i128::from(env.shift);
+    let mut buffer = Buffer::new();
+    Vec::from_slice(alloc, buffer.format(line.unsigned_abs()).as_bytes())
+}
+
+/// The spelling of a predefined name's value, where the name is used at this place.
+fn predefined_text(
+    alloc: Global,
+    builtin: Builtin,
+    env: &Env,
+    used: Place,
+) -> Result<Vec<u8>, AllocError>
+    ensures { IfOk result (λ v. v.items ≡ predefined_text builtin env.now used) }
+{
+    match builtin {
+        Builtin::File => Vec::from_slice(alloc, env.name.as_bytes()),
+        Builtin::Line => presumed_line(alloc, env, used),
+        Builtin::Date => quoted(alloc, env.date.as_bytes()),
+        Builtin::Time => quoted(alloc, env.time.as_bytes()),
+        Builtin::Stdc | Builtin::StdcHosted => Vec::from_slice(alloc, b"1"),
+        Builtin::StdcVersion => Vec::from_slice(alloc, b"201112L"),
+    }
+}
+
+/// The token that a predefined name is replaced by.
+pub(crate) fn predefined_value(
+    alloc: Global,
+    builtin: Builtin,
+    env: &Env,
+    head: &Hidden,
+    gain: Set,
+) -> Result<Hidden, AllocError>
+    ensures is { IfOk result (λ h. (sets : Numbered) → hiding sets h ≡ predefined_value builtin env.now (hiding sets head.now) (set_at sets gain)) }
+    ensures gain { IfOk result (λ h. h.hide ≡ gain) }
+{
+    let name = &head.token;
+    let text = Spelling::new(predefined_text(alloc, builtin, env, name.used)?);
+    let token = Token {
+        kind: predefined_kind(builtin),
+        text,
+        space: name.space,
+        at: name.at,
+        used: name.used,
+    };
+    Ok(Hidden { token, hide: gain })
+}
