@@ -1,0 +1,10 @@
+pub mod Shifts
+pub mod Digits
+pub mod Complete
+pub mod Sound
+pub mod Exact
+pub mod OneTree
+pub mod Asked
+pub mod SymbolSteps
+pub mod ConditionSteps
+pub mod OneCondition

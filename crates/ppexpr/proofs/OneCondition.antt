@@ -1,0 +1,95 @@
+-- A condition has at most one answer.
+use Rattle.std.proofs.Common.{◌≡◌, ℕ, Bool, true, false, List, [], ◌∷◌, Option, Some, None, Ok, Err, refl, sym, ◌∙◌, ap, map, subst}
+use Rattle.std.specs.List.{list_any}
+use Rattle.pptext.specs.declared.tokens.Place.{Place}
+use Rattle.pptext.specs.declared.tokens.Token.{Token}
+use Rattle.pptext.specs.declared.tokens.Fault.{Fault}
+use Rattle.ppmacro.specs.Names.{Macros}
+use Rattle.ppmacro.specs.Substitution.{plain}
+use Rattle.ppexpand.specs.declared.env.Env.{Env}
+use Rattle.ppexpand.specs.declared.expansion.Expanded.{Expanded}
+use Rattle.ppexpand.specs.Expansion.{IsExpansion}
+use Rattle.ppexpand.proofs.Unique.{same_outcome}
+use Rattle.ppexpr.specs.declared.symbols.Symbol.{Symbol}
+use Rattle.ppexpr.specs.declared.symbols.Outcome.{Outcome}
+use Rattle.ppexpr.specs.Reading.{Denotes}
+use Rattle.ppexpr.specs.Values.{outcome_of}
+use Rattle.ppexpr.specs.Asking.{is_defined, Operand, operand, answer, Asks, nothing, other, question}
+use Rattle.ppexpr.specs.Tokens.{symbols_of}
+use Rattle.ppexpr.specs.Conditions.{Condition, taken, Evaluates, no_expression, has_value, Judges, too_nested, not_nested, Decides, made_defined, bad_constant, constants, IsCondition, ill_formed, not_replaced, replaced}
+use Rattle.ppexpr.proofs.OneTree.{same_tree}
+use Rattle.ppexpr.proofs.Asked.{Begins, begins_other, begins_question}
+
+same_nothing : (macros : Macros) (vs : List Token) → Asks macros [] vs → [] ≡ vs
+same_nothing macros vs nothing = refl
+
+same_asks : (macros : Macros) (ts us vs : List Token) → Asks macros ts us → Asks macros ts vs → us ≡ vs
+same_asks macros ts us vs nothing h = same_nothing macros vs h
+same_asks macros ts us vs (other {t = t} {ts = ss} {us = xs} e a) h =
+    let b : Begins macros t ss vs = begins_other macros t ss vs e h in
+    ap (λ x. t ∷ x) (same_asks macros ss xs b.us a b.asks) ∙ sym b.is
+same_asks macros ts us vs (question {d = d} {ts = ss} {us = xs} {o = o} e g a) h =
+    let b : Begins macros (answer macros d o.name) o.rest vs = begins_question macros d ss vs o e g h in
+    ap (λ x. answer macros d o.name ∷ x) (same_asks macros o.rest xs b.us a b.asks) ∙ sym b.is
+
+same_expansion : (macros : Macros) (env : Env) (ts : List Token) (d e : Expanded) → IsExpansion macros env ts d → IsExpansion macros env ts e → d ≡ e
+same_expansion macros env ts d e g h =
+    let same : g.outcome ≡ h.outcome = (same_outcome macros env g.expands.1 h.expands.0 h.outcome h.expands.1).1 in
+    let passed : d.tokens ≡ e.tokens = g.passed ∙ (ap (λ o. map (λ t. t.token) o.tokens) same ∙ sym h.passed) in
+    let ended : d.fault ≡ e.fault = g.ended ∙ (ap (λ o. o.fault) same ∙ sym h.ended) in
+    λ i. record { tokens = passed i; fault = ended i }
+
+same_outcomes : (s : List Symbol) (o p : Outcome) → Denotes s o → Denotes s p → o ≡ p
+same_outcomes s o p h k = sym h.2 ∙ (ap outcome_of (same_tree s h.0 k.0 h.1 k.1) ∙ k.2)
+
+same_evaluation : (at : Place) (s : List Symbol) (c d : Condition) → Evaluates at s c → Evaluates at s d → c ≡ d
+same_evaluation at s c d (no_expression n) (no_expression m) = refl
+same_evaluation at s c d (no_expression n) (has_value h) = absurd (n (h.0, h.1))
+same_evaluation at s c d (has_value h) (no_expression n) = absurd (n (h.0, h.1))
+same_evaluation at s c d (has_value {o = o} h) (has_value {o = p} k) = ap (λ (x : Outcome). taken at x.value) (same_outcomes s o p h k)
+
+same_judgement : (at : Place) (s : List Symbol) (c d : Condition) → Judges at s c → Judges at s d → c ≡ d
+same_judgement at s c d (too_nested n) (too_nested m) = refl
+same_judgement at s c d (too_nested n) (not_nested m h) = absurd (m n)
+same_judgement at s c d (not_nested m h) (too_nested n) = absurd (m n)
+same_judgement at s c d (not_nested m h) (not_nested n k) = same_evaluation at s c d h k
+
+same_symbols : (at : Place) (ts : List Token) (s r : List Symbol) → symbols_of at ts ≡ Ok s → symbols_of at ts ≡ Ok r → s ≡ r
+same_symbols at ts s r e f = cc
+
+same_decision : (at : Place) (ts : List Token) (c d : Condition) → Decides at ts c → Decides at ts d → c ≡ d
+same_decision at ts c d (made_defined e) (made_defined f) = refl
+same_decision at ts c d (made_defined e) (bad_constant f g) = cc
+same_decision at ts c d (made_defined e) (constants f g j) = cc
+same_decision at ts c d (bad_constant f g) (made_defined e) = cc
+same_decision at ts c d (bad_constant e f) (bad_constant g h) = cc
+same_decision at ts c d (bad_constant e f) (constants g h j) = cc
+same_decision at ts c d (constants f g j) (made_defined e) = cc
+same_decision at ts c d (constants g h j) (bad_constant e f) = cc
+same_decision at ts c d (constants {symbols = s} e f j) (constants {symbols = r} g h k) =
+    same_judgement at r c d (subst (λ (x : List Symbol). Judges at x c) (same_symbols at ts s r f h) j) k
+
+-- what the tokens with numbers in place of `defined` are expanded to
+same_replacement : (macros : Macros) (env : Env) (ts us vs : List Token) (d e : Expanded) → Asks macros ts us → Asks macros ts vs → IsExpansion macros env us d → IsExpansion macros env vs e → d ≡ e
+same_replacement macros env ts us vs d e a b g h = same_expansion macros env vs d e (subst (λ (x : List Token). IsExpansion macros env x d) (same_asks macros ts us vs a b) g) h
+
+same_fault : (d e : Expanded) (f q : Fault) → d ≡ e → d.fault ≡ Some f → e.fault ≡ Some q → f ≡ q
+same_fault d e f q s g h = let k : d.fault ≡ e.fault = ap (λ (x : Expanded). x.fault) s in cc
+
+no_fault : (d e : Expanded) (f : Fault) → d ≡ e → d.fault ≡ Some f → e.fault ≡ None → ⊥
+no_fault d e f s g h = let k : d.fault ≡ e.fault = ap (λ (x : Expanded). x.fault) s in cc
+
+pub same_condition : (macros : Macros) (env : Env) (at : Place) (ts : List Token) (c d : Condition) → IsCondition macros env at ts c → IsCondition macros env at ts d → c ≡ d
+same_condition macros env at ts c d (ill_formed n) (ill_formed m) = refl
+same_condition macros env at ts c d (ill_formed n) (not_replaced a g h) = absurd (n _ a)
+same_condition macros env at ts c d (ill_formed n) (replaced a g h j) = absurd (n _ a)
+same_condition macros env at ts c d (not_replaced a g h) (ill_formed n) = absurd (n _ a)
+same_condition macros env at ts c d (replaced a g h j) (ill_formed n) = absurd (n _ a)
+same_condition macros env at ts c d (not_replaced {asked = us} {e = x} {f = f} a g h) (not_replaced {asked = vs} {e = y} {f = q} b k l) =
+    ap (λ (z : Fault). Err z) (same_fault x y f q (same_replacement macros env ts us vs x y a b g k) h l)
+same_condition macros env at ts c d (not_replaced {asked = us} {e = x} {f = f} a g h) (replaced {asked = vs} {e = y} b k l j) =
+    absurd (no_fault x y f (same_replacement macros env ts us vs x y a b g k) h l)
+same_condition macros env at ts c d (replaced {asked = vs} {e = y} b k l j) (not_replaced {asked = us} {e = x} {f = f} a g h) =
+    absurd (no_fault x y f (same_replacement macros env ts us vs x y a b g k) h l)
+same_condition macros env at ts c d (replaced {asked = us} {e = x} a g h i) (replaced {asked = vs} {e = y} b k l j) =
+    same_decision at y.tokens c d (subst (λ (z : Expanded). Decides at z.tokens c) (same_replacement macros env ts us vs x y a b g k) i) j

@@ -1,0 +1,36 @@
+-- `defined` in a controlling expression (6.10.1p1), before macro replacement.
+use Rattle.std.specs.Prelude.{◌≡◌, ◌&&◌, Bool, true, false, List, [], ◌∷◌, Option, Some, None, is_some, codes, if◌then◌else◌}
+use Rattle.std.specs.FinMap as table
+use Rattle.pptext.specs.declared.tokens.Token.{Token}
+use Rattle.pptext.specs.declared.tokens.Kind.TheVariants.{Number}
+use Rattle.ppmacro.specs.Names.{Macros}
+use Rattle.ppmacro.specs.Spellings.{is_identifier, is_name, is_punct}
+
+abbrev pub is_defined : Token → Bool
+is_defined t = is_name (codes "defined") t
+
+-- the name that `defined` asks for, and what stands behind it
+pub record Operand : Type 0 where
+  pub name : Token
+  pub rest : List Token
+
+-- `( X )`
+abbrev pub parenthesized : List Token → Option Operand
+parenthesized (o ∷ x ∷ c ∷ rest) =
+    if is_punct (codes "(") o && (is_identifier x && is_punct (codes ")") c) then Some (record { name = x; rest = rest }) else None
+parenthesized _ = None
+
+-- `X` or `( X )`
+abbrev pub operand : List Token → Option Operand
+operand [] = None
+operand (x ∷ rest) = if is_identifier x then Some (record { name = x; rest = rest }) else parenthesized (x ∷ rest)
+
+-- the number that stands in the place of `defined`
+abbrev pub answer : Macros → Token → Token → Token
+answer macros d x = record d { kind = Number; text = if is_some (table.get macros x.text) then codes "1" else codes "0" }
+
+-- each use of `defined` becomes a number, from the left; another use becomes nothing
+pub data Asks (macros : Macros) : List Token → List Token → Type 0 where
+  nothing : Asks macros [] []
+  other : {t : Token} {ts us : List Token} → is_defined t ≡ false → Asks macros ts us → Asks macros (t ∷ ts) (t ∷ us)
+  question : {d : Token} {ts us : List Token} {o : Operand} → is_defined d ≡ true → operand ts ≡ Some o → Asks macros o.rest us → Asks macros (d ∷ ts) (answer macros d o.name ∷ us)

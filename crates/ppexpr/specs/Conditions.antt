@@ -1,0 +1,63 @@
+-- Whether the group behind `#if` or `#elif` is taken (6.10.1), or the one fault. `at` is the place of the directive's `#`.
+use Rattle.std.specs.Prelude.{◌≡◌, ℕ, ◌⊎◌, Bool, not, List, [], Option, Some, None, Result, Ok, Err, true, false}
+use Rattle.std.specs.List.{list_any}
+use Rattle.pptext.specs.declared.tokens.Place.{Place}
+use Rattle.pptext.specs.declared.tokens.Token.{Token}
+use Rattle.pptext.specs.declared.tokens.Fault.{Fault}
+use Rattle.ppmacro.specs.Names.{Macros}
+use Rattle.ppmacro.specs.Define.{fault}
+use Rattle.ppexpand.specs.declared.env.Env.{Env}
+use Rattle.ppexpand.specs.declared.expansion.Expanded.{Expanded}
+use Rattle.ppexpand.specs.Expansion.{IsExpansion}
+use Rattle.ppexpr.specs.declared.symbols.Value.{Value}
+use Rattle.ppexpr.specs.declared.symbols.Symbol.{Symbol}
+use Rattle.ppexpr.specs.declared.symbols.Failure.{Failure}
+use Rattle.ppexpr.specs.declared.symbols.Failure.TheVariants.{ZeroDivisor, Overflow, Shift}
+use Rattle.ppexpr.specs.declared.symbols.Outcome.{Outcome}
+use Rattle.ppexpr.specs.Grammar.{IsExpression}
+use Rattle.ppexpr.specs.Reading.{Denotes}
+use Rattle.ppexpr.specs.Values.{is_zero}
+use Rattle.ppexpr.specs.Asking.{is_defined, Asks}
+use Rattle.ppexpr.specs.Tokens.{spelling_of, symbols_of}
+use Rattle.ppexpr.specs.Nesting.{IsTooNested}
+
+abbrev pub Condition : Type 0
+Condition = Result Bool Fault
+
+-- ---- the value
+
+abbrev pub failure_fault : Place → Failure → Fault
+failure_fault at (ZeroDivisor o) = fault 26 at (spelling_of o)
+failure_fault at (Overflow o) = fault 27 at (spelling_of o)
+failure_fault at (Shift o) = fault 28 at (spelling_of o)
+
+-- taken where the value is not 0
+abbrev pub taken : Place → Result Value Failure → Condition
+taken at (Ok v) = Ok (not (is_zero v))
+taken at (Err f) = Err (failure_fault at f)
+
+-- ---- the steps, from the last to the first
+
+-- no expression is 23, the empty list among them
+pub data Evaluates (at : Place) (symbols : List Symbol) : Condition → Type 0 where
+  no_expression : ¬ IsExpression symbols → Evaluates at symbols (Err (fault 23 at []))
+  has_value : {o : Outcome} → Denotes symbols o → Evaluates at symbols (taken at o.value)
+
+-- too deeply nested is 29
+pub data Judges (at : Place) (symbols : List Symbol) : Condition → Type 0 where
+  too_nested : IsTooNested symbols → Judges at symbols (Err (fault 29 at []))
+  not_nested : {c : Condition} → ¬ IsTooNested symbols → Evaluates at symbols c → Judges at symbols c
+
+-- `defined` that replacement made is 22; then the first constant from the left without a value is 24 or 25
+pub data Decides (at : Place) (tokens : List Token) : Condition → Type 0 where
+  made_defined : list_any is_defined tokens ≡ true → Decides at tokens (Err (fault 22 at []))
+  bad_constant : {f : Fault} → list_any is_defined tokens ≡ false → symbols_of at tokens ≡ Err f → Decides at tokens (Err f)
+  constants : {symbols : List Symbol} {c : Condition} → list_any is_defined tokens ≡ false → symbols_of at tokens ≡ Ok symbols → Judges at symbols c → Decides at tokens c
+
+-- a use of `defined` without a name is 22; a fault of the replacement is the condition's
+pub data IsCondition (macros : Macros) (env : Env) (at : Place) (tokens : List Token) : Condition → Type 0 where
+  ill_formed : ((asked : List Token) → ¬ Asks macros tokens asked) → IsCondition macros env at tokens (Err (fault 22 at []))
+  not_replaced : {asked : List Token} {e : Expanded} {f : Fault} →
+      Asks macros tokens asked → IsExpansion macros env asked e → e.fault ≡ Some f → IsCondition macros env at tokens (Err f)
+  replaced : {asked : List Token} {e : Expanded} {c : Condition} →
+      Asks macros tokens asked → IsExpansion macros env asked e → e.fault ≡ None → Decides at e.tokens c → IsCondition macros env at tokens c

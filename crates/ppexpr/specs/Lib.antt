@@ -1,0 +1,13 @@
+pub mod Symbols
+pub mod Trees
+pub mod Values
+pub mod Grammar
+pub mod Pending
+pub mod Frames
+pub mod Reading
+pub mod Integers
+pub mod Characters
+pub mod Asking
+pub mod Tokens
+pub mod Nesting
+pub mod Conditions

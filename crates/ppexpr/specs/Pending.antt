@@ -1,0 +1,92 @@
+-- Reading an expression from the left with a stack of what still waits for its last operand.
+use Rattle.std.specs.Prelude.{ℕ, List, [], ◌∷◌, Option, Some, None, nat_le, if◌then◌else◌, option_and_then}
+use Rattle.ppexpr.specs.declared.symbols.Value.{Value}
+use Rattle.ppexpr.specs.declared.symbols.Symbol.{Symbol}
+use Rattle.ppexpr.specs.declared.symbols.Symbol.TheVariants.{Constant, Operator, Open, Close, Question, Colon}
+use Rattle.ppexpr.specs.declared.symbols.Unary.{Unary}
+use Rattle.ppexpr.specs.declared.symbols.Binary.{Binary}
+use Rattle.ppexpr.specs.Symbols.{unary_of, binary_of}
+use Rattle.ppexpr.specs.Grammar.{level_of}
+
+-- What the trees come to, whatever it is: outcomes, or the trees themselves.
+pub record Meaning (A : Type 0) : Type 0 where
+  pub leaf : Value → A
+  pub applied : Unary → A → A
+  pub joined : Binary → A → A → A
+  pub chosen : A → A → A → A
+
+-- What waits: an opening parenthesis, an operator for its last operand (with the operands that it has), or a condition for its `:`.
+pub data Frame (A : Type 0) : Type 0 where
+  Group : Frame A
+  Sign : Unary → Frame A
+  Left : Binary → A → Frame A
+  Test : A → Frame A
+  Arms : A → A → Frame A
+
+-- the level of the expression that the frame becomes with its last operand; 0 where a closing symbol comes first
+abbrev pub frame_level : {A : Type 0} → Frame A → ℕ
+frame_level Group = 0
+frame_level (Sign o) = 12
+frame_level (Left o x) = level_of o
+frame_level (Test x) = 0
+frame_level (Arms x y) = 1
+
+abbrev pub completed : {A : Type 0} → Meaning A → Frame A → A → A
+completed m Group z = z
+completed m (Sign o) z = m.applied o z
+completed m (Left o x) z = m.joined o x z
+completed m (Test x) z = z
+completed m (Arms x y) z = m.chosen x y z
+
+-- Behind an operand, the frames of this level or tighter have all their operands: those that stay, and what the operand becomes.
+abbrev pub kept : {A : Type 0} → ℕ → List (Frame A) → List (Frame A)
+kept p [] = []
+kept p (f ∷ fs) = if nat_le p (frame_level f) then kept p fs else (f ∷ fs)
+
+abbrev pub settled : {A : Type 0} → Meaning A → ℕ → List (Frame A) → A → A
+settled m p [] z = z
+settled m p (f ∷ fs) z = if nat_le p (frame_level f) then settled m p fs (completed m f z) else z
+
+-- the frames, the innermost first, and the operand just read, where one was
+abbrev pub State : Type 0 → Type 0
+State A = List (Frame A) × Option A
+
+abbrev pub signed : {A : Type 0} → List (Frame A) → Option Unary → Option (State A)
+signed fs None = None
+signed fs (Some o) = Some (Sign o ∷ fs, None)
+
+abbrev pub operated : {A : Type 0} → Meaning A → List (Frame A) → A → Option Binary → Option (State A)
+operated m fs z None = None
+operated m fs z (Some o) = Some (Left o (settled m (level_of o) fs z) ∷ kept (level_of o) fs, None)
+
+abbrev pub between : {A : Type 0} → List (Frame A) → A → Option (State A)
+between (Test x ∷ fs) z = Some (Arms x z ∷ fs, None)
+between fs z = None
+
+abbrev pub closed : {A : Type 0} → List (Frame A) → A → Option (State A)
+closed (Group ∷ fs) z = Some (fs, Some z)
+closed fs z = None
+
+abbrev pub ended : {A : Type 0} → List (Frame A) → A → Option A
+ended [] z = Some z
+ended (f ∷ fs) z = None
+
+-- one symbol more
+abbrev pub step : {A : Type 0} → Meaning A → State A → Symbol → Option (State A)
+step m (fs, None) (Constant v) = Some (fs, Some (m.leaf v))
+step m (fs, None) Open = Some (Group ∷ fs, None)
+step m (fs, None) (Operator o) = signed fs (unary_of o)
+step m (fs, None) s = None
+step m (fs, Some z) (Operator o) = operated m fs z (binary_of o)
+step m (fs, Some z) Question = Some (Test (settled m 2 fs z) ∷ kept 2 fs, None)
+step m (fs, Some z) Colon = between (kept 1 fs) (settled m 1 fs z)
+step m (fs, Some z) Close = closed (kept 1 fs) (settled m 1 fs z)
+step m (fs, Some z) s = None
+
+abbrev pub finish : {A : Type 0} → Meaning A → State A → Option A
+finish m (fs, None) = None
+finish m (fs, Some z) = ended (kept 1 fs) (settled m 1 fs z)
+
+abbrev pub run : {A : Type 0} → Meaning A → State A → List Symbol → Option A
+run m s [] = finish m s
+run m s (x ∷ xs) = option_and_then (λ r. run m r xs) (step m s x)

@@ -1,0 +1,11 @@
+-- What an expression's symbols come to.
+use Rattle.std.specs.Prelude.{◌≡◌, List}
+use Rattle.ppexpr.specs.declared.symbols.Symbol.{Symbol}
+use Rattle.ppexpr.specs.declared.symbols.Outcome.{Outcome}
+use Rattle.ppexpr.specs.Trees.{Tree}
+use Rattle.ppexpr.specs.Grammar.{Parses}
+use Rattle.ppexpr.specs.Values.{outcome_of}
+
+-- the symbols are an expression, and this is its outcome
+abbrev pub Denotes : List Symbol → Outcome → Type 0
+Denotes s o = (t : Tree) × Parses s t × (outcome_of t ≡ o)

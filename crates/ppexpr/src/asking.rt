@@ -1,0 +1,86 @@
+// `defined` in a controlling expression (6.10.1p1).
+ghost use Rattle.std.specs.Prelude.{◌≡◌, IfOk, MatchOption, None, Some, List};
+ghost use Rattle.pptext.specs.declared.tokens.Token.{Token};
+ghost use Rattle.ppexpr.specs.Asking.{is_defined, parenthesized, operand, answer, Asks};
+
+use crate::tokens::{is_identifier, is_name, is_punct};
+use ppmacro::Table;
+use pptext::{Kind, Spelling, Token, Tokens};
+use std::alloc::{AllocError, Global};
+
+/// Whether a token is the identifier `defined`.
+pub(crate) fn is_defined(token: &Token) -> bool
+    ensures { result ≡ is_defined token.now }
+{
+    is_name(token, b"defined")
+}
+
+// `( X )`, and what stands behind it.
+fn parenthesized(tokens: &[Token]) -> Option<(&Token, &[Token])>
+    ensures { MatchOption result (parenthesized tokens.now ≡ None) (λ o. parenthesized tokens.now ≡ Some (record { name = o.0.now; rest = o.1.now })) }
+{
+    let [open, name, close, rest @ ..] = tokens else {
+        return None;
+    };
+    if is_punct(open, b"(") && is_identifier(name) && is_punct(close, b")") {
+        Some((name, rest))
+    } else {
+        None
+    }
+}
+
+// The name that `defined` asks for, and what stands behind it.
+fn operand(tokens: &[Token]) -> Option<(&Token, &[Token])>
+    ensures { MatchOption result (operand tokens.now ≡ None) (λ o. operand tokens.now ≡ Some (record { name = o.0.now; rest = o.1.now })) }
+{
+    let [name, rest @ ..] = tokens else {
+        return None;
+    };
+    if is_identifier(name) {
+        return Some((name, rest));
+    }
+    parenthesized(tokens)
+}
+
+// The number that stands in the place of `defined`.
+fn answer(alloc: Global, table: &Table, defined: &Token, name: &Token) -> Result<Token, AllocError>
+    ensures { IfOk result (λ t. t ≡ answer table.now defined.now name.now) }
+{
+    let digit = if table.get(name.text.as_bytes()).is_some() {
+        b"1".as_slice()
+    } else {
+        b"0".as_slice()
+    };
+    Ok(Token {
+        kind: Kind::Number,
+        text: Spelling::new(Vec::from_slice(alloc, digit)?),
+        space: defined.space,
+        at: defined.at,
+        used: defined.used,
+    })
+}
+
+/// The tokens with a number for each use of `defined`, or none where one is ill formed.
+pub(crate) fn asked(
+    alloc: Global,
+    table: &Table,
+    tokens: &[Token],
+) -> Result<Option<Vec<Token>>, AllocError>
+    ensures { IfOk result (λ r. MatchOption r ((us : List Token) → ¬ Asks table.now tokens.now us) (λ v. Asks table.now tokens.now v.items)) }
+{
+    let mut asked = Vec::new(alloc);
+    let mut rest = tokens;
+    while let Some((first, behind)) = rest.split_first() {
+        if !is_defined(first) {
+            asked.push(first.clone()?)?;
+            rest = behind;
+            continue;
+        }
+        let Some((name, behind)) = operand(behind) else {
+            return Ok(None);
+        };
+        asked.push(answer(alloc, table, first, name)?)?;
+        rest = behind;
+    }
+    Ok(Some(asked))
+}

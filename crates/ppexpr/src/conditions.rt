@@ -1,0 +1,108 @@
+// Whether the group behind `#if` or `#elif` is taken (6.10.1).
+ghost use Rattle.std.specs.Prelude.{◌≡◌, IfOk};
+ghost use Rattle.std.specs.List.{list_any};
+ghost use Rattle.ppexpr.specs.Asking.{is_defined};
+ghost use Rattle.ppexpr.specs.Conditions.{failure_fault, taken, Evaluates, Judges, Decides, IsCondition};
+
+use crate::asking::{asked, is_defined};
+use crate::nesting::is_too_nested;
+use crate::parsing::parse;
+use crate::symbols::{Failure, Symbol, Value};
+use crate::tokens::{fault, symbols_of};
+use ppexpand::{Env, Expanded, expand};
+use ppmacro::Table;
+use pptext::{Fault, Memory, Place, Token};
+use std::alloc::{AllocError, Global};
+
+// The fault of an expression without a value.
+fn failure_fault(alloc: Global, at: Place, failure: Failure) -> Result<Fault, AllocError>
+    ensures { IfOk result (λ f. f ≡ failure_fault at failure) }
+{
+    match failure {
+        Failure::ZeroDivisor(operator) => fault(alloc, 26, at, operator.spelling()),
+        Failure::Overflow(operator) => fault(alloc, 27, at, operator.spelling()),
+        Failure::Shift(operator) => fault(alloc, 28, at, operator.spelling()),
+    }
+}
+
+// Whether the value is not 0.
+fn taken(
+    alloc: Global,
+    at: Place,
+    value: Result<Value, Failure>,
+) -> Result<Result<bool, Fault>, AllocError>
+    ensures { IfOk result (λ c. c ≡ taken at value) }
+{
+    match value {
+        Ok(value) => Ok(Ok(!value.is_zero())),
+        Err(failure) => Ok(Err(failure_fault(alloc, at, failure)?)),
+    }
+}
+
+// The condition of symbols that are nested no deeper than is allowed.
+fn evaluate_symbols(
+    alloc: Global,
+    at: Place,
+    symbols: &[Symbol],
+) -> Result<Result<bool, Fault>, AllocError>
+    ensures { IfOk result (λ c. Evaluates at symbols.now c) }
+{
+    let Some(outcome) = parse(alloc, symbols)? else {
+        return Ok(Err(fault(alloc, 23, at, b"")?));
+    };
+    taken(alloc, at, outcome.value)
+}
+
+// The condition of symbols.
+fn judge(alloc: Global, at: Place, symbols: &[Symbol]) -> Result<Result<bool, Fault>, AllocError>
+    ensures { IfOk result (λ c. Judges at symbols.now c) }
+{
+    if is_too_nested(symbols) {
+        return Ok(Err(fault(alloc, 29, at, b"")?));
+    }
+    evaluate_symbols(alloc, at, symbols)
+}
+
+// Whether `defined` is among the tokens.
+fn has_defined(tokens: &[Token]) -> bool
+    ensures { result ≡ list_any is_defined tokens.now }
+{
+    tokens.iter().any(|token| is_defined(token))
+}
+
+// The condition of tokens whose macros are replaced.
+fn decide(alloc: Global, at: Place, tokens: &[Token]) -> Result<Result<bool, Fault>, AllocError>
+    ensures { IfOk result (λ c. Decides at tokens.now c) }
+{
+    if has_defined(tokens) {
+        return Ok(Err(fault(alloc, 22, at, b"")?));
+    }
+    match symbols_of(alloc, at, tokens)? {
+        Ok(symbols) => judge(alloc, at, symbols.as_slice()),
+        Err(fault) => Ok(Err(fault)),
+    }
+}
+
+/// Whether the group behind `#if` or `#elif` is taken (6.10.1), or the one fault: 22 of a use of `defined` that is ill
+/// formed or made by a replacement, the faults of the replacement, 24 and 25 of the first constant without a value, 29 of
+/// too deep an expression, 23 of a list that is no expression, 26 to 28 of a division, an overflow or a shift.
+///
+/// `at` is the place of the directive's `#`, and `tokens` are those behind the directive's name.
+pub fn evaluate(
+    alloc: Global,
+    table: &Table,
+    env: &Env,
+    at: Place,
+    tokens: &[Token],
+) -> Result<Result<bool, Fault>, Memory>
+    ensures { IfOk result (λ c. IsCondition table.now env.now at tokens.now c) }
+{
+    let Some(asked) = asked(alloc, table, tokens)? else {
+        return Ok(Err(fault(alloc, 22, at, b"")?));
+    };
+    let Expanded { tokens, fault } = expand(alloc, table, env, asked.as_slice())?;
+    if let Some(fault) = fault {
+        return Ok(Err(fault));
+    }
+    Ok(decide(alloc, at, tokens.as_slice())?)
+}

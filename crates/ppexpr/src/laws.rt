@@ -1,0 +1,20 @@
+// Laws of the definitions: functions that do nothing, whose contracts are the laws.
+ghost use Rattle.std.specs.Prelude.{◌≡◌, List};
+ghost use Rattle.pptext.specs.declared.tokens.Place.{Place};
+ghost use Rattle.pptext.specs.declared.tokens.Token.{Token};
+ghost use Rattle.ppmacro.specs.Names.{Macros};
+ghost use Rattle.ppexpand.specs.declared.env.Env.{Env};
+ghost use Rattle.ppexpr.specs.declared.symbols.Symbol.{Symbol};
+ghost use Rattle.ppexpr.specs.Trees.{Tree};
+ghost use Rattle.ppexpr.specs.Grammar.{Parses};
+ghost use Rattle.ppexpr.specs.Conditions.{Condition, IsCondition};
+
+/// An expression has at most one tree (6.5).
+pub fn one_tree()
+    ensures { (s : List Symbol) (t u : Tree) → Parses s t → Parses s u → t ≡ u }
+{}
+
+/// A condition is taken, not taken or has one fault, and no two of these.
+pub fn one_condition()
+    ensures { (macros : Macros) (env : Env) (at : Place) (tokens : List Token) (c d : Condition) → IsCondition macros env at tokens c → IsCondition macros env at tokens d → c ≡ d }
+{}

@@ -1,0 +1,20 @@
+// Conditional inclusion of C11 (6.10.1): the value of the expression behind `#if` and `#elif`.
+#![tactic(auto)]
+
+mod asking;
+mod characters;
+mod conditions;
+mod integers;
+mod laws;
+mod nesting;
+mod operators;
+mod outcomes;
+mod parsing;
+mod symbols;
+#[cfg(test)]
+mod tests;
+mod tokens;
+mod values;
+
+pub use conditions::evaluate;
+pub use laws::{one_condition, one_tree};

@@ -1,0 +1,78 @@
+// How deep an expression is nested.
+ghost use Rattle.std.specs.Prelude.{◌≡◌, ◌↔◌, IsTrue, count_by};
+ghost use Rattle.ppexpr.specs.Nesting.{is_question, is_sign, NestsParentheses, NestsSigns, IsTooNested};
+
+use crate::symbols::{Operator, Symbol};
+
+// The most levels of one kind.
+const MOST: usize = 256;
+
+// Whether some beginning has too many more `(` than `)`.
+fn nests_parentheses(symbols: &[Symbol]) -> bool
+    ensures { IsTrue result ↔ NestsParentheses symbols.now }
+{
+    let mut open: usize = 0;
+    let mut close: usize = 0;
+    for symbol in symbols {
+        match symbol {
+            Symbol::Open => open += 1,
+            Symbol::Close => close += 1,
+            _ => {}
+        }
+        if open.saturating_sub(close) > MOST {
+            return true;
+        }
+    }
+    false
+}
+
+// How many conditional operators there are.
+fn questions(symbols: &[Symbol]) -> usize
+    ensures { result ≡ count_by is_question symbols.now }
+{
+    symbols
+        .iter()
+        .filter(|symbol| matches!(symbol, Symbol::Question))
+        .count()
+}
+
+// Whether a symbol is `+ - ~ !`.
+fn is_sign(symbol: &Symbol) -> bool
+    ensures { result ≡ is_sign symbol.now }
+{
+    matches!(
+        symbol,
+        Symbol::Operator(Operator::Plus | Operator::Minus | Operator::Tilde | Operator::Bang)
+    )
+}
+
+// Whether too many signs stand side by side.
+fn nests_signs(symbols: &[Symbol]) -> bool
+    ensures { IsTrue result ↔ NestsSigns symbols.now }
+{
+    let mut signs: usize = 0;
+    for symbol in symbols {
+        if !is_sign(symbol) {
+            signs = 0;
+            continue;
+        }
+        signs += 1;
+        if signs > MOST {
+            return true;
+        }
+    }
+    false
+}
+
+/// Whether an expression is nested over 256 levels deep, by parentheses, conditional operators or signs.
+pub(crate) fn is_too_nested(symbols: &[Symbol]) -> bool
+    ensures { IsTrue result ↔ IsTooNested symbols.now }
+{
+    if nests_parentheses(symbols) {
+        return true;
+    }
+    if questions(symbols) > MOST {
+        return true;
+    }
+    nests_signs(symbols)
+}

@@ -1,0 +1,121 @@
+// What an expression comes to, from what its operands come to.
+ghost use Rattle.std.specs.Prelude.{◌≡◌, Ok};
+ghost use Rattle.ppexpr.specs.Values.{has_unsigned_type, truth, is_zero, unary_answer, with_right, decides, binary_answer, with_type, choice_answer, unary_unsigned, binary_unsigned, constant_outcome, unary_outcome, binary_outcome, choice_outcome};
+
+use crate::symbols::{Binary, Failure, Outcome, Unary, Value};
+use crate::values::{binary_value, unary_value};
+
+impl Unary {
+    // Whether the result is of the unsigned type.
+    fn is_unsigned(self, operand: bool) -> bool
+        ensures { result ≡ unary_unsigned self operand }
+    {
+        match self {
+            Unary::Not => false,
+            _ => operand,
+        }
+    }
+}
+
+impl Binary {
+    // Whether the result is of the unsigned type.
+    fn is_unsigned(self, left: bool, right: bool) -> bool
+        ensures { result ≡ binary_unsigned self left right }
+    {
+        match self {
+            Binary::Multiply
+            | Binary::Divide
+            | Binary::Remainder
+            | Binary::Add
+            | Binary::Subtract
+            | Binary::BitAnd
+            | Binary::BitXor
+            | Binary::BitOr => left || right,
+            Binary::ShiftLeft | Binary::ShiftRight => left,
+            _ => false,
+        }
+    }
+
+    // Whether the left operand decides alone (6.5.13p4, 6.5.14p4).
+    fn decides(self, left: Value) -> bool
+        ensures { result ≡ decides self left }
+    {
+        match self {
+            Binary::And => left.is_zero(),
+            Binary::Or => !left.is_zero(),
+            _ => false,
+        }
+    }
+
+    // The value from that of the left operand, where there is one.
+    fn answer(self, left: Value, right: Result<Value, Failure>) -> Result<Value, Failure>
+        ensures { result ≡ binary_answer self (Ok left) right }
+    {
+        if self.decides(left) {
+            return Ok(Value::truth(!left.is_zero()));
+        }
+        binary_value(self, left, right?)
+    }
+}
+
+// Brought to the type of a choice (6.5.15p5).
+fn with_type(unsigned: bool, value: Result<Value, Failure>) -> Result<Value, Failure>
+    ensures { result ≡ with_type unsigned value }
+{
+    if !unsigned {
+        return value;
+    }
+    Ok(Value::Unsigned(value?.as_unsigned()))
+}
+
+#[tactic(auto, unfolding(crate::specs::Values::constant_outcome, crate::specs::Values::unary_outcome, crate::specs::Values::binary_outcome, crate::specs::Values::choice_outcome))]
+impl Outcome {
+    /// That of a constant.
+    pub(crate) fn constant(value: Value) -> Outcome
+        ensures { result ≡ constant_outcome value }
+    {
+        Outcome {
+            unsigned: matches!(value, Value::Unsigned(_)),
+            value: Ok(value),
+        }
+    }
+
+    /// That of an operator before its operand.
+    pub(crate) fn unary(operator: Unary, operand: Outcome) -> Outcome
+        ensures { result ≡ unary_outcome operator operand }
+    {
+        Outcome {
+            unsigned: operator.is_unsigned(operand.unsigned),
+            value: match operand.value {
+                Ok(value) => unary_value(operator, value),
+                Err(failure) => Err(failure),
+            },
+        }
+    }
+
+    /// That of an operator between its operands.
+    pub(crate) fn binary(operator: Binary, left: Outcome, right: Outcome) -> Outcome
+        ensures { result ≡ binary_outcome operator left right }
+    {
+        Outcome {
+            unsigned: operator.is_unsigned(left.unsigned, right.unsigned),
+            value: match left.value {
+                Ok(value) => operator.answer(value, right.value),
+                Err(failure) => Err(failure),
+            },
+        }
+    }
+
+    /// That of `test ? yes : no`.
+    pub(crate) fn choice(test: Outcome, yes: Outcome, no: Outcome) -> Outcome
+        ensures { result ≡ choice_outcome test yes no }
+    {
+        let unsigned = yes.unsigned || no.unsigned;
+        let value = match test.value {
+            Ok(value) if value.is_zero() => with_type(unsigned, no.value),
+            Ok(_) => with_type(unsigned, yes.value),
+            Err(failure) => Err(failure),
+        };
+        Outcome { unsigned, value }
+    }
+}

@@ -1,0 +1,147 @@
+// What a token of a controlling expression stands for.
+ghost use Rattle.std.specs.Prelude.{◌≡◌, IfOk, MatchResult, Ok, Err};
+ghost use Rattle.ppmacro.specs.Define.{fault};
+ghost use Rattle.ppmacro.specs.Spellings.{is_identifier, is_name, is_punct};
+ghost use Rattle.ppexpr.specs.Tokens.{spelling_of, operators, punctuator_among, symbol_of, symbols_of};
+
+use crate::characters::character_of;
+use crate::integers::integer_of;
+use crate::symbols::{Operator, Symbol, Value};
+use pptext::{Fault, Kind, Place, Spelling, Token};
+use std::alloc::{AllocError, Global};
+
+/// Whether a token is an identifier.
+pub(crate) fn is_identifier(token: &Token) -> bool
+    ensures { result ≡ is_identifier token.now }
+{
+    matches!(token.kind, Kind::Ident)
+}
+
+/// Whether a token is the identifier that is spelled so.
+pub(crate) fn is_name(token: &Token, text: &[u8]) -> bool
+    ensures { result ≡ is_name text.now token.now }
+{
+    is_identifier(token) && token.text.as_bytes() == text
+}
+
+/// Whether a token is the punctuator that is spelled so.
+pub(crate) fn is_punct(token: &Token, text: &[u8]) -> bool
+    ensures { result ≡ is_punct text.now token.now }
+{
+    matches!(token.kind, Kind::Punct) && token.text.as_bytes() == text
+}
+
+/// A fault with this text.
+pub(crate) fn fault(alloc: Global, number: u8, at: Place, text: &[u8]) -> Result<Fault, AllocError>
+    ensures { IfOk result (λ f. f ≡ fault number at text.now) }
+{
+    Ok(Fault {
+        number,
+        at,
+        text: Spelling::new(Vec::from_slice(alloc, text)?),
+    })
+}
+
+impl Operator {
+    /// The spelling (6.4.6).
+    pub(crate) fn spelling(self) -> &'static [u8]
+        ensures { result.now ≡ spelling_of self }
+    {
+        match self {
+            Operator::Plus => b"+",
+            Operator::Minus => b"-",
+            Operator::Tilde => b"~",
+            Operator::Bang => b"!",
+            Operator::Star => b"*",
+            Operator::Slash => b"/",
+            Operator::Percent => b"%",
+            Operator::ShiftLeft => b"<<",
+            Operator::ShiftRight => b">>",
+            Operator::Less => b"<",
+            Operator::Greater => b">",
+            Operator::LessOrEqual => b"<=",
+            Operator::GreaterOrEqual => b">=",
+            Operator::Equal => b"==",
+            Operator::NotEqual => b"!=",
+            Operator::Ampersand => b"&",
+            Operator::Caret => b"^",
+            Operator::Bar => b"|",
+            Operator::And => b"&&",
+            Operator::Or => b"||",
+        }
+    }
+}
+
+// The symbol of a punctuator.
+fn punctuator(text: &[u8]) -> Symbol
+    ensures { result ≡ punctuator_among operators text.now }
+{
+    let operator = match text {
+        b"+" => Operator::Plus,
+        b"-" => Operator::Minus,
+        b"~" => Operator::Tilde,
+        b"!" => Operator::Bang,
+        b"*" => Operator::Star,
+        b"/" => Operator::Slash,
+        b"%" => Operator::Percent,
+        b"<<" => Operator::ShiftLeft,
+        b">>" => Operator::ShiftRight,
+        b"<" => Operator::Less,
+        b">" => Operator::Greater,
+        b"<=" => Operator::LessOrEqual,
+        b">=" => Operator::GreaterOrEqual,
+        b"==" => Operator::Equal,
+        b"!=" => Operator::NotEqual,
+        b"&" => Operator::Ampersand,
+        b"^" => Operator::Caret,
+        b"|" => Operator::Bar,
+        b"&&" => Operator::And,
+        b"||" => Operator::Or,
+        b"(" => return Symbol::Open,
+        b")" => return Symbol::Close,
+        b"?" => return Symbol::Question,
+        b":" => return Symbol::Colon,
+        _ => return Symbol::Other,
+    };
+    Symbol::Operator(operator)
+}
+
+/// The symbol of a token, or the fault of a constant without a value.
+pub(crate) fn symbol_of(
+    alloc: Global,
+    at: Place,
+    token: &Token,
+) -> Result<Result<Symbol, Fault>, AllocError>
+    ensures { IfOk result (λ r. r ≡ symbol_of at token.now) }
+{
+    let text = token.text.as_bytes();
+    let (number, constant) = match token.kind {
+        Kind::Ident => return Ok(Ok(Symbol::Constant(Value::Signed(0)))),
+        Kind::Punct => return Ok(Ok(punctuator(text))),
+        Kind::Number => (24, integer_of(text)),
+        Kind::CharConst => (25, character_of(text)),
+        _ => return Ok(Ok(Symbol::Other)),
+    };
+    match constant {
+        Some(value) => Ok(Ok(Symbol::Constant(value))),
+        None => Ok(Err(fault(alloc, number, at, text)?)),
+    }
+}
+
+/// The symbols of tokens, or the first fault from the left.
+pub(crate) fn symbols_of(
+    alloc: Global,
+    at: Place,
+    tokens: &[Token],
+) -> Result<Result<Vec<Symbol>, Fault>, AllocError>
+    ensures { IfOk result (λ r. MatchResult r (λ v. symbols_of at tokens.now ≡ Ok v.items) (λ f. symbols_of at tokens.now ≡ Err f)) }
+{
+    let mut symbols = Vec::new(alloc);
+    for token in tokens {
+        match symbol_of(alloc, at, token)? {
+            Ok(symbol) => symbols.push(symbol)?,
+            Err(fault) => return Ok(Err(fault)),
+        }
+    }
+    Ok(Ok(symbols))
+}
