@@ -14,9 +14,7 @@ use crate::cursor::Cursor;
 use crate::env::Env;
 use crate::predefined::predefined_value;
 use crate::spellings::{at_use, is_lone_quote, is_open, lone_quote};
-use ppmacro::{
-    Builtin, Hidden, HideSets, Macro, Set, Shape, Table, is_identifier, substitute,
-};
+use ppmacro::{Builtin, Hidden, HideSets, Macro, Set, Shape, Table, is_identifier, substitute};
 use pptext::{Fault, Memory, Spelling, Token};
 use std::alloc::Global;
 

@@ -1,19 +1,13 @@
 -- The steps of a condition.
-use Rattle.std.proofs.Common.{◌≡◌, Bool, true, false, List, [], Option, Some, None, Ok, Err, MatchOption, MatchResult, IsTrue, subst, sym}
-use Rattle.std.specs.Prelude.{Result, Vec}
-use Rattle.std.specs.List.{list_any}
+use Rattle.std.proofs.Common.{◌≡◌, List, [], Option, Some, None, Err, MatchOption}
 use Rattle.pptext.specs.declared.tokens.Place.{Place}
-use Rattle.pptext.specs.declared.tokens.Token.{Token}
 use Rattle.pptext.specs.declared.tokens.Fault.{Fault}
 use Rattle.ppmacro.specs.Define.{fault}
 use Rattle.ppexpr.specs.declared.symbols.Symbol.{Symbol}
 use Rattle.ppexpr.specs.declared.symbols.Outcome.{Outcome}
 use Rattle.ppexpr.specs.Grammar.{IsExpression}
 use Rattle.ppexpr.specs.Reading.{Denotes}
-use Rattle.ppexpr.specs.Asking.{is_defined}
-use Rattle.ppexpr.specs.Tokens.{symbols_of}
-use Rattle.ppexpr.specs.Nesting.{IsTooNested}
-use Rattle.ppexpr.specs.Conditions.{Condition, taken, Evaluates, no_expression, has_value, Judges, too_nested, Decides, made_defined, bad_constant, constants}
+use Rattle.ppexpr.specs.Conditions.{Condition, taken, Evaluates, no_expression, has_value}
 
 -- what a parser answers
 abbrev pub Parsed : List Symbol → Option Outcome → Type 0

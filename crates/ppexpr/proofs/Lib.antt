@@ -1,5 +1,6 @@
 pub mod Shifts
 pub mod Digits
+pub mod Large
 pub mod Complete
 pub mod Sound
 pub mod Exact
@@ -8,3 +9,5 @@ pub mod Asked
 pub mod SymbolSteps
 pub mod ConditionSteps
 pub mod OneCondition
+pub mod Types
+pub mod GuardConditions

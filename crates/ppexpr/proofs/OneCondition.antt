@@ -1,11 +1,9 @@
 -- A condition has at most one answer.
-use Rattle.std.proofs.Common.{◌≡◌, ℕ, Bool, true, false, List, [], ◌∷◌, Option, Some, None, Ok, Err, refl, sym, ◌∙◌, ap, map, subst}
-use Rattle.std.specs.List.{list_any}
+use Rattle.std.proofs.Common.{◌≡◌, List, [], ◌∷◌, Some, None, Ok, Err, refl, sym, ◌∙◌, ap, map, subst}
 use Rattle.pptext.specs.declared.tokens.Place.{Place}
 use Rattle.pptext.specs.declared.tokens.Token.{Token}
 use Rattle.pptext.specs.declared.tokens.Fault.{Fault}
 use Rattle.ppmacro.specs.Names.{Macros}
-use Rattle.ppmacro.specs.Substitution.{plain}
 use Rattle.ppexpand.specs.declared.env.Env.{Env}
 use Rattle.ppexpand.specs.declared.expansion.Expanded.{Expanded}
 use Rattle.ppexpand.specs.Expansion.{IsExpansion}
@@ -14,7 +12,7 @@ use Rattle.ppexpr.specs.declared.symbols.Symbol.{Symbol}
 use Rattle.ppexpr.specs.declared.symbols.Outcome.{Outcome}
 use Rattle.ppexpr.specs.Reading.{Denotes}
 use Rattle.ppexpr.specs.Values.{outcome_of}
-use Rattle.ppexpr.specs.Asking.{is_defined, Operand, operand, answer, Asks, nothing, other, question}
+use Rattle.ppexpr.specs.Asking.{answer, Asks, nothing, other, question}
 use Rattle.ppexpr.specs.Tokens.{symbols_of}
 use Rattle.ppexpr.specs.Conditions.{Condition, taken, Evaluates, no_expression, has_value, Judges, too_nested, not_nested, Decides, made_defined, bad_constant, constants, IsCondition, ill_formed, not_replaced, replaced}
 use Rattle.ppexpr.proofs.OneTree.{same_tree}

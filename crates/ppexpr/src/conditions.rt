@@ -100,7 +100,8 @@ pub fn evaluate(
     let Some(asked) = asked(alloc, table, tokens)? else {
         return Ok(Err(fault(alloc, 22, at, b"")?));
     };
-    let Expanded { tokens, fault } = expand(alloc, table, env, asked.as_slice())?;
+    let asked = asked.as_slice();
+    let Expanded { tokens, fault } = expand(alloc, table, env, asked)?;
     if let Some(fault) = fault {
         return Ok(Err(fault));
     }

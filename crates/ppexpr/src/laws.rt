@@ -1,17 +1,24 @@
 // Laws of the definitions: functions that do nothing, whose contracts are the laws.
-ghost use Rattle.std.specs.Prelude.{◌≡◌, List};
+ghost use Rattle.std.specs.Prelude.{◌≡◌, List, Ok};
 ghost use Rattle.pptext.specs.declared.tokens.Place.{Place};
 ghost use Rattle.pptext.specs.declared.tokens.Token.{Token};
 ghost use Rattle.ppmacro.specs.Names.{Macros};
 ghost use Rattle.ppexpand.specs.declared.env.Env.{Env};
 ghost use Rattle.ppexpr.specs.declared.symbols.Symbol.{Symbol};
 ghost use Rattle.ppexpr.specs.Trees.{Tree};
+ghost use Rattle.ppexpr.specs.declared.symbols.Value.{Value};
+ghost use Rattle.ppexpr.specs.Values.{has_unsigned_type, outcome_of};
 ghost use Rattle.ppexpr.specs.Grammar.{Parses};
 ghost use Rattle.ppexpr.specs.Conditions.{Condition, IsCondition};
 
 /// An expression has at most one tree (6.5).
 pub fn one_tree()
     ensures { (s : List Symbol) (t u : Tree) → Parses s t → Parses s u → t ≡ u }
+{}
+
+/// The value of an expression, where it has one, is of the expression's type.
+pub fn value_has_its_type()
+    ensures { (t : Tree) (v : Value) → (outcome_of t).value ≡ Ok v → has_unsigned_type v ≡ (outcome_of t).unsigned }
 {}
 
 /// A condition is taken, not taken or has one fault, and no two of these.

@@ -17,4 +17,4 @@ mod tokens;
 mod values;
 
 pub use conditions::evaluate;
-pub use laws::{one_condition, one_tree};
+pub use laws::{one_condition, one_tree, value_has_its_type};

@@ -1,9 +1,40 @@
+// Operators: how they are spelled, and what they may stand for.
 ghost use Rattle.std.specs.Prelude.{◌≡◌};
+ghost use Rattle.ppexpr.specs.Tokens.{spelling_of};
 ghost use Rattle.ppexpr.specs.Symbols.{unary_of, binary_of};
 
 use crate::symbols::{Binary, Operator, Unary};
 
 impl Operator {
+    /// The spelling (6.4.6).
+    pub(crate) fn spelling(self) -> &'static [u8]
+        ensures { result.now ≡ spelling_of self }
+    {
+        match self {
+            Operator::Plus => b"+",
+            Operator::Minus => b"-",
+            Operator::Tilde => b"~",
+            Operator::Bang => b"!",
+            Operator::Star => b"*",
+            Operator::Slash => b"/",
+            Operator::Percent => b"%",
+            Operator::ShiftLeft => b"<<",
+            Operator::ShiftRight => b">>",
+            Operator::Less => b"<",
+            Operator::Greater => b">",
+            Operator::LessOrEqual => b"<=",
+            Operator::GreaterOrEqual => b">=",
+            Operator::Equal => b"==",
+            Operator::NotEqual => b"!=",
+            Operator::Ampersand => b"&",
+            Operator::Caret => b"^",
+            Operator::Bar => b"|",
+            Operator::And => b"&&",
+            Operator::Or => b"||",
+        }
+    }
+
+    /// The operator that it is before an operand (6.5.3.3), if it may stand there.
     pub(crate) fn unary(self) -> Option<Unary>
         ensures { result ≡ unary_of self }
     {
@@ -16,6 +47,7 @@ impl Operator {
         }
     }
 
+    /// The operator that it is between two operands (6.5.5 to 6.5.14), if it may stand there.
     pub(crate) fn binary(self) -> Option<Binary>
         ensures { result ≡ binary_of self }
     {

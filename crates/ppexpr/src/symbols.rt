@@ -7,7 +7,7 @@ pub(crate) enum Value {
     Unsigned(u64),
 }
 
-/// What a punctuator that operates is spelled like: `+` and `-` have one operand or two.
+/// An operator by its spelling (6.4.6): `+` and `-` stand before an operand or between two.
 #[derive(Clone, Copy, PartialEq, Eq, Debug)]
 pub(crate) enum Operator {
     Plus,

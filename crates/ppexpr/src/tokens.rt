@@ -2,7 +2,7 @@
 ghost use Rattle.std.specs.Prelude.{◌≡◌, IfOk, MatchResult, Ok, Err};
 ghost use Rattle.ppmacro.specs.Define.{fault};
 ghost use Rattle.ppmacro.specs.Spellings.{is_identifier, is_name, is_punct};
-ghost use Rattle.ppexpr.specs.Tokens.{spelling_of, operators, punctuator_among, symbol_of, symbols_of};
+ghost use Rattle.ppexpr.specs.Tokens.{operators, punctuator_among, symbol_of, symbols_of};
 
 use crate::characters::character_of;
 use crate::integers::integer_of;
@@ -40,36 +40,6 @@ pub(crate) fn fault(alloc: Global, number: u8, at: Place, text: &[u8]) -> Result
         at,
         text: Spelling::new(Vec::from_slice(alloc, text)?),
     })
-}
-
-impl Operator {
-    /// The spelling (6.4.6).
-    pub(crate) fn spelling(self) -> &'static [u8]
-        ensures { result.now ≡ spelling_of self }
-    {
-        match self {
-            Operator::Plus => b"+",
-            Operator::Minus => b"-",
-            Operator::Tilde => b"~",
-            Operator::Bang => b"!",
-            Operator::Star => b"*",
-            Operator::Slash => b"/",
-            Operator::Percent => b"%",
-            Operator::ShiftLeft => b"<<",
-            Operator::ShiftRight => b">>",
-            Operator::Less => b"<",
-            Operator::Greater => b">",
-            Operator::LessOrEqual => b"<=",
-            Operator::GreaterOrEqual => b">=",
-            Operator::Equal => b"==",
-            Operator::NotEqual => b"!=",
-            Operator::Ampersand => b"&",
-            Operator::Caret => b"^",
-            Operator::Bar => b"|",
-            Operator::And => b"&&",
-            Operator::Or => b"||",
-        }
-    }
 }
 
 // The symbol of a punctuator.

@@ -22,7 +22,7 @@ text_roles (r ∷ rs) depth k rest all =
     one_role depth k r (rs ++ rest) IsText all.0 ∙ text_roles rs depth (k + 1) rest all.1 ∙ ap (λ (z : ℕ). branch_behind depth z (map role rest)) (omega arith)
 
 mutual
-  behind_parts : (ps : Parts) (depth k : ℕ) (rest : List Row) → AreParts ps → branch_behind depth k (map role (part_lines ps ++ rest)) ≡ branch_behind depth (k + length (part_lines ps)) (map role rest)
+  pub behind_parts : (ps : Parts) (depth k : ℕ) (rest : List Row) → AreParts ps → branch_behind depth k (map role (part_lines ps ++ rest)) ≡ branch_behind depth (k + length (part_lines ps)) (map role rest)
   behind_parts Done depth k rest are = ap (λ (z : ℕ). branch_behind depth z (map role rest)) (omega arith)
   behind_parts (Run rs ps) depth k rest are =
       ap (λ (z : List Row). branch_behind depth k (map role z)) (append_assoc rs (part_lines ps) rest) ∙ text_roles rs depth k (part_lines ps ++ rest) are.1 ∙ behind_parts ps depth (k + length rs) rest are.3 ∙ ap (λ (z : ℕ). branch_behind depth z (map role rest)) (omega (arith, length-append rs (part_lines ps)))
@@ -31,7 +31,7 @@ mutual
   behind_parts (Section r ps bs qs) depth k rest are =
       ap (λ (z : List Row). branch_behind depth k (map role z)) (section_lines r ps qs bs rest) ∙ one_role depth k r (part_lines ps ++ (branch_lines bs ++ (part_lines qs ++ rest))) Opens are.0 ∙ behind_parts ps (suc depth) (k + 1) (branch_lines bs ++ (part_lines qs ++ rest)) are.1 ∙ behind_branches bs false depth (k + 1 + length (part_lines ps)) (part_lines qs ++ rest) are.2 ∙ behind_parts qs depth (k + 1 + length (part_lines ps) + length (branch_lines bs)) rest are.3 ∙ ap (λ (z : ℕ). branch_behind depth z (map role rest)) (omega (arith, length-append (part_lines ps ++ branch_lines bs) (part_lines qs), length-append (part_lines ps) (branch_lines bs)))
 
-  behind_branches : (bs : Branches) (last : Bool) (depth k : ℕ) (rest : List Row) → AreBranches last bs → branch_behind (suc depth) k (map role (branch_lines bs ++ rest)) ≡ branch_behind depth (k + length (branch_lines bs)) (map role rest)
+  pub behind_branches : (bs : Branches) (last : Bool) (depth k : ℕ) (rest : List Row) → AreBranches last bs → branch_behind (suc depth) k (map role (branch_lines bs ++ rest)) ≡ branch_behind depth (k + length (branch_lines bs)) (map role rest)
   behind_branches (End r) last depth k rest are = one_role (suc depth) k r rest Closes are
   behind_branches (Branch r ps bs) last depth k rest (first, final, is, parts, more) =
       ap (λ (z : List Row). branch_behind (suc depth) k (map role z)) (branch_line r ps bs rest) ∙ one_role (suc depth) k r (part_lines ps ++ (branch_lines bs ++ rest)) (Elses final) is ∙ behind_parts ps (suc depth) (k + 1) (branch_lines bs ++ rest) parts ∙ behind_branches bs final depth (k + 1 + length (part_lines ps)) rest more ∙ ap (λ (z : ℕ). branch_behind depth z (map role rest)) (omega (arith, length-append (part_lines ps) (branch_lines bs)))

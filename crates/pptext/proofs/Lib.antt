@@ -31,3 +31,4 @@ pub mod GuardScan
 pub mod Decides
 pub mod Lexer
 pub mod Lengths
+pub mod Walks

@@ -9,9 +9,9 @@ returns-in_default c =
 pub returns-in-Some-fault : goal.returns-in-Some-fault
 returns-in-Some-fault c =
     let asks = rw c.in-Some.is at c.in_ok-asked.ensures in
-    not_replaced asks (rw c.as_slice.ensures.value at c.in_ok-tokens.ensures) c.in-Some-fault.is
+    not_replaced asks (rw c.as_slice-asked.ensures.value at c.in_ok-tokens.ensures) c.in-Some-fault.is
 
 pub returns : goal.returns
 returns c =
     let asks = rw c.in-Some.is at c.in_ok-asked.ensures in
-    replaced asks (rw c.as_slice.ensures.value at c.in_ok-tokens.ensures) c.in_default-fault.is (rw c.as_slice-2.ensures at c.in_ok-decide.ensures)
+    replaced asks (rw c.as_slice-asked.ensures.value at c.in_ok-tokens.ensures) c.in_default-fault.is (rw c.as_slice.ensures at c.in_ok-decide.ensures)

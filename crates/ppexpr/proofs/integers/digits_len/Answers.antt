@@ -1,6 +1,5 @@
-use Rattle.std.proofs.Common.{◌∙◌, ℕ, ◌<◌, ◌≤◌, ◌≡◌, true, false, sym, arith, get_or, length, nat_lt}
+use Rattle.std.proofs.Common.{below_more, ◌∙◌, sym, arith, length}
 use Rattle.std.specs.Char.{is_digit}
-use Rattle.std.proofs.lemmas.Bool.Decides.{nat_tests}
 use Rattle.std.proofs.lemmas.List.Sums.{prefix_len_is}
 use Rattle.ppexpr.proofs.integers.digits_len.Goals as goal
 
@@ -11,3 +10,6 @@ returns-then-not-is_digit-clause-value c =
 pub returns-clause-value : goal.returns-clause-value
 returns-clause-value c =
     sym (prefix_len_is (λ x. is_digit x c.args.base) c.args.text.now (length c.args.text.now) 0 (omega arith) (λ k h. c.loop-at.invariant k (omega arith)) (λ h. absurd (omega arith)))
+
+pub loop-at-preserved : goal.loop-at-preserved
+loop-at-preserved c = below_more _ _ c.loop-at.invariant (sym c.is_digit.ensures ∙ c.if-not-is_digit.false)
