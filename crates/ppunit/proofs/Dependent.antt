@@ -1,0 +1,125 @@
+-- The dependencies of a unit are rows that there are.
+use Rattle.std.proofs.Common.{◌≡◌, ℕ, ◌<◌, Bool, true, false, List, [], ◌∷◌, ◌++◌, All, length, Option, Some, None, Result, Ok, Err, refl, sym, ap, ◌∙◌, subst, inl, inr, nat_eq, if◌then◌else◌}
+use Rattle.std.specs.List.{list_any}
+use Rattle.std.proofs.lemmas.List.{length-map}
+use Rattle.std.proofs.lemmas.List.Elements.{All-push, All-nil}
+use Rattle.pptext.specs.declared.tokens.Place.{Place}
+use Rattle.pptext.specs.declared.tokens.Token.{Token}
+use Rattle.pptext.specs.declared.tokens.Fault.{Fault}
+use Rattle.pptext.specs.declared.sources.Directive.{Directive}
+use Rattle.pptext.specs.declared.sources.Directive.TheVariants.{If, Ifdef, Ifndef, Elif, Else, Endif, Include, Define, Undef, Line, Error, Pragma, Null, Unknown}
+use Rattle.pptext.specs.Lines.{Row, directive_of}
+use Rattle.pptext.specs.Tree.{sign_place, Parts, Branches}
+use Rattle.ppmacro.specs.Names.{Macros}
+use Rattle.ppmacro.specs.Define.{after_define, after_undef}
+use Rattle.ppshelf.specs.Search.{IsFirstRow}
+use Rattle.ppshelf.specs.Shelved.{Files, Spot, names_of}
+use Rattle.ppunit.specs.declared.states.State.{State}
+use Rattle.ppunit.specs.declared.line_control.Presumed.{Presumed}
+use Rattle.ppunit.specs.declared.units.Unit.{Unit as UnitOfList}
+use Rattle.ppunit.specs.declared.units.Setting.{Setting}
+use Rattle.ppunit.specs.declared.units.UnitOut.{UnitOut}
+use Rattle.ppunit.specs.Dependencies.{among}
+use Rattle.ppunit.specs.States.{Surroundings, Reached}
+use Rattle.ppunit.specs.Lines.{operands, run_tokens}
+use Rattle.ppunit.specs.LineControl.{presumed}
+use Rattle.ppunit.specs.Directives.{RunGives, renumbered_by, with_macros, ControlBy}
+use Rattle.ppunit.specs.Group.{Group, Branched, Controls, Opened}
+use Rattle.ppunit.specs.Unit.{IsUnit, Defines, unread, processed, Translates, undefined, translated, surroundings}
+
+-- ---- what leaves the dependencies as they are
+
+run_keeps : (s : State) (tokens : List Token) (m : Reached) → RunGives s tokens m → m.state.deps ≡ s.deps
+run_keeps s tokens m gives = ap (λ (r : Reached). r.state.deps) gives.is
+
+renumbered_keeps : (s : State) (r : Row) (f : Option Fault) (p : Option Presumed) → (renumbered_by s r f p).state.deps ≡ s.deps
+renumbered_keeps s r (Some f) p = refl
+renumbered_keeps s r None None = refl
+renumbered_keeps s r None (Some p) = refl
+
+macros_keep : (s : State) (r : Result Macros Fault) → (with_macros s r).state.deps ≡ s.deps
+macros_keep s (Ok macros) = refl
+macros_keep s (Err f) = refl
+
+control_keeps : (d : Option Directive) (s : State) (r : Row) (m : Reached) → ControlBy d s r m → m.state.deps ≡ s.deps
+control_keeps None s r m does = absurd does
+control_keeps (Some If) s r m does = absurd does
+control_keeps (Some Ifdef) s r m does = absurd does
+control_keeps (Some Ifndef) s r m does = absurd does
+control_keeps (Some Elif) s r m does = absurd does
+control_keeps (Some Else) s r m does = absurd does
+control_keeps (Some Endif) s r m does = absurd does
+control_keeps (Some Include) s r m does = absurd does
+control_keeps (Some Define) s r m does = ap (λ (z : Reached). z.state.deps) does ∙ macros_keep s (after_define s.macros (sign_place r.tokens) (operands r.tokens))
+control_keeps (Some Undef) s r m does = ap (λ (z : Reached). z.state.deps) does ∙ macros_keep s (after_undef s.macros (sign_place r.tokens) (operands r.tokens))
+control_keeps (Some Line) s r m does = ap (λ (z : Reached). z.state.deps) does.is ∙ renumbered_keeps s r does.expanded.fault (presumed does.expanded.tokens)
+control_keeps (Some Error) s r m does = absurd does
+control_keeps (Some Pragma) s r m does = ap (λ (z : Reached). z.state.deps) does
+control_keeps (Some Null) s r m does = ap (λ (z : Reached). z.state.deps) does
+control_keeps (Some Unknown) s r m does = ap (λ (z : Reached). z.state.deps) does
+
+-- ---- what joins them
+
+first_within : (names candidates : List (List ℕ)) (row : ℕ) → IsFirstRow names candidates (Some row) → row < length names
+first_within names [] row is = absurd (cc)
+first_within names (c ∷ more) row (inl here) = here.1.0
+first_within names (c ∷ more) row (inr later) = first_within names more row later.1
+
+module _ (around : Surroundings) where
+  abbrev pub Within : List ℕ → Type 0
+  Within rows = All (λ row. row < length around.names) rows
+
+  among_within : (row : ℕ) (rows : List ℕ) → row < length around.names → Within rows → Within (among row rows)
+  among_within row rows within all = cases (list_any (nat_eq row) rows)
+    where
+      cases : (b : Bool) → Within (if b then rows else rows ++ row ∷ [])
+      cases true = all
+      cases false = All-push (λ r. r < length around.names) rows row all within
+
+  mutual
+    group_within : {depth row : ℕ} {r : Reached} {ps : Parts} {end : Reached} → Group around depth row r ps end → Within r.state.deps → Within end.state.deps
+    group_within Group.stays all = all
+    group_within Group.done all = all
+    group_within (Group.run {s = s} {rows = rows} {m = m} gives rest) all = group_within rest (subst Within (sym (run_keeps s (run_tokens rows) m gives)) all)
+    group_within (Group.control here rest) all = group_within rest (control_within here all)
+    group_within (Group.taken decides here rest) all = group_within rest (group_within here all)
+    group_within (Group.skipped decides here rest) all = group_within rest (branches_within here all)
+    group_within (Group.refused decides) all = all
+
+    branches_within : {depth row : ℕ} {s : State} {bs : Branches} {m : Reached} → Branched around depth row s bs m → Within s.deps → Within m.state.deps
+    branches_within Branched.ended all = all
+    branches_within (Branched.otherwise is here) all = group_within here all
+    branches_within (Branched.branch_taken is decides here) all = group_within here all
+    branches_within (Branched.branch_skipped is decides rest) all = branches_within rest all
+    branches_within (Branched.branch_refused is decides) all = all
+
+    control_within : {depth row : ℕ} {s : State} {line : Row} {m : Reached} → Controls around depth row s line m → Within s.deps → Within m.state.deps
+    control_within (Controls.error is) all = all
+    control_within (Controls.quote is q) all = all
+    control_within {s = s} {line = line} {m = m} (Controls.other q does) all = subst Within (sym (control_keeps (directive_of line.tokens) s line m does)) all
+    control_within (Controls.misnamed is q asks) all = all
+    control_within (Controls.missing a is q asks finds) all = all
+    control_within (Controls.included a found is q asks finds opens) all = opened_within opens (first_within around.names _ found finds) all
+
+    opened_within : {depth row : ℕ} {at : Place} {s : State} {m : Reached} → Opened around depth at s row m → row < length around.names → Within s.deps → Within m.state.deps
+    opened_within (Opened.too_deep deep) within all = all
+    opened_within {row = row} {s = s} (Opened.not_readable fits is) within all = among_within row s.deps within all
+    opened_within {row = row} {s = s} (Opened.faulty fits is reads) within all = among_within row s.deps within all
+    opened_within {row = row} {s = s} (Opened.read fits is reads tree here) within all = group_within here (among_within row s.deps within all)
+
+  defines_within : {defines : List (List ℕ)} {s : State} {m : Reached} → Defines around defines s m → Within s.deps → Within m.state.deps
+  defines_within (unread reads) all = all
+  defines_within (processed reads tree here) all = group_within here all
+
+  translates_within : {defines : List (List ℕ)} {row : ℕ} {s : State} {m : Reached} → Translates around defines row s m → row < length around.names → Within s.deps → Within m.state.deps
+  translates_within (undefined here) within all = defines_within here all
+  translates_within (translated here opens) within all = opened_within opens within (defines_within here all)
+
+unit_within : (names : List (List ℕ)) (files : Files) (setting : Setting) (unit : UnitOfList) (out : UnitOut) → IsUnit names files setting unit out → unit.file < length names → All (λ row. row < length names) out.deps
+unit_within names files setting unit out is within =
+    subst (λ (z : UnitOut). All (λ row. row < length names) z.deps) (sym is.gives) (translates_within (surroundings names files setting unit) is.translates within (All-nil (λ row. row < length names)))
+
+pub unit_of_shelf : (stock : List Spot) (files : Files) (setting : Setting) (unit : UnitOfList) (out : UnitOut) → IsUnit (names_of stock) files setting unit out → unit.file < length stock → All (λ row. row < length stock) out.deps
+unit_of_shelf stock files setting unit out is within =
+    let long : length (names_of stock) ≡ length stock = length-map stock (λ (s : Spot). s.name) in
+    subst (λ (n : ℕ). All (λ row. row < n) out.deps) long (unit_within (names_of stock) files setting unit out is (subst (λ (n : ℕ). unit.file < n) (sym long) within))

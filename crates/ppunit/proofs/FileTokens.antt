@@ -1,0 +1,80 @@
+-- Each token of a file is spelled as its kind, or as a header name.
+use Rattle.std.proofs.Common.{◌≡◌, ℕ, Bool, true, false, ◌||◌, nat_eq, List, [], ◌∷◌, ◌++◌, length, take, ◌⊎◌, inl, inr, refl, sym, ap, ◌∙◌, subst, codes}
+use Rattle.std.specs.List.{AllByRecursion}
+use Rattle.std.proofs.lemmas.Bool.{false≢true}
+use Rattle.std.proofs.lemmas.List.{length-map, map-append, take_at}
+use Rattle.pptext.specs.declared.tokens.Kind.{Kind}
+use Rattle.pptext.specs.declared.tokens.Kind.TheVariants.{Ident}
+use Rattle.pptext.specs.declared.tokens.Token.{Token}
+use Rattle.pptext.specs.declared.characters.Char.{Char}
+use Rattle.pptext.specs.Clean.{codes_of}
+use Rattle.pptext.specs.Languages.{Either, One}
+use Rattle.pptext.specs.Spellings.{is_digit, is_nondigit, IsNondigit, IsHeader, Spells}
+use Rattle.pptext.specs.Cut.{Sort, NewLine, Blank, Comment, Spelled, Piece, StandsAt, EachStands, with_piece, laid}
+use Rattle.pptext.specs.Lines.{Row, leaves_space, tokens_after, rows_ended, rows_behind}
+use Rattle.pptext.specs.Sources.{IsSource}
+use Rattle.pptext.proofs.OneKind.{begins, one_kind}
+
+abbrev pub IsSpelled : Token → Type 0
+IsSpelled t = Spells t.kind t.text ⊎ IsHeader t.text
+
+abbrev pub AreSpelled : List Token → Type 0
+AreSpelled ts = AllByRecursion IsSpelled ts
+
+abbrev pub IsSpelledRow : Row → Type 0
+IsSpelledRow r = AreSpelled r.tokens
+
+pub both : {A : Type 0} (P : A → Type 0) (xs ys : List A) → AllByRecursion P xs → AllByRecursion P ys → AllByRecursion P (xs ++ ys)
+both P [] ys a b = b
+both P (x ∷ xs) ys a b = (a.0, both P xs ys a.1 b)
+
+-- ---- from the pieces of the text
+
+piece_spelled : (line : List (List ℕ)) (chars rest : List Char) (k : Kind) → StandsAt line (codes_of (chars ++ rest)) (length chars) (Spelled k) → Spells k (codes_of chars) ⊎ IsHeader (codes_of chars)
+piece_spelled line chars rest k here = cases here
+  where
+    front : take (length chars) (codes_of (chars ++ rest)) ≡ codes_of chars
+    front = ap (take (length chars)) (map-append (λ (c : Char). c.code) chars rest) ∙ take_at (codes_of chars) (codes_of rest) (length chars) (length-map chars (λ (c : Char). c.code))
+
+    cases : StandsAt line (codes_of (chars ++ rest)) (length chars) (Spelled k) → Spells k (codes_of chars) ⊎ IsHeader (codes_of chars)
+    cases (inl h) = inr (subst IsHeader front h.0.spelled)
+    cases (inr p) = inl (subst (Spells k) front p.spelled)
+
+ended_spelled : (tokens : List Token) (chars : List Char) (sort : Sort) → AreSpelled tokens → AllByRecursion IsSpelledRow (rows_ended tokens chars sort)
+ended_spelled tokens chars NewLine all = (all, tt)
+ended_spelled tokens chars Blank all = tt
+ended_spelled tokens chars Comment all = tt
+ended_spelled tokens chars (Spelled k) all = tt
+
+after_spelled : (line : List (List ℕ)) (space : Bool) (tokens : List Token) (chars rest : List Char) (sort : Sort) → AreSpelled tokens → StandsAt line (codes_of (chars ++ rest)) (length chars) sort → AreSpelled (tokens_after space tokens chars sort)
+after_spelled line space tokens chars rest NewLine all here = tt
+after_spelled line space tokens chars rest Blank all here = all
+after_spelled line space tokens chars rest Comment all here = all
+after_spelled line space tokens chars rest (Spelled k) all here = both IsSpelled tokens _ all (piece_spelled line chars rest k here, tt)
+
+rows_spelled : (line : List (List ℕ)) (space : Bool) (tokens : List Token) (ps : List Piece) (rest : List Char) → AreSpelled tokens → EachStands line ps rest → AllByRecursion IsSpelledRow (rows_behind space tokens ps)
+rows_spelled line space tokens [] rest all each = tt
+rows_spelled line space tokens (p ∷ ps) rest all each =
+    both IsSpelledRow (rows_ended tokens p.chars p.sort) (rows_behind (leaves_space p.sort) (tokens_after space tokens p.chars p.sort) ps) (ended_spelled tokens p.chars p.sort all) (rows_spelled (with_piece line p p.sort) (leaves_space p.sort) (tokens_after space tokens p.chars p.sort) ps rest (after_spelled line space tokens p.chars (laid ps ++ rest) p.sort all each.0) each.1)
+
+pub source_spelled : (file : ℕ) (bytes : List ℕ) (lines : List Row) → IsSource file bytes lines → AllByRecursion IsSpelledRow lines
+source_spelled file bytes lines is = subst (AllByRecursion IsSpelledRow) (sym is.same) (rows_spelled [] true [] is.pieces [] tt is.cut.each)
+
+-- ---- the kind of a spelling
+
+abbrev pub opens_header : ℕ → Bool
+opens_header c = nat_eq c 60 || nat_eq c 34
+
+header_opens : (s : List ℕ) → IsHeader s → begins opens_header s ≡ true
+header_opens s (inl (a, b, e, p, q)) = subst (λ z. begins opens_header z ≡ true) (sym (e ∙ ap (λ z. z ++ b) p)) refl
+header_opens s (inr (a, b, e, p, q)) = subst (λ z. begins opens_header z ≡ true) (sym (e ∙ ap (λ z. z ++ b) p)) refl
+
+pub kind_is : (t : Token) (text : List ℕ) (k : Kind) → begins opens_header text ≡ false → Spells k text → t.text ≡ text → IsSpelled t → t.kind ≡ k
+kind_is t text k apart known e (inl here) = one_kind text t.kind k (subst (Spells t.kind) e here) known
+kind_is t text k apart known e (inr header) = absurd (false≢true (sym apart ∙ header_opens text (subst IsHeader e header)))
+
+letter : (c : ℕ) → is_nondigit c ≡ true → Either IsNondigit (One is_digit) (c ∷ [])
+letter c e = inl (inl (c, refl, e))
+
+pub defined_spelled : Spells Ident (codes "defined")
+defined_spelled = (100 ∷ [], codes "efined", refl, inl (100, refl, refl), ((101 ∷ []) ∷ (102 ∷ []) ∷ (105 ∷ []) ∷ (110 ∷ []) ∷ (101 ∷ []) ∷ (100 ∷ []) ∷ [], (letter 101 refl, (letter 102 refl, (letter 105 refl, (letter 110 refl, (letter 101 refl, (letter 100 refl, tt)))))), refl))

@@ -1,0 +1,243 @@
+-- A guarded file changes nothing where its guard is a macro's name (6.10.1).
+use Rattle.std.proofs.Common.{◌≡◌, ℕ, ◌≤◌, Bool, true, false, ◌&&◌, ◌||◌, List, [], ◌∷◌, ◌++◌, Option, Some, None, Ok, refl, sym, ap, ◌∙◌, subst, codes, if◌then◌else◌, is_some, IsTrue, ◌↔◌}
+use Rattle.std.specs.FinMap as table
+use Rattle.std.specs.Str.{bytes_eq}
+use Rattle.std.specs.List.{AllByRecursion}
+use Rattle.std.proofs.lemmas.Bool.{false≢true, and_parts}
+use Rattle.std.proofs.lemmas.List.{append-nil}
+use Rattle.std.proofs.lemmas.Slice.Eq.{bytes_eq-Decides}
+use Rattle.pptext.specs.declared.tokens.Place.{Place}
+use Rattle.pptext.specs.declared.tokens.Token.{Token}
+use Rattle.pptext.specs.declared.tokens.Fault.{Fault}
+use Rattle.pptext.specs.declared.tokens.Kind.{Kind}
+use Rattle.pptext.specs.declared.tokens.Kind.TheVariants.{Ident, Number, CharConst, Str, Punct, Header, Other}
+use Rattle.pptext.specs.declared.sources.Directive.{Directive}
+use Rattle.pptext.specs.declared.sources.Directive.TheVariants.{If}
+use Rattle.pptext.specs.Spellings.{Spells}
+use Rattle.pptext.specs.Sources.{Reads}
+use Rattle.pptext.specs.Lines.{Row, directive_of, directive_named}
+use Rattle.pptext.specs.Tree.{role_by, role_named, Parts, Done, Run, Control, Section, End, Branch, part_lines, AreParts}
+use Rattle.pptext.specs.Guard.{IsBlankRow, AreBlank, is_ident, named, is_not_defined, are_parentheses, ident_if, guard_name, GuardedParts, GuardedBy}
+use Rattle.pptext.proofs.OneKind.{begins}
+use Rattle.pptext.proofs.Trees.{at_most_one}
+use Rattle.ppmacro.specs.Spellings.{is_identifier_kind}
+use Rattle.ppexpand.specs.Turn.{turn}
+use Rattle.ppexpand.specs.Expansion.{done}
+use Rattle.ppexpand.specs.Arguments.{is_lone_quote, is_other_kind}
+use Rattle.ppshelf.specs.Content.{Content, unreadable, readable, IsRead}
+use Rattle.ppshelf.specs.Shelved.{file_at}
+use Rattle.ppexpr.specs.Conditions.{IsCondition}
+use Rattle.ppexpr.proofs.GuardConditions.{punctuator, as_defined, as_name, bare_false, parenthesized_false}
+use Rattle.ppunit.specs.declared.units.Item.{Item}
+use Rattle.ppunit.specs.declared.states.State.{State}
+use Rattle.ppunit.specs.States.{Surroundings, going, depending, entering}
+use Rattle.ppunit.specs.Lines.{run_tokens}
+use Rattle.ppunit.specs.Quotes.{quote_fault, lone_quote}
+use Rattle.ppunit.specs.Conditions.{same_as, is_defined, by_name, Decides, DecidesBy, DecidesUnless}
+use Rattle.ppunit.specs.Directives.{RunGives}
+use Rattle.ppunit.specs.Group.{deepest, Group, Branched, Opened}
+use Rattle.ppunit.specs.Guarded.{GuardsLeaveOut, IsLeftOut}
+use Rattle.ppunit.proofs.FileTokens.{IsSpelled, AreSpelled, IsSpelledRow, source_spelled, opens_header, kind_is, defined_spelled}
+
+-- ---- tokens without quotes
+
+abbrev is_quote : List ℕ → Bool
+is_quote text = bytes_eq text (codes "'") || bytes_eq text (34 ∷ [])
+
+and_false : (a : Bool) → (a && false) ≡ false
+and_false true = refl
+and_false false = refl
+
+text_unquoted : (t : Token) (text : List ℕ) → t.text ≡ text → is_quote text ≡ false → is_lone_quote t ≡ false
+text_unquoted t text e f = ap (λ (z : List ℕ). is_other_kind t.kind && is_quote z) e ∙ ap (λ (b : Bool). is_other_kind t.kind && b) f ∙ and_false (is_other_kind t.kind)
+
+is_ident_kind : (k : Kind) → is_ident k ≡ true → k ≡ Ident
+is_ident_kind Ident e = refl
+is_ident_kind Number e = absurd (false≢true e)
+is_ident_kind CharConst e = absurd (false≢true e)
+is_ident_kind Str e = absurd (false≢true e)
+is_ident_kind Punct e = absurd (false≢true e)
+is_ident_kind Header e = absurd (false≢true e)
+is_ident_kind Other e = absurd (false≢true e)
+
+ident_unquoted : (t : Token) → t.kind ≡ Ident → is_lone_quote t ≡ false
+ident_unquoted t e = ap (λ (k : Kind). is_other_kind k && is_quote t.text) e
+
+-- a token that is spelled so
+named_is : (t : Token) (text : List ℕ) → named t text ≡ true → t.text ≡ text
+named_is t text e = (bytes_eq-Decides t.text text).0 e
+
+-- ---- the opening line
+
+abbrev is_hash : List ℕ → Bool
+is_hash text = bytes_eq text (codes "#") || bytes_eq text (codes "%:")
+
+hash_unquoted : (t : Token) → is_hash t.text ≡ true → is_lone_quote t ≡ false
+hash_unquoted t e = cases (bytes_eq t.text (codes "#")) refl e
+  where
+    cases : (b : Bool) → bytes_eq t.text (codes "#") ≡ b → (b || bytes_eq t.text (codes "%:")) ≡ true → is_lone_quote t ≡ false
+    cases true is h = text_unquoted t (codes "#") (named_is t (codes "#") is) refl
+    cases false is h = text_unquoted t (codes "%:") (named_is t (codes "%:") h) refl
+
+-- a line that opens a section begins with `#`
+opens_by : (b : Bool) (d : Directive) → role_by (if b then Some d else None) ≡ role_named If → b ≡ true
+opens_by true d e = refl
+opens_by false d e = absurd (cc)
+
+abbrev AreUnquoted : List Token → Type 0
+AreUnquoted ts = AllByRecursion (λ t. is_lone_quote t ≡ false) ts
+
+no_quote : (ts : List Token) → AreUnquoted ts → lone_quote ts ≡ None
+no_quote [] all = refl
+no_quote (t ∷ ts) all = ap (λ (b : Bool). if b then Some (quote_fault t) else lone_quote ts) all.0 ∙ no_quote ts all.1
+
+named_unquoted : (t : Token) (text : List ℕ) → named t text ≡ true → is_quote text ≡ false → is_lone_quote t ≡ false
+named_unquoted t text e f = text_unquoted t text (named_is t text e) f
+
+-- of a line without lone quotes whose directive is spelled so
+decided : (s : State) (h d : Token) (ts : List Token) (name : List ℕ) → is_hash h.text ≡ true → named d name ≡ true → is_quote name ≡ false → AreUnquoted ts → DecidesBy (Some (directive_named name)) s (h ∷ d ∷ ts) (Ok false) → Decides s (h ∷ d ∷ ts) (Ok false)
+decided s h d ts name hash is plain rest by =
+    let quotes : lone_quote (h ∷ d ∷ ts) ≡ None = no_quote (h ∷ d ∷ ts) (hash_unquoted h hash, (named_unquoted d name is plain, rest)) in
+    let directive : directive_of (h ∷ d ∷ ts) ≡ Some (directive_named name) = ap (λ (b : Bool). if b then Some (directive_named d.text) else None) hash ∙ ap (λ (z : List ℕ). Some (directive_named z)) (named_is d name is) in
+    subst (λ (q : Option Fault). DecidesUnless q s (h ∷ d ∷ ts) (Ok false)) (sym quotes) (subst (λ (z : Option Directive). DecidesBy z s (h ∷ d ∷ ts) (Ok false)) (sym directive) by)
+
+-- ---- the three forms of a guard
+
+record IsGuard (b : Bool) (t : Token) (x : List ℕ) : Type 0 where
+  form : b ≡ true
+  kind : t.kind ≡ Ident
+  name : t.text ≡ x
+
+ident_if_is : (b : Bool) (t : Token) (x : List ℕ) → ident_if b t ≡ Some x → IsGuard b t x
+ident_if_is b t x e = cases (b && is_ident t.kind) refl e
+  where
+    cases : (c : Bool) → (b && is_ident t.kind) ≡ c → (if c then Some t.text else None) ≡ Some x → IsGuard b t x
+    cases true is f = let p = and_parts b (is_ident t.kind) is in let same : t.text ≡ x = cc in record { form = p.0; kind = is_ident_kind t.kind p.1; name = same }
+    cases false is f = absurd (cc)
+
+-- the macro's name is that of the token
+known_name : (s : State) (x : List ℕ) (t : Token) → t.text ≡ x → is_defined s.macros x ≡ true → is_some (table.get s.macros t.text) ≡ true
+known_name s x t e known = ap (λ (z : List ℕ). is_some (table.get s.macros z)) e ∙ known
+
+punctuator_is : (t : Token) (text : List ℕ) → IsSpelled t → named t text ≡ true → Spells Punct text → begins opens_header text ≡ false → punctuator text t ≡ t
+punctuator_is t text spelled is known apart =
+    let e = named_is t text is in
+    let k : Punct ≡ t.kind = sym (kind_is t text Punct apart known e spelled) in
+    let f : text ≡ t.text = sym e in
+    λ i. record t { kind = k i; text = f i }
+
+defined_is : (t : Token) → IsSpelled t → named t (codes "defined") ≡ true → as_defined t ≡ t
+defined_is t spelled is =
+    let e = named_is t (codes "defined") is in
+    let k : Ident ≡ t.kind = sym (kind_is t (codes "defined") Ident refl defined_spelled e spelled) in
+    let f : codes "defined" ≡ t.text = sym e in
+    λ i. record t { kind = k i; text = f i }
+
+name_is : (t : Token) → t.kind ≡ Ident → as_name t ≡ t
+name_is t e = let k : Ident ≡ t.kind = sym e in λ i. record t { kind = k i }
+
+by_ifndef : (s : State) (h d t : Token) (x : List ℕ) → is_hash h.text ≡ true → IsGuard (named d (codes "ifndef")) t x → is_defined s.macros x ≡ true → Decides s (h ∷ d ∷ t ∷ []) (Ok false)
+by_ifndef s h d t x hash g known =
+    let line = h ∷ d ∷ t ∷ [] in
+    decided s h d (t ∷ []) (codes "ifndef") hash g.form refl (ident_unquoted t g.kind, tt) (sym (ap (λ (k : Kind). by_name false s.macros line (if is_identifier_kind k then Some t.text else None)) g.kind ∙ ap (λ (b : Bool). Ok (same_as false b)) (known_name s x t g.name known)))
+
+by_bare : (s : State) (h d n f t : Token) (x : List ℕ) → IsSpelled n → IsSpelled f → is_hash h.text ≡ true → IsGuard (is_not_defined d n f) t x → is_defined s.macros x ≡ true → Decides s (h ∷ d ∷ n ∷ f ∷ t ∷ []) (Ok false)
+by_bare s h d n f t x sn sf hash g known =
+    let p = and_parts (named d (codes "if")) (named n (codes "!") && named f (codes "defined")) g.form in
+    let q = and_parts (named n (codes "!")) (named f (codes "defined")) p.1 in
+    let bang = punctuator_is n (codes "!") sn q.0 refl refl in
+    let asks = defined_is f sf q.1 in
+    let name = name_is t g.kind in
+    let same : (punctuator (codes "!") n ∷ as_defined f ∷ as_name t ∷ []) ≡ (n ∷ f ∷ t ∷ []) = λ i. bang i ∷ asks i ∷ name i ∷ [] in
+    let condition : IsCondition s.macros s.env h.at (n ∷ f ∷ t ∷ []) (Ok false) = subst (λ (z : List Token). IsCondition s.macros s.env h.at z (Ok false)) same (bare_false s.macros s.env h.at n f t (known_name s x t g.name known)) in
+    decided s h d (n ∷ f ∷ t ∷ []) (codes "if") hash p.0 refl (named_unquoted n (codes "!") q.0 refl, (named_unquoted f (codes "defined") q.1 refl, (ident_unquoted t g.kind, tt))) condition
+
+by_parenthesized : (s : State) (h d n f l t r : Token) (x : List ℕ) → IsSpelled n → IsSpelled f → IsSpelled l → IsSpelled r → is_hash h.text ≡ true → IsGuard (is_not_defined d n f && are_parentheses l r) t x → is_defined s.macros x ≡ true → Decides s (h ∷ d ∷ n ∷ f ∷ l ∷ t ∷ r ∷ []) (Ok false)
+by_parenthesized s h d n f l t r x sn sf sl sr hash g known =
+    let forms = and_parts (is_not_defined d n f) (are_parentheses l r) g.form in
+    let p = and_parts (named d (codes "if")) (named n (codes "!") && named f (codes "defined")) forms.0 in
+    let q = and_parts (named n (codes "!")) (named f (codes "defined")) p.1 in
+    let around = and_parts (named l (codes "(")) (named r (codes ")")) forms.1 in
+    let bang = punctuator_is n (codes "!") sn q.0 refl refl in
+    let asks = defined_is f sf q.1 in
+    let opens = punctuator_is l (codes "(") sl around.0 refl refl in
+    let name = name_is t g.kind in
+    let closes = punctuator_is r (codes ")") sr around.1 refl refl in
+    let same : (punctuator (codes "!") n ∷ as_defined f ∷ punctuator (codes "(") l ∷ as_name t ∷ punctuator (codes ")") r ∷ []) ≡ (n ∷ f ∷ l ∷ t ∷ r ∷ []) = λ i. bang i ∷ asks i ∷ opens i ∷ name i ∷ closes i ∷ [] in
+    let condition : IsCondition s.macros s.env h.at (n ∷ f ∷ l ∷ t ∷ r ∷ []) (Ok false) = subst (λ (z : List Token). IsCondition s.macros s.env h.at z (Ok false)) same (parenthesized_false s.macros s.env h.at n f l t r (known_name s x t g.name known)) in
+    decided s h d (n ∷ f ∷ l ∷ t ∷ r ∷ []) (codes "if") hash p.0 refl (named_unquoted n (codes "!") q.0 refl, (named_unquoted f (codes "defined") q.1 refl, (named_unquoted l (codes "(") around.0 refl, (ident_unquoted t g.kind, (named_unquoted r (codes ")") around.1 refl, tt))))) condition
+
+guard_decides : (s : State) (tokens : List Token) (x : List ℕ) → AreSpelled tokens → role_by (directive_of tokens) ≡ role_named If → guard_name tokens ≡ Some x → is_defined s.macros x ≡ true → Decides s tokens (Ok false)
+guard_decides s [] x all opens is known = absurd (cc)
+guard_decides s (a ∷ []) x all opens is known = absurd (cc)
+guard_decides s (a ∷ b ∷ []) x all opens is known = absurd (cc)
+guard_decides s (h ∷ d ∷ t ∷ []) x all opens is known = by_ifndef s h d t x (opens_by (is_hash h.text) _ opens) (ident_if_is _ t x is) known
+guard_decides s (a ∷ b ∷ c ∷ d ∷ []) x all opens is known = absurd (cc)
+guard_decides s (h ∷ d ∷ n ∷ f ∷ t ∷ []) x all opens is known = by_bare s h d n f t x all.1.1.0 all.1.1.1.0 (opens_by (is_hash h.text) _ opens) (ident_if_is _ t x is) known
+guard_decides s (a ∷ b ∷ c ∷ d ∷ e ∷ f ∷ []) x all opens is known = absurd (cc)
+guard_decides s (h ∷ d ∷ n ∷ f ∷ l ∷ t ∷ r ∷ []) x all opens is known = by_parenthesized s h d n f l t r x all.1.1.0 all.1.1.1.0 all.1.1.1.1.0 all.1.1.1.1.1.1.0 (opens_by (is_hash h.text) _ opens) (ident_if_is _ t x is) known
+guard_decides s (a ∷ b ∷ c ∷ d ∷ e ∷ f ∷ g ∷ h ∷ ts) x all opens is known = absurd (cc)
+
+-- ---- the file
+
+blank_tokens : (rows : List Row) → AllByRecursion IsBlankRow rows → run_tokens rows ≡ []
+blank_tokens [] all = refl
+blank_tokens (r ∷ rs) all = ap (λ (z : List Token). z ++ run_tokens rs) all.0 ∙ blank_tokens rs all.1
+
+nothing_gives : (s : State) → RunGives s [] (going s)
+unfolding turn
+nothing_gives s = record {
+  expanded = record { tokens = []; fault = None };
+  expands = record { outcome = record { tokens = []; fault = None }; expands = (0, done refl); passed = refl; ended = refl };
+  is = ap (λ (items : List Item). going (record s { items = items })) (sym (append-nil s.items));
+}
+
+blank_gives : (s : State) (rows : List Row) → AllByRecursion IsBlankRow rows → RunGives s (run_tokens rows) (going s)
+blank_gives s rows blank = subst (λ (z : List Token). RunGives s z (going s)) (sym (blank_tokens rows blank)) (nothing_gives s)
+
+behind : {A : Type 0} (P : A → Type 0) (xs ys : List A) → AllByRecursion P (xs ++ ys) → AllByRecursion P ys
+behind P [] ys all = all
+behind P (x ∷ xs) ys all = behind P xs ys all.1
+
+module _ (around : Surroundings) (depth row : ℕ) (s : State) where
+  blank_group : (ps : Parts) → AreBlank ps → Group around depth row (going s) ps (going s)
+  blank_group Done blank = Group.done
+  blank_group (Run rs ps) blank = Group.run (blank_gives s rs blank.0) (blank_group ps blank.1)
+  blank_group (Control r ps) blank = absurd blank
+  blank_group (Section r ps bs qs) blank = absurd blank
+
+  pub guarded_group : (ps : Parts) (x : List ℕ) → AllByRecursion IsSpelledRow (part_lines ps) → AreParts ps → GuardedParts ps x → is_defined s.macros x ≡ true → Group around depth row (going s) ps (going s)
+  guarded_group Done x all are g known = absurd g
+  guarded_group (Run rs ps) x all are g known = Group.run (blank_gives s rs g.0) (guarded_group ps x (behind IsSpelledRow rs (part_lines ps) all) are.3 g.1 known)
+  guarded_group (Control r ps) x all are g known = absurd g
+  guarded_group (Section r ps (End e) qs) x all are g known = Group.skipped (guard_decides s r.tokens x all.0 are.0 g.0 known) Branched.ended (blank_group qs g.1)
+  guarded_group (Section r ps (Branch e ps' bs) qs) x all are g known = absurd g
+
+pub guards_leave_out : GuardsLeaveOut
+guards_leave_out around depth row at s bytes lines x fits is reads (parts, tree, guarded) known =
+    Opened.read fits is reads tree (guarded_group around depth row (entering around s row) parts x (subst (AllByRecursion IsSpelledRow) (sym tree.whole) (source_spelled row bytes lines reads)) tree.each guarded known)
+
+-- ---- where a file is left out
+
+parts_guard : (ps : Parts) (x y : List ℕ) → GuardedParts ps x → GuardedParts ps y → x ≡ y
+parts_guard Done x y g h = absurd g
+parts_guard (Run rs ps) x y g h = parts_guard ps x y g.1 h.1
+parts_guard (Control r ps) x y g h = absurd g
+parts_guard (Section r ps (End e) qs) x y g h = let a : Some x ≡ Some y = sym g.0 ∙ h.0 in cc
+parts_guard (Section r ps (Branch e ps' bs) qs) x y g h = absurd g
+
+-- lines have at most one guard
+pub one_guard : (lines : List Row) (x y : List ℕ) → GuardedBy lines x → GuardedBy lines y → x ≡ y
+one_guard lines x y (parts, tree, guarded) (parts', tree', guarded') =
+    parts_guard parts x y guarded (subst (λ (z : Parts). GuardedParts z y) (at_most_one lines parts' parts tree' tree) guarded')
+
+pub opens_left_out : (around : Surroundings) (depth row from : ℕ) (at : Place) (s a : State) (content : Content) (lines : List Row) → depth ≤ deepest → file_at around.files row ≡ Some content → from ≡ row → IsRead from content (Ok lines) → a ≡ depending s row → IsLeftOut a lines → Opened around depth at s row (record { state = a; fault = None })
+opens_left_out around depth row from at s a unreadable lines fits known same reads is left = absurd reads
+opens_left_out around depth row from at s a (readable bytes) lines fits known same reads is (x, guarded, defined) =
+    subst (λ (z : State). Opened around depth at s row (going z)) (sym is) (guards_leave_out around depth row at s bytes lines x fits known (subst (λ (z : ℕ). Reads z bytes (Ok lines)) same reads) guarded (subst (λ (z : State). is_defined z.macros x ≡ true) is defined))
+
+pub left_out_by : (s : State) (lines : List Row) (name : List ℕ) (b : Bool) → GuardedBy lines name → b ≡ is_defined s.macros name → IsTrue b ↔ IsLeftOut s lines
+left_out_by s lines name b guarded is = (λ e. (name, guarded, sym is ∙ e), λ l. is ∙ ap (λ (z : List ℕ). is_defined s.macros z) (one_guard lines name l.0 guarded l.1) ∙ l.2)
+
+pub none_left_out : (s : State) (lines : List Row) → ((x : List ℕ) → ¬ GuardedBy lines x) → IsTrue false ↔ IsLeftOut s lines
+none_left_out s lines none = (λ e. absurd (false≢true e), λ l. absurd (none l.0 l.1))

@@ -1,0 +1,11 @@
+pub mod Digits
+pub mod Grows
+pub mod OneUnit
+pub mod Preprocessed
+pub mod Commands
+pub mod Walk
+pub mod Found
+pub mod Opens
+pub mod Dependent
+pub mod FileTokens
+pub mod Guarding

@@ -1,0 +1,50 @@
+-- From what is read of a unit's definitions and what is walked to the unit's value.
+use Rattle.std.specs.Option.{is_some}
+use Rattle.std.proofs.Common.{◌≡◌, true, false, ◌↔◌, ℕ, List, [], Option, Some, None, Result, Ok, Err, refl, ap, ◌∙◌, subst, IfOk}
+use Rattle.pptext.specs.declared.tokens.Fault.{Fault}
+use Rattle.pptext.specs.Lines.{Row}
+use Rattle.pptext.specs.Sources.{IsSource, Reads}
+use Rattle.pptext.specs.Tree.{Parts, Tree, group_fault}
+use Rattle.ppshelf.specs.Shelved.{Files, Extends}
+use Rattle.ppunit.specs.declared.states.State.{State}
+use Rattle.ppunit.specs.declared.units.Unit.{Unit as UnitOfList}
+use Rattle.ppunit.specs.declared.units.Setting.{Setting}
+use Rattle.ppunit.specs.States.{Surroundings, Reached, stopped, given}
+use Rattle.ppunit.specs.Group.{Opened}
+use Rattle.ppunit.specs.Unit.{IsUnit, beginning, command_file, command_text, unread, processed, Translates, undefined, translated, first_place}
+use Rattle.ppunit.specs.Walk.{Walks, DefinesOver}
+
+-- a file without fault has a tree
+pub source_tree : ((lines : List Row) → (group_fault [] lines ≡ None) ↔ ((parts : Parts) × Tree lines parts)) → (file : ℕ) (bytes : List ℕ) (lines : List Row) → IsSource file bytes lines → (parts : Parts) × Tree lines parts
+source_tree trees file bytes lines is = (trees lines).0 (ap (group_fault []) is.same ∙ is.grouped)
+
+pub defines_walked : ((lines : List Row) → (group_fault [] lines ≡ None) ↔ ((parts : Parts) × Tree lines parts)) → (around : Files → Surroundings) (files : Files) (defines : List (List ℕ)) (text : List ℕ) (x : Result (List Row) Fault) (lines : List Row) (s : State) (r : Reached) → text ≡ command_text defines → x ≡ Ok lines → Reads command_file text x → Walks around files 0 command_file lines s r → DefinesOver around files defines s r
+defines_walked trees around files defines text x lines s r e is reads walks =
+    let reads' : Reads command_file (command_text defines) (Ok lines) = subst (λ b. Reads command_file b (Ok lines)) e (subst (Reads command_file text) is reads) in
+    let tree = source_tree trees command_file (command_text defines) lines reads' in
+    λ more grows. processed reads' tree.1 (walks tree.0 tree.1 more grows)
+
+pub defines_unread : (around : Files → Surroundings) (files : Files) (defines : List (List ℕ)) (text : List ℕ) (x : Result (List Row) Fault) (s : State) (f : Fault) → text ≡ command_text defines → x ≡ Err f → Reads command_file text x → DefinesOver around files defines s (stopped s f)
+defines_unread around files defines text x s f e is reads = λ more grows. unread (subst (λ b. Reads command_file b (Err f)) e (subst (Reads command_file text) is reads))
+
+pub on_ok : {A E : Type 0} {P Q : A → Type 0} (r : Result A E) → ((a : A) → P a → Q a) → IfOk r P → IfOk r Q
+on_ok (Ok a) f p = f a p
+on_ok (Err e) f p = tt
+
+extends_itself : (files : Files) → Extends files files
+extends_itself files row c e = e
+
+pub undefined_unit : (around : Files → Surroundings) (files : Files) (defines : List (List ℕ)) (row : ℕ) (s t : State) (f : Option Fault) → is_some f ≡ true → DefinesOver around files defines s (record { state = t; fault = f }) → Translates (around files) defines row s (record { state = t; fault = f })
+undefined_unit around files defines row s t None e over = absurd (cc)
+undefined_unit around files defines row s t (Some f) e over = undefined (over files (extends_itself files))
+
+pub translated_unit : (around : Files → Surroundings) (files more : Files) (defines : List (List ℕ)) (row : ℕ) (s t u : State) (f g : Option Fault) → is_some f ≡ false → DefinesOver around files defines s (record { state = t; fault = f }) → Extends more files → ((most : Files) → Extends most more → Opened (around most) 0 (first_place row) t row (record { state = u; fault = g })) → Translates (around more) defines row s (record { state = u; fault = g })
+translated_unit around files more defines row s t u None g e over grows opens = translated (over more grows) (opens more (extends_itself more))
+translated_unit around files more defines row s t u (Some f) g e over grows opens = absurd (cc)
+
+pub whole_unit : (names : List (List ℕ)) (files : Files) (setting : Setting) (unit : UnitOfList) (ours theirs : List (List ℕ)) (s : State) (r : Reached) → ours ≡ unit.search → theirs ≡ setting.search → s ≡ beginning setting → Translates (record { names = names; files = files; unit_folders = ours; setting_folders = theirs }) unit.defines unit.file s r → IsUnit names files setting unit (given r)
+whole_unit names files setting unit ours theirs s r e f b is = record {
+  reached = r;
+  translates = subst (λ z. Translates (record { names = names; files = files; unit_folders = unit.search; setting_folders = setting.search }) unit.defines unit.file z r) b (subst (λ z. Translates (record { names = names; files = files; unit_folders = unit.search; setting_folders = z }) unit.defines unit.file s r) f (subst (λ z. Translates (record { names = names; files = files; unit_folders = z; setting_folders = theirs }) unit.defines unit.file s r) e is));
+  gives = refl;
+}

@@ -1,0 +1,6 @@
+use Rattle.std.proofs.Common.{◌≡◌, ◌==◌, drop, true}
+use Rattle.ppunit.specs.Including as spec
+use Rattle.ppunit.proofs.including.angle_name.Given as goal
+
+abbrev pub invariant-loop-index : goal.invariant-loop-index
+invariant-loop-index l = spec.prefixed l.name.items (spec.angle_name (l.index == 0) (drop l.index l.tokens)) ≡ spec.angle_name true l.tokens

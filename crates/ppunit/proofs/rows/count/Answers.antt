@@ -1,0 +1,6 @@
+use Rattle.std.proofs.Common.{length, ap, ◌∙◌}
+use Rattle.ppunit.proofs.Walk.{spans_length}
+use Rattle.ppunit.proofs.rows.count.Goals as goal
+
+pub returns : goal.returns
+returns c = ap length c.lines.ensures ∙ spans_length 0 0 c.args.source.now

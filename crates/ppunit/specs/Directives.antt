@@ -1,0 +1,99 @@
+-- What a control line does (6.10.2 to 6.10.7), but for the file that it includes.
+use Rattle.std.specs.Prelude.{◌≡◌, ℕ, Bool, true, false, not, ◌&&◌, List, [], ◌∷◌, ◌++◌, map, if◌then◌else◌, Option, None, Some, Result, Ok, Err}
+use Rattle.pptext.specs.declared.tokens.Token.{Token}
+use Rattle.pptext.specs.declared.tokens.Fault.{Fault}
+use Rattle.pptext.specs.declared.sources.Directive.{Directive}
+use Rattle.pptext.specs.declared.sources.Directive.TheVariants.{Define, Undef, Line, Pragma, Null, Unknown}
+use Rattle.pptext.specs.Lines.{Row}
+use Rattle.pptext.specs.Tree.{sign_place}
+use Rattle.ppmacro.specs.Names.{Macros}
+use Rattle.ppmacro.specs.Define.{after_define, after_undef}
+use Rattle.ppexpand.specs.declared.expansion.Expanded.{Expanded}
+use Rattle.ppexpand.specs.Expansion.{IsExpansion}
+use Rattle.ppshelf.specs.Names.{name_in}
+use Rattle.ppshelf.specs.Search.{candidates, IsFirstRow}
+use Rattle.ppunit.specs.declared.units.Item.TheVariants as item
+use Rattle.ppunit.specs.States.{Surroundings, Reached, going, stopped, passed}
+use Rattle.ppunit.specs.declared.states.State.{State}
+use Rattle.ppunit.specs.Lines.{operands, line_fault}
+use Rattle.ppunit.specs.declared.including.Asked.{Asked}
+use Rattle.ppunit.specs.declared.line_control.Presumed.{Presumed}
+use Rattle.ppunit.specs.LineControl.{presumed, renumbered}
+use Rattle.ppunit.specs.Including.{begins_with_header, header_asked, asked_or, asked_behind, if_somewhere}
+
+-- a text run passes on what it expands to (6.10.3), up to its first fault
+pub record RunGives (s : State) (tokens : List Token) (r : Reached) : Type 0 where
+  pub expanded : Expanded
+  pub expands : IsExpansion s.macros s.env tokens expanded
+  pub is : r ≡ record { state = passed s (map item.Token expanded.tokens); fault = expanded.fault }
+
+-- ---- `#define`, `#undef`
+
+abbrev pub with_macros : State → Result Macros Fault → Reached
+with_macros s (Ok macros) = going (record s { macros = macros })
+with_macros s (Err f) = stopped s f
+
+-- ---- `#error` (6.10.5)
+
+-- the tokens, with one space where a token but the first has a mark
+abbrev pub message : Bool → List Token → List ℕ
+message first [] = []
+message first (t ∷ ts) = (if t.space && not first then 32 ∷ [] else []) ++ (t.text ++ message false ts)
+
+-- ---- `#line` (6.10.4)
+
+abbrev pub renumbered_by : State → Row → Option Fault → Option Presumed → Reached
+renumbered_by s r (Some f) p = stopped s f
+renumbered_by s r None None = stopped s (line_fault 33 r.tokens [])
+renumbered_by s r None (Some p) = going (renumbered s r p)
+
+pub record LineGives (s : State) (r : Row) (reached : Reached) : Type 0 where
+  pub expanded : Expanded
+  pub expands : IsExpansion s.macros s.env (operands r.tokens) expanded
+  pub is : reached ≡ renumbered_by s r expanded.fault (presumed expanded.tokens)
+
+-- ---- `#include` (6.10.2)
+
+-- a header name stands alone, or the operands are replaced
+pub record AsksReplaced (s : State) (line : List Token) (asked : Result Asked Fault) : Type 0 where
+  pub expanded : Expanded
+  pub expands : IsExpansion s.macros s.env (operands line) expanded
+  pub is : asked ≡ asked_behind (line_fault 30 line []) expanded.fault expanded.tokens
+
+-- what an include line asks for, or its fault, whether a header name stands behind `include` or not
+abbrev pub AsksBy : Bool → State → List Token → Result Asked Fault → Type 0
+AsksBy true s line asked = asked ≡ asked_or (line_fault 30 line []) (if_somewhere (header_asked (operands line)))
+AsksBy false s line asked = AsksReplaced s line asked
+
+abbrev pub Asks : State → List Token → Result Asked Fault → Type 0
+Asks s line asked = AsksBy (begins_with_header (operands line)) s line asked
+
+-- the row of the file that is asked for in the file of this row, if there is one
+abbrev pub Finds : Surroundings → ℕ → Asked → Option ℕ → Type 0
+Finds around from a found = IsFirstRow around.names (candidates a.form (name_in around.names from) around.unit_folders around.setting_folders a.name) found
+
+-- ---- the other control lines
+
+abbrev pub unknown_name : List Token → List ℕ
+unknown_name (hash ∷ name ∷ ts) = name.text
+unknown_name ts = []
+
+-- a control line without lone quotes that includes no file
+abbrev pub ControlBy : Option Directive → State → Row → Reached → Type 0
+ControlBy (Some Null) s r reached = reached ≡ going s
+ControlBy (Some Define) s r reached = reached ≡ with_macros s (after_define s.macros (sign_place r.tokens) (operands r.tokens))
+ControlBy (Some Undef) s r reached = reached ≡ with_macros s (after_undef s.macros (sign_place r.tokens) (operands r.tokens))
+ControlBy (Some Line) s r reached = LineGives s r reached
+ControlBy (Some Pragma) s r reached = reached ≡ going (passed s (item.Pragma (sign_place r.tokens) (operands r.tokens) ∷ []))
+ControlBy (Some Unknown) s r reached = reached ≡ stopped s (line_fault 8 r.tokens (unknown_name r.tokens))
+ControlBy _ s r reached = ⊥
+
+-- the control lines that open no file, but for `#error`
+abbrev pub IsControl : Directive → Type 0
+IsControl Null = Unit {0}
+IsControl Define = Unit {0}
+IsControl Undef = Unit {0}
+IsControl Line = Unit {0}
+IsControl Pragma = Unit {0}
+IsControl Unknown = Unit {0}
+IsControl _ = ⊥

@@ -1,0 +1,79 @@
+-- What an `#include` line asks for (6.10.2).
+use Rattle.std.specs.Prelude.{ℕ, ◌-◌, List, [], ◌∷◌, ◌++◌, Bool, true, false, not, ◌&&◌, ◌||◌, if◌then◌else◌, Option, None, Some, Result, Ok, Err, length, take, drop, codes}
+use Rattle.std.specs.Str.{bytes_eq}
+use Rattle.pptext.specs.declared.tokens.Token.{Token}
+use Rattle.pptext.specs.declared.tokens.Fault.{Fault}
+use Rattle.pptext.specs.declared.tokens.Kind.{Kind}
+use Rattle.pptext.specs.declared.tokens.Kind.TheVariants.{Header}
+use Rattle.ppmacro.specs.Spellings.{is_punct}
+use Rattle.ppshelf.specs.declared.search.Form.{Form}
+use Rattle.ppshelf.specs.declared.search.Form.TheVariants.{Quote, Angle}
+use Rattle.ppunit.specs.declared.including.Asked.{Asked}
+use Rattle.ppunit.specs.LineControl.{is_plain_string}
+
+-- without the characters around
+abbrev pub inner : List ℕ → List ℕ
+inner text = take (length text - 2) (drop 1 text)
+
+abbrev pub form_of : List ℕ → Form
+form_of text = if bytes_eq (take 1 text) (34 ∷ []) then Quote else Angle
+
+abbrev pub is_header : Kind → Bool
+is_header Header = true
+is_header _ = false
+
+-- a header name stands behind `include`
+abbrev pub begins_with_header : List Token → Bool
+begins_with_header [] = false
+begins_with_header (t ∷ ts) = is_header t.kind
+
+-- a header name alone
+abbrev pub header_asked : List Token → Option Asked
+header_asked (t ∷ []) = Some (record { form = form_of t.text; name = inner t.text })
+header_asked ts = None
+
+abbrev pub space_before : Bool → Token → List ℕ
+space_before first t = if t.space && not first then 32 ∷ [] else []
+
+-- only where nothing follows
+abbrev pub ended : List ℕ → List Token → Option (List ℕ)
+ended text [] = Some text
+ended text (t ∷ ts) = None
+
+abbrev pub prefixed : List ℕ → Option (List ℕ) → Option (List ℕ)
+prefixed text None = None
+prefixed text (Some more) = Some (text ++ more)
+
+-- The name up to `>`, which is the last token and stands nowhere else; one space where a token but the first has a mark.
+abbrev pub angle_name : Bool → List Token → Option (List ℕ)
+angle_name first [] = None
+angle_name first (t ∷ ts) =
+    if is_punct (codes ">") t then ended (space_before first t) ts else prefixed (space_before first t ++ t.text) (angle_name false ts)
+
+abbrev pub angled : Option (List ℕ) → Option Asked
+angled None = None
+angled (Some name) = Some (record { form = Angle; name = name })
+
+-- what the tokens behind replacement ask for
+abbrev pub expanded_asked : List Token → Option Asked
+expanded_asked (t ∷ []) = if is_plain_string t then Some (record { form = Quote; name = inner t.text }) else None
+expanded_asked (t ∷ u ∷ us) = if is_punct (codes "<") t then angled (angle_name true (u ∷ us)) else None
+expanded_asked [] = None
+
+-- a name that no file has: an empty one, or one from the root
+abbrev pub is_nowhere : List ℕ → Bool
+is_nowhere name = bytes_eq name [] || bytes_eq (take 1 name) (codes "/")
+
+abbrev pub if_somewhere : Option Asked → Option Asked
+if_somewhere None = None
+if_somewhere (Some a) = if is_nowhere a.name then None else Some a
+
+-- what is asked for, or fault 30
+abbrev pub asked_or : Fault → Option Asked → Result Asked Fault
+asked_or f None = Err f
+asked_or f (Some a) = Ok a
+
+-- what the tokens behind replacement ask for, or the fault of their replacement, or fault 30
+abbrev pub asked_behind : Fault → Option Fault → List Token → Result Asked Fault
+asked_behind f (Some g) ts = Err g
+asked_behind f None ts = asked_or f (if_somewhere (expanded_asked ts))

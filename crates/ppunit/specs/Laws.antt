@@ -1,0 +1,16 @@
+-- Laws of units.
+use Rattle.std.specs.Prelude.{◌≡◌, ℕ, List}
+use Rattle.ppshelf.specs.Names.{AreNames}
+use Rattle.ppshelf.specs.Shelved.{Files, Extends}
+use Rattle.ppunit.specs.declared.units.Unit.{Unit as UnitOfList}
+use Rattle.ppunit.specs.declared.units.Setting.{Setting}
+use Rattle.ppunit.specs.declared.units.UnitOut.{UnitOut}
+use Rattle.ppunit.specs.Unit.{IsUnit}
+
+-- over the same files a unit gives one thing
+abbrev pub HasOneValue : Type 0
+HasOneValue = (names : List (List ℕ)) (files : Files) (setting : Setting) (unit : UnitOfList) (a b : UnitOut) → AreNames names → IsUnit names files setting unit a → IsUnit names files setting unit b → a ≡ b
+
+-- where a unit gives something over some files, it gives the same over any more
+abbrev pub Grows : Type 0
+Grows = (names : List (List ℕ)) (files more : Files) (setting : Setting) (unit : UnitOfList) (out : UnitOut) → Extends more files → IsUnit names files setting unit out → IsUnit names more setting unit out

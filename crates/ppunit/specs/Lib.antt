@@ -1,0 +1,14 @@
+pub mod Dependencies
+pub mod States
+pub mod Lines
+pub mod Quotes
+pub mod LineControl
+pub mod Including
+pub mod Conditions
+pub mod Directives
+pub mod Group
+pub mod Unit
+pub mod Laws
+pub mod Walk
+pub mod Forms
+pub mod Guarded

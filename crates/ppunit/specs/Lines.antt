@@ -1,0 +1,28 @@
+-- The parts of a directive line (6.10).
+use Rattle.std.specs.Prelude.{ℕ, List, [], ◌∷◌, if◌then◌else◌, Option, None, Some, drop, flat_map}
+use Rattle.pptext.specs.declared.tokens.Token.{Token}
+use Rattle.pptext.specs.declared.tokens.Fault.{Fault}
+use Rattle.pptext.specs.Lines.{Row}
+use Rattle.pptext.specs.Tree.{sign_place, name_of}
+use Rattle.ppmacro.specs.Spellings.{is_identifier}
+
+-- what stands behind the directive's name
+abbrev pub operands : List Token → List Token
+operands line = drop 2 line
+
+-- a fault at the line's `#`
+abbrev pub line_fault : ℕ → List Token → List ℕ → Fault
+line_fault number line text = record { number = number; at = sign_place line; text = text }
+
+-- a fault that says the directive's name
+abbrev pub named_fault : ℕ → List Token → Fault
+named_fault number line = line_fault number line (name_of line)
+
+-- the one identifier that is asked for
+abbrev pub one_identifier : List Token → Option (List ℕ)
+one_identifier (t ∷ []) = if is_identifier t then Some t.text else None
+one_identifier ts = None
+
+-- the tokens of a text run
+abbrev pub run_tokens : List Row → List Token
+run_tokens rows = flat_map (λ r. r.tokens) rows

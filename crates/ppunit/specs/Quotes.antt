@@ -1,0 +1,13 @@
+-- A quote that begins no literal (6.4p3): fault 7, before all else that is wrong with a directive line.
+use Rattle.std.specs.Prelude.{List, [], ◌∷◌, if◌then◌else◌, Option, None, Some}
+use Rattle.pptext.specs.declared.tokens.Token.{Token}
+use Rattle.pptext.specs.declared.tokens.Fault.{Fault}
+use Rattle.ppexpand.specs.Arguments.{is_lone_quote}
+
+abbrev pub quote_fault : Token → Fault
+quote_fault t = record { number = 7; at = t.at; text = t.text }
+
+-- the fault of the first one
+abbrev pub lone_quote : List Token → Option Fault
+lone_quote [] = None
+lone_quote (t ∷ ts) = if is_lone_quote t then Some (quote_fault t) else lone_quote ts

@@ -1,0 +1,51 @@
+-- Where phase 4 stands in a unit (5.1.1.2, 6.10).
+use Rattle.std.specs.Prelude.{ℕ, pos, List, [], ◌∷◌, ◌++◌, Option, Some, None}
+use Rattle.pptext.specs.declared.tokens.Fault.{Fault}
+use Rattle.ppmacro.specs.Substitution.{escaped}
+use Rattle.ppshelf.specs.Shelved.{Files}
+use Rattle.ppshelf.specs.Names.{name_in}
+use Rattle.ppunit.specs.Dependencies.{among}
+use Rattle.ppunit.specs.declared.units.Item.{Item}
+use Rattle.ppunit.specs.declared.units.UnitOut.{UnitOut}
+use Rattle.ppunit.specs.declared.states.State.{State}
+
+-- what does not change within a unit: the names of all files, what is known of them, and the folders that are searched, the unit's before the setting's
+pub record Surroundings : Type 0 where
+  pub names : List (List ℕ)
+  pub files : Files
+  pub unit_folders : List (List ℕ)
+  pub setting_folders : List (List ℕ)
+
+-- a unit goes on, or has stopped at its first fault
+pub record Reached : Type 0 where
+  pub state : State
+  pub fault : Option Fault
+
+abbrev pub going : State → Reached
+going s = record { state = s; fault = None }
+
+abbrev pub stopped : State → Fault → Reached
+stopped s f = record { state = s; fault = Some f }
+
+abbrev pub passed : State → List Item → State
+passed s items = record s { items = s.items ++ items }
+
+-- the file joins the dependencies, once
+abbrev pub depending : State → ℕ → State
+depending s row = record s { deps = among row s.deps }
+
+-- what a unit gives
+abbrev pub given : Reached → UnitOut
+given r = record { items = r.state.items; deps = r.state.deps; fault = r.fault }
+
+-- a name as a string literal
+abbrev pub literal : List ℕ → List ℕ
+literal name = 34 ∷ (escaped name ++ 34 ∷ [])
+
+-- a file begins under its own name and numbers
+abbrev pub entering : Surroundings → State → ℕ → State
+entering around s row = record (depending s row) { env = record s.env { name = literal (name_in around.names row); shift = pos 0 } }
+
+-- behind it those of the including file come back
+abbrev pub leaving : State → Reached → Reached
+leaving s m = record m { state = record m.state { env = s.env } }

@@ -1,0 +1,53 @@
+-- The value of a unit: phases 1 to 4 of its definitions and its file.
+use Rattle.std.specs.Prelude.{◌≡◌, ℕ, pos, List, [], ◌∷◌, ◌++◌, Ok, Err, codes, flat_map}
+use Rattle.pptext.specs.declared.tokens.Place.{Place}
+use Rattle.pptext.specs.declared.tokens.Fault.{Fault}
+use Rattle.pptext.specs.Lines.{Row}
+use Rattle.pptext.specs.Sources.{Reads}
+use Rattle.pptext.specs.Tree.{Parts, Tree}
+use Rattle.ppmacro.specs.Predefined.{predefined}
+use Rattle.ppshelf.specs.Shelved.{Files}
+use Rattle.ppunit.specs.declared.units.Unit.{Unit as UnitOfList}
+use Rattle.ppunit.specs.declared.units.Setting.{Setting}
+use Rattle.ppunit.specs.declared.units.UnitOut.{UnitOut}
+use Rattle.ppunit.specs.States.{Surroundings, Reached, going, stopped, given}
+use Rattle.ppunit.specs.declared.states.State.{State}
+use Rattle.ppunit.specs.Group.{Group, Opened}
+
+-- the number of the file that holds a unit's definitions
+abbrev pub command_file : ℕ
+command_file = 65535
+
+abbrev pub command_line : List ℕ → List ℕ
+command_line text = codes "#define " ++ text ++ 10 ∷ []
+
+-- a line for each definition
+abbrev pub command_text : List (List ℕ) → List ℕ
+command_text defines = flat_map command_line defines
+
+-- a unit begins with the predefined names alone (6.10.8.1)
+abbrev pub beginning : Setting → State
+beginning setting = record { macros = predefined; items = []; deps = []; env = record { name = []; shift = pos 0; date = setting.date; time = setting.time } }
+
+-- the file's first byte
+abbrev pub first_place : ℕ → Place
+first_place row = record { file = row; line = 1; col = 1 }
+
+-- phases 1 to 4 of a unit's definitions, before its file
+pub data Defines (around : Surroundings) (defines : List (List ℕ)) : State → Reached → Type 0 where
+  unread : {s : State} {f : Fault} → Reads command_file (command_text defines) (Err f) → Defines around defines s (stopped s f)
+  processed : {s : State} {lines : List Row} {parts : Parts} {m : Reached} → Reads command_file (command_text defines) (Ok lines) → Tree lines parts → Group around 0 command_file (going s) parts m → Defines around defines s m
+
+-- the definitions, and then the unit's file
+pub data Translates (around : Surroundings) (defines : List (List ℕ)) (row : ℕ) : State → Reached → Type 0 where
+  undefined : {s t : State} {f : Fault} → Defines around defines s (stopped t f) → Translates around defines row s (stopped t f)
+  translated : {s t : State} {m : Reached} → Defines around defines s (going t) → Opened around 0 (first_place row) t row m → Translates around defines row s m
+
+abbrev pub surroundings : List (List ℕ) → Files → Setting → UnitOfList → Surroundings
+surroundings names files setting unit = record { names = names; files = files; unit_folders = unit.search; setting_folders = setting.search }
+
+-- what a unit gives over these files
+pub record IsUnit (names : List (List ℕ)) (files : Files) (setting : Setting) (unit : UnitOfList) (out : UnitOut) : Type 0 where
+  pub reached : Reached
+  pub translates : Translates (surroundings names files setting unit) unit.defines unit.file (beginning setting) reached
+  pub gives : out ≡ given reached

@@ -1,0 +1,102 @@
+-- Where a walk over the lines of a file stands in the tree of its groups.
+use Rattle.std.specs.Prelude.{◌≡◌, ℕ, ◌+◌, List, [], ◌∷◌, ◌++◌, drop, map, Bool, true, false, Option, None, Some, Result, Ok, Err, slice_index_or}
+use Rattle.pptext.specs.declared.tokens.Token.{Token}
+use Rattle.pptext.specs.declared.tokens.Fault.{Fault}
+use Rattle.pptext.specs.declared.sources.Directive.{Directive}
+use Rattle.pptext.specs.declared.sources.Directive.TheVariants.{If, Ifdef, Ifndef, Elif, Else, Endif}
+use Rattle.pptext.specs.Lines.{Row, directive_of}
+use Rattle.pptext.specs.Sources.{next_branch}
+use Rattle.pptext.specs.Tree.{Parts, Branches, part_lines, branch_lines, AreParts, AreBranches, Tree, role, branch_behind}
+use Rattle.ppshelf.specs.Shelved.{Files, Extends, Spot, names_of}
+use Rattle.ppunit.specs.declared.states.State.{State}
+use Rattle.ppunit.specs.States.{Surroundings, Reached, going, stopped}
+use Rattle.ppunit.specs.Conditions.{Decides}
+use Rattle.ppunit.specs.Group.{Group, Branched}
+use Rattle.ppunit.specs.Unit.{Defines}
+
+-- of a shelf and folders, over these files
+abbrev pub surroundings_of : List Spot → List (List ℕ) → List (List ℕ) → Files → Surroundings
+surroundings_of stock unit setting files = record { names = names_of stock; files = files; unit_folders = unit; setting_folders = setting }
+
+abbrev pub no_row : Row
+no_row = record { tokens = []; number = 0 }
+
+abbrev pub line_at : List Row → ℕ → Row
+line_at lines index = slice_index_or lines index no_row
+
+-- `#if`, `#ifdef`, `#ifndef`
+abbrev pub opens_section : Directive → Bool
+opens_section If = true
+opens_section Ifdef = true
+opens_section Ifndef = true
+opens_section d = false
+
+-- `#elif`, `#else`, `#endif`: a group ends before the line
+abbrev pub ends_group : Directive → Bool
+ends_group Elif = true
+ends_group Else = true
+ends_group Endif = true
+ends_group d = false
+
+-- The if-sections around a group, the innermost first: the branches behind the group, and the parts behind the section.
+abbrev pub Outer : Type 0
+Outer = List (Branches × Parts)
+
+-- the lines of parts in these sections, up to the end of the file
+abbrev pub lay : Parts → Outer → List Row
+lay ps [] = part_lines ps
+lay ps ((bs, qs) ∷ k) = part_lines ps ++ (branch_lines bs ++ lay qs k)
+
+abbrev pub AreOuter : Outer → Type 0
+AreOuter [] = Unit {0}
+AreOuter ((bs, qs) ∷ k) = ((last : Bool) × AreBranches last bs) × AreParts qs × AreOuter k
+
+-- the lines from this index on are those of parts in these sections
+pub record StandsAt (lines : List Row) (index : ℕ) (ps : Parts) (k : Outer) : Type 0 where
+  pub rest : drop index lines ≡ lay ps k
+  pub parts : AreParts ps
+  pub outer : AreOuter k
+
+-- phase 4 of the parts and of what stands behind them in these sections
+abbrev pub Ends : Surroundings → ℕ → ℕ → Reached → Parts → Outer → Reached → Type 0
+Ends around depth row m ps [] end = Group around depth row m ps end
+Ends around depth row m ps ((bs, qs) ∷ k) end = (n : Reached) × Group around depth row m ps n × Ends around depth row n qs k end
+
+-- From the line at an index to the line at another, or to a fault: what is behind follows from what is left.
+abbrev pub Advances : (Files → Surroundings) → Files → ℕ → ℕ → List Row → ℕ → State → State → Result ℕ Fault → Type 0
+Advances around files depth row lines index s t (Ok next) = (ps : Parts) (k : Outer) → StandsAt lines index ps k → (ps' : Parts) × (k' : Outer) × StandsAt lines next ps' k' × ((more : Files) → Extends more files → (end : Reached) → Ends (around more) depth row (going t) ps' k' end → Ends (around more) depth row (going s) ps k end)
+Advances around files depth row lines index s t (Err f) = (ps : Parts) (k : Outer) → StandsAt lines index ps k → (more : Files) → Extends more files → Ends (around more) depth row (going s) ps k (stopped t f)
+
+-- phase 4 of a file's lines, over these files and any more
+abbrev pub Walks : (Files → Surroundings) → Files → ℕ → ℕ → List Row → State → Reached → Type 0
+Walks around files depth row lines s end = (parts : Parts) → Tree lines parts → (more : Files) → Extends more files → Group (around more) depth row (going s) parts end
+
+-- At the index stands an opening line or `#elif`, then the parts of its group, and then these branches.
+pub record BranchesAt (lines : List Row) (index : ℕ) (ps : Parts) (bs : Branches) (qs : Parts) (k : Outer) : Type 0 where
+  pub line : Row
+  pub rest : drop index lines ≡ line ∷ lay ps ((bs, qs) ∷ k)
+  pub next : (n : ℕ) (rows : List Row) → next_branch n (role line) rows ≡ branch_behind 0 (n + 1) (map role rows)
+  pub parts : AreParts ps
+  pub outer : AreOuter ((bs, qs) ∷ k)
+
+-- whether the work goes on behind a branch line, or its fault
+abbrev pub Enters : Option Directive → State → List Token → Result Bool Fault → Type 0
+Enters (Some Elif) s line taken = Decides s line taken
+Enters d s line taken = taken ≡ Ok true
+
+-- the line that the work goes on with, behind a group that is not taken
+abbrev pub FindsBranch : List Row → State → Branches → Parts → Outer → Result ℕ Fault → Type 0
+FindsBranch lines s bs qs k (Ok next) = (ps : Parts) × (k' : Outer) × StandsAt lines next ps k' × ((around : Surroundings) (depth row : ℕ) (end : Reached) → Ends around depth row (going s) ps k' end → (m : Reached) × Branched around depth row s bs m × Ends around depth row m qs k end)
+FindsBranch lines s bs qs k (Err f) = (around : Surroundings) (depth row : ℕ) → Branched around depth row s bs (stopped s f)
+
+abbrev pub IsTextRow : Row → Type 0
+IsTextRow r = directive_of r.tokens ≡ None
+
+-- no text line stands first
+abbrev pub IsRest : List Row → Type 0
+IsRest [] = Unit {0}
+IsRest (r ∷ rows) = ¬ IsTextRow r
+
+-- phases 1 to 4 of a unit's definitions, over these files and any more
+abbrev pub DefinesOver : (Files → Surroundings) → Files → List (List ℕ) → State → Reached → Type 0
+DefinesOver around files defines s end = (more : Files) → Extends more files → Defines (around more) defines s end

@@ -1,0 +1,48 @@
+// Whether a line of an if-section takes the group behind it (6.10.1).
+ghost use Rattle.std.specs.Prelude.{◌≡◌, IfOk, Some, Bool, true, false};
+ghost use Rattle.pptext.specs.Lines.{directive_of};
+ghost use Rattle.ppunit.specs.Conditions as spec;
+ghost use Rattle.ppunit.specs.Lines as spec_lines;
+
+use crate::lines::{line_fault, lone_quote, name, one_identifier, operands, sign};
+use crate::states::State;
+use ppexpr::evaluate;
+use ppmacro::Table;
+use pptext::{Directive, Fault, Memory, Token};
+use std::alloc::{AllocError, Global};
+
+/// Whether the group behind a line is taken, or the line's fault: 7, 9, or one of its condition.
+pub(crate) fn decide(
+    alloc: Global,
+    state: &State,
+    directive: Directive,
+    line: &[Token],
+) -> Result<Result<bool, Fault>, Memory>
+    requires line { directive_of line.now ≡ Some directive }
+    requires branch { spec.IsConditional directive }
+    ensures { IfOk result (λ taken. spec.Decides state.now line.now taken) }
+{
+    if let Some(fault) = lone_quote(line)? {
+        return Ok(Err(fault));
+    }
+    match directive {
+        Directive::Ifdef => Ok(by_name(alloc, true, &state.macros, line)?),
+        Directive::Ifndef => Ok(by_name(alloc, false, &state.macros, line)?),
+        _ => evaluate(alloc, &state.macros, &state.env, sign(line), operands(line)),
+    }
+}
+
+// Whether the line's name is defined, or isn't, as wanted.
+fn by_name(
+    alloc: Global,
+    wanted: bool,
+    macros: &Table,
+    line: &[Token],
+) -> Result<Result<bool, Fault>, AllocError>
+    ensures { IfOk result (λ taken. taken ≡ spec.by_name wanted macros.now line.now (spec_lines.one_identifier (spec_lines.operands line.now))) }
+{
+    let Some(asked) = one_identifier(operands(line)) else {
+        return Ok(Err(line_fault(alloc, 9, line, name(line))?));
+    };
+    Ok(Ok(macros.get(asked).is_some() == wanted))
+}

@@ -1,0 +1,139 @@
+// Forms of the texts of a setting and of a unit.
+ghost use Rattle.std.specs.Prelude.{◌≡◌, length, map, nat_le};
+ghost use Rattle.std.specs.List.{list_all};
+ghost use Rattle.std.specs.String.{string_bytes};
+ghost use Rattle.ppunit.specs.Forms as spec;
+ghost use Rattle.ppunit.specs.Unit.{command_text};
+
+use crate::units::{Setting, Unit};
+use ppshelf::{Disk, Shelf};
+
+#[cfg(test)]
+mod tests;
+
+/// Whether the text is a date as `__DATE__` gives it: `Mmm dd yyyy`, a day below 10 after a space (6.10.8.1).
+pub fn is_date(text: &[u8]) -> bool
+    ensures { result ≡ spec.is_date text.now }
+{
+    text.len() == 11
+        && is_month(&text[..3])
+        && text[3] == b' '
+        && is_day(text[4], text[5])
+        && text[6] == b' '
+        && is_digits(&text[7..])
+}
+
+fn is_month(text: &[u8]) -> bool
+    ensures { result ≡ spec.is_month text.now }
+{
+    text == b"Jan".as_slice()
+        || text == b"Feb".as_slice()
+        || text == b"Mar".as_slice()
+        || text == b"Apr".as_slice()
+        || text == b"May".as_slice()
+        || text == b"Jun".as_slice()
+        || text == b"Jul".as_slice()
+        || text == b"Aug".as_slice()
+        || text == b"Sep".as_slice()
+        || text == b"Oct".as_slice()
+        || text == b"Nov".as_slice()
+        || text == b"Dec".as_slice()
+}
+
+fn is_day(first: u8, second: u8) -> bool
+    ensures { result ≡ spec.is_day first second }
+{
+    (first == b' ' && matches!(second, b'1'..=b'9'))
+        || (first >= b'1' && is_pair(31, first, second))
+}
+
+fn is_digits(text: &[u8]) -> bool
+    ensures { result ≡ list_all spec.is_digit text.now }
+{
+    text.iter().all(|byte| is_digit(*byte))
+}
+
+fn is_digit(byte: u8) -> bool
+    ensures { result ≡ spec.is_digit byte }
+{
+    matches!(byte, b'0'..=b'9')
+}
+
+// Whether the two are digits that spell a number of at most `most`.
+fn is_pair(most: u8, first: u8, second: u8) -> bool
+    ensures { result ≡ spec.is_pair most first second }
+{
+    is_digit(first) && is_digit(second) && (first - b'0') * 10 + (second - b'0') <= most
+}
+
+/// Whether the text is a time as `__TIME__` gives it: `hh:mm:ss`, where the second may be a leap second (6.10.8.1).
+pub fn is_time(text: &[u8]) -> bool
+    ensures { result ≡ spec.is_time text.now }
+{
+    text.len() == 8
+        && is_pair(23, text[0], text[1])
+        && text[2] == b':'
+        && is_pair(59, text[3], text[4])
+        && text[5] == b':'
+        && is_pair(60, text[6], text[7])
+}
+
+/// Whether the text holds no carriage return and no line feed, so that a definition of it is one line.
+pub fn is_one_line(text: &[u8]) -> bool
+    ensures { result ≡ spec.is_one_line text.now }
+{
+    text.iter().all(|byte| is_in_line(*byte))
+}
+
+fn is_in_line(byte: u8) -> bool
+    ensures { result ≡ spec.is_in_line byte }
+{
+    byte != b'\r' && byte != b'\n'
+}
+
+/// The most bytes of the file that holds a unit's definitions.
+const MOST_BYTES: usize = 16_777_216;
+
+// The bytes of a definition's line besides its text: `#define ` and a new-line.
+const AROUND: usize = 9;
+
+/// Whether the file of these definitions, a line `#define `, text, new-line for each, has at most 16,777,216 bytes.
+pub fn fits_command(defines: &[String]) -> bool
+    ensures { result ≡ nat_le (length (command_text (map string_bytes defines.now))) 16_777_216 }
+{
+    let mut room = MOST_BYTES;
+    for text in defines {
+        if room < AROUND || room - AROUND < text.len() {
+            return false;
+        }
+        room = room - AROUND - text.len();
+    }
+    true
+}
+
+/// Whether date and time have the forms in which `__DATE__` and `__TIME__` give them (6.10.8.1).
+pub fn setting_ok(setting: &Setting) -> bool
+    ensures { result ≡ spec.is_setting setting.now }
+{
+    is_date(setting.date.as_str().as_bytes()) && is_time(setting.time.as_str().as_bytes())
+}
+
+fn are_lines(texts: &[String]) -> bool
+    ensures { result ≡ list_all spec.is_one_line (map string_bytes texts.now) }
+{
+    for text in texts {
+        if !is_one_line(text.as_bytes()) {
+            return false;
+        }
+    }
+    true
+}
+
+/// Whether the unit's file is one of the shelf's, each of its definitions is one line, and the file of its definitions has at
+/// most 16,777,216 bytes.
+pub fn unit_ok<D: Disk>(shelf: &Shelf<D>, unit: &Unit) -> bool
+    ensures { result ≡ spec.is_unit (length shelf.now) unit.now }
+{
+    let defines = unit.defines.as_slice();
+    unit.file < shelf.len() && are_lines(defines) && fits_command(defines)
+}

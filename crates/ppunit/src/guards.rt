@@ -1,0 +1,22 @@
+// Files that are left out, since their guard is a macro's name (6.10.1).
+ghost use Rattle.std.specs.Prelude.{◌↔◌, IsTrue};
+ghost use Rattle.ppunit.specs.Guarded.{IsLeftOut, GuardsLeaveOut};
+
+use crate::states::State;
+use pptext::Source;
+
+/// Whether the file is one section under a guard that is a macro's name: its lines would do nothing.
+pub(crate) fn is_left_out(state: &State, source: &Source) -> bool
+    ensures { IsTrue result ↔ IsLeftOut state.now source.now }
+{
+    match source.guard() {
+        Some(name) => state.macros.get(name).is_some(),
+        None => false,
+    }
+}
+
+/// A law: a file that is one section under a guard (6.10.1) changes nothing but the dependencies where the guard is a
+/// macro's name.
+pub fn guard_changes_nothing()
+    ensures { GuardsLeaveOut }
+{}

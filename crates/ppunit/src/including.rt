@@ -1,0 +1,143 @@
+// What an `#include` line asks for (6.10.2).
+ghost use Rattle.std.specs.Prelude.{◌≡◌, IfOk, [], true};
+ghost use Rattle.std.specs.Option.{option_map};
+ghost use Rattle.ppunit.specs.Lines.{line_fault};
+ghost use Rattle.ppunit.specs.Including as spec;
+ghost use Rattle.ppunit.specs.Directives.{Asks};
+
+use crate::line_control::is_plain_string;
+use crate::lines::{line_fault, operands};
+use crate::states::State;
+use ppexpand::{Expanded, expand};
+use ppmacro::is_punct;
+use ppshelf::Form;
+use pptext::{Fault, Kind, Memory, Spelling, Token};
+use std::alloc::{AllocError, Global};
+
+/// The form and the name that are asked for.
+#[derive(Drop)]
+pub(crate) struct Asked {
+    pub form: Form,
+    pub name: Spelling,
+}
+
+// What stands between the first and the last byte.
+fn inner(text: &[u8]) -> &[u8]
+    ensures { result.now ≡ spec.inner text.now }
+{
+    match text {
+        [_, inner @ .., _] => inner,
+        _ => b"",
+    }
+}
+
+// A name of this form.
+fn asking_for(alloc: Global, form: Form, name: &[u8]) -> Result<Asked, AllocError>
+    ensures { IfOk result (λ a. a ≡ record { form = form; name = name.now }) }
+{
+    Ok(Asked {
+        form,
+        name: Spelling::new(Vec::from_slice(alloc, name)?),
+    })
+}
+
+// What a header name alone asks for.
+fn header_asked(alloc: Global, tokens: &[Token]) -> Result<Option<Asked>, AllocError>
+    ensures { IfOk result (λ a. a ≡ spec.header_asked tokens.now) }
+{
+    let [header] = tokens else {
+        return Ok(None);
+    };
+    let text = header.text.as_bytes();
+    let form = if text.first() == Some(&b'"') {
+        Form::Quote
+    } else {
+        Form::Angle
+    };
+    Ok(Some(asking_for(alloc, form, inner(text))?))
+}
+
+// The name up to `>`, which is the last token and stands nowhere else.
+fn angle_name(alloc: Global, tokens: &[Token]) -> Result<Option<Vec<u8>>, AllocError>
+    ensures { IfOk result (λ n. option_map (λ v. v.items) n ≡ spec.angle_name true tokens.now) }
+{
+    let mut name = Vec::new(alloc);
+    for (index, token) in tokens.iter().enumerate() {
+        if token.space && index > 0 {
+            name.push(b' ')?;
+        }
+        if is_punct(token, b">") {
+            return Ok(if index + 1 == tokens.len() {
+                Some(name)
+            } else {
+                None
+            });
+        }
+        name.extend_from_slice(token.text.as_bytes())?;
+    }
+    Ok(None)
+}
+
+// What the tokens behind replacement ask for.
+fn expanded_asked(alloc: Global, tokens: &[Token]) -> Result<Option<Asked>, AllocError>
+    ensures { IfOk result (λ a. a ≡ spec.expanded_asked tokens.now) }
+{
+    match tokens {
+        [only] if is_plain_string(only) => {
+            Ok(Some(asking_for(alloc, Form::Quote, inner(only.text.as_bytes()))?))
+        }
+        [first, rest @ ..] if is_punct(first, b"<") && !rest.is_empty() => {
+            let Some(name) = angle_name(alloc, rest)? else {
+                return Ok(None);
+            };
+            Ok(Some(Asked {
+                form: Form::Angle,
+                name: Spelling::new(name),
+            }))
+        }
+        _ => Ok(None),
+    }
+}
+
+// Fault 30 where nothing is asked for, or a name that no file has: an empty one, or one from the root.
+fn asked_or_fault(
+    alloc: Global,
+    line: &[Token],
+    asked: Option<Asked>,
+) -> Result<Result<Asked, Fault>, AllocError>
+    ensures { IfOk result (λ r. r ≡ spec.asked_or (line_fault 30 line.now []) (spec.if_somewhere asked)) }
+{
+    match asked {
+        Some(asked) if !is_nowhere(asked.name.as_bytes()) => Ok(Ok(asked)),
+        _ => Ok(Err(line_fault(alloc, 30, line, b"")?)),
+    }
+}
+
+fn is_nowhere(name: &[u8]) -> bool
+    ensures { result ≡ spec.is_nowhere name.now }
+{
+    name.is_empty() || name[0] == b'/'
+}
+
+/// What an include line without lone quotes asks for, or its fault: one of replacement, or 30.
+pub(crate) fn ask(
+    alloc: Global,
+    state: &State,
+    line: &[Token],
+) -> Result<Result<Asked, Fault>, Memory>
+    ensures { IfOk result (λ a. Asks state.now line.now a) }
+{
+    let rest = operands(line);
+    if let Some(first) = rest.first() {
+        if first.kind == Kind::Header {
+            let asked = header_asked(alloc, rest)?;
+            return Ok(asked_or_fault(alloc, line, asked)?);
+        }
+    }
+    let Expanded { tokens, fault } = expand(alloc, &state.macros, &state.env, rest)?;
+    if let Some(fault) = fault {
+        return Ok(Err(fault));
+    }
+    let asked = expanded_asked(alloc, tokens.as_slice())?;
+    Ok(asked_or_fault(alloc, line, asked)?)
+}

@@ -1,0 +1,27 @@
+// Translation phase 4 of one translation unit over shared files (5.1.1.2, 6.10).
+#![tactic(auto)]
+
+mod conditions;
+mod directives;
+mod forms;
+mod guards;
+mod including;
+mod laws;
+mod line_control;
+mod lines;
+mod lists;
+mod opening;
+mod preprocessing;
+mod rows;
+mod states;
+#[cfg(test)]
+mod tests;
+mod units;
+mod walking;
+
+pub use forms::{fits_command, is_date, is_one_line, is_time, setting_ok, unit_ok};
+pub use guards::guard_changes_nothing;
+pub use laws::{growth, one_value};
+pub use lists::{Items, Rows, Text, Texts};
+pub use preprocessing::preprocess;
+pub use units::{Item, Setting, Unit, UnitOut};

@@ -1,0 +1,92 @@
+// `#line` (6.10.4).
+ghost use Rattle.std.specs.Prelude.{◌≡◌, IfOk, Option};
+ghost use Rattle.pptext.specs.Spellings.{is_digit};
+ghost use Rattle.ppunit.specs.LineControl as spec;
+ghost use Rattle.ppunit.specs.Directives.{LineGives};
+
+use crate::lines::{line_fault, operands};
+use crate::states::State;
+use ppexpand::{Expanded, expand};
+use pptext::{Fault, Kind, Memory, Spelling, Token};
+use std::alloc::{AllocError, Global};
+
+const LAST_LINE: u64 = 2_147_483_647;
+
+/// A line's number, and the literal of a name.
+#[derive(Drop)]
+pub(crate) struct Presumed {
+    pub number: u32,
+    pub name: Option<Spelling>,
+}
+
+/// Whether it is a string literal without prefix.
+pub(crate) fn is_plain_string(token: &Token) -> bool
+    ensures { result ≡ spec.is_plain_string token.now }
+{
+    token.kind == Kind::Str && token.text.as_bytes().first() == Some(&b'"')
+}
+
+fn is_digit(byte: u8) -> bool
+    ensures { result ≡ is_digit byte }
+{
+    matches!(byte, b'0'..=b'9')
+}
+
+// The number of a line, 1 to 2147483647, in decimal digits alone.
+fn line_number(token: &Token) -> Option<u32>
+    ensures { result ≡ spec.line_number token.now }
+{
+    if token.kind != Kind::Number {
+        return None;
+    }
+    let mut number: u64 = 0;
+    for byte in token.text.as_bytes() {
+        if !is_digit(*byte) {
+            return None;
+        }
+        // A number that is too great stays so.
+        if number <= LAST_LINE {
+            number = number * 10 + u64::from(*byte - b'0');
+        }
+    }
+    if number == 0 || number > LAST_LINE {
+        return None;
+    }
+    Some(number as u32)
+}
+
+// What the tokens behind replacement say: a number, or a number and a string literal.
+fn presumed_by(tokens: &[Token]) -> Result<Option<Presumed>, AllocError>
+    ensures { IfOk result (λ p. p ≡ spec.presumed tokens.now) }
+{
+    let (number, name) = match tokens {
+        [number] => (number, None),
+        [number, name] if is_plain_string(name) => (number, Some(name.text.clone()?)),
+        _ => return Ok(None),
+    };
+    Ok(line_number(number).map(|number| Presumed { number, name }))
+}
+
+/// The line behind the directive's new-line, which stands in this physical line, gets a number, and the file perhaps a
+/// name; or the fault of replacement, or 33.
+pub(crate) fn renumber(
+    alloc: Global,
+    state: &mut State,
+    line: &[Token],
+    physical: u32,
+) -> Result<Option<Fault>, Memory>
+    ensures { IfOk result (λ f. LineGives state.old (record { tokens = line.now; number = physical }) (record { state = state.new; fault = f })) }
+{
+    let Expanded { tokens, fault } = expand(alloc, &state.macros, &state.env, operands(line))?;
+    if let Some(fault) = fault {
+        return Ok(Some(fault));
+    }
+    let Some(presumed) = presumed_by(tokens.as_slice())? else {
+        return Ok(Some(line_fault(alloc, 33, line, b"")?));
+    };
+    state.env.shift = i64::from(presumed.number) - (i64::from(physical) + 1);
+    if let Some(name) = presumed.name {
+        state.env.name = name;
+    }
+    Ok(None)
+}

@@ -1,0 +1,86 @@
+// The parts of a directive line (6.10).
+ghost use Rattle.std.specs.Prelude.{◌≡◌, IfOk};
+ghost use Rattle.std.specs.Option.{option_copied};
+ghost use Rattle.pptext.specs.Tree.{sign_place, name_of};
+ghost use Rattle.ppunit.specs.Lines as spec;
+ghost use Rattle.ppunit.specs.Quotes as quotes;
+
+use ppexpand::is_lone_quote;
+use pptext::{Fault, Kind, Place, Spelling, Token};
+use std::alloc::{AllocError, Global};
+
+/// The place of the `#`.
+pub(crate) fn sign(line: &[Token]) -> Place
+    ensures { result ≡ sign_place line.now }
+{
+    match line.first() {
+        Some(hash) => hash.at,
+        None => Place {
+            file: 0,
+            line: 0,
+            col: 0,
+        },
+    }
+}
+
+/// The directive's name.
+pub(crate) fn name(line: &[Token]) -> &[u8]
+    ensures { result.now ≡ name_of line.now }
+{
+    match line {
+        [_, name, ..] => name.text.as_bytes(),
+        _ => b"",
+    }
+}
+
+/// What stands behind the directive's name.
+pub(crate) fn operands(line: &[Token]) -> &[Token]
+    ensures { result.now ≡ spec.operands line.now }
+{
+    match line {
+        [_, _, rest @ ..] => rest,
+        _ => &[],
+    }
+}
+
+/// A fault at the line's `#`.
+pub(crate) fn line_fault(
+    alloc: Global,
+    number: u8,
+    line: &[Token],
+    text: &[u8],
+) -> Result<Fault, AllocError>
+    ensures { IfOk result (λ f. f ≡ spec.line_fault number line.now text.now) }
+{
+    Ok(Fault {
+        number,
+        at: sign(line),
+        text: Spelling::new(Vec::from_slice(alloc, text)?),
+    })
+}
+
+/// The one identifier that is asked for.
+pub(crate) fn one_identifier(tokens: &[Token]) -> Option<&[u8]>
+    ensures { option_copied result ≡ spec.one_identifier tokens.now }
+{
+    match tokens {
+        [only] if only.kind == Kind::Ident => Some(only.text.as_bytes()),
+        _ => None,
+    }
+}
+
+/// The fault of the first quote that begins no literal (6.4p3).
+pub(crate) fn lone_quote(line: &[Token]) -> Result<Option<Fault>, AllocError>
+    ensures { IfOk result (λ f. f ≡ quotes.lone_quote line.now) }
+{
+    for token in line {
+        if is_lone_quote(token) {
+            return Ok(Some(Fault {
+                number: 7,
+                at: token.at,
+                text: token.text.clone()?,
+            }));
+        }
+    }
+    Ok(None)
+}

@@ -1,0 +1,47 @@
+// The lines of a file by their index, from 0.
+ghost use Rattle.std.specs.Prelude.{◌≡◌, ◌<◌, ◌≤◌, ◌+◌, ◌-◌, ◌^◌, suc, length, drop, take};
+ghost use Rattle.pptext.specs.Lines.{directive_of};
+ghost use Rattle.pptext.specs.Sources.{next_branch, tokens_of};
+ghost use Rattle.pptext.specs.Tree.{role};
+ghost use Rattle.ppunit.specs.Walk.{line_at};
+
+use pptext::{Line, Source, Token};
+
+/// How many lines there are.
+pub(crate) fn count(source: &Source) -> usize
+    ensures { result ≡ length source.now }
+{
+    source.lines().len()
+}
+
+/// A line, as a span of the file's tokens.
+pub(crate) fn line(source: &Source, index: usize) -> &Line
+    requires { index < length source.now }
+    ensures few { length source.now < 2 ^ 64 }
+    ensures start { result.now.start ≡ length (tokens_of (take index source.now)) }
+    ensures end { result.now.end ≡ result.now.start + length (line_at source.now index).tokens }
+    ensures number { result.now.number ≡ (line_at source.now index).number }
+    ensures directive { result.now.directive ≡ directive_of (line_at source.now index).tokens }
+    ensures next { result.now.next_branch ≡ next_branch index (role (line_at source.now index)) (drop (suc index) source.now) }
+{
+    &source.lines()[index]
+}
+
+/// The tokens of the lines from one index up to another.
+pub(crate) fn tokens_between(source: &Source, start: usize, end: usize) -> &[Token]
+    requires some { start < end }
+    requires within { end ≤ length source.now }
+    ensures { result.now ≡ tokens_of (take (end - start) (drop start source.now)) }
+{
+    &source.tokens()[line(source, start).start..line(source, end - 1).end]
+}
+
+/// The tokens of a line.
+pub(crate) fn tokens_at(source: &Source, index: usize) -> &[Token]
+    requires { index < length source.now }
+    ensures few { length source.now < 2 ^ 64 }
+    ensures tokens { result.now ≡ (line_at source.now index).tokens }
+{
+    let line = line(source, index);
+    &source.tokens()[line.start..line.end]
+}

@@ -1,0 +1,364 @@
+// Phase 4 of whole units over small files.
+ghost use Rattle.std.specs.Prelude.{◌≡◌, ◌≤◌, IfOk, length};
+ghost use Rattle.std.specs.Vec.{vec_len};
+
+use crate::{Item, Setting, Text, Texts, Unit, UnitOut, preprocess, setting_ok, unit_ok};
+use ppshelf::{File, MemoryDisk, Pass, Shelf};
+use pptext::{Fault, Place, Token};
+use std::alloc::{AllocError, Global};
+use std::process::Abort;
+use std::test::Fail;
+
+/// The shelf's last file, which is on no disk.
+const GONE: &str = "gone.h";
+
+/// The names of these files, and `GONE`.
+fn names_of(alloc: Global, files: &[(&str, &str)]) -> Result<Vec<String>, AllocError> {
+    let mut names = Vec::new(alloc);
+    for (name, _text) in files {
+        names.push(String::from_str(alloc, name)?)?;
+    }
+    names.push(String::from_str(alloc, GONE)?)?;
+    Ok(names)
+}
+
+/// The shelf of these files and `GONE`.
+fn shelf_of(alloc: Global, files: &[(&str, &str)]) -> Result<Shelf<MemoryDisk>, Fail> {
+    let names = names_of(alloc, files)?;
+    if names.len() > 65_535 {
+        return Err(Fail::new("too many files"));
+    }
+    Ok(Shelf::new(alloc, names)?)
+}
+
+fn disk_of(alloc: Global, files: &[(&str, &str)]) -> Result<MemoryDisk, AllocError> {
+    let mut disk = MemoryDisk {
+        files: Vec::new(alloc),
+    };
+    for (name, text) in files {
+        disk.files.push(File {
+            name: String::from_str(alloc, name)?,
+            bytes: Vec::from_slice(alloc, text.as_bytes())?,
+        })?;
+    }
+    Ok(disk)
+}
+
+fn texts_of(alloc: Global, given: &[&str]) -> Result<Texts, AllocError> {
+    let mut texts = Vec::new(alloc);
+    for text in given {
+        texts.push(String::from_str(alloc, text)?)?;
+    }
+    Ok(Texts::new(texts))
+}
+
+fn text_of(alloc: Global, text: &str) -> Result<Text, AllocError> {
+    Ok(Text::new(String::from_str(alloc, text)?))
+}
+
+fn setting_of(alloc: Global, date: &str, time: &str) -> Result<Setting, AllocError> {
+    Ok(Setting {
+        date: text_of(alloc, date)?,
+        time: text_of(alloc, time)?,
+        search: texts_of(alloc, &["inc"])?,
+    })
+}
+
+/// A unit of the file in this row, with these definitions.
+fn unit_of(alloc: Global, file: usize, defines: &[&str]) -> Result<Unit, AllocError> {
+    Ok(Unit {
+        file,
+        defines: texts_of(alloc, defines)?,
+        search: texts_of(alloc, &[])?,
+    })
+}
+
+fn push_place(alloc: Global, text: &mut Vec<u8>, at: Place) -> Result<(), AllocError> {
+    let place = format!(in alloc; "{}:{}:{}", at.file, at.line, at.col)?;
+    text.extend_from_slice(place.as_bytes())
+}
+
+fn push_token(text: &mut Vec<u8>, token: &Token) -> Result<(), AllocError> {
+    text.extend_from_slice(token.text.as_bytes())?;
+    text.push(b' ')?;
+    Ok(())
+}
+
+fn push_item(alloc: Global, text: &mut Vec<u8>, item: &Item) -> Result<(), AllocError> {
+    match item {
+        Item::Token(token) => push_token(text, token),
+        Item::Pragma(at, tokens) => {
+            text.extend_from_slice(b"pragma@")?;
+            push_place(alloc, text, *at)?;
+            text.extend_from_slice(b"[ ")?;
+            for token in tokens.as_slice() {
+                push_token(text, token)?;
+            }
+            text.extend_from_slice(b"] ")
+        }
+    }
+}
+
+fn push_fault(alloc: Global, text: &mut Vec<u8>, fault: Option<&Fault>) -> Result<(), AllocError> {
+    let Some(fault) = fault else {
+        return text.extend_from_slice(b"ok");
+    };
+    text.extend_from_slice(format!(in alloc; "{} ", fault.number)?.as_bytes())?;
+    push_place(alloc, text, fault.at)?;
+    text.push(b' ')?;
+    text.extend_from_slice(fault.text.as_bytes())
+}
+
+/// A unit's items, the rows that it depends on, and its fault: `1 x | 0 2 | 31 0:4:1 y.h`.
+fn shown(alloc: Global, out: &UnitOut) -> Result<Vec<u8>, AllocError> {
+    let mut text = Vec::new(alloc);
+    for item in out.items.as_slice() {
+        push_item(alloc, &mut text, item)?;
+    }
+    text.extend_from_slice(b"| ")?;
+    for row in out.deps.as_slice() {
+        text.extend_from_slice(format!(in alloc; "{row} ")?.as_bytes())?;
+    }
+    text.extend_from_slice(b"| ")?;
+    push_fault(alloc, &mut text, out.fault.as_ref())?;
+    Ok(text)
+}
+
+/// What a unit gives, as a text.
+fn given<'a>(
+    alloc: Global,
+    shelf: &'a Shelf<MemoryDisk>,
+    pass: &mut Pass<'a, MemoryDisk>,
+    disk: &'a MemoryDisk,
+    setting: &'a Setting,
+    unit: &'a Unit,
+) -> Result<Vec<u8>, Fail>
+    requires { pass.old.shelf ≡ shelf.now }
+    ensures { pass.new.shelf ≡ shelf.now }
+{
+    if !unit_ok(shelf, unit) {
+        return Err(Fail::new("no such unit"));
+    }
+    let out = preprocess(alloc, shelf, pass, disk, setting, unit)?;
+    Ok(shown(alloc, &out)?)
+}
+
+/// What units give, one after the other over one pass, as texts.
+fn all_given<'a>(
+    alloc: Global,
+    shelf: &'a Shelf<MemoryDisk>,
+    disk: &'a MemoryDisk,
+    setting: &'a Setting,
+    units: &'a [Unit],
+) -> Result<Vec<Vec<u8>>, Fail> {
+    let mut pass = shelf.pass()?;
+    let mut texts = Vec::new(alloc);
+    for unit in units {
+        texts.push(given(alloc, shelf, &mut pass, disk, setting, unit)?)?;
+    }
+    Ok(texts)
+}
+
+/// That units of these files, one after the other over one pass, give texts.
+fn assert_units(
+    rt: &impl Abort,
+    alloc: Global,
+    files: &[(&str, &str)],
+    cases: &[(usize, &[&str], &str)],
+) -> Result<(), Fail> {
+    let shelf = shelf_of(alloc, files)?;
+    let disk = disk_of(alloc, files)?;
+    let setting = setting_of(alloc, "Feb  9 2024", "08:05:03")?;
+    let mut units = Vec::new(alloc);
+    for (file, defines, _wanted) in cases {
+        units.push(unit_of(alloc, *file, defines)?)?;
+    }
+    let texts = all_given(alloc, &shelf, &disk, &setting, units.as_slice())?;
+    for (text, (_file, _defines, wanted)) in texts.iter().zip(cases) {
+        assert!(rt;
+            text.as_slice() == wanted.as_bytes(),
+            "{:?} for {wanted}",
+            text.as_slice()
+        );
+    }
+    assert!(rt; texts.len() == cases.len());
+    Ok(())
+}
+
+/// That a unit of the one file `a.c` gives a text, for each of these contents.
+fn assert_contents(rt: &impl Abort, alloc: Global, cases: &[(&str, &str)]) -> Result<(), Fail> {
+    for (text, wanted) in cases {
+        assert_units(rt, alloc, &[("a.c", text)], &[(0, &[], wanted)])?;
+    }
+    Ok(())
+}
+
+#[test]
+fn judges_settings_and_units(rt: HostRuntime) -> Result<(), Fail> {
+    let alloc = rt.alloc();
+    for (date, time, good) in [
+        ("Feb  9 2024", "08:05:03", true),
+        ("Feb 09 2024", "08:05:03", false),
+        ("Feb  9 2024", "24:00:00", false),
+    ] {
+        assert_eq!(rt;
+            setting_ok(&setting_of(alloc, date, time)?),
+            good,
+            "{date} {time}"
+        );
+    }
+    let shelf = shelf_of(alloc, &[("a.c", "")])?;
+    for (file, define, good) in [(1, "A", true), (2, "A", false), (0, "A\nB", false)] {
+        let unit = unit_of(alloc, file, &[define])?;
+        assert_eq!(rt; unit_ok(&shelf, &unit), good, "{file} {define}");
+    }
+    Ok(())
+}
+
+#[test]
+fn processes_directive_lines(rt: HostRuntime) -> Result<(), Fail> {
+    let cases = [
+        ("", "| 0 | ok"),
+        ("#\na+b/**/c\n", "a + b c | 0 | ok"),
+        ("#define A 1\nA\n#undef A\nA\n", "1 A | 0 | ok"),
+        // an invocation does not go on behind a directive line
+        ("#define f(a) a\nf(1\n#define Q\n)\n", "| 0 | 17 0:2:1 f"),
+        ("#define f(a) a\nf\n#define Q\n(1)\n", "f ( 1 ) | 0 | ok"),
+        ("x\n#error no  \"y\n", "x | 0 | 34 0:2:1 no \"y"),
+        ("x\n #foo\ny\n", "x | 0 | 8 0:2:2 foo"),
+        ("#foo 'z\n", "| 0 | 7 0:1:6 '"),
+        (
+            "#pragma a b\nx\n#pragma\n",
+            "pragma@0:1:1[ a b ] x pragma@0:3:1[ ] | 0 | ok",
+        ),
+    ];
+    assert_contents(&rt, rt.alloc(), &cases)
+}
+
+#[test]
+fn takes_one_group_of_a_section(rt: HostRuntime) -> Result<(), Fail> {
+    let cases = [
+        (
+            "#ifdef A\n1\n#else\n2\n#endif\n#ifndef A\n3\n#endif\n",
+            "2 3 | 0 | ok",
+        ),
+        // an `#elif` behind a taken group is not looked at, nor one in a skipped group
+        (
+            "#if 1\n1\n#elif 1/0\n2\n#else\n3\n#endif\n4\n",
+            "1 4 | 0 | ok",
+        ),
+        (
+            "#if 0\n#if 1/0\n#elif 1/0\n#endif\n#elif 2\n2\n#endif\n",
+            "2 | 0 | ok",
+        ),
+        ("#if 0\n1\n#elif 1/0\n2\n#endif\n", "| 0 | 26 0:3:1 /"),
+        ("#ifdef 1\n#endif\n", "| 0 | 9 0:1:1 ifdef"),
+        (
+            "#if -1 > 0u\n1\n#endif\n#if (0 ? 1u : -1) > 0\n2\n#endif\n",
+            "1 2 | 0 | ok",
+        ),
+        // skipped groups are read for their directives' names alone
+        (
+            "#if 0\ndon't\n#foo\n#error x\n#include <x\n#endif\nx\n",
+            "x | 0 | ok",
+        ),
+        ("#if 1\ndon't\n#endif\nx\n", "don | 0 | 7 0:2:4 '"),
+    ];
+    assert_contents(&rt, rt.alloc(), &cases)
+}
+
+#[test]
+fn numbers_lines(rt: HostRuntime) -> Result<(), Fail> {
+    let alloc = rt.alloc();
+    let cases = [
+        ("__LINE__ __FILE__\n", "1 \"a.c\" | 0 | ok"),
+        (
+            "#line 100 \"q.c\"\n__LINE__ __FILE__\n",
+            "100 \"q.c\" | 0 | ok",
+        ),
+        (
+            "#define N 7\n#line N\n\n__LINE__ __FILE__\n",
+            "8 \"a.c\" | 0 | ok",
+        ),
+        ("#line 0\n", "| 0 | 33 0:1:1 "),
+        ("#line 1 L\"a\"\n", "| 0 | 33 0:1:1 "),
+    ];
+    assert_contents(&rt, alloc, &cases)?;
+    // an included file has its own name and lines, and the includer its own again
+    let files = [
+        (
+            "a.c",
+            "#line 9 \"q\"\n#include \"h.h\"\n__LINE__ __FILE__\n",
+        ),
+        ("h.h", "__LINE__ __FILE__\n#line 50 \"r\"\n"),
+    ];
+    assert_units(
+        &rt,
+        alloc,
+        &files,
+        &[(0, &[], "1 \"h.h\" 10 \"q\" | 0 1 | ok")],
+    )
+}
+
+#[test]
+fn keeps_units_apart(rt: HostRuntime) -> Result<(), Fail> {
+    let files = [
+        ("a.c", "#include \"h.h\"\n#include \"h.h\"\n"),
+        ("h.h", "#ifndef H\n#define H\nint a;\n#endif\n"),
+        ("b.c", "H X\n"),
+    ];
+    let cases = [
+        (0, [].as_slice(), "int a ; | 0 1 | ok"),
+        (0, ["H"].as_slice(), "| 0 1 | ok"),
+        (2, ["X a b"].as_slice(), "H a b | 2 | ok"),
+        (2, ["X 1", "X 2"].as_slice(), "| | 16 65535:2:1 X"),
+        (2, ["X 'a"].as_slice(), "| | 7 65535:1:11 '"),
+        (1, [].as_slice(), "int a ; | 1 | ok"),
+    ];
+    assert_units(&rt, rt.alloc(), &files, &cases)
+}
+
+#[test]
+fn includes_files(rt: HostRuntime) -> Result<(), Fail> {
+    let files = [
+        (
+            "src/a.c",
+            "#include \"x.h\"\n#include <x.h>\n#include \"../inc/x.h\"\n#include <y.h>\n",
+        ),
+        ("src/x.h", "1\n"),
+        ("inc/x.h", "2\n"),
+        (
+            "b.c",
+            "#define N <inc/x.h>\n#include N\nx\n#include \"h.h\"\ny\n",
+        ),
+        ("h.h", "int\n /* x"),
+        ("c.c", "x\n#include \"gone.h\"\ny\n"),
+        ("d.c", "#include N\n"),
+        ("e.c", "#include \"src/x.h\"\n#include \"src/x.h\"\n"),
+        ("s.c", "#include \"s.c\"\n"),
+    ];
+    let cases = [
+        (0, [].as_slice(), "1 2 2 | 0 1 2 | 31 0:4:1 y.h"),
+        (3, [].as_slice(), "| 3 | 31 3:2:1 inc/x.h"),
+        (3, ["inc x"].as_slice(), "| 3 | 31 3:2:1 x/x.h"),
+        (5, [].as_slice(), "x | 5 9 | 6 5:2:1 gone.h"),
+        (6, [].as_slice(), "| 6 | 30 6:1:1 "),
+        (6, ["N \"h.h\""].as_slice(), "| 6 4 | 1 4:2:2 "),
+        (6, ["N < x.h>"].as_slice(), "2 | 6 2 | ok"),
+        (6, ["N < x  .h>"].as_slice(), "| 6 | 31 6:1:1 x .h"),
+        (6, ["N </x.h>"].as_slice(), "| 6 | 30 6:1:1 "),
+        (7, [].as_slice(), "1 1 | 7 1 | ok"),
+        (8, [].as_slice(), "| 8 | 32 8:1:1 s.c"),
+        (9, [].as_slice(), "| 9 | 6 9:1:1 gone.h"),
+    ];
+    assert_units(&rt, rt.alloc(), &files, &cases)
+}
+
+#[test]
+fn opens_files_down_to_depth_200(rt: HostRuntime) -> Result<(), Fail> {
+    let alloc = rt.alloc();
+    let mut wanted = "t ".repeat(alloc, 201)?;
+    wanted.push_str("| 0 | 32 0:2:1 s.c")?;
+    let files = [("s.c", "t\n#include \"s.c\"\n")];
+    assert_units(&rt, alloc, &files, &[(0, &[], wanted.as_str())])
+}

@@ -1,0 +1,34 @@
+// What a unit is, and what its preprocessing gives.
+use crate::lists::{Items, Rows, Text, Texts};
+use pptext::{Fault, Place, Token, Tokens};
+
+/// What preprocessing passes on to translation phase 5 (5.1.1.2): a token, or a pragma with its tokens.
+#[derive(Drop, Debug)]
+pub enum Item {
+    Token(Token),
+    Pragma(Place, Tokens),
+}
+
+/// What a unit gives: its items up to its first fault, the rows that it depends on, and that fault.
+#[derive(Drop)]
+pub struct UnitOut {
+    pub items: Items,
+    pub deps: Rows,
+    pub fault: Option<Fault>,
+}
+
+/// What all units of a list share: the date and the time of their translation (6.10.8.1), and folders that are searched for headers.
+#[derive(Drop, Debug)]
+pub struct Setting {
+    pub date: Text,
+    pub time: Text,
+    pub search: Texts,
+}
+
+/// A unit of a list: the row of its file, its definitions, and folders that are searched before the setting's.
+#[derive(Drop, Debug)]
+pub struct Unit {
+    pub file: usize,
+    pub defines: Texts,
+    pub search: Texts,
+}
