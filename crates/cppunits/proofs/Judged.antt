@@ -1,24 +1,24 @@
 -- The steps to a list's outcome, and what an accepted list keeps to.
-use Rattle.std.proofs.Common.{◌≡◌, ℕ, suc, ◌<◌, ◌≤◌, ◌&&◌, ◌||◌, Bool, true, false, not, List, [], ◌∷◌, refl, sym, subst, ◌∙◌, arith, length, map, All, Some, nat_le, nat_lt, if◌then◌else◌, inl, inr}
+use Rattle.std.proofs.Common.{◌≡◌, ℕ, ◌<◌, ◌≤◌, ◌&&◌, Bool, true, false, not, List, [], refl, sym, subst, ◌∙◌, arith, length, map, All, Option, Some, None, nat_le, nat_lt, if◌then◌else◌, unwrap_or}
+use Rattle.std.specs.Option.{is_some}
+use Rattle.std.specs.List.{list_all}
 use Rattle.std.specs.Str.{bytes_eq}
-use Rattle.std.proofs.lemmas.Bool.{leb-true}
+use Rattle.std.proofs.lemmas.Bool.{leb-true, false≢true}
 use Rattle.std.proofs.lemmas.Bool.Decides.{nat_tests}
 use Rattle.std.proofs.lemmas.List.{length-map}
 use Rattle.std.proofs.lemmas.List.Elements.{All-map, All-weaker, All-nil}
+use Rattle.std.proofs.lemmas.List.Quantifiers.{position-Some}
 use Rattle.std.proofs.lemmas.List.Sums.{AllPass-from_list_all}
 use Rattle.serde_json.specs.Data.{Data}
-use Rattle.cppunits.specs.Shape.{Draft, draft, has_text}
-use Rattle.cppunits.specs.Listing.{accepted, refused, RefusedFor, json_value, outcome_of, judged, listed, listed_unit, place_of, names_hold, sizes_hold, files_are_known, times_hold, file_names, most_input, most_bytes}
-use Rattle.cppunits.specs.declared.units.Unit.{Unit as UnitOfList}
+use Rattle.ppunit.specs.Forms.{is_one_line}
+use Rattle.ppunit.specs.Unit.{command_text}
+use Rattle.ppunit.specs.declared.units.Unit.{Unit as UnitOfList}
+use Rattle.cppunits.specs.Shape.{draft}
+use Rattle.cppunits.specs.Listing.{accepted, refused, json_value, outcome_of, judged, listed, listed_unit, place_of, names_of, contents_of, names_hold, sizes_hold, are_known, times_hold, lines_hold, folders_hold, most_input, most_bytes, IsRunnable}
 use Rattle.cppunits.specs.declared.list.List.{List as CompilationList}
-use Rattle.cppunits.specs.declared.list.ListFault.{ListFault}
+use Rattle.cppunits.specs.declared.list.drafts.Draft.{Draft}
 use Rattle.cppunits.specs.declared.list.drafts.DraftFile.{DraftFile}
 use Rattle.cppunits.specs.declared.list.drafts.DraftUnit.{DraftUnit}
-
--- a refusal for one reason is one for what follows from it
-pub RefusedFor-weaker : (n : ℕ) (P Q : Type 0) → (P → Q) → (e : ListFault) → RefusedFor n P e → RefusedFor n Q e
-RefusedFor-weaker n P Q f e (inl m) = inl m
-RefusedFor-weaker n P Q f e (inr r) = inr (r.0, f r.1)
 
 fits_test : (most n : ℕ) → n ≤ most → nat_lt most n ≡ false
 fits_test most n h = grind (arith, nat_tests)
@@ -31,74 +31,75 @@ outcome_of-draft inline bytes d x fits value shape =
     rw (small, value, shape) refl
 
 -- the tests that an accepted list has passed
-record Passed (x : CompilationList) (names sizes files times : Bool) (l : CompilationList) : Type 0 where
+record Passed (x : CompilationList) (names sizes files times lines : Bool) (l : CompilationList) : Type 0 where
   pub is_list : x ≡ l
+  pub names_pass : names ≡ true
   pub sizes_pass : sizes ≡ true
   pub files_pass : files ≡ true
+  pub times_pass : times ≡ true
+  pub lines_pass : lines ≡ true
 
-passed : (x : CompilationList) (names sizes files times : Bool) (l : CompilationList)
-    → (if not names then refused 3 else (if not sizes then refused 4 else (if not files then refused 5 else (if not times then refused 6 else accepted x)))) ≡ accepted l
-    → Passed x names sizes files times l
-passed x false sizes files times l e = absurd (cc)
-passed x true false files times l e = absurd (cc)
-passed x true true false times l e = absurd (cc)
-passed x true true true false l e = absurd (cc)
-passed x true true true true l e = record { is_list = cc; sizes_pass = refl; files_pass = refl }
+passed : (x : CompilationList) (names sizes files times lines folders : Bool) (l : CompilationList)
+    → (if not names then refused 3 else (if not sizes then refused 4 else (if not files then refused 5 else (if not times then refused 6 else (if not lines then refused 7 else (if not folders then refused 8 else accepted x)))))) ≡ accepted l
+    → Passed x names sizes files times lines l
+passed x false sizes files times lines folders l e = absurd (cc)
+passed x true false files times lines folders l e = absurd (cc)
+passed x true true false times lines folders l e = absurd (cc)
+passed x true true true false lines folders l e = absurd (cc)
+passed x true true true true false folders l e = absurd (cc)
+passed x true true true true true false l e = absurd (cc)
+passed x true true true true true true l e = record { is_list = cc; names_pass = refl; sizes_pass = refl; files_pass = refl; times_pass = refl; lines_pass = refl }
 
-judged-passed : (inline : Bool) (d : Draft) (l : CompilationList) → judged inline d ≡ accepted l → Passed (listed inline d) (names_hold d) (sizes_hold d) (files_are_known d) (times_hold d) l
-judged-passed inline d l e = passed (listed inline d) (names_hold d) (sizes_hold d) (files_are_known d) (times_hold d) l e
+judged-passed : (inline : Bool) (d : Draft) (l : CompilationList) → judged inline d ≡ accepted l
+    → Passed (listed inline d) (names_hold d.files) (sizes_hold d) (are_known (names_of d.files) d.units) (times_hold d.setting) (lines_hold (map (listed_unit (names_of d.files)) d.units)) l
+judged-passed inline d l e = passed (listed inline d) (names_hold d.files) (sizes_hold d) (are_known (names_of d.files) d.units) (times_hold d.setting) (lines_hold (map (listed_unit (names_of d.files)) d.units)) (folders_hold (listed inline d)) l e
 
 both : (a b : Bool) → (a && b) ≡ true → (a ≡ true) × (b ≡ true)
 both true b h = (refl, h)
 both false b h = absurd (cc)
 
-below_by : (here later : Bool) (place n : ℕ) → (here || later) ≡ true → (later ≡ true → place < n) → (if here then 0 else suc place) < suc n
-below_by true later place n h below = omega arith
-below_by false later place n h below = let more : place < n = below h in omega arith
+below_by : (t : List ℕ) (names : List (List ℕ)) (o : Option ℕ) → place_of t names ≡ o → is_some o ≡ true → unwrap_or o 0 < length names
+below_by t names None e h = absurd (false≢true h)
+below_by t names (Some i) e h = (position-Some (bytes_eq t) names i [] e).0
 
--- a text stands at its place
-place_of-below : (t : List ℕ) (names : List (List ℕ)) → has_text t names ≡ true → place_of t names < length names
-place_of-below t [] h = absurd (cc)
-place_of-below t (x ∷ xs) h = below_by (bytes_eq t x) (has_text t xs) (place_of t xs) (length xs) h (place_of-below t xs)
+-- a file that is known stands below the number of names
+place_below : (t : List ℕ) (names : List (List ℕ)) → is_some (place_of t names) ≡ true → unwrap_or (place_of t names) 0 < length names
+place_below t names h = below_by t names (place_of t names) refl h
 
--- each unit's file is among the names
-pub judged-files : (inline : Bool) (d : Draft) (l : CompilationList) → judged inline d ≡ accepted l → All (λ u. u.file < length l.names) l.units
-judged-files inline d l e =
+contents-small : (inline : Bool) (d : Draft) → All (λ (f : DraftFile). length f.content ≤ 16777216) d.files → All (λ bytes. length bytes ≤ 16777216) (listed inline d).contents
+contents-small true d h = All-map (λ (bytes : List ℕ). length bytes ≤ 16777216) (λ (f : DraftFile). f.content) d.files h
+contents-small false d h = All-nil (λ (bytes : List ℕ). length bytes ≤ 16777216)
+
+-- an accepted list can be preprocessed
+pub judged-runnable : (inline : Bool) (d : Draft) (l : CompilationList) → judged inline d ≡ accepted l → IsRunnable l
+judged-runnable inline d l e =
     let p = judged-passed inline d l e in
-    let names = file_names d in
-    let known : All (λ (u : DraftUnit). has_text u.file names ≡ true) d.units = AllPass-from_list_all (λ u. has_text u.file names) d.units p.files_pass in
-    let below : All (λ (u : DraftUnit). place_of u.file names < length names) d.units = All-weaker _ _ (λ u h. place_of-below u.file names h) d.units known in
-    let P : CompilationList → Type 0 = λ x. All (λ u. u.file < length x.names) x.units in
-    subst P p.is_list (All-map (λ (u : UnitOfList). u.file < length names) (listed_unit names) d.units below)
-
--- there are few names
-pub judged-few : (inline : Bool) (d : Draft) (l : CompilationList) → judged inline d ≡ accepted l → length l.names ≤ 65535
-judged-few inline d l e =
-    let p = judged-passed inline d l e in
-    let counts = (both _ _ p.sizes_pass).0 in
-    let few : length d.files ≤ 65535 = leb-true (length d.files) 65535 (both _ _ counts).0 in
-    let same : length (file_names d) ≡ length d.files = length-map d.files (λ (f : DraftFile). f.name) in
-    let P : CompilationList → Type 0 = λ x. length x.names ≤ 65535 in
-    subst P p.is_list (rw same few)
+    let names = names_of d.files in
+    let commands_pass = (both _ _ p.sizes_pass).1 in
+    let contents_pass = (both _ _ (both _ _ p.sizes_pass).0).1 in
+    let files_pass = (both _ _ (both _ _ (both _ _ p.sizes_pass).0).0).0 in
+    let count : length d.files ≤ 65535 = leb-true (length d.files) 65535 files_pass in
+    let same : length names ≡ length d.files = length-map d.files (λ (f : DraftFile). f.name) in
+    let short : All (λ (f : DraftFile). length f.content ≤ 16777216) d.files = All-weaker _ _ (λ f h. leb-true (length f.content) 16777216 h) d.files (AllPass-from_list_all (λ (f : DraftFile). nat_le (length f.content) most_bytes) d.files contents_pass) in
+    let known : All (λ (u : DraftUnit). unwrap_or (place_of u.file names) 0 < length names) d.units = All-weaker _ _ (λ u h. place_below u.file names h) d.units (AllPass-from_list_all (λ (u : DraftUnit). is_some (place_of u.file names)) d.units p.files_pass) in
+    let fit : All (λ (u : DraftUnit). length (command_text u.defines) ≤ 16777216) d.units = All-weaker _ _ (λ u h. leb-true (length (command_text u.defines)) 16777216 h) d.units (AllPass-from_list_all (λ (u : DraftUnit). nat_le (length (command_text u.defines)) most_bytes) d.units commands_pass) in
+    let files : All (λ (u : UnitOfList). u.file < length names) (map (listed_unit names) d.units) = All-map (λ (u : UnitOfList). u.file < length names) (listed_unit names) d.units known in
+    let commands : All (λ (u : UnitOfList). length (command_text u.defines) ≤ 16777216) (map (listed_unit names) d.units) = All-map (λ (u : UnitOfList). length (command_text u.defines) ≤ 16777216) (listed_unit names) d.units fit in
+    let lines : All (λ (u : UnitOfList). list_all is_one_line u.defines ≡ true) (map (listed_unit names) d.units) = AllPass-from_list_all (λ (u : UnitOfList). list_all is_one_line u.defines) (map (listed_unit names) d.units) p.lines_pass in
+    subst IsRunnable p.is_list (record {
+      names = p.names_pass;
+      few = rw same count;
+      small = contents-small inline d short;
+      date = (both _ _ p.times_pass).0;
+      time = (both _ _ p.times_pass).1;
+      units = λ k u h. record { file = files k u h; command = commands k u h; lines = lines k u h };
+    })
 
 -- there is a content for each name
 pub judged-contents : (d : Draft) (l : CompilationList) → judged true d ≡ accepted l → length l.contents ≡ length l.names
 judged-contents d l e =
     let p = judged-passed true d l e in
-    let names : length (file_names d) ≡ length d.files = length-map d.files (λ (f : DraftFile). f.name) in
-    let contents : length (map (λ (f : DraftFile). f.content) d.files) ≡ length d.files = length-map d.files (λ (f : DraftFile). f.content) in
+    let names : length (names_of d.files) ≡ length d.files = length-map d.files (λ (f : DraftFile). f.name) in
+    let contents : length (contents_of d.files) ≡ length d.files = length-map d.files (λ (f : DraftFile). f.content) in
     let P : CompilationList → Type 0 = λ x. length x.contents ≡ length x.names in
     subst P p.is_list (contents ∙ sym names)
-
--- no content is too long
-contents-small : (inline : Bool) (d : Draft) → All (λ (f : DraftFile). length f.content ≤ 16777216) d.files → All (λ bytes. length bytes ≤ 16777216) (listed inline d).contents
-contents-small true d h = All-map (λ (bytes : List ℕ). length bytes ≤ 16777216) (λ (f : DraftFile). f.content) d.files h
-contents-small false d h = All-nil (λ (bytes : List ℕ). length bytes ≤ 16777216)
-
-pub judged-sizes : (inline : Bool) (d : Draft) (l : CompilationList) → judged inline d ≡ accepted l → All (λ bytes. length bytes ≤ 16777216) l.contents
-judged-sizes inline d l e =
-    let p = judged-passed inline d l e in
-    let tests = AllPass-from_list_all (λ (f : DraftFile). nat_le (length f.content) most_bytes) d.files (both _ _ p.sizes_pass).1 in
-    let small : All (λ (f : DraftFile). length f.content ≤ 16777216) d.files = All-weaker _ _ (λ f h. leb-true (length f.content) 16777216 h) d.files tests in
-    let P : CompilationList → Type 0 = λ x. All (λ bytes. length bytes ≤ 16777216) x.contents in
-    subst P p.is_list (contents-small inline d small)

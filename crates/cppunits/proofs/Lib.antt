@@ -1,12 +1,11 @@
 pub mod Objects
 pub mod Each
+pub mod Giving
 pub mod Hex
 pub mod JsonValue
 pub mod Judged
-pub mod Giving
 pub mod Known
+pub mod Names
 pub mod Numbered
-pub mod Passing
-pub mod Quotes
+pub mod Places
 pub mod Received
-pub mod Spans

@@ -1,7 +1,6 @@
-pub mod Names
 pub mod Shape
 pub mod Listing
+pub mod Contents
 pub mod Ending
 pub mod Output
 pub mod Serving
-pub mod Unit

@@ -1,15 +1,21 @@
 -- The list of translation units that bytes hold, or why they are refused.
-use Rattle.std.specs.Prelude.{◌≡◌, ℕ, suc, ◌^◌, ◌&&◌, ◌⊎◌, not, Bool, true, false, List, [], ◌∷◌, if◌then◌else◌, nat_lt, nat_le, length, map, Option, Some, None}
-use Rattle.std.specs.List.{list_all}
+use Rattle.std.specs.Prelude.{◌≡◌, ℕ, ◌^◌, ◌<◌, ◌≤◌, ◌&&◌, ◌⊎◌, not, Bool, true, List, [], ◌∷◌, ◌++◌, All, if◌then◌else◌, nat_lt, nat_le, length, map, Option, Some, None, unwrap_or}
+use Rattle.std.specs.Option.{is_some}
+use Rattle.std.specs.List.{list_all, position}
 use Rattle.std.specs.Str.{is_utf8, bytes_eq}
 use Rattle.serde_json.specs.Data.{Data}
 use Rattle.serde_json.specs.Read.{read}
-use Rattle.cppunits.specs.Names.{is_name, is_date, is_time}
-use Rattle.cppunits.specs.Shape.{Draft, has_text, draft}
-use Rattle.cppunits.specs.declared.units.Unit.{Unit as UnitOfList}
+use Rattle.ppshelf.specs.Names.{is_name, is_folder}
+use Rattle.ppunit.specs.Forms.{is_date, is_time, is_one_line}
+use Rattle.ppunit.specs.Unit.{command_text}
+use Rattle.ppunit.specs.declared.units.Setting.{Setting}
+use Rattle.ppunit.specs.declared.units.Unit.{Unit as UnitOfList}
+use Rattle.cppunits.specs.Shape.{has_text, draft}
 use Rattle.cppunits.specs.declared.list.List.{List as CompilationList}
 use Rattle.cppunits.specs.declared.list.ListFault.{ListFault}
 use Rattle.cppunits.specs.declared.list.ListFault.TheVariants.{Bad, Memory}
+use Rattle.cppunits.specs.declared.list.drafts.Draft.{Draft}
+use Rattle.cppunits.specs.declared.list.drafts.DraftFile.{DraftFile}
 use Rattle.cppunits.specs.declared.list.drafts.DraftUnit.{DraftUnit}
 
 -- a list, or the number of its refusal
@@ -25,18 +31,15 @@ RefusedFor n P e = (e ≡ Memory) ⊎ ((e ≡ Bad n) × P)
 unfoldable pub json_value : List ℕ → Option Data
 json_value bytes = if is_utf8 bytes then read bytes else None
 
--- no text stands twice
-abbrev pub are_different : List (List ℕ) → Bool
-are_different [] = true
-are_different (x ∷ xs) = not (has_text x xs) && are_different xs
+-- the place of a text among others
+abbrev pub place_of : List ℕ → List (List ℕ) → Option ℕ
+place_of t names = position (bytes_eq t) names
 
--- the place of a text among others, or their number
-abbrev pub place_of : List ℕ → List (List ℕ) → ℕ
-place_of t [] = 0
-place_of t (x ∷ xs) = if bytes_eq t x then 0 else suc (place_of t xs)
+abbrev pub names_of : List DraftFile → List (List ℕ)
+names_of files = map (λ (f : DraftFile). f.name) files
 
-abbrev pub file_names : Draft → List (List ℕ)
-file_names d = map (λ f. f.name) d.files
+abbrev pub contents_of : List DraftFile → List (List ℕ)
+contents_of files = map (λ (f : DraftFile). f.content) files
 
 -- the most files of a list, and the most units
 abbrev pub most_rows : ℕ
@@ -50,32 +53,52 @@ most_bytes = 2 ^ 24
 abbrev pub most_input : ℕ
 most_input = 2 ^ 28
 
-abbrev pub names_hold : Draft → Bool
-names_hold d = list_all is_name (file_names d) && are_different (file_names d)
+-- each is a name in normal form and stands nowhere before it, neither here nor among the names in front
+abbrev pub are_new : List (List ℕ) → List (List ℕ) → Bool
+are_new front [] = true
+are_new front (x ∷ xs) = is_name x && not (has_text x front) && are_new (front ++ x ∷ []) xs
+
+abbrev pub names_hold : List DraftFile → Bool
+names_hold files = are_new [] (names_of files)
+
+abbrev pub contents_fit : List DraftFile → Bool
+contents_fit = list_all (λ (f : DraftFile). nat_le (length f.content) most_bytes)
+
+abbrev pub commands_fit : List DraftUnit → Bool
+commands_fit = list_all (λ (u : DraftUnit). nat_le (length (command_text u.defines)) most_bytes)
 
 abbrev pub sizes_hold : Draft → Bool
-sizes_hold d = nat_le (length d.files) most_rows && nat_le (length d.units) most_rows && list_all (λ f. nat_le (length f.content) most_bytes) d.files
+sizes_hold d = nat_le (length d.files) most_rows && nat_le (length d.units) most_rows && contents_fit d.files && commands_fit d.units
 
-abbrev pub files_are_known : Draft → Bool
-files_are_known d = list_all (λ u. has_text u.file (file_names d)) d.units
+-- each unit's file is among the names
+abbrev pub are_known : List (List ℕ) → List DraftUnit → Bool
+are_known names = list_all (λ (u : DraftUnit). is_some (place_of u.file names))
 
-abbrev pub times_hold : Draft → Bool
-times_hold d = is_date d.setting.date && is_time d.setting.time
+abbrev pub times_hold : Setting → Bool
+times_hold s = is_date s.date && is_time s.time
+
+-- each definition is one line
+abbrev pub lines_hold : List UnitOfList → Bool
+lines_hold = list_all (λ (u : UnitOfList). list_all is_one_line u.defines)
+
+-- each text that is searched is a folder
+abbrev pub folders_hold : CompilationList → Bool
+folders_hold l = list_all is_folder l.setting.search && list_all (λ (u : UnitOfList). list_all is_folder u.search) l.units
 
 abbrev pub listed_unit : List (List ℕ) → DraftUnit → UnitOfList
-listed_unit names u = record { file = place_of u.file names; defines = []; search = [] }
+listed_unit names u = record { file = unwrap_or (place_of u.file names) 0; defines = u.defines; search = u.search }
 
--- the contents, where lists hold them
-abbrev pub contents_of : Bool → Draft → List (List ℕ)
-contents_of true d = map (λ f. f.content) d.files
-contents_of false d = []
-
+-- the list of a draft, with contents where lists hold them
 abbrev pub listed : Bool → Draft → CompilationList
-listed inline d = record { setting = d.setting; names = file_names d; contents = contents_of inline d; units = map (listed_unit (file_names d)) d.units }
+listed inline d = record { setting = d.setting; names = names_of d.files; contents = if inline then contents_of d.files else []; units = map (listed_unit (names_of d.files)) d.units }
+
+-- what stands in a list whose units have their files
+abbrev pub judged_texts : CompilationList → Outcome
+judged_texts l = if not (times_hold l.setting) then refused 6 else (if not (lines_hold l.units) then refused 7 else (if not (folders_hold l) then refused 8 else accepted l))
 
 -- the list, or the least number of a refusal that applies
 abbrev pub judged : Bool → Draft → Outcome
-judged inline d = if not (names_hold d) then refused 3 else (if not (sizes_hold d) then refused 4 else (if not (files_are_known d) then refused 5 else (if not (times_hold d) then refused 6 else accepted (listed inline d))))
+judged inline d = if not (names_hold d.files) then refused 3 else (if not (sizes_hold d) then refused 4 else (if not (are_known (names_of d.files) d.units) then refused 5 else judged_texts (listed inline d)))
 
 abbrev shaped : Bool → Option Draft → Outcome
 shaped inline None = refused 2
@@ -88,3 +111,18 @@ parsed inline (Some d) = shaped inline (draft inline d)
 -- the list that bytes hold, or the least number of a refusal that applies
 abbrev pub outcome_of : Bool → List ℕ → Outcome
 outcome_of inline bytes = if nat_lt most_input (length bytes) then refused 1 else parsed inline (json_value bytes)
+
+-- a unit of these files
+pub record IsUnitOf (names : List (List ℕ)) (u : UnitOfList) : Type 0 where
+  pub file : u.file < length names
+  pub command : length (command_text u.defines) ≤ 16777216
+  pub lines : list_all is_one_line u.defines ≡ true
+
+-- a list whose units can be preprocessed
+pub record IsRunnable (l : CompilationList) : Type 0 where
+  pub names : are_new [] l.names ≡ true
+  pub few : length l.names ≤ 65535
+  pub small : All (λ bytes. length bytes ≤ 16777216) l.contents
+  pub date : is_date l.setting.date ≡ true
+  pub time : is_time l.setting.time ≡ true
+  pub units : All (IsUnitOf l.names) l.units

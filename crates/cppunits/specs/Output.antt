@@ -1,14 +1,14 @@
 -- What is printed of a list's units.
-use Rattle.std.specs.Prelude.{ℕ, suc, ◌+◌, ◌/◌, ◌%◌, ◌==◌, ◌&&◌, ◌<◌, ◌≡◌, Bool, true, false, not, List, [], ◌∷◌, ◌++◌, if◌then◌else◌, nat_lt, nat_le, codes, decimal, slice_index_or, flat_map, length, All, Option, Some, None}
+use Rattle.std.specs.Prelude.{ℕ, suc, ◌+◌, ◌/◌, ◌%◌, ◌==◌, ◌&&◌, Bool, true, false, not, List, [], ◌∷◌, ◌++◌, if◌then◌else◌, nat_lt, nat_le, codes, decimal, slice_index_or, flat_map, Option, Some, None}
 use Rattle.pptext.specs.declared.tokens.Place.{Place}
 use Rattle.pptext.specs.declared.tokens.Kind.{Kind}
 use Rattle.pptext.specs.declared.tokens.Kind.TheVariants as kind
 use Rattle.pptext.specs.declared.tokens.Token.{Token}
 use Rattle.pptext.specs.declared.tokens.Fault.{Fault}
-use Rattle.cppunits.specs.declared.units.Item.{Item}
-use Rattle.cppunits.specs.declared.units.Item.TheVariants as item
-use Rattle.cppunits.specs.declared.units.UnitOut.{UnitOut}
-use Rattle.cppunits.specs.declared.units.Unit.{Unit as UnitOfList}
+use Rattle.ppunit.specs.declared.units.Item.{Item}
+use Rattle.ppunit.specs.declared.units.Item.TheVariants as item
+use Rattle.ppunit.specs.declared.units.UnitOut.{UnitOut}
+use Rattle.ppunit.specs.declared.units.Unit.{Unit as UnitOfList}
 use Rattle.cppunits.specs.declared.list.List.{List as CompilationList}
 use Rattle.cppunits.specs.declared.output.Mode.{Mode}
 use Rattle.cppunits.specs.declared.output.Mode.TheVariants.{Dump}
@@ -56,6 +56,7 @@ abbrev pub item_lines : Item → List ℕ
 item_lines (item.Token t) = codes "tok" ++ token_text t
 item_lines (item.Pragma at ts) = codes "prag " ++ place_text at ++ (10 ∷ []) ++ flat_map pragma_token_line ts
 
+-- the name of a row, and nothing past the last row
 abbrev pub name_at : List (List ℕ) → ℕ → List ℕ
 name_at names row = slice_index_or names row []
 
@@ -87,9 +88,3 @@ numbered f n (a ∷ more) (b ∷ bs) = f n a b ++ numbered f (suc n) more bs
 -- the whole output
 abbrev pub output_text : Mode → CompilationList → List UnitOut → List ℕ
 output_text mode list outs = numbered (unit_lines mode list.names) 0 list.units outs
-
--- one outcome a unit, and rows below the number of names
-pub record IsPrintable (list : CompilationList) (outs : List UnitOut) : Type 0 where
-  pub one_each : length outs ≡ length list.units
-  pub files : All (λ u. u.file < length list.names) list.units
-  pub deps : All (λ out. All (λ row. row < length list.names) out.deps) outs

@@ -1,25 +1,23 @@
 -- From a reader's bytes to a writer's.
-use Rattle.std.specs.Prelude.{◌≡◌, ℕ, ◌≤◌, ◌||◌, Bool, true, false, List, [], ◌∷◌, length, take, slice_index_or, Option, Some}
+use Rattle.std.specs.Prelude.{◌≡◌, ℕ, ◌≤◌, ◌||◌, Bool, true, false, List, [], ◌∷◌, length, take, Option, Some}
 use Rattle.std.specs.List.{AllZip}
 use Rattle.std.specs.Option.{is_some}
 use Rattle.std.specs.Io.KnownBytes.{Appends, Consumes, IsAtEnd}
-use Rattle.cppunits.specs.declared.units.UnitOut.{UnitOut}
+use Rattle.ppunit.specs.Unit.{IsUnit}
+use Rattle.ppunit.specs.declared.units.UnitOut.{UnitOut}
 use Rattle.cppunits.specs.declared.list.List.{List as CompilationList}
 use Rattle.cppunits.specs.declared.list.ListFault.{ListFault}
 use Rattle.cppunits.specs.declared.list.ListFault.TheVariants as list_fault
 use Rattle.cppunits.specs.declared.output.Mode.{Mode}
 use Rattle.cppunits.specs.declared.serving.RunFault.{RunFault}
 use Rattle.cppunits.specs.declared.serving.RunFault.TheVariants as run_fault
+use Rattle.cppunits.specs.Contents.{files_of}
 use Rattle.cppunits.specs.Listing.{most_input, outcome_of, accepted, refused}
 use Rattle.cppunits.specs.Output.{output_text}
-use Rattle.cppunits.specs.Unit.{IsUnit}
 
-abbrev pub content_at : CompilationList → ℕ → List ℕ
-content_at list row = slice_index_or list.contents row []
-
--- what the units of a list give, in their order
+-- what the units of a list give over its files, in their order
 abbrev pub Gives : CompilationList → List UnitOut → Type 0
-Gives list outs = AllZip (λ unit out. IsUnit unit.file (content_at list unit.file) out) list.units outs
+Gives list outs = AllZip (λ unit out. IsUnit list.names (files_of list.contents) list.setting unit out) list.units outs
 
 -- some unit has a fault
 abbrev pub some_fault : List UnitOut → Bool

@@ -4,20 +4,10 @@ use Rattle.std.specs.List.{list_any}
 use Rattle.std.specs.Str.{bytes_eq}
 use Rattle.serde_json.specs.Data.{Data, Items, no_items, item, Members, no_members, member}
 use Rattle.serde_json.specs.Find.{get, as_str, as_array, as_object}
-use Rattle.cppunits.specs.declared.units.Setting.{Setting}
+use Rattle.ppunit.specs.declared.units.Setting.{Setting}
 use Rattle.cppunits.specs.declared.list.drafts.DraftFile.{DraftFile}
 use Rattle.cppunits.specs.declared.list.drafts.DraftUnit.{DraftUnit}
-use Rattle.cppunits.specs.declared.list.drafts.SoleDraft.{SoleDraft}
-
--- a list as it stands, before its names and times are judged
-pub record Draft : Type 0 where
-  pub setting : Setting
-  pub files : List DraftFile
-  pub units : List DraftUnit
-
--- the draft of one file and one unit
-abbrev pub sole : SoleDraft → Draft
-sole d = record { setting = d.setting; files = d.file ∷ []; units = d.unit ∷ [] }
+use Rattle.cppunits.specs.declared.list.drafts.Draft.{Draft}
 
 abbrev pub has_text : List ℕ → List (List ℕ) → Bool
 has_text t = list_any (bytes_eq t)
@@ -39,23 +29,19 @@ abbrev pub each_item : {A : Type 0} → (Data → Option A) → Items → Option
 each_item read no_items = Some []
 each_item read (item d ds) = option_and_then (λ x. option_map (λ xs. x ∷ xs) (each_item read ds)) (read d)
 
-abbrev pub items_at : List ℕ → Data → Option Items
-items_at name d = option_and_then as_array (get name d)
+abbrev pub each_of : {A : Type 0} → (Data → Option A) → Data → Option (List A)
+each_of read d = option_and_then (each_item read) (as_array d)
 
 abbrev pub array_at : {A : Type 0} → (Data → Option A) → List ℕ → Data → Option (List A)
-array_at read name d = option_and_then (each_item read) (items_at name d)
+array_at read name d = option_and_then (each_of read) (get name d)
 
--- a list of exactly one item
-abbrev pub only_one : {A : Type 0} → List A → Option (List A)
-only_one [] = None
-only_one (x ∷ []) = Some (x ∷ [])
-only_one (x ∷ y ∷ more) = None
+-- the texts of an array, and none where it is missing
+abbrev pub texts_of : Option Data → Option (List (List ℕ))
+texts_of None = Some []
+texts_of (Some d) = each_of as_str d
 
--- the item of an array of exactly one
-abbrev pub only_item : Items → Option Data
-only_item no_items = None
-only_item (item d no_items) = Some d
-only_item (item d (item e ds)) = None
+abbrev pub texts_at : List ℕ → Data → Option (List (List ℕ))
+texts_at name d = texts_of (get name d)
 
 -- the value of a hexadecimal digit, a letter in lower case
 abbrev pub hex_value : ℕ → Option ℕ
@@ -91,23 +77,17 @@ abbrev pub draft_file : Bool → Data → Option DraftFile
 draft_file inline d = if is_object_of (file_members inline) d then option_and_then (λ n. option_map (λ c. record { name = n; content = c }) (content_of inline d)) (text_at (codes "name") d) else None
 
 abbrev pub unit_members : List (List ℕ)
-unit_members = codes "file" ∷ []
+unit_members = codes "file" ∷ codes "define" ∷ codes "search" ∷ []
 
 abbrev pub draft_unit : Data → Option DraftUnit
-draft_unit d = if is_object_of unit_members d then option_map (λ f. record { file = f }) (text_at (codes "file") d) else None
+draft_unit d = if is_object_of unit_members d then option_and_then (λ f. option_and_then (λ ts. option_map (λ ss. record { file = f; defines = ts; search = ss }) (texts_at (codes "search") d)) (texts_at (codes "define") d)) (text_at (codes "file") d) else None
 
 abbrev pub draft_setting : Data → Option Setting
-draft_setting d = option_and_then (λ day. option_map (λ hour. record { date = day; time = hour; search = [] }) (text_at (codes "time") d)) (text_at (codes "date") d)
-
-abbrev pub draft_files : Bool → Data → Option (List DraftFile)
-draft_files inline d = option_and_then only_one (array_at (draft_file inline) (codes "files") d)
-
-abbrev pub draft_units : Data → Option (List DraftUnit)
-draft_units d = option_and_then only_one (array_at draft_unit (codes "units") d)
+draft_setting d = option_and_then (λ day. option_and_then (λ hour. option_map (λ ss. record { date = day; time = hour; search = ss }) (texts_at (codes "search") d)) (text_at (codes "time") d)) (text_at (codes "date") d)
 
 abbrev pub list_members : List (List ℕ)
-list_members = codes "date" ∷ codes "time" ∷ codes "files" ∷ codes "units" ∷ []
+list_members = codes "date" ∷ codes "time" ∷ codes "search" ∷ codes "files" ∷ codes "units" ∷ []
 
--- the list as it stands, where it has its shape: exactly one file and one unit, and no other members
+-- the list as it stands, where it has its shape, and no other members
 abbrev pub draft : Bool → Data → Option Draft
-draft inline d = if is_object_of list_members d then option_and_then (λ s. option_and_then (λ fs. option_map (λ us. record { setting = s; files = fs; units = us }) (draft_units d)) (draft_files inline d)) (draft_setting d) else None
+draft inline d = if is_object_of list_members d then option_and_then (λ s. option_and_then (λ fs. option_map (λ us. record { setting = s; files = fs; units = us }) (array_at draft_unit (codes "units") d)) (array_at (draft_file inline) (codes "files") d)) (draft_setting d) else None

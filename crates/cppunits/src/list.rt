@@ -1,18 +1,18 @@
 // The list of translation units, read from JSON.
-ghost use Rattle.std.specs.Prelude.{◌≡◌, ◌<◌, ◌≤◌, ℕ, Some, None, IfOk, IfErr, IsErrOf, true, length, All};
+ghost use Rattle.std.specs.Prelude.{◌≡◌, ℕ, Some, None, IfOk, IfErr, IsErrOf, true, length};
 ghost use Rattle.serde_json.specs.View.{view};
-ghost use Rattle.cppunits.specs.Listing.{RefusedFor, json_value, outcome_of, accepted, refused};
+ghost use Rattle.cppunits.specs.Listing.{RefusedFor, IsRunnable, json_value, outcome_of, accepted, refused};
 ghost use Rattle.cppunits.specs.declared.list.ListFault.TheVariants.{Bad, Memory};
 
 mod drafts;
+pub(crate) mod index;
 mod judging;
-mod names;
 #[cfg(test)]
 mod tests;
 
 use crate::list::drafts::draft_of;
 use crate::list::judging::judge;
-use crate::units::{Setting, Texts, Unit};
+use ppunit::{Setting, Texts, Unit};
 use serde_json::{Category, Value};
 use std::alloc::{AllocError, AllocFailed, Global};
 use std::marker::Model;
@@ -26,7 +26,7 @@ pub struct Units {
 
 impl Model for Units {
     ghost use Rattle.std.specs.Prelude.{List};
-    ghost use Rattle.cppunits.specs.declared.units.Unit.{Unit};
+    ghost use Rattle.ppunit.specs.declared.units.Unit.{Unit};
 
     ghost Value = { List Unit };
 
@@ -125,14 +125,14 @@ pub(crate) const MOST_INPUT: usize = 268_435_456;
 /// # Errors
 ///
 /// `Bad` with the least number that applies: 1 for bytes that are too many or no JSON value, 2 for a member
-/// that is missing, unknown or of another shape, 3 for a name that is out of normal form, 4 for a content
-/// that is too long, 5 for a unit's file that isn't among the names, 6 for the date or the time; and `Memory`.
+/// that is missing, unknown or of another shape, 3 for a name that is out of normal form or stands twice, 4 for more
+/// than 65,535 files or units, or a content or a unit's definitions that are too long, 5 for a unit's file that isn't
+/// among the names, 6 for the date or the time, 7 for a definition of more than one line, 8 for a text to be searched
+/// that is no folder; and `Memory`.
 pub fn read_list(alloc: Global, bytes: &[u8], inline: bool) -> Result<List, ListFault>
     ensures ok { IfOk result (λ l. outcome_of inline bytes.now ≡ accepted l) }
-    ensures files { IfOk result (λ l. All (λ u. u.file < length l.names) l.units) }
-    ensures few { IfOk result (λ l. length l.names ≤ 65_535) }
+    ensures runnable { IfOk result (λ l. IsRunnable l) }
     ensures contents { inline ≡ true → IfOk result (λ l. length l.contents ≡ length l.names) }
-    ensures sizes { IfOk result (λ l. All (λ bytes. length bytes ≤ 16_777_216) l.contents) }
     ensures bad { (n : ℕ) → IsErrOf result (Bad n) → outcome_of inline bytes.now ≡ refused n }
 {
     if bytes.len() > MOST_INPUT {

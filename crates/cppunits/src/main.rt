@@ -1,16 +1,16 @@
 // Preprocesses the translation units of the list on standard input.
 #![tactic(auto)]
 
-mod answering;
 mod command_line;
 mod ending;
 mod list;
+mod list_disk;
 mod output;
+mod running;
 mod serving;
 mod streams;
 #[cfg(test)]
 mod tests;
-mod units;
 
 use command_line::Asked;
 use ending::{status, words};

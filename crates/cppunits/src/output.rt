@@ -1,11 +1,12 @@
 // What is printed of a list's units.
-ghost use Rattle.std.specs.Prelude.{◌≡◌, ◌++◌, ◌<◌, ◌≤◌, OnOk, IfOk, decimal, length, take, All, flat_map};
-ghost use Rattle.cppunits.specs.Output.{escaped, escaped_byte, is_plain as plain, hex_digit, place_text, token_text, kind_letter, item_lines, pragma_token_line, dep_line, name_at, fault_text, last_line, unit_lines, output_text, IsPrintable};
+ghost use Rattle.std.specs.Prelude.{◌≡◌, ◌++◌, ◌<◌, ◌≤◌, OnOk, IfOk, decimal, length, take, flat_map};
+ghost use Rattle.cppunits.specs.Output.{escaped, escaped_byte, is_plain as plain, hex_digit, place_text, token_text, kind_letter, item_lines, pragma_token_line, dep_line, name_at, fault_text, last_line, unit_lines, output_text};
 ghost use Rattle.cppunits.specs.declared.output.Mode.TheVariants.{Dump};
 
 use crate::list::List;
-use crate::units::{Item, Texts, Unit, UnitOut};
+use itoa::Buffer;
 use pptext::{Fault, Kind, Memory, Place, Token};
+use ppunit::{Item, Texts, Unit, UnitOut};
 use std::alloc::{AllocError, Global};
 
 /// What is printed of each unit.
@@ -17,7 +18,7 @@ pub enum Mode {
 
 /// The output: for each unit a line for its name, one for each item and each dependency, and one for how it ended.
 pub fn dump(alloc: Global, list: &List, outs: &[UnitOut]) -> Result<Vec<u8>, Memory>
-    requires { IsPrintable list.now outs.now }
+    requires { length outs.now ≡ length list.now.units }
     ensures { IfOk result (λ text. text.items ≡ output_text Dump list.now outs.now) }
 {
     let mut text = Vec::new(alloc);
@@ -26,7 +27,7 @@ pub fn dump(alloc: Global, list: &List, outs: &[UnitOut]) -> Result<Vec<u8>, Mem
 }
 
 fn put_units(text: &mut Vec<u8>, list: &List, outs: &[UnitOut]) -> Result<(), AllocError>
-    requires { IsPrintable list.now outs.now }
+    requires { length outs.now ≡ length list.now.units }
     ensures { OnOk result (text.new.items ≡ text.old.items ++ output_text Dump list.now outs.now) }
 {
     let units = list.units.as_slice();
@@ -43,8 +44,6 @@ fn put_unit(
     unit: &Unit,
     out: &UnitOut,
 ) -> Result<(), AllocError>
-    requires file { unit.now.file < length names.now }
-    requires deps { All (λ row. row < length names.now) out.now.deps }
     ensures { OnOk result (text.new.items ≡ text.old.items ++ unit_lines Dump names.now index unit.now out.now) }
 {
     text.extend_from_slice(b"unit ")?;
@@ -122,7 +121,6 @@ fn letter(kind: Kind) -> u8
 }
 
 fn put_deps(text: &mut Vec<u8>, names: &Texts, rows: &[usize]) -> Result<(), AllocError>
-    requires { All (λ row. row < length names.now) rows.now }
     ensures { OnOk result (text.new.items ≡ text.old.items ++ flat_map (dep_line names.now) rows.now) }
 {
     for &row in rows {
@@ -136,10 +134,12 @@ fn put_deps(text: &mut Vec<u8>, names: &Texts, rows: &[usize]) -> Result<(), All
 }
 
 fn put_name(text: &mut Vec<u8>, names: &Texts, row: usize) -> Result<(), AllocError>
-    requires { row < length names.now }
     ensures { OnOk result (text.new.items ≡ text.old.items ++ escaped (name_at names.now row)) }
 {
-    put_escaped(text, names.as_slice()[row].as_bytes())
+    match names.as_slice().get(row) {
+        Some(name) => put_escaped(text, name.as_bytes()),
+        None => Ok(()),
+    }
 }
 
 fn put_last(text: &mut Vec<u8>, fault: &Option<Fault>) -> Result<(), AllocError>
@@ -181,11 +181,8 @@ fn put_place(text: &mut Vec<u8>, place: Place) -> Result<(), AllocError>
 fn put_decimal(text: &mut Vec<u8>, number: u64) -> Result<(), AllocError>
     ensures { OnOk result (text.new.items ≡ text.old.items ++ decimal number) }
 {
-    if number >= 10 {
-        put_decimal(text, number / 10)?;
-    }
-    text.push(b'0' + (number % 10) as u8)?;
-    Ok(())
+    let mut buffer = Buffer::new();
+    text.extend_from_slice(buffer.format(number).as_bytes())
 }
 
 /// Puts runs of plain bytes as they are, and each other byte as `%` and two digits.

@@ -1,15 +1,15 @@
 // From the bytes of a list to the bytes of its output.
-ghost use Rattle.std.specs.Prelude.{◌≡◌, ◌⊎◌, ◌<◌, ◌≤◌, ◌≢◌, ℕ, IfOk, IfErr, OnOk, OnErr, IsErrOf, length, take, All, true, false};
+ghost use Rattle.std.specs.Prelude.{◌≡◌, ◌⊎◌, ◌≤◌, ◌≢◌, ℕ, IfOk, IfErr, OnOk, OnErr, IsErrOf, take, true, false};
 ghost use Rattle.std.specs.Io.KnownBytes.{Appends};
 ghost use Rattle.cppunits.specs.declared.serving.RunFault.TheVariants.{List as ListRefused, Memory as OutOfMemory, Read as ReadFailed, Write as WriteFailed};
-ghost use Rattle.cppunits.specs.Serving.{Gives, some_fault, Received, Serves, BreaksOff, Refuses, KnownBytesDecide};
+ghost use Rattle.cppunits.specs.Serving.{some_fault, Received, Serves, BreaksOff, Refuses, KnownBytesDecide};
 
-use crate::answering::answer;
-use crate::list::{List, ListFault, MOST_INPUT, read_list};
+use crate::list::{ListFault, MOST_INPUT, read_list};
 use crate::output::{Mode, dump};
+use crate::running::answer_all;
 use crate::streams::{Failed, Feed, Sink};
-use crate::units::UnitOut;
 use pptext::Memory;
+use ppunit::UnitOut;
 use std::alloc::{AllocError, Global};
 use std::thread::Threads;
 use thiserror::Error;
@@ -125,25 +125,6 @@ fn write_all<W: Sink>(writer: &mut W, bytes: &[u8]) -> Result<(), Failed>
         done += writer.write(&bytes[done..])?;
     }
     Ok(())
-}
-
-/// What the units give, in their order.
-fn answer_all(alloc: Global, list: &List) -> Result<Vec<UnitOut>, Memory>
-    requires files { All (λ u. u.file < length list.now.names) list.now.units }
-    requires few { length list.now.names ≤ 65_535 }
-    requires contents { length list.now.contents ≡ length list.now.names }
-    requires sizes { All (λ bytes. length bytes ≤ 16_777_216) list.now.contents }
-    ensures { IfOk result (λ outs. Gives list.now outs.items) }
-{
-    let contents = list.contents.as_slice();
-    let mut outs = Vec::new(alloc);
-    for unit in list.units.as_slice() {
-        let out = answer(alloc, contents[unit.file].as_slice(), unit.file as u32)?;
-        let Ok(()) = outs.push(out) else {
-            return Err(Memory);
-        };
-    }
-    Ok(outs)
 }
 
 fn any_fault(outs: &[UnitOut]) -> bool

@@ -82,10 +82,62 @@ fn prints_the_fault_of_a_file(rt: HostRuntime) -> Result<(), Fail> {
     prints(&rt, "\"text\":\"#foo 'z\\n\"", "", "fault 7 0:1:6 '\n")?;
     prints(
         &rt,
-        "\"text\":\"??=\\n#define X\\n\"",
+        "\"text\":\"??=\\n#define\\n\"",
         "",
-        "fault 8 0:2:1 define\n",
+        "fault 9 0:2:1 define\n",
     )
+}
+
+/// Two files over a header, which the first unit defines a macro for; the third unit defines it twice.
+const SHARED: &str =
+    r##"{"date":"Feb  9 2024","time":"08:05:03","search":["inc"],"files":[{"name":"a.c","text":"#include \"h.h\"\nN P(1) __FILE__\n"},{"name":"inc/h.h","text":"#ifndef H\n#define H\n#define P(x) x+N\n#pragma once n\n#endif\n"},{"name":"b.c","text":"#include <h.h>\nP(2)\n#error no M\nx\n"}],"units":[{"file":"a.c","define":["N 7"]},{"file":"b.c","search":["."]},{"file":"a.c","define":["N 7","N 8"]}]}"##;
+
+const SHARED_OUTPUT: &str = r#"unit 0 a.c
+prag 1:4:1
+ptok 1:4:9 1:4:9 i+ once
+ptok 1:4:14 1:4:14 i+ n
+tok 65535:1:11 0:2:1 n+ 7
+tok 0:2:5 0:2:3 n+ 1
+tok 1:3:15 0:2:3 p- +
+tok 65535:1:11 0:2:3 n- 7
+tok 0:2:8 0:2:8 s+ "a.c"
+dep 0 a.c
+dep 1 inc/h.h
+ok
+unit 1 b.c
+prag 1:4:1
+ptok 1:4:9 1:4:9 i+ once
+ptok 1:4:14 1:4:14 i+ n
+tok 2:2:3 2:2:1 n+ 2
+tok 1:3:15 2:2:1 p- +
+tok 1:3:16 2:2:1 i- N
+dep 2 b.c
+dep 1 inc/h.h
+fault 34 2:3:1 no M
+unit 2 a.c
+fault 16 65535:2:1 N
+"#;
+
+#[test]
+fn prints_units_over_a_shared_header(rt: HostRuntime) -> Result<(), Fail> {
+    let mut reader = SliceFeed::new(SHARED.as_bytes());
+    let mut writer = VecSink::new(rt.alloc());
+    let outcome = serve(&rt, rt.alloc(), &mut reader, &mut writer, Mode::Dump, 4, 8);
+    assert_eq!(rt; status(&outcome), 1);
+    assert!(rt; writer.bytes() == SHARED_OUTPUT.as_bytes());
+    Ok(())
+}
+
+#[test]
+fn prints_nothing_without_units(rt: HostRuntime) -> Result<(), Fail> {
+    let list =
+        r#"{"date":"Feb  9 2024","time":"08:05:03","files":[{"name":"a.c","text":"/*"}],"units":[]}"#;
+    let mut reader = SliceFeed::new(list.as_bytes());
+    let mut writer = VecSink::new(rt.alloc());
+    let outcome = serve(&rt, rt.alloc(), &mut reader, &mut writer, Mode::Dump, 4, 8);
+    assert_eq!(rt; status(&outcome), 0);
+    assert!(rt; writer.bytes().is_empty());
+    Ok(())
 }
 
 #[test]

@@ -1,13 +1,12 @@
 // A list as it stands in JSON, before its names and times are judged.
-ghost use Rattle.std.specs.Prelude.{◌≡◌, ◌+◌, ◌*◌, ◌∷◌, ◌++◌, [], Some, None, IfOk, IfErr, codes, map, option_map, option_and_then, length, ◌<◌, IfSome};
-ghost use Rattle.serde_json.specs.Data.{Items};
+ghost use Rattle.std.specs.Prelude.{◌≡◌, Some, None, IfOk, IfErr, codes, map, option_and_then, length, ◌<◌, IfSome, string_bytes};
 ghost use Rattle.serde_json.specs.Find.{as_str};
 ghost use Rattle.serde_json.specs.View.{view, members_view, items_view};
 ghost use Rattle.cppunits.specs.Listing.{RefusedFor};
 ghost use Rattle.cppunits.specs.Shape as shape;
 
 use crate::list::ListFault;
-use crate::units::{Setting, Text, Texts};
+use ppunit::{Setting, Text, Texts};
 use serde_json::{Map, Value};
 use std::alloc::Global;
 use std::marker::Model;
@@ -60,14 +59,92 @@ pub(super) struct DraftFile {
 #[derive(Drop, Debug)]
 pub(super) struct DraftUnit {
     pub(super) file: Text,
+    pub(super) defines: Texts,
+    pub(super) search: Texts,
 }
 
-/// A list of one file and one unit as it stands.
+/// Files as they stand, which contracts see as their list.
 #[derive(Drop, Debug)]
-pub(super) struct SoleDraft {
+pub(super) struct DraftFiles {
+    files: Vec<DraftFile>,
+}
+
+impl Model for DraftFiles {
+    ghost use Rattle.std.specs.Prelude.{List};
+    ghost use Rattle.cppunits.specs.declared.list.drafts.DraftFile.{DraftFile};
+
+    ghost Value = { List DraftFile };
+
+    ghost view = { λ f. f.files.items };
+}
+
+impl DraftFiles {
+    /// These files.
+    pub(super) fn new(files: Vec<DraftFile>) -> DraftFiles
+        ensures { result ≡ files.items }
+    {
+        DraftFiles { files }
+    }
+
+    /// The files.
+    pub(super) fn as_slice(&self) -> &[DraftFile]
+        ensures { result.now ≡ self.now }
+    {
+        self.files.as_slice()
+    }
+
+    /// The files, given back.
+    pub(super) fn into_vec(self) -> Vec<DraftFile>
+        ensures { result.items ≡ self }
+    {
+        self.files
+    }
+}
+
+/// Units as they stand, which contracts see as their list.
+#[derive(Drop, Debug)]
+pub(super) struct DraftUnits {
+    units: Vec<DraftUnit>,
+}
+
+impl Model for DraftUnits {
+    ghost use Rattle.std.specs.Prelude.{List};
+    ghost use Rattle.cppunits.specs.declared.list.drafts.DraftUnit.{DraftUnit};
+
+    ghost Value = { List DraftUnit };
+
+    ghost view = { λ u. u.units.items };
+}
+
+impl DraftUnits {
+    /// These units.
+    pub(super) fn new(units: Vec<DraftUnit>) -> DraftUnits
+        ensures { result ≡ units.items }
+    {
+        DraftUnits { units }
+    }
+
+    /// The units.
+    pub(super) fn as_slice(&self) -> &[DraftUnit]
+        ensures { result.now ≡ self.now }
+    {
+        self.units.as_slice()
+    }
+
+    /// The units, given back.
+    pub(super) fn into_vec(self) -> Vec<DraftUnit>
+        ensures { result.items ≡ self }
+    {
+        self.units
+    }
+}
+
+/// A list as it stands.
+#[derive(Drop, Debug)]
+pub(super) struct Draft {
     pub(super) setting: Setting,
-    pub(super) file: DraftFile,
-    pub(super) unit: DraftUnit,
+    pub(super) files: DraftFiles,
+    pub(super) units: DraftUnits,
 }
 
 /// The list as it stands.
@@ -75,20 +152,20 @@ pub(super) struct SoleDraft {
 /// # Errors
 ///
 /// `Bad(2)` where a member is missing, unknown or of another shape, and `Memory`.
-pub(super) fn draft_of(alloc: Global, value: &Value, inline: bool) -> Result<SoleDraft, ListFault>
-    ensures ok { IfOk result (λ d. shape.draft inline (view value.now) ≡ Some (shape.sole d)) }
+pub(super) fn draft_of(alloc: Global, value: &Value, inline: bool) -> Result<Draft, ListFault>
+    ensures ok { IfOk result (λ d. shape.draft inline (view value.now) ≡ Some d) }
     ensures err { IfErr result (RefusedFor 2 (shape.draft inline (view value.now) ≡ None)) }
 {
-    if !is_object_of(value, &["date", "time", "files", "units"]) {
+    if !is_object_of(value, &["date", "time", "search", "files", "units"]) {
         return Err(ListFault::Bad(2));
     }
     let setting = setting_of(alloc, value)?;
-    let file = file_of(alloc, value, inline)?;
-    let unit = unit_of(alloc, value)?;
-    Ok(SoleDraft {
+    let files = files_of(alloc, value, inline)?;
+    let units = units_of(alloc, value)?;
+    Ok(Draft {
         setting,
-        file,
-        unit,
+        files,
+        units,
     })
 }
 
@@ -98,22 +175,32 @@ fn setting_of(alloc: Global, value: &Value) -> Result<Setting, ListFault>
 {
     let date = text_at(alloc, value, "date")?;
     let time = text_at(alloc, value, "time")?;
-    Ok(Setting {
-        date,
-        time,
-        search: Texts::new(Vec::new(alloc)),
-    })
+    let search = texts_at(alloc, value, "search")?;
+    Ok(Setting { date, time, search })
 }
 
-/// The only file.
-fn file_of(alloc: Global, value: &Value, inline: bool) -> Result<DraftFile, ListFault>
-    ensures ok { IfOk result (λ f. shape.draft_files inline (view value.now) ≡ Some (f ∷ [])) }
-    ensures err { IfErr result (RefusedFor 2 (shape.draft_files inline (view value.now) ≡ None)) }
+fn files_of(alloc: Global, value: &Value, inline: bool) -> Result<DraftFiles, ListFault>
+    ensures ok { IfOk result (λ fs. shape.array_at (shape.draft_file inline) (codes "files") (view value.now) ≡ Some fs) }
+    ensures err { IfErr result (RefusedFor 2 (shape.array_at (shape.draft_file inline) (codes "files") (view value.now) ≡ None)) }
 {
-    let Some(item) = only_item_at(value, "files") else {
+    let Some(array) = value.get("files") else {
         return Err(ListFault::Bad(2));
     };
-    file_from(alloc, item, inline)
+    let Some(items) = array.as_array() else {
+        return Err(ListFault::Bad(2));
+    };
+    Ok(DraftFiles::new(files_from(alloc, items.as_slice(), inline)?))
+}
+
+fn files_from(alloc: Global, items: &[Value], inline: bool) -> Result<Vec<DraftFile>, ListFault>
+    ensures ok { IfOk result (λ fs. shape.each_item (shape.draft_file inline) (items_view items.now) ≡ Some fs.items) }
+    ensures err { IfErr result (RefusedFor 2 (shape.each_item (shape.draft_file inline) (items_view items.now) ≡ None)) }
+{
+    let mut files = Vec::new(alloc);
+    for item in items {
+        files.push(file_from(alloc, item, inline)?)?;
+    }
+    Ok(files)
 }
 
 fn file_from(alloc: Global, value: &Value, inline: bool) -> Result<DraftFile, ListFault>
@@ -173,26 +260,45 @@ fn hex_content(alloc: Global, value: &Value) -> Result<Content, ListFault>
     Ok(Content::new(hex_bytes(alloc, text.as_bytes())?))
 }
 
-/// The only unit.
-fn unit_of(alloc: Global, value: &Value) -> Result<DraftUnit, ListFault>
-    ensures ok { IfOk result (λ u. shape.draft_units (view value.now) ≡ Some (u ∷ [])) }
-    ensures err { IfErr result (RefusedFor 2 (shape.draft_units (view value.now) ≡ None)) }
+fn units_of(alloc: Global, value: &Value) -> Result<DraftUnits, ListFault>
+    ensures ok { IfOk result (λ us. shape.array_at shape.draft_unit (codes "units") (view value.now) ≡ Some us) }
+    ensures err { IfErr result (RefusedFor 2 (shape.array_at shape.draft_unit (codes "units") (view value.now) ≡ None)) }
 {
-    let Some(item) = only_item_at(value, "units") else {
+    let Some(array) = value.get("units") else {
         return Err(ListFault::Bad(2));
     };
-    unit_from(alloc, item)
+    let Some(items) = array.as_array() else {
+        return Err(ListFault::Bad(2));
+    };
+    Ok(DraftUnits::new(units_from(alloc, items.as_slice())?))
+}
+
+fn units_from(alloc: Global, items: &[Value]) -> Result<Vec<DraftUnit>, ListFault>
+    ensures ok { IfOk result (λ us. shape.each_item shape.draft_unit (items_view items.now) ≡ Some us.items) }
+    ensures err { IfErr result (RefusedFor 2 (shape.each_item shape.draft_unit (items_view items.now) ≡ None)) }
+{
+    let mut units = Vec::new(alloc);
+    for item in items {
+        units.push(unit_from(alloc, item)?)?;
+    }
+    Ok(units)
 }
 
 fn unit_from(alloc: Global, value: &Value) -> Result<DraftUnit, ListFault>
     ensures ok { IfOk result (λ u. shape.draft_unit (view value.now) ≡ Some u) }
     ensures err { IfErr result (RefusedFor 2 (shape.draft_unit (view value.now) ≡ None)) }
 {
-    if !is_object_of(value, &["file"]) {
+    if !is_object_of(value, &["file", "define", "search"]) {
         return Err(ListFault::Bad(2));
     }
     let file = text_at(alloc, value, "file")?;
-    Ok(DraftUnit { file })
+    let defines = texts_at(alloc, value, "define")?;
+    let search = texts_at(alloc, value, "search")?;
+    Ok(DraftUnit {
+        file,
+        defines,
+        search,
+    })
 }
 
 fn text_at(alloc: Global, value: &Value, name: &str) -> Result<Text, ListFault>
@@ -205,22 +311,39 @@ fn text_at(alloc: Global, value: &Value, name: &str) -> Result<Text, ListFault>
     Ok(Text::new(String::from_str(alloc, text)?))
 }
 
-/// The item of an array of exactly one.
-fn only_item_at<'a>(value: &'a Value, name: &str) -> Option<&'a Value>
-    ensures { option_map (λ v. view v.now) result ≡ option_and_then shape.only_item (shape.items_at name.now (view value.now)) }
+/// The texts of an array, and none where it is missing.
+fn texts_at(alloc: Global, value: &Value, name: &str) -> Result<Texts, ListFault>
+    ensures ok { IfOk result (λ ts. shape.texts_at name.now (view value.now) ≡ Some ts) }
+    ensures err { IfErr result (RefusedFor 2 (shape.texts_at name.now (view value.now) ≡ None)) }
 {
-    let items = value.get(name).and_then(Value::as_array)?;
-    only_item(items.as_slice())
+    match value.get(name) {
+        Some(array) => texts_of(alloc, array),
+        None => Ok(Texts::new(Vec::new(alloc))),
+    }
 }
 
-fn only_item(items: &[Value]) -> Option<&Value>
-    ensures { option_map (λ v. view v.now) result ≡ shape.only_item (items_view items.now) }
+fn texts_of(alloc: Global, array: &Value) -> Result<Texts, ListFault>
+    ensures ok { IfOk result (λ ts. shape.each_of as_str (view array.now) ≡ Some ts) }
+    ensures err { IfErr result (RefusedFor 2 (shape.each_of as_str (view array.now) ≡ None)) }
 {
-    if items.len() == 1 {
-        Some(&items[0])
-    } else {
-        None
+    let Some(items) = array.as_array() else {
+        return Err(ListFault::Bad(2));
+    };
+    Ok(Texts::new(texts_from(alloc, items.as_slice())?))
+}
+
+fn texts_from(alloc: Global, items: &[Value]) -> Result<Vec<String>, ListFault>
+    ensures ok { IfOk result (λ ts. shape.each_item as_str (items_view items.now) ≡ Some (map string_bytes ts.items)) }
+    ensures err { IfErr result (RefusedFor 2 (shape.each_item as_str (items_view items.now) ≡ None)) }
+{
+    let mut texts = Vec::new(alloc);
+    for item in items {
+        let Some(text) = item.as_str() else {
+            return Err(ListFault::Bad(2));
+        };
+        texts.push(String::from_str(alloc, text)?)?;
     }
+    Ok(texts)
 }
 
 /// Whether the value is an object with no other members than these.

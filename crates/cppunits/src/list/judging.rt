@@ -1,16 +1,21 @@
-// The judgement of a list's names, sizes and times.
-ghost use Rattle.std.specs.Prelude.{◌≡◌, ◌&&◌, ◌∷◌, [], ℕ, IfOk, IsErrOf, map, length, if◌then◌else◌};
-ghost use Rattle.std.specs.Str.{bytes_eq};
-ghost use Rattle.cppunits.specs.Listing.{judged, accepted, refused};
-ghost use Rattle.cppunits.specs.Shape.{sole};
-ghost use Rattle.cppunits.specs.Names as spec;
+// The judgement of a list's names, sizes and texts.
+ghost use Rattle.std.specs.Prelude.{◌≡◌, ℕ, IfOk, IfErr, OnOk, IsErrOf, true, false, [], map, length, nat_le, if◌then◌else◌};
+ghost use Rattle.std.specs.List.{list_all};
+ghost use Rattle.ppshelf.specs.Names as shelf_spec;
+ghost use Rattle.ppunit.specs.Forms as form;
+ghost use Rattle.ppunit.specs.Unit.{command_text};
+ghost use Rattle.cppunits.specs.Listing as spec;
+ghost use Rattle.cppunits.specs.Listing.{RefusedFor, judged, accepted, refused};
 ghost use Rattle.cppunits.specs.declared.list.ListFault.TheVariants.{Bad};
 
-use crate::list::drafts::{Content, DraftFile, SoleDraft};
-use crate::list::names::{is_date, is_name, is_time};
+use crate::list::drafts::{Draft, DraftFile, DraftFiles, DraftUnit, DraftUnits};
+use crate::list::index::Index;
 use crate::list::{Contents, List, ListFault, Units};
-use crate::units::{Setting, Text, Texts, Unit};
+use ppshelf::{is_folder, is_name};
+use ppunit::{Setting, Texts, Unit, fits_command, is_date, is_one_line, is_time};
 use std::alloc::{AllocError, Global};
+
+const MOST_ROWS: usize = 65_535;
 
 const MOST_BYTES: usize = 16_777_216;
 
@@ -18,71 +23,203 @@ const MOST_BYTES: usize = 16_777_216;
 ///
 /// # Errors
 ///
-/// `Bad` with the least number that applies: 3 for a name, 4 for a size, 5 for the file of a unit and 6
-/// for the date or the time; and `Memory`.
-pub(super) fn judge(alloc: Global, draft: SoleDraft, inline: bool) -> Result<List, ListFault>
-    ensures ok { IfOk result (λ l. judged inline (sole draft) ≡ accepted l) }
-    ensures bad { (n : ℕ) → IsErrOf result (Bad n) → judged inline (sole draft) ≡ refused n }
+/// `Bad` with the least number that applies: 3 for a name, 4 for a number or a size, 5 for the file of a unit, 6
+/// for the date or the time, 7 for a definition and 8 for a folder; and `Memory`.
+pub(super) fn judge(alloc: Global, draft: Draft, inline: bool) -> Result<List, ListFault>
+    ensures ok { IfOk result (λ l. judged inline draft ≡ accepted l) }
+    ensures bad { (n : ℕ) → IsErrOf result (Bad n) → judged inline draft ≡ refused n }
 {
-    let SoleDraft {
-        setting,
-        file,
-        unit,
-    } = draft;
-    let DraftFile { name, content } = file;
-    if !is_name(name.as_str().as_bytes()) {
-        return Err(ListFault::Bad(3));
-    }
-    if content.len() > MOST_BYTES {
+    let index = index_files(alloc, draft.files.as_slice())?;
+    if !sizes_hold(&draft) {
         return Err(ListFault::Bad(4));
     }
-    if unit.file.as_str() != name.as_str() {
-        return Err(ListFault::Bad(5));
-    }
-    if !are_times(&setting) {
+    let list = listed(alloc, draft, &index, inline)?;
+    if !times_hold(&list.setting) {
         return Err(ListFault::Bad(6));
     }
+    if !lines_hold(list.units.as_slice()) {
+        return Err(ListFault::Bad(7));
+    }
+    if !folders_hold(&list) {
+        return Err(ListFault::Bad(8));
+    }
+    Ok(list)
+}
+
+/// The places of the files' names.
+///
+/// # Errors
+///
+/// `Bad(3)` where a name is out of form or stands twice, and `Memory`.
+fn index_files(alloc: Global, files: &[DraftFile]) -> Result<Index, ListFault>
+    ensures all { IfOk result (λ i. i ≡ spec.names_of files.now) }
+    ensures ok { OnOk result (spec.names_hold files.now ≡ true) }
+    ensures err { IfErr result (RefusedFor 3 (spec.names_hold files.now ≡ false)) }
+{
+    let mut index = Index::new(alloc);
+    for file in files {
+        let name = file.name.as_str().as_bytes();
+        if !is_name(name) {
+            return Err(ListFault::Bad(3));
+        }
+        let new = index.push(name)?;
+        if !new {
+            return Err(ListFault::Bad(3));
+        }
+    }
+    Ok(index)
+}
+
+fn sizes_hold(draft: &Draft) -> bool
+    ensures { result ≡ spec.sizes_hold draft.now }
+{
+    let files = draft.files.as_slice();
+    let units = draft.units.as_slice();
+    files.len() <= MOST_ROWS
+        && units.len() <= MOST_ROWS
+        && contents_fit(files)
+        && commands_fit(units)
+}
+
+fn contents_fit(files: &[DraftFile]) -> bool
+    ensures { result ≡ spec.contents_fit files.now }
+{
+    files.iter().all(|file| file.content.len() <= MOST_BYTES)
+}
+
+fn commands_fit(units: &[DraftUnit]) -> bool
+    ensures { result ≡ spec.commands_fit units.now }
+{
+    units.iter().all(|unit| command_fits(&unit.defines))
+}
+
+fn command_fits(defines: &Texts) -> bool
+    ensures { result ≡ nat_le (length (command_text defines.now)) spec.most_bytes }
+{
+    fits_command(defines.as_slice())
+}
+
+/// The list of a draft, whose names have these places.
+///
+/// # Errors
+///
+/// `Bad(5)` where a unit's file isn't among the names, and `Memory`.
+fn listed(alloc: Global, draft: Draft, index: &Index, inline: bool) -> Result<List, ListFault>
+    requires { index.now ≡ spec.names_of draft.files }
+    ensures ok { IfOk result (λ l. l ≡ spec.listed inline draft) }
+    ensures known { OnOk result (spec.are_known (spec.names_of draft.files) draft.units ≡ true) }
+    ensures err { IfErr result (RefusedFor 5 (spec.are_known (spec.names_of draft.files) draft.units ≡ false)) }
+{
+    let Draft {
+        setting,
+        files,
+        units,
+    } = draft;
+    let units = listed_units(alloc, index, units)?;
+    let (names, contents) = split_files(alloc, files, inline)?;
     Ok(List {
         setting,
-        names: one_text(alloc, name)?,
-        contents: contents_of(alloc, content, inline)?,
-        units: one_unit(alloc)?,
+        names,
+        contents,
+        units,
     })
 }
 
-fn are_times(setting: &Setting) -> bool
-    ensures { result ≡ (spec.is_date setting.now.date && spec.is_time setting.now.time) }
+fn listed_units(alloc: Global, index: &Index, units: DraftUnits) -> Result<Units, ListFault>
+    ensures ok { IfOk result (λ us. us ≡ map (spec.listed_unit index.now) units) }
+    ensures known { OnOk result (spec.are_known index.now units ≡ true) }
+    ensures err { IfErr result (RefusedFor 5 (spec.are_known index.now units ≡ false)) }
+{
+    if !files_are_known(index, units.as_slice()) {
+        return Err(ListFault::Bad(5));
+    }
+    let mut listed = Vec::new(alloc);
+    for unit in units.into_vec() {
+        listed.push(listed_unit(index, unit))?;
+    }
+    Ok(Units::new(listed))
+}
+
+fn files_are_known(index: &Index, units: &[DraftUnit]) -> bool
+    ensures { result ≡ spec.are_known index.now units.now }
+{
+    units.iter().all(|unit| index.place_of(unit.file.as_str().as_bytes()).is_some())
+}
+
+fn listed_unit(index: &Index, unit: DraftUnit) -> Unit
+    ensures { result ≡ spec.listed_unit index.now unit }
+{
+    let DraftUnit {
+        file,
+        defines,
+        search,
+    } = unit;
+    Unit {
+        file: index.place_of(file.as_str().as_bytes()).unwrap_or(0),
+        defines,
+        search,
+    }
+}
+
+/// The names of the files, and their contents where lists hold them.
+fn split_files(
+    alloc: Global,
+    files: DraftFiles,
+    inline: bool,
+) -> Result<(Texts, Contents), AllocError>
+    ensures names { IfOk result (λ r. r.0 ≡ spec.names_of files) }
+    ensures contents { IfOk result (λ r. r.1 ≡ (if inline then spec.contents_of files else [])) }
+{
+    let mut names = Vec::new(alloc);
+    let mut contents = Vec::new(alloc);
+    for file in files.into_vec() {
+        let DraftFile { name, content } = file;
+        names.push(name.into_string())?;
+        if inline {
+            contents.push(content.into_bytes())?;
+        }
+    }
+    Ok((Texts::new(names), Contents::new(contents)))
+}
+
+fn times_hold(setting: &Setting) -> bool
+    ensures { result ≡ spec.times_hold setting.now }
 {
     is_date(setting.date.as_str().as_bytes()) && is_time(setting.time.as_str().as_bytes())
 }
 
-fn one_text(alloc: Global, text: Text) -> Result<Texts, AllocError>
-    ensures { IfOk result (λ t. t ≡ text ∷ []) }
+fn lines_hold(units: &[Unit]) -> bool
+    ensures { result ≡ spec.lines_hold units.now }
 {
-    let mut texts = Vec::new(alloc);
-    texts.push(text.into_string())?;
-    Ok(Texts::new(texts))
+    units.iter().all(|unit| are_lines(&unit.defines))
 }
 
-fn contents_of(alloc: Global, content: Content, inline: bool) -> Result<Contents, AllocError>
-    ensures { IfOk result (λ c. c ≡ (if inline then content ∷ [] else [])) }
+fn are_lines(texts: &Texts) -> bool
+    ensures { result ≡ list_all form.is_one_line texts.now }
 {
-    let mut contents = Vec::new(alloc);
-    if inline {
-        contents.push(content.into_bytes())?;
-    }
-    Ok(Contents::new(contents))
+    texts
+        .as_slice()
+        .iter()
+        .all(|text| is_one_line(text.as_bytes()))
 }
 
-/// The only unit, of the only file.
-fn one_unit(alloc: Global) -> Result<Units, AllocError>
-    ensures { IfOk result (λ u. u ≡ record { file = 0; defines = []; search = [] } ∷ []) }
+fn folders_hold(list: &List) -> bool
+    ensures { result ≡ spec.folders_hold list.now }
 {
-    let mut units = Vec::new(alloc);
-    units.push(Unit {
-        file: 0,
-        defines: Texts::new(Vec::new(alloc)),
-        search: Texts::new(Vec::new(alloc)),
-    })?;
-    Ok(Units::new(units))
+    are_folders(&list.setting.search) && units_search_folders(list.units.as_slice())
+}
+
+fn units_search_folders(units: &[Unit]) -> bool
+    ensures { result ≡ list_all (λ u. list_all shelf_spec.is_folder u.search) units.now }
+{
+    units.iter().all(|unit| are_folders(&unit.search))
+}
+
+fn are_folders(texts: &Texts) -> bool
+    ensures { result ≡ list_all shelf_spec.is_folder texts.now }
+{
+    texts
+        .as_slice()
+        .iter()
+        .all(|text| is_folder(text.as_bytes()))
 }

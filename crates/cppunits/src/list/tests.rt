@@ -114,12 +114,13 @@ fn refuses_shapes(rt: HostRuntime) -> Result<(), Fail> {
         r#"{"date":"Feb  9 2024","time":"08:05:03","files":[{"name":"a.c","text":""}]}"#,
         r#"{"date":"Feb  9 2024","time":8,"files":[{"name":"a.c","text":""}],"units":[{"file":"a.c"}]}"#,
         r#"{"date":"Feb  9 2024","time":"08:05:03","files":{"name":"a.c","text":""},"units":[{"file":"a.c"}]}"#,
-        r#"{"date":"Feb  9 2024","time":"08:05:03","files":[{"name":"a.c","text":""}],"units":[{"file":"a.c"}],"search":[]}"#,
+        r#"{"date":"Feb  9 2024","time":"08:05:03","files":[{"name":"a.c","text":""}],"units":[{"file":"a.c"}],"folders":[]}"#,
+        r#"{"date":"Feb  9 2024","time":"08:05:03","files":[{"name":"a.c","text":""}],"units":[{"file":"a.c"}],"search":null}"#,
+        r#"{"date":"Feb  9 2024","time":"08:05:03","files":[{"name":"a.c","text":""}],"units":[{"file":"a.c"}],"search":[7]}"#,
     ] {
         assert_eq!(rt; refusal(rt.alloc(), text)?, 2, "at {text}");
     }
     for file in [
-        "",
         "7",
         r#"{"text":""}"#,
         r#"{"name":"a.c"}"#,
@@ -128,17 +129,18 @@ fn refuses_shapes(rt: HostRuntime) -> Result<(), Fail> {
         r#"{"name":"a.c","hex":"0A"}"#,
         r#"{"name":"a.c","text":null}"#,
         r#"{"name":"a.c","text":"","kind":"c"}"#,
-        r#"{"name":"a.c","text":""},{"name":"b.c","text":""}"#,
+        r#"{"name":"a.c","text":""},{"name":"b.c"}"#,
     ] {
         let text = list_of(rt.alloc(), "Feb  9 2024", "08:05:03", file, unit)?;
         assert_eq!(rt; refusal(rt.alloc(), &text)?, 2, "at {file}");
     }
     for unit in [
-        "",
         r#"{}"#,
         r#"{"file":["a.c"]}"#,
-        r#"{"file":"a.c","define":[]}"#,
-        r#"{"file":"a.c"},{"file":"a.c"}"#,
+        r#"{"file":"a.c","define":"X"}"#,
+        r#"{"file":"a.c","define":[["X"]]}"#,
+        r#"{"file":"a.c","search":null}"#,
+        r#"{"file":"a.c"},{"file":"a.c","defines":[]}"#,
     ] {
         let text = list_of(rt.alloc(), "Feb  9 2024", "08:05:03", file, unit)?;
         assert_eq!(rt; refusal(rt.alloc(), &text)?, 2, "at {unit}");
@@ -208,31 +210,103 @@ fn judges_lengths_of_contents(rt: HostRuntime) -> Result<(), Fail> {
 }
 
 #[test]
-fn judges_dates_and_times(rt: HostRuntime) -> Result<(), Fail> {
-    for (date, time, number) in [
-        ("Jan  1 0000", "00:00:00", 0),
-        ("May 10 2024", "19:09:60", 0),
-        ("Oct 31 9999", "23:59:59", 0),
-        ("Feb 09 2024", "08:05:03", 6),
-        ("Feb  0 2024", "08:05:03", 6),
-        ("Feb 32 2024", "08:05:03", 6),
-        ("feb  9 2024", "08:05:03", 6),
-        ("Feb  9 202x", "08:05:03", 6),
-        ("Feb  9 20240", "08:05:03", 6),
-        ("Feb  9 2024", "24:00:00", 6),
-        ("Feb  9 2024", "08:60:03", 6),
-        ("Feb  9 2024", "08:05:61", 6),
-        ("Feb  9 2024", "8:05:03", 6),
-        ("Feb  9 2024", "08.05.03", 6),
+fn judges_numbers_of_files_and_units(rt: HostRuntime) -> Result<(), Fail> {
+    for (files, units, number) in [(65_535, 65_535, 0), (65_536, 1, 4), (1, 65_536, 4)] {
+        let mut text = String::from_str(
+            rt.alloc(),
+            "{\"date\":\"Feb  9 2024\",\"time\":\"08:05:03\",\"files\":[",
+        )?;
+        for file in 0..files {
+            let comma = if file == 0 { "" } else { "," };
+            let entry = format!(in rt.alloc(); "{comma}{{\"name\":\"{file}\",\"text\":\"\"}}")?;
+            text.push_str(&entry)?;
+        }
+        text.push_str("],\"units\":[")?;
+        for unit in 0..units {
+            text.push_str(if unit == 0 { "" } else { "," })?;
+            text.push_str("{\"file\":\"0\"}")?;
+        }
+        text.push_str("]}")?;
+        assert_eq!(rt;
+            refusal(rt.alloc(), &text)?,
+            number,
+            "at {files} and {units}"
+        );
+    }
+    Ok(())
+}
+
+#[test]
+fn judges_sizes_of_definitions(rt: HostRuntime) -> Result<(), Fail> {
+    for (len, number) in [(16_777_201, 0), (16_777_202, 4)] {
+        let long = "x".repeat(rt.alloc(), len - 6)?;
+        let unit = format!(in rt.alloc(); "{{\"file\":\"a.c\",\"define\":[\"{long}\",\"A B\"]}}")?;
+        let text = list_of(
+            rt.alloc(),
+            "Feb  9 2024",
+            "08:05:03",
+            r#"{"name":"a.c","text":""}"#,
+            &unit,
+        )?;
+        assert_eq!(rt; refusal(rt.alloc(), &text)?, number, "at {len}");
+    }
+    Ok(())
+}
+
+#[test]
+fn reads_many_files_and_units(rt: HostRuntime) -> Result<(), Fail> {
+    let text =
+        r#"{"search":["inc"],"date":"Feb  9 2024","time":"08:05:03","files":[{"name":"a.c","text":"1"},{"name":"inc/h.h","hex":"320a"},{"name":"b.c","text":"3"}],"units":[{"file":"b.c","define":["A 1","F(x) x"],"search":[".","inc/sub"]},{"file":"a.c"},{"file":"b.c"}]}"#;
+    let list = read_list(rt.alloc(), text.as_bytes(), true)?;
+    assert!(rt;
+        matches!(list.names.as_slice(), [a, h, b] if a.as_str() == "a.c" && h.as_str() == "inc/h.h" && b.as_str() == "b.c")
+    );
+    assert!(rt;
+        matches!(list.contents.as_slice(), [_, h, b] if h.as_slice() == b"2\n".as_slice() && b.as_slice() == b"3".as_slice())
+    );
+    assert!(rt; matches!(list.setting.search.as_slice(), [folder] if folder.as_str() == "inc"));
+    let [first, second, third] = list.units.as_slice() else {
+        return Err(Fail::new("no three units"));
+    };
+    assert!(rt; (first.file, second.file, third.file) == (2, 0, 2));
+    assert!(rt;
+        matches!(first.defines.as_slice(), [a, f] if a.as_str() == "A 1" && f.as_str() == "F(x) x")
+    );
+    assert!(rt;
+        matches!(first.search.as_slice(), [root, inc] if root.as_str() == "." && inc.as_str() == "inc/sub")
+    );
+    assert!(rt; third.defines.as_slice().is_empty() && third.search.as_slice().is_empty());
+    Ok(())
+}
+
+#[test]
+fn takes_a_list_of_nothing(rt: HostRuntime) -> Result<(), Fail> {
+    let text = list_of(rt.alloc(), "Feb  9 2024", "08:05:03", "", "")?;
+    let list = read_list(rt.alloc(), text.as_bytes(), true)?;
+    assert!(rt; list.names.as_slice().is_empty() && list.units.as_slice().is_empty());
+    Ok(())
+}
+
+#[test]
+fn refuses_what_a_unit_asks_for(rt: HostRuntime) -> Result<(), Fail> {
+    for (unit, number) in [
+        (r#"{"file":"a.c","define":["A 1\n"]}"#, 7),
+        (r#"{"file":"a.c","define":["A","\r"]}"#, 7),
+        (r#"{"file":"a.c","search":[""]}"#, 8),
+        (r#"{"file":"a.c","search":["inc","../inc"]}"#, 8),
+        (r#"{"file":"a.c"},{"file":"a.c","search":["a/"]}"#, 8),
+        (r#"{"file":"a.c","define":["A\n"],"search":["/"]}"#, 7),
+        (r#"{"file":"b.c","define":["A\n"]}"#, 5),
+        (r#"{"file":"a.c","define":["A\n"]},{"file":"b.c"}"#, 5),
     ] {
         let text = list_of(
             rt.alloc(),
-            date,
-            time,
+            "Feb  9 2024",
+            "08:05:03",
             r#"{"name":"a.c","text":""}"#,
-            r#"{"file":"a.c"}"#,
+            unit,
         )?;
-        assert_eq!(rt; refusal(rt.alloc(), &text)?, number, "at {date} {time}");
+        assert_eq!(rt; refusal(rt.alloc(), &text)?, number, "at {unit}");
     }
     Ok(())
 }
@@ -261,8 +335,14 @@ fn tells_the_least_number(rt: HostRuntime) -> Result<(), Fail> {
         (
             "9 Feb",
             r#"{"name":"a.c","text":""}"#,
-            r#"{"file":"a.c","define":["X"]}"#,
-            2,
+            r#"{"file":"a.c","define":["X\n"]}"#,
+            6,
+        ),
+        (
+            "Feb  9 2024",
+            r#"{"name":"a.c","text":""},{"name":"b.c","text":""},{"name":"a.c","text":""}"#,
+            r#"{"file":"c.c"}"#,
+            3,
         ),
         (
             "9 Feb",

@@ -4,12 +4,12 @@ use Rattle.cppunits.specs.declared.output.Mode.TheVariants.{Dump}
 use Rattle.cppunits.specs.Listing.{outcome_of}
 use Rattle.cppunits.specs.Output.{output_text}
 use Rattle.cppunits.specs.Serving.{some_fault}
-use Rattle.cppunits.proofs.Giving.{printable}
+use Rattle.cppunits.proofs.Giving.{one_each}
 use Rattle.cppunits.proofs.Known.{appends_as}
 use Rattle.cppunits.proofs.serving.serve.Goals as goal
 
 pub dump-requires : goal.dump-requires
-dump-requires g c = rw c.as_slice-2.ensures.value (printable c.in_ok-list.list c.in_ok-outs.outs.items c.in_ok-outs.ensures c.in_ok-list.ensures.files)
+dump-requires g c = rw c.as_slice-2.ensures.value (one_each c.in_ok-list.list c.in_ok-outs.outs.items c.in_ok-outs.ensures)
 
 only_dump : (mode : Mode) → Dump ≡ mode
 only_dump Dump = refl
