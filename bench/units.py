@@ -1,0 +1,123 @@
+#!/usr/bin/env python3
+"""Times `cppunits dump` on a list of many units over shared headers, beside `gcc -E -P` once for each unit.
+
+    bench/units.py [--program PROGRAM] [--units 300] [--headers 40] [--runs N]
+
+The headers are guarded, include one another and define object-like and function-like macros that call one another; each
+unit includes some of them and invokes their macros, one within another.  All is made from a fixed seed, the same on every
+machine.  cppunits reads one list that holds all files; gcc reads the same files from a folder, with the same search
+folder, and without predefined macros and system folders.  Both have their output thrown away.  Printed are tokens a
+second (as cppunits counts them), the ratio of the two times (above 1: cppunits is the faster), and the peak memory of
+cppunits beside that of one gcc and of as many as there are units.
+"""
+import argparse
+import json
+import os
+import subprocess
+import sys
+import tempfile
+
+from measure import MEGABYTE, PROGRAM, Dice, apart, timed
+
+DATE = {"date": "Feb  9 2024", "time": "08:05:03", "search": ["inc"]}
+OBJECT_LIKE, FUNCTION_LIKE = 60, 25
+
+
+def object_like(dice, number, i):
+    more = "H%d_O%d" % (number, i - 1) if i and dice.below(3) == 0 else "x%d" % i
+    return "#define H%d_O%d (%d + %s)" % (number, i, i, more)
+
+
+def function_like(dice, number, i):
+    """Each fourth has two parameters, and `#` or `##` in some; the others call the one before them."""
+    if i % 4 == 0:
+        body = dice.one_of(("((a) * b)", "a ## _%d + b" % i, "f(#a, b)", "(a ? b : 0)"))
+        return "#define H%d_F%d(a, b) %s" % (number, i, body)
+    inner = "b" if i % 4 == 1 else "H%d_F%d(b)" % (number, i - 1)
+    return "#define H%d_F%d(b) (H%d_O%d + %s)" % (number, i, number, i, inner)
+
+
+def header(dice, number):
+    lines = ["#ifndef H%d" % number, "#define H%d" % number]
+    for below in sorted({dice.below(number) for _ in range(2)} if number else ()):
+        lines.append("#include <h%d.h>" % below)
+    lines += [object_like(dice, number, i) for i in range(OBJECT_LIKE)]
+    for i in range(FUNCTION_LIKE):
+        lines.append(function_like(dice, number, i))
+        if i % 5 == 0:
+            lines.append("extern int h%d_%d(int, const char *);" % (number, i))
+    lines.append("#endif")
+    return "\n".join(lines) + "\n"
+
+
+def invocation(dice, number, depth):
+    """A name or an invocation of a macro of this header, whose argument may be one as well."""
+    if depth == 0 or dice.below(3) == 0:
+        return "H%d_O%d" % (number, dice.below(OBJECT_LIKE))
+    i = dice.below(FUNCTION_LIKE)
+    first = "n%d, " % i if i % 4 == 0 else ""
+    return "H%d_F%d(%s%s)" % (number, i, first, invocation(dice, number, depth - 1))
+
+
+def unit(dice, number, headers):
+    used = sorted({dice.below(headers) for _ in range(8)})
+    lines = ["#include \"../inc/h%d.h\"" % h if dice.below(2) else "#include <h%d.h>" % h for h in used]
+    for i in range(60):
+        if i % 12 == 0:
+            lines.append("#if H%d_O%d > %d && defined H%d" % (used[0], dice.below(8), dice.below(9), used[-1]))
+        lines.append("int v%d_%d = %s + %s; /* %d */" % (number, i, invocation(dice, dice.one_of(used), 3), invocation(dice, dice.one_of(used), 3), i))
+        if i % 12 == 11:
+            lines.append("#endif")
+    return "\n".join(lines) + "\n"
+
+
+def make(units, headers, folder):
+    dice = Dice(2024)
+    files = [("inc/h%d.h" % h, header(dice, h)) for h in range(headers)]
+    files += [("src/u%d.c" % u, unit(dice, u, headers)) for u in range(units)]
+    for name, text in files:
+        path = os.path.join(folder, name)
+        os.makedirs(os.path.dirname(path), exist_ok=True)
+        with open(path, "w") as file:
+            file.write(text)
+    listed = dict(DATE, files=[{"name": name, "text": text} for name, text in files],
+                  units=[{"file": "src/u%d.c" % u} for u in range(units)])
+    with open(os.path.join(folder, "list.json"), "w") as file:
+        json.dump(listed, file)
+
+
+def all_of_gcc(units, folder):
+    seconds, peak, worst = 0.0, 0, 0
+    for u in range(units):
+        path = os.path.join(folder, "src", "u%d.c" % u)
+        command = ["gcc", "-E", "-P", "-undef", "-nostdinc", "-I", os.path.join(folder, "inc"), path]
+        own, status, memory = timed(command, path)
+        seconds, peak, worst = seconds + own, max(peak, memory), max(worst, status)
+    return seconds, peak, worst
+
+
+def main():
+    parser = argparse.ArgumentParser(description=__doc__, formatter_class=argparse.RawDescriptionHelpFormatter)
+    parser.add_argument("--program", default=PROGRAM)
+    parser.add_argument("--units", type=int, default=300)
+    parser.add_argument("--headers", type=int, default=40)
+    parser.add_argument("--runs", type=int, default=3)
+    asked = parser.parse_args()
+    program = os.path.abspath(asked.program)
+    with tempfile.TemporaryDirectory() as folder:
+        apart(make, asked.units, asked.headers, folder)
+        listed = os.path.join(folder, "list.json")
+        own, status, memory = min(timed([program, "dump"], listed) for _ in range(asked.runs))
+        other, peak, other_status = min(all_of_gcc(asked.units, folder) for _ in range(asked.runs))
+        with open(listed, "rb") as source:
+            shown = subprocess.run([program, "dump"], stdin=source, stdout=subprocess.PIPE).stdout
+        tokens = shown.count(b"\ntok ")
+        print("%d units, %d headers, %d tokens" % (asked.units, asked.headers, tokens))
+        print("cppunits   %7.2f s  %9.0f tokens/s  peak %7.1f MB  status %d" % (own, tokens / own, memory / MEGABYTE, status))
+        print("gcc -E -P  %7.2f s  %9.0f tokens/s  peak %7.1f MB each, %.1f MB for all at once  status %d"
+              % (other, tokens / other, peak / MEGABYTE, peak * asked.units / MEGABYTE, other_status))
+        print("ratio %.2f" % (other / own))
+
+
+if __name__ == "__main__":
+    sys.exit(main())
