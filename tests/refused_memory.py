@@ -22,7 +22,13 @@ def one_file(text):
     return ('{"date":"Feb  9 2024","time":"08:05:03","files":[{"name":"a.c",%s}],"units":[{"file":"a.c"}]}' % text).encode()
 
 
+def example():
+    with open(os.path.join(HERE, "..", "examples", "units.json"), "rb") as file:
+        return file.read()
+
+
 LISTS = {
+    "headers, definitions, conditions and a fault": example(),
     "a comment as one space": one_file(r'"text":"a+b/**/c\n"'),
     "an empty file": one_file('"text":""'),
     "bytes in hexadecimal digits": one_file('"hex":"efbbbf780d0a79"'),
