@@ -10,7 +10,8 @@ standard input (cppunits as the content of a list's one file) and have their out
 1: cppunits is the faster), and the most memory that cppunits held, in all and for each byte of the text.
 
 --limits reads texts that show that no loop is worse than linear: 100,000 nested `#if`, 2,000,000 short lines, a line of
-1,000,000 quotes that open no literal, and twice as much of each.
+1,000,000 quotes that open no literal, and twice as much of each; and all depths at once: 200 includes, 256 nested
+invocations, parentheses and signs, and 100,000 nested `#if`.  Each runs in a stack of one megabyte.
 """
 import argparse
 import json
@@ -148,6 +149,7 @@ def compare(program, kind, megabytes, runs, folder):
              memory / size, status), flush=True)
 
 
+DEEPEST = "all depths at once"
 LIMITS = {
     "100,000 nested #if": lambda: "#if 1\n" * 100_000 + "#endif\n" * 100_000,
     "200,000 nested #if": lambda: "#if 1\n" * 200_000 + "#endif\n" * 200_000,
@@ -158,16 +160,27 @@ LIMITS = {
 }
 
 
+def deepest():
+    """200 includes, and at the deepest 256 nested invocations, 256 parentheses, 256 signs and 100,000 nested `#if`."""
+    files = [{"name": "f%d.h" % i, "text": "#define D%d %d\n#include \"f%d.h\"\n" % (i, i, i + 1)} for i in range(200)]
+    text = ("#define f(a) a\n" + "f(" * 256 + "1" + ")" * 256 + "\n#if " + "(" * 256 + "1" + ")" * 256 + "\n2\n#endif\n#if " + "!" * 256
+            + "1\n3\n#endif\n" + "#if 1\n" * 100_000 + "4\n" + "#endif\n" * 100_000)
+    files.append({"name": "f200.h", "text": text})
+    return json.dumps({"date": "Feb  9 2024", "time": "08:05:03", "files": files, "units": [{"file": "f0.h"}]}).encode()
+
+
 def write_limit(name, path):
     with open(path, "wb") as file:
-        file.write(listed(LIMITS[name]()))
+        file.write(deepest() if name == DEEPEST else listed(LIMITS[name]()))
 
 
 def limits(program, folder):
     path = os.path.join(folder, "list.json")
-    for name in LIMITS:
+    for name in [*LIMITS, DEEPEST]:
         apart(write_limit, name, path)
-        seconds, status, memory = timed([program, "dump"], path)
+        # the stack of a thread, where a system gives it the least
+        command = ["sh", "-c", 'ulimit -s 1024 && exec "$0" dump', program]
+        seconds, status, memory = timed(command, path)
         print("%-22s %6.2f s  peak %7.1f MB  status %d" % (name, seconds, memory / MEGABYTE, status), flush=True)
 
 
