@@ -1,6 +1,6 @@
 /* A preloaded malloc that refuses one request for memory: the one whose number, from 1, is in REFUSED_CALL.
  * When it refuses, it writes one byte to the descriptor REFUSAL_FD, so that the caller knows that this run met it.
- * Built and used by refused_memory.py alone; it is no part of the program. */
+ * Built and used by refusals.py alone; it is no part of the program. */
 #include <errno.h>
 #include <stddef.h>
 #include <stdlib.h>

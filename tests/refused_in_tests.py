@@ -10,55 +10,39 @@ pass; in another the want of memory is the test's own error.  Whatever else fail
 import os
 import subprocess
 import sys
-import tempfile
 
-HERE = os.path.dirname(os.path.abspath(__file__))
-MOST_RUNS = 20_000
+from refusals import HERE, refusing_malloc, runs, tally
+
 WANT_OF_MEMORY = (b"error: Memory", b"error: AllocError", b"error: AllocFailed")
 
 
-def run(program, test, shim, call):
-    """The run of a test in which this request is refused: whether it passed, its words, and whether it met the refusal."""
-    told, tells = os.pipe()
-    environment = dict(os.environ, LD_PRELOAD=shim, REFUSED_CALL=str(call), REFUSAL_FD=str(tells))
-    try:
-        done = subprocess.run([program, test], capture_output=True, env=environment, pass_fds=(tells,), timeout=60)
-    finally:
-        os.close(tells)
-    met = os.read(told, 1) != b""
-    os.close(told)
-    return done.returncode == 0, done.stdout + done.stderr, met
+def tests_of(program):
+    listed = subprocess.run([program, "--list"], capture_output=True, check=True).stdout.decode()
+    return [line.rsplit(": ", 1)[0] for line in listed.splitlines() if "::" in line]
 
 
-def problems(program, test, shim):
-    went_on = 0
-    for call in range(1, MOST_RUNS):
-        passed, words, met = run(program, test, shim, call)
+def problems(program, test, malloc):
+    requests = went_on = 0
+    for call, done, met in runs([program, test], malloc):
+        passed = done.returncode == 0
+        words = done.stdout + done.stderr
         if not passed and not (met and words.startswith(WANT_OF_MEMORY)):
             yield "request %d refused: %r" % (call, words[:200])
-        if not met:
-            print("  %s: %d requests, %d of them met by a call that is tested" % (test, call - 1, went_on))
-            return
-        went_on += passed
-    yield "no end of requests"
+        requests += met
+        went_on += met and passed
+    print("  %d requests, %d of them met by a call that is tested" % (requests, went_on))
+
+
+def cases(names, malloc):
+    for name in names:
+        program = os.path.join(HERE, "..", "crates", name, "out", name + "_tests")
+        for test in tests_of(program):
+            yield name + " " + test, problems(program, test, malloc)
 
 
 def main(names):
-    passed = failed = 0
-    with tempfile.TemporaryDirectory() as folder:
-        shim = os.path.join(folder, "refuse_malloc.so")
-        subprocess.run(["cc", "-O2", "-shared", "-fPIC", "-o", shim, os.path.join(HERE, "refuse_malloc.c")], check=True)
-        for name in names:
-            program = os.path.join(HERE, "..", "crates", name, "out", name + "_tests")
-            listed = subprocess.run([program, "--list"], capture_output=True, check=True).stdout.decode()
-            for test in [line.rsplit(": ", 1)[0] for line in listed.splitlines() if "::" in line]:
-                found = list(problems(program, test, shim))
-                for problem in found[:5]:
-                    print("  " + problem)
-                failed += bool(found)
-                passed += not found
-    print("%d passed, %d failed" % (passed, failed))
-    return 1 if failed or not passed else 0
+    with refusing_malloc() as malloc:
+        return tally(cases(names, malloc))
 
 
 if __name__ == "__main__":

@@ -9,13 +9,12 @@ nothing on standard output and `cppunits: out of memory` on standard error, or w
 no refusal.  The gate cannot refuse memory to the built program, so this is no part of it.
 """
 import os
-import subprocess
 import sys
-import tempfile
 
-HERE = os.path.dirname(os.path.abspath(__file__))
+from refusals import HERE, refusing_malloc, run, runs, tally
+
 PROGRAM = os.path.join(HERE, "..", "crates", "cppunits", "out", "cppunits")
-MOST_RUNS = 20_000
+OUT_OF_MEMORY = (b"", b"cppunits: out of memory\n", 4)
 
 
 def one_file(text):
@@ -39,46 +38,26 @@ LISTS = {
 }
 
 
-def run(program, data, shim, call):
-    """The run in which this request is refused: its output, words and status, and whether it met the refusal."""
-    told, tells = os.pipe()
-    environment = dict(os.environ, LD_PRELOAD=shim, REFUSED_CALL=str(call), REFUSAL_FD=str(tells))
-    try:
-        done = subprocess.run([program, "dump"], input=data, capture_output=True, env=environment, pass_fds=(tells,), timeout=60)
-    finally:
-        os.close(tells)
-    met = os.read(told, 1) != b""
-    os.close(told)
-    return (done.stdout, done.stderr, done.returncode), met
+def outcome(done):
+    return done.stdout, done.stderr, done.returncode
 
 
-def problems(program, data, shim):
-    answer, _ = run(program, data, shim, 0)
-    for call in range(1, MOST_RUNS):
-        found, met = run(program, data, shim, call)
-        if found != (b"", b"cppunits: out of memory\n", 4) and found != answer:
+def problems(program, data, malloc):
+    command = [program, "dump"]
+    answer = outcome(run(command, malloc, 0, data)[0])
+    requests = 0
+    for call, done, met in runs(command, malloc, data):
+        found = outcome(done)
+        if found not in (OUT_OF_MEMORY, answer):
             yield "request %d refused: status %d, output %r, words %r" % (call, found[2], found[0][:200], found[1][:200])
-        if not met:
-            print("  %d requests" % (call - 1))
-            return
-    yield "no end of requests"
+        requests += met
+    print("  %d requests" % requests)
 
 
 def main(words):
     program = os.path.abspath(words[0] if words else PROGRAM)
-    passed = failed = 0
-    with tempfile.TemporaryDirectory() as folder:
-        shim = os.path.join(folder, "refuse_malloc.so")
-        subprocess.run(["cc", "-O2", "-shared", "-fPIC", "-o", shim, os.path.join(HERE, "refuse_malloc.c")], check=True)
-        for name, data in LISTS.items():
-            print(name)
-            found = list(problems(program, data, shim))
-            for problem in found[:5]:
-                print("  " + problem)
-            failed += bool(found)
-            passed += not found
-    print("%d passed, %d failed" % (passed, failed))
-    return 1 if failed else 0
+    with refusing_malloc() as malloc:
+        return tally((name, problems(program, data, malloc)) for name, data in LISTS.items())
 
 
 if __name__ == "__main__":

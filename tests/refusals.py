@@ -1,0 +1,54 @@
+"""Runs of a program with one request for memory refused, for refused_memory.py and refused_in_tests.py."""
+import contextlib
+import os
+import subprocess
+import tempfile
+
+HERE = os.path.dirname(os.path.abspath(__file__))
+MOST_RUNS = 20_000
+
+
+@contextlib.contextmanager
+def refusing_malloc():
+    """The path of the built refuse_malloc.c, for as long as it is used."""
+    with tempfile.TemporaryDirectory() as folder:
+        library = os.path.join(folder, "refuse_malloc.so")
+        subprocess.run(["cc", "-O2", "-shared", "-fPIC", "-o", library, os.path.join(HERE, "refuse_malloc.c")], check=True)
+        yield library
+
+
+def run(command, malloc, call, data=None):
+    """The run in which this request is refused, and whether it met the refusal."""
+    told, tells = os.pipe()
+    environment = dict(os.environ, LD_PRELOAD=malloc, REFUSED_CALL=str(call), REFUSAL_FD=str(tells))
+    try:
+        done = subprocess.run(command, input=data, capture_output=True, env=environment, pass_fds=(tells,), timeout=60)
+    finally:
+        os.close(tells)
+    met = os.read(told, 1) != b""
+    os.close(told)
+    return done, met
+
+
+def runs(command, malloc, data=None):
+    """The runs with the 1st, 2nd, 3rd .. request refused, each with its number, up to the first that meets no refusal."""
+    for call in range(1, MOST_RUNS):
+        done, met = run(command, malloc, call, data)
+        yield call, done, met
+        if not met:
+            return
+    raise SystemExit("no end of requests")
+
+
+def tally(cases):
+    """Prints each case's name, its first problems and the counts, and gives the status to exit with."""
+    passed = failed = 0
+    for name, problems in cases:
+        print(name)
+        found = list(problems)
+        for problem in found[:5]:
+            print("  " + problem)
+        failed += bool(found)
+        passed += not found
+    print("%d passed, %d failed" % (passed, failed))
+    return 1 if failed or not passed else 0
