@@ -53,7 +53,7 @@ fn answer(alloc: Global, table: &Table, defined: &Token, name: &Token) -> Result
     };
     Ok(Token {
         kind: Kind::Number,
-        text: Spelling::new(Vec::from_slice(alloc, digit)?),
+        text: Spelling::from_slice(alloc, digit)?,
         space: defined.space,
         at: defined.at,
         used: defined.used,

@@ -8,7 +8,7 @@ use std::process::Abort;
 use std::test::Fail;
 
 fn spelling(alloc: Global, text: &[u8]) -> Result<Spelling, AllocError> {
-    Ok(Spelling::new(Vec::from_slice(alloc, text)?))
+    Spelling::from_slice(alloc, text)
 }
 
 fn env(alloc: Global) -> Result<Env, AllocError> {

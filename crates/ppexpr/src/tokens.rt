@@ -38,7 +38,7 @@ pub(crate) fn fault(alloc: Global, number: u8, at: Place, text: &[u8]) -> Result
     Ok(Fault {
         number,
         at,
-        text: Spelling::new(Vec::from_slice(alloc, text)?),
+        text: Spelling::from_slice(alloc, text)?,
     })
 }
 

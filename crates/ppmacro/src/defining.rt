@@ -196,7 +196,7 @@ fn enter(alloc: Global, table: &mut Table, named: Named) -> Result<(), AllocErro
     ensures err { OnErr result (table.new ≡ table.old) }
 {
     let definition = Macro::new(alloc, named.definition)?;
-    table.insert(named.name.into_bytes(), definition)
+    table.insert(Vec::from_slice(alloc, named.name.as_bytes())?, definition)
 }
 
 /// Defines a macro. `at` is the place of `#`, `line` what stands behind `define`; an agreeing definition

@@ -64,7 +64,7 @@ impl NameSet {
         ensures { IfOk result (λ s. s ≡ set.insert self.now name.now) }
     {
         let mut names = Vec::from_clones(alloc, self.names.as_slice())?;
-        names.push(Spelling::new(Vec::from_slice(alloc, name)?))?;
+        names.push(Spelling::from_slice(alloc, name)?)?;
         Ok(NameSet { names })
     }
 

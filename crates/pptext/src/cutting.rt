@@ -162,7 +162,7 @@ fn token_from(
     ensures chars { text.new.chars ≡ text.old.chars }
     ensures passed { text.new.passed ≤ at }
 {
-    let spelling = Spelling::new(Vec::from_slice(alloc, &text.codes()[at..at + n])?);
+    let spelling = Spelling::from_slice(alloc, &text.codes()[at..at + n])?;
     let place = text.place(at);
     Ok(Token {
         kind,

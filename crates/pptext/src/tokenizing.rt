@@ -157,7 +157,7 @@ mod tests {
         };
         Ok(Token {
             kind: Kind::Other,
-            text: Spelling::new(Vec::from_slice(alloc, text)?),
+            text: Spelling::from_slice(alloc, text)?,
             space: false,
             at,
             used: at,

@@ -1,8 +1,12 @@
 // Places, preprocessing tokens and faults.
 ghost use Rattle.std.specs.Prelude.{◌≡◌, ◌↔◌, ◌==◌, List, ℕ, IfOk, length, IsTrue, [], ◌∷◌, ◌++◌, Some, None};
 
+use smallvec::SmallVec;
 use std::alloc::{AllocError, AllocFailed, Global};
 use std::marker::Model;
+
+/// How many bytes of a spelling stand in the token itself: nearly all spellings are shorter.
+const SHORT: usize = 24;
 
 /// Want of memory.
 #[derive(Clone, Copy, PartialEq, Eq, Debug)]
@@ -40,10 +44,10 @@ pub enum Kind {
     Other,
 }
 
-/// A spelling, which contracts see as the list of its bytes.
+/// A spelling, which contracts see as the list of its bytes. One of up to 24 bytes takes no memory beside the value.
 #[derive(Drop, Debug)]
 pub struct Spelling {
-    bytes: Vec<u8>,
+    bytes: SmallVec<u8, SHORT>,
 }
 
 impl Model for Spelling {
@@ -57,15 +61,18 @@ impl Spelling {
     pub fn new(bytes: Vec<u8>) -> Spelling
         ensures { result ≡ bytes.items }
     {
-        Self { bytes }
+        Self {
+            bytes: SmallVec::from_vec(bytes),
+        }
     }
 
-    /// The bytes, given back.
-    pub fn into_bytes(self) -> Vec<u8>
-        ensures { result.items ≡ self }
+    /// A spelling of a copy of these bytes.
+    pub fn from_slice(alloc: Global, bytes: &[u8]) -> Result<Spelling, AllocError>
+        ensures { IfOk result (λ s. s ≡ bytes.now) }
     {
-        let Spelling { bytes } = self;
-        bytes
+        Ok(Self {
+            bytes: SmallVec::from_slice(alloc, bytes)?,
+        })
     }
 
     /// The bytes.
@@ -80,9 +87,7 @@ impl Clone for Spelling {
     ghost is_clone = { λ a b. b ≡ a };
 
     fn clone(&self) -> Result<Spelling, AllocError> {
-        Ok(Spelling {
-            bytes: Vec::from_slice(self.bytes.allocator().clone()?, self.as_bytes())?,
-        })
+        Spelling::from_slice(*self.bytes.allocator(), self.as_bytes())
     }
 }
 
@@ -173,6 +178,7 @@ mod tests {
         let spelling = Spelling::new([b'a', b'b'].to_vec(rt.alloc())?);
         assert_eq!(rt; spelling.as_bytes(), b"ab".as_slice());
         assert!(rt; spelling.clone()? == spelling);
+        assert!(rt; Spelling::from_slice(rt.alloc(), b"ab")? == spelling);
         let at = Place {
             file: 1,
             line: 2,
@@ -191,8 +197,19 @@ mod tests {
         let mut tokens = tokens.into_vec();
         let token = tokens.pop().ok_or("no token")?;
         assert_eq!(rt; token.at, at);
-        let bytes = token.text.into_bytes();
-        assert_eq!(rt; bytes.as_slice(), b"ab".as_slice());
+        assert_eq!(rt; token.text.as_bytes(), b"ab".as_slice());
+        Ok(())
+    }
+
+    #[test]
+    fn keeps_long_spellings(rt: HostRuntime) -> Result<(), Fail> {
+        for length in [0, 1, 23, 24, 25, 100] {
+            let bytes = vec![in rt.alloc(); b'x'; length]?;
+            let copied = Spelling::from_slice(rt.alloc(), bytes.as_slice())?;
+            assert_eq!(rt; copied.as_bytes(), bytes.as_slice());
+            assert!(rt; copied.clone()? == copied);
+            assert!(rt; Spelling::new(bytes) == copied);
+        }
         Ok(())
     }
 }

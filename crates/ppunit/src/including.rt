@@ -37,7 +37,7 @@ fn asking_for(alloc: Global, form: Form, name: &[u8]) -> Result<Asked, AllocErro
 {
     Ok(Asked {
         form,
-        name: Spelling::new(Vec::from_slice(alloc, name)?),
+        name: Spelling::from_slice(alloc, name)?,
     })
 }
 

@@ -55,7 +55,7 @@ pub(crate) fn line_fault(
     Ok(Fault {
         number,
         at: sign(line),
-        text: Spelling::new(Vec::from_slice(alloc, text)?),
+        text: Spelling::from_slice(alloc, text)?,
     })
 }
 

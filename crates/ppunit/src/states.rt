@@ -58,7 +58,7 @@ impl State {
 fn spelled(alloc: Global, text: &str) -> Result<Spelling, AllocError>
     ensures { IfOk result (λ s. s ≡ text.now) }
 {
-    Ok(Spelling::new(Vec::from_slice(alloc, text.as_bytes())?))
+    Spelling::from_slice(alloc, text.as_bytes())
 }
 
 /// A name as a string literal: between `"`, with `\` before each `"` and `\`.
