@@ -6,7 +6,7 @@ ghost use Rattle.ppunit.specs.Directives.{LineGives};
 
 use crate::lines::{line_fault, operands};
 use crate::states::State;
-use ppexpand::{Expanded, expand};
+use ppexpand::{Env, Expanded, expand};
 use pptext::{Fault, Kind, Memory, Spelling, Token};
 use std::alloc::{AllocError, Global};
 
@@ -67,6 +67,15 @@ fn presumed_by(tokens: &[Token]) -> Result<Option<Presumed>, AllocError>
     Ok(line_number(number).map(|number| Presumed { number, name }))
 }
 
+// The file gets a new name, if there is one.
+fn rename(env: &mut Env, name: Option<Spelling>)
+    ensures { env.new ≡ record env.old { name = spec.or_old env.old.name name } }
+{
+    if let Some(name) = name {
+        env.name = name;
+    }
+}
+
 /// The line behind the directive's new-line, which stands in this physical line, gets a number, and the file perhaps a
 /// name; or the fault of replacement, or 33.
 pub(crate) fn renumber(
@@ -85,8 +94,6 @@ pub(crate) fn renumber(
         return Ok(Some(line_fault(alloc, 33, line, b"")?));
     };
     state.env.shift = i64::from(presumed.number) - (i64::from(physical) + 1);
-    if let Some(name) = presumed.name {
-        state.env.name = name;
-    }
+    rename(&mut state.env, presumed.name);
     Ok(None)
 }
