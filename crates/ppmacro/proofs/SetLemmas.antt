@@ -78,3 +78,42 @@ from_list-union ks ls =
 -- a list with one name more
 pub from_list-with : (ks : List Name) (k : Name) → set.from_list {R = slice_cmp nat_cmp} (ks ++ k ∷ []) ≡ set.insert (set.from_list ks) k
 from_list-with = set.from_list_push nat_list_cmp_total (set.slice_cmp-IsAntisymmetric set.nat_cmp-IsAntisymmetric)
+
+-- ---- sets of which one has all names
+
+same_by_members : (s t : HideSet) → ((q : Name) → set.contains s q ≡ set.contains t q) → s ≡ t
+same_by_members = set.same_set nat_list_cmp_total (set.slice_cmp-IsAntisymmetric set.nat_cmp-IsAntisymmetric)
+
+or_false : (a : Bool) → (a || false) ≡ a
+or_false true = refl
+or_false false = refl
+
+or_same : (a : Bool) → (a || a) ≡ a
+or_same true = refl
+or_same false = refl
+
+and_false : (a : Bool) → (a && false) ≡ false
+and_false true = refl
+and_false false = refl
+
+and_same : (a : Bool) → (a && a) ≡ a
+and_same true = refl
+and_same false = refl
+
+pub union-none : (s : HideSet) → set.union set.empty s ≡ s
+union-none s = same_by_members _ _ (λ q. set.contains-union nat_list_cmp_total set.empty s q ∙ ap (λ b. b || set.contains s q) (set.contains-empty (slice_cmp nat_cmp) q))
+
+pub union-with-none : (s : HideSet) → set.union s set.empty ≡ s
+union-with-none s = same_by_members _ _ (λ q. set.contains-union nat_list_cmp_total s set.empty q ∙ ap (λ b. set.contains s q || b) (set.contains-empty (slice_cmp nat_cmp) q) ∙ or_false (set.contains s q))
+
+pub union-same : (s : HideSet) → set.union s s ≡ s
+union-same s = same_by_members _ _ (λ q. set.contains-union nat_list_cmp_total s s q ∙ or_same (set.contains s q))
+
+pub meet-none : (s : HideSet) → set.intersection set.empty s ≡ set.empty
+meet-none s = same_by_members _ _ (λ q. set.contains-intersection nat_list_cmp_total set.empty s q ∙ ap (λ b. b && set.contains s q) (set.contains-empty (slice_cmp nat_cmp) q) ∙ sym (set.contains-empty (slice_cmp nat_cmp) q))
+
+pub meet-with-none : (s : HideSet) → set.intersection s set.empty ≡ set.empty
+meet-with-none s = same_by_members _ _ (λ q. set.contains-intersection nat_list_cmp_total s set.empty q ∙ ap (λ b. set.contains s q && b) (set.contains-empty (slice_cmp nat_cmp) q) ∙ and_false (set.contains s q) ∙ sym (set.contains-empty (slice_cmp nat_cmp) q))
+
+pub meet-same : (s : HideSet) → set.intersection s s ≡ s
+meet-same s = same_by_members _ _ (λ q. set.contains-intersection nat_list_cmp_total s s q ∙ and_same (set.contains s q))

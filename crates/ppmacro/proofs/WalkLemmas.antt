@@ -7,7 +7,7 @@ use Rattle.pptext.specs.declared.tokens.Fault.{Fault}
 use Rattle.ppmacro.specs.Numbered.{Numbered}
 use Rattle.ppmacro.specs.HideSets.{set_at, IsKnown, Hiding, hiding, hidings, AllKnown, Keeps}
 use Rattle.ppmacro.specs.Substitution.{Arguments, Marked, after_ok, argument_at, expanded_at, chain_tokens, mark_first, chains_tokens, gained}
-use Rattle.ppmacro.specs.Substituting.{lists_of, options_of, ArgumentsKnown, arguments_in, marked_behind}
+use Rattle.ppmacro.specs.Substituting.{lists_of, options_of, ArgumentsKnown, arguments_in, marked_behind, pushed}
 use Rattle.ppmacro.specs.declared.hide_sets.Hidden.{Hidden}
 use Rattle.ppmacro.specs.declared.macros.Chain.{Chain}
 use Rattle.ppmacro.proofs.KeepLemmas.{set-keeps, hiding-keeps, hidings-keeps, known-keeps}
@@ -52,13 +52,27 @@ behind-behind : (xs ys : List Hiding) (r : Result Marked Fault) → marked_behin
 behind-behind xs ys (Ok m) = λ i. Ok (record { tokens = sym (append_assoc xs ys m.tokens) i; pending = m.pending })
 behind-behind xs ys (Err f) = refl
 
-pub chains-more : (args : Arguments) (used : Place) (pending first : Bool) (c : Chain) (cs : List Chain) (front ts : List Hiding) → Ok ts ≡ chain_tokens args used c → marked_behind (front ++ (mark_first (pending || (not first && c.mark)) ts).tokens) (chains_tokens args used (mark_first (pending || (not first && c.mark)) ts).pending false cs) ≡ marked_behind front (chains_tokens args used pending first (c ∷ cs))
+chains-more : (args : Arguments) (used : Place) (pending first : Bool) (c : Chain) (cs : List Chain) (front ts : List Hiding) → Ok ts ≡ chain_tokens args used c → marked_behind (front ++ (mark_first (pending || (not first && c.mark)) ts).tokens) (chains_tokens args used (mark_first (pending || (not first && c.mark)) ts).pending false cs) ≡ marked_behind front (chains_tokens args used pending first (c ∷ cs))
 chains-more args used pending first c cs front ts h =
     sym (behind-behind front (mark_first (pending || (not first && c.mark)) ts).tokens (chains_tokens args used (mark_first (pending || (not first && c.mark)) ts).pending false cs))
     ∙ ap (λ r. marked_behind front (after_ok r (goes_on args used (pending || (not first && c.mark)) cs))) h
 
-pub chains-refused : (args : Arguments) (used : Place) (pending first : Bool) (c : Chain) (cs : List Chain) (front : List Hiding) (f : Fault) → Err f ≡ chain_tokens args used c → Err f ≡ marked_behind front (chains_tokens args used pending first (c ∷ cs))
+chains-refused : (args : Arguments) (used : Place) (pending first : Bool) (c : Chain) (cs : List Chain) (front : List Hiding) (f : Fault) → Err f ≡ chain_tokens args used c → Err f ≡ marked_behind front (chains_tokens args used pending first (c ∷ cs))
 chains-refused args used pending first c cs front f h = ap (λ r. marked_behind front (after_ok r (goes_on args used (pending || (not first && c.mark)) cs))) h
+
+-- one chain pushed, and the others behind it
+pub chains-pushed : (args : Arguments) (used : Place) (pending first : Bool) (c : Chain) (cs : List Chain) (front new : List Hiding) (left : Bool) (r : Result (List Hiding) Fault) → r ≡ chain_tokens args used c → Ok (record { tokens = new; pending = left }) ≡ pushed front (pending || (not first && c.mark)) r → marked_behind new (chains_tokens args used left false cs) ≡ marked_behind front (chains_tokens args used pending first (c ∷ cs))
+chains-pushed args used pending first c cs front new left (Ok ts) h e =
+    let here : Marked = mark_first (pending || (not first && c.mark)) ts in
+    let same : record { tokens = new; pending = left } ≡ record { tokens = front ++ here.tokens; pending = here.pending } = cc in
+    ap (λ (m : Marked). marked_behind m.tokens (chains_tokens args used m.pending false cs)) same ∙ chains-more args used pending first c cs front ts h
+chains-pushed args used pending first c cs front new left (Err f) h e = absurd (cc)
+
+pub chains-refused-pushed : (args : Arguments) (used : Place) (pending first : Bool) (c : Chain) (cs : List Chain) (front : List Hiding) (f : Fault) (r : Result (List Hiding) Fault) → r ≡ chain_tokens args used c → Err f ≡ pushed front (pending || (not first && c.mark)) r → Err f ≡ marked_behind front (chains_tokens args used pending first (c ∷ cs))
+chains-refused-pushed args used pending first c cs front f (Ok ts) h e = absurd (cc)
+chains-refused-pushed args used pending first c cs front f (Err g) h e =
+    let same : f ≡ g = cc in
+    chains-refused args used pending first c cs front f (ap Err same ∙ h)
 
 -- ---- the gain
 

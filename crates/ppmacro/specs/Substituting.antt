@@ -7,7 +7,7 @@ use Rattle.pptext.specs.declared.tokens.Token.{Token}
 use Rattle.pptext.specs.declared.tokens.Fault.{Fault}
 use Rattle.ppmacro.specs.Numbered.{Numbered}
 use Rattle.ppmacro.specs.HideSets.{Hiding, hiding, hidings, AllKnown}
-use Rattle.ppmacro.specs.Substitution.{Arguments, Marked, argument_at, expanded_at}
+use Rattle.ppmacro.specs.Substitution.{Arguments, Marked, argument_at, expanded_at, mark_first}
 use Rattle.ppmacro.specs.declared.hide_sets.Hidden.{Hidden}
 
 abbrev pub tokens_of : List Hidden → List Token
@@ -61,3 +61,13 @@ marked_in sets (Err f) = Err f
 abbrev pub marked_behind : List Hiding → Result Marked Fault → Result Marked Fault
 marked_behind ts (Ok m) = Ok (record { tokens = ts ++ m.tokens; pending = m.pending })
 marked_behind ts (Err f) = Err f
+
+-- a chain's tokens behind these, the first with this mark
+abbrev pub pushed : List Hiding → Bool → Result (List Hiding) Fault → Result Marked Fault
+pushed front mark (Ok ts) = Ok (record { tokens = front ++ (mark_first mark ts).tokens; pending = (mark_first mark ts).pending })
+pushed front mark (Err f) = Err f
+
+-- the same in a list that a call changed, with the mark that it answers
+abbrev pub pushed_in : Numbered → List Hidden → Result Bool Fault → Result Marked Fault
+pushed_in sets hs (Ok pending) = Ok (record { tokens = hidings sets hs; pending = pending })
+pushed_in sets hs (Err f) = Err f

@@ -135,12 +135,9 @@ fn next_item(
 fn begin_chain(chains: &mut Vec<Chain>, mark: bool, operand: Operand) -> Result<(), AllocError>
     ensures { OnOk result (chains.new.items ≡ chains.old.items ++ record { mark = mark; operands = operand ∷ [] } ∷ []) }
 {
-    let mut operands = Vec::new(chains.allocator().clone()?);
+    let mut operands = Operands::new(*chains.allocator());
     operands.push(operand)?;
-    chains.push(Chain {
-        mark,
-        operands: Operands::new(operands),
-    })?;
+    chains.push(Chain { mark, operands })?;
     Ok(())
 }
 
@@ -169,7 +166,7 @@ pub(crate) fn chains_of(alloc: Global, definition: &Definition) -> Result<Chains
     ensures { IfOk result (λ c. c ≡ chains_of definition.now) }
 {
     let shape = &definition.shape;
-    let mut chains = Vec::new(alloc);
+    let mut chains = Vec::with_capacity(alloc, definition.body.as_slice().len())?;
     let mut joined = false;
     let mut hash = None;
     for token in definition.body.as_slice() {

@@ -95,6 +95,14 @@ impl HideSets {
         self.sets[hide.number].has(name)
     }
 
+    // Whether it is the number of the empty set.
+    fn is_first(&self, hide: Set) -> bool
+        ensures { IsTrue result → set_at self.now hide ≡ set.empty }
+    {
+        let _sets = &self.sets;
+        hide.number == 0
+    }
+
     // Gives a set a number.
     fn add(&mut self, names: NameSet) -> Result<Set, AllocError>
         ensures set { IfOk result (λ s. set_at self.new s ≡ names) }
@@ -119,7 +127,7 @@ impl HideSets {
         Ok(self.add(names)?)
     }
 
-    /// The names of either set.
+    /// The names of either set. Where they are those of one of the two, that one may be the answer.
     pub fn union(&mut self, left: Set, right: Set) -> Result<Set, Memory>
         requires left { IsKnown self.old left }
         requires right { IsKnown self.old right }
@@ -128,11 +136,20 @@ impl HideSets {
         ensures keeps { Keeps self.old self.new }
         ensures err { OnErr result (self.new ≡ self.old) }
     {
+        if self.is_first(left) {
+            return Ok(right);
+        }
+        if self.is_first(right) {
+            return Ok(left);
+        }
+        if left == right {
+            return Ok(left);
+        }
         let names = self.sets[left.number].union(self.alloc, &self.sets[right.number])?;
         Ok(self.add(names)?)
     }
 
-    /// The names of both sets.
+    /// The names of both sets. Where they are those of one of the two, that one may be the answer.
     pub fn meet(&mut self, left: Set, right: Set) -> Result<Set, Memory>
         requires left { IsKnown self.old left }
         requires right { IsKnown self.old right }
@@ -141,6 +158,15 @@ impl HideSets {
         ensures keeps { Keeps self.old self.new }
         ensures err { OnErr result (self.new ≡ self.old) }
     {
+        if self.is_first(left) {
+            return Ok(left);
+        }
+        if self.is_first(right) {
+            return Ok(right);
+        }
+        if left == right {
+            return Ok(left);
+        }
         let names = self.sets[left.number].meet(self.alloc, &self.sets[right.number])?;
         Ok(self.add(names)?)
     }

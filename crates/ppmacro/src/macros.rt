@@ -4,6 +4,7 @@ ghost use Rattle.ppmacro.specs.Chains.{chains_of};
 
 use crate::chains::chains_of;
 use pptext::{Place, Spelling, Token, Tokens};
+use smallvec::SmallVec;
 use std::alloc::{AllocError, Global};
 use std::marker::Model;
 
@@ -76,10 +77,22 @@ pub enum Operand {
     Str(usize, Place),
 }
 
-/// Operands, which contracts see as their list.
+impl Default for Operand {
+    ghost use Rattle.std.specs.Prelude.{◌≡◌};
+    ghost use Rattle.ppmacro.specs.declared.macros.Operand.TheVariants.{Param};
+
+    ghost is_default = { λ o. o ≡ Param 0 };
+
+    // What stands where `Operands` have room for one; nobody sees it.
+    fn default() -> Operand {
+        Operand::Param(0)
+    }
+}
+
+/// Operands, which contracts see as their list. One alone, as most are, takes no memory beside the value.
 #[derive(Drop)]
 pub struct Operands {
-    operands: Vec<Operand>,
+    operands: SmallVec<Operand, 1>,
 }
 
 impl Model for Operands {
@@ -92,11 +105,13 @@ impl Model for Operands {
 }
 
 impl Operands {
-    /// These operands.
-    pub fn new(operands: Vec<Operand>) -> Operands
-        ensures { result ≡ operands.items }
+    /// No operands.
+    pub fn new(alloc: Global) -> Operands
+        ensures { result ≡ [] }
     {
-        Operands { operands }
+        Operands {
+            operands: SmallVec::new(alloc),
+        }
     }
 
     /// Puts one more behind them.

@@ -2,8 +2,8 @@
 ghost use Rattle.std.specs.Prelude.{◌≡◌, ◌++◌, ◌∷◌, IfOk, OnOk, [], map, true, not, ◌||◌, ◌&&◌};
 ghost use Rattle.ppmacro.specs.Numbered.{Numbered};
 ghost use Rattle.ppmacro.specs.HideSets.{set_at, IsKnown, hiding, hidings, AllKnown, Keeps};
-ghost use Rattle.ppmacro.specs.Substitution.{is_joined, chain_tokens, mark_first, chains_tokens, gained, substituted};
-ghost use Rattle.ppmacro.specs.Substituting.{ArgumentsKnown, arguments_in, list_in, marked_in};
+ghost use Rattle.ppmacro.specs.Substitution.{is_joined, chain_tokens, mark_first, with_mark, plain, chains_tokens, gained, substituted};
+ghost use Rattle.ppmacro.specs.Substituting.{ArgumentsKnown, arguments_in, list_in, marked_in, pushed, pushed_in};
 
 mod joining;
 mod lexing;
@@ -13,12 +13,12 @@ mod stringizing;
 
 use self::joining::{join_all, push_all};
 pub use self::lexing::tells_each_kind;
-use self::operands::operands_tokens;
+use self::operands::{expansion, operands_tokens};
 pub use self::pasting::paste;
 pub use self::stringizing::{push_escaped, stringize};
 use crate::hide_sets::{Hidden, HideSets, Set};
 use crate::macros::{Chain, Macro, Operand};
-use pptext::{Fault, Memory, Place};
+use pptext::{Fault, Memory, Place, Token};
 use std::alloc::{AllocError, Global};
 
 // Whether `##` joins operands.
@@ -70,6 +70,60 @@ fn push_chain(tokens: &mut Vec<Hidden>, pending: bool, more: &[Hidden]) -> Resul
     Ok(false)
 }
 
+// Puts a token of the replacement list behind the others, with this mark.
+fn push_token(
+    sets: &HideSets,
+    tokens: &mut Vec<Hidden>,
+    mark: bool,
+    token: &Token,
+) -> Result<(), AllocError>
+    ensures tokens { OnOk result (hidings sets.now tokens.new.items ≡ hidings sets.now tokens.old.items ++ with_mark mark (plain token.now) ∷ []) }
+    ensures known { OnOk result (AllKnown sets.now tokens.old.items → AllKnown sets.now tokens.new.items) }
+{
+    let mut token = token.clone()?;
+    token.space = mark;
+    let hide = sets.empty();
+    push_one(tokens, Hidden { token, hide })
+}
+
+// Puts the tokens of a chain behind the others, the first with this mark. The mark that is pending then, or fault 19 or 20.
+fn push_chain_tokens(
+    alloc: Global,
+    sets: &mut HideSets,
+    given: &[Vec<Hidden>],
+    expanded: &[Option<Vec<Hidden>>],
+    used: Place,
+    mark: bool,
+    chain: &Chain,
+    tokens: &mut Vec<Hidden>,
+) -> Result<Result<bool, Fault>, Memory>
+    requires arguments { ArgumentsKnown sets.old given.now expanded.now }
+    requires tokens { AllKnown sets.old tokens.old.items }
+    ensures is { IfOk result (λ r. pushed_in sets.new tokens.new.items r ≡ pushed (hidings sets.old tokens.old.items) mark (chain_tokens (arguments_in sets.old given.now expanded.now) used chain.now)) }
+    ensures known { IfOk result (λ r. IfOk r (λ p. AllKnown sets.new tokens.new.items)) }
+    ensures keeps { Keeps sets.old sets.new }
+{
+    // Most chains are a token or a parameter alone, whose tokens need no list of their own.
+    match chain.operands.as_slice() {
+        [Operand::Tok(token)] => {
+            push_token(sets, tokens, mark, token)?;
+            return Ok(Ok(false));
+        }
+        [Operand::Param(index)] => {
+            let pending = push_chain(tokens, mark, expansion(expanded, *index))?;
+            return Ok(Ok(pending));
+        }
+        _ => {}
+    }
+    match chain_tokens(alloc, sets, given, expanded, used, chain)? {
+        Ok(more) => {
+            let pending = push_chain(tokens, mark, more.as_slice())?;
+            Ok(Ok(pending))
+        }
+        Err(fault) => Ok(Err(fault)),
+    }
+}
+
 // The mark before a chain; the first chain's own does not count.
 fn mark_before(pending: bool, first: bool, own: bool) -> bool
     ensures { result ≡ (pending || (not first && own)) }
@@ -96,27 +150,28 @@ fn chains_tokens(
     let mut pending = space;
     let mut first = true;
     for chain in chains {
-        let more = match chain_tokens(alloc, sets, given, expanded, used, chain)? {
-            Ok(more) => more,
-            Err(fault) => return Ok(Err(fault)),
-        };
         let mark = mark_before(pending, first, chain.mark);
-        pending = push_chain(&mut tokens, mark, more.as_slice())?;
+        match push_chain_tokens(
+            alloc, sets, given, expanded, used, mark, chain, &mut tokens,
+        )? {
+            Ok(left) => pending = left,
+            Err(fault) => return Ok(Err(fault)),
+        }
         first = false;
     }
     Ok(Ok((tokens, pending)))
 }
 
 // A token with more names, used where the macro's name is.
-fn gain_one(sets: &mut HideSets, hidden: &Hidden, gain: Set, used: Place) -> Result<Hidden, Memory>
-    requires hidden { IsKnown sets.old hidden.now.hide }
+fn gain_one(sets: &mut HideSets, hidden: Hidden, gain: Set, used: Place) -> Result<Hidden, Memory>
+    requires hidden { IsKnown sets.old hidden.hide }
     requires gain { IsKnown sets.old gain }
-    ensures is { IfOk result (λ h. hiding sets.new h ≡ gained (set_at sets.old gain) used (hiding sets.old hidden.now)) }
+    ensures is { IfOk result (λ h. hiding sets.new h ≡ gained (set_at sets.old gain) used (hiding sets.old hidden)) }
     ensures known { IfOk result (λ h. IsKnown sets.new h.hide) }
     ensures keeps { Keeps sets.old sets.new }
 {
-    let hide = sets.union(hidden.hide, gain)?;
-    let mut token = hidden.token.clone()?;
+    let Hidden { mut token, hide } = hidden;
+    let hide = sets.union(hide, gain)?;
     token.used = used;
     Ok(Hidden { token, hide })
 }
@@ -133,17 +188,17 @@ fn push_one(tokens: &mut Vec<Hidden>, hidden: Hidden) -> Result<(), AllocError>
 fn gain_all(
     alloc: Global,
     sets: &mut HideSets,
-    tokens: &[Hidden],
+    tokens: Vec<Hidden>,
     gain: Set,
     used: Place,
 ) -> Result<Vec<Hidden>, Memory>
-    requires tokens { AllKnown sets.old tokens.now }
+    requires tokens { AllKnown sets.old tokens.items }
     requires gain { IsKnown sets.old gain }
-    ensures is { IfOk result (λ v. hidings sets.new v.items ≡ map (gained (set_at sets.old gain) used) (hidings sets.old tokens.now)) }
+    ensures is { IfOk result (λ v. hidings sets.new v.items ≡ map (gained (set_at sets.old gain) used) (hidings sets.old tokens.items)) }
     ensures known { IfOk result (λ v. AllKnown sets.new v.items) }
     ensures keeps { Keeps sets.old sets.new }
 {
-    let mut gained = Vec::new(alloc);
+    let mut gained = Vec::with_capacity(alloc, tokens.len())?;
     for hidden in tokens {
         let one = gain_one(sets, hidden, gain, used)?;
         push_one(&mut gained, one)?;
@@ -173,7 +228,7 @@ pub fn substitute(
     let chains = replaced.chains();
     match chains_tokens(alloc, sets, given, expanded, used, space, chains)? {
         Ok((tokens, pending)) => {
-            let gained = gain_all(alloc, sets, tokens.as_slice(), gain, used)?;
+            let gained = gain_all(alloc, sets, tokens, gain, used)?;
             Ok(Ok((gained, pending)))
         }
         Err(fault) => Ok(Err(fault)),

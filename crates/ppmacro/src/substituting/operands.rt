@@ -20,8 +20,8 @@ fn argument(given: &[Vec<Hidden>], index: usize) -> &[Hidden]
     }
 }
 
-// The tokens of an argument's expansion.
-fn expansion(expanded: &[Option<Vec<Hidden>>], index: usize) -> &[Hidden]
+/// The tokens of an argument's expansion.
+pub(crate) fn expansion(expanded: &[Option<Vec<Hidden>>], index: usize) -> &[Hidden]
     ensures { result.now ≡ expanded_at (options_of expanded.now) index }
 {
     match expanded.get(index) {
