@@ -1,5 +1,5 @@
 // What is printed of a list's units.
-ghost use Rattle.std.specs.Prelude.{◌≡◌, ◌++◌, ◌<◌, ◌≤◌, OnOk, IfOk, decimal, length, take, flat_map};
+ghost use Rattle.std.specs.Prelude.{◌≡◌, ◌++◌, ◌∷◌, ◌<◌, ◌≤◌, OnOk, IfOk, decimal, length, take, flat_map};
 ghost use Rattle.cppunits.specs.Output.{escaped, escaped_byte, is_plain as plain, hex_digit, place_text, token_text, kind_letter, item_lines, pragma_token_line, dep_line, name_at, fault_text, last_line, unit_lines, output_text};
 ghost use Rattle.cppunits.specs.declared.output.Mode.TheVariants.{Dump};
 
@@ -96,9 +96,7 @@ fn put_token(text: &mut Vec<u8>, token: &Token) -> Result<(), AllocError>
     ensures { OnOk result (text.new.items ≡ text.old.items ++ token_text token.now) }
 {
     text.push(b' ')?;
-    put_place(text, token.at)?;
-    text.push(b' ')?;
-    put_place(text, token.used)?;
+    put_places(text, token.at, token.used)?;
     let mark = if token.space { b'+' } else { b'-' };
     text.extend_from_slice(&[b' ', letter(token.kind), mark, b' '])?;
     put_escaped(text, token.text.as_bytes())?;
@@ -176,6 +174,20 @@ fn put_place(text: &mut Vec<u8>, place: Place) -> Result<(), AllocError>
     put_decimal(text, u64::from(place.line))?;
     text.push(b':')?;
     put_decimal(text, u64::from(place.col))
+}
+
+/// Puts both places. Most tokens are used where they are spelled, and then the bytes of one place serve twice.
+fn put_places(text: &mut Vec<u8>, at: Place, used: Place) -> Result<(), AllocError>
+    ensures { OnOk result (text.new.items ≡ text.old.items ++ (place_text at ++ (32 ∷ place_text used))) }
+{
+    let start = text.len();
+    put_place(text, at)?;
+    let end = text.len();
+    text.push(b' ')?;
+    if used == at {
+        return text.extend_from_within(start..end);
+    }
+    put_place(text, used)
 }
 
 fn put_decimal(text: &mut Vec<u8>, number: u64) -> Result<(), AllocError>

@@ -204,7 +204,7 @@ fn with_empty_sets(
     ensures is { IfOk result (λ v. hidings sets.now v.items ≡ map plain tokens.now) }
     ensures known { IfOk result (λ v. AllKnown sets.now v.items) }
 {
-    let mut hidden = Vec::new(alloc);
+    let mut hidden = Vec::with_capacity(alloc, tokens.len())?;
     for token in tokens {
         hidden.push(Hidden {
             token: token.clone()?,
@@ -218,7 +218,7 @@ fn with_empty_sets(
 fn without_sets(alloc: Global, hidden: Vec<Hidden>) -> Result<Vec<Token>, AllocError>
     ensures { IfOk result (λ v. v.items ≡ tokens_of hidden.items) }
 {
-    let mut tokens = Vec::new(alloc);
+    let mut tokens = Vec::with_capacity(alloc, hidden.len())?;
     for one in hidden {
         tokens.push(one.token)?;
     }
