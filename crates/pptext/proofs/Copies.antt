@@ -1,16 +1,17 @@
 -- A file's text from an offset on, one step of the reading after another, and the copy made of it.
-use Rattle.std.proofs.Common.{◌≡◌, ℕ, zero, suc, ◌+◌, ◌<◌, ◌≤◌, Bool, true, false, not, ◌==◌, ◌||◌, if◌then◌else◌, List, [], ◌∷◌, ◌++◌, length, take, drop, get_or, refl, sym, ap, ◌∙◌, subst, arith, Option, None, Some, Ok, Err, length-drop, append_assoc, add-zero}
-use Rattle.std.proofs.lemmas.Bool.{false≢true}
-use Rattle.std.proofs.lemmas.List.{drop_more, drop-drop, drop_all, take_all, take_more, get_or-drop, length-map, append-nil}
+use Rattle.std.proofs.Common.{◌≡◌, ℕ, zero, suc, ◌+◌, ◌<◌, ◌≤◌, Bool, true, false, not, ◌==◌, if◌then◌else◌, List, [], ◌∷◌, ◌++◌, length, take, drop, get_or, refl, sym, ap, ◌∙◌, subst, arith, None, Some, Ok, Err, length-drop, append_assoc, length-append, add-zero, zero-add}
+use Rattle.std.proofs.lemmas.List.{drop_more, drop-drop, drop_all, take_all, length-map, append-nil}
 use Rattle.pptext.specs.declared.tokens.Place.{Place}
 use Rattle.pptext.specs.declared.characters.Char.{Char}
 use Rattle.pptext.specs.declared.characters.steps.Step.{Step}
 use Rattle.pptext.specs.declared.characters.steps.Step.TheVariants.{Code, Removed}
-use Rattle.pptext.specs.Clean.{cleaned, codes_of, newline, backslash, placed, place, next_col, without_returns, is_return_at, missing_newline, splices, splice_at_end, trigraphs, unless_at, unmarked}
-use Rattle.pptext.specs.Steps.{open_end, step_of, is_special, PlainFront, return_front, trigraph_front, newline_front, coded, spliced, behind_byte, place_behind}
-use Rattle.pptext.specs.Texts.{supply, logical, start, logical_from, text_from, end_from, Copied, Whole, EndsAt}
+use Rattle.pptext.specs.Clean.{cleaned, codes_of, newline, placed, place, next_col, without_returns, is_return_at, missing_newline, splices, splice_at_end, trigraphs, unless_at, unmarked}
+use Rattle.pptext.specs.Breaks.{IsTable, OwnFront, Stretch, step_len}
+use Rattle.pptext.specs.Steps.{open_end, step_of, behind_byte, place_behind}
+use Rattle.pptext.specs.Texts.{supply, logical, start, logical_from, text_from, end_from, Copied, EndsAt, HasBreaks, Whole}
 use Rattle.pptext.proofs.CleanSteps.{CodeStep, RemovedStep, Outcome, outcome, open_end_drop, and_false, dropped, kept, returns_some}
-use Rattle.pptext.proofs.Offsets.{Here, here, placed_at, placed_codes, placed_tail, take_add}
+use Rattle.pptext.proofs.Breaks.{Begun, begun_all, begun_more, begun_none}
+use Rattle.pptext.proofs.Offsets.{Here, here, placed_at, placed_codes, placed_tail}
 
 -- A character at an offset.
 pub record CodeAt (file : ℕ) (raw : List ℕ) (offset code n : ℕ) : Type 0 where
@@ -89,116 +90,77 @@ copied_removed raw offset done n h lt is more = record {
   ends = λ file. h.ends file ∙ (removed_at file raw offset n lt is).ends more;
 }
 
-pub ends_at : (raw : List ℕ) (offset : ℕ) (done : List ℕ) (n : ℕ) → Copied raw offset done → offset < length raw → step_of (open_end raw) (drop offset raw) ≡ Removed n → offset + n ≡ length raw → EndsAt raw offset
-ends_at raw offset done n h lt is end = record {
-  within = lt;
-  ends = λ file. h.ends file ∙ (removed_at file raw offset n lt is).last end;
-}
-
--- a byte that isn't special is a character
-no_mark : (b : ℕ) (bs : List ℕ) → (b == 63) ≡ false → trigraph_front (b ∷ bs) ≡ 0
-no_mark b [] h = refl
-no_mark b (c ∷ []) h = refl
-no_mark b (c ∷ d ∷ bs) h = rw h refl
-
-no_cr : (b : ℕ) (bs : List ℕ) → (b == 13) ≡ false → return_front (b ∷ bs) ≡ false
-no_cr b [] h = refl
-no_cr b (c ∷ bs) h = rw h refl
-
-neither : (a b c : Bool) → (a || b || c) ≡ false → (a ≡ false) × (b ≡ false) × (c ≡ false)
-neither false false false h = (refl, refl, refl)
-neither true b c h = absurd (false≢true (sym h))
-neither false true c h = absurd (false≢true (sym h))
-neither false false true h = absurd (false≢true (sym h))
-
-plain_step : (s : Bool) (b : ℕ) (bs : List ℕ) → is_special b ≡ false → step_of s (b ∷ bs) ≡ Code b 1
-plain_step s b bs h =
-    let n = neither (b == 92) (b == 63) (b == 13) h in
-    rw (no_cr b bs n.2, no_mark b bs n.1, n.0) refl
-
--- a plain byte, and the rest of the plain front
-pub record PlainAt (raw : List ℕ) (offset n : ℕ) : Type 0 where
+-- bytes of their own up to the next break
+pub record OwnAt (raw : List ℕ) (offset n : ℕ) : Type 0 where
   pub room : offset < length raw
   pub step : step_of (open_end raw) (drop offset raw) ≡ Code (get_or raw offset 0) 1
-  pub more : PlainFront (drop (offset + 1) raw) n
+  pub more : OwnFront (open_end raw) (drop (offset + 1) raw) n
 
-pub plain_at : (raw : List ℕ) (offset n : ℕ) → PlainFront (drop offset raw) (suc n) → PlainAt raw offset n
-plain_at raw offset n front =
+pub own_at : (raw : List ℕ) (offset n : ℕ) → OwnFront (open_end raw) (drop offset raw) (suc n) → OwnAt raw offset n
+own_at raw offset n front =
     let l = length-drop offset raw in
-    let fits = front.0 in
-    let lt : offset < length raw = omega arith in
-    let b = get_or raw offset 0 in
-    let rest = drop (offset + 1) raw in
-    let is : drop offset raw ≡ b ∷ rest = drop_more raw offset 0 lt in
-    let plain : is_special b ≡ false = ap is_special (sym (ap (λ z. get_or z 0 0) is)) ∙ front.1 0 (omega arith) in
     let l2 = length-drop (offset + 1) raw in
+    let fits = front.fits in
+    let lt : offset < length raw = omega arith in
+    let is : drop offset raw ≡ get_or raw offset 0 ∷ drop (offset + 1) raw = drop_more raw offset 0 lt in
     record {
       room = lt;
-      step = ap (step_of (open_end raw)) is ∙ plain_step (open_end raw) b rest plain;
-      more = (omega arith, λ k lk. ap is_special (sym (ap (λ z. get_or z (suc k) 0) is)) ∙ front.1 (suc k) (omega arith));
+      step = front.own 0 (omega arith) ∙ ap (λ z. Code (get_or z 0 0) 1) is;
+      more = record {
+        fits = omega arith;
+        own = λ k lk. sym (ap (λ z. step_of (open_end raw) (drop (suc k) z)) is) ∙ front.own (suc k) (omega arith) ∙ ap (λ z. Code (get_or z (suc k) 0) 1) is;
+      };
     }
 
-pub plain_from : (n : ℕ) (file : ℕ) (raw : List ℕ) (offset : ℕ) → PlainFront (drop offset raw) n → (drop n (text_from file raw offset) ≡ text_from file raw (offset + n)) × (end_from file raw offset ≡ end_from file raw (offset + n))
-plain_from zero file raw offset front = (ap (text_from file raw) (sym (add-zero offset)), ap (end_from file raw) (sym (add-zero offset)))
-plain_from (suc n) file raw offset front =
-    let one = plain_at raw offset n front in
+pub own_from : (n : ℕ) (file : ℕ) (raw : List ℕ) (offset : ℕ) → OwnFront (open_end raw) (drop offset raw) n → (drop n (text_from file raw offset) ≡ text_from file raw (offset + n)) × (end_from file raw offset ≡ end_from file raw (offset + n))
+own_from zero file raw offset front = (ap (text_from file raw) (sym (add-zero offset)), ap (end_from file raw) (sym (add-zero offset)))
+own_from (suc n) file raw offset front =
+    let one = own_at raw offset n front in
     let c = code_at file raw offset (get_or raw offset 0) 1 one.room one.step in
-    let more = plain_from n file raw (offset + 1) one.more in
+    let more = own_from n file raw (offset + 1) one.more in
     let e : offset + 1 + n ≡ offset + suc n = omega arith in
     (ap (drop (suc n)) c.text ∙ more.0 ∙ ap (text_from file raw) e, c.ends ∙ more.1 ∙ ap (end_from file raw) e)
 
-pub copied_plain : (n : ℕ) (raw : List ℕ) (offset : ℕ) (done : List ℕ) → Copied raw offset done → PlainFront (drop offset raw) n → Copied raw (offset + n) (done ++ take n (drop offset raw))
-copied_plain zero raw offset done h front = rw (add-zero, append-nil) h
-copied_plain (suc n) raw offset done h front =
-    let one = plain_at raw offset n front in
+pub copied_own : (n : ℕ) (raw : List ℕ) (offset : ℕ) (done : List ℕ) → Copied raw offset done → OwnFront (open_end raw) (drop offset raw) n → Copied raw (offset + n) (done ++ take n (drop offset raw))
+copied_own zero raw offset done h front = rw (add-zero, append-nil) h
+copied_own (suc n) raw offset done h front =
+    let one = own_at raw offset n front in
     let b = get_or raw offset 0 in
     let rest = drop (offset + 1) raw in
     let e : offset + 1 + n ≡ offset + suc n = omega arith in
     subst (λ k. Copied raw k (done ++ take (suc n) (drop offset raw))) e
-    (subst (λ z. Copied raw (offset + 1 + n) z) (append_assoc done (b ∷ []) (take n rest) ∙ ap (λ z. done ++ take (suc n) z) (sym (drop_more raw offset 0 one.room))) (copied_plain n raw (offset + 1) (done ++ b ∷ []) (copied_code raw offset done b 1 h one.room one.step) one.more))
+    (subst (λ z. Copied raw (offset + 1 + n) z) (append_assoc done (b ∷ []) (take n rest) ∙ ap (λ z. done ++ take (suc n) z) (sym (drop_more raw offset 0 one.room))) (copied_own n raw (offset + 1) (done ++ b ∷ []) (copied_code raw offset done b 1 h one.room one.step) one.more))
 
--- the same of the file's own bytes
-pub own_plain : (n : ℕ) (raw : List ℕ) (offset : ℕ) → Copied raw offset (take offset raw) → PlainFront (drop offset raw) n → Copied raw (offset + n) (take (offset + n) raw)
-own_plain n raw offset h front = subst (Copied raw (offset + n)) (sym (take_add offset n raw)) (copied_plain n raw offset (take offset raw) h front)
+-- behind the last byte ends no splice
+pub no_splice : (file : ℕ) (raw : List ℕ) → end_from file raw (length raw) ≡ None
+no_splice file raw = ap splice_at_end (at_end file raw) ∙ elim (open_end raw) as (λ t. splice_at_end (supply t (end_place file raw)) ≡ None) [ true ↦ refl | false ↦ refl ]
 
-one_byte : (s : Bool) (bs : List ℕ) (code : ℕ) → step_of s bs ≡ Code code 1 → code ≡ get_or bs 0 0
-one_byte s bs code h = first (return_front bs) h
+-- where the file's end is no splice, bytes stand behind what is removed
+pub removed_inside : (file : ℕ) (raw : List ℕ) (offset n : ℕ) → offset < length raw → step_of (open_end raw) (drop offset raw) ≡ Removed n → end_from file raw offset ≡ None → offset + n < length raw
+removed_inside file raw offset n lt is ends = inside (removed_at file raw offset n lt is)
   where
-    codes : (a b m n : ℕ) → Code a m ≡ Code b n → (a ≡ b) × (m ≡ n)
-    codes a b m n e = (cc, cc)
+    some_none : (p : Place) → Some p ≡ None → ⊥
+    some_none p e = cc
 
-    none : (found : Option ℕ) (a m : ℕ) → spliced found a m ≡ Code code 1 → (a ≡ code) × (m ≡ 1)
-    none None a m e = codes a code m 1 e
-    none (Some k) a m e = cc
-
-    third : (t : Bool) (a m : ℕ) → (if t then spliced (newline_front s (drop m bs)) a m else Code a m) ≡ Code code 1 → (a ≡ code) × (m ≡ 1)
-    third true a m e = none (newline_front s (drop m bs)) a m e
-    third false a m e = codes a code m 1 e
-
-    second : (t : Bool) → (if t then coded s bs (get_or bs 0 0) 1 else coded s bs (trigraph_front bs) 3) ≡ Code code 1 → code ≡ get_or bs 0 0
-    second true e = sym (third (get_or bs 0 0 == backslash) (get_or bs 0 0) 1 e).0
-    second false e = absurd (omega (arith, (third (trigraph_front bs == backslash) (trigraph_front bs) 3 e).1))
-
-    first : (t : Bool) → (if t then Removed 1 else (if trigraph_front bs == 0 then coded s bs (get_or bs 0 0) 1 else coded s bs (trigraph_front bs) 3)) ≡ Code code 1 → code ≡ get_or bs 0 0
-    first true e = cc
-    first false e = second (trigraph_front bs == 0) e
-
-pub own_code : (raw : List ℕ) (offset code : ℕ) → Copied raw offset (take offset raw) → offset < length raw → step_of (open_end raw) (drop offset raw) ≡ Code code 1 → Copied raw (offset + 1) (take (offset + 1) raw)
-own_code raw offset code h lt is =
-    let b : code ≡ get_or raw offset 0 = one_byte (open_end raw) (drop offset raw) code is ∙ get_or-drop offset raw 0 0 ∙ ap (λ k. get_or raw k 0) (add-zero offset) in
-    subst (Copied raw (offset + 1)) (ap (λ c. take offset raw ++ c ∷ []) b ∙ sym (take_more raw offset 0 lt)) (copied_code raw offset (take offset raw) code 1 h lt is)
+    inside : RemovedAt file raw offset n → offset + n < length raw
+    inside r =
+        let f = r.fits in
+        let no_end : offset + n ≡ length raw → ⊥ = λ e. some_none (place_behind (start file) (take offset raw)) (sym (r.last e) ∙ ends) in
+        omega (arith, no_end)
 
 -- The copy is whole at the end of the file, with the new-line that is missing.
-pub whole_closed : (raw : List ℕ) (done : List ℕ) → Copied raw (length raw) done → open_end raw ≡ false → Whole raw done
-whole_closed raw done h o = record {
-  codes = λ file. sym (h.codes file ∙ ap (λ z. done ++ codes_of (splices z)) (at_end file raw ∙ ap (λ t. supply t (end_place file raw)) o) ∙ append-nil done);
-  ends = λ file. h.ends file ∙ ap splice_at_end (at_end file raw ∙ ap (λ t. supply t (end_place file raw)) o);
+pub whole_closed : (raw codes breaks : List ℕ) → Copied raw (length raw) codes → IsTable (open_end raw) raw breaks → open_end raw ≡ false → Whole raw codes breaks
+whole_closed raw codes breaks h table o = record {
+  codes = λ file. sym (h.codes file ∙ ap (λ z. codes ++ codes_of (splices z)) (at_end file raw ∙ ap (λ t. supply t (end_place file raw)) o) ∙ append-nil codes);
+  ends = λ file. h.ends file ∙ no_splice file raw;
+  table = table;
 }
 
-pub whole_open : (raw : List ℕ) (done : List ℕ) → Copied raw (length raw) done → open_end raw ≡ true → Whole raw (done ++ 10 ∷ [])
-whole_open raw done h o = record {
-  codes = λ file. sym (h.codes file ∙ ap (λ z. done ++ codes_of (splices z)) (at_end file raw ∙ ap (λ t. supply t (end_place file raw)) o));
-  ends = λ file. h.ends file ∙ ap splice_at_end (at_end file raw ∙ ap (λ t. supply t (end_place file raw)) o);
+pub whole_open : (raw codes breaks : List ℕ) → Copied raw (length raw) codes → IsTable (open_end raw) raw breaks → open_end raw ≡ true → Whole raw (codes ++ 10 ∷ []) breaks
+whole_open raw codes breaks h table o = record {
+  codes = λ file. sym (h.codes file ∙ ap (λ z. codes ++ codes_of (splices z)) (at_end file raw ∙ ap (λ t. supply t (end_place file raw)) o));
+  ends = λ file. h.ends file ∙ no_splice file raw;
+  table = table;
 }
 
 -- The missing new-line stands behind the last byte.
@@ -237,8 +199,113 @@ clean_ok file bytes raw same h = clean_is file bytes ∙ ap (λ z. unless_at (en
 pub clean_err : (file : ℕ) (bytes raw : List ℕ) (p : Place) → raw ≡ unmarked bytes → end_from file raw 0 ≡ Some p → cleaned file bytes ≡ Err p
 clean_err file bytes raw p same h = clean_is file bytes ∙ ap (λ z. unless_at (end_from file z 0) (text_from file z 0)) (sym same) ∙ ap (λ z. unless_at z (text_from file raw 0)) h
 
--- the file's own bytes, where none is changed and the last new-line is there
-pub own_whole : (raw : List ℕ) (n : ℕ) → Copied raw n (take n raw) → n ≡ length raw → open_end raw ≡ false → Whole raw raw
-own_whole raw n copied e closed =
-    let all : Copied raw (length raw) (take (length raw) raw) = subst (λ k. Copied raw k (take k raw)) e copied in
-    whole_closed raw raw (subst (Copied raw (length raw)) (take_all (length raw) raw (omega arith)) all) closed
+-- What is known once so many breaks are counted.
+pub record Counted (raw : List ℕ) (start count : ℕ) : Type 0 where
+  pub breaks : List ℕ
+  pub length : length breaks ≡ count
+  pub below : count ≤ start
+  pub begun : Begun (open_end raw) raw start breaks
+  pub ends : (file : ℕ) → end_from file raw 0 ≡ end_from file raw start
+
+pub counted_none : (raw : List ℕ) → Counted raw 0 0
+counted_none raw = record { breaks = []; length = refl; below = omega arith; begun = begun_none (open_end raw) raw; ends = λ file. refl }
+
+-- the table of breaks, and the end, where bytes stand behind a break
+pub counted_more : (raw : List ℕ) (start count n : ℕ) (step : Step) → Counted raw start count → n < length (drop start raw) → Stretch (open_end raw) (drop start raw) n → step_of (open_end raw) (drop (start + n) raw) ≡ step → 0 < step_len step → start + n + step_len step ≤ length raw → ((file : ℕ) → end_from file raw (start + n) ≡ end_from file raw (start + n + step_len step)) → Counted raw (start + n + step_len step) (count + 1)
+counted_more raw start count n step h room stretch is some fits ends = record {
+  breaks = h.breaks ++ n ∷ [];
+  length = omega (arith, length-append h.breaks (n ∷ []), h.length);
+  below = omega (arith, h.below);
+  begun = begun_more (open_end raw) raw start n (step_len step) h.breaks h.begun room stretch (ap step_len is) fits;
+  ends = λ file. h.ends file ∙ (own_from n file raw start stretch.front).1 ∙ ends file;
+}
+
+pub counted_code : (raw : List ℕ) (start count n code len : ℕ) → Counted raw start count → n < length (drop start raw) → Stretch (open_end raw) (drop start raw) n → step_of (open_end raw) (drop (start + n) raw) ≡ Code code len → Counted raw (start + n + len) (count + 1)
+counted_code raw start count n code len h room stretch is =
+    let l = length-drop start raw in
+    let here : start + n < length raw = omega arith in
+    let one = code_at 0 raw (start + n) code len here is in
+    counted_more raw start count n (Code code len) h room stretch is one.some one.fits (λ file. (code_at file raw (start + n) code len here is).ends)
+
+pub counted_removed : (raw : List ℕ) (start count n len : ℕ) → Counted raw start count → n < length (drop start raw) → Stretch (open_end raw) (drop start raw) n → step_of (open_end raw) (drop (start + n) raw) ≡ Removed len → (start + n + len ≡ length raw → ⊥) → Counted raw (start + n + len) (count + 1)
+counted_removed raw start count n len h room stretch is no_end =
+    let l = length-drop start raw in
+    let here : start + n < length raw = omega arith in
+    let one = removed_at 0 raw (start + n) len here is in
+    let more : start + n + len < length raw = omega (arith, one.fits, no_end) in
+    counted_more raw start count n (Removed len) h room stretch is one.some one.fits (λ file. (removed_at file raw (start + n) len here is).ends more)
+
+pub counted_last : (raw : List ℕ) (start count n len : ℕ) → Counted raw start count → n < length (drop start raw) → Stretch (open_end raw) (drop start raw) n → step_of (open_end raw) (drop (start + n) raw) ≡ Removed len → start + n + len ≡ length raw → EndsAt raw (start + n)
+counted_last raw start count n len h room stretch is end =
+    let l = length-drop start raw in
+    let here : start + n < length raw = omega arith in
+    record {
+      within = here;
+      ends = λ file. h.ends file ∙ (own_from n file raw start stretch.front).1 ∙ (removed_at file raw (start + n) len here is).last end;
+    }
+
+pub counted_all : (raw : List ℕ) (start count : ℕ) → Counted raw start count → Stretch (open_end raw) (drop start raw) (length (drop start raw)) → HasBreaks raw count
+counted_all raw start count h last =
+    let l = length-drop start raw in
+    let fits = h.begun.fits in
+    let end : start + length (drop start raw) ≡ length raw = omega arith in
+    record {
+      ends = λ file. h.ends file ∙ (own_from (length (drop start raw)) file raw start last.front).1 ∙ ap (end_from file raw) end ∙ no_splice file raw;
+      breaks = h.breaks;
+      table = begun_all (open_end raw) raw start h.breaks h.begun last;
+      length = h.length;
+    }
+
+-- nothing is copied yet
+pub copied_none : (raw : List ℕ) → Copied raw 0 []
+copied_none raw = record { codes = λ file. refl; ends = λ file. refl }
+
+-- the copy and the table behind a stretch and the break there
+pub record Copies (raw : List ℕ) (start : ℕ) (codes breaks : List ℕ) : Type 0 where
+  pub copied : Copied raw start codes
+  pub begun : Begun (open_end raw) raw start breaks
+
+pub copies_none : (raw : List ℕ) → Copies raw 0 [] []
+copies_none raw = record { copied = copied_none raw; begun = begun_none (open_end raw) raw }
+
+pub copies_code : (raw : List ℕ) (start n code len : ℕ) (codes breaks : List ℕ) → Copies raw start codes breaks → n < length (drop start raw) → Stretch (open_end raw) (drop start raw) n → step_of (open_end raw) (drop (start + n) raw) ≡ Code code len → Copies raw (start + n + len) (codes ++ take n (drop start raw) ++ code ∷ []) (breaks ++ n ∷ [])
+copies_code raw start n code len codes breaks h room stretch is =
+    let l = length-drop start raw in
+    let here : start + n < length raw = omega arith in
+    let at = copied_own n raw start codes h.copied stretch.front in
+    record {
+      copied = copied_code raw (start + n) (codes ++ take n (drop start raw)) code len at here is;
+      begun = begun_more (open_end raw) raw start n len breaks h.begun room stretch (ap step_len is) (code_at 0 raw (start + n) code len here is).fits;
+    }
+
+pub copies_removed : (raw : List ℕ) (start n len : ℕ) (codes breaks : List ℕ) → Copies raw start codes breaks → end_from 0 raw 0 ≡ None → n < length (drop start raw) → Stretch (open_end raw) (drop start raw) n → step_of (open_end raw) (drop (start + n) raw) ≡ Removed len → Copies raw (start + n + len) (codes ++ take n (drop start raw)) (breaks ++ n ∷ [])
+copies_removed raw start n len codes breaks h ends room stretch is =
+    let l = length-drop start raw in
+    let here : start + n < length raw = omega arith in
+    let at = copied_own n raw start codes h.copied stretch.front in
+    let more = removed_inside 0 raw (start + n) len here is (sym (at.ends 0) ∙ ends) in
+    record {
+      copied = copied_removed raw (start + n) (codes ++ take n (drop start raw)) len at here is more;
+      begun = begun_more (open_end raw) raw start n len breaks h.begun room stretch (ap step_len is) (removed_at 0 raw (start + n) len here is).fits;
+    }
+
+-- the copy at the end of the file, and the table
+pub copies_all : (raw : List ℕ) (start : ℕ) (codes breaks : List ℕ) → Copies raw start codes breaks → Stretch (open_end raw) (drop start raw) (length (drop start raw)) → Copied raw (length raw) (codes ++ drop start raw) × IsTable (open_end raw) raw breaks
+copies_all raw start codes breaks h last =
+    let l = length-drop start raw in
+    let fits = h.begun.fits in
+    let end : start + length (drop start raw) ≡ length raw = omega arith in
+    let all = take_all (length (drop start raw)) (drop start raw) (omega arith) in (
+      subst (λ z. Copied raw (length raw) (codes ++ z)) all (subst (λ k. Copied raw k (codes ++ take (length (drop start raw)) (drop start raw))) end (copied_own (length (drop start raw)) raw start codes h.copied last.front)),
+      begun_all (open_end raw) raw start breaks h.begun last,
+    )
+
+-- the file's own bytes, where no break is and the last new-line is there
+pub own_whole : (raw : List ℕ) → HasBreaks raw 0 → open_end raw ≡ false → Whole raw raw []
+own_whole raw h closed = by h.breaks h.table h.length
+  where
+    by : (breaks : List ℕ) → IsTable (open_end raw) raw breaks → length breaks ≡ 0 → Whole raw raw []
+    by (n ∷ ns) table none = absurd (omega arith)
+    by [] table none =
+        let all : Copied raw (length raw) (take (length raw) raw) = subst (λ k. Copied raw k (take (length raw) raw)) (zero-add (length raw)) (copied_own (length raw) raw 0 [] (copied_none raw) table.front) in
+        whole_closed raw raw [] (subst (Copied raw (length raw)) (take_all (length raw) raw (omega arith)) all) table closed

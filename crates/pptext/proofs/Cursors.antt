@@ -1,15 +1,17 @@
 -- A cursor over a file's bytes, which stands in front of one character after another.
-use Rattle.std.proofs.Common.{◌≡◌, ℕ, suc, ◌+◌, ◌-◌, ◌<◌, ◌≤◌, Bool, true, false, List, [], ◌∷◌, length, take, drop, get_or, sym, ap, ◌∙◌, arith, None, Some, length-drop, add-zero}
+use Rattle.std.proofs.Common.{◌≡◌, ℕ, suc, ◌+◌, ◌-◌, ◌<◌, ◌≤◌, Bool, true, false, List, [], ◌∷◌, length, take, drop, get_or, sym, ap, ◌∙◌, arith, None, length-drop, add-zero, zero-add, refl, subst}
 use Rattle.std.proofs.lemmas.List.{drop-drop, get_or-drop, take_all, length-take-le}
 use Rattle.pptext.specs.declared.tokens.Place.{Place}
 use Rattle.pptext.specs.declared.characters.Char.{Char}
 use Rattle.pptext.specs.declared.characters.steps.Step.TheVariants.{Code, Removed}
 use Rattle.pptext.specs.declared.texts.Cursor.{Cursor}
 use Rattle.pptext.specs.Clean.{splices}
-use Rattle.pptext.specs.Steps.{PlainFront, is_special, open_end, step_of, place_behind}
-use Rattle.pptext.specs.Texts.{supply, start, text_from, Stands}
+use Rattle.pptext.specs.Breaks.{IsTable, Stretch, behind_break, step_len}
+use Rattle.pptext.specs.Steps.{open_end, step_of, place_behind}
+use Rattle.pptext.specs.Texts.{supply, start, end_from, text_from, Stands}
 use Rattle.pptext.proofs.Offsets.{behind_append, behind_bounds, take_add}
-use Rattle.pptext.proofs.Copies.{RemovedAt, code_at, removed_at, at_end, plain_at, plain_from}
+use Rattle.pptext.proofs.Breaks.{behind_at, own_less, stretch_rest, table_next}
+use Rattle.pptext.proofs.Copies.{code_at, removed_at, removed_inside, at_end, own_at, own_from}
 
 -- the bounds of a cursor's place
 pub record Bounds (file : ℕ) (c : Cursor) : Type 0 where
@@ -17,8 +19,8 @@ pub record Bounds (file : ℕ) (c : Cursor) : Type 0 where
   pub line : c.at.line ≤ c.offset + 1
   pub col : c.at.col ≤ c.offset + 1
 
-pub bounds : (file : ℕ) (raw : List ℕ) (c : Cursor) → Stands file raw c → Bounds file c
-bounds file raw c s =
+pub bounds : (file : ℕ) (raw breaks : List ℕ) (c : Cursor) → Stands file raw breaks c → Bounds file c
+bounds file raw breaks c s =
     let b = behind_bounds (take c.offset raw) (start file) (omega arith) in
     let l = length-take-le c.offset raw s.within in
     let f = ap (λ (p : Place). p.file) s.at in
@@ -26,97 +28,116 @@ bounds file raw c s =
     let n = ap (λ (p : Place). p.col) s.at in
     record { same_file = f ∙ b.file; line = omega (arith, b.line); col = omega (arith, b.col) }
 
-abbrev pub skipped : List ℕ → Cursor → ℕ → ℕ → Cursor
-skipped raw c n p = record { passed = c.passed; offset = c.offset + n; plain = p; at = place_behind c.at (take n (drop c.offset raw)) }
+moved : (file : ℕ) (raw breaks : List ℕ) (c : Cursor) (n : ℕ) → Stands file raw breaks c → place_behind c.at (take n (drop c.offset raw)) ≡ place_behind (start file) (take (c.offset + n) raw)
+moved file raw breaks c n s = ap (λ p. place_behind p (take n (drop c.offset raw))) s.at ∙ sym (behind_append (take c.offset raw) (take n (drop c.offset raw)) (start file)) ∙ ap (place_behind (start file)) (sym (take_add c.offset n raw))
 
-moved : (file : ℕ) (raw : List ℕ) (c : Cursor) (n : ℕ) → Stands file raw c → place_behind c.at (take n (drop c.offset raw)) ≡ place_behind (start file) (take (c.offset + n) raw)
-moved file raw c n s = ap (λ p. place_behind p (take n (drop c.offset raw))) s.at ∙ sym (behind_append (take c.offset raw) (take n (drop c.offset raw)) (start file)) ∙ ap (place_behind (start file)) (sym (take_add c.offset n raw))
+-- a cursor at a break, whose bytes it passes
+abbrev pub behind : List ℕ → List ℕ → Cursor → ℕ → ℕ → Cursor
+behind raw breaks c passed n = record { passed = passed; offset = c.offset + n; plain = get_or breaks c.next (length raw - (c.offset + n)); next = c.next + 1; at = place_behind c.at (take n (drop c.offset raw)) }
 
-some_none : (p : Place) → Some p ≡ None → ⊥
-some_none p e = cc
+-- the stretch behind a break, and what follows in the table
+pub record Onward (raw breaks : List ℕ) (offset next n : ℕ) : Type 0 where
+  pub stretch : Stretch (open_end raw) (drop (offset + n) raw) (get_or breaks next (length raw - (offset + n)))
+  pub table : IsTable (open_end raw) (behind_break (open_end raw) (drop (offset + n + get_or breaks next (length raw - (offset + n))) raw)) (drop (next + 1) breaks)
 
-pub skip_removed : (file : ℕ) (raw : List ℕ) (c : Cursor) (n p : ℕ) → Stands file raw c → c.offset < length raw → step_of (open_end raw) (drop c.offset raw) ≡ Removed n → PlainFront (drop (c.offset + n) raw) p → (c.offset < c.offset + n) × (c.offset + n ≤ length raw) × Stands file raw (skipped raw c n p)
-skip_removed file raw c n p s lt is plain =
+abbrev Reads : List ℕ → List ℕ → ℕ → ℕ → ℕ → Type 0
+Reads raw breaks offset next last = Stretch (open_end raw) (drop offset raw) (get_or breaks next last) × IsTable (open_end raw) (behind_break (open_end raw) (drop (get_or breaks next last) (drop offset raw))) (drop (next + 1) breaks)
+
+onward : (file : ℕ) (raw breaks : List ℕ) (c : Cursor) (n : ℕ) → Stands file raw breaks c → c.plain ≡ 0 → step_len (step_of (open_end raw) (drop c.offset raw)) ≡ n → Onward raw breaks c.offset c.next n
+onward file raw breaks c n s none is = record { stretch = read.0; table = subst (λ z. IsTable (open_end raw) (behind_break (open_end raw) z) (drop (c.next + 1) breaks)) (drop-drop _ (c.offset + n) raw) read.1 }
+  where
+    here : drop (c.offset + c.plain) raw ≡ drop c.offset raw
+    here = ap (λ k. drop k raw) (omega arith)
+
+    rest : IsTable (open_end raw) (drop (c.offset + n) raw) (drop c.next breaks)
+    rest = subst (λ z. IsTable (open_end raw) z (drop c.next breaks)) (ap (behind_break (open_end raw)) here ∙ behind_at (open_end raw) raw c.offset n is) s.table
+
+    read : Reads raw breaks (c.offset + n) c.next (length raw - (c.offset + n))
+    read = subst (Reads raw breaks (c.offset + n) c.next) (length-drop (c.offset + n) raw) (table_next (open_end raw) (drop (c.offset + n) raw) breaks c.next rest)
+
+pub skip_removed : (file : ℕ) (raw breaks : List ℕ) (c : Cursor) (n : ℕ) → Stands file raw breaks c → c.plain ≡ 0 → c.offset < length raw → step_of (open_end raw) (drop c.offset raw) ≡ Removed n → (c.offset < c.offset + n) × (c.offset + n ≤ length raw) × Stands file raw breaks (behind raw breaks c c.passed n)
+skip_removed file raw breaks c n s none lt is =
     let r = removed_at file raw c.offset n lt is in
-    let inner : c.offset + n < length raw = inside r (λ e. some_none (place_behind (start file) (take c.offset raw)) (sym (r.last e) ∙ s.ends)) in (
+    let inner = removed_inside file raw c.offset n lt is s.ends in
+    let o = onward file raw breaks c n s none (ap step_len is) in
+    let before = s.next in (
       omega (arith, r.some),
       r.fits,
       record {
         within = r.fits;
-        at = moved file raw c n s;
+        at = moved file raw breaks c n s;
         rest = s.rest ∙ r.text inner;
         ends = sym (r.ends inner) ∙ s.ends;
-        plain = plain;
+        stretch = o.stretch;
+        next = omega (arith, r.some);
+        table = o.table;
       },
     )
-  where
-    inside : RemovedAt file raw c.offset n → (c.offset + n ≡ length raw → ⊥) → c.offset + n < length raw
-    inside r no_end =
-        let f = r.fits in
-        omega (arith, no_end)
 
-pub pass_code : (file : ℕ) (raw : List ℕ) (c : Cursor) (code n p : ℕ) → Stands file raw c → c.offset < length raw → step_of (open_end raw) (drop c.offset raw) ≡ Code code n → PlainFront (drop (c.offset + n) raw) p → (c.offset < c.offset + n) × (c.offset + n ≤ length raw) × Stands file raw (record { passed = c.passed + 1; offset = c.offset + n; plain = p; at = place_behind c.at (take n (drop c.offset raw)) })
-pass_code file raw c code n p s lt is plain =
-    let r = code_at file raw c.offset code n lt is in (
+pub pass_code : (file : ℕ) (raw breaks : List ℕ) (c : Cursor) (code n : ℕ) → Stands file raw breaks c → c.plain ≡ 0 → c.offset < length raw → step_of (open_end raw) (drop c.offset raw) ≡ Code code n → (c.offset < c.offset + n) × (c.offset + n ≤ length raw) × Stands file raw breaks (behind raw breaks c (c.passed + 1) n)
+pass_code file raw breaks c code n s none lt is =
+    let r = code_at file raw c.offset code n lt is in
+    let o = onward file raw breaks c n s none (ap step_len is) in
+    let before = s.next in (
       omega (arith, r.some),
       r.fits,
       record {
         within = r.fits;
-        at = moved file raw c n s;
+        at = moved file raw breaks c n s;
         rest = sym (drop-drop 1 c.passed (text_from file raw 0)) ∙ ap (drop 1) (s.rest ∙ r.text);
         ends = sym r.ends ∙ s.ends;
-        plain = plain;
+        stretch = o.stretch;
+        next = omega (arith, r.some);
+        table = o.table;
       },
     )
 
--- a plain front is plain up to each of its bytes, and from there on
-plain_less : (bs : List ℕ) (n m : ℕ) → n ≤ m → PlainFront bs m → PlainFront bs n
-plain_less bs n m le front = (omega (arith, front.0), λ k lt. front.1 k (omega arith))
-
-plain_rest : (raw : List ℕ) (o n m : ℕ) → n ≤ m → PlainFront (drop o raw) m → PlainFront (drop (o + n) raw) (m - n)
-plain_rest raw o n m le front =
-    let l = length-drop o raw in
-    let l2 = length-drop (o + n) raw in
-    let fits = front.0 in
-    (omega arith, λ k lt. ap is_special (get_or-drop (o + n) raw k 0 ∙ ap (λ z. get_or raw z 0) (omega arith) ∙ sym (get_or-drop o raw (n + k) 0)) ∙ front.1 (n + k) (omega arith))
-
-pub pass_plain : (file : ℕ) (raw : List ℕ) (c : Cursor) (n : ℕ) → Stands file raw c → n ≤ c.plain → (c.offset + n ≤ length raw) × Stands file raw (record { passed = c.passed + n; offset = c.offset + n; plain = c.plain - n; at = place_behind c.at (take n (drop c.offset raw)) })
-pass_plain file raw c n s le =
-    let front = plain_less (drop c.offset raw) n c.plain le s.plain in
-    let p = plain_from n file raw c.offset front in
+pub pass_plain : (file : ℕ) (raw breaks : List ℕ) (c : Cursor) (n : ℕ) → Stands file raw breaks c → n ≤ c.plain → (c.offset + n ≤ length raw) × Stands file raw breaks (record { passed = c.passed + n; offset = c.offset + n; plain = c.plain - n; next = c.next; at = place_behind c.at (take n (drop c.offset raw)) })
+pass_plain file raw breaks c n s le =
+    let front = own_less (open_end raw) (drop c.offset raw) n c.plain le s.stretch.front in
+    let p = own_from n file raw c.offset front in
     let l = length-drop c.offset raw in
     let w = s.within in
-    let fits : c.offset + n ≤ length raw = omega (arith, front.0) in (
+    let before = s.next in
+    let fits : c.offset + n ≤ length raw = omega (arith, front.fits) in
+    let same : c.offset + c.plain ≡ c.offset + n + (c.plain - n) = omega arith in (
       fits,
       record {
         within = fits;
-        at = moved file raw c n s;
+        at = moved file raw breaks c n s;
         rest = sym (drop-drop n c.passed (text_from file raw 0)) ∙ ap (drop n) s.rest ∙ p.0;
         ends = sym p.1 ∙ s.ends;
-        plain = plain_rest raw c.offset n c.plain le s.plain;
+        stretch = stretch_rest (open_end raw) raw c.offset n c.plain le s.stretch;
+        next = omega arith;
+        table = subst (λ k. IsTable (open_end raw) (behind_break (open_end raw) (drop k raw)) (drop c.next breaks)) same s.table;
       },
     )
+
+pub stands_first : (file : ℕ) (raw breaks : List ℕ) → end_from file raw 0 ≡ None → IsTable (open_end raw) raw breaks → Stands file raw breaks (record { passed = 0; offset = 0; plain = get_or breaks 0 (length raw); next = 1; at = start file })
+stands_first file raw breaks ends table =
+    let read = table_next (open_end raw) raw breaks 0 table in
+    record { within = omega arith; at = refl; rest = refl; ends = ends; stretch = read.0; next = omega arith; table = rw zero-add read.1 }
 
 head_at : (cs : List Char) (n : ℕ) (d x : Char) (xs : List Char) → drop n cs ≡ x ∷ xs → get_or cs n d ≡ x
 head_at cs n d x xs e = sym (get_or-drop n cs 0 d ∙ ap (λ k. get_or cs k d) (add-zero n)) ∙ ap (λ z. get_or z 0 d) e
 
-pub stands_at_code : (file : ℕ) (raw : List ℕ) (c : Cursor) (code n : ℕ) (d : Char) → Stands file raw c → c.offset < length raw → step_of (open_end raw) (drop c.offset raw) ≡ Code code n → c.at ≡ (get_or (text_from file raw 0) c.passed d).at
-stands_at_code file raw c code n d s lt is =
+pub stands_at_code : (file : ℕ) (raw breaks : List ℕ) (c : Cursor) (code n : ℕ) (d : Char) → Stands file raw breaks c → c.offset < length raw → step_of (open_end raw) (drop c.offset raw) ≡ Code code n → c.at ≡ (get_or (text_from file raw 0) c.passed d).at
+stands_at_code file raw breaks c code n d s lt is =
     let r = code_at file raw c.offset code n lt is in
     s.at ∙ sym (ap (λ (x : Char). x.at) (head_at (text_from file raw 0) c.passed d _ _ (s.rest ∙ r.text)))
 
 -- a plain byte is the character that is sought
-pub stands_at_plain : (file : ℕ) (raw : List ℕ) (c : Cursor) (d : Char) → Stands file raw c → 0 < c.plain → c.at ≡ (get_or (text_from file raw 0) c.passed d).at
-stands_at_plain file raw c d s some =
-    let one = plain_at raw c.offset (c.plain - 1) (plain_less (drop c.offset raw) (suc (c.plain - 1)) c.plain (omega arith) s.plain) in
-    stands_at_code file raw c (get_or raw c.offset 0) 1 d s one.room one.step
+pub stands_at_plain : (file : ℕ) (raw breaks : List ℕ) (c : Cursor) (d : Char) → Stands file raw breaks c → 0 < c.plain → c.at ≡ (get_or (text_from file raw 0) c.passed d).at
+stands_at_plain file raw breaks c d s some =
+    let one = own_at raw c.offset (c.plain - 1) (own_less (open_end raw) (drop c.offset raw) (suc (c.plain - 1)) c.plain (omega arith) s.stretch.front) in
+    stands_at_code file raw breaks c (get_or raw c.offset 0) 1 d s one.room one.step
 
 -- At the end stands the supplied new-line.
 abbrev end_text : ℕ → List ℕ → Bool → List Char
 end_text file raw t = splices (supply t (place_behind (start file) raw))
 
-pub stands_at_end : (file : ℕ) (raw : List ℕ) (c : Cursor) (to : ℕ) → Stands file raw c → length raw ≤ c.offset → c.passed ≤ to → to < length (text_from file raw 0) → (c.passed ≡ to) × ((d : Char) → c.at ≡ (get_or (text_from file raw 0) to d).at)
-stands_at_end file raw c to s past forward within =
+pub stands_at_end : (file : ℕ) (raw breaks : List ℕ) (c : Cursor) (to : ℕ) → Stands file raw breaks c → length raw ≤ c.offset → c.passed ≤ to → to < length (text_from file raw 0) → (c.passed ≡ to) × ((d : Char) → c.at ≡ (get_or (text_from file raw 0) to d).at)
+stands_at_end file raw breaks c to s past forward within =
     let w = s.within in
     let e : c.offset ≡ length raw = omega arith in
     let rest : drop c.passed (text_from file raw 0) ≡ end_text file raw (open_end raw) = s.rest ∙ ap (text_from file raw) e ∙ ap splices (at_end file raw) in

@@ -4,6 +4,7 @@ pub mod Passes
 pub mod Columns
 pub mod CleanSteps
 pub mod Offsets
+pub mod Breaks
 pub mod Copies
 pub mod Cursors
 pub mod CutSteps

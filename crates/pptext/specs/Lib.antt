@@ -1,6 +1,7 @@
 pub mod Tokens
 pub mod Clean
 pub mod Steps
+pub mod Breaks
 pub mod Texts
 pub mod Languages
 pub mod Spellings

@@ -1,10 +1,12 @@
 -- A cleaned text that is read from the front.
-use Rattle.std.specs.Prelude.{◌≡◌, ◌≤◌, ◌<◌, ℕ, List, [], ◌∷◌, ◌++◌, Bool, Option, None, Some, Result, Ok, Err, length, take, drop, if◌then◌else◌}
+use Rattle.std.specs.Prelude.{◌≡◌, ◌≤◌, ◌<◌, ◌+◌, ℕ, List, [], ◌∷◌, ◌++◌, Bool, Option, None, Some, Result, Ok, Err, length, take, drop, if◌then◌else◌}
 use Rattle.pptext.specs.declared.tokens.Place.{Place}
 use Rattle.pptext.specs.declared.characters.Char.{Char}
+use Rattle.pptext.specs.declared.texts.Cleaned.{Cleaned}
 use Rattle.pptext.specs.declared.texts.Cursor.{Cursor}
 use Rattle.pptext.specs.Clean.{cleaned, place, placed, newline, without_returns, trigraphs, splices, splice_at_end, codes_of}
-use Rattle.pptext.specs.Steps.{PlainFront, open_end, place_behind}
+use Rattle.pptext.specs.Breaks.{IsTable, Stretch, behind_break}
+use Rattle.pptext.specs.Steps.{open_end, place_behind}
 
 -- its characters, and how far their places have been asked for
 pub record Reading : Type 0 where
@@ -39,23 +41,43 @@ text_from file raw offset = splices (logical_from file raw offset)
 abbrev pub end_from : ℕ → List ℕ → ℕ → Option Place
 end_from file raw offset = splice_at_end (logical_from file raw offset)
 
--- A cursor stands where its next character is sought.
-pub record Stands (file : ℕ) (raw : List ℕ) (c : Cursor) : Type 0 where
+-- A cursor stands where its next character is sought, in the stretch in front of the table's next entry.
+pub record Stands (file : ℕ) (raw breaks : List ℕ) (c : Cursor) : Type 0 where
   pub within : c.offset ≤ length raw
   pub at : c.at ≡ place_behind (start file) (take c.offset raw)
   pub rest : drop c.passed (text_from file raw 0) ≡ text_from file raw c.offset
   pub ends : end_from file raw c.offset ≡ None
-  pub plain : PlainFront (drop c.offset raw) c.plain
+  pub stretch : Stretch (open_end raw) (drop c.offset raw) c.plain
+  pub next : c.next ≤ c.offset + 1
+  pub table : IsTable (open_end raw) (behind_break (open_end raw) (drop (c.offset + c.plain) raw)) (drop c.next breaks)
 
 -- These are the codes of what stands in front of an offset.
 pub record Copied (raw : List ℕ) (offset : ℕ) (done : List ℕ) : Type 0 where
   pub codes : (file : ℕ) → codes_of (text_from file raw 0) ≡ done ++ codes_of (text_from file raw offset)
   pub ends : (file : ℕ) → end_from file raw 0 ≡ end_from file raw offset
 
--- These are the codes of a file whose end is no splice.
-pub record Whole (raw : List ℕ) (done : List ℕ) : Type 0 where
+-- These are the codes of a file whose end is no splice, and its table of breaks.
+pub record Whole (raw done breaks : List ℕ) : Type 0 where
   pub codes : (file : ℕ) → done ≡ codes_of (text_from file raw 0)
   pub ends : (file : ℕ) → end_from file raw 0 ≡ None
+  pub table : IsTable (open_end raw) raw breaks
+
+-- what phases 1 and 2 make of a file, which is its own bytes where they change nothing
+abbrev pub MadeOf : List ℕ → Option Cleaned → Type 0
+MadeOf raw None = Whole raw raw []
+MadeOf raw (Some c) = Whole raw c.codes.items c.breaks.items
+
+-- its table of breaks
+abbrev pub breaks_of : Option Cleaned → List ℕ
+breaks_of None = []
+breaks_of (Some c) = c.breaks.items
+
+-- The file's end is no splice, and it has so many breaks.
+pub record HasBreaks (raw : List ℕ) (count : ℕ) : Type 0 where
+  pub ends : (file : ℕ) → end_from file raw 0 ≡ None
+  pub breaks : List ℕ
+  pub table : IsTable (open_end raw) raw breaks
+  pub length : length breaks ≡ count
 
 -- The file ends in a splice, whose backslash stands at this offset.
 pub record EndsAt (raw : List ℕ) (offset : ℕ) : Type 0 where

@@ -1,73 +1,85 @@
 // A file's bytes as the text behind phases 1 and 2.
-ghost use Rattle.std.specs.Prelude.{◌≡◌, ◌<◌, ◌≤◌, length, take, drop, IfOk, MatchResult};
-ghost use Rattle.pptext.specs.Steps.{IsChanged, open_end};
-ghost use Rattle.pptext.specs.Texts.{Cleans, Copied, EndsAt, Whole};
+ghost use Rattle.std.specs.Prelude.{◌≡◌, ◌<◌, ◌≤◌, length, IfOk, MatchOption, MatchResult};
+ghost use Rattle.pptext.specs.Breaks.{Stretch};
+ghost use Rattle.pptext.specs.Steps.{open_end};
+ghost use Rattle.pptext.specs.Texts.{Cleans, EndsAt, HasBreaks, Whole};
 
 use crate::characters::places::place_behind;
 use crate::characters::steps::{Step, has_open_end, next_step, plain_len, unmarked};
-use crate::texts::Text;
+use crate::texts::{Cleaned, Text};
 use crate::tokens::Place;
 use std::alloc::{AllocError, Global};
 
-/// Where the first byte stands that phases 1 and 2 change, or the length.
-fn unchanged_len(raw: &[u8], supplied: bool) -> usize
-    requires { supplied ≡ open_end raw.now }
-    ensures fits { result ≤ length raw.now }
-    ensures copied { Copied raw.now result (take result raw.now) }
-    ensures first { result < length raw.now → IsChanged supplied (drop result raw.now) }
+/// Where the first break stands, if there is one.
+fn first_break(bytes: &[u8], supplied: bool) -> Option<usize>
+    ensures { MatchOption result (Stretch supplied bytes.now (length bytes.now)) (λ at. (at < length bytes.now) × Stretch supplied bytes.now at) }
 {
     let mut at = 0;
-    while at < raw.len() {
-        let plain = plain_len(&raw[at..]);
+    while at < bytes.len() {
+        let plain = plain_len(&bytes[at..]);
         if plain > 0 {
             at += plain;
             continue;
         }
-        match next_step(&raw[at..], supplied) {
+        match next_step(&bytes[at..], supplied) {
             Step::Code(_, 1) => at += 1,
-            _ => return at,
+            _ => return Some(at),
         }
     }
-    at
+    None
 }
 
-/// The cleaned bytes of a file that is clean up to `from`, or where its last backslash stands, if it
-/// ends in a backslash and a new-line.
+/// How many breaks a file has, or where its last backslash stands, if it ends in a backslash and a new-line.
+fn count_breaks(raw: &[u8], supplied: bool) -> Result<usize, usize>
+    requires { supplied ≡ open_end raw.now }
+    ensures { MatchResult result (HasBreaks raw.now) (EndsAt raw.now) }
+{
+    let mut count = 0;
+    let mut start = 0;
+    while let Some(ahead) = first_break(&raw[start..], supplied) {
+        let at = start + ahead;
+        match next_step(&raw[at..], supplied) {
+            Step::Code(_, len) => start = at + len,
+            Step::Removed(len) if at + len == raw.len() => return Err(at),
+            Step::Removed(len) => start = at + len,
+        }
+        count += 1;
+    }
+    Ok(count)
+}
+
+/// What phases 1 and 2 make of a file with so many breaks, in no more memory than that takes.
 fn copy_cleaned(
     alloc: Global,
     raw: &[u8],
     supplied: bool,
-    from: usize,
-) -> Result<Result<Vec<u8>, usize>, AllocError>
+    count: usize,
+) -> Result<Cleaned, AllocError>
     requires small { length raw.now ≤ 16_777_216 }
     requires supplied { supplied ≡ open_end raw.now }
-    requires fits { from ≤ length raw.now }
-    requires copied { Copied raw.now from (take from raw.now) }
-    ensures { IfOk result (λ r. MatchResult r (λ v. Whole raw.now v.items) (λ at. EndsAt raw.now at)) }
+    requires breaks { HasBreaks raw.now count }
+    ensures { IfOk result (λ c. Whole raw.now c.codes.items c.breaks.items) }
 {
     let mut codes = Vec::with_capacity(alloc, raw.len() + 1)?;
-    codes.extend_from_slice(&raw[..from])?;
-    let mut at = from;
-    while at < raw.len() {
-        let plain = plain_len(&raw[at..]);
-        if plain > 0 {
-            codes.extend_from_slice(&raw[at..at + plain])?;
-            at += plain;
-            continue;
-        }
+    let mut breaks = Vec::with_capacity(alloc, count)?;
+    let mut start = 0;
+    while let Some(ahead) = first_break(&raw[start..], supplied) {
+        let at = start + ahead;
+        codes.extend_from_slice(&raw[start..at])?;
+        breaks.push(ahead as u32)?;
         match next_step(&raw[at..], supplied) {
             Step::Code(code, len) => {
                 codes.push(code)?;
-                at += len;
+                start = at + len;
             }
-            Step::Removed(len) if at + len == raw.len() => return Ok(Err(at)),
-            Step::Removed(len) => at += len,
+            Step::Removed(len) => start = at + len,
         }
     }
+    codes.extend_from_slice(&raw[start..])?;
     if supplied {
         codes.push(b'\n')?;
     }
-    Ok(Ok(codes))
+    Ok(Cleaned { codes, breaks })
 }
 
 /// The text of a file's bytes behind phases 1 and 2 (5.1.1.2), or the place of the backslash, where the
@@ -82,12 +94,12 @@ pub(crate) fn clean_text<'a>(
 {
     let raw = unmarked(bytes);
     let supplied = has_open_end(raw);
-    let from = unchanged_len(raw, supplied);
-    if from == raw.len() && !supplied {
-        return Ok(Ok(Text::new(file, raw, None)));
-    }
-    match copy_cleaned(alloc, raw, supplied, from)? {
-        Ok(codes) => Ok(Ok(Text::new(file, raw, Some(codes)))),
+    match count_breaks(raw, supplied) {
+        Ok(0) if !supplied => Ok(Ok(Text::new(file, raw, None))),
+        Ok(count) => {
+            let cleaned = copy_cleaned(alloc, raw, supplied, count)?;
+            Ok(Ok(Text::new(file, raw, Some(cleaned))))
+        }
         Err(at) => {
             let start = Place {
                 file,

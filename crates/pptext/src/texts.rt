@@ -1,27 +1,38 @@
 // A cleaned text: its characters, and where each was spelled.
-ghost use Rattle.std.specs.Prelude.{◌≡◌, ◌+◌, ◌-◌, ◌<◌, ◌≤◌, ◌^◌, ℕ, List, None, MatchOption, length, slice_index_or, take, drop};
+ghost use Rattle.std.specs.Prelude.{◌≡◌, ◌+◌, ◌-◌, ◌<◌, ◌≤◌, ◌^◌, length, slice_index_or, take, drop};
 ghost use Rattle.pptext.specs.Clean.{codes_of};
-ghost use Rattle.pptext.specs.Steps.{PlainFront, StopsAt, place_behind};
-ghost use Rattle.pptext.specs.Texts.{Stands, end_from, text_from};
+ghost use Rattle.pptext.specs.Steps.{place_behind};
+ghost use Rattle.pptext.specs.Texts.{MadeOf, Stands, breaks_of, text_from};
 ghost use Rattle.pptext.specs.declared.characters.Char.{Char};
 
 use crate::characters::places::place_behind;
-use crate::characters::steps::{Step, has_open_end, next_step, plain_len};
+use crate::characters::steps::{Step, has_open_end, next_step};
 use crate::tokens::Place;
 use std::marker::Model;
 
+/// What phases 1 and 2 make of a file: its characters' codes, and the table of breaks.
+///
+/// A break stands where bytes are removed or replaced: a CR before an LF, a splice, or a trigraph. For each break the table has the
+/// number of bytes between the break before, or the start, and it.
+#[derive(Drop)]
+pub(crate) struct Cleaned {
+    pub(crate) codes: Vec<u8>,
+    pub(crate) breaks: Vec<u32>,
+}
+
 /// How far the places of a text have been asked for: the character, the byte of the file from which it is sought, how many
-/// bytes from there on are known to be characters of their own, and that byte's place.
+/// bytes stand between that byte and the next break, the table's entry behind that break, and the byte's place.
 #[derive(Clone, Copy)]
 pub(crate) struct Cursor {
     pub(crate) passed: usize,
     pub(crate) offset: usize,
     pub(crate) plain: usize,
+    pub(crate) next: usize,
     pub(crate) at: Place,
 }
 
 impl Cursor {
-    /// The cursor behind so many of the bytes that are characters of their own.
+    /// The cursor behind so many of the bytes in front of the next break.
     fn pass(self, raw: &[u8], len: usize) -> Cursor
         requires small { length raw.now ≤ 16_777_216 }
         requires fits { self.offset + len ≤ length raw.now }
@@ -29,43 +40,44 @@ impl Cursor {
         requires counts { self.passed + len < 2 ^ 64 }
         requires line { self.at.line ≤ self.offset + 1 }
         requires col { self.at.col ≤ self.offset + 1 }
-        ensures { result ≡ record { passed = self.passed + len; offset = self.offset + len; plain = self.plain - len; at = place_behind self.at (take len (drop self.offset raw.now)) } }
+        ensures { result ≡ record { passed = self.passed + len; offset = self.offset + len; plain = self.plain - len; next = self.next; at = place_behind self.at (take len (drop self.offset raw.now)) } }
     {
         let offset = self.offset + len;
         Cursor {
             passed: self.passed + len,
             offset,
             plain: self.plain - len,
+            next: self.next,
             at: place_behind(self.at, &raw[self.offset..offset]),
         }
     }
 
-    /// The cursor behind so many more bytes of the file.
-    fn skip(self, raw: &[u8], len: usize) -> Cursor
+    /// The cursor behind a break of this length.
+    fn skip(self, raw: &[u8], breaks: &[u32], len: usize) -> Cursor
         requires small { length raw.now ≤ 16_777_216 }
         requires fits { self.offset + len ≤ length raw.now }
+        requires next { self.next ≤ self.offset + 1 }
         requires line { self.at.line ≤ self.offset + 1 }
         requires col { self.at.col ≤ self.offset + 1 }
-        ensures moved { result ≡ record { passed = self.passed; offset = self.offset + len; plain = result.plain; at = place_behind self.at (take len (drop self.offset raw.now)) } }
-        ensures plain { PlainFront (drop (self.offset + len) raw.now) result.plain }
-        ensures first { StopsAt (drop (self.offset + len) raw.now) result.plain }
+        ensures { result ≡ record { passed = self.passed; offset = self.offset + len; plain = slice_index_or breaks.now self.next (length raw.now - (self.offset + len)); next = self.next + 1; at = place_behind self.at (take len (drop self.offset raw.now)) } }
     {
         let offset = self.offset + len;
         Cursor {
             passed: self.passed,
             offset,
-            plain: plain_len(&raw[offset..]),
+            plain: stretch_at(breaks, self.next, raw.len() - offset),
+            next: self.next + 1,
             at: place_behind(self.at, &raw[self.offset..offset]),
         }
     }
 
     /// The cursor in front of this character.
-    fn walk(self, raw: &[u8], to: usize) -> Cursor
+    fn walk(self, raw: &[u8], breaks: &[u32], to: usize) -> Cursor
         requires small { length raw.now ≤ 16_777_216 }
-        requires stands { Stands self.at.file raw.now self }
+        requires stands { Stands self.at.file raw.now breaks.now self }
         requires forward { self.passed ≤ to }
         requires within { to < length (text_from self.at.file raw.now 0) }
-        ensures stands { Stands self.at.file raw.now result }
+        ensures stands { Stands self.at.file raw.now breaks.now result }
         ensures passed { result.passed ≡ to }
         ensures file { result.at.file ≡ self.at.file }
         ensures place { (d : Char) → result.at ≡ (slice_index_or (text_from self.at.file raw.now 0) to d).at }
@@ -82,12 +94,12 @@ impl Cursor {
                 continue;
             }
             match next_step(&raw[cursor.offset..], supplied) {
-                Step::Removed(len) => cursor = cursor.skip(raw, len),
+                Step::Removed(len) => cursor = cursor.skip(raw, breaks, len),
                 Step::Code(_, len) => {
                     if cursor.passed == to {
                         return cursor;
                     }
-                    cursor = cursor.skip(raw, len);
+                    cursor = cursor.skip(raw, breaks, len);
                     cursor.passed += 1;
                 }
             }
@@ -96,51 +108,71 @@ impl Cursor {
     }
 }
 
+/// The length of the stretch in front of the table's break, or of the last one.
+fn stretch_at(breaks: &[u32], at: usize, last: usize) -> usize
+    ensures { result ≡ slice_index_or breaks.now at last }
+{
+    match breaks.get(at) {
+        Some(len) => *len as usize,
+        None => last,
+    }
+}
+
+/// The table of breaks, which is empty where phases 1 and 2 change nothing.
+fn breaks_of(cleaned: &Option<Cleaned>) -> &[u32]
+    ensures { result.now ≡ breaks_of cleaned.now }
+{
+    match cleaned {
+        Some(cleaned) => cleaned.breaks.as_slice(),
+        None => &[],
+    }
+}
+
 /// A text behind phases 1 and 2, whose places are asked for from the front on.
 ///
-/// The places are found by reading the file's bytes once more, so they take no memory.
+/// The places are found by passing the file's bytes from break to break.
 #[derive(Drop)]
 pub(crate) struct Text<'a> {
     raw: &'a [u8],
-    cleaned: Option<Vec<u8>>,
+    cleaned: Option<Cleaned>,
     cursor: Cursor,
 }
 
 impl<'a> Model for Text<'a> {
-    ghost use Rattle.std.specs.Prelude.{◌≡◌, ◌≤◌, ℕ, List, length, MatchOption};
+    ghost use Rattle.std.specs.Prelude.{◌≤◌, length};
     ghost use Rattle.pptext.specs.Texts.{Reading};
 
     ghost Value = { Reading };
 
-    ghost use Rattle.pptext.specs.Clean.{codes_of};
-    ghost use Rattle.pptext.specs.Texts.{Stands, text_from};
+    ghost use Rattle.pptext.specs.Texts.{MadeOf, Stands, breaks_of, text_from};
 
     ghost view = { λ t. record { chars = text_from t.cursor.at.file t.raw.now 0; passed = t.cursor.passed } };
 
-    ghost invariant = { λ t. (length t.raw.now ≤ 16_777_216) × MatchOption t.cleaned (t.raw.now ≡ codes_of (text_from t.cursor.at.file t.raw.now 0)) (λ v. v.items ≡ codes_of (text_from t.cursor.at.file t.raw.now 0)) × Stands t.cursor.at.file t.raw.now t.cursor };
+    ghost invariant = { λ t. (length t.raw.now ≤ 16_777_216) × MadeOf t.raw.now t.cleaned × Stands t.cursor.at.file t.raw.now (breaks_of t.cleaned) t.cursor };
 }
 
 impl<'a> Text<'a> {
-    /// The text of a file's bytes behind its byte order mark, with a cleaned copy unless they are clean.
-    pub(crate) fn new(file: u32, raw: &'a [u8], cleaned: Option<Vec<u8>>) -> Text<'a>
+    /// The text of a file's bytes behind its byte order mark, with what phases 1 and 2 make of them unless they are clean.
+    pub(crate) fn new(file: u32, raw: &'a [u8], cleaned: Option<Cleaned>) -> Text<'a>
         requires small { length raw.now ≤ 16_777_216 }
-        requires codes { MatchOption cleaned (raw.now ≡ codes_of (text_from file raw.now 0)) (λ v. v.items ≡ codes_of (text_from file raw.now 0)) }
-        requires ends { end_from file raw.now 0 ≡ None }
+        requires made { MadeOf raw.now cleaned }
         ensures { result ≡ record { chars = text_from file raw.now 0; passed = 0 } }
     {
+        let cursor = Cursor {
+            passed: 0,
+            offset: 0,
+            plain: stretch_at(breaks_of(&cleaned), 0, raw.len()),
+            next: 1,
+            at: Place {
+                file,
+                line: 1,
+                col: 1,
+            },
+        };
         Text {
             raw,
             cleaned,
-            cursor: Cursor {
-                passed: 0,
-                offset: 0,
-                plain: 0,
-                at: Place {
-                    file,
-                    line: 1,
-                    col: 1,
-                },
-            },
+            cursor,
         }
     }
 
@@ -149,7 +181,7 @@ impl<'a> Text<'a> {
         ensures { result.now ≡ codes_of self.now.chars }
     {
         match &self.cleaned {
-            Some(codes) => codes.as_slice(),
+            Some(cleaned) => cleaned.codes.as_slice(),
             None => self.raw,
         }
     }
@@ -161,7 +193,7 @@ impl<'a> Text<'a> {
         ensures place { (d : Char) → result ≡ (slice_index_or self.old.chars at d).at }
         ensures after { self.new ≡ record { chars = self.old.chars; passed = at } }
     {
-        self.cursor = self.cursor.walk(self.raw, at);
+        self.cursor = self.cursor.walk(self.raw, breaks_of(&self.cleaned), at);
         self.cursor.at
     }
 }

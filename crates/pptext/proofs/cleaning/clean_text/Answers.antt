@@ -1,31 +1,24 @@
-use Rattle.std.proofs.Common.{ap, sym, ◌∙◌, Ok}
-use Rattle.pptext.specs.Texts.{Reading}
+use Rattle.std.proofs.Common.{ap, subst, sym, ◌∙◌, Ok}
+use Rattle.pptext.specs.Texts.{HasBreaks, Reading}
 use Rattle.pptext.proofs.Copies.{clean_err, clean_ok, own_whole}
 use Rattle.pptext.proofs.cleaning.clean_text.Goals as goal
 
-pub new-requires-clause-codes : goal.new-requires-clause-codes
-new-requires-clause-codes c =
-    (own_whole c.unmarked-raw.result.now c.unchanged_len-from.result c.unchanged_len-from.ensures.copied c.if-from-raw.true (sym c.has_open_end-supplied.ensures ∙ c.if-not-supplied.true)).codes c.args.file
+pub new-requires-clause-made : goal.new-requires-clause-made
+new-requires-clause-made c =
+    let counted = subst (HasBreaks c.unmarked-raw.result.now) c.in-Ok-eq0.field-0-test c.in-Ok-eq0.ensures in
+    own_whole c.unmarked-raw.result.now counted (sym c.has_open_end-supplied.ensures ∙ c.if-not-supplied.true)
 
-pub new-requires-clause-ends : goal.new-requires-clause-ends
-new-requires-clause-ends c =
-    (own_whole c.unmarked-raw.result.now c.unchanged_len-from.result c.unchanged_len-from.ensures.copied c.if-from-raw.true (sym c.has_open_end-supplied.ensures ∙ c.if-not-supplied.true)).ends c.args.file
+pub returns-in-Ok-eq0 : goal.returns-in-Ok-eq0
+returns-in-Ok-eq0 c = (
+  clean_ok c.args.file c.args.bytes.now c.unmarked-raw.result.now c.unmarked-raw.ensures (c.in-Ok-eq0.ensures.ends c.args.file) ∙ sym (ap (λ (t : Reading). Ok t.chars) c.new.ensures),
+  ap (λ (t : Reading). t.passed) c.new.ensures,
+)
 
-pub returns-then-not-supplied : goal.returns-then-not-supplied
-returns-then-not-supplied c =
-    let whole = own_whole c.unmarked-raw.result.now c.unchanged_len-from.result c.unchanged_len-from.ensures.copied c.if-from-raw.true (sym c.has_open_end-supplied.ensures ∙ c.if-not-supplied.true) in (
-      clean_ok c.args.file c.args.bytes.now c.unmarked-raw.result.now c.unmarked-raw.ensures (whole.ends c.args.file) ∙ sym (ap (λ (t : Reading). Ok t.chars) c.new.ensures),
-      ap (λ (t : Reading). t.passed) c.new.ensures,
-    )
-
-pub returns-in-Ok : goal.returns-in-Ok
-returns-in-Ok c =
-    let whole = rw c.in-Ok.is at c.in_ok-codes.ensures in (
-      clean_ok c.args.file c.args.bytes.now c.unmarked-raw.result.now c.unmarked-raw.ensures (whole.ends c.args.file) ∙ sym (ap (λ (t : Reading). Ok t.chars) c.new-in-Ok.ensures),
-      ap (λ (t : Reading). t.passed) c.new-in-Ok.ensures,
-    )
+pub returns-in_ok-cleaned-in-Ok : goal.returns-in_ok-cleaned-in-Ok
+returns-in_ok-cleaned-in-Ok c = (
+  clean_ok c.args.file c.args.bytes.now c.unmarked-raw.result.now c.unmarked-raw.ensures (c.in-Ok.ensures.ends c.args.file) ∙ sym (ap (λ (t : Reading). Ok t.chars) c.new-in-Ok.ensures),
+  ap (λ (t : Reading). t.passed) c.new-in-Ok.ensures,
+)
 
 pub returns-in-Err : goal.returns-in-Err
-returns-in-Err c =
-    let end = rw c.in-Err.is at c.in_ok-codes.ensures in
-    clean_err c.args.file c.args.bytes.now c.unmarked-raw.result.now c.place_behind.result c.unmarked-raw.ensures (rw c.place_behind.ensures (end.ends c.args.file))
+returns-in-Err c = clean_err c.args.file c.args.bytes.now c.unmarked-raw.result.now c.place_behind.result c.unmarked-raw.ensures (rw c.place_behind.ensures (c.in-Err.ensures.ends c.args.file))

@@ -1,58 +1,67 @@
-use Rattle.std.proofs.Common.{◌≡◌, ℕ, ◌+◌, ◌-◌, ◌++◌, length, drop, take, sym, ap, subst, ◌∙◌, arith, length-drop}
+use Rattle.std.proofs.Common.{◌≡◌, ℕ, List, [], ◌∷◌, ◌+◌, ◌-◌, ◌<◌, ◌++◌, length, drop, take, sym, ap, subst, ◌∙◌, arith, length-drop}
 use Rattle.std.proofs.lemmas.List.{take_rest}
 use Rattle.pptext.specs.declared.characters.steps.Step.TheVariants.{Code, Removed}
-use Rattle.pptext.specs.Steps.{PlainFront, open_end, step_of}
-use Rattle.pptext.specs.Texts.{Copied, Whole}
-use Rattle.pptext.proofs.Copies.{code_at, copied_plain, copied_code, copied_removed, ends_at, removed_at, whole_closed, whole_open}
+use Rattle.pptext.specs.Breaks.{Stretch}
+use Rattle.pptext.specs.Steps.{open_end, step_of}
+use Rattle.pptext.proofs.Copies.{code_at, copies_all, copies_code, copies_removed, removed_at, whole_closed, whole_open}
 use Rattle.pptext.proofs.cleaning.copy_cleaned.Goals as goal
-use Rattle.pptext.proofs.cleaning.copy_cleaned.Goals.{then-supplied+in_ok-push, else-supplied}
+use Rattle.pptext.proofs.cleaning.copy_cleaned.Goals.{then-supplied+in_ok-push-2, else-supplied}
 
-pub loop-at-preserved-then-plain-gt0 : goal.loop-at-preserved-then-plain-gt0
-loop-at-preserved-then-plain-gt0 c =
-    let raw = c.args.raw.now in
-    let at = c.loop-at.at in
-    let n = c.plain_len-plain.result in
-    let front : PlainFront (drop at raw) n = simp take_rest at c.plain_len-plain.ensures.plain in
-    let l = length-drop at raw in
-    let same : at + n - at ≡ n = omega arith in
-    let items = c.in_ok-extend_from_slice-2.ensures.items ∙ ap (λ k. c.loop-at.codes.items ++ take k (drop at raw)) same in
-    record { within = omega (arith, front.0); copied = subst (Copied raw (at + n)) (sym items) (copied_plain n raw at c.loop-at.codes.items c.loop-at.invariant.copied front) }
+-- the codes copied from a stretch
+stretch_codes : (raw codes : List ℕ) (start n : ℕ) → codes ++ take (start + n - start) (drop start raw) ≡ codes ++ take n (drop start raw)
+stretch_codes raw codes start n = ap (λ k. codes ++ take k (drop start raw)) (omega arith)
 
-pub loop-at-preserved-in-Code : goal.loop-at-preserved-in-Code
-loop-at-preserved-in-Code c =
+pub overflow_add-start : goal.overflow_add-start
+overflow_add-start c =
     let raw = c.args.raw.now in
-    let at = c.loop-at.at in
-    let code = c.in-Code.code in
-    let n = c.in-Code.len in
-    let is : step_of (open_end raw) (drop at raw) ≡ Code code n = ap (λ s. step_of s (drop at raw)) (sym c.requires.supplied) ∙ sym (simp take_rest at c.in-Code.ensures) in
-    record {
-      within = (code_at 0 raw at code n c.loop-at-test.true is).fits;
-      copied = subst (Copied raw (at + n)) (sym c.in_ok-push-in-Code.ensures.items) (copied_code raw at c.loop-at.codes.items code n c.loop-at.invariant.copied c.loop-at-test.true is);
-    }
+    let at = c.loop-ahead.start + c.in-Some.ahead in
+    let ahead = simp take_rest at c.in-Some.ensures in
+    let l = length-drop c.loop-ahead.start raw in
+    let is : step_of (open_end raw) (drop at raw) ≡ Code c.in-Code.code c.in-Code.len = ap (λ s. step_of s (drop at raw)) (sym c.requires.supplied) ∙ sym (simp take_rest at c.in-Code.ensures) in
+    let here : at < length raw = omega (arith, ahead.0) in
+    omega (arith, (code_at 0 raw at c.in-Code.code c.in-Code.len here is).fits, c.requires.small)
 
-pub returns-in-Removed : goal.returns-in-Removed
-returns-in-Removed c =
+pub overflow_add-start-in-Removed : goal.overflow_add-start-in-Removed
+overflow_add-start-in-Removed c =
     let raw = c.args.raw.now in
-    let at = c.loop-at.at in
-    let n = c.in-Removed.len in
-    let is : step_of (open_end raw) (drop at raw) ≡ Removed n = ap (λ s. step_of s (drop at raw)) (sym c.requires.supplied) ∙ sym (simp take_rest at c.in-Removed.ensures) in
-    ends_at raw at c.loop-at.codes.items n c.loop-at.invariant.copied c.loop-at-test.true is c.if-at-len.true
+    let at = c.loop-ahead.start + c.in-Some.ahead in
+    let ahead = simp take_rest at c.in-Some.ensures in
+    let l = length-drop c.loop-ahead.start raw in
+    let is : step_of (open_end raw) (drop at raw) ≡ Removed c.in-Removed.len = ap (λ s. step_of s (drop at raw)) (sym c.requires.supplied) ∙ sym (simp take_rest at c.in-Removed.ensures) in
+    let here : at < length raw = omega (arith, ahead.0) in
+    omega (arith, (removed_at 0 raw at c.in-Removed.len here is).fits, c.requires.small)
 
-pub loop-at-preserved : goal.loop-at-preserved
-loop-at-preserved c =
+pub loop-ahead-preserved-in-Code : goal.loop-ahead-preserved-in-Code
+loop-ahead-preserved-in-Code c =
     let raw = c.args.raw.now in
-    let at = c.loop-at.at in
-    let n = c.in-Removed.len in
-    let is : step_of (open_end raw) (drop at raw) ≡ Removed n = ap (λ s. step_of s (drop at raw)) (sym c.requires.supplied) ∙ sym (simp take_rest at c.in-Removed.ensures) in
-    let fits = (removed_at 0 raw at n c.loop-at-test.true is).fits in
-    record { within = fits; copied = copied_removed raw at c.loop-at.codes.items n c.loop-at.invariant.copied c.loop-at-test.true is (omega (arith, c.if-at-len.false)) }
+    let start = c.loop-ahead.start in
+    let n = c.in-Some.ahead in
+    let ahead = simp take_rest at c.in-Some.ensures in
+    let stretch : Stretch (open_end raw) (drop start raw) n = subst (λ s. Stretch s (drop start raw) n) c.requires.supplied ahead.1 in
+    let is : step_of (open_end raw) (drop (start + n) raw) ≡ Code c.in-Code.code c.in-Code.len = ap (λ s. step_of s (drop (start + n) raw)) (sym c.requires.supplied) ∙ sym (simp take_rest at c.in-Code.ensures) in
+    let codes = c.in_ok-push-in-Code.ensures.items ∙ ap (λ z. z ++ c.in-Code.code ∷ []) (c.in_ok-extend_from_slice.ensures.items ∙ stretch_codes raw c.loop-ahead.codes.items start n) in
+    rw (codes, c.in_ok-push.ensures.items) (copies_code raw start n c.in-Code.code c.in-Code.len c.loop-ahead.codes.items c.loop-ahead.breaks.items c.loop-ahead.invariant ahead.0 stretch is)
+
+pub loop-ahead-preserved : goal.loop-ahead-preserved
+loop-ahead-preserved c =
+    let raw = c.args.raw.now in
+    let start = c.loop-ahead.start in
+    let n = c.in-Some.ahead in
+    let ahead = simp take_rest at c.in-Some.ensures in
+    let stretch : Stretch (open_end raw) (drop start raw) n = subst (λ s. Stretch s (drop start raw) n) c.requires.supplied ahead.1 in
+    let is : step_of (open_end raw) (drop (start + n) raw) ≡ Removed c.in-Removed.len = ap (λ s. step_of s (drop (start + n) raw)) (sym c.requires.supplied) ∙ sym (simp take_rest at c.in-Removed.ensures) in
+    let codes = c.in_ok-extend_from_slice.ensures.items ∙ stretch_codes raw c.loop-ahead.codes.items start n in
+    rw (codes, c.in_ok-push.ensures.items) (copies_removed raw start n c.in-Removed.len c.loop-ahead.codes.items c.loop-ahead.breaks.items c.loop-ahead.invariant (c.requires.breaks.ends 0) ahead.0 stretch is)
 
 pub returns : goal.returns
 returns c =
     let raw = c.args.raw.now in
-    let end : c.loop-at.at ≡ length raw = omega (arith, c.loop-at.invariant.within) in
-    let copied = subst (λ (k : ℕ). Copied raw k c.loop-at.codes.items) end c.loop-at.invariant.copied in
+    let start = c.loop-ahead.start in
+    let breaks = c.loop-ahead.breaks.items in
+    let last : Stretch (open_end raw) (drop start raw) (length (drop start raw)) = subst (λ s. Stretch s (drop start raw) (length (drop start raw))) c.requires.supplied (simp take_rest at c.in_default.ensures) in
+    let all = copies_all raw start c.loop-ahead.codes.items breaks c.loop-ahead.invariant last in
+    let same = simp take_rest at c.in_ok-extend_from_slice-2.ensures.items in
     elim c.if-supplied.branch [
-      | then-supplied+in_ok-push w ↦ subst (λ v. Whole raw v.items) (sym w.codes-is) (subst (Whole raw) (sym w.in_ok-push.ensures.items) (whole_open raw c.loop-at.codes.items copied (sym c.requires.supplied ∙ w.if-supplied.true)))
-      | else-supplied w ↦ subst (λ v. Whole raw v.items) (sym w.codes-is) (whole_closed raw c.loop-at.codes.items copied (sym c.requires.supplied ∙ w.if-supplied.false))
+      | then-supplied+in_ok-push-2 w ↦ rw (w.codes-is, w.in_ok-push-2.ensures.items, same) (whole_open raw (c.loop-ahead.codes.items ++ drop start raw) breaks all.0 all.1 (sym c.requires.supplied ∙ w.if-supplied.true))
+      | else-supplied w ↦ rw (w.codes-is, same) (whole_closed raw (c.loop-ahead.codes.items ++ drop start raw) breaks all.0 all.1 (sym c.requires.supplied ∙ w.if-supplied.false))
     ]

@@ -1,9 +1,9 @@
-use Rattle.std.proofs.Common.{◌≤◌, ◌-◌, length}
-use Rattle.pptext.specs.Texts.{Copied}
+use Rattle.std.proofs.Common.{◌-◌, length}
+use Rattle.pptext.proofs.Copies.{Copies}
 use Rattle.pptext.proofs.cleaning.copy_cleaned.Given as goal
 
-abbrev pub invariant-loop-at : goal.invariant-loop-at
-invariant-loop-at l = record { within : l.at ≤ length l.raw; copied : Copied l.raw l.at l.codes.items }
+abbrev pub invariant-loop-ahead : goal.invariant-loop-ahead
+invariant-loop-ahead l = Copies l.raw l.start l.codes.items l.breaks.items
 
-abbrev pub decreases-loop-at : goal.decreases-loop-at
-decreases-loop-at l = length l.raw - l.at
+abbrev pub decreases-loop-ahead : goal.decreases-loop-ahead
+decreases-loop-ahead l = length l.raw - l.start

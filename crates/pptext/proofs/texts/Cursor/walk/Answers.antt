@@ -4,68 +4,87 @@ use Rattle.pptext.specs.declared.texts.Cursor.{Cursor}
 use Rattle.pptext.specs.declared.characters.steps.Step.TheVariants.{Code, Removed}
 use Rattle.pptext.specs.Steps.{open_end, place_behind, step_of}
 use Rattle.pptext.specs.Texts.{Stands, text_from}
+use Rattle.pptext.proofs.Copies.{code_at, removed_at}
 use Rattle.pptext.proofs.Cursors.{bounds, pass_code, pass_plain, skip_removed, stands_at_code, stands_at_plain, stands_at_end}
 use Rattle.pptext.proofs.texts.Cursor.walk.Goals as goal
 
 pub pass-cursor-requires-clause-line : goal.pass-cursor-requires-clause-line
-pass-cursor-requires-clause-line c = (bounds c.args.self.at.file c.args.raw.now c.loop-cursor.cursor c.loop-cursor.invariant.stands).line
+pass-cursor-requires-clause-line c = (bounds c.args.self.at.file c.args.raw.now c.args.breaks.now c.loop-cursor.cursor c.loop-cursor.invariant.stands).line
 
 pub pass-cursor-requires-clause-col : goal.pass-cursor-requires-clause-col
-pass-cursor-requires-clause-col c = (bounds c.args.self.at.file c.args.raw.now c.loop-cursor.cursor c.loop-cursor.invariant.stands).col
+pass-cursor-requires-clause-col c = (bounds c.args.self.at.file c.args.raw.now c.args.breaks.now c.loop-cursor.cursor c.loop-cursor.invariant.stands).col
 
 pub skip-cursor-requires-clause-line : goal.skip-cursor-requires-clause-line
-skip-cursor-requires-clause-line c = (bounds c.args.self.at.file c.args.raw.now c.loop-cursor.cursor c.loop-cursor.invariant.stands).line
+skip-cursor-requires-clause-line c = (bounds c.args.self.at.file c.args.raw.now c.args.breaks.now c.loop-cursor.cursor c.loop-cursor.invariant.stands).line
 
 pub skip-cursor-requires-clause-col : goal.skip-cursor-requires-clause-col
-skip-cursor-requires-clause-col c = (bounds c.args.self.at.file c.args.raw.now c.loop-cursor.cursor c.loop-cursor.invariant.stands).col
+skip-cursor-requires-clause-col c = (bounds c.args.self.at.file c.args.raw.now c.args.breaks.now c.loop-cursor.cursor c.loop-cursor.invariant.stands).col
 
 pub skip-cursor-requires-in-Code-clause-line : goal.skip-cursor-requires-in-Code-clause-line
-skip-cursor-requires-in-Code-clause-line c = (bounds c.args.self.at.file c.args.raw.now c.loop-cursor.cursor c.loop-cursor.invariant.stands).line
+skip-cursor-requires-in-Code-clause-line c = (bounds c.args.self.at.file c.args.raw.now c.args.breaks.now c.loop-cursor.cursor c.loop-cursor.invariant.stands).line
 
 pub skip-cursor-requires-in-Code-clause-col : goal.skip-cursor-requires-in-Code-clause-col
-skip-cursor-requires-in-Code-clause-col c = (bounds c.args.self.at.file c.args.raw.now c.loop-cursor.cursor c.loop-cursor.invariant.stands).col
+skip-cursor-requires-in-Code-clause-col c = (bounds c.args.self.at.file c.args.raw.now c.args.breaks.now c.loop-cursor.cursor c.loop-cursor.invariant.stands).col
 
 pub pass-requires-clause-line : goal.pass-requires-clause-line
-pass-requires-clause-line c = (bounds c.args.self.at.file c.args.raw.now c.loop-cursor.cursor c.loop-cursor.invariant.stands).line
+pass-requires-clause-line c = (bounds c.args.self.at.file c.args.raw.now c.args.breaks.now c.loop-cursor.cursor c.loop-cursor.invariant.stands).line
 
 pub pass-requires-clause-col : goal.pass-requires-clause-col
-pass-requires-clause-col c = (bounds c.args.self.at.file c.args.raw.now c.loop-cursor.cursor c.loop-cursor.invariant.stands).col
+pass-requires-clause-col c = (bounds c.args.self.at.file c.args.raw.now c.args.breaks.now c.loop-cursor.cursor c.loop-cursor.invariant.stands).col
+
+pub skip-cursor-requires-clause-fits : goal.skip-cursor-requires-clause-fits
+skip-cursor-requires-clause-fits c =
+    let raw = c.args.raw.now in
+    let cursor = c.loop-cursor.cursor in
+    let o = cursor.offset in
+    let n = c.in-Removed.len in
+    let is : step_of (open_end raw) (drop o raw) ≡ Removed n = ap (λ s. step_of s (drop o raw)) (sym c.has_open_end-supplied.ensures) ∙ sym (simp take_rest at c.in-Removed.ensures) in
+    (removed_at 0 raw o n c.loop-cursor-test.true is).fits
+
+pub skip-cursor-requires-in-Code-clause-fits : goal.skip-cursor-requires-in-Code-clause-fits
+skip-cursor-requires-in-Code-clause-fits c =
+    let raw = c.args.raw.now in
+    let cursor = c.loop-cursor.cursor in
+    let o = cursor.offset in
+    let n = c.in-Code.len in
+    let is : step_of (open_end raw) (drop o raw) ≡ Code c.in-Code.field-0 n = ap (λ s. step_of s (drop o raw)) (sym c.has_open_end-supplied.ensures) ∙ sym (simp take_rest at c.in-Code.ensures) in
+    (code_at 0 raw o c.in-Code.field-0 n c.loop-cursor-test.true is).fits
 
 -- a cursor that is moved to the character sought, over this many plain bytes
-arrives : (file : ℕ) (raw : List ℕ) (c after : Cursor) (to : ℕ) → Stands file raw c → c.passed ≤ to → to - c.passed < c.plain → after ≡ record { passed = c.passed + (to - c.passed); offset = c.offset + (to - c.passed); plain = c.plain - (to - c.passed); at = place_behind c.at (take (to - c.passed) (drop c.offset raw)) } → Stands file raw after × (0 < after.plain) × (after.passed ≡ to)
-arrives file raw c after to stands forward near is =
-    let s = pass_plain file raw c (to - c.passed) stands (omega arith) in
+arrives : (file : ℕ) (raw breaks : List ℕ) (c after : Cursor) (to : ℕ) → Stands file raw breaks c → c.passed ≤ to → to - c.passed < c.plain → after ≡ record { passed = c.passed + (to - c.passed); offset = c.offset + (to - c.passed); plain = c.plain - (to - c.passed); next = c.next; at = place_behind c.at (take (to - c.passed) (drop c.offset raw)) } → Stands file raw breaks after × (0 < after.plain) × (after.passed ≡ to)
+arrives file raw breaks c after to stands forward near is =
+    let s = pass_plain file raw breaks c (to - c.passed) stands (omega arith) in
     let some : after.plain ≡ c.plain - (to - c.passed) = ap (λ (x : Cursor). x.plain) is in
     let passed : after.passed ≡ c.passed + (to - c.passed) = ap (λ (x : Cursor). x.passed) is in
-    (subst (Stands file raw) (sym is) s.1, omega arith, omega arith)
+    (subst (Stands file raw breaks) (sym is) s.1, omega arith, omega arith)
 
 pub returns-then-ahead-cursor-clause-stands : goal.returns-then-ahead-cursor-clause-stands
 returns-then-ahead-cursor-clause-stands c =
-    (arrives c.args.self.at.file c.args.raw.now c.loop-cursor.cursor c.pass.result c.args.to c.loop-cursor.invariant.stands c.loop-cursor.invariant.forward c.if-ahead-cursor.true c.pass.ensures).0
+    (arrives c.args.self.at.file c.args.raw.now c.args.breaks.now c.loop-cursor.cursor c.pass.result c.args.to c.loop-cursor.invariant.stands c.loop-cursor.invariant.forward c.if-ahead-cursor.true c.pass.ensures).0
 
 pub returns-then-ahead-cursor-clause-passed : goal.returns-then-ahead-cursor-clause-passed
 returns-then-ahead-cursor-clause-passed c =
-    (arrives c.args.self.at.file c.args.raw.now c.loop-cursor.cursor c.pass.result c.args.to c.loop-cursor.invariant.stands c.loop-cursor.invariant.forward c.if-ahead-cursor.true c.pass.ensures).2
+    (arrives c.args.self.at.file c.args.raw.now c.args.breaks.now c.loop-cursor.cursor c.pass.result c.args.to c.loop-cursor.invariant.stands c.loop-cursor.invariant.forward c.if-ahead-cursor.true c.pass.ensures).2
 
 pub returns-then-ahead-cursor-clause-file : goal.returns-then-ahead-cursor-clause-file
 returns-then-ahead-cursor-clause-file c =
-    let there = arrives c.args.self.at.file c.args.raw.now c.loop-cursor.cursor c.pass.result c.args.to c.loop-cursor.invariant.stands c.loop-cursor.invariant.forward c.if-ahead-cursor.true c.pass.ensures in
-    (bounds c.args.self.at.file c.args.raw.now c.pass.result there.0).same_file
+    let there = arrives c.args.self.at.file c.args.raw.now c.args.breaks.now c.loop-cursor.cursor c.pass.result c.args.to c.loop-cursor.invariant.stands c.loop-cursor.invariant.forward c.if-ahead-cursor.true c.pass.ensures in
+    (bounds c.args.self.at.file c.args.raw.now c.args.breaks.now c.pass.result there.0).same_file
 
 pub returns-then-ahead-cursor-clause-place : goal.returns-then-ahead-cursor-clause-place
 returns-then-ahead-cursor-clause-place c =
-    let there = arrives c.args.self.at.file c.args.raw.now c.loop-cursor.cursor c.pass.result c.args.to c.loop-cursor.invariant.stands c.loop-cursor.invariant.forward c.if-ahead-cursor.true c.pass.ensures in
-    λ d. stands_at_plain c.args.self.at.file c.args.raw.now c.pass.result d there.0 there.1 ∙ ap (λ k. (get_or (text_from c.args.self.at.file c.args.raw.now 0) k d).at) there.2
+    let there = arrives c.args.self.at.file c.args.raw.now c.args.breaks.now c.loop-cursor.cursor c.pass.result c.args.to c.loop-cursor.invariant.stands c.loop-cursor.invariant.forward c.if-ahead-cursor.true c.pass.ensures in
+    λ d. stands_at_plain c.args.self.at.file c.args.raw.now c.args.breaks.now c.pass.result d there.0 there.1 ∙ ap (λ k. (get_or (text_from c.args.self.at.file c.args.raw.now 0) k d).at) there.2
 
 pub loop-cursor-preserved-then-cursor-gt0 : goal.loop-cursor-preserved-then-cursor-gt0
 loop-cursor-preserved-then-cursor-gt0 c =
     let raw = c.args.raw.now in
     let cursor = c.loop-cursor.cursor in
-    let s = pass_plain c.args.self.at.file raw cursor cursor.plain c.loop-cursor.invariant.stands (omega arith) in
+    let s = pass_plain c.args.self.at.file raw c.args.breaks.now cursor cursor.plain c.loop-cursor.invariant.stands (omega arith) in
     let passed : c.pass-cursor.result.passed ≡ cursor.passed + cursor.plain = ap (λ (x : Cursor). x.passed) c.pass-cursor.ensures in
     record {
       forward = omega (arith, c.if-ahead-cursor.false, c.loop-cursor.invariant.forward);
-      stands = subst (Stands c.args.self.at.file raw) (sym c.pass-cursor.ensures) s.1;
+      stands = subst (Stands c.args.self.at.file raw c.args.breaks.now) (sym c.pass-cursor.ensures) s.1;
     }
 
 pub loop-cursor-smaller-in-Removed : goal.loop-cursor-smaller-in-Removed
@@ -76,8 +95,8 @@ loop-cursor-smaller-in-Removed c =
     let stands = c.loop-cursor.invariant.stands in
     let n = c.in-Removed.len in
     let is : step_of (open_end raw) (drop o raw) ≡ Removed n = ap (λ s. step_of s (drop o raw)) (sym c.has_open_end-supplied.ensures) ∙ sym (simp take_rest at c.in-Removed.ensures) in
-    let s = skip_removed c.args.self.at.file raw cursor n c.skip-cursor.result.plain stands c.loop-cursor-test.true is c.skip-cursor.ensures.plain in
-    let skip : c.skip-cursor.result.offset ≡ o + n = ap (λ (x : Cursor). x.offset) c.skip-cursor.ensures.moved in
+    let s = skip_removed c.args.self.at.file raw c.args.breaks.now cursor n stands (omega arith) c.loop-cursor-test.true is in
+    let skip : c.skip-cursor.result.offset ≡ o + n = ap (λ (x : Cursor). x.offset) c.skip-cursor.ensures in
     let less : length raw - c.skip-cursor.result.offset < length raw - o = omega (arith, s.0) in
     less
 
@@ -89,12 +108,12 @@ loop-cursor-preserved-in-Removed c =
     let stands = c.loop-cursor.invariant.stands in
     let n = c.in-Removed.len in
     let is : step_of (open_end raw) (drop o raw) ≡ Removed n = ap (λ s. step_of s (drop o raw)) (sym c.has_open_end-supplied.ensures) ∙ sym (simp take_rest at c.in-Removed.ensures) in
-    let s = skip_removed c.args.self.at.file raw cursor n c.skip-cursor.result.plain stands c.loop-cursor-test.true is c.skip-cursor.ensures.plain in
-    let passed = ap (λ (x : Cursor). x.passed) c.skip-cursor.ensures.moved in
-    record { forward = omega (arith, c.loop-cursor.invariant.forward); stands = subst (Stands c.args.self.at.file raw) (sym c.skip-cursor.ensures.moved) s.2 }
+    let s = skip_removed c.args.self.at.file raw c.args.breaks.now cursor n stands (omega arith) c.loop-cursor-test.true is in
+    let passed = ap (λ (x : Cursor). x.passed) c.skip-cursor.ensures in
+    record { forward = omega (arith, c.loop-cursor.invariant.forward); stands = subst (Stands c.args.self.at.file raw c.args.breaks.now) (sym c.skip-cursor.ensures) s.2 }
 
 pub returns-then-cursor-to-clause-file : goal.returns-then-cursor-to-clause-file
-returns-then-cursor-to-clause-file c = (bounds c.args.self.at.file c.args.raw.now c.loop-cursor.cursor c.loop-cursor.invariant.stands).same_file
+returns-then-cursor-to-clause-file c = (bounds c.args.self.at.file c.args.raw.now c.args.breaks.now c.loop-cursor.cursor c.loop-cursor.invariant.stands).same_file
 
 pub returns-then-cursor-to-clause-place : goal.returns-then-cursor-to-clause-place
 returns-then-cursor-to-clause-place c =
@@ -105,7 +124,7 @@ returns-then-cursor-to-clause-place c =
     let n = c.in-Code.len in
     let code = c.in-Code.field-0 in
     let is : step_of (open_end raw) (drop o raw) ≡ Code code n = ap (λ s. step_of s (drop o raw)) (sym c.has_open_end-supplied.ensures) ∙ sym (simp take_rest at c.in-Code.ensures) in
-    λ d. stands_at_code c.args.self.at.file raw cursor code n d stands c.loop-cursor-test.true is ∙ ap (λ k. (get_or (text_from c.args.self.at.file raw 0) k d).at) c.if-cursor-to.true
+    λ d. stands_at_code c.args.self.at.file raw c.args.breaks.now cursor code n d stands c.loop-cursor-test.true is ∙ ap (λ k. (get_or (text_from c.args.self.at.file raw 0) k d).at) c.if-cursor-to.true
 
 pub loop-cursor-smaller : goal.loop-cursor-smaller
 loop-cursor-smaller c =
@@ -116,8 +135,8 @@ loop-cursor-smaller c =
     let n = c.in-Code.len in
     let code = c.in-Code.field-0 in
     let is : step_of (open_end raw) (drop o raw) ≡ Code code n = ap (λ s. step_of s (drop o raw)) (sym c.has_open_end-supplied.ensures) ∙ sym (simp take_rest at c.in-Code.ensures) in
-    let s = pass_code c.args.self.at.file raw cursor code n c.skip-cursor-in-Code.result.plain stands c.loop-cursor-test.true is c.skip-cursor-in-Code.ensures.plain in
-    let skip : c.skip-cursor-in-Code.result.offset ≡ o + n = ap (λ (x : Cursor). x.offset) c.skip-cursor-in-Code.ensures.moved in
+    let s = pass_code c.args.self.at.file raw c.args.breaks.now cursor code n stands (omega arith) c.loop-cursor-test.true is in
+    let skip : c.skip-cursor-in-Code.result.offset ≡ o + n = ap (λ (x : Cursor). x.offset) c.skip-cursor-in-Code.ensures in
     let less : length raw - c.skip-cursor-in-Code.result.offset < length raw - o = omega (arith, s.0) in
     less
 
@@ -130,20 +149,20 @@ loop-cursor-preserved c =
     let n = c.in-Code.len in
     let code = c.in-Code.field-0 in
     let is : step_of (open_end raw) (drop o raw) ≡ Code code n = ap (λ s. step_of s (drop o raw)) (sym c.has_open_end-supplied.ensures) ∙ sym (simp take_rest at c.in-Code.ensures) in
-    let s = pass_code c.args.self.at.file raw cursor code n c.skip-cursor-in-Code.result.plain stands c.loop-cursor-test.true is c.skip-cursor-in-Code.ensures.plain in
-    let passed = ap (λ (x : Cursor). x.passed) c.skip-cursor-in-Code.ensures.moved in
+    let s = pass_code c.args.self.at.file raw c.args.breaks.now cursor code n stands (omega arith) c.loop-cursor-test.true is in
+    let passed = ap (λ (x : Cursor). x.passed) c.skip-cursor-in-Code.ensures in
     record {
       forward = omega (arith, c.loop-cursor.invariant.forward, c.if-cursor-to.false);
-      stands = subst (λ (x : Cursor). Stands c.args.self.at.file raw (record { passed = x.passed + 1; offset = x.offset; plain = x.plain; at = x.at })) (sym c.skip-cursor-in-Code.ensures.moved) s.2;
+      stands = subst (λ (x : Cursor). Stands c.args.self.at.file raw c.args.breaks.now (record { passed = x.passed + 1; offset = x.offset; plain = x.plain; next = x.next; at = x.at })) (sym c.skip-cursor-in-Code.ensures) s.2;
     }
 
 pub returns-clause-passed : goal.returns-clause-passed
 returns-clause-passed c =
-    (stands_at_end c.args.self.at.file c.args.raw.now c.loop-cursor.cursor c.args.to c.loop-cursor.invariant.stands c.loop-cursor-test.false c.loop-cursor.invariant.forward c.requires.within).0
+    (stands_at_end c.args.self.at.file c.args.raw.now c.args.breaks.now c.loop-cursor.cursor c.args.to c.loop-cursor.invariant.stands c.loop-cursor-test.false c.loop-cursor.invariant.forward c.requires.within).0
 
 pub returns-clause-file : goal.returns-clause-file
-returns-clause-file c = (bounds c.args.self.at.file c.args.raw.now c.loop-cursor.cursor c.loop-cursor.invariant.stands).same_file
+returns-clause-file c = (bounds c.args.self.at.file c.args.raw.now c.args.breaks.now c.loop-cursor.cursor c.loop-cursor.invariant.stands).same_file
 
 pub returns-clause-place : goal.returns-clause-place
 returns-clause-place c =
-    (stands_at_end c.args.self.at.file c.args.raw.now c.loop-cursor.cursor c.args.to c.loop-cursor.invariant.stands c.loop-cursor-test.false c.loop-cursor.invariant.forward c.requires.within).1
+    (stands_at_end c.args.self.at.file c.args.raw.now c.args.breaks.now c.loop-cursor.cursor c.args.to c.loop-cursor.invariant.stands c.loop-cursor-test.false c.loop-cursor.invariant.forward c.requires.within).1

@@ -1,0 +1,19 @@
+use Rattle.std.proofs.Common.{◌≡◌, ℕ, List, Option, None, Some, ap, ◌∙◌, length, get_or}
+use Rattle.pptext.specs.declared.texts.Cleaned.{Cleaned}
+use Rattle.pptext.specs.Breaks.{IsTable}
+use Rattle.pptext.specs.Steps.{open_end}
+use Rattle.pptext.specs.Texts.{MadeOf, breaks_of, end_from}
+use Rattle.pptext.proofs.Cursors.{stands_first}
+use Rattle.pptext.proofs.texts.Text.new.Goals as goal
+
+-- the end and the table of what is made of a file
+made_table : (file : ℕ) (raw : List ℕ) (cleaned : Option Cleaned) → MadeOf raw cleaned → (end_from file raw 0 ≡ None) × IsTable (open_end raw) raw (breaks_of cleaned)
+made_table file raw None whole = (whole.ends file, whole.table)
+made_table file raw (Some c) whole = (whole.ends file, whole.table)
+
+pub invariant_of-result : goal.invariant_of-result
+invariant_of-result c =
+    let raw = c.args.raw.now in
+    let made = made_table c.args.file raw c.args.cleaned c.requires.made in
+    let first : c.stretch_at.result ≡ get_or (breaks_of c.args.cleaned) 0 (length raw) = c.stretch_at.ensures ∙ ap (λ breaks. get_or breaks 0 (length raw)) c.breaks_of.ensures in
+    (c.requires.small, c.requires.made, rw first (stands_first c.args.file raw (breaks_of c.args.cleaned) made.0 made.1))
