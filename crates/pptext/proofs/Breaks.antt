@@ -50,6 +50,22 @@ one_byte s bs code h = first (return_front bs) h
     first true e = cc
     first false e = second (trigraph_front bs == 0) e
 
+-- What is no character of one byte is a break.
+pub long_code : (s : Bool) (bs : List ℕ) (a n : ℕ) → step_of s bs ≡ Code a n → (n ≡ 1 → ⊥) → IsChanged s bs
+long_code s bs a n is long = λ code e. long (same code (sym is ∙ e))
+  where
+    same : (code : ℕ) → Code a n ≡ Code code 1 → n ≡ 1
+    same code e = cc
+
+pub removed_bytes : (s : Bool) (bs : List ℕ) (n : ℕ) → step_of s bs ≡ Removed n → IsChanged s bs
+removed_bytes s bs n is = λ code e. none code (sym is ∙ e)
+  where
+    none : (code : ℕ) → Removed n ≡ Code code 1 → ⊥
+    none code e = cc
+
+pub stretch_all : (s : Bool) (bs : List ℕ) → OwnFront s bs (length bs) → Stretch s bs (length bs)
+stretch_all s bs h = record { front = h; stops = λ lt. absurd (omega arith) }
+
 -- A front of own bytes grows, byte by byte.
 pub own_none : (s : Bool) (bs : List ℕ) → OwnFront s bs 0
 own_none s bs = record { fits = omega arith; own = λ k lt. absurd (omega arith) }

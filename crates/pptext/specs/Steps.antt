@@ -19,9 +19,9 @@ is_special b = b == backslash || b == 63 || b == 13
 abbrev pub PlainFront : List ℕ → ℕ → Type 0
 PlainFront bs n = (n ≤ length bs) × ((k : ℕ) → k < n → is_special (slice_index bs k) ≡ false)
 
--- the byte behind the first n, where there is one, is special
+-- and the byte behind them is special
 abbrev pub StopsAt : List ℕ → ℕ → Type 0
-StopsAt bs n = n < length bs → is_special (slice_index bs n) ≡ true
+StopsAt bs n = (n < length bs) × PlainFront bs n × (is_special (slice_index bs n) ≡ true)
 
 -- the code of the trigraph that begins here, or 0
 abbrev pub trigraph_front : List ℕ → ℕ

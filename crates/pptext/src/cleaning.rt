@@ -5,7 +5,7 @@ ghost use Rattle.pptext.specs.Steps.{open_end};
 ghost use Rattle.pptext.specs.Texts.{Cleans, EndsAt, HasBreaks, Whole};
 
 use crate::characters::places::place_behind;
-use crate::characters::steps::{Step, has_open_end, next_step, plain_len, unmarked};
+use crate::characters::steps::{Step, first_special, has_open_end, next_step, unmarked};
 use crate::texts::{Cleaned, Text};
 use crate::tokens::Place;
 use std::alloc::{AllocError, Global};
@@ -14,16 +14,17 @@ use std::alloc::{AllocError, Global};
 fn first_break(bytes: &[u8], supplied: bool) -> Option<usize>
     ensures { MatchOption result (Stretch supplied bytes.now (length bytes.now)) (λ at. (at < length bytes.now) × Stretch supplied bytes.now at) }
 {
-    let mut at = 0;
-    while at < bytes.len() {
-        let plain = plain_len(&bytes[at..]);
-        if plain > 0 {
-            at += plain;
-            continue;
-        }
+    let mut start = 0;
+    while let Some(ahead) = first_special(&bytes[start..]) {
+        let at = start + ahead;
         match next_step(&bytes[at..], supplied) {
-            Step::Code(_, 1) => at += 1,
-            _ => return Some(at),
+            Step::Code(_, len) => {
+                if len != 1 {
+                    return Some(at);
+                }
+                start = at + 1;
+            }
+            Step::Removed(_) => return Some(at),
         }
     }
     None

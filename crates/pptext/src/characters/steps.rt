@@ -1,5 +1,5 @@
 // What begins the rest of a file, read from the front.
-ghost use Rattle.std.specs.Prelude.{◌≡◌, ◌<◌, ◌≤◌, ℕ, length};
+ghost use Rattle.std.specs.Prelude.{◌≡◌, ◌<◌, MatchOption, length};
 ghost use Rattle.pptext.specs.Clean.{trigraph, unmarked};
 ghost use Rattle.pptext.specs.Steps.{PlainFront, StopsAt, newline_front, open_end, step_of, trigraph_front};
 
@@ -52,15 +52,11 @@ pub(crate) fn trigraph(code: u8) -> u8
     }
 }
 
-/// How many bytes stand in front of the first that may be no character of its own.
-pub(crate) fn plain_len(rest: &[u8]) -> usize
-    ensures plain { PlainFront rest.now result }
-    ensures first { StopsAt rest.now result }
+/// Where the first byte stands that may be no character of its own, if there is one.
+pub(crate) fn first_special(rest: &[u8]) -> Option<usize>
+    ensures { MatchOption result (PlainFront rest.now (length rest.now)) (λ at. StopsAt rest.now at) }
 {
-    match memchr3(b'\\', b'?', b'\r', rest) {
-        Some(n) => n,
-        None => rest.len(),
-    }
+    memchr3(b'\\', b'?', b'\r', rest)
 }
 
 /// The code of the trigraph that begins here, or 0.

@@ -2,8 +2,8 @@ use Rattle.std.proofs.Common.{◌-◌, length}
 use Rattle.pptext.specs.Breaks.{OwnFront}
 use Rattle.pptext.proofs.cleaning.first_break.Given as goal
 
-abbrev pub invariant-loop-at : goal.invariant-loop-at
-invariant-loop-at l = OwnFront l.supplied l.bytes l.at
+abbrev pub invariant-loop-ahead : goal.invariant-loop-ahead
+invariant-loop-ahead l = OwnFront l.supplied l.bytes l.start
 
-abbrev pub decreases-loop-at : goal.decreases-loop-at
-decreases-loop-at l = length l.bytes - l.at
+abbrev pub decreases-loop-ahead : goal.decreases-loop-ahead
+decreases-loop-ahead l = length l.bytes - l.start
