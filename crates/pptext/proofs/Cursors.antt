@@ -132,6 +132,14 @@ stands_at_plain file raw breaks c d s some =
     let one = own_at raw c.offset (c.plain - 1) (own_less (open_end raw) (drop c.offset raw) (suc (c.plain - 1)) c.plain (omega arith) s.stretch.front) in
     stands_at_code file raw breaks c (get_or raw c.offset 0) 1 d s one.room one.step
 
+-- a cursor that is moved to the character sought, over this many plain bytes
+pub arrives : (file : ℕ) (raw breaks : List ℕ) (c after : Cursor) (to : ℕ) → Stands file raw breaks c → c.passed ≤ to → to - c.passed < c.plain → after ≡ record { passed = c.passed + (to - c.passed); offset = c.offset + (to - c.passed); plain = c.plain - (to - c.passed); next = c.next; at = place_behind c.at (take (to - c.passed) (drop c.offset raw)) } → Stands file raw breaks after × (0 < after.plain) × (after.passed ≡ to)
+arrives file raw breaks c after to stands forward near is =
+    let s = pass_plain file raw breaks c (to - c.passed) stands (omega arith) in
+    let some : after.plain ≡ c.plain - (to - c.passed) = ap (λ (x : Cursor). x.plain) is in
+    let passed : after.passed ≡ c.passed + (to - c.passed) = ap (λ (x : Cursor). x.passed) is in
+    (subst (Stands file raw breaks) (sym is) s.1, omega arith, omega arith)
+
 -- At the end stands the supplied new-line.
 abbrev end_text : ℕ → List ℕ → Bool → List Char
 end_text file raw t = splices (supply t (place_behind (start file) raw))

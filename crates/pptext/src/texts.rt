@@ -72,6 +72,25 @@ impl Cursor {
     }
 
     /// The cursor in front of this character.
+    fn seek(self, raw: &[u8], breaks: &[u32], to: usize) -> Cursor
+        requires small { length raw.now ≤ 16_777_216 }
+        requires stands { Stands self.at.file raw.now breaks.now self }
+        requires forward { self.passed ≤ to }
+        requires within { to < length (text_from self.at.file raw.now 0) }
+        ensures stands { Stands self.at.file raw.now breaks.now result }
+        ensures passed { result.passed ≡ to }
+        ensures file { result.at.file ≡ self.at.file }
+        ensures place { (d : Char) → result.at ≡ (slice_index_or (text_from self.at.file raw.now 0) to d).at }
+    {
+        let ahead = to - self.passed;
+        if ahead < self.plain {
+            return self.pass(raw, ahead);
+        }
+        self.walk(raw, breaks, to)
+    }
+
+    /// The same for a character that may stand behind breaks.
+    #[inline(never)]
     fn walk(self, raw: &[u8], breaks: &[u32], to: usize) -> Cursor
         requires small { length raw.now ≤ 16_777_216 }
         requires stands { Stands self.at.file raw.now breaks.now self }
@@ -193,7 +212,7 @@ impl<'a> Text<'a> {
         ensures place { (d : Char) → result ≡ (slice_index_or self.old.chars at d).at }
         ensures after { self.new ≡ record { chars = self.old.chars; passed = at } }
     {
-        self.cursor = self.cursor.walk(self.raw, breaks_of(&self.cleaned), at);
+        self.cursor = self.cursor.seek(self.raw, breaks_of(&self.cleaned), at);
         self.cursor.at
     }
 }

@@ -5,7 +5,7 @@ use Rattle.pptext.specs.declared.characters.steps.Step.TheVariants.{Code, Remove
 use Rattle.pptext.specs.Steps.{open_end, place_behind, step_of}
 use Rattle.pptext.specs.Texts.{Stands, text_from}
 use Rattle.pptext.proofs.Copies.{code_at, removed_at}
-use Rattle.pptext.proofs.Cursors.{bounds, pass_code, pass_plain, skip_removed, stands_at_code, stands_at_plain, stands_at_end}
+use Rattle.pptext.proofs.Cursors.{arrives, bounds, pass_code, pass_plain, skip_removed, stands_at_code, stands_at_plain, stands_at_end}
 use Rattle.pptext.proofs.texts.Cursor.walk.Goals as goal
 
 pub pass-cursor-requires-clause-line : goal.pass-cursor-requires-clause-line
@@ -49,14 +49,6 @@ skip-cursor-requires-in-Code-clause-fits c =
     let n = c.in-Code.len in
     let is : step_of (open_end raw) (drop o raw) ≡ Code c.in-Code.field-0 n = ap (λ s. step_of s (drop o raw)) (sym c.has_open_end-supplied.ensures) ∙ sym (simp take_rest at c.in-Code.ensures) in
     (code_at 0 raw o c.in-Code.field-0 n c.loop-cursor-test.true is).fits
-
--- a cursor that is moved to the character sought, over this many plain bytes
-arrives : (file : ℕ) (raw breaks : List ℕ) (c after : Cursor) (to : ℕ) → Stands file raw breaks c → c.passed ≤ to → to - c.passed < c.plain → after ≡ record { passed = c.passed + (to - c.passed); offset = c.offset + (to - c.passed); plain = c.plain - (to - c.passed); next = c.next; at = place_behind c.at (take (to - c.passed) (drop c.offset raw)) } → Stands file raw breaks after × (0 < after.plain) × (after.passed ≡ to)
-arrives file raw breaks c after to stands forward near is =
-    let s = pass_plain file raw breaks c (to - c.passed) stands (omega arith) in
-    let some : after.plain ≡ c.plain - (to - c.passed) = ap (λ (x : Cursor). x.plain) is in
-    let passed : after.passed ≡ c.passed + (to - c.passed) = ap (λ (x : Cursor). x.passed) is in
-    (subst (Stands file raw breaks) (sym is) s.1, omega arith, omega arith)
 
 pub returns-then-ahead-cursor-clause-stands : goal.returns-then-ahead-cursor-clause-stands
 returns-then-ahead-cursor-clause-stands c =
