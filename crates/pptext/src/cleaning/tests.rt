@@ -54,6 +54,26 @@ fn agree(alloc: Global, bytes: &[u8]) -> Result<bool, AllocError>
     Ok(true)
 }
 
+/// Whether each place agrees that is asked for at once, over all that stands in front of it.
+fn agree_at_once(alloc: Global, bytes: &[u8]) -> Result<bool, AllocError>
+    requires { length bytes.now ≤ 16_777_216 }
+{
+    let slow = match clean_slowly(alloc, bytes, 7)? {
+        Ok(chars) => chars,
+        Err(_) => return Ok(true),
+    };
+    for (i, c) in slow.iter().enumerate() {
+        let mut text = match clean_text(alloc, bytes, 7)? {
+            Ok(text) => text,
+            Err(_) => return Ok(false),
+        };
+        if text.codes().len() != slow.len() || text.place(i) != c.at {
+            return Ok(false);
+        }
+    }
+    Ok(true)
+}
+
 /// The five letters that a number spells.
 fn spell(n: u32) -> [u8; 5] {
     let letters = b"a?/=\\\r\n";
@@ -79,7 +99,7 @@ fn agrees_on_short_texts(rt: HostRuntime) -> Result<(), Fail> {
 
 #[test]
 fn agrees_with_the_plain_passes(rt: HostRuntime) -> Result<(), Fail> {
-    let texts: [&[u8]; 22] = [
+    let texts: [&[u8]; 28] = [
         b"\xef\xbb\xbfa\n",
         b"a\r\nb\r\n",
         b"a\rb\n",
@@ -102,9 +122,16 @@ fn agrees_with_the_plain_passes(rt: HostRuntime) -> Result<(), Fail> {
         b"\\\\\n\n",
         b"a\r",
         b"\xef\xbb\xbf??/\r\n\\\nb\r\n\r\n??(\\\n??)c",
+        b"\r\n\r\n\r\n\r\na\r\n\r\n",
+        b"ab\r\ncd\r\nef",
+        b"??=??(??)??'??<??!??>??-x??=\n??-",
+        b"\\\n\\\r\n??/\n??/\r\n\\\nab\\\n\\\ncd\n",
+        b"ab??/\n??/\ncd??/\r\n??/??/\nef",
+        b"a??b?\\?c\r\r\n??/??(\\\\\n\\\r\rd\n",
     ];
     for bytes in texts {
         assert!(rt; agree(rt.alloc(), bytes)?, "at {bytes:?}");
+        assert!(rt; agree_at_once(rt.alloc(), bytes)?, "at once at {bytes:?}");
     }
     Ok(())
 }
