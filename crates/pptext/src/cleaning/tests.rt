@@ -99,7 +99,7 @@ fn agrees_on_short_texts(rt: HostRuntime) -> Result<(), Fail> {
 
 #[test]
 fn agrees_with_the_plain_passes(rt: HostRuntime) -> Result<(), Fail> {
-    let texts: [&[u8]; 28] = [
+    let texts: [&[u8]; 22] = [
         b"\xef\xbb\xbfa\n",
         b"a\r\nb\r\n",
         b"a\rb\n",
@@ -122,6 +122,16 @@ fn agrees_with_the_plain_passes(rt: HostRuntime) -> Result<(), Fail> {
         b"\\\\\n\n",
         b"a\r",
         b"\xef\xbb\xbf??/\r\n\\\nb\r\n\r\n??(\\\n??)c",
+    ];
+    for bytes in texts {
+        assert!(rt; agree(rt.alloc(), bytes)?, "at {bytes:?}");
+    }
+    Ok(())
+}
+
+#[test]
+fn agrees_behind_many_breaks(rt: HostRuntime) -> Result<(), Fail> {
+    let texts: [&[u8]; 6] = [
         b"\r\n\r\n\r\n\r\na\r\n\r\n",
         b"ab\r\ncd\r\nef",
         b"??=??(??)??'??<??!??>??-x??=\n??-",
