@@ -4,6 +4,8 @@ pub mod OneUnit
 pub mod Preprocessed
 pub mod Commands
 pub mod Walk
+pub mod OpenFiles
+pub mod Work
 pub mod Found
 pub mod Opens
 pub mod Dependent

@@ -1,28 +1,39 @@
 -- Opening a file, and control lines, from what the steps ensure.
-use Rattle.std.proofs.Common.{◌≡◌, ℕ, zero, suc, ◌<◌, ◌≤◌, pos, List, [], ◌∷◌, refl, sym, ap, ◌∙◌, subst, Option, Some, Ok, Err}
+use Rattle.std.proofs.Common.{◌≡◌, ℕ, zero, suc, ◌+◌, ◌^◌, ◌<◌, ◌≤◌, pos, List, [], ◌∷◌, length, refl, sym, ap, ◌∙◌, subst, false, Option, None, Some, Result, Ok, Err, MatchResult}
 use Rattle.pptext.specs.declared.tokens.Place.{Place}
 use Rattle.pptext.specs.declared.tokens.Token.{Token}
 use Rattle.pptext.specs.declared.tokens.Fault.{Fault}
-use Rattle.pptext.specs.Lines.{Row}
+use Rattle.pptext.specs.declared.sources.Directive.{Directive}
+use Rattle.pptext.specs.declared.sources.Directive.TheVariants.{Include}
+use Rattle.pptext.specs.Lines.{Row, directive_of}
 use Rattle.pptext.specs.Sources.{Reads, IsSource}
-use Rattle.pptext.specs.Tree.{Parts, Tree, group_fault}
+use Rattle.pptext.specs.Tree.{sign_place, Parts, Tree, group_fault}
 use Rattle.pptext.proofs.Trees.{a_tree}
 use Rattle.ppexpand.specs.declared.env.Env.{Env}
 use Rattle.ppshelf.specs.Content.{Content, unreadable, readable, IsRead}
 use Rattle.ppshelf.specs.Names.{name_in}
 use Rattle.ppshelf.specs.Shelved.{Spot, Files, Extends, file_at, names_of, name_at}
 use Rattle.ppunit.specs.declared.states.State.{State}
-use Rattle.ppunit.specs.States.{Surroundings, going, stopped, depending, entering, literal}
+use Rattle.ppunit.specs.declared.including.Asked.{Asked}
+use Rattle.ppunit.specs.declared.opening.Entered.{Entered}
+use Rattle.ppunit.specs.declared.walking.Next.{Next}
+use Rattle.ppunit.specs.Directives.{Asks, Finds, ControlBy}
+use Rattle.ppunit.specs.States.{Surroundings, Reached, going, stopped, depending, entering, literal}
+use Rattle.ppunit.specs.Quotes.{lone_quote}
 use Rattle.ppunit.specs.Group.{fault_at, deepest, Group, Controls, Opened}
-use Rattle.ppunit.specs.Walk.{Walks}
+use Rattle.ppunit.specs.Walk.{line_at, opens_section, ends_group, Advances, EntersFile, Leads, StepsTo, Steps, back}
+use Rattle.ppunit.proofs.Walk.{control_advances, passes}
 
 -- ---- a control line
 
-pub controls_at : (around : Surroundings) (depth row : ℕ) (s t : State) (r : Row) (tokens : List Token) (number : ℕ) (f g : Option Fault) → tokens ≡ r.tokens → number ≡ r.number → f ≡ g → Controls around depth row s (record { tokens = tokens; number = number }) (record { state = t; fault = f }) → Controls around depth row s r (record { state = t; fault = g })
-controls_at around depth row s t r tokens number f g same_tokens same_number same here =
-    let a = subst (λ (z : List Token). Controls around depth row s (record { tokens = z; number = number }) (record { state = t; fault = f })) same_tokens here in
-    let b = subst (λ (z : ℕ). Controls around depth row s (record { tokens = r.tokens; number = z }) (record { state = t; fault = f })) same_number a in
-    subst (λ (z : Option Fault). Controls around depth row s r (record { state = t; fault = z })) same b
+controls_at : (around : Surroundings) (depth row : ℕ) (s : State) (m : Reached) (r : Row) (tokens : List Token) (number : ℕ) → tokens ≡ r.tokens → number ≡ r.number → Controls around depth row s (record { tokens = tokens; number = number }) m → Controls around depth row s r m
+controls_at around depth row s m r tokens number same_tokens same_number here =
+    subst (λ (z : ℕ). Controls around depth row s (record { tokens = r.tokens; number = z }) m) same_number (subst (λ (z : List Token). Controls around depth row s (record { tokens = z; number = number }) m) same_tokens here)
+
+pub other_control : (around : Surroundings) (depth row : ℕ) (s t : State) (d : Directive) (r : Row) (f g : Option Fault) → directive_of r.tokens ≡ Some d → lone_quote r.tokens ≡ None → f ≡ g → ControlBy (Some d) s r (record { state = t; fault = f }) → Controls around depth row s r (record { state = t; fault = g })
+other_control around depth row s t d r f g is alone same control =
+    let by = subst (λ (z : Option Directive). ControlBy z s r (record { state = t; fault = f })) (sym is) control in
+    subst (λ (z : Option Fault). Controls around depth row s r (record { state = t; fault = z })) same (Controls.other alone by)
 
 -- ---- the name of a row
 
@@ -56,10 +67,57 @@ pub entering_is : (around : Surroundings) (row : ℕ) (s a : State) (inside inne
 entering_is around row s a inside inner name depends same is named =
     ap (λ (z : Env). record a { env = z }) (same ∙ is) ∙ ap (λ (z : List ℕ). record a { env = record a.env { name = literal z; shift = pos 0 } }) (sym named) ∙ ap (λ (z : State). record z { env = record z.env { name = literal (name_in around.names row); shift = pos 0 } }) depends
 
-pub opens_read : (around : Files → Surroundings) (files more : Files) (depth row from : ℕ) (at : Place) (s inside t : State) (outer : Env) (f : Option Fault) (content : Content) (lines : List Row) → depth ≤ deepest → Extends more files → file_at (around more).files row ≡ Some content → from ≡ row → IsRead from content (Ok lines) → inside ≡ entering (around more) s row → outer ≡ s.env → Walks around files depth row lines inside (record { state = t; fault = f }) → Opened (around more) depth at s row (record { state = record t { env = outer }; fault = f })
-opens_read around files more depth row from at s inside t outer f unreadable lines fits grows known same reads entered left walks = absurd reads
-opens_read around files more depth row from at s inside t outer f (readable bytes) lines fits grows known same reads entered left walks =
-    let source : IsSource row bytes lines = subst (λ (z : ℕ). IsSource z bytes lines) same reads in
-    let tree = tree_of row bytes lines source in
-    let group = subst (λ (z : State). Group (around more) depth row (going z) tree.0 (record { state = t; fault = f })) entered (walks tree.0 tree.1 more grows) in
-    subst (λ (z : Env). Opened (around more) depth at s row (record { state = record t { env = z }; fault = f })) (sym left) (Opened.read {depth = depth} {at = at} {s = s} fits known source tree.1 group)
+pub opens_read : (around : Files → Surroundings) (files : Files) (depth row from : ℕ) (at : Place) (s t : State) (e : Entered) (content : Content) → depth ≤ deepest → ((more : Files) → Extends more files → file_at (around more).files row ≡ Some content) → e.file.row ≡ row → e.file.index ≡ 0 → length e.file.source.now < 2 ^ 64 → from ≡ row → IsRead from content (Ok e.file.source.now) → ((more : Files) → t ≡ entering (around more) s row) → e.outer ≡ s.env → EntersFile around files depth (λ more m. Opened (around more) depth at s row m) t e
+opens_read around files depth row from at s t e unreadable fits known named begins few same reads entered left = absurd reads
+opens_read around files depth row from at s t e (readable bytes) fits known named begins few same reads entered left =
+    let source : IsSource row bytes e.file.source.now = subst (λ (z : ℕ). IsSource z bytes e.file.source.now) same reads in
+    let tree = tree_of row bytes e.file.source.now source in
+    record {
+      fits = fits;
+      begins = begins;
+      few = few;
+      parts = tree.0;
+      tree = tree.1;
+      group = λ more grows m group.
+          let inside = subst (λ (z : State). Group (around more) depth row (going z) tree.0 m) (entered more) (subst (λ (z : ℕ). Group (around more) depth z (going t) tree.0 m) named group) in
+          subst (λ (z : Env). Opened (around more) depth at s row (back z m)) (sym left) (Opened.read {depth = depth} {at = at} {s = s} fits (known more grows) source tree.1 inside);
+    }
+
+-- ---- where a line leads
+
+leads_on : (around : Files → Surroundings) (files : Files) (depth : ℕ) (one other : Files → Reached → Type 0) (t : State) (r : Result (Option Entered) Fault) → ((more : Files) (m : Reached) → one more m → other more m) → Leads around files depth one t r → Leads around files depth other t r
+leads_on around files depth one other t (Ok None) turn leads = λ more grows. turn more (going t) (leads more grows)
+leads_on around files depth one other t (Ok (Some e)) turn leads = record {
+  fits = leads.fits;
+  begins = leads.begins;
+  few = leads.few;
+  parts = leads.parts;
+  tree = leads.tree;
+  group = λ more grows m group. turn more (back e.outer m) (leads.group more grows m group);
+}
+leads_on around files depth one other t (Err f) turn leads = λ more grows. turn more (stopped t f) (leads more grows)
+
+pub leads_included : (around : Files → Surroundings) (files : Files) (depth deeper row found : ℕ) (at : Place) (line : Row) (s t : State) (a : Asked) (r : Result (Option Entered) Fault) → deeper ≡ suc depth → at ≡ sign_place line.tokens → directive_of line.tokens ≡ Some Include → lone_quote line.tokens ≡ None → Asks s line.tokens (Ok a) → ((more : Files) → Finds (around more) row a (Some found)) → Leads around files deeper (λ more m. Opened (around more) deeper at s found m) t r → Leads around files (suc depth) (λ more m. Controls (around more) depth row s line m) t r
+leads_included around files depth deeper row found at line s t a r one place is alone asks finds leads =
+    let here : Leads around files (suc depth) (λ more m. Opened (around more) (suc depth) (sign_place line.tokens) s found m) t r = subst (λ (z : Place). Leads around files (suc depth) (λ more m. Opened (around more) (suc depth) z s found m) t r) place (subst (λ (z : ℕ). Leads around files z (λ more m. Opened (around more) z at s found m) t r) one leads) in
+    leads_on around files (suc depth) (λ more m. Opened (around more) (suc depth) (sign_place line.tokens) s found m) (λ more m. Controls (around more) depth row s line m) t r (λ more m opened. Controls.included a found is alone asks (finds more) opened) here
+
+pub steps_line : (around : Files → Surroundings) (files : Files) (depth row : ℕ) (lines : List Row) (index : ℕ) (s t : State) (found : Result ℕ Fault) (r : Result Next Fault) → MatchResult r (λ next. (found ≡ Ok next.line) × (next.entered ≡ None)) (λ fault. found ≡ Err fault) → Advances around files depth row lines index s t found → Steps around files depth row lines index s t r
+steps_line around files depth row lines index s t found (Ok next) (is, none) advances =
+    subst (λ (z : Option Entered). StepsTo around files depth row lines index s t next.line z) (sym none) (subst (λ (z : Result ℕ Fault). Advances around files depth row lines index s t z) is advances)
+steps_line around files depth row lines index s t found (Err f) is advances = subst (λ (z : Result ℕ Fault). Advances around files depth row lines index s t z) is advances
+
+module _ (around : Files → Surroundings) (files : Files) (depth row : ℕ) (lines : List Row) (index : ℕ) (s t : State) (d : Directive) (tokens : List Token) (number : ℕ) (within : index < length lines) (is : directive_of (line_at lines index).tokens ≡ Some d) (opens : opens_section d ≡ false) (ends : ends_group d ≡ false) (same_tokens : tokens ≡ (line_at lines index).tokens) (same_number : number ≡ (line_at lines index).number) where
+  leads_there : (r : Result (Option Entered) Fault) → Leads around files (suc depth) (λ more m. Controls (around more) depth row s (record { tokens = tokens; number = number }) m) t r → Leads around files (suc depth) (λ more m. Controls (around more) depth row s (line_at lines index) m) t r
+  leads_there r leads =
+      leads_on around files (suc depth) (λ more m. Controls (around more) depth row s (record { tokens = tokens; number = number }) m) (λ more m. Controls (around more) depth row s (line_at lines index) m) t r (λ more m here. controls_at (around more) depth row s m (line_at lines index) tokens number same_tokens same_number here) leads
+
+  steps_by : (entered : Option Entered) → Leads around files (suc depth) (λ more m. Controls (around more) depth row s (line_at lines index) m) t (Ok entered) → StepsTo around files depth row lines index s t (index + 1) entered
+  steps_by None leads = control_advances around files depth row lines index s t None d within is opens ends leads
+  steps_by (Some e) leads = (passes depth row lines index s d within is opens ends, leads)
+
+  pub steps_control : (entered : Option Entered) → Leads around files (suc depth) (λ more m. Controls (around more) depth row s (record { tokens = tokens; number = number }) m) t (Ok entered) → StepsTo around files depth row lines index s t (index + 1) entered
+  steps_control entered leads = steps_by entered (leads_there (Ok entered) leads)
+
+  pub stops_control : (f : Fault) → Leads around files (suc depth) (λ more m. Controls (around more) depth row s (record { tokens = tokens; number = number }) m) t (Err f) → Advances around files depth row lines index s t (Err f)
+  stops_control f leads = control_advances around files depth row lines index s t (Some f) d within is opens ends (leads_there (Err f) leads)

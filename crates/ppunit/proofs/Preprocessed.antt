@@ -12,7 +12,9 @@ use Rattle.ppunit.specs.declared.units.Setting.{Setting}
 use Rattle.ppunit.specs.States.{Surroundings, Reached, stopped, given}
 use Rattle.ppunit.specs.Group.{Opened}
 use Rattle.ppunit.specs.Unit.{IsUnit, beginning, command_file, command_text, unread, processed, Translates, undefined, translated, first_place}
-use Rattle.ppunit.specs.Walk.{Walks, DefinesOver}
+use Rattle.ppunit.specs.declared.opening.Entered.{Entered}
+use Rattle.ppunit.specs.Walk.{EntersFile, Walks, DefinesOver}
+use Rattle.ppunit.proofs.Walk.{extends_trans}
 
 -- a file without fault has a tree
 pub source_tree : ((lines : List Row) → (group_fault [] lines ≡ None) ↔ ((parts : Parts) × Tree lines parts)) → (file : ℕ) (bytes : List ℕ) (lines : List Row) → IsSource file bytes lines → (parts : Parts) × Tree lines parts
@@ -33,6 +35,10 @@ on_ok (Err e) f p = tt
 
 extends_itself : (files : Files) → Extends files files
 extends_itself files row c e = e
+
+pub entered_file : (around : Files → Surroundings) (files new : Files) (depth : ℕ) (whole : Files → Reached → Type 0) (t u : State) (e : Entered) (fault : Option Fault) → Extends new files → EntersFile around files depth whole t e → Walks around new depth e.file.row e.file.source.now t (record { state = u; fault = fault }) → (more : Files) → Extends more new → whole more (record { state = record u { env = e.outer }; fault = fault })
+entered_file around files new depth whole t u e fault wider enters walks more grows =
+    enters.group more (extends_trans more new files grows wider) (record { state = u; fault = fault }) (walks enters.parts enters.tree more grows)
 
 pub undefined_unit : (around : Files → Surroundings) (files : Files) (defines : List (List ℕ)) (row : ℕ) (s t : State) (f : Option Fault) → is_some f ≡ true → DefinesOver around files defines s (record { state = t; fault = f }) → Translates (around files) defines row s (record { state = t; fault = f })
 undefined_unit around files defines row s t None e over = absurd (cc)

@@ -22,7 +22,7 @@ use Rattle.ppunit.specs.Directives.{RunGives}
 use Rattle.ppunit.specs.Lines.{run_tokens}
 use Rattle.ppunit.specs.Group.{Controls}
 use Rattle.ppshelf.specs.Shelved.{Files, Extends}
-use Rattle.ppunit.specs.Walk.{no_row, line_at, opens_section, ends_group, Outer, lay, AreOuter, StandsAt, Ends, Advances, Walks, BranchesAt, Enters, FindsBranch, IsTextRow, IsRest}
+use Rattle.ppunit.specs.Walk.{no_row, line_at, opens_section, ends_group, Outer, lay, AreOuter, StandsAt, Ends, Advances, BranchesAt, Enters, FindsBranch, IsTextRow, IsRest, Passes, PassesFrom}
 
 -- ---- lines by index
 
@@ -279,7 +279,7 @@ ends_front : (around : Surroundings) (depth row : ℕ) (m n : Reached) (ps qs : 
 ends_front around depth row m n ps qs [] end front e = front end e
 ends_front around depth row m n ps qs ((bs, rs) ∷ k) end front e = (e.0, front e.0 e.1, e.2)
 
-ends_stop : (around : Surroundings) (depth row : ℕ) (m : Reached) (s : State) (f : Fault) (ps : Parts) (k : Outer) → Group around depth row m ps (stopped s f) → Ends around depth row m ps k (stopped s f)
+pub ends_stop : (around : Surroundings) (depth row : ℕ) (m : Reached) (s : State) (f : Fault) (ps : Parts) (k : Outer) → Group around depth row m ps (stopped s f) → Ends around depth row m ps k (stopped s f)
 ends_stop around depth row m s f ps [] g = g
 ends_stop around depth row m s f ps ((bs, qs) ∷ k) g = (stopped s f, g, ends_stop around depth row (stopped s f) s f qs k Group.stays)
 
@@ -587,30 +587,43 @@ pub control_advances : (around : Files → Surroundings) (files : Files) (depth 
 control_advances around files depth row lines index s t f d within is opens ends controls =
     advances around files depth row lines index s t (run_result (index + 1) f) (λ ps k stands. control_by around files depth row lines index s t f ps k (ap role_by is ∙ control_role d opens ends) (first_at lines index ps k within stands) stands controls)
 
+passes_by : (depth row : ℕ) (lines : List Row) (index : ℕ) (s : State) (ps : Parts) (k : Outer) → role (line_at lines index) ≡ role_by (Some Null) → First (line_at lines index) ps k → StandsAt lines index ps k → PassesFrom depth row lines index s (index + 1) ps k
+passes_by depth row lines index s (Control x qs) k is (control same other) stands =
+    let r = line_at lines index in
+    let there : drop index lines ≡ r ∷ lay qs k = stands.rest ∙ lay_control x qs k ∙ ap (λ (z : Row). z ∷ lay qs k) same in
+    (qs, k, stands_behind lines index r qs k there stands.parts.1 stands.outer, λ around m end controls rest. subst (λ (z : Row). Ends around depth row (going s) (Control z qs) k end) (sym same) (ends_front around depth row (going s) m (Control r qs) qs k end (λ o g. Group.control controls g) rest))
+passes_by depth row lines index s ps k is (text same) stands = absurd (cc)
+passes_by depth row lines index s ps k is (opening same other) stands = absurd (cc)
+passes_by depth row lines index s ps k is (ending differs) stands = absurd (differs.not_control is)
+
+pub passes : (depth row : ℕ) (lines : List Row) (index : ℕ) (s : State) (d : Directive) → index < length lines → directive_of (line_at lines index).tokens ≡ Some d → opens_section d ≡ false → ends_group d ≡ false → Passes depth row lines index s (index + 1)
+passes depth row lines index s d within is opens ends ps k stands =
+    passes_by depth row lines index s ps k (ap role_by is ∙ control_role d opens ends) (first_at lines index ps k within stands) stands
+
 -- ---- the whole file
 
--- as far as the lines go that have been passed
-pub record WalkSoFar (around : Files → Surroundings) (files : Files) (depth row : ℕ) (lines : List Row) (s : State) (index : ℕ) (t : State) : Type 0 where
-  pub so_far : (parts : Parts) → Tree lines parts → (ps : Parts) × (k : Outer) × StandsAt lines index ps k × ((more : Files) → Extends more files → (end : Reached) → Ends (around more) depth row (going t) ps k end → Group (around more) depth row (going s) parts end)
+-- as far as the lines of a file go that have been passed: its end leads to what is to be reached
+pub record FileSoFar (around : Files → Surroundings) (files : Files) (whole : Files → Reached → Type 0) (depth row : ℕ) (lines : List Row) (index : ℕ) (t : State) : Type 0 where
+  pub parts : Parts
+  pub outer : Outer
+  pub stands : StandsAt lines index parts outer
+  pub ends : (more : Files) → Extends more files → (end : Reached) → Ends (around more) depth row (going t) parts outer end → whole more end
 
-pub walk_start : (around : Files → Surroundings) (files : Files) (depth row : ℕ) (lines : List Row) (s : State) → WalkSoFar around files depth row lines s 0 s
-walk_start around files depth row lines s = record { so_far = λ parts tree. (parts, [], record { rest = sym tree.whole; parts = tree.each; outer = tt }, λ more grows end rest. rest) }
+pub file_start : (around : Files → Surroundings) (files : Files) (whole : Files → Reached → Type 0) (depth row : ℕ) (lines : List Row) (index : ℕ) (t : State) (parts : Parts) → index ≡ 0 → Tree lines parts → ((more : Files) → Extends more files → (end : Reached) → Group (around more) depth row (going t) parts end → whole more end) → FileSoFar around files whole depth row lines index t
+file_start around files whole depth row lines index t parts begins tree ends =
+    subst (λ (z : ℕ). FileSoFar around files whole depth row lines z t) (sym begins) (record { parts = parts; outer = []; stands = record { rest = sym tree.whole; parts = tree.each; outer = tt }; ends = ends })
 
 pub extends_trans : (a b c : Files) → Extends a b → Extends b c → Extends a c
 extends_trans a b c ab bc row content at = ab row content (bc row content at)
 
-pub walk_more : (around : Files → Surroundings) (old new : Files) (depth row : ℕ) (lines : List Row) (s t u : State) (index next : ℕ) → WalkSoFar around old depth row lines s index t → Extends new old → Advances around new depth row lines index t u (Ok next) → WalkSoFar around new depth row lines s next u
-walk_more around old new depth row lines s t u index next sofar wider step = record {
-  so_far = λ parts tree.
-      let f = sofar.so_far parts tree in
-      let g = step f.0 f.1 f.2 in
-      (g.0, g.1, g.2, λ more grows end rest. f.3 more (extends_trans more new old grows wider) end (g.3 more grows end rest));
-}
+pub file_more : (around : Files → Surroundings) (old new : Files) (whole : Files → Reached → Type 0) (depth row : ℕ) (lines : List Row) (index next : ℕ) (t u : State) → FileSoFar around old whole depth row lines index t → Extends new old → Advances around new depth row lines index t u (Ok next) → FileSoFar around new whole depth row lines next u
+file_more around old new whole depth row lines index next t u sofar wider step =
+    let g = step sofar.parts sofar.outer sofar.stands in
+    record { parts = g.0; outer = g.1; stands = g.2; ends = λ more grows end rest. sofar.ends more (extends_trans more new old grows wider) end (g.3 more grows end rest) }
 
-pub walk_stop : (around : Files → Surroundings) (old new : Files) (depth row : ℕ) (lines : List Row) (s t u : State) (index : ℕ) (fault : Fault) → WalkSoFar around old depth row lines s index t → Extends new old → Advances around new depth row lines index t u (Err fault) → Walks around new depth row lines s (stopped u fault)
-walk_stop around old new depth row lines s t u index fault sofar wider step parts tree more grows =
-    let f = sofar.so_far parts tree in
-    f.3 more (extends_trans more new old grows wider) (stopped u fault) (step f.0 f.1 f.2 more grows)
+pub file_stop : (around : Files → Surroundings) (old new : Files) (whole : Files → Reached → Type 0) (depth row : ℕ) (lines : List Row) (index : ℕ) (t u : State) (fault : Fault) → FileSoFar around old whole depth row lines index t → Extends new old → Advances around new depth row lines index t u (Err fault) → (more : Files) → Extends more new → whole more (stopped u fault)
+file_stop around old new whole depth row lines index t u fault sofar wider step more grows =
+    sofar.ends more (extends_trans more new old grows wider) (stopped u fault) (step sofar.parts sofar.outer sofar.stands more grows)
 
 nothing_laid : (around : Surroundings) (depth row : ℕ) (t : State) (ps : Parts) (k : Outer) → lay ps k ≡ [] → AreParts ps → Ends around depth row (going t) ps k (going t)
 nothing_laid around depth row t Done [] e are = Group.done
@@ -621,10 +634,9 @@ nothing_laid around depth row t (Run (r ∷ rs) ps) k e are = let whole = sym (l
 nothing_laid around depth row t (Control r ps) k e are = let whole = sym (lay_control r ps k) ∙ e in absurd (cc)
 nothing_laid around depth row t (Section r ps bs qs) k e are = let whole = sym (lay_section r ps qs bs k) ∙ e in absurd (cc)
 
-pub walk_done : (around : Files → Surroundings) (files : Files) (depth row : ℕ) (lines : List Row) (s t : State) (index : ℕ) → WalkSoFar around files depth row lines s index t → length lines ≤ index → Walks around files depth row lines s (going t)
-walk_done around files depth row lines s t index sofar over parts tree more grows =
-    let f = sofar.so_far parts tree in
-    f.3 more grows (going t) (nothing_laid (around more) depth row t f.0 f.1 (sym f.2.rest ∙ drop_all index lines over) f.2.parts)
+pub file_done : (around : Files → Surroundings) (files : Files) (whole : Files → Reached → Type 0) (depth row : ℕ) (lines : List Row) (index : ℕ) (t : State) → FileSoFar around files whole depth row lines index t → length lines ≤ index → (more : Files) → Extends more files → whole more (going t)
+file_done around files whole depth row lines index t sofar over more grows =
+    sofar.ends more grows (going t) (nothing_laid (around more) depth row t sofar.parts sofar.outer (sym sofar.stands.rest ∙ drop_all index lines over) sofar.stands.parts)
 
 pub none_of : {A : Type 0} (o : Option A) → ((x : A) → o ≡ Some x → ⊥) → o ≡ None
 none_of None never = refl

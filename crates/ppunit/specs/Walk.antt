@@ -1,5 +1,5 @@
--- Where a walk over the lines of a file stands in the tree of its groups.
-use Rattle.std.specs.Prelude.{◌≡◌, ℕ, ◌+◌, List, [], ◌∷◌, ◌++◌, drop, map, Bool, true, false, Option, None, Some, Result, Ok, Err, slice_index_or}
+-- Where a walk over the lines of a file, and of the files that it includes, stands in the tree of its groups.
+use Rattle.std.specs.Prelude.{◌≡◌, ℕ, suc, ◌+◌, ◌<◌, ◌≤◌, ◌^◌, length, List, [], ◌∷◌, ◌++◌, drop, map, Bool, true, false, Option, None, Some, Result, Ok, Err, slice_index_or}
 use Rattle.pptext.specs.declared.tokens.Token.{Token}
 use Rattle.pptext.specs.declared.tokens.Fault.{Fault}
 use Rattle.pptext.specs.declared.sources.Directive.{Directive}
@@ -7,11 +7,16 @@ use Rattle.pptext.specs.declared.sources.Directive.TheVariants.{If, Ifdef, Ifnde
 use Rattle.pptext.specs.Lines.{Row, directive_of}
 use Rattle.pptext.specs.Sources.{next_branch}
 use Rattle.pptext.specs.Tree.{Parts, Branches, part_lines, branch_lines, AreParts, AreBranches, Tree, role, branch_behind}
+use Rattle.ppexpand.specs.declared.env.Env.{Env}
 use Rattle.ppshelf.specs.Shelved.{Files, Extends, Spot, names_of}
 use Rattle.ppunit.specs.declared.states.State.{State}
+use Rattle.ppunit.specs.declared.opening.Entered.{Entered}
+use Rattle.ppunit.specs.declared.opening.OpenFile.{OpenFile}
+use Rattle.ppunit.specs.declared.stack.Waiting.{Waiting}
+use Rattle.ppunit.specs.declared.walking.Next.{Next}
 use Rattle.ppunit.specs.States.{Surroundings, Reached, going, stopped}
 use Rattle.ppunit.specs.Conditions.{Decides}
-use Rattle.ppunit.specs.Group.{Group, Branched}
+use Rattle.ppunit.specs.Group.{deepest, Group, Branched, Controls}
 use Rattle.ppunit.specs.Unit.{Defines}
 
 -- of a shelf and folders, over these files
@@ -66,6 +71,57 @@ Ends around depth row m ps ((bs, qs) ∷ k) end = (n : Reached) × Group around 
 abbrev pub Advances : (Files → Surroundings) → Files → ℕ → ℕ → List Row → ℕ → State → State → Result ℕ Fault → Type 0
 Advances around files depth row lines index s t (Ok next) = (ps : Parts) (k : Outer) → StandsAt lines index ps k → (ps' : Parts) × (k' : Outer) × StandsAt lines next ps' k' × ((more : Files) → Extends more files → (end : Reached) → Ends (around more) depth row (going t) ps' k' end → Ends (around more) depth row (going s) ps k end)
 Advances around files depth row lines index s t (Err f) = (ps : Parts) (k : Outer) → StandsAt lines index ps k → (more : Files) → Extends more files → Ends (around more) depth row (going s) ps k (stopped t f)
+
+-- what the predefined names stood for comes back
+abbrev pub back : Env → Reached → Reached
+back env m = record m { state = record m.state { env = env } }
+
+-- A file was entered and its first line comes next: what its lines reach from this state on leads, with the names brought back, to what was to be
+-- reached.
+pub record EntersFile (around : Files → Surroundings) (files : Files) (depth : ℕ) (whole : Files → Reached → Type 0) (t : State) (e : Entered) : Type 0 where
+  pub fits : depth ≤ deepest
+  pub begins : e.file.index ≡ 0
+  pub few : length e.file.source.now < 2 ^ 64
+  pub parts : Parts
+  pub tree : Tree e.file.source.now parts
+  pub group : (more : Files) → Extends more files → (m : Reached) → Group (around more) depth e.file.row (going t) parts m → whole more (back e.outer m)
+
+-- what was to be reached is reached, by a fault or not, or a file was entered whose lines lead there
+abbrev pub Leads : (Files → Surroundings) → Files → ℕ → (Files → Reached → Type 0) → State → Result (Option Entered) Fault → Type 0
+Leads around files depth whole t (Ok None) = (more : Files) → Extends more files → whole more (going t)
+Leads around files depth whole t (Ok (Some e)) = EntersFile around files depth whole t e
+Leads around files depth whole t (Err f) = (more : Files) → Extends more files → whole more (stopped t f)
+
+-- From the control line at an index to the line at another: what is behind follows from what the control line reaches.
+abbrev pub PassesFrom : ℕ → ℕ → List Row → ℕ → State → ℕ → Parts → Outer → Type 0
+PassesFrom depth row lines index s next ps k = (ps' : Parts) × (k' : Outer) × StandsAt lines next ps' k' × ((around : Surroundings) (m end : Reached) → Controls around depth row s (line_at lines index) m → Ends around depth row m ps' k' end → Ends around depth row (going s) ps k end)
+
+abbrev pub Passes : ℕ → ℕ → List Row → ℕ → State → ℕ → Type 0
+Passes depth row lines index s next = (ps : Parts) (k : Outer) → StandsAt lines index ps k → PassesFrom depth row lines index s next ps k
+
+-- from the line at an index to the line at another, and into a file if one was entered
+abbrev pub StepsTo : (Files → Surroundings) → Files → ℕ → ℕ → List Row → ℕ → State → State → ℕ → Option Entered → Type 0
+StepsTo around files depth row lines index s t next None = Advances around files depth row lines index s t (Ok next)
+StepsTo around files depth row lines index s t next (Some e) = Passes depth row lines index s next × EntersFile around files (suc depth) (λ more m. Controls (around more) depth row s (line_at lines index) m) t e
+
+-- the same, or to a fault
+abbrev pub Steps : (Files → Surroundings) → Files → ℕ → ℕ → List Row → ℕ → State → State → Result Next Fault → Type 0
+Steps around files depth row lines index s t (Ok next) = StepsTo around files depth row lines index s t next.line next.entered
+Steps around files depth row lines index s t (Err f) = Advances around files depth row lines index s t (Err f)
+
+-- the file whose lines come next: the one that was entered, for which this one waits, or else this one
+abbrev pub next_file : OpenFile → Option Entered → OpenFile
+next_file file None = file
+next_file file (Some e) = e.file
+
+abbrev pub next_waiting : OpenFile → Option Entered → List Waiting → List Waiting
+next_waiting file None ws = ws
+next_waiting file (Some e) ws = record { file = file; env = e.outer } ∷ ws
+
+-- what the predefined names stood for comes back, file by file
+abbrev pub brought_back : List Waiting → State → State
+brought_back [] s = s
+brought_back (w ∷ ws) s = brought_back ws (record s { env = w.env })
 
 -- phase 4 of a file's lines, over these files and any more
 abbrev pub Walks : (Files → Surroundings) → Files → ℕ → ℕ → List Row → State → Reached → Type 0

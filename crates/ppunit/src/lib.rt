@@ -13,6 +13,7 @@ mod lists;
 mod opening;
 mod preprocessing;
 mod rows;
+mod stack;
 mod states;
 #[cfg(test)]
 mod tests;

@@ -1,19 +1,19 @@
-// Opening a file (6.10.2): its dependency, its content, and phase 4 of its lines.
-ghost use Rattle.std.specs.Prelude.{◌≡◌, ◌<◌, ◌≤◌, ℕ, pos, List, map, length, string_bytes, IfOk, IfSome};
+// Opening a file (6.10.2): its dependency, its content, and what the predefined names stand for in it.
+ghost use Rattle.std.specs.Prelude.{◌≡◌, ◌<◌, ◌^◌, pos, ℕ, map, length, string_bytes, IfOk, IfSome};
 ghost use Rattle.ppshelf.specs.Names.{name_in};
 ghost use Rattle.ppshelf.specs.Shelved.{Files, Extends, names_of, name_at};
 ghost use Rattle.ppunit.specs.Directives.{Finds};
 ghost use Rattle.ppunit.specs.Group.{Opened, fault_at};
-ghost use Rattle.ppunit.specs.States.{literal};
-ghost use Rattle.ppunit.specs.Walk.{surroundings_of};
+ghost use Rattle.ppunit.specs.States.{Reached, literal};
+ghost use Rattle.ppunit.specs.Walk.{surroundings_of, Leads};
 
 use crate::guards::is_left_out;
 use crate::including::Asked;
+use crate::rows::count;
 use crate::states::{State, literal};
-use crate::walking::walk;
 use ppexpand::Env;
 use ppshelf::{Disk, Folders, Form, Pass, Shelf, resolve};
-use pptext::{Fault, Memory, Place, Spelling};
+use pptext::{Fault, Memory, Place, Source, Spelling};
 use std::alloc::{AllocError, Global};
 use std::mem::replace;
 
@@ -37,6 +37,39 @@ impl<D: Disk> Drop for Around<'_, '_, D> {
             folders: _,
         } = self;
     }
+}
+
+/// A file whose lines are worked off: its row, its lines, and the line that the work goes on with.
+#[derive(Clone, Copy, Drop)]
+pub(crate) struct OpenFile<'a> {
+    pub row: usize,
+    pub source: &'a Source,
+    pub index: usize,
+}
+
+impl<'a> OpenFile<'a> {
+    /// A file before its first line.
+    pub(crate) fn new(row: usize, source: &'a Source) -> OpenFile<'a>
+        ensures row { result.row ≡ row }
+        ensures source { result.source.now ≡ source.now }
+        ensures index { result.index ≡ 0 }
+        ensures few { length source.now < 2 ^ 64 }
+    {
+        // For proofs: the number of lines fits.
+        let _lines = count(source);
+        OpenFile {
+            row,
+            source,
+            index: 0,
+        }
+    }
+}
+
+/// A file that was just opened, and what the predefined names stand for behind it.
+#[derive(Drop)]
+pub(crate) struct Entered<'a> {
+    pub file: OpenFile<'a>,
+    pub outer: Env,
 }
 
 // A fault that says a file's name.
@@ -94,8 +127,7 @@ pub(crate) fn resolve_in<D: Disk>(
     )
 }
 
-/// Opens the file of a row for the line at this place: faults 32 and 6, the file's own, or those of its lines.
-#[cycle(files)]
+/// Opens the file of a row for the line at this place, or leaves it out for its guard. Faults 32 and 6, or the file's own.
 pub(crate) fn open<'a, D: Disk>(
     around: &Around<'a, '_, D>,
     pass: &mut Pass<'a, D>,
@@ -103,36 +135,34 @@ pub(crate) fn open<'a, D: Disk>(
     depth: u32,
     at: Place,
     row: usize,
-) -> Result<Option<Fault>, Memory>
+) -> Result<Result<Option<Entered<'a>>, Fault>, Memory>
     requires shelf { pass.old.shelf ≡ around.now.shelf.now }
     requires row { row < length around.now.shelf.now }
-    requires depth { depth ≤ 201 }
     ensures shelf { pass.new.shelf ≡ around.now.shelf.now }
     ensures grows { Extends pass.new.files pass.old.files }
-    ensures opened { IfOk result (λ f. (more : Files) → Extends more pass.new.files → Opened (surroundings_of around.now.shelf.now (map string_bytes around.now.folders.unit.now) (map string_bytes around.now.folders.setting.now) more) depth at state.old row (record { state = state.new; fault = f })) }
+    ensures opened { IfOk result (λ leads. Leads (surroundings_of around.now.shelf.now (map string_bytes around.now.folders.unit.now) (map string_bytes around.now.folders.setting.now)) pass.new.files depth (λ (more : Files) (m : Reached). Opened (surroundings_of around.now.shelf.now (map string_bytes around.now.folders.unit.now) (map string_bytes around.now.folders.setting.now) more) depth at state.old row m) state.new leads) }
 {
     let name = around.shelf.name(row);
     if depth > DEEPEST {
-        return Ok(Some(file_fault(around.alloc, 32, at, name)?));
+        return Ok(Err(file_fault(around.alloc, 32, at, name)?));
     }
     state.depend(row)?;
     let Ok(loaded) = around.shelf.look(pass, row, around.disk) else {
         return Err(Memory);
     };
     let Some(read) = loaded.lines() else {
-        return Ok(Some(file_fault(around.alloc, 6, at, name)?));
+        return Ok(Err(file_fault(around.alloc, 6, at, name)?));
     };
     let source = match read {
         Ok(source) => source,
-        Err(fault) => return Ok(Some(fault.clone()?)),
+        Err(fault) => return Ok(Err(fault.clone()?)),
     };
     // The lines of a guarded file would do nothing.
     if is_left_out(state, source) {
-        return Ok(None);
+        return Ok(Ok(None));
     }
     let inner = entering(around.alloc, &state.env, name)?;
     let outer = replace(&mut state.env, inner);
-    let fault = walk(around, pass, state, source, depth, row)?;
-    state.env = outer;
-    Ok(fault)
+    let file = OpenFile::new(row, source);
+    Ok(Ok(Some(Entered { file, outer })))
 }

@@ -1,12 +1,13 @@
 // A whole unit: its definitions, and then its file.
 ghost use Rattle.std.specs.Prelude.{◌≡◌, ◌<◌, ◌≤◌, ◌++◌, ◌∷◌, [], codes, IfOk, OnOk, All, length, map, string_bytes};
 ghost use Rattle.pptext.specs.Sources.{Reads};
-ghost use Rattle.ppshelf.specs.Shelved.{Extends, names_of};
-ghost use Rattle.ppunit.specs.Unit.{IsUnit, Translates, command_file, command_text, command_line};
+ghost use Rattle.ppshelf.specs.Shelved.{Files, Extends, names_of};
+ghost use Rattle.ppunit.specs.Group.{Opened};
+ghost use Rattle.ppunit.specs.Unit.{IsUnit, Translates, command_file, command_text, command_line, first_place};
 ghost use Rattle.ppunit.specs.Walk.{surroundings_of, DefinesOver};
 
 use crate::lists::Texts;
-use crate::opening::{Around, open};
+use crate::opening::{Around, OpenFile, open};
 use crate::states::State;
 use crate::units::{Setting, Unit, UnitOut};
 use crate::walking::walk;
@@ -70,7 +71,38 @@ fn define_all<'a, D: Disk>(
         Err(fault) => return Ok(Some(fault)),
     };
     tree_unless_fault();
-    walk(around, pass, state, &source, 0, COMMAND_FILE as usize)
+    let file = OpenFile::new(COMMAND_FILE as usize, &source);
+    walk(around, pass, state, file)
+}
+
+// The file in this row, with all that it includes.
+fn process<'a, D: Disk>(
+    around: &Around<'a, '_, D>,
+    pass: &mut Pass<'a, D>,
+    state: &mut State,
+    row: usize,
+) -> Result<Option<Fault>, Memory>
+    requires shelf { pass.old.shelf ≡ around.now.shelf.now }
+    requires row { row < length around.now.shelf.now }
+    ensures shelf { pass.new.shelf ≡ around.now.shelf.now }
+    ensures grows { Extends pass.new.files pass.old.files }
+    ensures opened { IfOk result (λ f. (more : Files) → Extends more pass.new.files → Opened (surroundings_of around.now.shelf.now (map string_bytes around.now.folders.unit.now) (map string_bytes around.now.folders.setting.now) more) 0 (first_place row) state.old row (record { state = state.new; fault = f })) }
+{
+    // A row fits a place, since a shelf has at most 65,535.
+    let _count = around.shelf.len();
+    let at = Place {
+        file: row as u32,
+        line: 1,
+        col: 1,
+    };
+    let entered = match open(around, pass, state, 0, at, row)? {
+        Ok(Some(entered)) => entered,
+        Ok(None) => return Ok(None),
+        Err(fault) => return Ok(Some(fault)),
+    };
+    let fault = walk(around, pass, state, entered.file)?;
+    state.env = entered.outer;
+    Ok(fault)
 }
 
 // The definitions, and then the file in this row.
@@ -92,14 +124,7 @@ fn translate<'a, D: Disk>(
     if fault.is_some() {
         return Ok(fault);
     }
-    // A row fits a place, since a shelf has at most 65,535.
-    let _count = around.shelf.len();
-    let at = Place {
-        file: row as u32,
-        line: 1,
-        col: 1,
-    };
-    open(around, pass, state, 0, at, row)
+    process(around, pass, state, row)
 }
 
 /// Translation phases 1 to 4 of a unit: its definitions, and then its file with all that it includes (5.1.1.2, 6.10).

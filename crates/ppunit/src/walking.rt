@@ -1,5 +1,6 @@
-// The lines of a file in the order of their work: each group that is taken, and no other (6.10.1).
-ghost use Rattle.std.specs.Prelude.{◌≡◌, ◌≢◌, ◌<◌, ◌≤◌, ◌+◌, ℕ, List, ◌++◌, map, drop, length, string_bytes, IfOk, Bool, true, false, None, Some};
+// The lines of a file in the order of their work: each group that is taken, and no other (6.10.1). The lines of an included
+// file come before the line behind its include line.
+ghost use Rattle.std.specs.Prelude.{◌≡◌, ◌≢◌, ◌<◌, ◌≤◌, ◌+◌, ℕ, suc, List, ◌++◌, map, drop, length, string_bytes, IfOk, MatchResult, Bool, true, false, None, Some, Ok, Err};
 ghost use Rattle.std.specs.List.{AllByRecursion};
 ghost use Rattle.pptext.specs.Lines.{Row, directive_of};
 ghost use Rattle.pptext.specs.Tree.{Parts, Branches, branch_lines, AreBranches};
@@ -7,16 +8,17 @@ ghost use Rattle.ppshelf.specs.Shelved.{Files, Extends};
 ghost use Rattle.ppunit.specs.Directives.{Asks};
 ghost use Rattle.pptext.specs.declared.sources.Directive.TheVariants.{Include};
 ghost use Rattle.ppunit.specs.Group.{Controls};
-ghost use Rattle.ppunit.specs.States.{Surroundings};
+ghost use Rattle.ppunit.specs.States.{Surroundings, Reached};
 ghost use Rattle.ppunit.specs.Quotes as quotes;
-ghost use Rattle.ppunit.specs.Walk.{surroundings_of, line_at, opens_section, ends_group, IsTextRow, IsRest, Outer, BranchesAt, Enters, FindsBranch, Advances, Walks};
+ghost use Rattle.ppunit.specs.Walk.{surroundings_of, line_at, opens_section, ends_group, IsTextRow, IsRest, Outer, BranchesAt, Enters, FindsBranch, Advances, Leads, Steps, Walks};
 
 use crate::conditions::decide;
 use crate::directives::{control, error, run_text};
 use crate::including::ask;
 use crate::lines::{line_fault, lone_quote, sign};
-use crate::opening::{Around, open, resolve_in};
+use crate::opening::{Around, Entered, OpenFile, open, resolve_in};
 use crate::rows::{count, line, tokens_at, tokens_between};
+use crate::stack::Stack;
 use crate::states::State;
 use ppshelf::{Disk, Pass};
 use pptext::{Directive, Fault, Memory, Source, Token};
@@ -150,8 +152,7 @@ fn do_run(
     }
 }
 
-// An include line: the file that it asks for, one deeper.
-#[cycle(files)]
+// An include line: the file that it asks for is opened, one deeper.
 fn include<'a, D: Disk>(
     around: &Around<'a, '_, D>,
     pass: &mut Pass<'a, D>,
@@ -159,7 +160,7 @@ fn include<'a, D: Disk>(
     depth: u32,
     row: usize,
     line: &[Token],
-) -> Result<Option<Fault>, Memory>
+) -> Result<Result<Option<Entered<'a>>, Fault>, Memory>
     requires shelf { pass.old.shelf ≡ around.now.shelf.now }
     requires rows { 0 < length around.now.shelf.now }
     requires depth { depth ≤ 200 }
@@ -167,21 +168,19 @@ fn include<'a, D: Disk>(
     requires quotes { quotes.lone_quote line.now ≡ None }
     ensures shelf { pass.new.shelf ≡ around.now.shelf.now }
     ensures grows { Extends pass.new.files pass.old.files }
-    ensures control { IfOk result (λ f. (number : ℕ) (more : Files) → Extends more pass.new.files → Controls (surroundings_of around.now.shelf.now (map string_bytes around.now.folders.unit.now) (map string_bytes around.now.folders.setting.now) more) depth row state.old (record { tokens = line.now; number = number }) (record { state = state.new; fault = f })) }
+    ensures control { IfOk result (λ leads. (number : ℕ) → Leads (surroundings_of around.now.shelf.now (map string_bytes around.now.folders.unit.now) (map string_bytes around.now.folders.setting.now)) pass.new.files (suc depth) (λ (more : Files) (m : Reached). Controls (surroundings_of around.now.shelf.now (map string_bytes around.now.folders.unit.now) (map string_bytes around.now.folders.setting.now) more) depth row state.old (record { tokens = line.now; number = number }) m) state.new leads) }
 {
     let asked = match ask(around.alloc, state, line)? {
         Ok(asked) => asked,
-        Err(fault) => return Ok(Some(fault)),
+        Err(fault) => return Ok(Err(fault)),
     };
     let Some(found) = resolve_in(around, row, &asked)? else {
-        return Ok(Some(line_fault(around.alloc, 31, line, asked.name.as_bytes())?));
+        return Ok(Err(line_fault(around.alloc, 31, line, asked.name.as_bytes())?));
     };
-    let fault = open(around, pass, state, depth + 1, sign(line), found)?;
-    Ok(fault)
+    open(around, pass, state, depth + 1, sign(line), found)
 }
 
-// A control line.
-#[cycle(files)]
+// A control line: the file that it opens, if it opens one.
 fn do_line<'a, D: Disk>(
     around: &Around<'a, '_, D>,
     pass: &mut Pass<'a, D>,
@@ -191,7 +190,7 @@ fn do_line<'a, D: Disk>(
     directive: Directive,
     line: &[Token],
     physical: u32,
-) -> Result<Option<Fault>, Memory>
+) -> Result<Result<Option<Entered<'a>>, Fault>, Memory>
     requires shelf { pass.old.shelf ≡ around.now.shelf.now }
     requires rows { 0 < length around.now.shelf.now }
     requires depth { depth ≤ 200 }
@@ -200,82 +199,113 @@ fn do_line<'a, D: Disk>(
     requires ends { ends_group directive ≡ false }
     ensures shelf { pass.new.shelf ≡ around.now.shelf.now }
     ensures grows { Extends pass.new.files pass.old.files }
-    ensures control { IfOk result (λ f. (more : Files) → Extends more pass.new.files → Controls (surroundings_of around.now.shelf.now (map string_bytes around.now.folders.unit.now) (map string_bytes around.now.folders.setting.now) more) depth row state.old (record { tokens = line.now; number = physical }) (record { state = state.new; fault = f })) }
+    ensures control { IfOk result (λ leads. Leads (surroundings_of around.now.shelf.now (map string_bytes around.now.folders.unit.now) (map string_bytes around.now.folders.setting.now)) pass.new.files (suc depth) (λ (more : Files) (m : Reached). Controls (surroundings_of around.now.shelf.now (map string_bytes around.now.folders.unit.now) (map string_bytes around.now.folders.setting.now) more) depth row state.old (record { tokens = line.now; number = physical }) m) state.new leads) }
 {
     if directive == Directive::Error {
-        return Ok(Some(error(around.alloc, line)?));
+        return Ok(Err(error(around.alloc, line)?));
     }
     if let Some(fault) = lone_quote(line)? {
-        return Ok(Some(fault));
+        return Ok(Err(fault));
     }
     if directive == Directive::Include {
-        let fault = include(around, pass, state, depth, row, line)?;
-        return Ok(fault);
+        return include(around, pass, state, depth, row, line);
     }
-    let fault = control(around.alloc, state, directive, line, physical)?;
-    Ok(fault)
-}
-
-// One text run or one directive line: the line that the work goes on with, or the fault.
-#[cycle(files)]
-fn step<'a, D: Disk>(
-    around: &Around<'a, '_, D>,
-    pass: &mut Pass<'a, D>,
-    state: &mut State,
-    source: &Source,
-    depth: u32,
-    row: usize,
-    index: usize,
-) -> Result<Result<usize, Fault>, Memory>
-    requires shelf { pass.old.shelf ≡ around.now.shelf.now }
-    requires rows { 0 < length around.now.shelf.now }
-    requires depth { depth ≤ 200 }
-    requires index { index < length source.now }
-    ensures shelf { pass.new.shelf ≡ around.now.shelf.now }
-    ensures grows { Extends pass.new.files pass.old.files }
-    ensures further { IfOk result (λ found. IfOk found (λ next. index < next)) }
-    ensures step { IfOk result (λ next. Advances (surroundings_of around.now.shelf.now (map string_bytes around.now.folders.unit.now) (map string_bytes around.now.folders.setting.now)) pass.new.files depth row source.now index state.old state.new next) }
-{
-    let Some(directive) = line(source, index).directive else {
-        return do_run(around.alloc, state, source, index);
-    };
-    if opens_section(directive) {
-        return enter_section(around.alloc, state, source, directive, index);
-    }
-    if ends_group(directive) {
-        return Ok(Ok(section_end(source, index)));
-    }
-    let tokens = tokens_at(source, index);
-    let number = line(source, index).number;
-    match do_line(around, pass, state, depth, row, directive, tokens, number)? {
-        None => Ok(Ok(index + 1)),
+    match control(around.alloc, state, directive, line, physical)? {
+        None => Ok(Ok(None)),
         Some(fault) => Ok(Err(fault)),
     }
 }
 
-/// Phase 4 of a file's lines, up to the first fault.
-#[cycle(files)]
-pub(crate) fn walk<'a, D: Disk>(
+// What comes next: the lines of a file that was just opened, if there is one, and then the line of this index.
+#[derive(Drop)]
+struct Next<'a> {
+    line: usize,
+    entered: Option<Entered<'a>>,
+}
+
+// The line that was found comes next, and no file was opened.
+fn to_line<'a>(found: Result<usize, Fault>) -> Result<Next<'a>, Fault>
+    ensures { MatchResult result (λ next. (found ≡ Ok next.line) × (next.entered ≡ None)) (λ fault. found ≡ Err fault) }
+{
+    let line = found?;
+    Ok(Next {
+        line,
+        entered: None,
+    })
+}
+
+// One text run or one directive line: what comes next, or the fault.
+fn step<'a, D: Disk>(
     around: &Around<'a, '_, D>,
     pass: &mut Pass<'a, D>,
     state: &mut State,
-    source: &Source,
     depth: u32,
-    row: usize,
-) -> Result<Option<Fault>, Memory>
+    file: &OpenFile<'_>,
+) -> Result<Result<Next<'a>, Fault>, Memory>
     requires shelf { pass.old.shelf ≡ around.now.shelf.now }
     requires rows { 0 < length around.now.shelf.now }
     requires depth { depth ≤ 200 }
+    requires index { file.now.index < length file.now.source.now }
     ensures shelf { pass.new.shelf ≡ around.now.shelf.now }
     ensures grows { Extends pass.new.files pass.old.files }
-    ensures walk { IfOk result (λ f. Walks (surroundings_of around.now.shelf.now (map string_bytes around.now.folders.unit.now) (map string_bytes around.now.folders.setting.now)) pass.new.files depth row source.now state.old (record { state = state.new; fault = f })) }
+    ensures further { IfOk result (λ found. IfOk found (λ next. file.now.index < next.line)) }
+    ensures step { IfOk result (λ found. Steps (surroundings_of around.now.shelf.now (map string_bytes around.now.folders.unit.now) (map string_bytes around.now.folders.setting.now)) pass.new.files depth file.now.row file.now.source.now file.now.index state.old state.new found) }
 {
-    let mut index = 0;
-    while index < count(source) {
-        match step(around, pass, state, source, depth, row, index)? {
-            Ok(next) => index = next,
-            Err(fault) => return Ok(Some(fault)),
+    let OpenFile { row, source, index } = *file;
+    let Some(directive) = line(source, index).directive else {
+        return Ok(to_line(do_run(around.alloc, state, source, index)?));
+    };
+    if opens_section(directive) {
+        return Ok(to_line(enter_section(around.alloc, state, source, directive, index)?));
+    }
+    if ends_group(directive) {
+        return Ok(to_line(Ok(section_end(source, index))));
+    }
+    let tokens = tokens_at(source, index);
+    let number = line(source, index).number;
+    match do_line(around, pass, state, depth, row, directive, tokens, number)? {
+        Ok(entered) => Ok(Ok(Next {
+            line: index + 1,
+            entered,
+        })),
+        Err(fault) => Ok(Err(fault)),
+    }
+}
+
+/// Phase 4 of a file's lines and of all that they include, up to the first fault.
+pub(crate) fn walk<'s, 'a: 's, D: Disk>(
+    around: &Around<'a, '_, D>,
+    pass: &mut Pass<'a, D>,
+    state: &mut State,
+    first: OpenFile<'s>,
+) -> Result<Option<Fault>, Memory>
+    requires shelf { pass.old.shelf ≡ around.now.shelf.now }
+    requires rows { 0 < length around.now.shelf.now }
+    requires begins { first.index ≡ 0 }
+    ensures shelf { pass.new.shelf ≡ around.now.shelf.now }
+    ensures grows { Extends pass.new.files pass.old.files }
+    ensures walk { IfOk result (λ f. Walks (surroundings_of around.now.shelf.now (map string_bytes around.now.folders.unit.now) (map string_bytes around.now.folders.setting.now)) pass.new.files 0 first.entry.row first.entry.source.now state.old (record { state = state.new; fault = f })) }
+{
+    let mut waiting = Stack::new(around.alloc);
+    let mut file = first;
+    loop {
+        if file.index < count(file.source) {
+            match step(around, pass, state, waiting.depth(), &file)? {
+                Ok(next) => {
+                    file.index = next.line;
+                    file = waiting.enter(file, next.entered)?;
+                }
+                Err(fault) => {
+                    waiting.stop(state);
+                    return Ok(Some(fault));
+                }
+            }
+        } else {
+            let Some(outer) = waiting.pop() else {
+                return Ok(None);
+            };
+            state.env = outer.env;
+            file = outer.file;
         }
     }
-    Ok(None)
 }

@@ -1,0 +1,82 @@
+-- How much work is left on the files that are open: a line of a file counts more than all lines of a file one deeper.
+use Rattle.std.proofs.Common.{◌≡◌, ℕ, zero, suc, ◌+◌, ◌-◌, ◌*◌, ◌^◌, ◌<◌, ◌≤◌, List, [], ◌∷◌, length, ap, Option, None, Some, arith}
+use Rattle.std.proofs.Math.Nat.{mul-lt-mul_of_pos_right, mul-le-mul_right}
+use Rattle.pptext.specs.Lines.{Row}
+use Rattle.ppshelf.specs.Shelved.{Files}
+use Rattle.ppunit.specs.declared.opening.Entered.{Entered}
+use Rattle.ppunit.specs.declared.opening.OpenFile.{OpenFile}
+use Rattle.ppunit.specs.declared.stack.Waiting.{Waiting}
+use Rattle.ppunit.specs.declared.states.State.{State}
+use Rattle.ppunit.specs.States.{Surroundings}
+use Rattle.ppunit.specs.Walk.{StepsTo, next_file, next_waiting}
+
+-- more than a file has lines, with its end
+limit : ℕ
+limit = 2 ^ 64 + 1
+
+-- what a line counts, by how much deeper a file may be
+room : ℕ → ℕ
+room zero = 1
+room (suc n) = limit * room n
+
+room_pos : (n : ℕ) → 0 < room n
+unfolding room limit
+room_pos zero = omega arith
+room_pos (suc n) = omega (arith, room_pos n)
+
+room_more : (n : ℕ) → n < 200 → room (200 - n) ≡ limit * room (200 - suc n)
+unfolding room
+room_more n deep = let one : 200 - n ≡ suc (200 - suc n) = omega arith in ap room one
+
+-- the lines of a file that are left, and its end
+lines_left : OpenFile → ℕ
+lines_left f = suc (length f.source.now - f.index)
+
+lines_fewer : (f : OpenFile) (next : ℕ) → f.index < length f.source.now → f.index < next → lines_left (record f { index = next }) < lines_left f
+unfolding lines_left
+lines_fewer f next within further = omega arith
+
+lines_few : (f : OpenFile) → length f.source.now < 2 ^ 64 → lines_left f < limit
+unfolding lines_left limit
+lines_few f few = omega arith
+
+lines_some : (f : OpenFile) → 0 < lines_left f
+unfolding lines_left
+lines_some f = omega arith
+
+pub waiting_work : List Waiting → ℕ
+waiting_work [] = 0
+waiting_work (w ∷ ws) = lines_left w.file * room (200 - length ws) + waiting_work ws
+
+-- the work that is left, by the file whose lines are worked off and those that wait, the last one first
+pub work : OpenFile → List Waiting → ℕ
+work f ws = lines_left f * room (200 - length ws) + waiting_work ws
+
+fewer : (x y r rest : ℕ) → x < y → 0 < r → x * r + rest < y * r + rest
+fewer x y r rest less some = omega (arith, mul-lt-mul_of_pos_right less some)
+
+work_on : (f : OpenFile) (next : ℕ) (ws : List Waiting) → f.index < length f.source.now → f.index < next → work (record f { index = next }) ws < work f ws
+unfolding work
+work_on f next ws within further =
+    fewer (lines_left (record f { index = next })) (lines_left f) (room (200 - length ws)) (waiting_work ws) (lines_fewer f next within further) (room_pos (200 - length ws))
+
+deeper : (x y z r s rest : ℕ) → s ≡ limit * r → 0 < r → x < limit → y < z → x * r + (y * s + rest) < z * s + rest
+deeper x y z r s rest is some few less =
+    let inner : x * r < limit * r = mul-lt-mul_of_pos_right few some in
+    let outer : suc y * s ≤ z * s = mul-le-mul_right s less in
+    omega arith
+
+work_entering : (f : OpenFile) (next : ℕ) (e : Entered) (ws : List Waiting) → f.index < length f.source.now → f.index < next → length e.file.source.now < 2 ^ 64 → length ws < 200 → work e.file (record { file = record f { index = next }; env = e.outer } ∷ ws) < work f ws
+unfolding work waiting_work
+work_entering f next e ws within further few deep =
+    deeper (lines_left e.file) (lines_left (record f { index = next })) (lines_left f) (room (200 - suc (length ws))) (room (200 - length ws)) (waiting_work ws) (room_more (length ws) deep) (room_pos (200 - suc (length ws))) (lines_few e.file few) (lines_fewer f next within further)
+
+pub work_next : (around : Files → Surroundings) (files : Files) (row : ℕ) (lines : List Row) (index next : ℕ) (s t : State) (f : OpenFile) (entered : Option Entered) (ws : List Waiting) → f.index < length f.source.now → f.index < next → StepsTo around files (length ws) row lines index s t next entered → work (next_file (record f { index = next }) entered) (next_waiting (record f { index = next }) entered ws) < work f ws
+work_next around files row lines index next s t f None ws within further step = work_on f next ws within further
+work_next around files row lines index next s t f (Some e) ws within further step = work_entering f next e ws within further step.1.few step.1.fits
+
+pub work_leaving : (f : OpenFile) (w : Waiting) (ws : List Waiting) → work w.file ws < work f (w ∷ ws)
+unfolding work waiting_work
+work_leaving f w ws =
+    let some : 0 * room (200 - suc (length ws)) < lines_left f * room (200 - suc (length ws)) = mul-lt-mul_of_pos_right (lines_some f) (room_pos (200 - suc (length ws))) in
+    omega arith

@@ -1,0 +1,85 @@
+// The files that wait for one that they include (6.10.2).
+ghost use Rattle.std.specs.Prelude.{◌≡◌, ◌≤◌, ◌∷◌, [], length, IfOk, MatchOption, OnOk};
+ghost use Rattle.ppunit.specs.Walk.{next_file, next_waiting, brought_back};
+
+use crate::opening::{Entered, OpenFile};
+use crate::states::State;
+use ppexpand::Env;
+use std::alloc::{AllocError, Global};
+use std::marker::Model;
+
+/// A file that waits for one that it includes, and what the predefined names stand for in it.
+#[derive(Drop)]
+pub(crate) struct Waiting<'a> {
+    pub file: OpenFile<'a>,
+    pub env: Env,
+}
+
+/// The files that wait, each for the next one and the last one for the file whose lines are worked off. Contracts see them
+/// from the last one on.
+#[derive(Drop)]
+pub(crate) struct Stack<'a> {
+    files: Vec<Waiting<'a>>,
+}
+
+impl<'a> Model for Stack<'a> {
+    ghost use Rattle.std.specs.Prelude.{List, reverse};
+    ghost use Rattle.ppunit.specs.declared.stack.Waiting.{Waiting};
+
+    ghost Value = { List Waiting };
+
+    ghost view = { λ s. reverse s.files.items };
+}
+
+impl<'a> Stack<'a> {
+    /// No file waits.
+    pub(crate) fn new(alloc: Global) -> Stack<'a>
+        ensures { result ≡ [] }
+    {
+        Stack {
+            files: Vec::new(alloc),
+        }
+    }
+
+    /// How many files wait: the depth of the file whose lines are worked off.
+    pub(crate) fn depth(&self) -> u32
+        requires { length self.now ≤ 200 }
+        ensures { result ≡ length self.now }
+    {
+        self.files.len() as u32
+    }
+
+    /// The file that the work goes on with: the one that was entered, for which this one waits, or else this one.
+    pub(crate) fn enter(
+        &mut self,
+        file: OpenFile<'a>,
+        entered: Option<Entered<'a>>,
+    ) -> Result<OpenFile<'a>, AllocError>
+        ensures file { IfOk result (λ next. next ≡ next_file file.entry entered.entry) }
+        ensures waiting { OnOk result (self.new ≡ next_waiting file.entry entered.entry self.old) }
+    {
+        let Some(entered) = entered else {
+            return Ok(file);
+        };
+        let env = entered.outer;
+        self.files.push(Waiting { file, env })?;
+        Ok(entered.file)
+    }
+
+    /// The file that goes on, taken out.
+    pub(crate) fn pop(&mut self) -> Option<Waiting<'a>>
+        ensures { MatchOption result ((self.old ≡ []) × (self.new ≡ [])) (λ w. self.old ≡ w ∷ self.new) }
+    {
+        self.files.pop()
+    }
+
+    /// No file goes on. What the predefined names stand for comes back, file by file.
+    pub(crate) fn stop(self, state: &mut State)
+        ensures { state.new ≡ brought_back self.entry state.old }
+    {
+        let mut files = self;
+        while let Some(waiting) = files.pop() {
+            state.env = waiting.env;
+        }
+    }
+}
