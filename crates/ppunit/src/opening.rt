@@ -79,7 +79,7 @@ fn file_fault(alloc: Global, number: u8, at: Place, name: &str) -> Result<Fault,
     Ok(Fault {
         number,
         at,
-        text: Spelling::new(Vec::from_slice(alloc, name.as_bytes())?),
+        text: Spelling::from_slice(alloc, name.as_bytes())?,
     })
 }
 
