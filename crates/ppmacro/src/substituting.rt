@@ -151,9 +151,7 @@ fn chains_tokens(
     let mut first = true;
     for chain in chains {
         let mark = mark_before(pending, first, chain.mark);
-        match push_chain_tokens(
-            alloc, sets, given, expanded, used, mark, chain, &mut tokens,
-        )? {
+        match push_chain_tokens(alloc, sets, given, expanded, used, mark, chain, &mut tokens)? {
             Ok(left) => pending = left,
             Err(fault) => return Ok(Err(fault)),
         }

@@ -1,7 +1,5 @@
-use Rattle.std.proofs.Common.{rules, ◌≡◌, ◌∙◌, sym, ap, subst, [], ◌∷◌, ◌++◌, map}
-use Rattle.ppmacro.specs.HideSets.{set_at, IsKnown, hidings, AllKnown}
-use Rattle.ppmacro.specs.Substitution.{gained}
-use Rattle.ppmacro.specs.declared.hide_sets.Hidden.{Hidden}
+use Rattle.std.proofs.Common.{rules, ◌≡◌, ◌∙◌, sym, ap, subst, [], ◌∷◌}
+use Rattle.ppmacro.specs.HideSets.{hidings, AllKnown}
 use Rattle.ppmacro.proofs.KeepLemmas.{known-keeps, known-append, keeps-after}
 use Rattle.ppmacro.proofs.WalkLemmas.{gained-more}
 use Rattle.ppmacro.proofs.substituting.gain_all.Goals as goal
