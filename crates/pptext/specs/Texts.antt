@@ -41,7 +41,7 @@ text_from file raw offset = splices (logical_from file raw offset)
 abbrev pub end_from : ℕ → List ℕ → ℕ → Option Place
 end_from file raw offset = splice_at_end (logical_from file raw offset)
 
--- A cursor stands where its next character is sought, in the stretch in front of the table's next entry.
+-- A cursor stands where its next character is sought, so many bytes in front of a break, behind which the table goes on at its next entry.
 pub record Stands (file : ℕ) (raw breaks : List ℕ) (c : Cursor) : Type 0 where
   pub within : c.offset ≤ length raw
   pub at : c.at ≡ place_behind (start file) (take c.offset raw)

@@ -49,7 +49,7 @@ fn count_breaks(raw: &[u8], supplied: bool) -> Result<usize, usize>
     Ok(count)
 }
 
-/// What phases 1 and 2 make of a file with so many breaks, in no more memory than that takes.
+/// What phases 1 and 2 make of a file with so many breaks, in just the room that it needs.
 fn copy_cleaned(
     alloc: Global,
     raw: &[u8],

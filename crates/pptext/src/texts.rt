@@ -12,8 +12,8 @@ use std::marker::Model;
 
 /// What phases 1 and 2 make of a file: its characters' codes, and the table of breaks.
 ///
-/// A break stands where bytes are removed or replaced: a CR before an LF, a splice, or a trigraph. For each break the table has the
-/// number of bytes between the break before, or the start, and it.
+/// A break stands where bytes are removed or replaced: a CR before an LF, a splice, or a trigraph. For each break the table
+/// has the number of bytes between the break before, or the start, and it.
 #[derive(Drop)]
 pub(crate) struct Cleaned {
     pub(crate) codes: Vec<u8>,
@@ -127,7 +127,7 @@ impl Cursor {
     }
 }
 
-/// The length of the stretch in front of the table's break, or of the last one.
+/// The length of the stretch in front of this break, or of the last one, behind all breaks.
 fn stretch_at(breaks: &[u32], at: usize, last: usize) -> usize
     ensures { result ≡ slice_index_or breaks.now at last }
 {
