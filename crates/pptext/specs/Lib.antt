@@ -1,3 +1,4 @@
+pub mod Spelt
 pub mod Tokens
 pub mod Clean
 pub mod Steps

@@ -162,8 +162,8 @@ fn token_from(
     ensures chars { text.new.chars ≡ text.old.chars }
     ensures passed { text.new.passed ≤ at }
 {
-    let spelling = Spelling::from_slice(alloc, &text.codes()[at..at + n])?;
     let place = text.place(at);
+    let spelling = Spelling::front(alloc, &text.codes()[at..], n)?;
     Ok(Token {
         kind,
         text: spelling,

@@ -30,11 +30,14 @@ impl Source {
 }
 
 /// A fault of the file with an empty text. Takes no memory.
-fn fault_at(alloc: Global, number: u8, at: Place) -> SourceFault
+fn fault_at(number: u8, at: Place) -> SourceFault
     ensures { result ≡ Bad (file_fault number at) }
 {
-    let text = Spelling::new(Vec::new(alloc));
-    SourceFault::Bad(Fault { number, at, text })
+    SourceFault::Bad(Fault {
+        number,
+        at,
+        text: Spelling::empty(),
+    })
 }
 
 /// Reads a file of at most 16,777,216 bytes: its lines of preprocessing tokens behind translation phases 1 to 3 (5.1.1.2, 6.4),
@@ -56,16 +59,19 @@ pub fn read_source(alloc: Global, bytes: &[u8], file: u32) -> Result<Source, Sou
 {
     let mut text = match clean_text(alloc, bytes, file)? {
         Ok(text) => text,
-        Err(place) => return Err(fault_at(alloc, 2, place)),
+        Err(place) => return Err(fault_at(2, place)),
     };
     let mut tokens = Vec::new(alloc);
     let mut lines = Vec::new(alloc);
     match cut_lines(alloc, &mut text, &mut tokens, &mut lines) {
         Ok(()) => {}
-        Err(CutFault::Unclosed(place)) => return Err(fault_at(alloc, 1, place)),
+        Err(CutFault::Unclosed(place)) => return Err(fault_at(1, place)),
         Err(CutFault::Memory) => return Err(SourceFault::Memory),
     }
     drop(text);
+    // A list that grew holds up to as much room again, and these are kept as long as the file.
+    tokens.shrink_to_fit();
+    lines.shrink_to_fit();
     group_lines(alloc, tokens, lines)
 }
 

@@ -212,7 +212,8 @@ impl<'a> Text<'a> {
         ensures place { (d : Char) → result ≡ (slice_index_or self.old.chars at d).at }
         ensures after { self.new ≡ record { chars = self.old.chars; passed = at } }
     {
-        self.cursor = self.cursor.seek(self.raw, breaks_of(&self.cleaned), at);
-        self.cursor.at
+        let cursor = self.cursor.seek(self.raw, breaks_of(&self.cleaned), at);
+        self.cursor = cursor;
+        cursor.at
     }
 }

@@ -1,7 +1,7 @@
 // The token that begins a text: the longest that some kind's grammar allows (6.4).
-ghost use Rattle.std.specs.Prelude.{◌≡◌, ◌≢◌, ◌↔◌, ◌<◌, ◌≤◌, ℕ, List, length, take, IsTrue, slice_index, false};
-ghost use Rattle.pptext.specs.Languages.{Longest};
-ghost use Rattle.pptext.specs.Spellings.{IsSpelling, Spells, is_blank};
+ghost use Rattle.std.specs.Prelude.{◌≡◌, ◌≢◌, ◌↔◌, ◌<◌, ◌≤◌, ℕ, List, length, take, IsTrue, IfNone, IfSome, slice_index, false};
+ghost use Rattle.pptext.specs.Languages.{Longest, NoFront};
+ghost use Rattle.pptext.specs.Spellings.{IsCharConst, IsSpelling, IsStr, Spells, is_blank};
 ghost use Rattle.pptext.specs.Cut.{OpensBlock, OpensLine, AwaitsHeader, HeaderAt, StandsAt, Spelled};
 ghost use Rattle.pptext.specs.Lone.{KnowsLone};
 ghost use Rattle.pptext.specs.Tokens.{spelled};
@@ -10,7 +10,7 @@ use crate::directives::is_hash;
 use crate::punctuators::punct_len;
 use crate::scanning::headers::header_len;
 use crate::scanning::ident_len;
-use crate::scanning::literals::{LoneQuotes, char_const_len, str_len};
+use crate::scanning::literals::{LoneQuotes, char_const_len, may_open_literal, str_len};
 use crate::scanning::numbers::number_len;
 use crate::tokens::{Kind, Token};
 
@@ -38,6 +38,30 @@ fn header_at(text: &[u8], line: &[Token]) -> usize
     header_len(text)
 }
 
+/// The kind and length of the literal that begins the text. Most texts show by their first byte that none does.
+fn literal_at(text: &[u8], lone: &mut LoneQuotes) -> Option<(Kind, usize)>
+    requires some { 0 < length text.now }
+    requires lone { KnowsLone text.now lone.old }
+    ensures none { IfNone result ((NoFront IsCharConst text.now) × (NoFront IsStr text.now)) }
+    ensures some { IfSome result (λ p. 0 < p.1) }
+    ensures longest { IfSome result (λ p. Longest IsSpelling text.now p.1) }
+    ensures spelled { IfSome result (λ p. Spells p.0 (take p.1 text.now)) }
+    ensures lone { KnowsLone text.now lone.new }
+{
+    if !may_open_literal(text[0]) {
+        return None;
+    }
+    let char_const = char_const_len(text, &mut lone.single);
+    if char_const > 0 {
+        return Some((Kind::CharConst, char_const));
+    }
+    let string = str_len(text, &mut lone.double);
+    if string > 0 {
+        return Some((Kind::Str, string));
+    }
+    None
+}
+
 /// The kind and length of the token that begins the text where no header name stands. A literal is
 /// longer than the identifier that its prefix is, and a number than a period; no other kinds begin
 /// alike. So the first that is found is the longest.
@@ -51,13 +75,8 @@ fn plain_token_at(text: &[u8], lone: &mut LoneQuotes) -> (Kind, usize)
     ensures spelled { Spells result.0 (take result.1 text.now) }
     ensures lone { KnowsLone text.now lone.new }
 {
-    let char_const = char_const_len(text, &mut lone.single);
-    if char_const > 0 {
-        return (Kind::CharConst, char_const);
-    }
-    let string = str_len(text, &mut lone.double);
-    if string > 0 {
-        return (Kind::Str, string);
+    if let Some(literal) = literal_at(text, lone) {
+        return literal;
     }
     let ident = ident_len(text);
     if ident > 0 {

@@ -1,12 +1,12 @@
 // Places, preprocessing tokens and faults.
-ghost use Rattle.std.specs.Prelude.{◌≡◌, ◌↔◌, ◌==◌, List, ℕ, IfOk, length, IsTrue, [], ◌∷◌, ◌++◌, Some, None};
+ghost use Rattle.std.specs.Prelude.{◌≡◌, ◌≤◌, ◌↔◌, ◌==◌, List, ℕ, IfOk, length, take, IsTrue, [], ◌∷◌, ◌++◌, Some, None};
+ghost use Rattle.pptext.specs.Spelt.{IsSpelt, spelt};
 
-use smallvec::SmallVec;
 use std::alloc::{AllocError, AllocFailed, Global};
 use std::marker::Model;
 
-/// How many bytes of a spelling stand in the token itself: nearly all spellings are shorter.
-const SHORT: usize = 24;
+/// How many bytes of a spelling stand in the token itself: nearly all spellings are no longer.
+const SHORT: usize = 14;
 
 /// Want of memory.
 #[derive(Clone, Copy, PartialEq, Eq, Debug)]
@@ -44,42 +44,102 @@ pub enum Kind {
     Other,
 }
 
-/// A spelling, which contracts see as the list of its bytes. One of up to 24 bytes takes no memory beside the value.
+/// The bytes of a spelling: so many of the first here, or all of them on the heap.
+#[derive(Drop, Debug)]
+enum Bytes {
+    Short(u8, [u8; SHORT]),
+    Long(Box<Vec<u8>>),
+}
+
+/// A spelling, which contracts see as the list of its bytes. One of up to 14 bytes takes no memory beside the value.
 #[derive(Drop, Debug)]
 pub struct Spelling {
-    bytes: SmallVec<u8, SHORT>,
+    bytes: Bytes,
 }
 
 impl Model for Spelling {
+    ghost use Rattle.std.specs.Prelude.{List, ℕ};
+    ghost use Rattle.pptext.specs.Spelt.{IsSpelt, spelt};
+
     ghost Value = { List ℕ };
 
-    ghost view = { λ s. s.bytes.items };
+    ghost view = { λ s. spelt s.bytes };
+
+    ghost invariant = { λ s. IsSpelt s.bytes };
+}
+
+/// These bytes in the value itself.
+fn short(bytes: &[u8]) -> Bytes
+    requires { length bytes.now ≤ 14 }
+    ensures spelt { spelt result ≡ bytes.now }
+    ensures fits { IsSpelt result }
+{
+    let mut room = [0; SHORT];
+    room[..bytes.len()].copy_from_slice(bytes);
+    Bytes::Short(bytes.len() as u8, room)
 }
 
 impl Spelling {
-    /// A spelling of these bytes.
-    pub fn new(bytes: Vec<u8>) -> Spelling
-        ensures { result ≡ bytes.items }
+    /// A spelling of no bytes.
+    pub fn empty() -> Spelling
+        ensures { result ≡ [] }
     {
         Self {
-            bytes: SmallVec::from_vec(bytes),
+            bytes: Bytes::Short(0, [0; SHORT]),
         }
+    }
+
+    /// A spelling of these bytes.
+    pub fn new(bytes: Vec<u8>) -> Result<Spelling, AllocError>
+        ensures { IfOk result (λ s. s ≡ bytes.items) }
+    {
+        if bytes.len() <= SHORT {
+            return Ok(Self {
+                bytes: short(bytes.as_slice()),
+            });
+        }
+        let bytes = Box::new(*bytes.allocator(), bytes)?;
+        Ok(Self {
+            bytes: Bytes::Long(bytes),
+        })
     }
 
     /// A spelling of a copy of these bytes.
     pub fn from_slice(alloc: Global, bytes: &[u8]) -> Result<Spelling, AllocError>
         ensures { IfOk result (λ s. s ≡ bytes.now) }
     {
-        Ok(Self {
-            bytes: SmallVec::from_slice(alloc, bytes)?,
-        })
+        if bytes.len() <= SHORT {
+            return Ok(Self {
+                bytes: short(bytes),
+            });
+        }
+        Spelling::new(Vec::from_slice(alloc, bytes)?)
+    }
+
+    /// A spelling of a copy of the first n bytes of a text.
+    pub(crate) fn front(alloc: Global, text: &[u8], n: usize) -> Result<Spelling, AllocError>
+        requires { n ≤ length text.now }
+        ensures { IfOk result (λ s. s ≡ take n text.now) }
+    {
+        // Bytes behind the spelling are copied too, since a copy of one length is quicker than one of many.
+        if n <= SHORT && text.len() >= SHORT {
+            let mut room = [0; SHORT];
+            room.copy_from_slice(&text[..SHORT]);
+            return Ok(Self {
+                bytes: Bytes::Short(n as u8, room),
+            });
+        }
+        Spelling::from_slice(alloc, &text[..n])
     }
 
     /// The bytes.
     pub fn as_bytes(&self) -> &[u8]
         ensures { result.now ≡ self.now }
     {
-        self.bytes.as_slice()
+        match &self.bytes {
+            Bytes::Short(len, room) => &room[..*len as usize],
+            Bytes::Long(bytes) => bytes.as_slice(),
+        }
     }
 }
 
@@ -87,7 +147,12 @@ impl Clone for Spelling {
     ghost is_clone = { λ a b. b ≡ a };
 
     fn clone(&self) -> Result<Spelling, AllocError> {
-        Spelling::from_slice(*self.bytes.allocator(), self.as_bytes())
+        match &self.bytes {
+            Bytes::Short(len, room) => Ok(Self {
+                bytes: Bytes::Short(*len, *room),
+            }),
+            Bytes::Long(bytes) => Spelling::new((**bytes).clone()?),
+        }
     }
 }
 
@@ -114,11 +179,11 @@ impl Eq for Spelling {
 /// A preprocessing token.
 #[derive(Clone, PartialEq, Eq, Drop, Debug)]
 pub struct Token {
-    pub kind: Kind,
     pub text: Spelling,
-    pub space: bool,
     pub at: Place,
     pub used: Place,
+    pub kind: Kind,
+    pub space: bool,
 }
 
 /// A fault of a file or a unit, by its number.
@@ -175,9 +240,10 @@ mod tests {
 
     #[test]
     fn gives_back_what_it_was_made_of(rt: HostRuntime) -> Result<(), Fail> {
-        let spelling = Spelling::new([b'a', b'b'].to_vec(rt.alloc())?);
+        let spelling = Spelling::new([b'a', b'b'].to_vec(rt.alloc())?)?;
         assert_eq!(rt; spelling.as_bytes(), b"ab".as_slice());
         assert!(rt; spelling.clone()? == spelling);
+        assert!(rt; Spelling::empty().as_bytes().is_empty());
         assert!(rt; Spelling::from_slice(rt.alloc(), b"ab")? == spelling);
         let at = Place {
             file: 1,
@@ -203,12 +269,12 @@ mod tests {
 
     #[test]
     fn keeps_long_spellings(rt: HostRuntime) -> Result<(), Fail> {
-        for length in [0, 1, 23, 24, 25, 100] {
+        for length in [0, 1, 13, 14, 15, 100] {
             let bytes = vec![in rt.alloc(); b'x'; length]?;
             let copied = Spelling::from_slice(rt.alloc(), bytes.as_slice())?;
             assert_eq!(rt; copied.as_bytes(), bytes.as_slice());
             assert!(rt; copied.clone()? == copied);
-            assert!(rt; Spelling::new(bytes) == copied);
+            assert!(rt; Spelling::new(bytes)? == copied);
         }
         Ok(())
     }

@@ -41,6 +41,13 @@ fn is_prefix(c: u8) -> bool
     c == b'u' || c == b'U' || c == b'L'
 }
 
+/// Whether a literal may begin with this byte: a quote, or the letter of a prefix.
+pub(crate) fn may_open_literal(c: u8) -> bool
+    ensures { IsTrue result ↔ (c ≡ 39) ⊎ ((c ≡ 34) ⊎ ((c ≡ 117) ⊎ ((c ≡ 85) ⊎ (c ≡ 76)))) }
+{
+    c == b'\'' || c == b'"' || is_prefix(c)
+}
+
 /// The length of the prefix and quote that open a character constant, or 0.
 fn char_opening_len(text: &[u8]) -> usize
     ensures { OnlyPart (Then (Contains char_prefixes) (Exactly (39 ∷ []))) text.now result }

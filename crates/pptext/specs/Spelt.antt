@@ -1,0 +1,14 @@
+-- How a spelling is kept.
+use Rattle.std.specs.Prelude.{ℕ, List, ◌≤◌, take}
+use Rattle.pptext.specs.declared.tokens.Bytes.{Bytes}
+use Rattle.pptext.specs.declared.tokens.Bytes.TheVariants as bytes
+
+-- the bytes that are kept
+abbrev pub spelt : Bytes → List ℕ
+spelt (bytes.Short n room) = take n room
+spelt (bytes.Long v) = v.value.items
+
+-- no more bytes than there is room for
+abbrev pub IsSpelt : Bytes → Type 0
+IsSpelt (bytes.Short n room) = n ≤ 14
+IsSpelt (bytes.Long v) = Unit {0}
