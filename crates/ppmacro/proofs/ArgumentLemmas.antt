@@ -4,7 +4,7 @@ use Rattle.ppmacro.specs.Numbered.{Numbered}
 use Rattle.ppmacro.specs.HideSets.{AllKnown}
 use Rattle.ppmacro.specs.Substitution.{argument_at, expanded_at}
 use Rattle.ppmacro.specs.Substituting.{lists_of, options_of, ListsKnown, ArgumentsKnown}
-use Rattle.ppmacro.specs.declared.hide_sets.Hidden.{Hidden}
+use Rattle.ppmacro.specs.declared.flying.Hidden.{Hidden}
 
 given-known : {s : Numbered} (vs : List (Vec Hidden Global)) → ListsKnown s vs → (i : ℕ) → AllKnown s (argument_at (lists_of vs) i)
 given-known [] k i = record { each = tt }

@@ -8,7 +8,7 @@ use Rattle.ppmacro.specs.Numbered.{Numbered}
 use Rattle.ppmacro.specs.HideSets.{IsKnown, Hiding, hiding, hidings, AllKnown, Keeps}
 use Rattle.ppmacro.specs.Substitution.{after_ok, pasted, join, join_all, argument_at, expanded_at}
 use Rattle.ppmacro.specs.Substituting.{tokens_of, lists_of, options_of}
-use Rattle.ppmacro.specs.declared.hide_sets.Hidden.{Hidden}
+use Rattle.ppmacro.specs.declared.flying.Hidden.{Hidden}
 use Rattle.ppmacro.proofs.KeepLemmas.{hidings-keeps, known-keeps, known-append, known-front, known-behind}
 
 -- ---- arguments

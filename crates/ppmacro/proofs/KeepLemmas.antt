@@ -4,7 +4,7 @@ use Rattle.std.proofs.lemmas.List.{get_or_append_left}
 use Rattle.std.specs.FinSet as set
 use Rattle.ppmacro.specs.Numbered.{Numbered}
 use Rattle.ppmacro.specs.HideSets.{set_at, IsKnown, hiding, hidings, AllKnown, Keeps}
-use Rattle.ppmacro.specs.declared.hide_sets.Hidden.{Hidden}
+use Rattle.ppmacro.specs.declared.flying.Hidden.{Hidden}
 
 pub set-keeps : {old new : Numbered} (n : ℕ) → Keeps old new → IsKnown old n → set_at new n ≡ set_at old n
 set-keeps {old} {new} n k known = ap (λ s. get_or s n set.empty) k.is ∙ get_or_append_left old.sets k.more set.empty n known
@@ -41,8 +41,8 @@ known-append (x ∷ gs) hs g h =
 
 pub known-front : {s : Numbered} (gs hs : List Hidden) → AllKnown s (gs ++ hs) → AllKnown s gs
 known-front [] hs k = record { each = tt }
-known-front (x ∷ gs) hs k =
-    let rest = known-front gs hs (record { each = k.each.1 }) in
+known-front {s} (x ∷ gs) hs k =
+    let rest = known-front {s = s} gs hs (record { each = k.each.1 }) in
     record { each = (k.each.0, rest.each) }
 
 pub known-behind : {s : Numbered} (gs hs : List Hidden) → AllKnown s (gs ++ hs) → AllKnown s hs

@@ -1,8 +1,13 @@
-pub mod SetLemmas
 pub mod TableLemmas
+pub mod Marked
 pub mod ChainLemmas
 pub mod LexerLemmas
 pub mod KeepLemmas
 pub mod JoinLemmas
 pub mod WalkLemmas
 pub mod ArgumentLemmas
+pub mod Tries
+pub mod Remembering
+pub mod Hiding
+pub mod Naming
+pub mod Viewed

@@ -2,15 +2,16 @@
 use Rattle.std.proofs.Common.{◌≡◌, ℕ, zero, suc, ◌+◌, ◌<◌, Bool, false, not, ◌||◌, ◌&&◌, List, [], ◌∷◌, ◌++◌, map, take, drop, length, get_or, Option, Some, None, Vec, Global, Result, Ok, Err, refl, sym, ap, ◌∙◌, append_assoc, arith}
 use Rattle.std.proofs.lemmas.List.{map-append, drop_more, take_more}
 use Rattle.std.specs.Option.{option_map}
+use Rattle.std.specs.FinSet as set
 use Rattle.pptext.specs.declared.tokens.Place.{Place}
 use Rattle.pptext.specs.declared.tokens.Fault.{Fault}
 use Rattle.ppmacro.specs.Numbered.{Numbered}
 use Rattle.ppmacro.specs.HideSets.{set_at, IsKnown, Hiding, hiding, hidings, AllKnown, Keeps}
 use Rattle.ppmacro.specs.Substitution.{Arguments, Marked, after_ok, argument_at, expanded_at, chain_tokens, mark_first, chains_tokens, gained}
-use Rattle.ppmacro.specs.Substituting.{lists_of, options_of, ArgumentsKnown, arguments_in, marked_behind, pushed}
-use Rattle.ppmacro.specs.declared.hide_sets.Hidden.{Hidden}
+use Rattle.ppmacro.specs.Substituting.{lists_of, options_of, ArgumentsKnown, arguments_in, marked_behind, pushed, HasGained}
+use Rattle.ppmacro.specs.declared.flying.Hidden.{Hidden}
 use Rattle.ppmacro.specs.declared.macros.Chain.{Chain}
-use Rattle.ppmacro.proofs.KeepLemmas.{set-keeps, hiding-keeps, hidings-keeps, known-keeps}
+use Rattle.ppmacro.proofs.KeepLemmas.{set-keeps, known-set, hiding-keeps, hidings-keeps, known-keeps}
 
 pub drop-item : {X : Type 0} (xs : List X) (i : ℕ) (x : X) → i < length xs → x ≡ get_or xs i x → drop i xs ≡ x ∷ drop (i + 1) xs
 drop-item xs i x h e = drop_more xs i x h ∙ ap (λ y. y ∷ drop (i + 1) xs) (sym e)
@@ -83,3 +84,22 @@ gained-more s t u g used done earlier item one k l gain known here is so_far =
     ∙ (λ i. (hidings-keeps done l known ∙ so_far) i ++ last i ∷ [])
     ∙ sym (map-append (gained (set_at s g) used) (hidings s earlier) (hiding s item ∷ []))
     ∙ ap (map (gained (set_at s g) used)) (sym (map-append (hiding s) earlier (item ∷ [])))
+
+pub gained-keeps : {s t : Numbered} (gain from to : ℕ) → Keeps s t → IsKnown s gain → HasGained s gain from to → HasGained t gain from to
+gained-keeps gain from to k known h = record {
+  from_known = known-set from k h.from_known;
+  to_known = known-set to k h.to_known;
+  is = set-keeps to k h.to_known ∙ h.is ∙ (λ i. set.union (sym (set-keeps from k h.from_known) i) (sym (set-keeps gain k known) i));
+}
+
+-- a list by its next item
+pub next-item : {X : Type 0} (xs : List X) (i : ℕ) (x : X) (rest : List X) → drop i xs ≡ x ∷ rest → (take (suc i) xs ≡ take i xs ++ x ∷ []) × (drop (suc i) xs ≡ rest)
+next-item [] zero x rest e = absurd (cc e)
+next-item [] (suc i) x rest e = absurd (cc e)
+next-item (y ∷ ys) zero x rest e = let is : y ≡ x = cc e in let left : ys ≡ rest = cc e in (ap (λ z. z ∷ []) is, left)
+next-item (y ∷ ys) (suc i) x rest e = let after = next-item ys i x rest e in (ap (λ zs. y ∷ zs) after.0, after.1)
+
+pub known-drop : (s : Numbered) (i : ℕ) (hs : List Hidden) → AllKnown s hs → AllKnown s (drop i hs)
+known-drop s zero hs k = k
+known-drop s (suc i) [] k = k
+known-drop s (suc i) (h ∷ hs) k = known-drop s i hs (record { each = k.each.1 })

@@ -5,11 +5,11 @@ use Rattle.std.specs.List.{AllByRecursion}
 use Rattle.pptext.specs.declared.tokens.Token.{Token}
 use Rattle.ppmacro.specs.Names.{HideSet}
 use Rattle.ppmacro.specs.Numbered.{Numbered}
-use Rattle.ppmacro.specs.declared.hide_sets.Hidden.{Hidden}
+use Rattle.ppmacro.specs.declared.flying.Hidden.{Hidden}
 
 -- the empty set alone
 abbrev pub starting : Numbered
-starting = record { sets = set.empty ∷ [] }
+starting = record { sets = set.empty ∷ []; unions = []; meets = [] }
 
 -- the set with this number
 abbrev pub set_at : Numbered → ℕ → HideSet

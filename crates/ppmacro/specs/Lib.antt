@@ -1,8 +1,13 @@
 pub mod Names
+pub mod Marks
+pub mod Pairs
 pub mod Numbered
+pub mod Nodes
+pub mod Members
+pub mod Operations
+pub mod Remembered
 pub mod Spellings
 pub mod Chains
-pub mod Entries
 pub mod HideSets
 pub mod Define
 pub mod Headings
@@ -10,3 +15,5 @@ pub mod Predefined
 pub mod Lexing
 pub mod Substitution
 pub mod Substituting
+pub mod Flying
+pub mod Words

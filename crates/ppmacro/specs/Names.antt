@@ -1,5 +1,5 @@
 -- Names, hide sets and tables of macros.
-use Rattle.std.specs.Prelude.{ℕ, Bool, true, false, not, List}
+use Rattle.std.specs.Prelude.{ℕ, List}
 use Rattle.std.specs.Ordering.{nat_cmp}
 use Rattle.std.specs.Cmp.Lexicographic.{slice_cmp}
 use Rattle.std.specs.FinSet as set
@@ -16,8 +16,3 @@ HideSet = set.FinSet (slice_cmp nat_cmp)
 
 abbrev pub Macros : Type 0
 Macros = FinMap (slice_cmp nat_cmp) Definition
-
--- whether the set's answer for a name is `held`
-abbrev pub holds : HideSet → Bool → Name → Bool
-holds s true name = set.contains s name
-holds s false name = not (set.contains s name)

@@ -1,14 +1,15 @@
 -- What the parts of a substitution answer, in terms of hide sets' members.
-use Rattle.std.specs.Prelude.{ℕ, List, ◌++◌, map, Option, Vec, Bool, Result, Ok, Err}
+use Rattle.std.specs.Prelude.{◌≡◌, ℕ, List, ◌++◌, map, Option, Vec, Bool, Result, Ok, Err}
 use Rattle.std.specs.Global.{Global}
+use Rattle.std.specs.FinSet as set
 use Rattle.std.specs.List.{AllByRecursion}
 use Rattle.std.specs.Option.{option_map}
 use Rattle.pptext.specs.declared.tokens.Token.{Token}
 use Rattle.pptext.specs.declared.tokens.Fault.{Fault}
 use Rattle.ppmacro.specs.Numbered.{Numbered}
-use Rattle.ppmacro.specs.HideSets.{Hiding, hiding, hidings, AllKnown}
+use Rattle.ppmacro.specs.HideSets.{set_at, IsKnown, Hiding, hiding, hidings, AllKnown}
 use Rattle.ppmacro.specs.Substitution.{Arguments, Marked, argument_at, expanded_at, mark_first}
-use Rattle.ppmacro.specs.declared.hide_sets.Hidden.{Hidden}
+use Rattle.ppmacro.specs.declared.flying.Hidden.{Hidden}
 
 abbrev pub tokens_of : List Hidden → List Token
 tokens_of hs = map (λ h. h.token) hs
@@ -71,3 +72,9 @@ pushed front mark (Err f) = Err f
 abbrev pub pushed_in : Numbered → List Hidden → Result Bool Fault → Result Marked Fault
 pushed_in sets hs (Ok pending) = Ok (record { tokens = hidings sets hs; pending = pending })
 pushed_in sets hs (Err f) = Err f
+
+-- a set, and what it becomes where it gains names
+pub record HasGained (sets : Numbered) (gain from to : ℕ) : Type 0 where
+  pub from_known : IsKnown sets from
+  pub to_known : IsKnown sets to
+  pub is : set_at sets to ≡ set.union (set_at sets from) (set_at sets gain)

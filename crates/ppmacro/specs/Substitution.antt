@@ -144,6 +144,10 @@ chains_tokens args used pending first (c ∷ cs) =
 abbrev pub gained : HideSet → Place → Hiding → Hiding
 gained gain used t = record { token = record t.token { used = used }; hide = set.union t.hide gain }
 
--- the tokens with the pending mark, or the first of the faults 19 and 20 in the order of work
+-- the tokens of these chains with the pending mark, or the first of the faults 19 and 20 in the order of work
+abbrev pub substituted_by : List Chain → Arguments → HideSet → Place → Bool → Result Marked Fault
+substituted_by cs args gain used space = after_ok (chains_tokens args used space true cs) (λ m. Ok (record m { tokens = map (gained gain used) m.tokens }))
+
+-- the same of a macro's chains
 abbrev pub substituted : Definition → Arguments → HideSet → Place → Bool → Result Marked Fault
-substituted d args gain used space = after_ok (chains_tokens args used space true (chains_of d)) (λ m. Ok (record m { tokens = map (gained gain used) m.tokens }))
+substituted d args gain used space = substituted_by (chains_of d) args gain used space

@@ -6,6 +6,7 @@ ghost use Rattle.ppmacro.specs.declared.chains.Item.{Item};
 ghost use Rattle.ppmacro.specs.declared.chains.Item.TheVariants.{Operates};
 ghost use Rattle.pptext.specs.declared.tokens.Token.{Token};
 
+use crate::borrowed::Leaf;
 use crate::macros::{Chain, Chains, Definition, Operand, Operands, Shape};
 use crate::spellings::{is_hash, is_identifier, is_paste};
 use pptext::{Place, Spelling, Token};
@@ -20,8 +21,8 @@ pub(crate) struct HashSign {
 
 /// A part of a replacement list: an operand with the space mark of its first token, or `##`.
 #[derive(Drop)]
-pub(crate) enum Item {
-    Operates(bool, Operand),
+pub(crate) enum Item<'a> {
+    Operates(bool, Operand<'a>),
     Joins,
 }
 
@@ -92,48 +93,48 @@ pub(crate) fn is_operator_hash(shape: &Shape, token: &Token) -> bool
 }
 
 // A token as an operand.
-fn plain_item(shape: &Shape, token: &Token) -> Result<Item, AllocError>
-    ensures { IfOk result (λ i. i ≡ plain_item (parameter_of shape.now token.now) token.now) }
+fn plain_item<'a>(shape: &Shape, token: &'a Token) -> Item<'a>
+    ensures { result ≡ plain_item (parameter_of shape.now token.now) token.now }
 {
     let Some(index) = parameter_of(shape, token) else {
-        return Ok(Item::Operates(token.space, Operand::Tok(token.clone()?)));
+        return Item::Operates(token.space, Operand::Tok(Leaf::new(token)));
     };
-    Ok(Item::Operates(token.space, Operand::Param(index)))
+    Item::Operates(token.space, Operand::Param(index))
 }
 
 // A token behind `#` as an operand.
-fn stringized_item(shape: &Shape, hash: HashSign, token: &Token) -> Result<Item, AllocError>
-    ensures { IfOk result (λ i. i ≡ stringized_item (parameter_of shape.now token.now) hash token.now) }
+fn stringized_item<'a>(shape: &Shape, hash: HashSign, token: &'a Token) -> Item<'a>
+    ensures { result ≡ stringized_item (parameter_of shape.now token.now) hash token.now }
 {
     let Some(index) = parameter_of(shape, token) else {
-        return Ok(Item::Operates(token.space, Operand::Tok(token.clone()?)));
+        return Item::Operates(token.space, Operand::Tok(Leaf::new(token)));
     };
-    Ok(Item::Operates(hash.mark, Operand::Str(index, hash.at)))
+    Item::Operates(hash.mark, Operand::Str(index, hash.at))
 }
 
 // The next part, or none at a `#`, which goes with the token behind it.
-fn next_item(
-    shape: &Shape,
-    hash: Option<HashSign>,
-    token: &Token,
-) -> Result<Option<Item>, AllocError>
-    ensures { IfOk result (λ i. (ts : List Token) → items_behind shape.now hash (token.now ∷ ts) ≡ led_by shape.now token.now i ts) }
+fn next_item<'a>(shape: &Shape, hash: Option<HashSign>, token: &'a Token) -> Option<Item<'a>>
+    ensures { (ts : List Token) → items_behind shape.now hash (token.now ∷ ts) ≡ led_by shape.now token.now result ts }
 {
     if let Some(sign) = hash {
-        return Ok(Some(stringized_item(shape, sign, token)?));
+        return Some(stringized_item(shape, sign, token));
     }
     if is_paste(token) {
-        return Ok(Some(Item::Joins));
+        return Some(Item::Joins);
     }
     if is_operator_hash(shape, token) {
-        return Ok(None);
+        return None;
     }
-    Ok(Some(plain_item(shape, token)?))
+    Some(plain_item(shape, token))
 }
 
 // Puts a chain of one operand behind the others.
-fn begin_chain(chains: &mut Vec<Chain>, mark: bool, operand: Operand) -> Result<(), AllocError>
-    ensures { OnOk result (chains.new.items ≡ chains.old.items ++ record { mark = mark; operands = operand ∷ [] } ∷ []) }
+fn begin_chain<'a>(
+    chains: &mut Vec<Chain<'a>>,
+    mark: bool,
+    operand: Operand<'a>,
+) -> Result<(), AllocError>
+    ensures { OnOk result (chains.new.items ≡ chains.old.items ++ record { mark = mark; operands = operand.entry ∷ [] } ∷ []) }
 {
     let mut operands = Operands::new(*chains.allocator());
     operands.push(operand)?;
@@ -142,13 +143,13 @@ fn begin_chain(chains: &mut Vec<Chain>, mark: bool, operand: Operand) -> Result<
 }
 
 // Puts an operand behind the chains, into the last one where it is joined.
-fn put(
-    chains: &mut Vec<Chain>,
+fn put<'a>(
+    chains: &mut Vec<Chain<'a>>,
     joined: bool,
     mark: bool,
-    operand: Operand,
+    operand: Operand<'a>,
 ) -> Result<(), AllocError>
-    ensures { OnOk result ((is : List Item) → resumed false chains.new.items is ≡ resumed joined chains.old.items (Operates mark operand ∷ is)) }
+    ensures { OnOk result ((is : List Item) → resumed false chains.new.items is ≡ resumed joined chains.old.items (Operates mark operand.entry ∷ is)) }
 {
     if !joined {
         return begin_chain(chains, mark, operand);
@@ -162,7 +163,10 @@ fn put(
 }
 
 /// The chains of a definition's replacement list.
-pub(crate) fn chains_of(alloc: Global, definition: &Definition) -> Result<Chains, AllocError>
+pub(crate) fn chains_of<'a>(
+    alloc: Global,
+    definition: &Definition<'a>,
+) -> Result<Chains<'a>, AllocError>
     ensures { IfOk result (λ c. c ≡ chains_of definition.now) }
 {
     let shape = &definition.shape;
@@ -170,7 +174,7 @@ pub(crate) fn chains_of(alloc: Global, definition: &Definition) -> Result<Chains
     let mut joined = false;
     let mut hash = None;
     for token in definition.body.as_slice() {
-        let Some(item) = next_item(shape, hash, token)? else {
+        let Some(item) = next_item(shape, hash, token) else {
             hash = Some(HashSign {
                 mark: token.space,
                 at: token.at,

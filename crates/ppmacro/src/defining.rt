@@ -11,11 +11,12 @@ mod headings;
 use self::agreement::clashes;
 use self::bodies::{misplaces_hash, misplaces_paste, says_variable_arguments};
 use self::headings::{has_variable_arguments, read_heading, repeats};
+use crate::borrowed::{Body, Text};
 use crate::chains::is_function_like;
 use crate::macros::{Definition, Macro, Shape};
 use crate::spellings::{fault, is_identifier, is_punct};
 use crate::tables::Table;
-use pptext::{Fault, Memory, Place, Spelling, Token, Tokens};
+use pptext::{Fault, Memory, Place, Token};
 use std::alloc::{AllocError, Global};
 
 /// Why a definition is refused, once its name is allowed.
@@ -47,13 +48,16 @@ impl Refusal {
 
 /// A definition with the macro's name.
 #[derive(Drop)]
-pub(crate) struct Named {
-    name: Spelling,
-    definition: Definition,
+pub(crate) struct Named<'a> {
+    name: Text<'a>,
+    definition: Definition<'a>,
 }
 
 // The macro behind `(`.
-fn function_like(alloc: Global, line: &[Token]) -> Result<Result<Definition, Refusal>, AllocError>
+fn function_like<'a>(
+    alloc: Global,
+    line: &'a [Token],
+) -> Result<Result<Definition<'a>, Refusal>, AllocError>
     ensures { IfOk result (λ r. r ≡ function_like (parameter_list line.now)) }
 {
     let Some(heading) = read_heading(alloc, line)? else {
@@ -75,24 +79,27 @@ fn function_like(alloc: Global, line: &[Token]) -> Result<Result<Definition, Ref
 }
 
 // The macro without parameters.
-fn object_like(alloc: Global, body: &[Token]) -> Result<Definition, AllocError>
-    ensures { IfOk result (λ d. d ≡ record { shape = ObjectLike; body = body.now }) }
+fn object_like<'a>(body: &'a [Token]) -> Definition<'a>
+    ensures { result ≡ record { shape = ObjectLike; body = body.now } }
 {
-    Ok(Definition {
+    Definition {
         shape: Shape::ObjectLike,
-        body: Tokens::new(Vec::from_clones(alloc, body)?),
-    })
+        body: Body::new(body),
+    }
 }
 
 // What stands behind the macro's name.
-fn read_definition(alloc: Global, line: &[Token]) -> Result<Result<Definition, Refusal>, AllocError>
+fn read_definition<'a>(
+    alloc: Global,
+    line: &'a [Token],
+) -> Result<Result<Definition<'a>, Refusal>, AllocError>
     ensures { IfOk result (λ r. r ≡ read_definition line.now) }
 {
     let Some(first) = line.first() else {
-        return Ok(Ok(object_like(alloc, line)?));
+        return Ok(Ok(object_like(line)));
     };
     if first.space {
-        return Ok(Ok(object_like(alloc, line)?));
+        return Ok(Ok(object_like(line)));
     }
     if !is_punct(first, b"(") {
         return Ok(Err(Refusal::Spacing));
@@ -132,12 +139,12 @@ fn is_variadic(shape: &Shape) -> bool
 }
 
 // The definition behind an allowed name.
-fn fitting(
+fn fitting<'a>(
     alloc: Global,
     table: &Table,
     name: &[u8],
-    line: &[Token],
-) -> Result<Result<Definition, Refusal>, AllocError>
+    line: &'a [Token],
+) -> Result<Result<Definition<'a>, Refusal>, AllocError>
     ensures { IfOk result (λ r. r ≡ fitting table.now name.now (read_definition line.now)) }
 {
     let definition = match read_definition(alloc, line)? {
@@ -151,17 +158,17 @@ fn fitting(
 }
 
 // The definition with the macro's name, or the fault.
-fn under_name(
+fn under_name<'a>(
     alloc: Global,
     at: Place,
-    name: &Token,
-    fitting: Result<Definition, Refusal>,
-) -> Result<Result<Named, Fault>, AllocError>
-    ensures { IfOk result (λ r. r ≡ under_name at name.now.text fitting) }
+    name: &'a Token,
+    fitting: Result<Definition<'a>, Refusal>,
+) -> Result<Result<Named<'a>, Fault>, AllocError>
+    ensures { IfOk result (λ r. r ≡ under_name at name.now.text fitting.entry) }
 {
     match fitting {
         Ok(definition) => Ok(Ok(Named {
-            name: name.text.clone()?,
+            name: Text::of(name),
             definition,
         })),
         Err(refusal) => Ok(Err(fault(alloc, refusal.number(), at, name.text.as_bytes())?)),
@@ -169,12 +176,12 @@ fn under_name(
 }
 
 // The macro that a line behind `define` defines, or the fault.
-fn judged(
+fn judged<'a>(
     alloc: Global,
     table: &Table,
     at: Place,
-    line: &[Token],
-) -> Result<Result<Named, Fault>, AllocError>
+    line: &'a [Token],
+) -> Result<Result<Named<'a>, Fault>, AllocError>
     ensures { IfOk result (λ r. r ≡ judged table.now at line.now) }
 {
     let Some(name) = line.first() else {
@@ -191,28 +198,28 @@ fn judged(
 }
 
 // Puts a definition into the table.
-fn enter(alloc: Global, table: &mut Table, named: Named) -> Result<(), AllocError>
-    ensures ok { OnOk result (table.new ≡ finite_map.insert table.old named.name named.definition) }
+fn enter<'a>(table: &mut Table<'a>, named: Named<'a>) -> Result<(), AllocError>
+    ensures ok { OnOk result (table.new ≡ finite_map.insert table.old named.entry.name named.entry.definition) }
     ensures err { OnErr result (table.new ≡ table.old) }
 {
-    let definition = Macro::new(alloc, named.definition)?;
-    table.insert(Vec::from_slice(alloc, named.name.as_bytes())?, definition)
+    let Named { name, definition } = named;
+    table.insert(name.bytes(), Macro::new(definition))
 }
 
 /// Defines a macro. `at` is the place of `#`, `line` what stands behind `define`; an agreeing definition
 /// takes the place of the one before. The faults are 9 to 16; with one, and with `Memory`, the table stays as it was.
-pub fn define(
+pub fn define<'a>(
     alloc: Global,
-    table: &mut Table,
+    table: &mut Table<'a>,
     at: Place,
-    line: &[Token],
+    line: &'a [Token],
 ) -> Result<Result<(), Fault>, Memory>
     ensures defined { IfOk result (λ r. Leaves table.old table.new r (after_define table.old at line.now)) }
     ensures memory { OnErr result (table.new ≡ table.old) }
 {
     match judged(alloc, table, at, line)? {
         Ok(named) => {
-            enter(alloc, table, named)?;
+            enter(table, named)?;
             Ok(Ok(()))
         }
         Err(fault) => Ok(Err(fault)),
@@ -220,12 +227,12 @@ pub fn define(
 }
 
 // The name that a line behind `undef` takes out, or the fault.
-fn undefined(
+fn undefined<'a>(
     alloc: Global,
     table: &Table,
     at: Place,
-    line: &[Token],
-) -> Result<Result<Spelling, Fault>, AllocError>
+    line: &'a [Token],
+) -> Result<Result<Text<'a>, Fault>, AllocError>
     ensures { IfOk result (λ r. r ≡ undefined table.now at line.now) }
 {
     let [name] = line else {
@@ -237,23 +244,23 @@ fn undefined(
     if table.is_reserved(name.text.as_bytes()) {
         return Ok(Err(fault(alloc, 10, at, name.text.as_bytes())?));
     }
-    Ok(Ok(name.text.clone()?))
+    Ok(Ok(Text::of(name)))
 }
 
 /// Takes a macro out, if there is one of this name. `at` is the place of `#`, `line` what stands behind
 /// `undef`. The faults are 9 and 10; with one, and with `Memory`, the table stays as it was.
-pub fn undef(
+pub fn undef<'a>(
     alloc: Global,
-    table: &mut Table,
+    table: &mut Table<'a>,
     at: Place,
-    line: &[Token],
+    line: &'a [Token],
 ) -> Result<Result<(), Fault>, Memory>
     ensures undefined { IfOk result (λ r. Leaves table.old table.new r (after_undef table.old at line.now)) }
     ensures memory { OnErr result (table.new ≡ table.old) }
 {
     match undefined(alloc, table, at, line)? {
         Ok(name) => {
-            table.remove(name.as_bytes());
+            table.remove(name.bytes());
             Ok(Ok(()))
         }
         Err(fault) => Ok(Err(fault)),

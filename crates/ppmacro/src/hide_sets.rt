@@ -1,11 +1,19 @@
 // Hide sets: the names that a token is not to be replaced by any more.
-ghost use Rattle.std.specs.Prelude.{◌≡◌, ◌<◌, ◌↔◌, ◌++◌, ◌∷◌, [], ℕ, IfOk, OnOk, OnErr, length, IsTrue};
+ghost use Rattle.std.specs.Prelude.{◌≡◌, ◌↔◌, IsTrue, ℕ, Some, Ok, IfOk};
 ghost use Rattle.std.specs.FinSet as set;
 ghost use Rattle.ppmacro.specs.HideSets.{set_at, IsKnown, Keeps, starting};
+ghost use Rattle.ppmacro.specs.Pairs.{union_known, meet_known, KeepsPairs};
 
-use crate::name_sets::NameSet;
-use pptext::{Memory, Token};
-use std::alloc::{AllocError, Global};
+mod names;
+mod nodes;
+mod pairs;
+
+use indexmap::IndexSet;
+use names::NameNumbers;
+use nodes::{Node, Operation};
+use pairs::Pairs;
+use pptext::Memory;
+use std::alloc::Global;
 use std::marker::Model;
 
 /// The number of a hide set.
@@ -24,41 +32,29 @@ impl Model for Set {
     ghost inverse = { λ n. record { number = n } };
 }
 
-/// A token with its hide set.
-#[derive(Clone, Drop)]
-pub struct Hidden {
-    pub token: Token,
-    pub hide: Set,
-}
-
-/// Hide sets by their numbers.
+/// Hide sets by their numbers, each once, and the pairs whose union or meet is known. A set is a node over the numbers of its
+/// names, and has the node's number.
 #[derive(Drop)]
 pub struct HideSets {
     alloc: Global,
-    sets: Vec<NameSet>,
+    names: NameNumbers,
+    nodes: IndexSet<Node>,
+    unions: Pairs,
+    meets: Pairs,
 }
 
 impl Model for HideSets {
-    ghost use Rattle.std.specs.FinSet as set;
-    ghost use Rattle.std.specs.Coded.{coded_list, coded_ℕ, code_by};
-    ghost use Rattle.ppmacro.specs.Numbered.{Numbered, numbered_code, StartsEmpty};
+    ghost use Rattle.ppmacro.specs.Members.{hide_sets};
+    ghost use Rattle.ppmacro.specs.Numbered.{Numbered, numbered_code};
+    ghost use Rattle.ppmacro.specs.Remembered.{AreKept};
 
     ghost Value = { Numbered };
 
     ghost coded = { numbered_code };
 
-    ghost view = { λ s. record { sets = s.sets.items } };
+    ghost view = { λ s. record { sets = hide_sets s.names s.nodes.keys; unions = s.unions; meets = s.meets } };
 
-    ghost invariant = { λ s. StartsEmpty s.sets.items };
-}
-
-// Puts a set behind the others.
-fn push_set(sets: &mut Vec<NameSet>, names: NameSet) -> Result<(), AllocError>
-    ensures ok { OnOk result (sets.new.items ≡ sets.old.items ++ names ∷ []) }
-    ensures err { OnErr result (sets.new.items ≡ sets.old.items) }
-{
-    sets.push(names)?;
-    Ok(())
+    ghost invariant = { λ s. AreKept s.names s.nodes.keys s.unions s.meets };
 }
 
 impl HideSets {
@@ -66,9 +62,13 @@ impl HideSets {
     pub fn new(alloc: Global) -> Result<HideSets, Memory>
         ensures { IfOk result (λ s. s ≡ starting) }
     {
-        let mut sets = Vec::new(alloc);
-        push_set(&mut sets, NameSet::new(alloc))?;
-        Ok(HideSets { alloc, sets })
+        Ok(HideSets {
+            alloc,
+            names: NameNumbers::new(alloc),
+            nodes: nodes::start(alloc)?,
+            unions: Pairs::new(alloc),
+            meets: Pairs::new(alloc),
+        })
     }
 
     /// The empty set.
@@ -76,15 +76,22 @@ impl HideSets {
         ensures set { set_at self.now result ≡ set.empty }
         ensures known { IsKnown self.now result }
     {
-        let _sets = &self.sets;
+        let _nodes = &self.nodes;
         Set { number: 0 }
+    }
+
+    /// Sets with the same members have the same number. For proofs: it does nothing.
+    pub fn lawful(&self)
+        ensures { (m n : ℕ) → IsKnown self.now m → IsKnown self.now n → set_at self.now m ≡ set_at self.now n → m ≡ n }
+    {
+        let _nodes = &self.nodes;
     }
 
     /// Whether there is a set with this number.
     pub fn knows(&self, hide: Set) -> bool
         ensures { IsTrue result ↔ IsKnown self.now hide }
     {
-        hide.number < self.sets.len()
+        hide.number < self.nodes.len()
     }
 
     /// Whether a set has this name.
@@ -92,82 +99,61 @@ impl HideSets {
         requires { IsKnown self.now hide }
         ensures { result ≡ set.contains (set_at self.now hide) name.now }
     {
-        self.sets[hide.number].has(name)
+        let nodes = &self.nodes;
+        if hide.number == 0 {
+            return false;
+        }
+        match self.names.number_of(name) {
+            Some(number) => nodes::has(nodes, hide.number, number),
+            None => false,
+        }
     }
 
-    // Whether it is the number of the empty set.
-    fn is_first(&self, hide: Set) -> bool
-        ensures { IsTrue result → set_at self.now hide ≡ set.empty }
-    {
-        let _sets = &self.sets;
-        hide.number == 0
-    }
-
-    // Gives a set a number.
-    fn add(&mut self, names: NameSet) -> Result<Set, AllocError>
-        ensures set { IfOk result (λ s. set_at self.new s ≡ names) }
-        ensures known { IfOk result (λ s. IsKnown self.new s) }
-        ensures keeps { Keeps self.old self.new }
-        ensures err { OnErr result (self.new ≡ self.old) }
-    {
-        let number = self.sets.len();
-        push_set(&mut self.sets, names)?;
-        Ok(Set { number })
-    }
-
-    /// A set with one name more.
+    /// A set with one name more. Where memory is refused, every set is what it was.
     pub fn with(&mut self, hide: Set, name: &[u8]) -> Result<Set, Memory>
         requires { IsKnown self.old hide }
         ensures set { IfOk result (λ s. set_at self.new s ≡ set.insert (set_at self.old hide) name.now) }
         ensures known { IfOk result (λ s. IsKnown self.new s) }
         ensures keeps { Keeps self.old self.new }
-        ensures err { OnErr result (self.new ≡ self.old) }
+        ensures pairs { (self.new.unions ≡ self.old.unions) × (self.new.meets ≡ self.old.meets) }
     {
-        let names = self.sets[hide.number].with(self.alloc, name)?;
-        Ok(self.add(names)?)
+        let (alloc, set) = (self.alloc, hide.number);
+        let named = self.names.number_for(alloc, name)?;
+        let number = nodes::insert(&mut self.nodes, set, named)?;
+        Ok(Set { number })
     }
 
-    /// The names of either set. Where they are those of one of the two, that one may be the answer.
+    /// The names of either set. A second call at the same two sets gives the same answer, takes no memory and succeeds.
     pub fn union(&mut self, left: Set, right: Set) -> Result<Set, Memory>
         requires left { IsKnown self.old left }
         requires right { IsKnown self.old right }
         ensures set { IfOk result (λ s. set_at self.new s ≡ set.union (set_at self.old left) (set_at self.old right)) }
         ensures known { IfOk result (λ s. IsKnown self.new s) }
         ensures keeps { Keeps self.old self.new }
-        ensures err { OnErr result (self.new ≡ self.old) }
+        ensures remembered { IfOk result (λ n. union_known self.new.unions left right ≡ Some n) }
+        ensures again { (n : ℕ) → union_known self.old.unions left right ≡ Some n → (result ≡ Ok n) × (self.new ≡ self.old) }
+        ensures unions { KeepsPairs self.old.unions self.new.unions }
+        ensures meets { self.new.meets ≡ self.old.meets }
     {
-        if self.is_first(left) {
-            return Ok(right);
-        }
-        if self.is_first(right) {
-            return Ok(left);
-        }
-        if left == right {
-            return Ok(left);
-        }
-        let names = self.sets[left.number].union(self.alloc, &self.sets[right.number])?;
-        Ok(self.add(names)?)
+        let (nodes, pairs) = (&mut self.nodes, &mut self.unions);
+        let number = nodes::join(nodes, pairs, Operation::Union, left.number, right.number)?;
+        Ok(Set { number })
     }
 
-    /// The names of both sets. Where they are those of one of the two, that one may be the answer.
+    /// The names of both sets. A second call at the same two sets gives the same answer, takes no memory and succeeds.
     pub fn meet(&mut self, left: Set, right: Set) -> Result<Set, Memory>
         requires left { IsKnown self.old left }
         requires right { IsKnown self.old right }
         ensures set { IfOk result (λ s. set_at self.new s ≡ set.intersection (set_at self.old left) (set_at self.old right)) }
         ensures known { IfOk result (λ s. IsKnown self.new s) }
         ensures keeps { Keeps self.old self.new }
-        ensures err { OnErr result (self.new ≡ self.old) }
+        ensures remembered { IfOk result (λ n. meet_known self.new.meets left right ≡ Some n) }
+        ensures again { (n : ℕ) → meet_known self.old.meets left right ≡ Some n → (result ≡ Ok n) × (self.new ≡ self.old) }
+        ensures meets { KeepsPairs self.old.meets self.new.meets }
+        ensures unions { self.new.unions ≡ self.old.unions }
     {
-        if self.is_first(left) {
-            return Ok(left);
-        }
-        if self.is_first(right) {
-            return Ok(right);
-        }
-        if left == right {
-            return Ok(left);
-        }
-        let names = self.sets[left.number].meet(self.alloc, &self.sets[right.number])?;
-        Ok(self.add(names)?)
+        let (nodes, pairs) = (&mut self.nodes, &mut self.meets);
+        let number = nodes::join(nodes, pairs, Operation::Meet, left.number, right.number)?;
+        Ok(Set { number })
     }
 }

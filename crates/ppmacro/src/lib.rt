@@ -1,19 +1,24 @@
 // Macros of C11 (6.10.3): tables of them, the names that a token is not replaced by, and what an invocation is replaced by.
 #![tactic(auto)]
 
+mod borrowed;
 mod chains;
 mod defining;
+mod flying;
 mod hide_sets;
+mod keys;
 mod macros;
-mod name_sets;
+mod marks;
 mod spellings;
 mod substituting;
 mod tables;
 #[cfg(test)]
 mod tests;
 
+pub use borrowed::{Body, Leaf};
 pub use defining::{define, undef};
-pub use hide_sets::{Hidden, HideSets, Set};
+pub use flying::Hidden;
+pub use hide_sets::{HideSets, Set};
 pub use macros::{Builtin, Chain, Chains, Definition, Macro, Names, Operand, Operands, Shape};
 pub use spellings::{is_identifier, is_punct};
 pub use substituting::{paste, push_escaped, stringize, substitute, tells_each_kind};

@@ -2,8 +2,9 @@
 ghost use Rattle.std.specs.Prelude.{◌≡◌, OnOk, IfOk, ◌++◌, ◌∷◌, []};
 ghost use Rattle.ppmacro.specs.Chains.{chains_of};
 
+use crate::borrowed::{Body, Leaf};
 use crate::chains::chains_of;
-use pptext::{Place, Spelling, Token, Tokens};
+use pptext::{Place, Spelling};
 use smallvec::SmallVec;
 use std::alloc::{AllocError, Global};
 use std::marker::Model;
@@ -61,41 +62,41 @@ pub enum Shape {
 
 /// What defines a macro: its kind and its replacement list.
 #[derive(Drop)]
-pub struct Definition {
+pub struct Definition<'a> {
     pub shape: Shape,
-    pub body: Tokens,
+    pub body: Body<'a>,
 }
 
 /// What `##` joins (6.10.3.3).
 #[derive(Drop)]
-pub enum Operand {
+pub enum Operand<'a> {
     /// A token of the replacement list.
-    Tok(Token),
+    Tok(Leaf<'a>),
     /// A parameter, by its index.
     Param(usize),
     /// A parameter behind `#`, which stands at this place.
     Str(usize, Place),
 }
 
-impl Default for Operand {
+impl<'a> Default for Operand<'a> {
     ghost use Rattle.std.specs.Prelude.{◌≡◌};
     ghost use Rattle.ppmacro.specs.declared.macros.Operand.TheVariants.{Param};
 
     ghost is_default = { λ o. o ≡ Param 0 };
 
     // What stands where `Operands` have room for one; nobody sees it.
-    fn default() -> Operand {
+    fn default() -> Operand<'a> {
         Operand::Param(0)
     }
 }
 
 /// Operands, which contracts see as their list. One alone, as most are, takes no memory beside the value.
 #[derive(Drop)]
-pub struct Operands {
-    operands: SmallVec<Operand, 1>,
+pub struct Operands<'a> {
+    operands: SmallVec<Operand<'a>, 1>,
 }
 
-impl Model for Operands {
+impl<'a> Model for Operands<'a> {
     ghost use Rattle.std.specs.Prelude.{List};
     ghost use Rattle.ppmacro.specs.declared.macros.Operand.{Operand};
 
@@ -104,9 +105,9 @@ impl Model for Operands {
     ghost view = { λ s. s.operands.items };
 }
 
-impl Operands {
+impl<'a> Operands<'a> {
     /// No operands.
-    pub fn new(alloc: Global) -> Operands
+    pub fn new(alloc: Global) -> Operands<'a>
         ensures { result ≡ [] }
     {
         Operands {
@@ -115,15 +116,15 @@ impl Operands {
     }
 
     /// Puts one more behind them.
-    pub(crate) fn push(&mut self, operand: Operand) -> Result<(), AllocError>
-        ensures ok { OnOk result (self.new ≡ self.old ++ operand ∷ []) }
+    pub(crate) fn push(&mut self, operand: Operand<'a>) -> Result<(), AllocError>
+        ensures ok { OnOk result (self.new ≡ self.old ++ operand.entry ∷ []) }
     {
         self.operands.push(operand)?;
         Ok(())
     }
 
     /// The operands.
-    pub fn as_slice(&self) -> &[Operand]
+    pub fn as_slice(&self) -> &[Operand<'a>]
         ensures { result.now ≡ self.now }
     {
         self.operands.as_slice()
@@ -132,18 +133,18 @@ impl Operands {
 
 /// Operands that `##` joins, with the space mark of the first token.
 #[derive(Drop)]
-pub struct Chain {
+pub struct Chain<'a> {
     pub mark: bool,
-    pub operands: Operands,
+    pub operands: Operands<'a>,
 }
 
 /// Chains, which contracts see as their list.
 #[derive(Drop)]
-pub struct Chains {
-    chains: Vec<Chain>,
+pub struct Chains<'a> {
+    chains: Vec<Chain<'a>>,
 }
 
-impl Model for Chains {
+impl<'a> Model for Chains<'a> {
     ghost use Rattle.std.specs.Prelude.{List};
     ghost use Rattle.ppmacro.specs.declared.macros.Chain.{Chain};
 
@@ -152,62 +153,55 @@ impl Model for Chains {
     ghost view = { λ s. s.chains.items };
 }
 
-impl Chains {
+impl<'a> Chains<'a> {
     /// These chains.
-    pub fn new(chains: Vec<Chain>) -> Chains
-        ensures { result ≡ chains.items }
+    pub fn new(chains: Vec<Chain<'a>>) -> Chains<'a>
+        ensures { result ≡ chains.entry.items }
     {
         Chains { chains }
     }
 
     /// The chains.
-    pub fn as_slice(&self) -> &[Chain]
+    pub fn as_slice(&self) -> &[Chain<'a>]
         ensures { result.now ≡ self.now }
     {
         self.chains.as_slice()
     }
 }
 
-/// A macro: its definition, which contracts see, with its chains.
+/// A macro, which contracts see as its definition.
 #[derive(Drop)]
-pub struct Macro {
-    definition: Definition,
-    chains: Chains,
+pub struct Macro<'a> {
+    definition: Definition<'a>,
 }
 
-impl Model for Macro {
-    ghost use Rattle.std.specs.Prelude.{◌≡◌};
+impl<'a> Model for Macro<'a> {
     ghost use Rattle.ppmacro.specs.declared.macros.Definition.{Definition};
 
     ghost Value = { Definition };
 
-    ghost use Rattle.ppmacro.specs.Chains.{chains_of};
-
     ghost view = { λ m. m.definition };
-
-    ghost invariant = { λ m. m.chains ≡ chains_of m.definition };
 }
 
-impl Macro {
+impl<'a> Macro<'a> {
     /// The macro that a definition makes.
-    pub(crate) fn new(alloc: Global, definition: Definition) -> Result<Macro, AllocError>
-        ensures { IfOk result (λ m. m ≡ definition) }
+    pub(crate) fn new(definition: Definition<'a>) -> Macro<'a>
+        ensures { result ≡ definition.entry }
     {
-        let chains = chains_of(alloc, &definition)?;
-        Ok(Macro { definition, chains })
+        Macro { definition }
     }
 
     /// What defines it.
-    pub fn definition(&self) -> &Definition
+    pub fn definition(&self) -> &Definition<'a>
         ensures { result.now ≡ self.now }
     {
         &self.definition
     }
 
     /// The chains of its replacement list.
-    pub fn chains(&self) -> &[Chain]
-        ensures { result.now ≡ chains_of self.now }
+    pub fn chains(&self, alloc: Global) -> Result<Chains<'a>, AllocError>
+        ensures { IfOk result (λ c. c ≡ chains_of self.now) }
     {
-        self.chains.as_slice()
+        chains_of(alloc, &self.definition)
     }
 }

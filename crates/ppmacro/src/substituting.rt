@@ -1,9 +1,10 @@
 // What an invocation is replaced by (6.10.3.1 to 6.10.3.3).
 ghost use Rattle.std.specs.Prelude.{◌≡◌, ◌++◌, ◌∷◌, IfOk, OnOk, [], map, true, not, ◌||◌, ◌&&◌};
+ghost use Rattle.std.specs.FinSet as set;
 ghost use Rattle.ppmacro.specs.Numbered.{Numbered};
 ghost use Rattle.ppmacro.specs.HideSets.{set_at, IsKnown, hiding, hidings, AllKnown, Keeps};
-ghost use Rattle.ppmacro.specs.Substitution.{is_joined, chain_tokens, mark_first, with_mark, plain, chains_tokens, gained, substituted};
-ghost use Rattle.ppmacro.specs.Substituting.{ArgumentsKnown, arguments_in, list_in, marked_in, pushed, pushed_in};
+ghost use Rattle.ppmacro.specs.Substitution.{is_joined, chain_tokens, mark_first, with_mark, plain, chains_tokens, gained, substituted_by};
+ghost use Rattle.ppmacro.specs.Substituting.{ArgumentsKnown, arguments_in, list_in, marked_in, pushed, pushed_in, HasGained};
 
 mod joining;
 mod lexing;
@@ -16,8 +17,9 @@ pub use self::lexing::tells_each_kind;
 use self::operands::{expansion, operands_tokens};
 pub use self::pasting::paste;
 pub use self::stringizing::{push_escaped, stringize};
-use crate::hide_sets::{Hidden, HideSets, Set};
-use crate::macros::{Chain, Macro, Operand};
+use crate::flying::Hidden;
+use crate::hide_sets::{HideSets, Set};
+use crate::macros::{Chain, Operand};
 use pptext::{Fault, Memory, Place, Token};
 use std::alloc::{AllocError, Global};
 
@@ -29,14 +31,14 @@ fn is_joined(operands: &[Operand]) -> bool
 }
 
 // The tokens of a chain: each `#`, and then `##` from the left.
-fn chain_tokens(
+fn chain_tokens<'x, 'a: 'x>(
     alloc: Global,
     sets: &mut HideSets,
-    given: &[Vec<Hidden>],
-    expanded: &[Option<Vec<Hidden>>],
+    given: &[Vec<Hidden<'x>>],
+    expanded: &[Option<Vec<Hidden<'x>>>],
     used: Place,
-    chain: &Chain,
-) -> Result<Result<Vec<Hidden>, Fault>, Memory>
+    chain: &Chain<'a>,
+) -> Result<Result<Vec<Hidden<'x>>, Fault>, Memory>
     requires { ArgumentsKnown sets.old given.now expanded.now }
     ensures is { IfOk result (λ r. list_in sets.new r ≡ chain_tokens (arguments_in sets.old given.now expanded.now) used chain.now) }
     ensures known { IfOk result (λ r. IfOk r (λ v. AllKnown sets.new v.items)) }
@@ -54,7 +56,11 @@ fn chain_tokens(
 }
 
 // Puts a chain's tokens behind the others, the first with the pending mark. The mark that is pending then.
-fn push_chain(tokens: &mut Vec<Hidden>, pending: bool, more: &[Hidden]) -> Result<bool, AllocError>
+fn push_chain<'a>(
+    tokens: &mut Vec<Hidden<'a>>,
+    pending: bool,
+    more: &[Hidden<'a>],
+) -> Result<bool, AllocError>
     ensures tokens { IfOk result (λ p. (s : Numbered) → hidings s tokens.new.items ≡ hidings s tokens.old.items ++ (mark_first pending (hidings s more.now)).tokens) }
     ensures pending { IfOk result (λ p. (s : Numbered) → p ≡ (mark_first pending (hidings s more.now)).pending) }
     ensures known { OnOk result ((s : Numbered) → AllKnown s tokens.old.items → AllKnown s more.now → AllKnown s tokens.new.items) }
@@ -64,38 +70,37 @@ fn push_chain(tokens: &mut Vec<Hidden>, pending: bool, more: &[Hidden]) -> Resul
         None => return Ok(pending),
     };
     let mut hidden = first.clone()?;
-    hidden.token.space = pending;
+    hidden.mark(pending);
     tokens.push(hidden)?;
     push_all(tokens, &more[1..])?;
     Ok(false)
 }
 
 // Puts a token of the replacement list behind the others, with this mark.
-fn push_token(
+fn push_token<'a>(
     sets: &HideSets,
-    tokens: &mut Vec<Hidden>,
+    tokens: &mut Vec<Hidden<'a>>,
     mark: bool,
-    token: &Token,
+    token: &'a Token,
 ) -> Result<(), AllocError>
     ensures tokens { OnOk result (hidings sets.now tokens.new.items ≡ hidings sets.now tokens.old.items ++ with_mark mark (plain token.now) ∷ []) }
     ensures known { OnOk result (AllKnown sets.now tokens.old.items → AllKnown sets.now tokens.new.items) }
 {
-    let mut token = token.clone()?;
-    token.space = mark;
-    let hide = sets.empty();
-    push_one(tokens, Hidden { token, hide })
+    let mut hidden = Hidden::new(token, sets.empty());
+    hidden.mark(mark);
+    push_one(tokens, hidden)
 }
 
 // Puts the tokens of a chain behind the others, the first with this mark. The mark that is pending then, or fault 19 or 20.
-fn push_chain_tokens(
+fn push_chain_tokens<'x, 'a: 'x>(
     alloc: Global,
     sets: &mut HideSets,
-    given: &[Vec<Hidden>],
-    expanded: &[Option<Vec<Hidden>>],
+    given: &[Vec<Hidden<'x>>],
+    expanded: &[Option<Vec<Hidden<'x>>>],
     used: Place,
     mark: bool,
-    chain: &Chain,
-    tokens: &mut Vec<Hidden>,
+    chain: &Chain<'a>,
+    tokens: &mut Vec<Hidden<'x>>,
 ) -> Result<Result<bool, Fault>, Memory>
     requires arguments { ArgumentsKnown sets.old given.now expanded.now }
     requires tokens { AllKnown sets.old tokens.old.items }
@@ -104,16 +109,18 @@ fn push_chain_tokens(
     ensures keeps { Keeps sets.old sets.new }
 {
     // Most chains are a token or a parameter alone, whose tokens need no list of their own.
-    match chain.operands.as_slice() {
-        [Operand::Tok(token)] => {
-            push_token(sets, tokens, mark, token)?;
-            return Ok(Ok(false));
+    if let [operand] = chain.operands.as_slice() {
+        match operand {
+            Operand::Tok(token) => {
+                push_token(sets, tokens, mark, token.token())?;
+                return Ok(Ok(false));
+            }
+            Operand::Param(index) => {
+                let pending = push_chain(tokens, mark, expansion(expanded, *index))?;
+                return Ok(Ok(pending));
+            }
+            Operand::Str(_, _) => {}
         }
-        [Operand::Param(index)] => {
-            let pending = push_chain(tokens, mark, expansion(expanded, *index))?;
-            return Ok(Ok(pending));
-        }
-        _ => {}
     }
     match chain_tokens(alloc, sets, given, expanded, used, chain)? {
         Ok(more) => {
@@ -132,15 +139,15 @@ fn mark_before(pending: bool, first: bool, own: bool) -> bool
 }
 
 // The tokens of all chains, and the mark that is left pending.
-fn chains_tokens(
+fn chains_tokens<'x, 'a: 'x>(
     alloc: Global,
     sets: &mut HideSets,
-    given: &[Vec<Hidden>],
-    expanded: &[Option<Vec<Hidden>>],
+    given: &[Vec<Hidden<'x>>],
+    expanded: &[Option<Vec<Hidden<'x>>>],
     used: Place,
     space: bool,
-    chains: &[Chain],
-) -> Result<Result<(Vec<Hidden>, bool), Fault>, Memory>
+    chains: &[Chain<'a>],
+) -> Result<Result<(Vec<Hidden<'x>>, bool), Fault>, Memory>
     requires { ArgumentsKnown sets.old given.now expanded.now }
     ensures is { IfOk result (λ r. marked_in sets.new r ≡ chains_tokens (arguments_in sets.old given.now expanded.now) used space true chains.now) }
     ensures known { IfOk result (λ r. IfOk r (λ m. AllKnown sets.new m.0.items)) }
@@ -160,23 +167,58 @@ fn chains_tokens(
     Ok(Ok((tokens, pending)))
 }
 
-// A token with more names, used where the macro's name is.
-fn gain_one(sets: &mut HideSets, hidden: Hidden, gain: Set, used: Place) -> Result<Hidden, Memory>
-    requires hidden { IsKnown sets.old hidden.hide }
+// A set, and what it becomes where it gains names.
+#[derive(Clone, Copy, Debug)]
+struct LastGain {
+    from: Set,
+    to: Set,
+}
+
+// A set with the names that it gains. Tokens in a row mostly have one set, so the last one's answer is kept.
+fn gain_set(sets: &mut HideSets, last: &mut LastGain, hide: Set, gain: Set) -> Result<Set, Memory>
+    requires last { HasGained sets.old gain last.old.from last.old.to }
+    requires hide { IsKnown sets.old hide }
     requires gain { IsKnown sets.old gain }
-    ensures is { IfOk result (λ h. hiding sets.new h ≡ gained (set_at sets.old gain) used (hiding sets.old hidden)) }
-    ensures known { IfOk result (λ h. IsKnown sets.new h.hide) }
+    ensures is { IfOk result (λ s. set_at sets.new s ≡ set.union (set_at sets.old hide) (set_at sets.old gain)) }
+    ensures known { IfOk result (λ s. IsKnown sets.new s) }
+    ensures last { OnOk result (HasGained sets.new gain last.new.from last.new.to) }
     ensures keeps { Keeps sets.old sets.new }
 {
-    let Hidden { mut token, hide } = hidden;
-    let hide = sets.union(hide, gain)?;
-    token.used = used;
-    Ok(Hidden { token, hide })
+    if hide == sets.empty() {
+        return Ok(gain);
+    }
+    if hide == last.from {
+        return Ok(last.to);
+    }
+    let to = sets.union(hide, gain)?;
+    *last = LastGain { from: hide, to };
+    Ok(to)
+}
+
+// A token gains the names, and is used where the macro's name is.
+fn gain_one(
+    sets: &mut HideSets,
+    last: &mut LastGain,
+    hidden: &mut Hidden,
+    gain: Set,
+    used: Place,
+) -> Result<(), Memory>
+    requires last { HasGained sets.old gain last.old.from last.old.to }
+    requires hidden { IsKnown sets.old hidden.old.hide }
+    requires gain { IsKnown sets.old gain }
+    ensures is { OnOk result (hiding sets.new hidden.new ≡ gained (set_at sets.old gain) used (hiding sets.old hidden.old)) }
+    ensures known { OnOk result (IsKnown sets.new hidden.new.hide) }
+    ensures last { OnOk result (HasGained sets.new gain last.new.from last.new.to) }
+    ensures keeps { Keeps sets.old sets.new }
+{
+    let hide = gain_set(sets, last, hidden.hide(), gain)?;
+    hidden.turn(used, hide);
+    Ok(())
 }
 
 // Puts a token behind the others.
-fn push_one(tokens: &mut Vec<Hidden>, hidden: Hidden) -> Result<(), AllocError>
-    ensures { OnOk result (tokens.new.items ≡ tokens.old.items ++ hidden ∷ []) }
+fn push_one<'a>(tokens: &mut Vec<Hidden<'a>>, hidden: Hidden<'a>) -> Result<(), AllocError>
+    ensures { OnOk result (tokens.new.items ≡ tokens.old.items ++ hidden.entry ∷ []) }
 {
     tokens.push(hidden)?;
     Ok(())
@@ -184,50 +226,50 @@ fn push_one(tokens: &mut Vec<Hidden>, hidden: Hidden) -> Result<(), AllocError>
 
 // Each token gains the names, and is used where the macro's name is.
 fn gain_all(
-    alloc: Global,
     sets: &mut HideSets,
-    tokens: Vec<Hidden>,
+    tokens: &mut Vec<Hidden>,
     gain: Set,
     used: Place,
-) -> Result<Vec<Hidden>, Memory>
-    requires tokens { AllKnown sets.old tokens.items }
+) -> Result<(), Memory>
+    requires tokens { AllKnown sets.old tokens.old.items }
     requires gain { IsKnown sets.old gain }
-    ensures is { IfOk result (λ v. hidings sets.new v.items ≡ map (gained (set_at sets.old gain) used) (hidings sets.old tokens.items)) }
-    ensures known { IfOk result (λ v. AllKnown sets.new v.items) }
+    ensures is { OnOk result (hidings sets.new tokens.new.items ≡ map (gained (set_at sets.old gain) used) (hidings sets.old tokens.old.items)) }
+    ensures known { OnOk result (AllKnown sets.new tokens.new.items) }
     ensures keeps { Keeps sets.old sets.new }
 {
-    let mut gained = Vec::with_capacity(alloc, tokens.len())?;
-    for hidden in tokens {
-        let one = gain_one(sets, hidden, gain, used)?;
-        push_one(&mut gained, one)?;
+    let mut last = LastGain {
+        from: sets.empty(),
+        to: gain,
+    };
+    for hidden in tokens.iter_mut() {
+        gain_one(sets, &mut last, hidden, gain, used)?;
     }
-    Ok(gained)
+    Ok(())
 }
 
 /// What an invocation is replaced by, and the space mark that waits for the token behind it; or the first of the
-/// faults 19 and 20. `given` are the arguments, `expanded` the expansions of those that stand away from `#` and
+/// faults 19 and 20. `chains` are the macro's, `given` the arguments, `expanded` the expansions of those that stand away from `#` and
 /// `##`; `gain` the names that each token gains, `used` the place of the macro's name, `space` its mark.
-pub fn substitute(
+pub fn substitute<'x, 'a: 'x>(
     alloc: Global,
-    replaced: &Macro,
-    given: &[Vec<Hidden>],
-    expanded: &[Option<Vec<Hidden>>],
+    chains: &[Chain<'a>],
+    given: &[Vec<Hidden<'x>>],
+    expanded: &[Option<Vec<Hidden<'x>>>],
     gain: Set,
     used: Place,
     space: bool,
     sets: &mut HideSets,
-) -> Result<Result<(Vec<Hidden>, bool), Fault>, Memory>
+) -> Result<Result<(Vec<Hidden<'x>>, bool), Fault>, Memory>
     requires arguments { ArgumentsKnown sets.old given.now expanded.now }
     requires gain { IsKnown sets.old gain }
-    ensures is { IfOk result (λ r. marked_in sets.new r ≡ substituted replaced.now (arguments_in sets.old given.now expanded.now) (set_at sets.old gain) used space) }
+    ensures is { IfOk result (λ r. marked_in sets.new r ≡ substituted_by chains.now (arguments_in sets.old given.now expanded.now) (set_at sets.old gain) used space) }
     ensures known { IfOk result (λ r. IfOk r (λ m. AllKnown sets.new m.0.items)) }
     ensures keeps { Keeps sets.old sets.new }
 {
-    let chains = replaced.chains();
     match chains_tokens(alloc, sets, given, expanded, used, space, chains)? {
-        Ok((tokens, pending)) => {
-            let gained = gain_all(alloc, sets, tokens, gain, used)?;
-            Ok(Ok((gained, pending)))
+        Ok((mut tokens, pending)) => {
+            gain_all(sets, &mut tokens, gain, used)?;
+            Ok(Ok((tokens, pending)))
         }
         Err(fault) => Ok(Err(fault)),
     }

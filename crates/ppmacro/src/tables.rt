@@ -5,19 +5,25 @@ ghost use Rattle.std.specs.FinMap as table;
 ghost use Rattle.ppmacro.specs.Define.{is_predefined, is_reserved};
 ghost use Rattle.ppmacro.specs.Predefined.{predefined_as, predefined};
 
+use crate::borrowed::Body;
+use crate::keys::Key;
 use crate::macros::{Builtin, Definition, Macro, Shape};
+use crate::marks::Marks;
 use indexmap::IndexMap;
-use pptext::{Memory, Tokens};
+use pptext::Memory;
 use std::alloc::{AllocError, Global};
 use std::marker::Model;
 
 /// The macros of a unit, which contracts see as a finite map from names to definitions.
+///
+/// Most identifiers are names of no macro, and most of those have a mark that no name in the table ever had.
 #[derive(Drop)]
-pub struct Table {
-    macros: IndexMap<Vec<u8>, Macro>,
+pub struct Table<'a> {
+    macros: IndexMap<Key<'a>, Macro<'a>>,
+    marks: Marks,
 }
 
-impl Model for Table {
+impl<'a> Model for Table<'a> {
     ghost use Rattle.ppmacro.specs.Names.{Macros};
 
     ghost Value = { Macros };
@@ -25,14 +31,16 @@ impl Model for Table {
     ghost use Rattle.std.specs.FinMap as table;
     ghost use Rattle.std.specs.Coded.{coded_list, coded_ℕ};
     ghost use Rattle.ppmacro.specs.contracts.macros.Macro as macro_contract;
+    ghost use Rattle.std.specs.Prelude.{[]};
+    ghost use mir.Syntax.{named};
 
-    ghost coded = { table.code (coded_list coded_ℕ) macro_contract.the_row.coded };
+    ghost coded = { table.code (coded_list coded_ℕ) ((macro_contract.the_row (record { mir = named 1; lft = [] })).coded) };
 
-    ghost use Rattle.ppmacro.specs.Entries.{table_of, AreDistinct};
+    ghost view = { λ t. table.from_entries t.macros.entries };
 
-    ghost view = { λ t. table_of t.macros.entries };
+    ghost use Rattle.ppmacro.specs.Marks.{AreMarked};
 
-    ghost invariant = { λ t. AreDistinct t.macros.entries };
+    ghost invariant = { λ t. AreMarked t.marks (table.from_entries t.macros.entries) };
 }
 
 // Whether it is a predefined macro.
@@ -45,41 +53,50 @@ fn is_predefined(found: Option<&Macro>) -> bool
     }
 }
 
-impl Table {
+impl<'a> Table<'a> {
     /// The predefined names alone (6.10.8.1).
-    pub fn new(alloc: Global) -> Result<Table, Memory>
+    pub fn new(alloc: Global) -> Result<Table<'a>, Memory>
         ensures { IfOk result (λ t. t ≡ predefined) }
     {
         let mut table = Table {
             macros: IndexMap::new(alloc),
+            marks: Marks::new(alloc)?,
         };
-        table.predefine(alloc, b"__STDC_VERSION__", Builtin::StdcVersion)?;
-        table.predefine(alloc, b"__STDC_HOSTED__", Builtin::StdcHosted)?;
-        table.predefine(alloc, b"__STDC__", Builtin::Stdc)?;
-        table.predefine(alloc, b"__TIME__", Builtin::Time)?;
-        table.predefine(alloc, b"__DATE__", Builtin::Date)?;
-        table.predefine(alloc, b"__LINE__", Builtin::Line)?;
-        table.predefine(alloc, b"__FILE__", Builtin::File)?;
+        table.predefine(b"__STDC_VERSION__", Builtin::StdcVersion)?;
+        table.predefine(b"__STDC_HOSTED__", Builtin::StdcHosted)?;
+        table.predefine(b"__STDC__", Builtin::Stdc)?;
+        table.predefine(b"__TIME__", Builtin::Time)?;
+        table.predefine(b"__DATE__", Builtin::Date)?;
+        table.predefine(b"__LINE__", Builtin::Line)?;
+        table.predefine(b"__FILE__", Builtin::File)?;
         Ok(table)
     }
 
     // Puts a predefined macro under this name.
-    fn predefine(&mut self, alloc: Global, name: &[u8], builtin: Builtin) -> Result<(), AllocError>
+    fn predefine(&mut self, name: &'a [u8], builtin: Builtin) -> Result<(), AllocError>
         ensures { OnOk result (self.new ≡ table.insert self.old name.now (predefined_as builtin)) }
     {
         let definition = Definition {
             shape: Shape::Predefined(builtin),
-            body: Tokens::new(Vec::new(alloc)),
+            body: Body::new(&[]),
         };
-        let made = Macro::new(alloc, definition)?;
-        self.insert(Vec::from_slice(alloc, name)?, made)
+        self.insert(name, Macro::new(definition))
     }
 
     /// The macro of this name.
-    pub fn get(&self, name: &[u8]) -> Option<&Macro>
+    pub fn get(&self, name: &[u8]) -> Option<&Macro<'a>>
         ensures { option_copied result ≡ table.get self.now name.now }
     {
-        self.macros.get(name)
+        if !self.marks.shows(name) {
+            return None;
+        }
+        let Some(index) = self.macros.get_index_of(&Key { bytes: name }) else {
+            return None;
+        };
+        match self.macros.get_index(index) {
+            Some((_, found)) => Some(found),
+            None => None,
+        }
     }
 
     /// Whether the name is none that a directive may define or take out (6.10.8p4).
@@ -93,20 +110,21 @@ impl Table {
     }
 
     // Puts a macro under this name.
-    pub(crate) fn insert(&mut self, name: Vec<u8>, definition: Macro) -> Result<(), AllocError>
-        ensures ok { OnOk result (self.new ≡ table.insert self.old name.items definition) }
+    pub(crate) fn insert(&mut self, name: &'a [u8], definition: Macro<'a>) -> Result<(), AllocError>
+        ensures ok { OnOk result (self.new ≡ table.insert self.old name.now definition.entry) }
         ensures err { OnErr result (self.new ≡ self.old) }
     {
-        match self.macros.insert(name, definition) {
+        self.marks.put(name);
+        match self.macros.insert(Key { bytes: name }, definition) {
             Ok(_) => Ok(()),
             Err(_) => Err(AllocError),
         }
     }
 
     // Takes out the macro of this name, if there is one.
-    pub(crate) fn remove(&mut self, name: &[u8])
+    pub(crate) fn remove(&mut self, name: &'a [u8])
         ensures { self.new ≡ table.remove self.old name.now }
     {
-        self.macros.shift_remove(name);
+        self.macros.swap_remove(&Key { bytes: name });
     }
 }

@@ -4,9 +4,10 @@ mod definitions;
 mod hide_sets;
 mod substitution;
 
-use crate::{Shape, Table, define, undef};
+use crate::{HideSets, Set, Shape, Table, define, undef};
 use pptext::{Fault, Memory, Place, Token, read_source};
 use std::alloc::{AllocError, Global};
+use std::process::Abort;
 use std::test::Fail;
 
 /// Where the `#` of a line stands.
@@ -25,8 +26,33 @@ fn lexed(alloc: Global, line: &str) -> Result<Vec<Token>, Fail> {
     Ok(Vec::from_clones(alloc, source.tokens())?)
 }
 
+/// The tokens of each of these lines.
+fn all_lexed(alloc: Global, lines: &[&str]) -> Result<Vec<Vec<Token>>, Fail> {
+    let mut lists = Vec::new(alloc);
+    for line in lines {
+        lists.push(lexed(alloc, line)?)?;
+    }
+    Ok(lists)
+}
+
+/// A hide set with one name more.
+fn more<R: Abort>(rt: &R, sets: &mut HideSets, set: Set, name: &[u8]) -> Result<Set, Memory> {
+    assert!(rt; sets.knows(set));
+    sets.with(set, name)
+}
+
+/// Whether a hide set has this name.
+fn has<R: Abort>(rt: &R, sets: &HideSets, set: Set, name: &[u8]) -> bool {
+    assert!(rt; sets.knows(set));
+    sets.has(set, name)
+}
+
 /// What a `#define` or `#undef` line does to a table.
-fn directed(alloc: Global, table: &mut Table, line: &[Token]) -> Result<Result<(), Fault>, Memory> {
+fn directed<'a>(
+    alloc: Global,
+    table: &mut Table<'a>,
+    line: &'a [Token],
+) -> Result<Result<(), Fault>, Memory> {
     let [hash, name, rest @ ..] = line else {
         return Ok(Ok(()));
     };

@@ -6,43 +6,39 @@ ghost use Rattle.std.specs.Str.{bytes_eq};
 ghost use Rattle.ppmacro.specs.Define.{closed, parameters_from, parameter_list, repeats};
 ghost use Rattle.ppmacro.specs.Headings.{with_names};
 
+use crate::borrowed::Body;
 use crate::macros::Names;
 use crate::spellings::{is_identifier, is_punct};
-use pptext::{Spelling, Token, Tokens};
+use pptext::{Spelling, Token};
 use std::alloc::{AllocError, Global};
 
 /// The parameters' names, whether `...` ends them, and what stands behind `)`.
 #[derive(Drop)]
-pub(crate) struct Heading {
+pub(crate) struct Heading<'a> {
     pub(crate) names: Names,
     pub(crate) variadic: bool,
-    pub(crate) body: Tokens,
+    pub(crate) body: Body<'a>,
 }
 
 // The heading of these names, where `)` stands here.
-fn closed(
-    alloc: Global,
-    names: Vec<Spelling>,
-    variadic: bool,
-    line: &[Token],
-) -> Result<Option<Heading>, AllocError>
-    ensures { IfOk result (λ h. h ≡ option_map (with_names names.items) (closed variadic line.now)) }
+fn closed<'a>(names: Vec<Spelling>, variadic: bool, line: &'a [Token]) -> Option<Heading<'a>>
+    ensures { result ≡ option_map (with_names names.items) (closed variadic line.now) }
 {
     let Some(first) = line.first() else {
-        return Ok(None);
+        return None;
     };
     if !is_punct(first, b")") {
-        return Ok(None);
+        return None;
     }
-    Ok(Some(Heading {
+    Some(Heading {
         names: Names::new(names),
         variadic,
-        body: Tokens::new(Vec::from_clones(alloc, &line[1..])?),
-    }))
+        body: Body::new(&line[1..]),
+    })
 }
 
 // The heading of one parameter or more, or of `...`.
-fn parameters(alloc: Global, line: &[Token]) -> Result<Option<Heading>, AllocError>
+fn parameters<'a>(alloc: Global, line: &'a [Token]) -> Result<Option<Heading<'a>>, AllocError>
     ensures { IfOk result (λ h. h ≡ parameters_from false line.now) }
 {
     let mut names = Vec::new(alloc);
@@ -50,13 +46,13 @@ fn parameters(alloc: Global, line: &[Token]) -> Result<Option<Heading>, AllocErr
     for (i, token) in line.iter().enumerate() {
         if named {
             if !is_punct(token, b",") {
-                return closed(alloc, names, false, &line[i..]);
+                return Ok(closed(names, false, &line[i..]));
             }
             named = false;
             continue;
         }
         if is_punct(token, b"...") {
-            return closed(alloc, names, true, &line[i + 1..]);
+            return Ok(closed(names, true, &line[i + 1..]));
         }
         if !is_identifier(token) {
             return Ok(None);
@@ -68,14 +64,17 @@ fn parameters(alloc: Global, line: &[Token]) -> Result<Option<Heading>, AllocErr
 }
 
 /// The heading that a line begins with behind `(`, if it has the form of one.
-pub(crate) fn read_heading(alloc: Global, line: &[Token]) -> Result<Option<Heading>, AllocError>
+pub(crate) fn read_heading<'a>(
+    alloc: Global,
+    line: &'a [Token],
+) -> Result<Option<Heading<'a>>, AllocError>
     ensures { IfOk result (λ h. h ≡ parameter_list line.now) }
 {
     let Some(first) = line.first() else {
         return Ok(None);
     };
     if is_punct(first, b")") {
-        return closed(alloc, Vec::new(alloc), false, line);
+        return Ok(closed(Vec::new(alloc), false, line));
     }
     parameters(alloc, line)
 }

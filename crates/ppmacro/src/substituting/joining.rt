@@ -4,13 +4,17 @@ ghost use Rattle.ppmacro.specs.HideSets.{hidings, AllKnown, Keeps};
 ghost use Rattle.ppmacro.specs.Substitution.{join, join_all};
 ghost use Rattle.ppmacro.specs.Substituting.{lists_of, ListsKnown, list_in, left_in};
 
-use crate::hide_sets::{Hidden, HideSets};
+use crate::flying::Hidden;
+use crate::hide_sets::HideSets;
 use crate::substituting::pasting::paste;
 use pptext::{Fault, Memory, Place};
 use std::alloc::{AllocError, Global};
 
 /// Puts tokens behind others.
-pub(crate) fn push_all(tokens: &mut Vec<Hidden>, more: &[Hidden]) -> Result<(), AllocError>
+pub(crate) fn push_all<'a>(
+    tokens: &mut Vec<Hidden<'a>>,
+    more: &[Hidden<'a>],
+) -> Result<(), AllocError>
     ensures { OnOk result (tokens.new.items ≡ tokens.old.items ++ more.now) }
 {
     for hidden in more {
@@ -20,19 +24,23 @@ pub(crate) fn push_all(tokens: &mut Vec<Hidden>, more: &[Hidden]) -> Result<(), 
 }
 
 // Puts a token and others behind a list.
-fn push_joined(tokens: &mut Vec<Hidden>, hidden: Hidden, more: &[Hidden]) -> Result<(), AllocError>
-    ensures { OnOk result (tokens.new.items ≡ tokens.old.items ++ hidden ∷ more.now) }
+fn push_joined<'a>(
+    tokens: &mut Vec<Hidden<'a>>,
+    hidden: Hidden<'a>,
+    more: &[Hidden<'a>],
+) -> Result<(), AllocError>
+    ensures { OnOk result (tokens.new.items ≡ tokens.old.items ++ hidden.entry ∷ more.now) }
 {
     tokens.push(hidden)?;
     push_all(tokens, more)
 }
 
 // Joins the last token of one list with the first of the other, or raises fault 19.
-fn join(
+fn join<'a>(
     alloc: Global,
     sets: &mut HideSets,
-    left: &mut Vec<Hidden>,
-    right: &[Hidden],
+    left: &mut Vec<Hidden<'a>>,
+    right: &[Hidden<'a>],
     used: Place,
 ) -> Result<Result<(), Fault>, Memory>
     requires left { AllKnown sets.old left.old.items }
@@ -62,12 +70,12 @@ fn join(
 }
 
 /// Joins lists from the left, or raises fault 19.
-pub(crate) fn join_all(
+pub(crate) fn join_all<'a>(
     alloc: Global,
     sets: &mut HideSets,
-    lists: &[Vec<Hidden>],
+    lists: &[Vec<Hidden<'a>>],
     used: Place,
-) -> Result<Result<Vec<Hidden>, Fault>, Memory>
+) -> Result<Result<Vec<Hidden<'a>>, Fault>, Memory>
     requires { ListsKnown sets.old lists.now }
     ensures is { IfOk result (λ r. list_in sets.new r ≡ join_all [] (map (hidings sets.old) (lists_of lists.now)) used) }
     ensures known { IfOk result (λ r. IfOk r (λ v. AllKnown sets.new v.items)) }

@@ -4,35 +4,41 @@ ghost use Rattle.ppmacro.specs.HideSets.{hidings, AllKnown};
 ghost use Rattle.ppmacro.specs.Substitution.{argument_at, expanded_at, plain, after_ok, stringized, operand_tokens, operands_tokens};
 ghost use Rattle.ppmacro.specs.Substituting.{lists_of, options_of, ArgumentsKnown, arguments_in, tokens_of, list_in, lists_in, ListsKnown};
 
-use crate::hide_sets::{Hidden, HideSets};
+use crate::flying::Hidden;
+use crate::hide_sets::HideSets;
 use crate::macros::Operand;
 use crate::substituting::stringizing::stringize;
 use pptext::{Fault, Memory, Place, Token};
 use std::alloc::{AllocError, Global};
 
 // The tokens of an argument.
-fn argument(given: &[Vec<Hidden>], index: usize) -> &[Hidden]
+fn argument<'g, 'a>(given: &'g [Vec<Hidden<'a>>], index: usize) -> &'g [Hidden<'a>]
     ensures { result.now ≡ argument_at (lists_of given.now) index }
 {
-    match given.get(index) {
-        Some(tokens) => tokens.as_slice(),
-        None => &[],
-    }
+    let Some(tokens) = given.get(index) else {
+        let none: &'g [Hidden<'a>] = Default::default();
+        return none;
+    };
+    tokens.as_slice()
 }
 
 /// The tokens of an argument's expansion.
-pub(crate) fn expansion(expanded: &[Option<Vec<Hidden>>], index: usize) -> &[Hidden]
+pub(crate) fn expansion<'g, 'a>(
+    expanded: &'g [Option<Vec<Hidden<'a>>>],
+    index: usize,
+) -> &'g [Hidden<'a>]
     ensures { result.now ≡ expanded_at (options_of expanded.now) index }
 {
-    match expanded.get(index) {
-        Some(Some(tokens)) => tokens.as_slice(),
-        _ => &[],
-    }
+    let Some(Some(tokens)) = expanded.get(index) else {
+        let none: &'g [Hidden<'a>] = Default::default();
+        return none;
+    };
+    tokens.as_slice()
 }
 
 // A list of one token.
-fn lone(alloc: Global, hidden: Hidden) -> Result<Vec<Hidden>, AllocError>
-    ensures { IfOk result (λ v. v.items ≡ hidden ∷ []) }
+fn lone<'a>(alloc: Global, hidden: Hidden<'a>) -> Result<Vec<Hidden<'a>>, AllocError>
+    ensures { IfOk result (λ v. v.items ≡ hidden.entry ∷ []) }
 {
     let mut tokens = Vec::new(alloc);
     tokens.push(hidden)?;
@@ -40,25 +46,25 @@ fn lone(alloc: Global, hidden: Hidden) -> Result<Vec<Hidden>, AllocError>
 }
 
 // A token of the replacement list.
-fn plain(alloc: Global, sets: &HideSets, token: &Token) -> Result<Vec<Hidden>, AllocError>
+fn plain<'a>(
+    alloc: Global,
+    sets: &HideSets,
+    token: &'a Token,
+) -> Result<Vec<Hidden<'a>>, AllocError>
     ensures is { IfOk result (λ v. hidings sets.now v.items ≡ plain token.now ∷ []) }
     ensures known { IfOk result (λ v. AllKnown sets.now v.items) }
 {
-    let hidden = Hidden {
-        token: token.clone()?,
-        hide: sets.empty(),
-    };
-    lone(alloc, hidden)
+    lone(alloc, Hidden::new(token, sets.empty()))
 }
 
 // The literal of an argument, or fault 20.
-fn literal(
+fn literal<'a>(
     alloc: Global,
     sets: &HideSets,
     argument: &[Hidden],
     at: Place,
     used: Place,
-) -> Result<Result<Vec<Hidden>, Fault>, Memory>
+) -> Result<Result<Vec<Hidden<'a>>, Fault>, Memory>
     ensures is { IfOk result (λ r. list_in sets.now r ≡ after_ok (stringized (tokens_of argument.now) at used) (λ t. Ok (t ∷ []))) }
     ensures known { IfOk result (λ r. IfOk r (λ v. AllKnown sets.now v.items)) }
 {
@@ -69,21 +75,21 @@ fn literal(
 }
 
 /// The tokens of an operand, or fault 20. `beside`: it stands beside `##`, where an argument stays unexpanded.
-pub(crate) fn operand_tokens(
+pub(crate) fn operand_tokens<'x, 'a: 'x>(
     alloc: Global,
     sets: &HideSets,
     beside: bool,
-    given: &[Vec<Hidden>],
-    expanded: &[Option<Vec<Hidden>>],
+    given: &[Vec<Hidden<'x>>],
+    expanded: &[Option<Vec<Hidden<'x>>>],
     used: Place,
-    operand: &Operand,
-) -> Result<Result<Vec<Hidden>, Fault>, Memory>
+    operand: &Operand<'a>,
+) -> Result<Result<Vec<Hidden<'x>>, Fault>, Memory>
     requires { ArgumentsKnown sets.now given.now expanded.now }
     ensures is { IfOk result (λ r. list_in sets.now r ≡ operand_tokens beside (arguments_in sets.now given.now expanded.now) used operand.now) }
     ensures known { IfOk result (λ r. IfOk r (λ v. AllKnown sets.now v.items)) }
 {
     match operand {
-        Operand::Tok(token) => Ok(Ok(plain(alloc, sets, token)?)),
+        Operand::Tok(token) => Ok(Ok(plain(alloc, sets, token.token())?)),
         Operand::Str(index, at) => {
             let literal = literal(alloc, sets, argument(given, *index), *at, used)?;
             Ok(literal)
@@ -98,23 +104,26 @@ pub(crate) fn operand_tokens(
 }
 
 // Puts a list behind the others.
-fn push_list(lists: &mut Vec<Vec<Hidden>>, tokens: Vec<Hidden>) -> Result<(), AllocError>
-    ensures { OnOk result (lists.new.items ≡ lists.old.items ++ tokens ∷ []) }
+fn push_list<'a>(
+    lists: &mut Vec<Vec<Hidden<'a>>>,
+    tokens: Vec<Hidden<'a>>,
+) -> Result<(), AllocError>
+    ensures { OnOk result (lists.new.items ≡ lists.old.items ++ tokens.entry ∷ []) }
 {
     lists.push(tokens)?;
     Ok(())
 }
 
 /// The tokens of each operand of a chain, or the first fault 20.
-pub(crate) fn operands_tokens(
+pub(crate) fn operands_tokens<'x, 'a: 'x>(
     alloc: Global,
     sets: &HideSets,
     beside: bool,
-    given: &[Vec<Hidden>],
-    expanded: &[Option<Vec<Hidden>>],
+    given: &[Vec<Hidden<'x>>],
+    expanded: &[Option<Vec<Hidden<'x>>>],
     used: Place,
-    operands: &[Operand],
-) -> Result<Result<Vec<Vec<Hidden>>, Fault>, Memory>
+    operands: &[Operand<'a>],
+) -> Result<Result<Vec<Vec<Hidden<'x>>>, Fault>, Memory>
     requires { ArgumentsKnown sets.now given.now expanded.now }
     ensures is { IfOk result (λ r. lists_in sets.now r ≡ operands_tokens beside (arguments_in sets.now given.now expanded.now) used operands.now) }
     ensures known { IfOk result (λ r. IfOk r (λ v. ListsKnown sets.now v.items)) }

@@ -4,50 +4,49 @@ ghost use Rattle.ppmacro.specs.HideSets.{hiding, IsKnown, Keeps};
 ghost use Rattle.ppmacro.specs.Substitution.{pasted};
 ghost use Rattle.ppmacro.specs.Substituting.{hidden_in};
 
-use crate::hide_sets::{Hidden, HideSets};
+use crate::flying::Hidden;
+use crate::hide_sets::HideSets;
 use crate::spellings::fault;
 use crate::substituting::lexing::kind_of;
 use pptext::{Fault, Memory, Place, Spelling, Token};
 use std::alloc::{AllocError, Global};
 
 // Both spellings as one.
-fn both(alloc: Global, left: &Token, right: &Token) -> Result<Vec<u8>, AllocError>
-    ensures { IfOk result (λ v. v.items ≡ left.now.text ++ right.now.text) }
+fn both(alloc: Global, left: &Hidden, right: &Hidden) -> Result<Vec<u8>, AllocError>
+    ensures { IfOk result (λ v. v.items ≡ left.now.token.text ++ right.now.token.text) }
 {
-    let mut text = Vec::from_slice(alloc, left.text.as_bytes())?;
-    text.extend_from_slice(right.text.as_bytes())?;
+    let mut text = Vec::from_slice(alloc, left.text())?;
+    text.extend_from_slice(right.text())?;
     Ok(text)
 }
 
 /// Two tokens as one (6.10.3.3), with the left one's place and space mark, and with the names that both are not replaced by.
 /// `used` is the place of the macro's name. Fault 19, at that place with both spellings, where they are no one token or a lone
 /// quote. Whatever the answer is, sets that were there keep their names.
-pub fn paste(
+pub fn paste<'a>(
     alloc: Global,
     sets: &mut HideSets,
     left: &Hidden,
     right: &Hidden,
     used: Place,
-) -> Result<Result<Hidden, Fault>, Memory>
+) -> Result<Result<Hidden<'a>, Fault>, Memory>
     requires left { IsKnown sets.old left.now.hide }
     requires right { IsKnown sets.old right.now.hide }
     ensures is { IfOk result (λ r. hidden_in sets.new r ≡ pasted (hiding sets.old left.now) (hiding sets.old right.now) used) }
     ensures known { IfOk result (λ r. IfOk r (λ h. IsKnown sets.new h.hide)) }
     ensures keeps { Keeps sets.old sets.new }
 {
-    let text = both(alloc, &left.token, &right.token)?;
+    let text = both(alloc, left, right)?;
     let Some(kind) = kind_of(text.as_slice()) else {
         return Ok(Err(fault(alloc, 19, used, text.as_slice())?));
     };
-    let hide = sets.meet(left.hide, right.hide)?;
-    Ok(Ok(Hidden {
-        token: Token {
-            kind,
-            text: Spelling::new(text),
-            space: left.token.space,
-            at: left.token.at,
-            used,
-        },
-        hide,
-    }))
+    let hide = sets.meet(left.hide(), right.hide())?;
+    let token = Token {
+        kind,
+        text: Spelling::new(text)?,
+        space: left.space(),
+        at: left.at(),
+        used,
+    };
+    Ok(Ok(Hidden::made(alloc, token, hide)?))
 }

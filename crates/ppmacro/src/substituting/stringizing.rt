@@ -4,7 +4,8 @@ ghost use Rattle.ppmacro.specs.HideSets.{IsKnown};
 ghost use Rattle.ppmacro.specs.Substitution.{escaped, spelled_space, spelled_in_string, string_text, stringized};
 ghost use Rattle.ppmacro.specs.Substituting.{tokens_of, hidden_in};
 
-use crate::hide_sets::{Hidden, HideSets};
+use crate::flying::Hidden;
+use crate::hide_sets::HideSets;
 use crate::spellings::fault;
 use crate::substituting::lexing::kind_of;
 use pptext::{Fault, Kind, Memory, Place, Spelling, Token};
@@ -24,20 +25,20 @@ pub fn push_escaped(text: &mut Vec<u8>, spelling: &[u8]) -> Result<(), AllocErro
 }
 
 // Puts a token's spelling behind a text.
-fn push_spelled(text: &mut Vec<u8>, token: &Token) -> Result<(), AllocError>
-    ensures { OnOk result (text.new.items ≡ text.old.items ++ spelled_in_string token.now) }
+fn push_spelled(text: &mut Vec<u8>, token: &Hidden) -> Result<(), AllocError>
+    ensures { OnOk result (text.new.items ≡ text.old.items ++ spelled_in_string token.now.token) }
 {
-    if matches!(token.kind, Kind::CharConst | Kind::Str) {
-        return push_escaped(text, token.text.as_bytes());
+    if matches!(token.kind(), Kind::CharConst | Kind::Str) {
+        return push_escaped(text, token.text());
     }
-    text.extend_from_slice(token.text.as_bytes())
+    text.extend_from_slice(token.text())
 }
 
 // Puts a token's spelling behind a text, with a space before it where it has a mark and is not the first.
-fn push_marked(text: &mut Vec<u8>, first: bool, token: &Token) -> Result<(), AllocError>
-    ensures { OnOk result (text.new.items ≡ text.old.items ++ (spelled_space first token.now ++ spelled_in_string token.now)) }
+fn push_marked(text: &mut Vec<u8>, first: bool, token: &Hidden) -> Result<(), AllocError>
+    ensures { OnOk result (text.new.items ≡ text.old.items ++ (spelled_space first token.now.token ++ spelled_in_string token.now.token)) }
 {
-    if token.space && !first {
+    if token.space() && !first {
         text.push(b' ')?;
     }
     push_spelled(text, token)
@@ -51,7 +52,7 @@ fn string_text(alloc: Global, argument: &[Hidden]) -> Result<Vec<u8>, AllocError
     text.push(b'"')?;
     let mut first = true;
     for hidden in argument {
-        push_marked(&mut text, first, &hidden.token)?;
+        push_marked(&mut text, first, hidden)?;
         first = false;
     }
     text.push(b'"')?;
@@ -60,13 +61,13 @@ fn string_text(alloc: Global, argument: &[Hidden]) -> Result<Vec<u8>, AllocError
 
 /// The string literal of an argument (6.10.3.2), without space mark and with the empty set. `at` is the place of `#`, `used`
 /// that of the macro's name. Fault 20, at that place with the text, where the text is no string literal.
-pub fn stringize(
+pub fn stringize<'a>(
     alloc: Global,
     sets: &HideSets,
     argument: &[Hidden],
     at: Place,
     used: Place,
-) -> Result<Result<Hidden, Fault>, Memory>
+) -> Result<Result<Hidden<'a>, Fault>, Memory>
     ensures is { IfOk result (λ r. hidden_in sets.now r ≡ stringized (tokens_of argument.now) at used) }
     ensures known { IfOk result (λ r. IfOk r (λ h. IsKnown sets.now h.hide)) }
 {
@@ -75,14 +76,12 @@ pub fn stringize(
     if !matches!(kind, Some(Kind::Str)) {
         return Ok(Err(fault(alloc, 20, used, text.as_slice())?));
     }
-    Ok(Ok(Hidden {
-        token: Token {
-            kind: Kind::Str,
-            text: Spelling::new(text),
-            space: false,
-            at,
-            used,
-        },
-        hide: sets.empty(),
-    }))
+    let token = Token {
+        kind: Kind::Str,
+        text: Spelling::new(text)?,
+        space: false,
+        at,
+        used,
+    };
+    Ok(Ok(Hidden::made(alloc, token, sets.empty())?))
 }

@@ -13,27 +13,27 @@ fn assert_fault<R: Abort>(rt: &R, fault: &Fault, number: u8, text: &str, line: &
     assert_eq!(rt; fault.text.as_bytes(), text.as_bytes(), "{line}");
 }
 
-/// Asserts what a line does: it leaves this definition of the name, or raises the fault of this number and leaves
-/// what the name had.
+/// Asserts what a line does to a table in which only the line before it was done: it leaves this definition of the name, or
+/// raises the fault of this number and leaves what the name had.
 fn assert_directed<R: Abort>(
     rt: &R,
     alloc: Global,
-    table: &mut Table,
-    line: &str,
-    name: &str,
+    (first, line, name): (&str, &str, &str),
     wanted: Result<&str, u8>,
 ) -> Result<(), Fail> {
-    let tokens = lexed(alloc, line)?;
-    let before = shown(alloc, table, name)?;
-    let answer = match directed(alloc, table, tokens.as_slice()) {
+    let (kept, tokens) = (lexed(alloc, first)?, lexed(alloc, line)?);
+    let mut table = Table::new(alloc)?;
+    assert!(rt; directed(alloc, &mut table, kept.as_slice())?.is_ok());
+    let before = shown(alloc, &table, name)?;
+    let answer = match directed(alloc, &mut table, tokens.as_slice()) {
         Ok(answer) => answer,
         Err(Memory) => {
-            let left = shown(alloc, table, name)?;
+            let left = shown(alloc, &table, name)?;
             assert_eq!(rt; left.as_slice(), before.as_slice(), "{line} without memory");
-            directed(alloc, table, tokens.as_slice())?
+            directed(alloc, &mut table, tokens.as_slice())?
         }
     };
-    let after = shown(alloc, table, name)?;
+    let after = shown(alloc, &table, name)?;
     match (answer, wanted) {
         (Ok(()), Ok(definition)) => {
             assert_eq!(rt; after.as_slice(), definition.as_bytes(), "{line}");
@@ -50,9 +50,6 @@ fn assert_directed<R: Abort>(
 #[test]
 fn refuses_in_the_order_of_the_rules(rt: HostRuntime) -> Result<(), Fail> {
     let alloc = rt.alloc();
-    let mut table = Table::new(alloc)?;
-    let kept = lexed(alloc, "#define X 7")?;
-    assert!(rt; directed(alloc, &mut table, kept.as_slice())?.is_ok());
     for (line, name, number) in [
         ("#define", "define", 9),
         ("#define 1 X", "define", 9),
@@ -94,45 +91,58 @@ fn refuses_in_the_order_of_the_rules(rt: HostRuntime) -> Result<(), Fail> {
         ("#undef defined", "defined", 10),
         ("#undef __VA_ARGS__", "__VA_ARGS__", 10),
     ] {
-        assert_directed(&rt, alloc, &mut table, line, name, Err(number))?;
-        assert_eq!(rt;
-            shown(alloc, &table, "X")?.as_slice(),
-            b" 7".as_slice(),
-            "{line}"
-        );
+        assert_directed(&rt, alloc, ("#define X 7", line, name), Err(number))?;
     }
     Ok(())
 }
 
 #[test]
 fn defines_and_undefines(rt: HostRuntime) -> Result<(), Fail> {
-    let alloc = rt.alloc();
-    let mut table = Table::new(alloc)?;
-    for (line, name, definition) in [
-        ("#define O (1-1)", "O", " (1-1)"),
-        ("#define O (1-1) /* same */", "O", " (1-1)"),
-        ("#undef O", "O", "none"),
-        ("#undef O", "O", "none"),
-        ("#define O ( 1-1 )", "O", " ( 1-1 )"),
-        ("#define E", "E", ""),
-        ("#define hash_hash # ## #", "hash_hash", " # ## #"),
-        ("#define p() 1", "p", "() 1"),
+    for (first, line, name, definition) in [
+        ("", "#define O (1-1)", "O", " (1-1)"),
         (
+            "#define O (1-1)",
+            "#define O (1-1) /* same */",
+            "O",
+            " (1-1)",
+        ),
+        ("#define O (1-1)", "#undef O", "O", "none"),
+        ("", "#undef O", "O", "none"),
+        ("#define O", "#define E", "O", ""),
+        ("", "#define E", "E", ""),
+        ("", "#define hash_hash # ## #", "hash_hash", " # ## #"),
+        ("", "#define p() 1", "p", "() 1"),
+        (
+            "",
             "#define g(defined,__LINE__) # __LINE__",
             "g",
             "(defined,__LINE__,) # __LINE__",
         ),
-        ("#define h(a)#a##a", "h", "(a,)#a##a"),
-        ("#define v(...) #__VA_ARGS__", "v", "(...) #__VA_ARGS__"),
+        ("", "#define h(a)#a##a", "h", "(a,)#a##a"),
+        ("", "#define v(...) #__VA_ARGS__", "v", "(...) #__VA_ARGS__"),
         (
+            "",
             "#define w(a,...)a##__VA_ARGS__",
             "w",
             "(a,...)a##__VA_ARGS__",
         ),
-        ("#undef w", "w", "none"),
+        ("#define w(a,...)a##__VA_ARGS__", "#undef w", "w", "none"),
     ] {
-        assert_directed(&rt, alloc, &mut table, line, name, Ok(definition))?;
+        assert_directed(&rt, rt.alloc(), (first, line, name), Ok(definition))?;
     }
+    Ok(())
+}
+
+#[test]
+fn defines_again_what_was_taken_out(rt: HostRuntime) -> Result<(), Fail> {
+    let alloc = rt.alloc();
+    let (first, out) = (lexed(alloc, "#define O 1")?, lexed(alloc, "#undef O")?);
+    let again = lexed(alloc, "#define O 2")?;
+    let mut table = Table::new(alloc)?;
+    assert!(rt; directed(alloc, &mut table, first.as_slice())?.is_ok());
+    assert!(rt; directed(alloc, &mut table, out.as_slice())?.is_ok());
+    assert!(rt; directed(alloc, &mut table, again.as_slice())?.is_ok());
+    assert_eq!(rt; shown(alloc, &table, "O")?.as_slice(), b" 2".as_slice());
     Ok(())
 }
 
@@ -151,14 +161,14 @@ fn compares_definitions(rt: HostRuntime) -> Result<(), Fail> {
         ("#define X(...)", "#define X()", false),
         ("#define X __LINE__", "#define X  __LINE__ ", true),
     ] {
-        let mut table = Table::new(alloc)?;
         let before = lexed(alloc, first)?;
+        let line = lexed(alloc, second)?;
+        let mut table = Table::new(alloc)?;
         assert!(rt;
             directed(alloc, &mut table, before.as_slice())?.is_ok(),
             "{first}"
         );
         let definition = shown(alloc, &table, "X")?;
-        let line = lexed(alloc, second)?;
         match directed(alloc, &mut table, line.as_slice())? {
             Ok(()) => assert!(rt; agree, "{second}"),
             Err(fault) => {
@@ -176,11 +186,10 @@ fn compares_definitions(rt: HostRuntime) -> Result<(), Fail> {
 #[test]
 fn the_later_of_two_agreeing_definitions_stays(rt: HostRuntime) -> Result<(), Fail> {
     let alloc = rt.alloc();
+    let (first, later) = (lexed(alloc, "#define X 1")?, lexed(alloc, "\n#define X 1")?);
     let mut table = Table::new(alloc)?;
-    for line in ["#define X 1", "\n#define X 1"] {
-        let tokens = lexed(alloc, line)?;
-        assert!(rt; directed(alloc, &mut table, tokens.as_slice())?.is_ok());
-    }
+    assert!(rt; directed(alloc, &mut table, first.as_slice())?.is_ok());
+    assert!(rt; directed(alloc, &mut table, later.as_slice())?.is_ok());
     let found = table.get(b"X").ok_or("no X")?;
     let body = found.definition().body.as_slice();
     assert_eq!(rt; body.len(), 1);
@@ -212,11 +221,12 @@ fn holds_the_predefined_names_alone(rt: HostRuntime) -> Result<(), Fail> {
 #[test]
 fn joins_operands_in_chains(rt: HostRuntime) -> Result<(), Fail> {
     let alloc = rt.alloc();
-    let mut table = Table::new(alloc)?;
     let line = lexed(alloc, "#define f(a) x ## #a##a y")?;
+    let mut table = Table::new(alloc)?;
     assert!(rt; directed(alloc, &mut table, line.as_slice())?.is_ok());
     let found = table.get(b"f").ok_or("no f")?;
-    let chains = found.chains();
+    let made = found.chains(alloc)?;
+    let chains = made.as_slice();
     assert_eq!(rt; chains.len(), 2);
     assert!(rt; chains[0].mark && chains[1].mark);
     assert_eq!(rt; chains[0].operands.as_slice().len(), 3);

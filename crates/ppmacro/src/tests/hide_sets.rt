@@ -1,53 +1,134 @@
 // Hide sets.
+use super::{has, more};
 use crate::{HideSets, Set};
 use pptext::Memory;
 use std::process::Abort;
 use std::test::Fail;
 
+/// Asserts whether a set has `a`, and whether it has `b`.
+fn assert_holds<R: Abort>(rt: &R, sets: &HideSets, set: Set, wanted: (bool, bool)) {
+    assert_eq!(rt; has(rt, sets, set, b"a"), wanted.0);
+    assert_eq!(rt; has(rt, sets, set, b"b"), wanted.1);
+}
+
+/// The union of two sets.
+fn either<R: Abort>(rt: &R, sets: &mut HideSets, one: Set, two: Set) -> Result<Set, Memory> {
+    assert!(rt; sets.knows(one) && sets.knows(two));
+    sets.union(one, two)
+}
+
+/// The meet of two sets.
+fn both<R: Abort>(rt: &R, sets: &mut HideSets, one: Set, two: Set) -> Result<Set, Memory> {
+    assert!(rt; sets.knows(one) && sets.knows(two));
+    sets.meet(one, two)
+}
+
+fn names_are_hidden<R: Abort>(rt: &R, sets: &mut HideSets) -> Result<(), Memory> {
+    let none = sets.empty();
+    let a = more(rt, sets, none, b"a")?;
+    let ab = more(rt, sets, a, b"b")?;
+    assert_holds(rt, sets, none, (false, false));
+    assert_holds(rt, sets, a, (true, false));
+    assert_holds(rt, sets, ab, (true, true));
+    Ok(())
+}
+
 #[test]
 fn hides_names(rt: HostRuntime) -> Result<(), Fail> {
     let mut sets = HideSets::new(rt.alloc())?;
+    names_are_hidden(&rt, &mut sets)?;
+    Ok(())
+}
+
+fn sets_are_joined<R: Abort>(rt: &R, sets: &mut HideSets) -> Result<(), Memory> {
     let none = sets.empty();
-    let a = sets.with(none, b"a")?;
-    let ab = sets.with(a, b"b")?;
-    let b = sets.with(none, b"b")?;
-    let either = sets.union(a, b)?;
-    let both = sets.meet(ab, b)?;
-    for (set, name, is_in) in [
-        (none, b"a", false),
-        (a, b"a", true),
-        (a, b"b", false),
-        (ab, b"a", true),
-        (ab, b"b", true),
-        (either, b"a", true),
-        (either, b"b", true),
-        (both, b"a", false),
-        (both, b"b", true),
-    ] {
-        assert!(rt; sets.knows(set));
-        assert_eq!(rt; sets.has(set, name), is_in);
-    }
+    let a = more(rt, sets, none, b"a")?;
+    let b = more(rt, sets, none, b"b")?;
+    let joined = either(rt, sets, a, b)?;
+    assert_holds(rt, sets, joined, (true, true));
+    let met = both(rt, sets, joined, b)?;
+    assert_holds(rt, sets, met, (false, true));
+    Ok(())
+}
+
+#[test]
+fn joins_and_meets(rt: HostRuntime) -> Result<(), Fail> {
+    let mut sets = HideSets::new(rt.alloc())?;
+    sets_are_joined(&rt, &mut sets)?;
+    Ok(())
+}
+
+/// Sets with the same names are the same, whatever made them.
+fn names_tell_sets<R: Abort>(rt: &R, sets: &mut HideSets) -> Result<(), Memory> {
+    let none = sets.empty();
+    let a = more(rt, sets, none, b"a")?;
+    let b = more(rt, sets, none, b"b")?;
+    let ab = more(rt, sets, a, b"b")?;
+    let ba = more(rt, sets, b, b"a")?;
+    assert!(rt; ab == ba);
+    assert!(rt; a != b);
+    Ok(())
+}
+
+#[test]
+fn tells_sets_by_their_names(rt: HostRuntime) -> Result<(), Fail> {
+    let mut sets = HideSets::new(rt.alloc())?;
+    names_tell_sets(&rt, &mut sets)?;
+    sets.lawful();
     Ok(())
 }
 
 /// The union of two sets. Where memory is refused, both have their members, and the call is made again.
-fn either<R: Abort>(rt: &R, sets: &mut HideSets, a: Set, b: Set) -> Result<Set, Memory> {
-    assert!(rt; sets.knows(a) && sets.knows(b));
-    let Ok(set) = sets.union(a, b) else {
-        assert!(rt; sets.has(a, b"a") && !sets.has(a, b"b"));
-        assert!(rt; sets.has(b, b"b") && !sets.has(b, b"a"));
-        return sets.union(a, b);
+fn either_again<R: Abort>(rt: &R, sets: &mut HideSets, a: Set, b: Set) -> Result<Set, Memory> {
+    let Ok(set) = either(rt, sets, a, b) else {
+        assert_holds(rt, sets, a, (true, false));
+        assert_holds(rt, sets, b, (false, true));
+        return either(rt, sets, a, b);
     };
     Ok(set)
+}
+
+fn sets_are_kept<R: Abort>(rt: &R, sets: &mut HideSets) -> Result<(), Memory> {
+    let none = sets.empty();
+    let a = more(rt, sets, none, b"a")?;
+    let b = more(rt, sets, none, b"b")?;
+    let set = either_again(rt, sets, a, b)?;
+    assert_holds(rt, sets, set, (true, true));
+    Ok(())
 }
 
 #[test]
 fn keeps_sets_where_memory_is_refused(rt: HostRuntime) -> Result<(), Fail> {
     let mut sets = HideSets::new(rt.alloc())?;
-    let a = sets.with(sets.empty(), b"a")?;
-    let b = sets.with(sets.empty(), b"b")?;
-    let set = either(&rt, &mut sets, a, b)?;
-    assert!(rt; sets.knows(set));
-    assert!(rt; sets.has(set, b"a") && sets.has(set, b"b"));
+    sets_are_kept(&rt, &mut sets)?;
+    Ok(())
+}
+
+/// Asserts that a second call gives what the first gave. It asks for no memory: `rt try --test --fail-alloc N` refuses all
+/// from the Nth request on, and the test then fails where a second call is refused.
+fn assert_again<R: Abort>(rt: &R, again: Result<Set, Memory>, first: Set) {
+    match again {
+        Ok(second) => assert!(rt; second == first),
+        Err(_) => assert!(rt; false, "a second call was refused memory"),
+    }
+}
+
+fn pairs_are_answered_again<R: Abort>(rt: &R, sets: &mut HideSets) -> Result<(), Memory> {
+    let none = sets.empty();
+    let a = more(rt, sets, none, b"a")?;
+    let ab = more(rt, sets, a, b"b")?;
+    let b = more(rt, sets, none, b"b")?;
+    let bc = more(rt, sets, b, b"c")?;
+    let joined = either(rt, sets, ab, bc)?;
+    assert_again(rt, either(rt, sets, ab, bc), joined);
+    let met = both(rt, sets, ab, bc)?;
+    assert_again(rt, both(rt, sets, ab, bc), met);
+    Ok(())
+}
+
+#[test]
+fn answers_again_without_memory(rt: HostRuntime) -> Result<(), Fail> {
+    let mut sets = HideSets::new(rt.alloc())?;
+    pairs_are_answered_again(&rt, &mut sets)?;
     Ok(())
 }

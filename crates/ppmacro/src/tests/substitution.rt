@@ -3,8 +3,10 @@ ghost use Rattle.std.specs.Prelude.{◌≡◌, IfOk, map, Some};
 ghost use Rattle.ppmacro.specs.HideSets.{IsKnown, AllKnown};
 ghost use Rattle.ppmacro.specs.Substituting.{ListsKnown, ArgumentsKnown};
 
-use super::{HASH, directed, lexed, push_spelled};
-use crate::{Hidden, HideSets, Macro, Set, Table, paste, stringize, substitute, tells_each_kind};
+use super::{HASH, all_lexed, directed, has, lexed, more, push_spelled};
+use crate::{
+    Chain, Hidden, HideSets, Macro, Set, Table, paste, stringize, substitute, tells_each_kind,
+};
 use pptext::{Fault, Kind, Memory, Place, Token};
 use std::alloc::{AllocError, Global};
 use std::process::Abort;
@@ -17,122 +19,142 @@ const USED: Place = Place {
     col: 5,
 };
 
-/// The tokens of a text, each with this hide set.
-fn hidden(alloc: Global, sets: &HideSets, hide: Set, text: &str) -> Result<Vec<Hidden>, Fail>
-    requires { IsKnown sets.now hide }
-    ensures { IfOk result (λ v. AllKnown sets.now v.items) }
-{
-    let mut tokens = Vec::new(alloc);
-    for token in lexed(alloc, text)? {
-        tokens.push(Hidden { token, hide })?;
-    }
-    Ok(tokens)
-}
-
-/// The arguments of these texts, each token with this hide set.
-fn arguments(
+/// Tokens, each with this hide set.
+fn hidden<'a>(
     alloc: Global,
     sets: &HideSets,
     hide: Set,
-    texts: &[&str],
-) -> Result<Vec<Vec<Hidden>>, Fail>
+    tokens: &'a [Token],
+) -> Result<Vec<Hidden<'a>>, AllocError>
+    requires { IsKnown sets.now hide }
+    ensures { IfOk result (λ v. AllKnown sets.now v.items) }
+{
+    let mut list = Vec::new(alloc);
+    for token in tokens {
+        list.push(Hidden::new(token, hide))?;
+    }
+    Ok(list)
+}
+
+/// Arguments of these tokens, each with this hide set.
+fn arguments<'a>(
+    alloc: Global,
+    sets: &HideSets,
+    hide: Set,
+    texts: &'a [Vec<Token>],
+) -> Result<Vec<Vec<Hidden<'a>>>, AllocError>
     requires { IsKnown sets.now hide }
     ensures { IfOk result (λ v. ListsKnown sets.now v.items) }
 {
     let mut lists = Vec::new(alloc);
     for text in texts {
-        lists.push(hidden(alloc, sets, hide, text)?)?;
+        lists.push(hidden(alloc, sets, hide, text.as_slice())?)?;
     }
     Ok(lists)
 }
 
 /// The expansions of arguments that name no macro.
-fn as_they_are(
+fn as_they_are<'a>(
     alloc: Global,
-    lists: Vec<Vec<Hidden>>,
-) -> Result<Vec<Option<Vec<Hidden>>>, AllocError>
-    ensures { IfOk result (λ v. v.items ≡ map (λ l. Some l) lists.items) }
+    lists: Vec<Vec<Hidden<'a>>>,
+) -> Result<Vec<Option<Vec<Hidden<'a>>>>, AllocError>
+    ensures { IfOk result (λ v. v.items ≡ map (λ l. Some l) lists.entry.items) }
 {
     lists.into_iter().map(|list| Some(list)).collect(alloc)
 }
 
 /// What `substitute` answers. Where memory is refused, the set `gain` has its member `f`, and the call is made again.
-fn substituted<R: Abort>(
+fn substituted<'x, 'a: 'x, R: Abort>(
     rt: &R,
     alloc: Global,
-    replaced: &Macro,
-    given: &[Vec<Hidden>],
-    expanded: &[Option<Vec<Hidden>>],
+    chains: &[Chain<'a>],
+    given: &[Vec<Hidden<'x>>],
+    expanded: &[Option<Vec<Hidden<'x>>>],
     gain: Set,
     space: bool,
     sets: &mut HideSets,
-) -> Result<Result<(Vec<Hidden>, bool), Fault>, Memory>
+) -> Result<Result<(Vec<Hidden<'x>>, bool), Fault>, Memory>
     requires arguments { ArgumentsKnown sets.old given.now expanded.now }
     requires gain { IsKnown sets.old gain }
-    ensures { IfOk result (λ r. IfOk r (λ m. AllKnown sets.new m.0.items)) }
 {
-    let Ok(answer) = substitute(alloc, replaced, given, expanded, gain, USED, space, sets) else {
-        assert!(rt; sets.knows(gain));
-        assert!(rt; sets.has(gain, b"f") && !sets.has(gain, b"g"));
-        return substitute(alloc, replaced, given, expanded, gain, USED, space, sets);
+    let Ok(answer) = substitute(alloc, chains, given, expanded, gain, USED, space, sets) else {
+        assert!(rt; has(rt, sets, gain, b"f") && !has(rt, sets, gain, b"g"));
+        return substitute(alloc, chains, given, expanded, gain, USED, space, sets);
     };
     Ok(answer)
 }
 
 /// The table with the macro that a `#define` line defines.
-fn table_of(alloc: Global, line: &[Token]) -> Result<Table, Memory> {
+fn table_of<'a>(alloc: Global, line: &'a [Token]) -> Result<Table<'a>, Memory> {
     let mut table = Table::new(alloc)?;
     let _ = directed(alloc, &mut table, line)?;
     Ok(table)
 }
 
 /// The macro of the name that stands in a `#define` line.
-fn macro_of<'a>(table: &'a Table, line: &[Token]) -> Option<&'a Macro> {
+fn macro_of<'t, 'a>(table: &'t Table<'a>, line: &[Token]) -> Option<&'t Macro<'a>> {
     let name = line.get(2)?;
     table.get(name.text.as_bytes())
 }
 
-/// What an invocation of the macro that a `#define` line defines is replaced by, and the mark that is left pending. No
-/// argument names a macro; each argument's tokens have the hide set `hide`.
-fn replaced<R: Abort>(
+/// What an invocation is replaced by, and the mark that is left pending. No argument names a macro; each argument's tokens
+/// have the hide set `hide`.
+fn replaced_by<'x, 'a: 'x, R: Abort>(
     rt: &R,
     alloc: Global,
     sets: &mut HideSets,
-    line: &str,
-    texts: &[&str],
-    hide: Set,
-    gain: Set,
-    space: bool,
-) -> Result<Result<(Vec<Hidden>, bool), Fault>, Fail>
-    requires hide { IsKnown sets.old hide }
-    requires gain { IsKnown sets.old gain }
-    ensures { IfOk result (λ r. IfOk r (λ m. AllKnown sets.new m.0.items)) }
-{
-    let tokens = lexed(alloc, line)?;
-    let table = table_of(alloc, tokens.as_slice())?;
-    let found = macro_of(&table, tokens.as_slice()).ok_or("no macro")?;
+    chains: &[Chain<'a>],
+    texts: &'x [Vec<Token>],
+    (hide, gain, space): (Set, Set, bool),
+) -> Result<Result<(Vec<Hidden<'x>>, bool), Fault>, Memory> {
+    assert!(rt; sets.knows(hide) && sets.knows(gain));
     let given = arguments(alloc, sets, hide, texts)?;
     let expanded = as_they_are(alloc, arguments(alloc, sets, hide, texts)?)?;
-    let answer = substituted(
-        rt,
-        alloc,
-        found,
-        given.as_slice(),
-        expanded.as_slice(),
-        gain,
-        space,
-        sets,
-    )?;
-    Ok(answer)
+    let (given, expanded) = (given.as_slice(), expanded.as_slice());
+    substituted(rt, alloc, chains, given, expanded, gain, space, sets)
+}
+
+/// The same for the macro that a `#define` line defines.
+fn replaced<'a, R: Abort>(
+    rt: &R,
+    alloc: Global,
+    sets: &mut HideSets,
+    line: &'a [Token],
+    texts: &'a [Vec<Token>],
+    with: (Set, Set, bool),
+) -> Result<Result<(Vec<Hidden<'a>>, bool), Fault>, Fail> {
+    let table = table_of(alloc, line)?;
+    let chains = macro_of(&table, line).ok_or("no macro")?.chains(alloc)?;
+    Ok(replaced_by(rt, alloc, sets, chains.as_slice(), texts, with)?)
 }
 
 /// Tokens as a text.
 fn spelled(alloc: Global, tokens: &[Hidden]) -> Result<Vec<u8>, AllocError> {
     let mut text = Vec::new(alloc);
     for hidden in tokens {
-        push_spelled(&mut text, &hidden.token)?;
+        push_spelled(&mut text, &hidden.to_token()?)?;
     }
     Ok(text)
+}
+
+/// Asserts what an invocation is replaced by: a text, and the mark that is left pending.
+fn assert_gives<R: Abort>(
+    rt: &R,
+    alloc: Global,
+    sets: &mut HideSets,
+    line: &[Token],
+    texts: &[Vec<Token>],
+    (space, wanted, mark): (bool, &str, bool),
+) -> Result<(), Fail> {
+    let none = sets.empty();
+    let gain = more(rt, sets, none, b"f")?;
+    let Ok((tokens, pending)) = replaced(rt, alloc, sets, line, texts, (none, gain, space))? else {
+        return Err(Fail::new("a fault"));
+    };
+    let text = spelled(alloc, tokens.as_slice())?;
+    assert_eq!(rt; text.as_slice(), wanted.as_bytes());
+    assert_eq!(rt; pending, mark);
+    Ok(())
 }
 
 /// Asserts that an invocation, with or without a space mark, is replaced by these tokens and leaves this mark pending.
@@ -141,20 +163,58 @@ fn assert_replaced<R: Abort>(
     alloc: Global,
     line: &str,
     texts: &[&str],
-    (space, wanted, mark): (bool, &str, bool),
+    wanted: (bool, &str, bool),
 ) -> Result<(), Fail> {
+    let (line, texts) = (lexed(alloc, line)?, all_lexed(alloc, texts)?);
     let mut sets = HideSets::new(alloc)?;
-    let gain = sets.with(sets.empty(), b"f")?;
+    assert_gives(
+        rt,
+        alloc,
+        &mut sets,
+        line.as_slice(),
+        texts.as_slice(),
+        wanted,
+    )
+}
+
+/// Asserts that an invocation is refused: by the fault's number and text.
+fn assert_refuses<R: Abort>(
+    rt: &R,
+    alloc: Global,
+    sets: &mut HideSets,
+    line: &[Token],
+    texts: &[Vec<Token>],
+    (number, wanted): (u8, &str),
+) -> Result<(), Fail> {
     let none = sets.empty();
-    match replaced(rt, alloc, &mut sets, line, texts, none, gain, space)? {
-        Ok((tokens, pending)) => {
-            let text = spelled(alloc, tokens.as_slice())?;
-            assert_eq!(rt; text.as_slice(), wanted.as_bytes(), "{line} {texts:?}");
-            assert_eq!(rt; pending, mark, "{line} {texts:?}");
-        }
-        Err(fault) => assert!(rt; false, "{line} {texts:?}: {fault:?}"),
-    }
+    let gain = more(rt, sets, none, b"f")?;
+    let Err(fault) = replaced(rt, alloc, sets, line, texts, (none, gain, false))? else {
+        return Err(Fail::new("no fault"));
+    };
+    assert_eq!(rt; fault.number, number);
+    assert_eq!(rt; fault.at, USED);
+    assert_eq!(rt; fault.text.as_bytes(), wanted.as_bytes());
     Ok(())
+}
+
+/// The same by the texts of the line and the arguments.
+fn assert_refused<R: Abort>(
+    rt: &R,
+    alloc: Global,
+    line: &str,
+    texts: &[&str],
+    wanted: (u8, &str),
+) -> Result<(), Fail> {
+    let (line, texts) = (lexed(alloc, line)?, all_lexed(alloc, texts)?);
+    let mut sets = HideSets::new(alloc)?;
+    assert_refuses(
+        rt,
+        alloc,
+        &mut sets,
+        line.as_slice(),
+        texts.as_slice(),
+        wanted,
+    )
 }
 
 // Examples of 6.10.3.3p4 and 6.10.3.5p5 to p9, and of this crate's own.
@@ -303,17 +363,43 @@ fn refuses_what_is_no_token(rt: HostRuntime) -> Result<(), Fail> {
         ("#define f(a) a ## a", ["1 -"].as_slice(), 19, "-1"),
         ("#define f(a) # a ## 1", ["x"].as_slice(), 19, "\"x\"1"),
     ] {
-        let mut sets = HideSets::new(alloc)?;
-        let gain = sets.with(sets.empty(), b"f")?;
-        let none = sets.empty();
-        match replaced(&rt, alloc, &mut sets, line, texts, none, gain, false)? {
-            Ok(_) => assert!(rt; false, "{line}"),
-            Err(fault) => {
-                assert_eq!(rt; fault.number, number, "{line}");
-                assert_eq!(rt; fault.at, USED);
-                assert_eq!(rt; fault.text.as_bytes(), wanted.as_bytes(), "{line}");
-            }
-        }
+        assert_refused(&rt, alloc, line, texts, (number, wanted))?;
+    }
+    Ok(())
+}
+
+/// Asserts that a token has the name `f`, whether it has `g`, and where it stands.
+fn assert_placed<R: Abort>(rt: &R, sets: &HideSets, hidden: &Hidden, (hides, col): (bool, u32)) {
+    assert!(rt; has(rt, sets, hidden.hide(), b"f"));
+    assert_eq!(rt; has(rt, sets, hidden.hide(), b"g"), hides);
+    assert_eq!(rt; hidden.at().col, col);
+    assert_eq!(rt; hidden.used(), USED);
+}
+
+fn names_and_places_are_given<R: Abort>(
+    rt: &R,
+    alloc: Global,
+    sets: &mut HideSets,
+    line: &[Token],
+    texts: &[Vec<Token>],
+) -> Result<(), Fail> {
+    let none = sets.empty();
+    let hide = more(rt, sets, none, b"g")?;
+    let gain = more(rt, sets, none, b"f")?;
+    let Ok((tokens, _)) = replaced(rt, alloc, sets, line, texts, (hide, gain, false))? else {
+        return Err(Fail::new("a fault"));
+    };
+    let text = spelled(alloc, tokens.as_slice())?;
+    assert_eq!(rt; text.as_slice(), b"y yy y1 \"y\" x y".as_slice());
+    for (hidden, wanted) in tokens.iter().zip([
+        (true, 1),
+        (true, 1),
+        (false, 1),
+        (false, 28),
+        (false, 31),
+        (true, 1),
+    ]) {
+        assert_placed(rt, sets, hidden, wanted);
     }
     Ok(())
 }
@@ -324,30 +410,29 @@ fn refuses_what_is_no_token(rt: HostRuntime) -> Result<(), Fail> {
 #[test]
 fn hides_and_places_what_it_gives(rt: HostRuntime) -> Result<(), Fail> {
     let alloc = rt.alloc();
+    let line = lexed(alloc, "#define f(a,b) a a##a a##1 #a x b##a")?;
+    let texts = all_lexed(alloc, &["y", ""])?;
     let mut sets = HideSets::new(alloc)?;
-    let hide = sets.with(sets.empty(), b"g")?;
-    let gain = sets.with(sets.empty(), b"f")?;
-    let line = "#define f(a,b) a a##a a##1 #a x b##a";
-    let Ok((tokens, _)) = replaced(&rt, alloc, &mut sets, line, &["y", ""], hide, gain, false)?
-    else {
-        return Err(Fail::new("a fault"));
+    names_and_places_are_given(&rt, alloc, &mut sets, line.as_slice(), texts.as_slice())
+}
+
+fn literal_is_made<R: Abort>(
+    rt: &R,
+    alloc: Global,
+    sets: &mut HideSets,
+    tokens: &[Token],
+) -> Result<(), Fail> {
+    let none = sets.empty();
+    let hide = more(rt, sets, none, b"a")?;
+    assert!(rt; sets.knows(hide));
+    let argument = hidden(alloc, sets, hide, tokens)?;
+    let Ok(literal) = stringize(alloc, sets, argument.as_slice(), HASH, USED)? else {
+        return Err(Fail::new("no literal"));
     };
-    let text = spelled(alloc, tokens.as_slice())?;
-    assert_eq!(rt; text.as_slice(), b"y yy y1 \"y\" x y".as_slice());
-    for (hidden, (hides, col)) in tokens.iter().zip([
-        (true, 1),
-        (true, 1),
-        (false, 1),
-        (false, 28),
-        (false, 31),
-        (true, 1),
-    ]) {
-        assert!(rt; sets.knows(hidden.hide));
-        assert!(rt; sets.has(hidden.hide, b"f"));
-        assert_eq!(rt; sets.has(hidden.hide, b"g"), hides);
-        assert_eq!(rt; hidden.token.at.col, col);
-        assert_eq!(rt; hidden.token.used, USED);
-    }
+    assert_eq!(rt; literal.text(), b"\"x + '\\\"'\"".as_slice());
+    assert_eq!(rt; literal.kind(), Kind::Str);
+    assert!(rt; !literal.space() && literal.at() == HASH && literal.used() == USED);
+    assert!(rt; !has(rt, sets, literal.hide(), b"a"));
     Ok(())
 }
 
@@ -355,41 +440,42 @@ fn hides_and_places_what_it_gives(rt: HostRuntime) -> Result<(), Fail> {
 fn makes_a_literal_of_tokens(rt: HostRuntime) -> Result<(), Fail> {
     let alloc = rt.alloc();
     tells_each_kind();
+    let tokens = lexed(alloc, " x  + '\"'")?;
     let mut sets = HideSets::new(alloc)?;
-    let hide = sets.with(sets.empty(), b"a")?;
-    let argument = hidden(alloc, &sets, hide, " x  + '\"'")?;
-    let Ok(literal) = stringize(alloc, &sets, argument.as_slice(), HASH, USED)? else {
-        return Err(Fail::new("no literal"));
+    literal_is_made(&rt, alloc, &mut sets, tokens.as_slice())
+}
+
+/// The paste of two tokens with the hide sets `a`, `b` and `a`.
+fn tokens_are_pasted<R: Abort>(
+    rt: &R,
+    alloc: Global,
+    sets: &mut HideSets,
+    left: &Token,
+    right: &Token,
+) -> Result<(), Fail> {
+    let none = sets.empty();
+    let a = more(rt, sets, none, b"a")?;
+    let ab = more(rt, sets, a, b"b")?;
+    assert!(rt; sets.knows(a) && sets.knows(ab));
+    let (left, right) = (Hidden::new(left, ab), Hidden::new(right, a));
+    let Ok(pasted) = paste(alloc, sets, &left, &right, USED)? else {
+        return Err(Fail::new("no token"));
     };
-    assert_eq!(rt; literal.token.text.as_bytes(), b"\"x + '\\\"'\"".as_slice());
-    assert_eq!(rt; literal.token.kind, Kind::Str);
-    assert!(rt; !literal.token.space && literal.token.at == HASH && literal.token.used == USED);
-    assert!(rt; sets.knows(literal.hide));
-    assert!(rt; !sets.has(literal.hide, b"a"));
+    assert_eq!(rt; pasted.text(), b"x1".as_slice());
+    assert_eq!(rt; pasted.kind(), Kind::Ident);
+    assert!(rt; pasted.space() && pasted.at() == left.at() && pasted.used() == USED);
+    assert!(rt; has(rt, sets, pasted.hide(), b"a"));
+    assert!(rt; !has(rt, sets, pasted.hide(), b"b"));
     Ok(())
 }
 
 #[test]
 fn pastes_two_tokens(rt: HostRuntime) -> Result<(), Fail> {
     let alloc = rt.alloc();
-    let mut sets = HideSets::new(alloc)?;
-    let a = sets.with(sets.empty(), b"a")?;
-    let ab = sets.with(a, b"b")?;
-    let (left, right) = (
-        hidden(alloc, &sets, ab, "+ x")?,
-        hidden(alloc, &sets, a, "1")?,
-    );
-    assert!(rt; left.len() == 2 && right.len() == 1);
-    assert!(rt; sets.knows(left[1].hide) && sets.knows(right[0].hide));
-    let Ok(pasted) = paste(alloc, &mut sets, &left[1], &right[0], USED)? else {
-        return Err(Fail::new("no token"));
+    let tokens = lexed(alloc, "+ x 1")?;
+    let [_, left, right] = tokens.as_slice() else {
+        return Err(Fail::new("other tokens"));
     };
-    assert_eq!(rt; pasted.token.text.as_bytes(), b"x1".as_slice());
-    assert_eq!(rt; pasted.token.kind, Kind::Ident);
-    assert!(rt;
-        pasted.token.space && pasted.token.at == left[1].token.at && pasted.token.used == USED
-    );
-    assert!(rt; sets.knows(pasted.hide));
-    assert!(rt; sets.has(pasted.hide, b"a") && !sets.has(pasted.hide, b"b"));
-    Ok(())
+    let mut sets = HideSets::new(alloc)?;
+    tokens_are_pasted(&rt, alloc, &mut sets, left, right)
 }

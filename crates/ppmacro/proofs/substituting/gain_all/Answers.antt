@@ -1,22 +1,46 @@
-use Rattle.std.proofs.Common.{rules, ◌≡◌, ◌∙◌, sym, ap, subst, [], ◌∷◌}
-use Rattle.ppmacro.specs.HideSets.{hidings, AllKnown}
-use Rattle.ppmacro.proofs.KeepLemmas.{known-keeps, known-append, keeps-after}
-use Rattle.ppmacro.proofs.WalkLemmas.{gained-more}
+use Rattle.std.proofs.Common.{rules, ◌≡◌, ◌∙◌, ◌<◌, ◌+◌, refl, sym, ap, subst, [], ◌∷◌, map, take, drop, suc, length, get_or, arith}
+use Rattle.std.proofs.lemmas.List.{take_more_set, drop-set-lt, drop_more}
+use Rattle.std.specs.FinSet as set
+use Rattle.ppmacro.specs.HideSets.{set_at, hidings, AllKnown}
+use Rattle.ppmacro.specs.Substitution.{gained}
+use Rattle.ppmacro.proofs.Hiding.{union-none}
+use Rattle.ppmacro.proofs.KeepLemmas.{keeps-all, known-keeps, known-append, keeps-after}
+use Rattle.ppmacro.proofs.WalkLemmas.{next-item, known-drop, gained-more}
 use Rattle.ppmacro.proofs.substituting.gain_all.Goals as goal
+
+pub loop-hidden-init : goal.loop-hidden-init
+loop-hidden-init c =
+    let s = c.args.sets.now in
+    let names = set_at s c.args.gain in
+    record {
+      same = refl;
+      rest = c.deref_mut-hidden-items.ensures.value;
+      done_known = record { each = tt };
+      last = record { from_known = c.empty.ensures.known; to_known = c.requires.gain; is = sym ((λ i. set.union (c.empty.ensures.set i) names) ∙ union-none names) };
+      keeps = keeps-all s;
+    }
 
 pub loop-hidden-preserved : goal.loop-hidden-preserved
 loop-hidden-preserved c =
     let s = c.args.sets.now in
     let t = c.loop-hidden.sets in
     let u = c.gain_one.new.sets in
-    let item = c.in-Some.hidden in
-    let next : c.loop-hidden.hidden-iterator.rest.items ≡ item ∷ c.next.new.self.rest.items = search rules in
-    let known : AllKnown s (item ∷ c.next.new.self.rest.items) = subst (AllKnown s) next c.loop-hidden.invariant.rest_known in
-    let made = c.in_ok-push_one.ensures in
+    let i = c.loop-hidden.hidden-index in
+    let now = c.loop-hidden.hidden-items in
+    let start = c.args.tokens.now.items in
+    let item = get_or now i c.hidden-item.result in
+    let one = c.gain_one.new.hidden in
+    let within : i < length now = search rules in
+    let after = next-item start i item (drop (i + 1) now) (sym c.loop-hidden.invariant.rest ∙ drop_more now i c.hidden-item.result within) in
+    let more : i + 1 ≡ suc i = omega arith in
+    let known : AllKnown s (item ∷ drop (i + 1) now) = subst (AllKnown s) (sym c.loop-hidden.invariant.rest ∙ drop_more now i c.hidden-item.result within) (known-drop s i start c.requires.tokens) in
+    let made = take_more_set now i one within in
     record {
       same = ap (hidings u) made
-          ∙ gained-more s t u c.args.gain c.args.used c.loop-hidden.gained.items c.loop-hidden.yielded item c.in_ok-one.one c.loop-hidden.invariant.keeps c.in_ok-one.ensures.keeps c.requires.gain c.loop-hidden.invariant.gained_known known.each.0 c.in_ok-one.ensures.is c.loop-hidden.invariant.same;
-      rest_known = record { each = known.each.1 };
-      gained_known = subst (AllKnown u) (sym made) (known-append c.loop-hidden.gained.items (c.in_ok-one.one ∷ []) (known-keeps c.loop-hidden.gained.items c.in_ok-one.ensures.keeps c.loop-hidden.invariant.gained_known) (record { each = (c.in_ok-one.ensures.known, tt) }));
-      keeps = keeps-after c.loop-hidden.invariant.keeps c.in_ok-one.ensures.keeps;
+          ∙ gained-more s t u c.args.gain c.args.used (take i now) (take i start) item one c.loop-hidden.invariant.keeps c.in_ok-gain_one.ensures.keeps c.requires.gain c.loop-hidden.invariant.done_known known.each.0 c.in_ok-gain_one.ensures.is c.loop-hidden.invariant.same
+          ∙ ap (λ hs. map (gained (set_at s c.args.gain) c.args.used) (hidings s hs)) (sym ((λ j. take (more j) start) ∙ after.0));
+      rest = drop-set-lt (i + 1) now i one (omega arith) ∙ sym ((λ j. drop (more j) start) ∙ after.1);
+      done_known = subst (AllKnown u) (sym made) (known-append (take i now) (one ∷ []) (known-keeps (take i now) c.in_ok-gain_one.ensures.keeps c.loop-hidden.invariant.done_known) (record { each = (c.in_ok-gain_one.ensures.known, tt) }));
+      last = c.in_ok-gain_one.ensures.last;
+      keeps = keeps-after c.loop-hidden.invariant.keeps c.in_ok-gain_one.ensures.keeps;
     }

@@ -1,11 +1,23 @@
-use Rattle.std.proofs.Common.{◌∙◌, ap}
+use Rattle.std.proofs.Common.{None, sym, ◌∙◌, ap, subst}
 use Rattle.std.specs.FinMap as table
-use Rattle.ppmacro.specs.Entries.{table_of}
-use Rattle.ppmacro.proofs.TableLemmas.{table_of-remove_entry}
+use Rattle.std.proofs.lemmas.Cmp.{nat_list_cmp_total}
+use Rattle.ppmacro.proofs.TableLemmas.{updates-get}
+use Rattle.ppmacro.specs.Names.{Macros}
+use Rattle.ppmacro.specs.Marks.{AreMarked}
+use Rattle.ppmacro.proofs.Marked.{marked-remove}
 use Rattle.ppmacro.proofs.tables.Table.remove.Goals as goal
 
 pub returns : goal.returns
-returns c =
-    ap table_of c.shift_remove.ensures.entries
-    ∙ table_of-remove_entry c.self.inside.macros.entries c.args.name.now c.self.invariant
+returns c = let old = c.self.inside.macros.entries in
+    updates-get old c.swap_remove.new.self.entries c.args.name.now None (table.remove (table.from_entries old) c.args.name.now)
+    c.swap_remove.ensures.updates.0 (λ q. table.get-remove nat_list_cmp_total (table.from_entries old) c.args.name.now q)
     ∙ ap (λ m. table.remove m c.args.name.now) c.self.view_is
+
+pub invariant_of-self : goal.invariant_of-self
+invariant_of-self c =
+    let old = c.self.inside.macros.entries in
+    let m = table.from_entries old in
+    let name = c.args.name.now in
+    let is = updates-get old c.swap_remove.new.self.entries name None (table.remove m name) c.swap_remove.ensures.updates.0 (λ q. table.get-remove nat_list_cmp_total m name q) in
+    let P : Macros → Type 0 = λ t. AreMarked c.self.inside.marks t in
+    subst P (sym is) (marked-remove c.self.inside.marks m name c.self.invariant)

@@ -1,0 +1,38 @@
+-- Marks of a table's names.
+use Rattle.std.proofs.Common.{◌≡◌, ℕ, Bool, true, false, cond, List, [], Option, Some, None, refl, sym, ap, ◌∙◌, true≢false}
+use Rattle.std.specs.FinMap as table
+use Rattle.std.specs.Ordering.{nat_cmp, eq_by_cmp}
+use Rattle.std.specs.Cmp.Lexicographic.{slice_cmp}
+use Rattle.std.specs.Str.{bytes_eq}
+use Rattle.std.proofs.lemmas.Map.Text.{is_eq-slice_cmp}
+use Rattle.std.proofs.lemmas.Slice.Eq.{bytes_eq-Decides}
+use Rattle.std.proofs.lemmas.Cmp.{nat_list_cmp_total}
+use Rattle.ppmacro.specs.declared.macros.Definition.{Definition}
+use Rattle.ppmacro.specs.Names.{Name, Macros}
+use Rattle.ppmacro.specs.Marks.{shows, AreMarked}
+
+-- marks that grew
+pub marked-grown : (old new : List Bool) (m : Macros) → ((n : Name) → shows new n ≡ false → shows old n ≡ false) → AreMarked old m → AreMarked new m
+marked-grown old new m grows h n e = h n (grows n e)
+
+-- a name that joins with its mark
+pub marked-insert : (marks : List Bool) (m : Macros) (name : Name) (d : Definition) → shows marks name ≡ true → AreMarked marks m → AreMarked marks (table.insert m name d)
+marked-insert marks m name d here h n e = table.get-insert nat_list_cmp_total m name d n ∙ go (eq_by_cmp (slice_cmp nat_cmp) n name) refl
+  where
+    go : (b : Bool) → eq_by_cmp (slice_cmp nat_cmp) n name ≡ b → cond b (Some d) (table.get m n) ≡ None
+    go true is =
+        let same : n ≡ name = (bytes_eq-Decides n name).0 (sym (is_eq-slice_cmp n name) ∙ is) in
+        absurd (true≢false (sym here ∙ (ap (shows marks) (sym same) ∙ e)))
+    go false is = h n e
+
+-- a name that leaves
+pub marked-remove : (marks : List Bool) (m : Macros) (name : Name) → AreMarked marks m → AreMarked marks (table.remove m name)
+marked-remove marks m name h n e = table.get-remove nat_list_cmp_total m name n ∙ go (eq_by_cmp (slice_cmp nat_cmp) n name)
+  where
+    go : (b : Bool) → cond b None (table.get m n) ≡ None
+    go true = refl
+    go false = h n e
+
+-- no names
+pub marked-none : (marks : List Bool) → AreMarked marks (table.from_entries [])
+marked-none marks n e = table.get-from_entries nat_list_cmp_total [] n

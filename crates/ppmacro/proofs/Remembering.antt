@@ -1,0 +1,174 @@
+-- Pairs that are known, while nodes and pairs are added.
+use Rattle.std.proofs.Common.{◌≡◌, ℕ, ◌<◌, Bool, true, false, cond, ◌&&◌, ◌||◌, nat_eq, List, [], ◌∷◌, ◌++◌, Option, Some, None, length, refl, sym, ap, ◌∙◌, subst, true≢false, if◌then◌else◌}
+use Rattle.std.proofs.lemmas.Bool.{eqb-true, eq-eqb}
+use Rattle.ppmacro.specs.declared.hide_sets.nodes.Node.{Node}
+use Rattle.ppmacro.specs.Nodes.{member, word, IsPool, Keeps}
+use Rattle.ppmacro.specs.declared.hide_sets.nodes.Operation.{Operation}
+use Rattle.ppmacro.specs.declared.hide_sets.nodes.Operation.TheVariants.{Union, Meet}
+use Rattle.ppmacro.specs.Operations.{joined, joined_word, known}
+use Rattle.ppmacro.specs.Pairs.{Answered, same_pair, answer_of}
+use Rattle.ppmacro.specs.Remembered.{IsAnswer, AreAnswers}
+use Rattle.std.specs.Int.RustNames.{bit_or, bit_and}
+use Rattle.ppmacro.proofs.Tries.{member-keeps, length-keeps, member-none, word-none, or_none, none_or, or_self, none_and, and_none, and_self}
+
+both : (a b : Bool) → (a && b) ≡ true → (a ≡ true) × (b ≡ true)
+both true true h = (refl, refl)
+both true false h = absurd (true≢false (sym h))
+both false b h = absurd (true≢false (sym h))
+
+pub answer-put : (ps : Answered) (a b n : ℕ) → answer_of ps a b ≡ None → answer_of (ps ++ ((a, b), n) ∷ []) a b ≡ Some n
+answer-put [] a b n h = ap (λ t. cond t (Some n) None) (λ i. eq-eqb a a refl i && eq-eqb b b refl i)
+answer-put (e ∷ ps) a b n h = elim (same_pair (a, b) e.0) as (λ t. cond t (Some e.1) (answer_of ps a b) ≡ None → cond t (Some e.1) (answer_of (ps ++ ((a, b), n) ∷ []) a b) ≡ Some n) [
+  | true ↦ λ g. absurd (cc g)
+  | false ↦ λ g. answer-put ps a b n g
+] h
+
+-- what a pair's answer is known to be
+pub record IsUnknown (ps : Answered) (a b : ℕ) : Type 0 where
+  pub left : nat_eq a 0 ≡ false
+  pub right : nat_eq b 0 ≡ false
+  pub apart : nat_eq a b ≡ false
+  pub none : answer_of ps a b ≡ None
+
+chosen : (x y z : Bool) (p q r : ℕ) (o : Option ℕ) → (if x then Some p else (if y then Some q else (if z then Some r else o))) ≡ None → (x ≡ false) × (y ≡ false) × (z ≡ false) × (o ≡ None)
+chosen true y z p q r o h = absurd (cc h)
+chosen false true z p q r o h = absurd (cc h)
+chosen false false true p q r o h = absurd (cc h)
+chosen false false false p q r o h = (refl, refl, refl, h)
+
+pub unknown : (o : Operation) (ps : Answered) (a b : ℕ) → known o ps a b ≡ None → IsUnknown ps a b
+unknown Union ps a b h = let c = chosen (nat_eq a 0) (nat_eq b 0) (nat_eq a b) b a a (answer_of ps a b) h in record { left = c.0; right = c.1; apart = c.2; none = c.3 }
+unknown Meet ps a b h = let c = chosen (nat_eq a 0) (nat_eq b 0) (nat_eq a b) a b a (answer_of ps a b) h in record { left = c.0; right = c.1; apart = c.2; none = c.3 }
+
+-- a pair is known where no work is left, or where it was answered
+pub settled-known : (o : Operation) (ps : Answered) (a b n : ℕ) → known o [] a b ≡ Some n → known o ps a b ≡ Some n
+settled-known o ps a b n = at o
+  where
+    from : (x y z : Bool) (p q r : ℕ) → (if x then Some p else (if y then Some q else (if z then Some r else None))) ≡ Some n → (if x then Some p else (if y then Some q else (if z then Some r else answer_of ps a b))) ≡ Some n
+    from true y z p q r e = e
+    from false true z p q r e = e
+    from false false true p q r e = e
+    from false false false p q r e = absurd (cc e)
+
+    at : (o : Operation) → known o [] a b ≡ Some n → known o ps a b ≡ Some n
+    at Union = from (nat_eq a 0) (nat_eq b 0) (nat_eq a b) b a a
+    at Meet = from (nat_eq a 0) (nat_eq b 0) (nat_eq a b) a b a
+
+pub unsettled-known : (o : Operation) (ps : Answered) (a b : ℕ) → known o [] a b ≡ None → known o ps a b ≡ answer_of ps a b
+unsettled-known Union ps a b h = let u = unknown Union [] a b h in λ i. if u.left i then Some b else (if u.right i then Some a else (if u.apart i then Some a else answer_of ps a b))
+unsettled-known Meet ps a b h = let u = unknown Meet [] a b h in λ i. if u.left i then Some a else (if u.right i then Some b else (if u.apart i then Some a else answer_of ps a b))
+
+-- a pair that was not known is, once it has an answer
+pub known-by : (o : Operation) (old new : Answered) (a b n : ℕ) → IsUnknown old a b → answer_of new a b ≡ Some n → known o new a b ≡ Some n
+known-by Union old new a b n u h = rw (u.left, u.right, u.apart) h
+known-by Meet old new a b n u h = rw (u.left, u.right, u.apart) h
+
+-- ---- answers
+
+pub answers-keep : (op : Bool → Bool → Bool) (old new : List Node) (ps : Answered) → IsPool old → Keeps old new → AreAnswers op old ps → AreAnswers op new ps
+answers-keep op old new [] p k h = record { each = tt }
+answers-keep op old new (e ∷ ps) p k h =
+    let rest = answers-keep op old new ps p k (record { each = h.each.1 }) in
+    let a = h.each.0 in
+    record {
+      each = (
+        record {
+          left = length-keeps old new e.0.0 k a.left;
+          right = length-keeps old new e.0.1 k a.right;
+          within = length-keeps old new e.1 k a.within;
+          is = λ x. member-keeps old new e.1 x p k a.within ∙ a.is x ∙ (λ i. op (sym (member-keeps old new e.0.0 x p k a.left) i) (sym (member-keeps old new e.0.1 x p k a.right) i));
+        },
+        rest.each,
+      );
+    }
+
+pub answers-put : (op : Bool → Bool → Bool) (ns : List Node) (ps : Answered) (e : (ℕ × ℕ) × ℕ) → AreAnswers op ns ps → IsAnswer op ns e → AreAnswers op ns (ps ++ e ∷ [])
+answers-put op ns [] e h k = record { each = (k, tt) }
+answers-put op ns (f ∷ ps) e h k =
+    let rest = answers-put op ns ps e (record { each = h.each.1 }) k in
+    record { each = (h.each.0, rest.each) }
+
+found : (op : Bool → Bool → Bool) (ns : List Node) (ps : Answered) (a b n : ℕ) → AreAnswers op ns ps → answer_of ps a b ≡ Some n → IsAnswer op ns ((a, b), n)
+found op ns [] a b n h e = absurd (cc e)
+found op ns (f ∷ ps) a b n h e = elim (same_pair (a, b) f.0) as (λ t. same_pair (a, b) f.0 ≡ t → cond t (Some f.1) (answer_of ps a b) ≡ Some n → IsAnswer op ns ((a, b), n)) [
+  | true ↦ λ p g. (let parts = both (nat_eq a f.0.0) (nat_eq b f.0.1) p in
+      let one : a ≡ f.0.0 = eqb-true a f.0.0 parts.0 in
+      let two : b ≡ f.0.1 = eqb-true b f.0.1 parts.1 in
+      let three : f.1 ≡ n = cc g in
+      subst (λ z. IsAnswer op ns ((a, b), z)) three (subst (λ z. IsAnswer op ns ((a, z), f.1)) (sym two) (subst (λ z. IsAnswer op ns ((z, f.0.1), f.1)) (sym one) h.each.0)))
+  | false ↦ λ p g. found op ns ps a b n (record { each = h.each.1 }) g
+] refl e
+
+-- what is known to be made of two sets is it
+pub record IsMade (op : Bool → Bool → Bool) (ns : List Node) (a b n : ℕ) : Type 0 where
+  pub within : n < length ns
+  pub is : (x : ℕ) → member ns n x ≡ op (member ns a x) (member ns b x)
+
+-- what holds of the answer in each case holds of the answer
+by-case : (P : ℕ → Type 0) (a b p q r n : ℕ) (o : Option ℕ) → (a ≡ 0 → P p) → (b ≡ 0 → P q) → (a ≡ b → P r) → (o ≡ Some n → P n) → (if nat_eq a 0 then Some p else (if nat_eq b 0 then Some q else (if nat_eq a b then Some r else o))) ≡ Some n → P n
+by-case P a b p q r n o first second same other e = at (nat_eq a 0) (nat_eq b 0) (nat_eq a b) (λ h. first (eqb-true a 0 h)) (λ h. second (eqb-true b 0 h)) (λ h. same (eqb-true a b h)) e
+  where
+    at : (x y z : Bool) → (x ≡ true → P p) → (y ≡ true → P q) → (z ≡ true → P r) → (if x then Some p else (if y then Some q else (if z then Some r else o))) ≡ Some n → P n
+    at true y z f g h e = let is : p ≡ n = cc e in subst P is (f refl)
+    at false true z f g h e = let is : q ≡ n = cc e in subst P is (g refl)
+    at false false true f g h e = let is : r ≡ n = cc e in subst P is (h refl)
+    at false false false f g h e = other e
+
+none-at : (ns : List Node) (a x : ℕ) → IsPool ns → a ≡ 0 → member ns a x ≡ false
+none-at ns a x pool e = (λ i. member ns (e i) x) ∙ member-none ns x pool.empty
+
+or-same : (b : Bool) → b ≡ (b || b)
+or-same true = refl
+or-same false = refl
+
+or-false : (b : Bool) → b ≡ (b || false)
+or-false true = refl
+or-false false = refl
+
+and-same : (b : Bool) → b ≡ (b && b)
+and-same true = refl
+and-same false = refl
+
+and-false : (b : Bool) → false ≡ (b && false)
+and-false true = refl
+and-false false = refl
+
+pub known-is : (o : Operation) (ns : List Node) (ps : Answered) (a b n : ℕ) → IsPool ns → AreAnswers (joined o) ns ps → a < length ns → b < length ns → known o ps a b ≡ Some n → IsMade (joined o) ns a b n
+known-is Union ns ps a b n pool h la lb = by-case (IsMade (joined Union) ns a b) a b b a a n (answer_of ps a b)
+    (λ e. record { within = lb; is = λ x i. sym (none-at ns a x pool e) i || member ns b x })
+    (λ e. record { within = la; is = λ x. or-false (member ns a x) ∙ (λ i. member ns a x || sym (none-at ns b x pool e) i) })
+    (λ e. record { within = la; is = λ x. or-same (member ns a x) ∙ (λ i. member ns a x || member ns (e i) x) })
+    (λ e. let k = found (joined Union) ns ps a b n h e in record { within = k.within; is = k.is })
+known-is Meet ns ps a b n pool h la lb = by-case (IsMade (joined Meet) ns a b) a b a b a n (answer_of ps a b)
+    (λ e. record { within = la; is = λ x. none-at ns a x pool e ∙ (λ i. sym (none-at ns a x pool e) i && member ns b x) })
+    (λ e. record { within = lb; is = λ x. none-at ns b x pool e ∙ and-false (member ns a x) ∙ (λ i. member ns a x && sym (none-at ns b x pool e) i) })
+    (λ e. record { within = la; is = λ x. and-same (member ns a x) ∙ (λ i. member ns a x && member ns (e i) x) })
+    (λ e. let k = found (joined Meet) ns ps a b n h e in record { within = k.within; is = k.is })
+
+pub is-answer : (op : Bool → Bool → Bool) (old new : List Node) (a b n : ℕ) → IsPool old → Keeps old new → a < length old → b < length old → n < length new → ((x : ℕ) → member new n x ≡ op (member old a x) (member old b x)) → IsAnswer op new ((a, b), n)
+is-answer op old new a b n p k la lb ln is = record {
+  left = length-keeps old new a k la;
+  right = length-keeps old new b k lb;
+  within = ln;
+  is = λ x. is x ∙ (λ i. op (sym (member-keeps old new a x p k la) i) (sym (member-keeps old new b x p k lb) i));
+}
+
+-- what is made of two sets without work has the words of what is made of them
+pub record IsSettled (o : Operation) (ns : List Node) (a b n : ℕ) : Type 0 where
+  pub within : n < length ns
+  pub is : (w : ℕ) → word ns n w ≡ joined_word o (word ns a w) (word ns b w)
+
+no-word : (ns : List Node) (a w : ℕ) → IsPool ns → a ≡ 0 → word ns a w ≡ 0
+no-word ns a w pool e = (λ i. word ns (e i) w) ∙ word-none ns w pool.empty
+
+pub settled-is : (o : Operation) (ns : List Node) (a b n : ℕ) → IsPool ns → a < length ns → b < length ns → known o [] a b ≡ Some n → IsSettled o ns a b n
+settled-is Union ns a b n pool la lb = by-case (IsSettled Union ns a b) a b b a a n None
+    (λ e. record { within = lb; is = λ w. sym (none_or (word ns b w)) ∙ (λ i. bit_or (sym (no-word ns a w pool e) i) (word ns b w)) })
+    (λ e. record { within = la; is = λ w. sym (or_none (word ns a w)) ∙ (λ i. bit_or (word ns a w) (sym (no-word ns b w pool e) i)) })
+    (λ e. record { within = la; is = λ w. sym (or_self (word ns a w)) ∙ (λ i. bit_or (word ns a w) (word ns (e i) w)) })
+    (λ e. absurd (cc e))
+settled-is Meet ns a b n pool la lb = by-case (IsSettled Meet ns a b) a b a b a n None
+    (λ e. record { within = la; is = λ w. no-word ns a w pool e ∙ sym (none_and (word ns b w)) ∙ (λ i. bit_and (sym (no-word ns a w pool e) i) (word ns b w)) })
+    (λ e. record { within = lb; is = λ w. no-word ns b w pool e ∙ sym (and_none (word ns a w)) ∙ (λ i. bit_and (word ns a w) (sym (no-word ns b w pool e) i)) })
+    (λ e. record { within = la; is = λ w. sym (and_self (word ns a w)) ∙ (λ i. bit_and (word ns a w) (word ns (e i) w)) })
+    (λ e. absurd (cc e))

@@ -1,0 +1,81 @@
+-- What contracts see of hide sets.
+use Rattle.std.proofs.Common.{◌≡◌, ℕ, ◌<◌, ◌||◌, ◌++◌, nat_eq, [], List, length, get_or, refl, sym, ap, ◌∙◌, subst}
+use Rattle.std.specs.FinSet as set
+use Rattle.std.specs.List.{IsDistinct}
+use Rattle.ppmacro.specs.declared.hide_sets.nodes.Node.{Node}
+use Rattle.ppmacro.specs.declared.hide_sets.nodes.Operation.{Operation}
+use Rattle.ppmacro.specs.declared.hide_sets.nodes.Operation.TheVariants.{Union, Meet}
+use Rattle.ppmacro.specs.Names.{Name}
+use Rattle.ppmacro.specs.Nodes as nodes
+use Rattle.ppmacro.specs.Nodes.{IsPool, member, IsBounded}
+use Rattle.ppmacro.specs.Members.{same_name, hide_set, hide_sets, counted, IsNamed}
+use Rattle.ppmacro.specs.Operations.{joined, made_of}
+use Rattle.ppmacro.specs.Pairs.{Answered}
+use Rattle.ppmacro.specs.Numbered.{Numbered}
+use Rattle.ppmacro.specs.HideSets.{set_at, IsKnown, Keeps}
+use Rattle.ppmacro.specs.Remembered.{AreAnswers, AreKept}
+use Rattle.ppmacro.proofs.Hiding.{set-at, known-at, at-known, sets-keep, past-by, made-is, lawful-names, sets-named, bounded-more, insert-is, set-named, hide-none}
+use Rattle.ppmacro.proofs.Remembering.{answers-keep}
+use Rattle.ppmacro.proofs.Tries.{member-none}
+
+-- a number that is known is that of a node
+pub node-known : (names : List Name) (ns : List Node) (v : Numbered) (n m : ℕ) → hide_sets names ns ≡ v.sets → n ≡ m → IsKnown v m → n < length ns
+node-known names ns v n m is same k = at-known names ns n (subst (λ ss. n < length ss) (sym is) (subst (IsKnown v) (sym same) k))
+
+pub known-seen : (names : List Name) (ns : List Node) (v : Numbered) (n m : ℕ) → hide_sets names ns ≡ v.sets → n ≡ m → n < length ns → IsKnown v m
+known-seen names ns v n m is same l = subst (IsKnown v) same (subst (λ ss. n < length ss) is (known-at names ns n l))
+
+pub set-seen : (names : List Name) (ns : List Node) (v : Numbered) (n m : ℕ) → hide_sets names ns ≡ v.sets → n ≡ m → n < length ns → hide_set names ns n ≡ set_at v m
+set-seen names ns v n m is same l = sym (set-at names ns n l) ∙ (λ i. get_or (is i) (same i) set.empty)
+
+-- the first node is that of the empty set
+pub empty-seen : (names : List Name) (ns : List Node) (v : Numbered) (m : ℕ) → hide_sets names ns ≡ v.sets → 0 ≡ m → IsPool ns → set_at v m ≡ set.empty
+empty-seen names ns v m is same p = sym (set-seen names ns v 0 m is same p.some) ∙ hide-none names ns 0 (λ x. member-none ns x p.empty)
+
+pub lawful-seen : (names : List Name) (ns : List Node) (us ms : Answered) (v : Numbered) (m n : ℕ) → hide_sets names ns ≡ v.sets → AreKept names ns us ms → IsKnown v m → IsKnown v n → set_at v m ≡ set_at v n → m ≡ n
+lawful-seen names ns us ms v m n is k km kn e =
+    let named : IsNamed names ns = record { distinct = k.distinct; within = λ n x l e. k.bounded.each n x l e } in
+    let lm = node-known names ns v m m is refl km in
+    let ln = node-known names ns v n n is refl kn in
+    lawful-names names ns m n k.pool named lm ln (set-seen names ns v m m is refl lm ∙ e ∙ sym (set-seen names ns v n n is refl ln))
+
+-- ---- nodes are added
+
+pub keeps-seen : (names : List Name) (old new : List Node) (v w : Numbered) → hide_sets names old ≡ v.sets → hide_sets names new ≡ w.sets → IsPool old → nodes.Keeps old new → Keeps v w
+keeps-seen names old new v w is now p k = record {
+  more = counted (hide_set names new) (past-by 0 old) k.more;
+  is = sym now ∙ sets-keep names old new p k ∙ ap (λ ss. ss ++ counted (hide_set names new) (past-by 0 old) k.more) is;
+}
+
+-- what two sets are made into
+pub made-seen : (o : Operation) (names : List Name) (old new : List Node) (v : Numbered) (a b a' b' n : ℕ) → hide_sets names old ≡ v.sets → IsDistinct same_name names → a ≡ a' → b ≡ b' → a < length old → b < length old → n < length new → ((x : ℕ) → member new n x ≡ joined o (member old a x) (member old b x)) → get_or (hide_sets names new) n set.empty ≡ made_of o (set_at v a') (set_at v b')
+made-seen o names old new v a b a' b' n is d sa sb la lb ln h =
+    set-at names new n ln ∙ made-is o names old new a b n d h ∙ (λ i. made_of o (set-seen names old v a a' is sa la i) (set-seen names old v b b' is sb lb i))
+
+pub kept-union : (names : List Name) (old new : List Node) (us ms vs : Answered) → AreKept names old us ms → IsPool new → nodes.Keeps old new → ((limit : ℕ) → IsBounded limit old → IsBounded limit new) → AreAnswers (joined Union) new vs → AreKept names new vs ms
+kept-union names old new us ms vs k p keeps bounded answers = record { distinct = k.distinct; pool = p; bounded = bounded (length names) k.bounded; unions = answers; meets = answers-keep (joined Meet) old new ms k.pool keeps k.meets }
+
+pub kept-meet : (names : List Name) (old new : List Node) (us ms vs : Answered) → AreKept names old us ms → IsPool new → nodes.Keeps old new → ((limit : ℕ) → IsBounded limit old → IsBounded limit new) → AreAnswers (joined Meet) new vs → AreKept names new us vs
+kept-meet names old new us ms vs k p keeps bounded answers = record { distinct = k.distinct; pool = p; bounded = bounded (length names) k.bounded; unions = answers-keep (joined Union) old new us k.pool keeps k.unions; meets = answers }
+
+-- ---- names and nodes are added
+
+pub keeps-named : (names more after : List Name) (old new : List Node) (us ms : Answered) (v w : Numbered) → after ≡ names ++ more → hide_sets names old ≡ v.sets → hide_sets after new ≡ w.sets → AreKept names old us ms → nodes.Keeps old new → Keeps v w
+keeps-named names more after old new us ms v w grown is now p k = record {
+  more = counted (hide_set after new) (past-by 0 old) k.more;
+  is = sym now ∙ sets-keep after old new p.pool k ∙ ap (λ ss. ss ++ counted (hide_set after new) (past-by 0 old) k.more) ((λ i. hide_sets (grown i) old) ∙ sets-named names more old p.bounded ∙ is);
+}
+
+pub kept-named : (names more after : List Name) (old new : List Node) (us ms : Answered) (n : ℕ) → after ≡ names ++ more → IsDistinct same_name after → n < length after → AreKept names old us ms → IsPool new → nodes.Keeps old new → ((limit : ℕ) → n < limit → IsBounded limit old → IsBounded limit new) → AreKept after new us ms
+kept-named names more after old new us ms n grown d l k p keeps bounded = record {
+  distinct = d;
+  pool = p;
+  bounded = bounded (length after) l (subst (λ ms. IsBounded (length ms) old) (sym grown) (bounded-more names more old k.bounded));
+  unions = answers-keep (joined Union) old new us k.pool keeps k.unions;
+  meets = answers-keep (joined Meet) old new ms k.pool keeps k.meets;
+}
+
+pub with-seen : (names more after : List Name) (old new : List Node) (v : Numbered) (a a' x n : ℕ) (q : Name) → after ≡ names ++ more → IsDistinct same_name after → x < length after → get_or after x [] ≡ q → hide_sets names old ≡ v.sets → IsBounded (length names) old → a ≡ a' → a < length old → n < length new → ((y : ℕ) → member new n y ≡ (nat_eq y x || member old a y)) → get_or (hide_sets after new) n set.empty ≡ set.insert (set_at v a') q
+with-seen names more after old new v a a' x n q grown d lx at is bounded same la ln h =
+    set-at after new n ln ∙ insert-is after old new a x n q d lx at h
+    ∙ ap (λ s. set.insert s q) ((λ i. hide_set (grown i) old a) ∙ set-named names more old a bounded la ∙ set-seen names old v a a' is same la)

@@ -1,0 +1,39 @@
+-- Sets of names by the numbers of their nodes.
+use Rattle.std.specs.Global.{Global}
+use Rattle.std.specs.Prelude.{◌≡◌, ℕ, suc, ◌<◌, Bool, true, Vec, map, List, [], ◌∷◌, length, if◌then◌else◌}
+use Rattle.std.specs.Ordering.{nat_cmp, eq_by_cmp}
+use Rattle.std.specs.Cmp.Lexicographic.{slice_cmp}
+use Rattle.std.specs.List.{IsDistinct}
+use Rattle.std.specs.FinSet as set
+use Rattle.ppmacro.specs.declared.hide_sets.nodes.Node.{Node}
+use Rattle.ppmacro.specs.Names.{Name, HideSet}
+use Rattle.ppmacro.specs.Nodes.{member}
+
+abbrev pub same_name : Name → Name → Bool
+same_name = eq_by_cmp (slice_cmp nat_cmp)
+
+-- the names whose numbers pass, which count from i
+abbrev pub kept : (ℕ → Bool) → ℕ → List Name → List Name
+kept p i [] = []
+kept p i (x ∷ xs) = if p i then x ∷ kept p (suc i) xs else kept p (suc i) xs
+
+-- the names in the set of a node
+abbrev pub hide_set : List Name → List Node → ℕ → HideSet
+hide_set names ns n = set.from_list (kept (member ns n) 0 names)
+
+-- f i and what follows, one for each
+abbrev pub counted : (ℕ → HideSet) → ℕ → List Node → List HideSet
+counted f i [] = []
+counted f i (x ∷ xs) = f i ∷ counted f (suc i) xs
+
+-- the sets in the order of their numbers
+abbrev pub hide_sets : List Name → List Node → List HideSet
+hide_sets names ns = counted (hide_set names ns) 0 ns
+
+-- no member is past the names
+pub record IsNamed (names : List Name) (ns : List Node) : Type 0 where
+  pub distinct : IsDistinct same_name names
+  pub within : (n x : ℕ) → n < length ns → member ns n x ≡ true → x < length names
+
+abbrev pub texts : List (Vec ℕ Global) → List Name
+texts ks = map (λ v. v.items) ks

@@ -1,0 +1,98 @@
+// Parts of a file that outlives the table, which contracts see as what they point to.
+ghost use Rattle.std.specs.Prelude.{◌≡◌};
+
+use pptext::Token;
+use std::marker::Model;
+
+/// Bytes of a file's token.
+#[derive(Drop)]
+pub(crate) struct Text<'a> {
+    bytes: &'a [u8],
+}
+
+impl<'a> Model for Text<'a> {
+    ghost use Rattle.std.specs.Prelude.{ℕ, List};
+
+    ghost Value = { List ℕ };
+
+    ghost view = { λ t. t.bytes.now };
+}
+
+impl<'a> Text<'a> {
+    /// The spelling of a token.
+    pub(crate) fn of(token: &'a Token) -> Text<'a>
+        ensures { result ≡ token.now.text }
+    {
+        Text {
+            bytes: token.text.as_bytes(),
+        }
+    }
+
+    /// The bytes.
+    pub(crate) fn bytes(&self) -> &'a [u8]
+        ensures { result.now ≡ self.now }
+    {
+        self.bytes
+    }
+}
+
+/// A token of a file.
+#[derive(Drop)]
+pub struct Leaf<'a> {
+    token: &'a Token,
+}
+
+impl<'a> Model for Leaf<'a> {
+    ghost use Rattle.pptext.specs.declared.tokens.Token.{Token};
+
+    ghost Value = { Token };
+
+    ghost view = { λ t. t.token.now };
+}
+
+impl<'a> Leaf<'a> {
+    /// This token.
+    pub(crate) fn new(token: &'a Token) -> Leaf<'a>
+        ensures { result ≡ token.now }
+    {
+        Leaf { token }
+    }
+
+    /// The token.
+    pub fn token(&self) -> &'a Token
+        ensures { result.now ≡ self.now }
+    {
+        self.token
+    }
+}
+
+/// Tokens of a file.
+#[derive(Drop)]
+pub struct Body<'a> {
+    tokens: &'a [Token],
+}
+
+impl<'a> Model for Body<'a> {
+    ghost use Rattle.std.specs.Prelude.{List};
+    ghost use Rattle.pptext.specs.declared.tokens.Token.{Token};
+
+    ghost Value = { List Token };
+
+    ghost view = { λ t. t.tokens.now };
+}
+
+impl<'a> Body<'a> {
+    /// These tokens.
+    pub fn new(tokens: &'a [Token]) -> Body<'a>
+        ensures { result ≡ tokens.now }
+    {
+        Body { tokens }
+    }
+
+    /// The tokens.
+    pub fn as_slice(&self) -> &'a [Token]
+        ensures { result.now ≡ self.now }
+    {
+        self.tokens
+    }
+}

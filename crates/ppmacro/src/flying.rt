@@ -1,0 +1,194 @@
+// Tokens in flight: with their hide sets, and without copies where they stand in a file.
+ghost use Rattle.std.specs.Prelude.{◌≡◌, IfOk};
+ghost use Rattle.ppmacro.specs.Numbered.{Numbered};
+ghost use Rattle.ppmacro.specs.HideSets.{set_at, hiding};
+ghost use Rattle.ppmacro.specs.Flying.{placed};
+ghost use Rattle.ppmacro.specs.Words.{word_token};
+
+use crate::hide_sets::Set;
+use pptext::{Kind, Place, Spelling, Token};
+use std::alloc::{AllocError, Global};
+use std::marker::Model;
+
+/// A token of a file, or one that was made.
+#[derive(Drop)]
+pub(crate) enum Word<'a> {
+    Shared(&'a Token),
+    Made(Box<Token>),
+}
+
+/// A token with its hide set.
+#[derive(Drop)]
+pub struct Hidden<'a> {
+    word: Word<'a>,
+    used: Place,
+    space: bool,
+    hide: Set,
+}
+
+impl<'a> Model for Hidden<'a> {
+    ghost use Rattle.ppmacro.specs.Flying.{InFlight, placed};
+
+    ghost Value = { InFlight };
+
+    ghost use Rattle.ppmacro.specs.Words.{word_token};
+
+    ghost view = { λ h. record { token = placed (word_token h.word) h.used h.space; hide = h.hide } };
+}
+
+impl<'a> Hidden<'a> {
+    /// A token as it stands in its file.
+    pub fn new(token: &'a Token, hide: Set) -> Hidden<'a>
+        ensures { result ≡ record { token = token.now; hide = hide } }
+    {
+        Hidden {
+            word: Word::Shared(token),
+            used: token.used,
+            space: token.space,
+            hide,
+        }
+    }
+
+    /// A token that was made.
+    pub fn made(alloc: Global, token: Token, hide: Set) -> Result<Hidden<'a>, AllocError>
+        ensures { IfOk result (λ h. h ≡ record { token = token; hide = hide }) }
+    {
+        let used = token.used;
+        let space = token.space;
+        Ok(Hidden {
+            word: Word::Made(Box::new(alloc, token)?),
+            used,
+            space,
+            hide,
+        })
+    }
+
+    /// The token, but for its place of use and its mark.
+    pub fn word(&self) -> &Token
+        ensures { self.now.token ≡ placed result.now self.now.token.used self.now.token.space }
+    {
+        match &self.word {
+            Word::Shared(token) => token,
+            Word::Made(token) => token,
+        }
+    }
+
+    /// The kind.
+    pub fn kind(&self) -> Kind
+        ensures { result ≡ self.now.token.kind }
+    {
+        match &self.word {
+            Word::Shared(token) => token.kind,
+            Word::Made(token) => token.kind,
+        }
+    }
+
+    /// The spelling.
+    pub fn text(&self) -> &[u8]
+        ensures { result.now ≡ self.now.token.text }
+    {
+        match &self.word {
+            Word::Shared(token) => token.text.as_bytes(),
+            Word::Made(token) => token.text.as_bytes(),
+        }
+    }
+
+    /// A copy of the spelling.
+    pub fn spelling(&self) -> Result<Spelling, AllocError>
+        ensures { IfOk result (λ s. s ≡ self.now.token.text) }
+    {
+        match &self.word {
+            Word::Shared(token) => token.text.clone(),
+            Word::Made(token) => token.text.clone(),
+        }
+    }
+
+    /// A copy of the token.
+    pub fn to_token(&self) -> Result<Token, AllocError>
+        ensures { IfOk result (λ t. t ≡ self.now.token) }
+    {
+        Ok(Token {
+            kind: self.kind(),
+            text: self.spelling()?,
+            space: self.space,
+            at: self.at(),
+            used: self.used,
+        })
+    }
+
+    /// Where it is spelled.
+    pub fn at(&self) -> Place
+        ensures { result ≡ self.now.token.at }
+    {
+        match &self.word {
+            Word::Shared(token) => token.at,
+            Word::Made(token) => token.at,
+        }
+    }
+
+    /// Where it is used.
+    pub fn used(&self) -> Place
+        ensures { result ≡ self.now.token.used }
+    {
+        self.used
+    }
+
+    /// Its mark.
+    pub fn space(&self) -> bool
+        ensures { result ≡ self.now.token.space }
+    {
+        self.space
+    }
+
+    /// Its hide set.
+    pub fn hide(&self) -> Set
+        ensures { result ≡ self.now.hide }
+    {
+        self.hide
+    }
+
+    /// Sets its mark.
+    pub fn mark(&mut self, space: bool)
+        ensures { self.new ≡ record self.old { token = record self.old.token { space = space } } }
+    {
+        self.space = space;
+    }
+
+    /// Sets its place of use and its hide set.
+    pub fn turn(&mut self, used: Place, hide: Set)
+        ensures { self.new ≡ record { token = record self.old.token { used = used }; hide = hide } }
+    {
+        self.used = used;
+        self.hide = hide;
+    }
+}
+
+impl<'a> Clone for Word<'a> {
+    ghost use Rattle.std.specs.Prelude.{◌≡◌};
+    ghost use Rattle.ppmacro.specs.Words.{word_token};
+
+    ghost is_clone = { λ a b. word_token b ≡ word_token a };
+
+    fn clone(&self) -> Result<Word<'a>, AllocError> {
+        match self {
+            Word::Shared(token) => Ok(Word::Shared(*token)),
+            Word::Made(token) => Ok(Word::Made(token.clone()?)),
+        }
+    }
+}
+
+impl<'a> Clone for Hidden<'a> {
+    ghost use Rattle.std.specs.Prelude.{◌≡◌};
+
+    ghost is_clone = { λ a b. b ≡ a };
+
+    fn clone(&self) -> Result<Hidden<'a>, AllocError> {
+        let word = self.word.clone()?;
+        Ok(Hidden {
+            word,
+            used: self.used,
+            space: self.space,
+            hide: self.hide,
+        })
+    }
+}

@@ -1,0 +1,302 @@
+// Sets of numbers as nodes of a trie of words. Each node stands there once, so equal sets have one number, and sets share what
+// they have in common.
+ghost use Rattle.std.specs.Prelude.{◌≡◌, Some, Ok, ◌<◌, ◌||◌, ◌+◌, ◌*◌, ℕ, IfOk, IfSome, OnErr, ◌≤◌, [], length, nat_eq};
+ghost use Rattle.std.specs.Int.RustNames.{bit_or};
+ghost use Rattle.ppmacro.specs.Nodes.{node_at, word, word_with, member, IsPool, Keeps, IsWithin, IsBounded, first};
+ghost use Rattle.ppmacro.specs.Operations.{joined, joined_word, known};
+ghost use Rattle.ppmacro.specs.Pairs.{union_known, meet_known, KeepsPairs};
+ghost use Rattle.ppmacro.specs.Remembered.{AreAnswers};
+
+use super::pairs::Pairs;
+use indexmap::IndexSet;
+use std::alloc::{AllocError, Global};
+
+/// How many numbers a word of members has: the number n is bit n % 64 of the word n / 64.
+const WORD: usize = 64;
+
+/// A set of numbers: its word 0, and by their nodes the words w that are its words 2w + 1, and those that are its words 2w + 2.
+#[derive(Clone, Copy, Debug, PartialEq, Eq, Hash)]
+pub(crate) struct Node {
+    here: u64,
+    left: usize,
+    right: usize,
+}
+
+/// What two sets are made into.
+#[derive(Clone, Copy, Debug)]
+pub(crate) enum Operation {
+    Union,
+    Meet,
+}
+
+impl Operation {
+    // What two words of members are made into.
+    fn joins(self, left: u64, right: u64) -> u64
+        ensures { result ≡ joined_word self left right }
+    {
+        match self {
+            Operation::Union => left | right,
+            Operation::Meet => left & right,
+        }
+    }
+}
+
+/// The empty set alone.
+pub(crate) fn start(alloc: Global) -> Result<IndexSet<Node>, AllocError>
+    ensures pool { IfOk result (λ s. IsPool s.keys) }
+    ensures bounded { IfOk result (λ s. IsBounded 0 s.keys) }
+    ensures is { IfOk result (λ s. s.keys ≡ first) }
+{
+    let mut nodes = IndexSet::new(alloc);
+    let none = Node {
+        here: 0,
+        left: 0,
+        right: 0,
+    };
+    let Ok(_) = nodes.insert_full(none) else {
+        return Err(AllocError);
+    };
+    Ok(nodes)
+}
+
+// The node with this number.
+fn read(nodes: &IndexSet<Node>, number: usize) -> Node
+    requires { number < length nodes.now.keys }
+    ensures { result ≡ node_at nodes.now.keys number }
+{
+    nodes.as_slice()[number]
+}
+
+// The number of a node, which joins the others unless it is among them.
+fn number_for(nodes: &mut IndexSet<Node>, node: Node) -> Result<usize, AllocError>
+    requires pool { IsPool nodes.old.keys }
+    requires within { IsWithin (length nodes.old.keys) node }
+    ensures pool { IsPool nodes.new.keys }
+    ensures keeps { Keeps nodes.old.keys nodes.new.keys }
+    ensures known { IfOk result (λ n. n < length nodes.new.keys) }
+    ensures is { IfOk result (λ n. node_at nodes.new.keys n ≡ node) }
+    ensures fresh { IfOk result (λ m. (n : ℕ) → length nodes.old.keys ≤ n → n < length nodes.new.keys → n ≡ m) }
+    ensures err { OnErr result (nodes.new.keys ≡ nodes.old.keys) }
+{
+    let Ok((number, _)) = nodes.insert_full(node) else {
+        return Err(AllocError);
+    };
+    Ok(number)
+}
+
+// The same, where the node may be that of one of two sets, which are looked at first.
+fn number_beside(
+    nodes: &mut IndexSet<Node>,
+    node: Node,
+    one: usize,
+    two: usize,
+) -> Result<usize, AllocError>
+    requires pool { IsPool nodes.old.keys }
+    requires within { IsWithin (length nodes.old.keys) node }
+    requires one { one < length nodes.old.keys }
+    requires two { two < length nodes.old.keys }
+    ensures pool { IsPool nodes.new.keys }
+    ensures keeps { Keeps nodes.old.keys nodes.new.keys }
+    ensures known { IfOk result (λ n. n < length nodes.new.keys) }
+    ensures is { IfOk result (λ n. node_at nodes.new.keys n ≡ node) }
+    ensures fresh { IfOk result (λ m. (n : ℕ) → length nodes.old.keys ≤ n → n < length nodes.new.keys → n ≡ m) }
+    ensures err { OnErr result (nodes.new.keys ≡ nodes.old.keys) }
+{
+    if read(nodes, one) == node {
+        return Ok(one);
+    }
+    if read(nodes, two) == node {
+        return Ok(two);
+    }
+    number_for(nodes, node)
+}
+
+// A word of a set.
+fn word_of(nodes: &IndexSet<Node>, set: usize, index: usize) -> u64
+    requires pool { IsPool nodes.now.keys }
+    requires known { set < length nodes.now.keys }
+    ensures { result ≡ word nodes.now.keys set index }
+{
+    let mut at = set;
+    let mut rest = index;
+    while rest > 0 {
+        let node = read(nodes, at);
+        rest -= 1;
+        at = if rest % 2 == 0 { node.left } else { node.right };
+        rest /= 2;
+    }
+    read(nodes, at).here
+}
+
+/// Whether a set has a number.
+pub(crate) fn has(nodes: &IndexSet<Node>, set: usize, number: usize) -> bool
+    requires pool { IsPool nodes.now.keys }
+    requires known { set < length nodes.now.keys }
+    ensures { result ≡ member nodes.now.keys set number }
+{
+    let bits = word_of(nodes, set, number / WORD);
+    bits >> (number % WORD) & 1 == 1
+}
+
+/// The number of a set with one member more.
+pub(crate) fn insert(
+    nodes: &mut IndexSet<Node>,
+    set: usize,
+    number: usize,
+) -> Result<usize, AllocError>
+    requires pool { IsPool nodes.old.keys }
+    requires known { set < length nodes.old.keys }
+    ensures pool { IsPool nodes.new.keys }
+    ensures keeps { Keeps nodes.old.keys nodes.new.keys }
+    ensures known { IfOk result (λ n. n < length nodes.new.keys) }
+    ensures bounded { (limit : ℕ) → number < limit → IsBounded limit nodes.old.keys → IsBounded limit nodes.new.keys }
+    ensures set { IfOk result (λ n. (x : ℕ) → member nodes.new.keys n x ≡ (nat_eq x number || member nodes.old.keys set x)) }
+{
+    let more = insert_bit(nodes, set, number / WORD, number % WORD)?;
+    Ok(more)
+}
+
+// The number of a set with one bit more in its word with this index.
+fn insert_bit(
+    nodes: &mut IndexSet<Node>,
+    set: usize,
+    index: usize,
+    bit: usize,
+) -> Result<usize, AllocError>
+    requires pool { IsPool nodes.old.keys }
+    requires known { set < length nodes.old.keys }
+    requires bit { bit < 64 }
+    ensures pool { IsPool nodes.new.keys }
+    ensures keeps { Keeps nodes.old.keys nodes.new.keys }
+    ensures known { IfOk result (λ n. n < length nodes.new.keys) }
+    ensures bounded { (limit : ℕ) → index * 64 + bit < limit → IsBounded limit nodes.old.keys → IsBounded limit nodes.new.keys }
+    ensures set { IfOk result (λ n. (w : ℕ) → word nodes.new.keys n w ≡ bit_or (word nodes.old.keys set w) (word_with index bit w)) }
+{
+    let node = read(nodes, set);
+    if index == 0 {
+        let here = node.here | 1 << bit;
+        let whole = number_for(nodes, Node { here, ..node })?;
+        return Ok(whole);
+    }
+    let rest = index - 1;
+    if rest % 2 == 0 {
+        let left = insert_bit(nodes, node.left, rest / 2, bit)?;
+        let odd = number_for(nodes, Node { left, ..node })?;
+        Ok(odd)
+    } else {
+        let right = insert_bit(nodes, node.right, rest / 2, bit)?;
+        let even = number_for(nodes, Node { right, ..node })?;
+        Ok(even)
+    }
+}
+
+// The number of the union of two sets, where one is empty or they are the same.
+fn settled_union(one: usize, two: usize) -> Option<usize>
+    ensures { result ≡ union_known [] one two }
+{
+    if one == 0 {
+        return Some(two);
+    }
+    if two == 0 || one == two {
+        return Some(one);
+    }
+    None
+}
+
+// The number of the meet of two sets, where one is empty or they are the same.
+fn settled_meet(one: usize, two: usize) -> Option<usize>
+    ensures { result ≡ meet_known [] one two }
+{
+    if one == 0 {
+        return Some(one);
+    }
+    if two == 0 {
+        return Some(two);
+    }
+    if one == two {
+        return Some(one);
+    }
+    None
+}
+
+// The number of what two sets are made into, where one is empty or they are the same.
+fn settled(operation: Operation, one: usize, two: usize) -> Option<usize>
+    ensures { result ≡ known operation [] one two }
+{
+    match operation {
+        Operation::Union => settled_union(one, two),
+        Operation::Meet => settled_meet(one, two),
+    }
+}
+
+// The number of what two sets are made into, where no work is left.
+fn known(pairs: &Pairs, operation: Operation, one: usize, two: usize) -> Option<usize>
+    ensures { result ≡ known operation pairs.now one two }
+{
+    match settled(operation, one, two) {
+        Some(number) => Some(number),
+        None => pairs.get(one, two),
+    }
+}
+
+// The number of what two sets are made into, word by word.
+fn make(
+    nodes: &mut IndexSet<Node>,
+    operation: Operation,
+    one: usize,
+    two: usize,
+) -> Result<usize, AllocError>
+    requires pool { IsPool nodes.old.keys }
+    requires one { one < length nodes.old.keys }
+    requires two { two < length nodes.old.keys }
+    ensures pool { IsPool nodes.new.keys }
+    ensures keeps { Keeps nodes.old.keys nodes.new.keys }
+    ensures known { IfOk result (λ n. n < length nodes.new.keys) }
+    ensures bounded { (limit : ℕ) → IsBounded limit nodes.old.keys → IsBounded limit nodes.new.keys }
+    ensures set { IfOk result (λ n. (w : ℕ) → word nodes.new.keys n w ≡ joined_word operation (word nodes.old.keys one w) (word nodes.old.keys two w)) }
+{
+    match settled(operation, one, two) {
+        Some(number) => Ok(number),
+        None => {
+            let first = read(nodes, one);
+            let second = read(nodes, two);
+            let left = make(nodes, operation, first.left, second.left)?;
+            let right = make(nodes, operation, first.right, second.right)?;
+            let here = operation.joins(first.here, second.here);
+            let both = number_beside(nodes, Node { here, left, right }, one, two)?;
+            Ok(both)
+        }
+    }
+}
+
+/// The number of what two sets are made into. It answers their pair from then on.
+pub(crate) fn join(
+    nodes: &mut IndexSet<Node>,
+    pairs: &mut Pairs,
+    operation: Operation,
+    one: usize,
+    two: usize,
+) -> Result<usize, AllocError>
+    requires pool { IsPool nodes.old.keys }
+    requires answers { AreAnswers (joined operation) nodes.old.keys pairs.old }
+    requires one { one < length nodes.old.keys }
+    requires two { two < length nodes.old.keys }
+    ensures pool { IsPool nodes.new.keys }
+    ensures keeps { Keeps nodes.old.keys nodes.new.keys }
+    ensures pairs { KeepsPairs pairs.old pairs.new }
+    ensures answers { AreAnswers (joined operation) nodes.new.keys pairs.new }
+    ensures known { IfOk result (λ n. n < length nodes.new.keys) }
+    ensures bounded { (limit : ℕ) → IsBounded limit nodes.old.keys → IsBounded limit nodes.new.keys }
+    ensures set { IfOk result (λ n. (x : ℕ) → member nodes.new.keys n x ≡ joined operation (member nodes.old.keys one x) (member nodes.old.keys two x)) }
+    ensures remembered { IfOk result (λ n. known operation pairs.new one two ≡ Some n) }
+    ensures again { (n : ℕ) → known operation pairs.old one two ≡ Some n → (result ≡ Ok n) × (pairs.new ≡ pairs.old) × (nodes.new.keys ≡ nodes.old.keys) }
+{
+    match known(pairs, operation, one, two) {
+        Some(number) => Ok(number),
+        None => {
+            let both = make(nodes, operation, one, two)?;
+            pairs.put(one, two, both)?;
+            Ok(both)
+        }
+    }
+}

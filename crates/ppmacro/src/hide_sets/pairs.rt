@@ -1,0 +1,53 @@
+// Pairs of numbers that were answered.
+ghost use Rattle.std.specs.Prelude.{◌≡◌, ◌∷◌, ◌++◌, [], OnOk, OnErr, None};
+ghost use Rattle.ppmacro.specs.Pairs.{answer_of};
+
+use indexmap::IndexMap;
+use std::alloc::{AllocError, Global};
+use std::marker::Model;
+
+/// Pairs of numbers, each with the number that answers it, in the order in which they were answered.
+#[derive(Drop)]
+pub(crate) struct Pairs {
+    answers: IndexMap<(usize, usize), usize>,
+}
+
+impl Model for Pairs {
+    ghost use Rattle.ppmacro.specs.Pairs.{Answered, answered_code};
+
+    ghost Value = { Answered };
+
+    ghost coded = { answered_code };
+
+    ghost view = { λ p. p.answers.entries };
+}
+
+impl Pairs {
+    /// No pair.
+    pub(crate) fn new(alloc: Global) -> Pairs
+        ensures { result ≡ [] }
+    {
+        Pairs {
+            answers: IndexMap::new(alloc),
+        }
+    }
+
+    /// The answer of a pair.
+    pub(crate) fn get(&self, left: usize, right: usize) -> Option<usize>
+        ensures { result ≡ answer_of self.now left right }
+    {
+        self.answers.get(&(left, right)).copied()
+    }
+
+    /// Puts the answer of a pair behind the others.
+    pub(crate) fn put(&mut self, left: usize, right: usize, answer: usize) -> Result<(), AllocError>
+        requires { answer_of self.old left right ≡ None }
+        ensures ok { OnOk result (self.new ≡ self.old ++ ((left, right), answer) ∷ []) }
+        ensures err { OnErr result (self.new ≡ self.old) }
+    {
+        let Ok(_) = self.answers.insert((left, right), answer) else {
+            return Err(AllocError);
+        };
+        Ok(())
+    }
+}
