@@ -7,7 +7,7 @@ use Rattle.ppmacro.specs.Numbered.{Numbered}
 use Rattle.ppmacro.specs.HideSets.{Hiding, hidings, AllKnown}
 use Rattle.ppmacro.specs.Chains.{chains_of}
 use Rattle.ppmacro.specs.Substituting.{ListsKnown}
-use Rattle.ppmacro.specs.declared.hide_sets.Hidden.{Hidden}
+use Rattle.ppmacro.specs.declared.flying.Hidden.{Hidden}
 use Rattle.ppmacro.specs.declared.macros.Chain.{Chain}
 use Rattle.ppmacro.proofs.WalkLemmas.{drop-item}
 use Rattle.ppexpand.specs.declared.env.Env.{Env}

@@ -3,7 +3,7 @@ use Rattle.std.proofs.Common.{◌≡◌, ℕ, zero, suc, true, List, [], ◌∷�
 use Rattle.ppmacro.specs.Numbered.{Numbered}
 use Rattle.ppmacro.specs.HideSets.{Hiding, hiding, hidings, IsKnown, AllKnown}
 use Rattle.ppmacro.specs.Substituting.{ListsKnown}
-use Rattle.ppmacro.specs.declared.hide_sets.Hidden.{Hidden}
+use Rattle.ppmacro.specs.declared.flying.Hidden.{Hidden}
 use Rattle.ppexpand.specs.Arguments.{Gathered, Closed, Quoted, Unclosed, with_token, with_argument, separates}
 use Rattle.ppexpand.specs.Shown.{given_in}
 
@@ -56,7 +56,7 @@ given-push s (w ∷ vs) v = ap (λ ts. hidings s w.items ∷ ts) (given-push s v
 
 pub known-push : {s : Numbered} (hs : List Hidden) (h : Hidden) → AllKnown s hs → IsKnown s h.hide → AllKnown s (hs ++ h ∷ [])
 known-push [] h k known = record { each = (known, tt) }
-known-push (g ∷ hs) h k known = record { each = (k.each.0, (known-push hs h (record { each = k.each.1 }) known).each) }
+known-push {s} (g ∷ hs) h k known = record { each = (k.each.0, (known-push {s = s} hs h (record { each = k.each.1 }) known).each) }
 
 pub lists_known-push : {s : Numbered} (vs : List (Vec Hidden Global)) (v : Vec Hidden Global) → ListsKnown s vs → AllKnown s v.items → ListsKnown s (vs ++ v ∷ [])
 lists_known-push [] v k known = record { each = (known, tt) }

@@ -6,7 +6,7 @@ use Rattle.ppmacro.specs.Numbered.{Numbered}
 use Rattle.ppmacro.specs.HideSets.{set_at, IsKnown, hiding, hidings, AllKnown, Keeps}
 use Rattle.ppmacro.specs.Substitution.{argument_at, expanded_at}
 use Rattle.ppmacro.specs.Substituting.{lists_of, options_of, ListsKnown, ArgumentsKnown}
-use Rattle.ppmacro.specs.declared.hide_sets.Hidden.{Hidden}
+use Rattle.ppmacro.specs.declared.flying.Hidden.{Hidden}
 use Rattle.ppmacro.proofs.KeepLemmas.{set-keeps, hiding-keeps, hidings-keeps, known-keeps, known-set}
 use Rattle.ppexpand.specs.declared.turn.Invocation.{Invocation}
 use Rattle.ppexpand.specs.Shown.{given_in, expanded_in, held, ExpansionsKnown, call_in, CallKnown}

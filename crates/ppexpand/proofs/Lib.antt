@@ -10,3 +10,5 @@ pub mod Gathering
 pub mod Keeping
 pub mod TurnLemmas
 pub mod ArgumentLemmas
+pub mod Marks
+pub mod Skipping

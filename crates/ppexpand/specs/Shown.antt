@@ -10,7 +10,7 @@ use Rattle.ppmacro.specs.Numbered.{Numbered}
 use Rattle.ppmacro.specs.HideSets.{set_at, IsKnown, Hiding, hiding, hidings, AllKnown}
 use Rattle.ppmacro.specs.Define.{fault}
 use Rattle.ppmacro.specs.Substituting.{lists_of, options_of, ListsKnown}
-use Rattle.ppmacro.specs.declared.hide_sets.Hidden.{Hidden}
+use Rattle.ppmacro.specs.declared.flying.Hidden.{Hidden}
 use Rattle.ppexpand.specs.declared.env.Env.{Env}
 use Rattle.ppexpand.specs.declared.arguments.Gathered as gathered
 use Rattle.ppexpand.specs.declared.arguments.Gathered.TheVariants as found
@@ -121,4 +121,4 @@ abbrev pub HasEnded : Macros → Env → ℕ → List Hiding → List Hiding →
 HasEnded macros env level list passed f more = EndsWith macros env level list f × (more ≡ passed)
 
 abbrev pub outcome_in : Numbered → Ended → Outcome
-outcome_in sets e = record { tokens = hidings sets e.tokens.items; fault = e.fault }
+outcome_in sets e = record { tokens = hidings sets e.tokens; fault = e.fault }

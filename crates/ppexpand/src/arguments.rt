@@ -14,11 +14,11 @@ use std::alloc::{AllocError, Global};
 
 /// What stands behind the `(` of an invocation.
 #[derive(Drop)]
-pub(crate) enum Gathered {
+pub(crate) enum Gathered<'a> {
     /// Arguments and the matching `)`.
-    Closed(Vec<Vec<Hidden>>, Hidden),
+    Closed(Vec<Vec<Hidden<'a>>>, Hidden<'a>),
     /// A lone quote before any matching `)`.
-    Quoted(Hidden),
+    Quoted(Hidden<'a>),
     /// No matching `)`.
     Unclosed,
 }
@@ -48,20 +48,20 @@ fn fewer(commas: Option<usize>) -> Option<usize>
 }
 
 /// Takes the arguments of an invocation with the matching `)` out of the list behind the `(`.
-pub(crate) fn gather(
+pub(crate) fn gather<'a>(
     alloc: Global,
-    list: &mut Cursor,
+    list: &mut Cursor<'a>,
     commas: Option<usize>,
-) -> Result<Gathered, AllocError>
+) -> Result<Gathered<'a>, AllocError>
     ensures is { IfOk result (λ g. (sets : Numbered) → gathered_in sets list.new g ≡ gather 0 commas (hidings sets list.old)) }
     ensures known { IfOk result (λ g. (sets : Numbered) → AllKnown sets list.old → GatheredKnown sets list.new g) }
 {
-    let mut arguments: Vec<Vec<Hidden>> = Vec::new(alloc);
+    let mut arguments: Vec<Vec<Hidden<'a>>> = Vec::new(alloc);
     let mut argument = Vec::new(alloc);
     let mut depth: usize = 0;
     let mut commas = commas;
     while let Some(hidden) = list.next() {
-        match mark_of(&hidden.token) {
+        match mark_of(&hidden) {
             Mark::Quote => return Ok(Gathered::Quoted(hidden)),
             Mark::Close if depth == 0 => {
                 arguments.push(argument)?;
@@ -94,14 +94,14 @@ fn is_bare(arguments: &[Vec<Hidden>]) -> bool
 }
 
 /// The arguments by parameter, or None where their number is wrong.
-pub(crate) fn fit(
+pub(crate) fn fit<'a>(
     alloc: Global,
-    arguments: Vec<Vec<Hidden>>,
+    arguments: Vec<Vec<Hidden<'a>>>,
     names: &[Spelling],
     variadic: bool,
-) -> Option<Vec<Vec<Hidden>>>
-    ensures is { (sets : Numbered) → fitting_in sets result ≡ fitted names.now variadic (given_in sets arguments.items) }
-    ensures known { (sets : Numbered) → ListsKnown sets arguments.items → FittingKnown sets result }
+) -> Option<Vec<Vec<Hidden<'a>>>>
+    ensures is { (sets : Numbered) → fitting_in sets result ≡ fitted names.now variadic (given_in sets arguments.entry.items) }
+    ensures known { (sets : Numbered) → ListsKnown sets arguments.entry.items → FittingKnown sets result }
 {
     if names.is_empty() && !variadic && is_bare(arguments.as_slice()) {
         return Some(Vec::new(alloc));

@@ -1,78 +1,134 @@
 // The list that is being expanded.
-ghost use Rattle.std.specs.Prelude.{◌≡◌, ◌∷◌, ◌++◌, [], MatchOption, OnOk};
+ghost use Rattle.std.specs.Prelude.{◌≡◌, ◌∷◌, [], ◌++◌, true, MatchOption, OnOk};
 ghost use Rattle.ppmacro.specs.Numbered.{Numbered};
 ghost use Rattle.ppmacro.specs.HideSets.{hidings, AllKnown};
 ghost use Rattle.ppexpand.specs.Turn.{mark_next};
+ghost use Rattle.ppexpand.specs.Lists.{marked, is_inert, ArePlain};
 
-use ppmacro::Hidden;
-use std::alloc::AllocError;
+use crate::spellings::is_inert;
+use crate::stretch::Stretch;
+use ppmacro::{Hidden, Table};
+use std::alloc::{AllocError, Global};
 use std::marker::Model;
 
 /// The tokens that are still to be looked at, which contracts see from the next one on.
 ///
-/// They are kept from the last one on: to take the next one costs nothing, and to put tokens before it costs their number.
+/// First those that were put before the others, kept from the last one on: to take the next one costs nothing, and to put tokens
+/// before it costs their number. Below them those of a file, the first with a mark where one is pending.
 #[derive(Drop)]
-pub(crate) struct Cursor {
-    behind: Vec<Hidden>,
+pub(crate) struct Cursor<'a> {
+    behind: Vec<Hidden<'a>>,
+    below: Stretch<'a>,
+    pending: bool,
 }
 
-impl Model for Cursor {
-    ghost use Rattle.std.specs.Prelude.{List, reverse};
-    ghost use Rattle.ppmacro.specs.declared.hide_sets.Hidden.{Hidden};
+impl<'a> Model for Cursor<'a> {
+    ghost use Rattle.std.specs.Prelude.{List, reverse, ◌++◌};
+    ghost use Rattle.ppmacro.specs.declared.flying.Hidden.{Hidden};
 
     ghost Value = { List Hidden };
 
-    ghost view = { λ c. reverse c.behind.items };
+    ghost use Rattle.ppexpand.specs.Lists.{marked};
+
+    ghost view = { λ c. reverse c.behind.items ++ marked c.pending c.below };
 }
 
-impl Cursor {
-    /// These tokens.
-    pub(crate) fn new(tokens: Vec<Hidden>) -> Cursor
-        ensures { result ≡ tokens.items }
+impl<'a> Cursor<'a> {
+    /// These tokens of a file.
+    pub(crate) fn over(alloc: Global, below: Stretch<'a>) -> Cursor<'a>
+        ensures { result ≡ below.entry }
+    {
+        Cursor {
+            behind: Vec::new(alloc),
+            below,
+            pending: false,
+        }
+    }
+
+    /// These tokens. `none` has no token.
+    pub(crate) fn new(tokens: Vec<Hidden<'a>>, none: Stretch<'a>) -> Cursor<'a>
+        requires { none ≡ [] }
+        ensures { result ≡ tokens.entry.items }
     {
         let mut behind = tokens;
         behind.reverse();
-        Cursor { behind }
+        Cursor {
+            behind,
+            below: none,
+            pending: false,
+        }
     }
 
     /// The next token, taken out.
-    pub(crate) fn next(&mut self) -> Option<Hidden>
+    pub(crate) fn next(&mut self) -> Option<Hidden<'a>>
         ensures { MatchOption result ((self.old ≡ []) × (self.new ≡ [])) (λ h. self.old ≡ h ∷ self.new) }
     {
-        self.behind.pop()
+        if let Some(hidden) = self.behind.pop() {
+            return Some(hidden);
+        }
+        let Some(mut hidden) = self.below.next() else {
+            return None;
+        };
+        if self.pending {
+            hidden.mark(true);
+        }
+        self.pending = false;
+        Some(hidden)
     }
 
     /// Puts a token before the next one.
-    pub(crate) fn push(&mut self, hidden: Hidden) -> Result<(), AllocError>
-        ensures { OnOk result (self.new ≡ hidden ∷ self.old) }
+    pub(crate) fn push(&mut self, hidden: Hidden<'a>) -> Result<(), AllocError>
+        ensures { OnOk result (self.new ≡ hidden.entry ∷ self.old) }
     {
         self.behind.push(hidden)?;
         Ok(())
     }
 
     /// Puts tokens before the next one.
-    pub(crate) fn push_all(&mut self, tokens: Vec<Hidden>) -> Result<(), AllocError>
-        ensures { OnOk result (self.new ≡ tokens.items ++ self.old) }
+    pub(crate) fn push_all(&mut self, tokens: Vec<Hidden<'a>>) -> Result<(), AllocError>
+        ensures { OnOk result (self.new ≡ tokens.entry.items ++ self.old) }
     {
         let mut tokens = tokens;
-        while let Some(hidden) = tokens.pop() {
-            self.push(hidden)?;
-        }
+        tokens.reverse();
+        self.behind.append(&mut tokens)?;
         Ok(())
     }
 
     /// Gives the next token, if there is one, a space mark that is left pending.
-    pub(crate) fn mark_next(&mut self, pending: bool) -> Result<(), AllocError>
-        ensures is { OnOk result ((sets : Numbered) → hidings sets self.new ≡ mark_next pending (hidings sets self.old)) }
-        ensures known { OnOk result ((sets : Numbered) → AllKnown sets self.old → AllKnown sets self.new) }
+    pub(crate) fn mark_next(&mut self, pending: bool)
+        ensures { self.new ≡ marked pending self.old }
     {
         if !pending {
-            return Ok(());
+            return;
         }
-        let Some(mut hidden) = self.next() else {
-            return Ok(());
+        if let Some(last) = self.behind.last_mut() {
+            last.mark(true);
+            return;
+        }
+        self.pending = true;
+    }
+
+    /// The next token, taken out, where it is one of those that were put before the others and neither an identifier nor a lone quote.
+    pub(crate) fn next_inert(&mut self) -> Option<Hidden<'a>>
+        ensures { MatchOption result (self.new ≡ self.old) (λ h. (self.old ≡ h ∷ self.new) × (is_inert h.token ≡ true)) }
+    {
+        let Some(last) = self.behind.last() else {
+            return None;
         };
-        hidden.token.space = true;
-        self.push(hidden)
+        if !is_inert(last) {
+            return None;
+        }
+        self.behind.pop()
+    }
+
+    /// Takes out tokens of the file that pass, where they are next.
+    pub(crate) fn take_plain(&mut self, table: &Table) -> Stretch<'a>
+        ensures laid_out { self.old ≡ result ++ self.new }
+        ensures plain { ArePlain table.now result }
+    {
+        if self.pending || !self.behind.is_empty() {
+            return self.below.none();
+        }
+        self.below.take_plain(table)
     }
 }

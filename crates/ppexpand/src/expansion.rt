@@ -1,20 +1,25 @@
 // The expansion of a list.
-ghost use Rattle.std.specs.Prelude.{◌≡◌, ◌≤◌, ◌++◌, ◌∷◌, [], List, map, IfOk, OnOk, MatchOption, IfNone};
+ghost use Rattle.std.specs.Prelude.{◌≡◌, ◌≤◌, ◌++◌, ◌∷◌, [], List, map, true, IfOk, OnOk, MatchOption, IfNone};
+ghost use Rattle.ppmacro.specs.Chains.{chains_of};
+ghost use Rattle.ppmacro.specs.Names.{Macros};
 ghost use Rattle.ppmacro.specs.Numbered.{Numbered};
 ghost use Rattle.ppmacro.specs.HideSets.{hidings, AllKnown, Keeps};
-ghost use Rattle.ppmacro.specs.Substitution.{plain};
-ghost use Rattle.ppmacro.specs.Substituting.{list_in, tokens_of};
-ghost use Rattle.ppmacro.specs.declared.hide_sets.Hidden.{Hidden};
+ghost use Rattle.ppmacro.specs.Substituting.{list_in};
+ghost use Rattle.ppmacro.specs.declared.flying.Hidden.{Hidden};
 ghost use Rattle.ppexpand.specs.Turn.{is_alone, uses_alone, wanted};
 ghost use Rattle.ppexpand.specs.Expansion.{ExpandsTo, ExpandsArguments, IsExpansion};
+ghost use Rattle.ppexpand.specs.Lists.{ArePlain};
+ghost use Rattle.ppexpand.specs.Skipping.{HasSkipped};
 ghost use Rattle.ppexpand.specs.Shown.{ExpansionsKnown, call_in, CallKnown, ExpandsArgument, expansions_in, HasAdvanced, HasEnded, outcome_in};
 
 use crate::cursor::Cursor;
 use crate::env::Env;
+use crate::passed::{Passed, Run};
 use crate::spellings::at_use;
+use crate::stretch::{Stretch, is_plain, split_plain};
 use crate::turn::{Invocation, Next, finish, next_turn};
 use ppmacro::{Chain, Hidden, HideSets, Operand, Table};
-use pptext::{Fault, Memory, Token, Tokens};
+use pptext::{Fault, Memory, Token};
 use std::alloc::{AllocError, Global};
 
 /// The deepest level of lists: a run of text is at level 0, and an argument one level deeper than its invocation.
@@ -22,8 +27,8 @@ const DEEPEST: u32 = 256;
 
 /// The tokens of a list that passed, and the fault that ended it, if one did.
 #[derive(Drop)]
-struct Ended {
-    tokens: Vec<Hidden>,
+struct Ended<'a> {
+    tokens: Passed<'a>,
     fault: Option<Fault>,
 }
 
@@ -32,7 +37,7 @@ fn is_alone(parameter: usize, operands: &[Operand]) -> bool
     ensures { result ≡ is_alone parameter operands.now }
 {
     match operands {
-        [Operand::Param(index)] => *index == parameter,
+        [operand] => matches!(operand, Operand::Param(index) if *index == parameter),
         _ => false,
     }
 }
@@ -47,75 +52,107 @@ fn uses_alone(parameter: usize, chains: &[Chain]) -> bool
 }
 
 /// Puts one more behind the expansions.
-fn push_expansion(
-    expanded: &mut Vec<Option<Vec<Hidden>>>,
-    tokens: Option<Vec<Hidden>>,
+fn push_expansion<'a>(
+    expanded: &mut Vec<Option<Vec<Hidden<'a>>>>,
+    tokens: Option<Vec<Hidden<'a>>>,
 ) -> Result<(), AllocError>
-    ensures { OnOk result (expanded.new.items ≡ expanded.old.items ++ tokens ∷ []) }
+    ensures { OnOk result (expanded.new.items ≡ expanded.old.items ++ tokens.entry ∷ []) }
 {
     expanded.push(tokens)?;
     Ok(())
 }
 
-/// Puts a token behind those that passed.
-fn push_passed(passed: &mut Vec<Hidden>, head: Hidden) -> Result<(), AllocError>
-    ensures { OnOk result (passed.new.items ≡ passed.old.items ++ head ∷ []) }
+/// Passes tokens in flight that are neither identifiers nor lone quotes, where they are next.
+fn skip_inert<'a>(list: &mut Cursor<'a>, passed: &mut Passed<'a>) -> Result<(), AllocError>
+    ensures { OnOk result ((macros : Macros) → HasSkipped macros list.old passed.old list.new passed.new) }
 {
-    passed.push(head)?;
+    while let Some(hidden) = list.next_inert() {
+        passed.push(hidden)?;
+    }
     Ok(())
+}
+
+/// Passes tokens that name no macro, where they are next.
+fn skip<'a>(table: &Table, list: &mut Cursor<'a>, passed: &mut Passed<'a>) -> Result<(), AllocError>
+    ensures { OnOk result (HasSkipped table.now list.old passed.old list.new passed.new) }
+{
+    skip_inert(list, passed)?;
+    passed.extend(list.take_plain(table))?;
+    Ok(())
+}
+
+/// Whether each of these tokens passes, whatever its hide set is.
+fn all_pass(table: &Table, tokens: &[Hidden]) -> bool
+    ensures { result ≡ true → ArePlain table.now tokens.now }
+{
+    for hidden in tokens {
+        if !is_plain(table, hidden.word()) {
+            return false;
+        }
+    }
+    true
 }
 
 /// The expansion of an argument, or its fault, or 21 where it is too deep.
 #[cycle(expansion)]
-fn expand_argument(
+fn expand_argument<'x, 'a: 'x>(
     alloc: Global,
-    table: &Table,
+    table: &Table<'a>,
     env: &Env,
     level: u32,
     sets: &mut HideSets,
-    head: &Token,
-    argument: &[Hidden],
-) -> Result<Result<Vec<Hidden>, Fault>, Memory>
+    head: &Hidden<'x>,
+    argument: &[Hidden<'x>],
+) -> Result<Result<Vec<Hidden<'x>>, Fault>, Memory>
     requires level { level ≤ 256 }
     requires known { AllKnown sets.old argument.now }
-    ensures is { IfOk result (λ r. ExpandsArgument table.now env.now level head.now (hidings sets.old argument.now) (list_in sets.new r)) }
+    ensures is { IfOk result (λ r. ExpandsArgument table.now env.now level head.now.token (hidings sets.old argument.now) (list_in sets.new r)) }
     ensures known { IfOk result (λ r. IfOk r (λ v. AllKnown sets.new v.items)) }
     ensures keeps { Keeps sets.old sets.new }
 {
     if level >= DEEPEST {
         return Ok(Err(at_use(21, head)?));
     }
-    let list = Cursor::new(Vec::from_clones(alloc, argument)?);
+    let copy = Vec::from_clones(alloc, argument)?;
+    // Most arguments name no macro, and are what they are expanded to.
+    if all_pass(table, argument) {
+        return Ok(Ok(copy));
+    }
+    let none = Stretch::new(Default::default(), sets.empty());
+    let list = Cursor::new(copy, none);
     let Ended { tokens, fault } = expand_list(alloc, table, env, level + 1, sets, list)?;
     match fault {
         Some(fault) => Ok(Err(fault)),
-        None => Ok(Ok(tokens)),
+        None => Ok(Ok(tokens.into_vec(alloc)?)),
     }
 }
 
-/// The expansions of the arguments that stand away from `#` and `##`, each by its parameter, or the first one's fault.
+/// The expansions of the arguments that stand away from `#` and `##` in these chains, which are the macro's, each by its
+/// parameter; or the first one's fault.
 #[cycle(expansion)]
-fn expand_arguments(
+fn expand_arguments<'x, 'a: 'x>(
     alloc: Global,
-    table: &Table,
+    table: &Table<'a>,
     env: &Env,
     level: u32,
     sets: &mut HideSets,
-    call: &Invocation,
-) -> Result<Result<Vec<Option<Vec<Hidden>>>, Fault>, Memory>
+    call: &Invocation<'_, 'x, 'a>,
+    chains: &[Chain<'a>],
+) -> Result<Result<Vec<Option<Vec<Hidden<'x>>>>, Fault>, Memory>
     requires level { level ≤ 256 }
     requires known { CallKnown sets.old call.now }
+    requires chains { chains.now ≡ chains_of call.now.replaced.now }
     ensures is { IfOk result (λ r. (behind : List Hidden) → ExpandsArguments table.now env.now level (call_in sets.old call.now behind) (wanted (call_in sets.old call.now behind)) (expansions_in sets.new r)) }
     ensures known { IfOk result (λ r. IfOk r (λ v. ExpansionsKnown sets.new v.items)) }
     ensures keeps { Keeps sets.old sets.new }
 {
     let mut expanded = Vec::new(alloc);
     for (parameter, argument) in call.arguments.iter().enumerate() {
-        if !uses_alone(parameter, call.replaced.chains()) {
+        if !uses_alone(parameter, chains) {
             push_expansion(&mut expanded, None)?;
             continue;
         }
-        let head = &call.head.token;
+        let head = &call.head;
         match expand_argument(alloc, table, env, level, sets, head, argument.as_slice())? {
             Ok(tokens) => push_expansion(&mut expanded, Some(tokens))?,
             Err(fault) => return Ok(Err(fault)),
@@ -127,62 +164,69 @@ fn expand_arguments(
 /// One turn: what passes is put behind `passed`, and the list becomes what is left. Some where the list ended, with a
 /// fault or none.
 #[cycle(expansion)]
-fn advance(
+fn advance<'x, 'a: 'x>(
     alloc: Global,
-    table: &Table,
+    table: &Table<'a>,
     env: &Env,
     level: u32,
     sets: &mut HideSets,
-    list: &mut Cursor,
-    passed: &mut Vec<Hidden>,
+    list: &mut Cursor<'x>,
+    passed: &mut Passed<'x>,
 ) -> Result<Option<Option<Fault>>, Memory>
     requires level { level ≤ 256 }
     requires list_known { AllKnown sets.old list.old }
-    requires passed_known { AllKnown sets.old passed.old.items }
+    requires passed_known { AllKnown sets.old passed.old }
     ensures on { IfOk result (λ p. MatchOption p
-        (HasAdvanced table.now env.now level (hidings sets.old list.old) (hidings sets.old passed.old.items) (hidings sets.new list.new) (hidings sets.new passed.new.items))
-        (λ fault. HasEnded table.now env.now level (hidings sets.old list.old) (hidings sets.old passed.old.items) fault (hidings sets.new passed.new.items))) }
+        (HasAdvanced table.now env.now level (hidings sets.old list.old) (hidings sets.old passed.old) (hidings sets.new list.new) (hidings sets.new passed.new))
+        (λ fault. HasEnded table.now env.now level (hidings sets.old list.old) (hidings sets.old passed.old) fault (hidings sets.new passed.new))) }
     ensures list_known { IfOk result (λ p. IfNone p (AllKnown sets.new list.new)) }
-    ensures passed_known { OnOk result (AllKnown sets.new passed.new.items) }
+    ensures passed_known { OnOk result (AllKnown sets.new passed.new) }
     ensures keeps { Keeps sets.old sets.new }
 {
     match next_turn(alloc, table, env, sets, list)? {
         Next::Done => Ok(Some(None)),
         Next::Refused(fault) => Ok(Some(Some(fault))),
         Next::Passes(head) => {
-            push_passed(passed, head)?;
+            passed.push(head)?;
             Ok(None)
         }
         Next::Replaced => Ok(None),
-        Next::Called(call) => match expand_arguments(alloc, table, env, level, sets, &call)? {
-            Err(fault) => Ok(Some(Some(fault))),
-            Ok(expanded) => match finish(alloc, sets, &call, expanded.as_slice(), list)? {
+        Next::Called(call) => {
+            let made = call.replaced.chains(alloc)?;
+            let chains = made.as_slice();
+            match expand_arguments(alloc, table, env, level, sets, &call, chains)? {
                 Err(fault) => Ok(Some(Some(fault))),
-                Ok(()) => Ok(None),
-            },
-        },
+                Ok(expanded) => {
+                    match finish(alloc, sets, &call, chains, expanded.as_slice(), list)? {
+                        Err(fault) => Ok(Some(Some(fault))),
+                        Ok(()) => Ok(None),
+                    }
+                }
+            }
+        }
     }
 }
 
 /// The outcome of a list.
 #[cycle(expansion)]
-fn expand_list(
+fn expand_list<'x, 'a: 'x>(
     alloc: Global,
-    table: &Table,
+    table: &Table<'a>,
     env: &Env,
     level: u32,
     sets: &mut HideSets,
-    list: Cursor,
-) -> Result<Ended, Memory>
+    list: Cursor<'x>,
+) -> Result<Ended<'x>, Memory>
     requires level { level ≤ 256 }
     requires known { AllKnown sets.old list }
-    ensures outcome { IfOk result (λ o. ExpandsTo table.now env.now level (hidings sets.old list) (outcome_in sets.new o)) }
-    ensures known { IfOk result (λ o. AllKnown sets.new o.tokens.items) }
+    ensures outcome { IfOk result (λ o. ExpandsTo table.now env.now level (hidings sets.old list.entry) (outcome_in sets.new o)) }
+    ensures known { IfOk result (λ o. AllKnown sets.new o.tokens) }
     ensures keeps { Keeps sets.old sets.new }
 {
-    let mut passed: Vec<Hidden> = Vec::new(alloc);
+    let mut passed = Passed::new(alloc);
     let mut list = list;
     loop {
+        skip(table, &mut list, &mut passed)?;
         match advance(alloc, table, env, level, sets, &mut list, &mut passed)? {
             Some(fault) => {
                 return Ok(Ended {
@@ -195,40 +239,10 @@ fn expand_list(
     }
 }
 
-/// The tokens with empty hide sets.
-fn with_empty_sets(
-    alloc: Global,
-    sets: &HideSets,
-    tokens: &[Token],
-) -> Result<Vec<Hidden>, AllocError>
-    ensures is { IfOk result (λ v. hidings sets.now v.items ≡ map plain tokens.now) }
-    ensures known { IfOk result (λ v. AllKnown sets.now v.items) }
-{
-    let mut hidden = Vec::with_capacity(alloc, tokens.len())?;
-    for token in tokens {
-        hidden.push(Hidden {
-            token: token.clone()?,
-            hide: sets.empty(),
-        })?;
-    }
-    Ok(hidden)
-}
-
-/// The tokens without their hide sets.
-fn without_sets(alloc: Global, hidden: Vec<Hidden>) -> Result<Vec<Token>, AllocError>
-    ensures { IfOk result (λ v. v.items ≡ tokens_of hidden.items) }
-{
-    let mut tokens = Vec::with_capacity(alloc, hidden.len())?;
-    for one in hidden {
-        tokens.push(one.token)?;
-    }
-    Ok(tokens)
-}
-
 /// What a list of tokens is expanded to: the tokens that passed, and the fault that ended the list, if one did.
-#[derive(Drop, Debug)]
-pub struct Expanded {
-    pub tokens: Tokens,
+#[derive(Drop)]
+pub struct Expanded<'a> {
+    pub tokens: Run<'a>,
     pub fault: Option<Fault>,
 }
 
@@ -246,14 +260,26 @@ pub struct Expanded {
 /// # Errors
 ///
 /// `Memory` where memory ran out.
-pub fn expand(alloc: Global, table: &Table, env: &Env, tokens: &[Token]) -> Result<Expanded, Memory>
+pub fn expand<'x, 'a: 'x>(
+    alloc: Global,
+    table: &Table<'a>,
+    env: &Env,
+    tokens: &'x [Token],
+) -> Result<Expanded<'x>, Memory>
     ensures { IfOk result (λ e. IsExpansion table.now env.now tokens.now e) }
 {
+    let (front, rest) = split_plain(table, tokens);
+    if rest.is_empty() {
+        return Ok(Expanded {
+            tokens: Run::new(front, Passed::new(alloc)),
+            fault: None,
+        });
+    }
     let mut sets = HideSets::new(alloc)?;
-    let list = Cursor::new(with_empty_sets(alloc, &sets, tokens)?);
+    let list = Cursor::over(alloc, Stretch::new(rest, sets.empty()));
     let ended = expand_list(alloc, table, env, 0, &mut sets, list)?;
     Ok(Expanded {
-        tokens: Tokens::new(without_sets(alloc, ended.tokens)?),
+        tokens: Run::new(front, ended.tokens),
         fault: ended.fault,
     })
 }

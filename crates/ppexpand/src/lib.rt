@@ -6,8 +6,10 @@ mod cursor;
 mod env;
 mod expansion;
 mod laws;
+mod passed;
 mod predefined;
 mod spellings;
+mod stretch;
 #[cfg(test)]
 mod tests;
 mod turn;
@@ -17,4 +19,6 @@ pub use expansion::{Expanded, expand};
 pub use laws::{
     expansion_ends, finds_arguments, leaves_settled_tokens, one_expansion, one_outcome,
 };
+pub use passed::{Piece, Run};
 pub use spellings::is_lone_quote;
+pub use stretch::Stretch;

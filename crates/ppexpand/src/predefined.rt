@@ -59,24 +59,23 @@ fn predefined_text(
 }
 
 /// The token that a predefined name is replaced by.
-pub(crate) fn predefined_value(
+pub(crate) fn predefined_value<'a>(
     alloc: Global,
     builtin: Builtin,
     env: &Env,
     head: &Hidden,
     gain: Set,
-) -> Result<Hidden, AllocError>
+) -> Result<Hidden<'a>, AllocError>
     ensures is { IfOk result (λ h. (sets : Numbered) → hiding sets h ≡ predefined_value builtin env.now (hiding sets head.now) (set_at sets gain)) }
     ensures gain { IfOk result (λ h. h.hide ≡ gain) }
 {
-    let name = &head.token;
-    let text = Spelling::new(predefined_text(alloc, builtin, env, name.used)?);
+    let text = Spelling::new(predefined_text(alloc, builtin, env, head.used())?)?;
     let token = Token {
         kind: predefined_kind(builtin),
         text,
-        space: name.space,
-        at: name.at,
-        used: name.used,
+        space: head.space(),
+        at: head.at(),
+        used: head.used(),
     };
-    Ok(Hidden { token, hide: gain })
+    Hidden::made(alloc, token, gain)
 }

@@ -2,16 +2,17 @@
 ghost use Rattle.std.specs.Prelude.{◌≡◌, IfOk};
 ghost use Rattle.ppmacro.specs.Define.{fault};
 ghost use Rattle.ppexpand.specs.Arguments.{is_lone_quote, is_open, mark_of};
+ghost use Rattle.ppexpand.specs.Lists.{is_inert};
 
-use ppmacro::is_punct;
+use ppmacro::{Hidden, is_identifier, is_punct};
 use pptext::{Fault, Kind, Place, Token};
 use std::alloc::AllocError;
 
 /// Whether a token is `(`.
-pub(crate) fn is_open(token: &Token) -> bool
-    ensures { result ≡ is_open token.now }
+pub(crate) fn is_open(hidden: &Hidden) -> bool
+    ensures { result ≡ is_open hidden.now.token }
 {
-    is_punct(token, b"(")
+    is_punct(hidden.word(), b"(")
 }
 
 /// Whether a token is `'` or `"` alone (6.4p3).
@@ -35,13 +36,22 @@ pub(crate) enum Mark {
 }
 
 /// What a token is to that search.
-pub(crate) fn mark_of(token: &Token) -> Mark
+pub(crate) fn mark_of(hidden: &Hidden) -> Mark
+    ensures { result ≡ mark_of hidden.now.token }
+{
+    mark_of_word(hidden.word())
+}
+
+fn mark_of_word(token: &Token) -> Mark
     ensures { result ≡ mark_of token.now }
 {
+    if !matches!(token.kind, Kind::Punct | Kind::Other) {
+        return Mark::Inner;
+    }
     if is_lone_quote(token) {
         return Mark::Quote;
     }
-    if is_open(token) {
+    if is_punct(token, b"(") {
         return Mark::Open;
     }
     if is_punct(token, b")") {
@@ -53,27 +63,42 @@ pub(crate) fn mark_of(token: &Token) -> Mark
     Mark::Inner
 }
 
+/// Whether a token in flight is `'` or `"` alone.
+pub(crate) fn is_quote(hidden: &Hidden) -> bool
+    ensures { result ≡ is_lone_quote hidden.now.token }
+{
+    is_lone_quote(hidden.word())
+}
+
+/// Whether a token in flight is neither an identifier nor a lone quote: it passes, whatever the macros are.
+pub(crate) fn is_inert(hidden: &Hidden) -> bool
+    ensures { result ≡ is_inert hidden.now.token }
+{
+    let token = hidden.word();
+    !is_lone_quote(token) && !is_identifier(token)
+}
+
 /// A fault with this token's spelling.
-fn fault_of(number: u8, at: Place, token: &Token) -> Result<Fault, AllocError>
-    ensures { IfOk result (λ f. f ≡ fault number at token.now.text) }
+fn fault_of(number: u8, at: Place, hidden: &Hidden) -> Result<Fault, AllocError>
+    ensures { IfOk result (λ f. f ≡ fault number at hidden.now.token.text) }
 {
     Ok(Fault {
         number,
         at,
-        text: token.text.clone()?,
+        text: hidden.spelling()?,
     })
 }
 
 /// A fault at the place where a token is used.
-pub(crate) fn at_use(number: u8, token: &Token) -> Result<Fault, AllocError>
-    ensures { IfOk result (λ f. f ≡ fault number token.now.used token.now.text) }
+pub(crate) fn at_use(number: u8, hidden: &Hidden) -> Result<Fault, AllocError>
+    ensures { IfOk result (λ f. f ≡ fault number hidden.now.token.used hidden.now.token.text) }
 {
-    fault_of(number, token.used, token)
+    fault_of(number, hidden.used(), hidden)
 }
 
 /// Fault 7, of a lone quote.
-pub(crate) fn lone_quote(token: &Token) -> Result<Fault, AllocError>
-    ensures { IfOk result (λ f. f ≡ fault 7 token.now.at token.now.text) }
+pub(crate) fn lone_quote(hidden: &Hidden) -> Result<Fault, AllocError>
+    ensures { IfOk result (λ f. f ≡ fault 7 hidden.now.token.at hidden.now.token.text) }
 {
-    fault_of(7, token.at, token)
+    fault_of(7, hidden.at(), hidden)
 }

@@ -1,7 +1,7 @@
 // Macro replacement on the standard's examples.
-use crate::{Env, Expanded, expand};
-use ppmacro::{Table, define, undef};
-use pptext::{Directive, Fault, Memory, Place, Spelling, Token, read_source};
+use crate::{Env, Piece, Run, expand};
+use ppmacro::{Hidden, Table, define, undef};
+use pptext::{Directive, Fault, Memory, Place, Source, Spelling, Token, read_source};
 use std::alloc::{AllocError, Global};
 use std::process::Abort;
 use std::test::Fail;
@@ -21,11 +21,11 @@ fn env(alloc: Global) -> Result<Env, AllocError> {
 }
 
 /// What a line of `#define` or `#undef` makes of a table.
-fn direct(
+fn direct<'a>(
     alloc: Global,
-    table: &mut Table,
+    table: &mut Table<'a>,
     directive: Directive,
-    line: &[Token],
+    line: &'a [Token],
 ) -> Result<Result<(), Fault>, Memory> {
     let [hash, _name, rest @ ..] = line else {
         return Ok(Ok(()));
@@ -36,21 +36,42 @@ fn direct(
     define(alloc, table, hash.at, rest)
 }
 
-/// What the lines behind the last directive of a text are expanded to.
-fn expanded(rt: &impl Abort, alloc: Global, env: &Env, text: &[u8]) -> Result<Expanded, Fail> {
-    assert!(rt; text.len() <= 16_777_216);
-    let source = read_source(alloc, text, 1)?;
-    let mut table = Table::new(alloc)?;
+/// The tokens that passed, and the fault that ended the list, if one did.
+#[derive(Drop)]
+struct Outcome {
+    tokens: Vec<Token>,
+    fault: Option<Fault>,
+}
+
+/// Puts the macros of a file's lines into a table. The tokens behind the last of them.
+fn directed<'a>(
+    rt: &impl Abort,
+    alloc: Global,
+    table: &mut Table<'a>,
+    source: &'a Source,
+) -> Result<&'a [Token], Fail> {
     let mut behind = 0;
     for line in source.lines() {
         if let Some(directive) = line.directive {
             let tokens = source.tokens().get(line.start..line.end).ok_or("no line")?;
-            assert!(rt; direct(alloc, &mut table, directive, tokens)?.is_ok());
+            assert!(rt; direct(alloc, table, directive, tokens)?.is_ok());
             behind = line.end;
         }
     }
-    let tokens = source.tokens().get(behind..).ok_or("no lines")?;
-    Ok(expand(alloc, &table, env, tokens)?)
+    Ok(source.tokens().get(behind..).ok_or("no lines")?)
+}
+
+/// What the lines behind the last directive of a text are expanded to.
+fn expanded(rt: &impl Abort, alloc: Global, env: &Env, text: &[u8]) -> Result<Outcome, Fail> {
+    assert!(rt; text.len() <= 16_777_216);
+    let source = read_source(alloc, text, 1)?;
+    let mut table = Table::new(alloc)?;
+    let tokens = directed(rt, alloc, &mut table, &source)?;
+    let expanded = expand(alloc, &table, env, tokens)?;
+    Ok(Outcome {
+        tokens: expanded.tokens.to_vec(alloc)?,
+        fault: expanded.fault,
+    })
 }
 
 /// That these tokens are spelled as those of a text.
@@ -336,6 +357,99 @@ fn keeps_places_and_marks(rt: HostRuntime) -> Result<(), Fail> {
     assert_places(&rt, alloc, &env, text, &[(b"3", true, 1, 11, 3, 1)])?;
     env.shift = -2;
     assert_places(&rt, alloc, &env, text, &[(b"1", true, 1, 11, 3, 1)])
+}
+
+#[test]
+fn keeps_the_mark_of_what_vanished(rt: HostRuntime) -> Result<(), Fail> {
+    let alloc = rt.alloc();
+    let env = env(alloc)?;
+    let wanted: &[(&[u8], bool, u32, u32, u32, u32)] = &[
+        (b"[", true, 3, 1, 3, 1),
+        (b"]", true, 3, 4, 3, 4),
+        (b"-", false, 3, 5, 3, 5),
+    ];
+    for text in [
+        b"#define E\n\n[ E]-".as_slice(),
+        b"#define E F\n#define F\n[ E]-".as_slice(),
+    ] {
+        assert_places(&rt, alloc, &env, text, wanted)?;
+    }
+    Ok(())
+}
+
+/// Puts the spellings of tokens of the file behind a text, each with a mark of how it passed.
+fn push_shared(text: &mut Vec<u8>, tokens: &[Token]) -> Result<(), AllocError> {
+    for token in tokens {
+        text.push(b'.')?;
+        text.extend_from_slice(token.text.as_bytes())?;
+    }
+    Ok(())
+}
+
+/// The same of tokens in flight.
+fn push_made(text: &mut Vec<u8>, made: &[Hidden]) -> Result<(), AllocError> {
+    for hidden in made {
+        text.push(b'!')?;
+        text.extend_from_slice(hidden.text())?;
+    }
+    Ok(())
+}
+
+/// The spellings of a run's tokens by its parts: `.` before a token of the file that passed in a stretch, `!` before one
+/// that passed by itself.
+fn spelled_by_parts(alloc: Global, run: &Run) -> Result<Vec<u8>, AllocError> {
+    let mut text = Vec::new(alloc);
+    let (front, pieces, singles) = run.parts();
+    push_shared(&mut text, front)?;
+    for piece in pieces {
+        match piece {
+            Piece::Shared(stretch) => push_shared(&mut text, stretch.tokens())?,
+            Piece::Made(made) => push_made(&mut text, made.as_slice())?,
+        }
+    }
+    push_made(&mut text, singles)?;
+    Ok(text)
+}
+
+/// The same of what the lines behind the last directive of a text are expanded to.
+fn expanded_by_parts(rt: &impl Abort, alloc: Global, text: &[u8]) -> Result<Vec<u8>, Fail> {
+    assert!(rt; text.len() <= 16_777_216);
+    let source = read_source(alloc, text, 1)?;
+    let mut table = Table::new(alloc)?;
+    let tokens = directed(rt, alloc, &mut table, &source)?;
+    let expanded = expand(alloc, &table, &env(alloc)?, tokens)?;
+    Ok(spelled_by_parts(alloc, &expanded.tokens)?)
+}
+
+#[test]
+fn passes_stretches_of_the_file(rt: HostRuntime) -> Result<(), Fail> {
+    let parts = expanded_by_parts(&rt, rt.alloc(), b"#define X 1 + 2\na b X c X")?;
+    assert_eq!(rt; parts.as_slice(), b".a.b!1!+!2.c!1!+!2".as_slice());
+    let parts = expanded_by_parts(&rt, rt.alloc(), b"#define X 1 + 2\nX c")?;
+    assert_eq!(rt; parts.as_slice(), b"!1!+!2.c".as_slice());
+    Ok(())
+}
+
+/// Whether the lines behind the last directive of a text pass as they stand.
+fn passes_unchanged(rt: &impl Abort, alloc: Global, text: &[u8]) -> Result<bool, Fail> {
+    assert!(rt; text.len() <= 16_777_216);
+    let source = read_source(alloc, text, 1)?;
+    let mut table = Table::new(alloc)?;
+    let tokens = directed(rt, alloc, &mut table, &source)?;
+    let expanded = expand(alloc, &table, &env(alloc)?, tokens)?;
+    match expanded.tokens.unchanged() {
+        Some(same) => Ok(same.len() == tokens.len()),
+        None => Ok(false),
+    }
+}
+
+#[test]
+fn passes_what_names_no_macro_unchanged(rt: HostRuntime) -> Result<(), Fail> {
+    let alloc = rt.alloc();
+    assert!(rt; passes_unchanged(&rt, alloc, b"#define X 1\na b c")?);
+    assert!(rt; passes_unchanged(&rt, alloc, b"#define X 1\n")?);
+    assert!(rt; !passes_unchanged(&rt, alloc, b"#define X 1\na b X")?);
+    Ok(())
 }
 
 /// So many invocations, one in the argument of the other, around a text.

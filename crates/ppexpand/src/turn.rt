@@ -4,7 +4,8 @@ ghost use Rattle.std.specs.Option.{option_copied};
 ghost use Rattle.std.specs.FinSet as set;
 ghost use Rattle.ppmacro.specs.HideSets.{set_at, IsKnown, hiding, hidings, AllKnown, Keeps};
 ghost use Rattle.ppmacro.specs.Substituting.{ArgumentsKnown, arguments_in};
-ghost use Rattle.ppmacro.specs.Substitution.{substituted};
+ghost use Rattle.ppmacro.specs.Chains.{chains_of};
+ghost use Rattle.ppmacro.specs.Substitution.{substituted, substituted_by};
 ghost use Rattle.ppexpand.specs.Arguments.{gather, separators};
 ghost use Rattle.ppexpand.specs.Turn.{Replaced, macro_of, replaced_by, no_arguments, predefined_value, called, invoked, function_turn, macro_turn, turn, finished};
 ghost use Rattle.ppexpand.specs.Shown.{expanded_in, fitting_in, FittingKnown, ExpansionsKnown, call_in, CallKnown, turn_in, NextKnown, replaced_in};
@@ -13,39 +14,48 @@ use crate::arguments::{Gathered, fit, gather, separators};
 use crate::cursor::Cursor;
 use crate::env::Env;
 use crate::predefined::predefined_value;
-use crate::spellings::{at_use, is_lone_quote, is_open, lone_quote};
-use ppmacro::{Builtin, Hidden, HideSets, Macro, Set, Shape, Table, is_identifier, substitute};
+use crate::spellings::{at_use, is_open, is_quote, lone_quote};
+use ppmacro::{
+    Builtin, Chain, Hidden, HideSets, Macro, Set, Shape, Table, is_identifier, substitute,
+};
 use pptext::{Fault, Memory, Spelling, Token};
 use std::alloc::Global;
 
 /// An invocation of a function-like macro, which is taken out of its list.
 #[derive(Drop)]
-pub(crate) struct Invocation<'t> {
+pub(crate) struct Invocation<'t, 'x, 'a> {
     /// The macro's name.
-    pub(crate) head: Hidden,
-    pub(crate) replaced: &'t Macro,
+    pub(crate) head: Hidden<'x>,
+    pub(crate) replaced: &'t Macro<'a>,
     /// An argument for each parameter.
-    pub(crate) arguments: Vec<Vec<Hidden>>,
+    pub(crate) arguments: Vec<Vec<Hidden<'x>>>,
     /// The names that each token of the replacement gains.
     pub(crate) gain: Set,
 }
 
 /// What the next token of a list called for, once the list is what is left.
 #[derive(Drop)]
-pub(crate) enum Next<'t> {
+pub(crate) enum Next<'t, 'x, 'a> {
     /// There was none.
     Done,
     Refused(Fault),
     /// The token stands for itself.
-    Passes(Hidden),
+    Passes(Hidden<'x>),
     /// It is replaced in the list.
     Replaced,
     /// It is to be replaced once the arguments are expanded.
-    Called(Invocation<'t>),
+    Called(Invocation<'t, 'x, 'a>),
+}
+
+/// The macro that a token in flight names.
+fn macro_of<'t, 'a>(table: &'t Table<'a>, head: &Hidden) -> Option<&'t Macro<'a>>
+    ensures { option_copied result ≡ macro_of table.now head.now.token }
+{
+    macro_at(table, head.word())
 }
 
 /// The macro that a token names.
-fn macro_of<'t>(table: &'t Table, token: &Token) -> Option<&'t Macro>
+pub(crate) fn macro_at<'t, 'a>(table: &'t Table<'a>, token: &Token) -> Option<&'t Macro<'a>>
     ensures { option_copied result ≡ macro_of table.now token.now }
 {
     if is_identifier(token) {
@@ -55,29 +65,36 @@ fn macro_of<'t>(table: &'t Table, token: &Token) -> Option<&'t Macro>
     }
 }
 
-/// Puts what an invocation is replaced by before the rest of the list, or raises fault 19 or 20.
-fn replace(
+/// Puts what an invocation of the macro with these chains is replaced by before the rest of the list, or raises fault 19 or 20.
+fn replace<'x, 'a: 'x>(
     alloc: Global,
     sets: &mut HideSets,
-    replaced: &Macro,
-    given: &[Vec<Hidden>],
-    expanded: &[Option<Vec<Hidden>>],
+    chains: &[Chain<'a>],
+    given: &[Vec<Hidden<'x>>],
+    expanded: &[Option<Vec<Hidden<'x>>>],
     gain: Set,
-    head: &Token,
-    list: &mut Cursor,
+    head: &Hidden,
+    list: &mut Cursor<'x>,
 ) -> Result<Result<(), Fault>, Memory>
     requires arguments { ArgumentsKnown sets.old given.now expanded.now }
     requires gain { IsKnown sets.old gain }
     requires list { AllKnown sets.old list.old }
-    ensures is { IfOk result (λ r. replaced_in sets.new list.new r ≡ replaced_by (substituted replaced.now (arguments_in sets.old given.now expanded.now) (set_at sets.old gain) head.now.used head.now.space) (hidings sets.old list.old)) }
+    ensures is { IfOk result (λ r. replaced_in sets.new list.new r ≡ replaced_by (substituted_by chains.now (arguments_in sets.old given.now expanded.now) (set_at sets.old gain) head.now.token.used head.now.token.space) (hidings sets.old list.old)) }
     ensures known { IfOk result (λ r. OnOk r (AllKnown sets.new list.new)) }
     ensures keeps { Keeps sets.old sets.new }
 {
     match substitute(
-        alloc, replaced, given, expanded, gain, head.used, head.space, sets,
+        alloc,
+        chains,
+        given,
+        expanded,
+        gain,
+        head.used(),
+        head.space(),
+        sets,
     )? {
         Ok((tokens, pending)) => {
-            list.mark_next(pending)?;
+            list.mark_next(pending);
             list.push_all(tokens)?;
             Ok(Ok(()))
         }
@@ -86,69 +103,70 @@ fn replace(
 }
 
 /// The turn of a predefined name.
-fn predefined_turn<'t>(
+fn predefined_turn<'t, 'x, 'a: 'x>(
     alloc: Global,
     env: &Env,
     sets: &mut HideSets,
-    head: Hidden,
+    head: Hidden<'x>,
     builtin: Builtin,
-    list: &mut Cursor,
-) -> Result<Next<'t>, Memory>
+    list: &mut Cursor<'x>,
+) -> Result<Next<'t, 'x, 'a>, Memory>
     requires head { IsKnown sets.old head.hide }
     requires list { AllKnown sets.old list.old }
-    ensures is { IfOk result (λ n. turn_in sets.new list.new n ≡ Replaced (predefined_value builtin env.now (hiding sets.old head) (set.insert (set_at sets.old head.hide) head.token.text) ∷ hidings sets.old list.old)) }
+    ensures is { IfOk result (λ n. turn_in sets.new list.new n ≡ Replaced (predefined_value builtin env.now (hiding sets.old head.entry) (set.insert (set_at sets.old head.entry.hide) head.entry.token.text) ∷ hidings sets.old list.old)) }
     ensures known { IfOk result (λ n. NextKnown sets.new list.new n) }
     ensures keeps { Keeps sets.old sets.new }
 {
-    let gain = sets.with(head.hide, head.token.text.as_bytes())?;
+    let gain = sets.with(head.hide(), head.text())?;
     list.push(predefined_value(alloc, builtin, env, &head, gain)?)?;
     Ok(Next::Replaced)
 }
 
 /// The turn of an object-like macro's name.
-fn object_turn<'t>(
+fn object_turn<'t, 'x, 'a: 'x>(
     alloc: Global,
     sets: &mut HideSets,
-    head: Hidden,
-    replaced: &Macro,
-    list: &mut Cursor,
-) -> Result<Next<'t>, Memory>
+    head: Hidden<'x>,
+    replaced: &Macro<'a>,
+    list: &mut Cursor<'x>,
+) -> Result<Next<'t, 'x, 'a>, Memory>
     requires head { IsKnown sets.old head.hide }
     requires list { AllKnown sets.old list.old }
-    ensures is { IfOk result (λ n. turn_in sets.new list.new n ≡ replaced_by (substituted replaced.now no_arguments (set.insert (set_at sets.old head.hide) head.token.text) head.token.used head.token.space) (hidings sets.old list.old)) }
+    ensures is { IfOk result (λ n. turn_in sets.new list.new n ≡ replaced_by (substituted replaced.now no_arguments (set.insert (set_at sets.old head.entry.hide) head.entry.token.text) head.entry.token.used head.entry.token.space) (hidings sets.old list.old)) }
     ensures known { IfOk result (λ n. NextKnown sets.new list.new n) }
     ensures keeps { Keeps sets.old sets.new }
 {
-    let gain = sets.with(head.hide, head.token.text.as_bytes())?;
-    match replace(alloc, sets, replaced, &[], &[], gain, &head.token, list)? {
+    let gain = sets.with(head.hide(), head.text())?;
+    let chains = replaced.chains(alloc)?;
+    match replace(alloc, sets, chains.as_slice(), &[], &[], gain, &head, list)? {
         Ok(()) => Ok(Next::Replaced),
         Err(fault) => Ok(Next::Refused(fault)),
     }
 }
 
 /// The turn of an invocation whose `)` is found.
-fn called<'t>(
+fn called<'t, 'x, 'a: 'x>(
     sets: &mut HideSets,
-    head: Hidden,
-    replaced: &'t Macro,
-    arguments: Option<Vec<Vec<Hidden>>>,
+    head: Hidden<'x>,
+    replaced: &'t Macro<'a>,
+    arguments: Option<Vec<Vec<Hidden<'x>>>>,
     close: &Hidden,
     list: &Cursor,
-) -> Result<Next<'t>, Memory>
+) -> Result<Next<'t, 'x, 'a>, Memory>
     requires head { IsKnown sets.old head.hide }
     requires arguments { FittingKnown sets.old arguments }
     requires close { IsKnown sets.old close.now.hide }
     requires list { AllKnown sets.old list.now }
-    ensures is { IfOk result (λ n. turn_in sets.new list.now n ≡ called (hiding sets.old head) replaced.now (fitting_in sets.old arguments) (hiding sets.old close.now) (hidings sets.old list.now)) }
+    ensures is { IfOk result (λ n. turn_in sets.new list.now n ≡ called (hiding sets.old head.entry) replaced.now (fitting_in sets.old arguments.entry) (hiding sets.old close.now) (hidings sets.old list.now)) }
     ensures known { IfOk result (λ n. NextKnown sets.new list.now n) }
     ensures keeps { Keeps sets.old sets.new }
 {
     let _behind = list;
     let Some(arguments) = arguments else {
-        return Ok(Next::Refused(at_use(18, &head.token)?));
+        return Ok(Next::Refused(at_use(18, &head)?));
     };
-    let both = sets.meet(head.hide, close.hide)?;
-    let gain = sets.with(both, head.token.text.as_bytes())?;
+    let both = sets.meet(head.hide(), close.hide())?;
+    let gain = sets.with(both, head.text())?;
     Ok(Next::Called(Invocation {
         head,
         replaced,
@@ -158,18 +176,18 @@ fn called<'t>(
 }
 
 /// The turn of a function-like macro's name, behind which `(` stands.
-fn invoked<'t>(
+fn invoked<'t, 'x, 'a: 'x>(
     alloc: Global,
     sets: &mut HideSets,
-    head: Hidden,
-    replaced: &'t Macro,
+    head: Hidden<'x>,
+    replaced: &'t Macro<'a>,
     names: &[Spelling],
     variadic: bool,
-    list: &mut Cursor,
-) -> Result<Next<'t>, Memory>
+    list: &mut Cursor<'x>,
+) -> Result<Next<'t, 'x, 'a>, Memory>
     requires head { IsKnown sets.old head.hide }
     requires list { AllKnown sets.old list.old }
-    ensures is { IfOk result (λ n. turn_in sets.new list.new n ≡ invoked (hiding sets.old head) replaced.now names.now variadic (gather 0 (separators names.now variadic) (hidings sets.old list.old))) }
+    ensures is { IfOk result (λ n. turn_in sets.new list.new n ≡ invoked (hiding sets.old head.entry) replaced.now names.now variadic (gather 0 (separators names.now variadic) (hidings sets.old list.old))) }
     ensures known { IfOk result (λ n. NextKnown sets.new list.new n) }
     ensures keeps { Keeps sets.old sets.new }
 {
@@ -178,31 +196,31 @@ fn invoked<'t>(
             let fitting = fit(alloc, arguments, names, variadic);
             called(sets, head, replaced, fitting, &close, list)
         }
-        Gathered::Quoted(quote) => Ok(Next::Refused(lone_quote(&quote.token)?)),
-        Gathered::Unclosed => Ok(Next::Refused(at_use(17, &head.token)?)),
+        Gathered::Quoted(quote) => Ok(Next::Refused(lone_quote(&quote)?)),
+        Gathered::Unclosed => Ok(Next::Refused(at_use(17, &head)?)),
     }
 }
 
 /// The turn of a function-like macro's name.
-fn function_turn<'t>(
+fn function_turn<'t, 'x, 'a: 'x>(
     alloc: Global,
     sets: &mut HideSets,
-    head: Hidden,
-    replaced: &'t Macro,
+    head: Hidden<'x>,
+    replaced: &'t Macro<'a>,
     names: &[Spelling],
     variadic: bool,
-    list: &mut Cursor,
-) -> Result<Next<'t>, Memory>
+    list: &mut Cursor<'x>,
+) -> Result<Next<'t, 'x, 'a>, Memory>
     requires head { IsKnown sets.old head.hide }
     requires list { AllKnown sets.old list.old }
-    ensures is { IfOk result (λ n. turn_in sets.new list.new n ≡ function_turn (hiding sets.old head) replaced.now names.now variadic (hidings sets.old list.old)) }
+    ensures is { IfOk result (λ n. turn_in sets.new list.new n ≡ function_turn (hiding sets.old head.entry) replaced.now names.now variadic (hidings sets.old list.old)) }
     ensures known { IfOk result (λ n. NextKnown sets.new list.new n) }
     ensures keeps { Keeps sets.old sets.new }
 {
     let Some(next) = list.next() else {
         return Ok(Next::Passes(head));
     };
-    if is_open(&next.token) {
+    if is_open(&next) {
         return invoked(alloc, sets, head, replaced, names, variadic, list);
     }
     list.push(next)?;
@@ -210,22 +228,24 @@ fn function_turn<'t>(
 }
 
 /// The turn of a macro's name.
-fn macro_turn<'t>(
+fn macro_turn<'t, 'x, 'a: 'x>(
     alloc: Global,
     env: &Env,
     sets: &mut HideSets,
-    head: Hidden,
-    replaced: &'t Macro,
-    list: &mut Cursor,
-) -> Result<Next<'t>, Memory>
+    head: Hidden<'x>,
+    replaced: &'t Macro<'a>,
+    list: &mut Cursor<'x>,
+) -> Result<Next<'t, 'x, 'a>, Memory>
     requires head { IsKnown sets.old head.hide }
     requires list { AllKnown sets.old list.old }
-    ensures is { IfOk result (λ n. turn_in sets.new list.new n ≡ macro_turn env.now (hiding sets.old head) (hidings sets.old list.old) replaced.now replaced.now.shape) }
+    ensures is { IfOk result (λ n. turn_in sets.new list.new n ≡ macro_turn env.now (hiding sets.old head.entry) (hidings sets.old list.old) replaced.now replaced.now.shape) }
     ensures known { IfOk result (λ n. NextKnown sets.new list.new n) }
     ensures keeps { Keeps sets.old sets.new }
 {
     match &replaced.definition().shape {
-        Shape::Predefined(builtin) => predefined_turn(alloc, env, sets, head, *builtin, list),
+        Shape::Predefined(builtin) => {
+            return predefined_turn(alloc, env, sets, head, *builtin, list);
+        }
         Shape::ObjectLike => object_turn(alloc, sets, head, replaced, list),
         Shape::FunctionLike {
             parameters,
@@ -238,13 +258,13 @@ fn macro_turn<'t>(
 }
 
 /// Takes the next token of a list, and what belongs to its invocation; a replacement is put before the rest.
-pub(crate) fn next_turn<'t>(
+pub(crate) fn next_turn<'t, 'x, 'a: 'x>(
     alloc: Global,
-    table: &'t Table,
+    table: &'t Table<'a>,
     env: &Env,
     sets: &mut HideSets,
-    list: &mut Cursor,
-) -> Result<Next<'t>, Memory>
+    list: &mut Cursor<'x>,
+) -> Result<Next<'t, 'x, 'a>, Memory>
     requires { AllKnown sets.old list.old }
     ensures is { IfOk result (λ n. turn_in sets.new list.new n ≡ turn table.now env.now (hidings sets.old list.old)) }
     ensures known { IfOk result (λ n. NextKnown sets.new list.new n) }
@@ -253,27 +273,29 @@ pub(crate) fn next_turn<'t>(
     let Some(head) = list.next() else {
         return Ok(Next::Done);
     };
-    if is_lone_quote(&head.token) {
-        return Ok(Next::Refused(lone_quote(&head.token)?));
+    if is_quote(&head) {
+        return Ok(Next::Refused(lone_quote(&head)?));
     }
-    if sets.has(head.hide, head.token.text.as_bytes()) {
+    let Some(replaced) = macro_of(table, &head) else {
+        return Ok(Next::Passes(head));
+    };
+    if sets.has(head.hide(), head.text()) {
         return Ok(Next::Passes(head));
     }
-    match macro_of(table, &head.token) {
-        Some(replaced) => macro_turn(alloc, env, sets, head, replaced, list),
-        None => Ok(Next::Passes(head)),
-    }
+    macro_turn(alloc, env, sets, head, replaced, list)
 }
 
-/// Replaces an invocation whose arguments are expanded, before the rest of the list.
-pub(crate) fn finish(
+/// Replaces an invocation whose arguments are expanded, before the rest of the list. The chains are its macro's.
+pub(crate) fn finish<'x, 'a: 'x>(
     alloc: Global,
     sets: &mut HideSets,
-    call: &Invocation,
-    expanded: &[Option<Vec<Hidden>>],
-    list: &mut Cursor,
+    call: &Invocation<'_, 'x, 'a>,
+    chains: &[Chain<'a>],
+    expanded: &[Option<Vec<Hidden<'x>>>],
+    list: &mut Cursor<'x>,
 ) -> Result<Result<(), Fault>, Memory>
     requires call { CallKnown sets.old call.now }
+    requires chains { chains.now ≡ chains_of call.now.replaced.now }
     requires expanded { ExpansionsKnown sets.old expanded.now }
     requires list { AllKnown sets.old list.old }
     ensures is { IfOk result (λ r. replaced_in sets.new list.new r ≡ finished (call_in sets.old call.now list.old) (expanded_in sets.old expanded.now)) }
@@ -281,15 +303,6 @@ pub(crate) fn finish(
     ensures keeps { Keeps sets.old sets.new }
 {
     let given = call.arguments.as_slice();
-    let head = &call.head.token;
-    replace(
-        alloc,
-        sets,
-        call.replaced,
-        given,
-        expanded,
-        call.gain,
-        head,
-        list,
-    )
+    let head = &call.head;
+    replace(alloc, sets, chains, given, expanded, call.gain, head, list)
 }

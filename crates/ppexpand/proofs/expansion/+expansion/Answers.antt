@@ -1,4 +1,4 @@
-use Rattle.std.proofs.Common.{◌≡◌, ◌∙◌, ◌∷◌, ◌++◌, [], ◌+◌, ◌<◌, drop, length, get_or, Ok, Err, Some, None, true, false, sym, ap, subst, append-nil, arith, rules}
+use Rattle.std.proofs.Common.{◌≡◌, ◌∙◌, ◌∷◌, ◌++◌, [], ◌+◌, ◌<◌, drop, length, get_or, Ok, Err, Some, None, true, false, refl, sym, ap, subst, append-nil, arith, rules}
 use Rattle.std.proofs.lemmas.List.{map-append}
 use Rattle.ppmacro.specs.HideSets.{hiding, hidings, AllKnown}
 use Rattle.ppmacro.specs.Chains.{chains_of}
@@ -9,7 +9,9 @@ use Rattle.ppexpand.specs.Expansion.{ExpandsArguments, done, refused, passes, re
 use Rattle.ppexpand.specs.Shown.{turn_in, NextKnown, replaced_in, call_in, expanded_in, expansions_in, given_in, ExpansionsKnown, ExpandsArgument, deep}
 use Rattle.ppexpand.proofs.Keeping.{call_in-keeps, call_known-keeps, given_known-keeps, expanded-keeps, expanded_known-keeps, expanded_known-push, expanded_in-push}
 use Rattle.ppexpand.proofs.ArgumentLemmas.{arguments_first, argument_expands, argument_raises, known-item, rest-unused, rest-used, rest-end}
-use Rattle.ppexpand.proofs.Follows.{advances_falls, ArgumentsFollow, arguments_unused, arguments_used, arguments_refused, arguments_end}
+use Rattle.ppexpand.specs.Expansion.{ExpandsTo}
+use Rattle.ppexpand.proofs.Skipping.{plain-expands, next-known, more-known, follows_skip, skip_falls}
+use Rattle.ppexpand.proofs.Follows.{Follows, follows_on, follows_end, advances_falls, ArgumentsFollow, arguments_unused, arguments_used, arguments_refused, arguments_end}
 use Rattle.ppexpand.proofs.expansion.+expansion.Goals as goal
 
 -- ---- one turn
@@ -33,18 +35,18 @@ advance-returns-in-Refused-clause-passed_known m c = known-keeps _ c.in_ok-next_
 pub advance-returns-in-Passes-clause-on : goal.advance-returns-in-Passes-clause-on
 advance-returns-in-Passes-clause-on m c =
     let s = c.next_turn.new.sets in
-    let passed = c.args.passed.now.items in
+    let passed = c.args.passed.now in
     let head = c.in-Passes.head in
     let t : turn c.args.table.now c.args.env.now (hidings c.args.sets.now c.args.list.now) ≡ Passes (hiding s head) (hidings s c.next_turn.new.list) = sym (ap (turn_in s c.next_turn.new.list) (sym c.in-Passes.is) ∙ c.in_ok-next_turn.ensures.is) in
-    let shown : hidings s c.push_passed.new.passed.items ≡ hidings c.args.sets.now passed ++ hiding s head ∷ [] =
-    ap (hidings s) c.in_ok-push_passed-in-Passes.ensures ∙ map-append (hiding s) passed (head ∷ []) ∙ ap (λ hs. hs ++ hiding s head ∷ []) (hidings-keeps passed c.in_ok-next_turn.ensures.keeps c.requires.passed_known) in
+    let shown : hidings s c.push.new.self ≡ hidings c.args.sets.now passed ++ hiding s head ∷ [] =
+    ap (hidings s) c.in_ok-push-in-Passes.ensures ∙ map-append (hiding s) passed (head ∷ []) ∙ ap (λ hs. hs ++ hiding s head ∷ []) (hidings-keeps passed c.in_ok-next_turn.ensures.keeps c.requires.passed_known) in
     (hiding s head ∷ [], shown, record { turn = λ n out d. passes t d })
 
 pub advance-returns-in-Passes-clause-passed_known : goal.advance-returns-in-Passes-clause-passed_known
 advance-returns-in-Passes-clause-passed_known m c =
     let s = c.next_turn.new.sets in
     let known = subst (NextKnown s c.next_turn.new.list) c.in-Passes.is c.in_ok-next_turn.ensures.known in
-    subst (AllKnown s) (sym c.in_ok-push_passed-in-Passes.ensures) (known-append c.args.passed.now.items (c.in-Passes.head ∷ []) (known-keeps _ c.in_ok-next_turn.ensures.keeps c.requires.passed_known) (record { each = (known.0, tt) }))
+    subst (AllKnown s) (sym c.in_ok-push-in-Passes.ensures) (known-append c.args.passed.now (c.in-Passes.head ∷ []) (known-keeps _ c.in_ok-next_turn.ensures.keeps c.requires.passed_known) (record { each = (known.0, tt) }))
 
 pub advance-returns-in-Replaced-clause-on : goal.advance-returns-in-Replaced-clause-on
 advance-returns-in-Replaced-clause-on m c =
@@ -102,6 +104,9 @@ advance-returns-in-Err-2-clause-passed_known m c = known-keeps _ (keeps-after (k
 pub advance-returns-in-Err-2-clause-keeps : goal.advance-returns-in-Err-2-clause-keeps
 advance-returns-in-Err-2-clause-keeps m c = keeps-after (keeps-after c.in_ok-next_turn.ensures.keeps c.in_ok-fault-in-Called.ensures.keeps) c.in_ok-fault-in-Ok.ensures.keeps
 
+pub advance-returns-clause-keeps : goal.advance-returns-clause-keeps
+advance-returns-clause-keeps m c = keeps-after (keeps-after c.in_ok-next_turn.ensures.keeps c.in_ok-fault-in-Called.ensures.keeps) c.in_ok-fault-in-Ok.ensures.keeps
+
 pub advance-returns-clause-on : goal.advance-returns-clause-on
 advance-returns-clause-on m c =
     let s = c.next_turn.new.sets in
@@ -125,23 +130,32 @@ advance-returns-clause-passed_known m c = known-keeps _ (keeps-after (keeps-afte
 
 pub expand_argument-returns-then-level-ge-DEEPEST-clause-is : goal.expand_argument-returns-then-level-ge-DEEPEST-clause-is
 expand_argument-returns-then-level-ge-DEEPEST-clause-is m c =
-    subst (λ f. ExpandsArgument c.args.table.now c.args.env.now c.args.level c.args.head.now (hidings c.args.sets.now c.args.argument.now) (Err f)) (sym c.in_ok-at_use.ensures) (deep (omega (arith, c.if-level-ge-DEEPEST.true)))
+    subst (λ f. ExpandsArgument c.args.table.now c.args.env.now c.args.level c.args.head.now.token (hidings c.args.sets.now c.args.argument.now) (Err f)) (sym c.in_ok-at_use.ensures) (deep (omega (arith, c.if-level-ge-DEEPEST.true)))
+
+pub expand_argument-returns-then-all_pass-clause-is : goal.expand_argument-returns-then-all_pass-clause-is
+expand_argument-returns-then-all_pass-clause-is m c =
+    let s = c.args.sets.now in
+    let list = c.args.argument.now in
+    let same : c.in_ok-copy.copy.items ≡ list = c.in_ok-copy.ensures.items_if_clones_equal (λ x y h. search rules) in
+    subst (λ hs. ExpandsArgument c.args.table.now c.args.env.now c.args.level c.args.head.now.token (hidings s list) (Ok (hidings s hs))) (sym same)
+    (argument_expands c.args.table.now c.args.env.now c.args.level c.args.head.now.token (hidings s list) (hidings s list) None (omega (arith, c.if-level-ge-DEEPEST.false)) refl (plain-expands c.args.table.now c.args.env.now (c.args.level + 1) s list (c.all_pass.ensures c.if-all_pass.true)))
 
 pub expand_argument-returns-in-Some-clause-is : goal.expand_argument-returns-in-Some-clause-is
 expand_argument-returns-in-Some-clause-is m c =
     let s = c.args.sets.now in
-    let same : c.in_ok-from_clones.field-0.items ≡ c.args.argument.now = c.in_ok-from_clones.ensures.items_if_clones_equal (λ x y h. search rules) in
+    let same : c.in_ok-copy.copy.items ≡ c.args.argument.now = c.in_ok-copy.ensures.items_if_clones_equal (λ x y h. search rules) in
     let list : hidings s c.new-list.result ≡ hidings s c.args.argument.now = ap (hidings s) (c.new-list.ensures ∙ same) in
-    subst (λ l. ExpandsArgument c.args.table.now c.args.env.now c.args.level c.args.head.now l (Err c.in-Some.fault)) list
-    (argument_raises c.args.table.now c.args.env.now c.args.level c.args.head.now _ _ _ c.in-Some.fault (omega (arith, c.if-level-ge-DEEPEST.false)) c.in-Some.is c.in_ok-tokens.ensures.outcome)
+    subst (λ l. ExpandsArgument c.args.table.now c.args.env.now c.args.level c.args.head.now.token l (Err c.in-Some.fault)) list
+    (argument_raises c.args.table.now c.args.env.now c.args.level c.args.head.now.token _ _ _ c.in-Some.fault (omega (arith, c.if-level-ge-DEEPEST.false)) c.in-Some.is c.in_ok-tokens.ensures.outcome)
 
-pub expand_argument-returns-in-None-clause-is : goal.expand_argument-returns-in-None-clause-is
-expand_argument-returns-in-None-clause-is m c =
+pub expand_argument-returns-clause-is : goal.expand_argument-returns-clause-is
+expand_argument-returns-clause-is m c =
     let s = c.args.sets.now in
-    let same : c.in_ok-from_clones.field-0.items ≡ c.args.argument.now = c.in_ok-from_clones.ensures.items_if_clones_equal (λ x y h. search rules) in
+    let same : c.in_ok-copy.copy.items ≡ c.args.argument.now = c.in_ok-copy.ensures.items_if_clones_equal (λ x y h. search rules) in
     let list : hidings s c.new-list.result ≡ hidings s c.args.argument.now = ap (hidings s) (c.new-list.ensures ∙ same) in
-    subst (λ l. ExpandsArgument c.args.table.now c.args.env.now c.args.level c.args.head.now l (Ok (hidings c.expand_list.new.sets c.in_ok-tokens.field-0.tokens.items))) list
-    (argument_expands c.args.table.now c.args.env.now c.args.level c.args.head.now _ _ _ (omega (arith, c.if-level-ge-DEEPEST.false)) c.in-None.is c.in_ok-tokens.ensures.outcome)
+    subst (λ l. ExpandsArgument c.args.table.now c.args.env.now c.args.level c.args.head.now.token l (Ok (hidings c.expand_list.new.sets c.in_ok-into_vec-in-None.field-0.items))) list
+    (subst (λ ts. ExpandsArgument c.args.table.now c.args.env.now c.args.level c.args.head.now.token (hidings s c.new-list.result) (Ok (hidings c.expand_list.new.sets ts))) (sym c.in_ok-into_vec-in-None.ensures)
+    (argument_expands c.args.table.now c.args.env.now c.args.level c.args.head.now.token _ _ _ (omega (arith, c.if-level-ge-DEEPEST.false)) c.in-None.is c.in_ok-tokens.ensures.outcome))
 
 pub expand_arguments-loop-parameter-init : goal.expand_arguments-loop-parameter-init
 expand_arguments-loop-parameter-init m c = record {
@@ -160,7 +174,7 @@ expand_arguments-loop-parameter-preserved-then-not-uses_alone m c =
     let cs = chains_of c.args.call.now.replaced.now in
     let less : i < length vs = subst (λ xs. i < length xs) c.deref-argument-items.ensures.value c.loop-parameter-test.true in
     let is : c.argument-item.result ≡ get_or vs i c.argument-item.result = c.argument-item.is ∙ ap (λ xs. get_or xs i c.argument-item.result) c.deref-argument-items.ensures.value in
-    let unused : uses_alone i cs ≡ false = ap (uses_alone i) (sym c.chains.ensures) ∙ sym c.uses_alone.ensures ∙ c.if-not-uses_alone.true in
+    let unused : uses_alone i cs ≡ false = ap (uses_alone i) (sym c.requires.chains) ∙ sym c.uses_alone.ensures ∙ c.if-not-uses_alone.true in
     let next = rest-unused s vs cs i c.argument-item.result less is unused in
     let made = c.in_ok-push_expansion.ensures in
     let shown : expanded_in u c.push_expansion.new.expanded.items ≡ expanded_in u c.loop-parameter.expanded.items ++ None ∷ [] = ap (expanded_in u) made ∙ expanded_in-push u c.loop-parameter.expanded.items None in
@@ -199,7 +213,7 @@ expand_arguments-returns-in-Err-clause-is m c =
     let v = c.argument-item.result in
     let less : i < length vs = subst (λ xs. i < length xs) c.deref-argument-items.ensures.value c.loop-parameter-test.true in
     let is : c.argument-item.result ≡ get_or vs i c.argument-item.result = c.argument-item.is ∙ ap (λ xs. get_or xs i c.argument-item.result) c.deref-argument-items.ensures.value in
-    let is_used : uses_alone i cs ≡ true = ap (uses_alone i) (sym c.chains.ensures) ∙ sym c.uses_alone.ensures ∙ c.if-not-uses_alone.false in
+    let is_used : uses_alone i cs ≡ true = ap (uses_alone i) (sym c.requires.chains) ∙ sym c.uses_alone.ensures ∙ c.if-not-uses_alone.false in
     let next = rest-used s vs cs i v less is is_used in
     let argument : hidings u c.as_slice.result.now ≡ hidings s v.items = ap (hidings u) c.as_slice.ensures.value ∙ hidings-keeps v.items c.loop-parameter.invariant.keeps (known-item s vs i v less is c.requires.known.arguments) in
     let one : ExpandsArgument c.args.table.now c.args.env.now c.args.level c.args.call.now.head.token (hidings s v.items) (Err c.in-Err.fault) =
@@ -225,7 +239,7 @@ expand_arguments-loop-parameter-preserved m c =
     let keeps = c.in_ok-tokens.ensures.keeps in
     let less : i < length vs = subst (λ xs. i < length xs) c.deref-argument-items.ensures.value c.loop-parameter-test.true in
     let is : c.argument-item.result ≡ get_or vs i c.argument-item.result = c.argument-item.is ∙ ap (λ xs. get_or xs i c.argument-item.result) c.deref-argument-items.ensures.value in
-    let is_used : uses_alone i cs ≡ true = ap (uses_alone i) (sym c.chains.ensures) ∙ sym c.uses_alone.ensures ∙ c.if-not-uses_alone.false in
+    let is_used : uses_alone i cs ≡ true = ap (uses_alone i) (sym c.requires.chains) ∙ sym c.uses_alone.ensures ∙ c.if-not-uses_alone.false in
     let next = rest-used s vs cs i v less is is_used in
     let argument : hidings u c.as_slice.result.now ≡ hidings s v.items = ap (hidings u) c.as_slice.ensures.value ∙ hidings-keeps v.items c.loop-parameter.invariant.keeps (known-item s vs i v less is c.requires.known.arguments) in
     let one : ExpandsArgument c.args.table.now c.args.env.now c.args.level c.args.call.now.head.token (hidings s v.items) (Ok (hidings w c.in-Ok.tokens.items)) =
@@ -266,12 +280,46 @@ pub expand_list-loop-list-init : goal.expand_list-loop-list-init
 expand_list-loop-list-init m c = record {
   low = c.requires.level;
   list_known = c.requires.known;
-  passed_known = rw c.new-passed.ensures.items (record { each = tt });
+  passed_known = rw c.new-passed.ensures (record { each = tt });
   keeps = keeps-all c.args.sets.now;
-  follows = λ n out d. rw c.new-passed.ensures.items (n, d);
+  follows = λ n out d. rw c.new-passed.ensures (n, d);
 }
+
+pub expand_list-advance-requires : goal.expand_list-advance-requires
+expand_list-advance-requires m c = (
+  omega arith,
+  (
+    c.loop-list.invariant.low,
+    (
+      next-known c.loop-list.sets _ _ _ _ c.in_ok-skip.ensures c.loop-list.invariant.list_known,
+      more-known c.loop-list.sets _ _ _ _ c.in_ok-skip.ensures c.loop-list.invariant.list_known c.loop-list.invariant.passed_known,
+    ),
+  ),
+)
+
+pub expand_list-returns-in-Some-clause-outcome : goal.expand_list-returns-in-Some-clause-outcome
+expand_list-returns-in-Some-clause-outcome m c =
+    let end = rw c.in-Some.is at c.in_ok-fault.ensures.on in
+    let here = follows_skip c.args.table.now c.args.env.now c.args.level c.loop-list.sets (hidings c.args.sets.now c.args.list) _ _ _ _ c.in_ok-skip.ensures c.loop-list.invariant.follows in
+    subst (λ ts. ExpandsTo c.args.table.now c.args.env.now c.args.level (hidings c.args.sets.now c.args.list) (record { tokens = ts; fault = c.in-Some.fault })) (sym end.1)
+    (follows_end c.args.table.now c.args.env.now c.args.level (hidings c.args.sets.now c.args.list) _ _ c.in-Some.fault here end.0)
+
+pub expand_list-loop-list-preserved : goal.expand_list-loop-list-preserved
+expand_list-loop-list-preserved m c =
+    let step = rw c.in-None.is at c.in_ok-fault.ensures.on in
+    let here = follows_skip c.args.table.now c.args.env.now c.args.level c.loop-list.sets (hidings c.args.sets.now c.args.list) _ _ _ _ c.in_ok-skip.ensures c.loop-list.invariant.follows in
+    record {
+      low = c.loop-list.invariant.low;
+      list_known = rw c.in-None.is at c.in_ok-fault.ensures.list_known;
+      passed_known = c.in_ok-fault.ensures.passed_known;
+      keeps = keeps-after c.loop-list.invariant.keeps c.in_ok-fault.ensures.keeps;
+      follows = subst (λ ts. Follows c.args.table.now c.args.env.now c.args.level (hidings c.args.sets.now c.args.list) ts (hidings c.advance.new.sets c.advance.new.list)) (sym step.1)
+          (follows_on c.args.table.now c.args.env.now c.args.level (hidings c.args.sets.now c.args.list) _ _ _ step.0 here step.2);
+    }
 
 pub expand_list-loop-list-smaller : goal.expand_list-loop-list-smaller
 expand_list-loop-list-smaller m c =
     let step = rw c.in-None.is at c.in_ok-fault.ensures.on in
-    advances_falls c.args.table.now c.args.env.now c.args.level _ _ step.0 step.2
+    let after = advances_falls c.args.table.now c.args.env.now c.args.level _ _ step.0 step.2 in
+    let skipped = skip_falls c.args.table.now c.args.env.now c.args.level c.loop-list.sets _ _ _ _ c.in_ok-skip.ensures in
+    omega (arith, after, skipped)

@@ -1,7 +1,7 @@
 use Rattle.std.proofs.Common.{◌≤◌, ◌-◌, ◌+◌, ◌*◌, List, drop}
 use Rattle.ppmacro.specs.HideSets.{hidings, AllKnown, Keeps}
 use Rattle.ppmacro.specs.Chains.{chains_of}
-use Rattle.ppmacro.specs.declared.hide_sets.Hidden.{Hidden}
+use Rattle.ppmacro.specs.declared.flying.Hidden.{Hidden}
 use Rattle.ppexpand.specs.Turn.{wanted, to_expand}
 use Rattle.ppexpand.specs.Shown.{given_in, expanded_in, call_in, ExpansionsKnown}
 use Rattle.ppexpand.proofs.Follows.{Follows, ArgumentsFollow, turns_left}
@@ -24,9 +24,9 @@ abbrev pub invariant-expand_list-loop-list : goal.invariant-expand_list-loop-lis
 invariant-expand_list-loop-list l = record {
   low : l.level ≤ 256;
   list_known : AllKnown l.sets l.list;
-  passed_known : AllKnown l.sets l.passed.items;
+  passed_known : AllKnown l.sets l.passed;
   keeps : Keeps l.fn.sets l.sets;
-  follows : Follows l.table l.env l.level (hidings l.fn.sets l.fn.list) (hidings l.sets l.passed.items) (hidings l.sets l.list);
+  follows : Follows l.table l.env l.level (hidings l.fn.sets l.fn.list) (hidings l.sets l.passed) (hidings l.sets l.list);
 }
 
 abbrev pub decreases-expand_list-loop-list : goal.decreases-expand_list-loop-list

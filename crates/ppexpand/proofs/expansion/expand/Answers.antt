@@ -1,18 +1,35 @@
-use Rattle.std.proofs.Common.{◌≡◌, ◌∙◌, ap, subst, map, refl}
-use Rattle.ppmacro.specs.HideSets.{hidings}
+use Rattle.std.proofs.Common.{◌≡◌, ◌++◌, [], None, ◌∙◌, sym, ap, subst, map, refl, rules}
+use Rattle.std.proofs.lemmas.List.{nil_from_length}
+use Rattle.ppmacro.specs.HideSets.{hidings, AllKnown}
 use Rattle.ppmacro.specs.Substitution.{plain}
+use Rattle.ppmacro.specs.Substituting.{tokens_of}
 use Rattle.ppmacro.proofs.JoinLemmas.{tokens-in}
-use Rattle.ppexpand.specs.Expansion.{ExpandsTo}
+use Rattle.ppexpand.specs.Expansion.{ExpandsTo, ended}
 use Rattle.ppexpand.specs.Shown.{outcome_in}
+use Rattle.ppexpand.proofs.Skipping.{known-with_set, hidings-with_set, expands-nothing, expansion-behind}
 use Rattle.ppexpand.proofs.expansion.expand.Goals as goal
+
+pub expand_list-requires-clause-known : goal.expand_list-requires-clause-known
+expand_list-requires-clause-known c =
+    let s = c.in_ok-sets.sets in
+    subst (AllKnown s) (sym (c.over-list.ensures ∙ c.new-3.ensures)) (known-with_set s c.empty.result c.split_plain.result.1.now c.empty.ensures.known)
+
+pub returns-then-is_empty : goal.returns-then-is_empty
+returns-then-is_empty c =
+    let rest = c.split_plain.result.1.now in
+    let none : rest ≡ [] = nil_from_length rest (search rules) in
+    expansion-behind c.args.table.now c.args.env.now c.args.tokens.now c.split_plain.result.0.now rest _ (ended None) c.split_plain.ensures.laid_out c.split_plain.ensures.plain
+    (subst (λ ts. ExpandsTo c.args.table.now c.args.env.now 0 (map plain ts) (ended None)) (sym none) (expands-nothing c.args.table.now c.args.env.now 0))
+    (c.new-then-is_empty.ensures ∙ (λ i. c.split_plain.result.0.now ++ tokens_of (c.new.ensures i)))
+    refl
 
 pub returns : goal.returns
 returns c =
+    let s = c.in_ok-sets.sets in
     let t = c.expand_list.new.sets in
-    let start : hidings c.in_ok-sets.sets c.new-list.result ≡ map plain c.args.tokens.now = ap (hidings c.in_ok-sets.sets) c.new-list.ensures ∙ c.in_ok-with_empty_sets.ensures.is in
-    record {
-      outcome = outcome_in t c.in_ok-ended.ended;
-      expands = subst (λ l. ExpandsTo c.args.table.now c.args.env.now 0 l (outcome_in t c.in_ok-ended.ended)) start c.in_ok-ended.ensures.outcome;
-      passed = c.new-2.ensures ∙ c.in_ok-without_sets.ensures ∙ tokens-in t c.in_ok-ended.ended.tokens.items;
-      ended = refl;
-    }
+    let rest = c.split_plain.result.1.now in
+    let start : hidings s c.over-list.result ≡ map plain rest = ap (hidings s) (c.over-list.ensures ∙ c.new-3.ensures) ∙ hidings-with_set s c.empty.result rest c.empty.ensures.set in
+    expansion-behind c.args.table.now c.args.env.now c.args.tokens.now c.split_plain.result.0.now rest _ (outcome_in t c.in_ok-ended.ended) c.split_plain.ensures.laid_out c.split_plain.ensures.plain
+    (subst (λ l. ExpandsTo c.args.table.now c.args.env.now 0 l (outcome_in t c.in_ok-ended.ended)) start c.in_ok-ended.ensures.outcome)
+    (c.new-4.ensures ∙ (λ i. c.split_plain.result.0.now ++ tokens-in t c.in_ok-ended.ended.tokens i))
+    refl

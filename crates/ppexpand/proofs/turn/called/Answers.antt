@@ -12,7 +12,7 @@ returns-clause-is c =
     let s = c.args.sets.now in
     let head = c.args.head in
     let keeps = keeps-after c.in_ok-both.ensures.keeps c.in_ok-gain.ensures.keeps in
-    let gains : set_at c.with.new.self c.in_ok-gain.gain ≡ gain_of (set_at s head.hide) (set_at s c.args.close.now.hide) head.token.text = c.in_ok-gain.ensures.set ∙ (λ i. set.insert (c.in_ok-both.ensures.set i) (c.as_bytes.ensures i)) in
+    let gains : set_at c.with.new.self c.in_ok-gain.gain ≡ gain_of (set_at s head.hide) (set_at s c.args.close.now.hide) head.token.text = c.in_ok-gain.ensures.set ∙ (λ i. set.insert (c.in_ok-both.ensures.set i) (c.text.ensures i)) ∙ (λ i. gain_of (set_at s (c.hide.ensures i)) (set_at s (c.hide-2.ensures i)) head.token.text) in
     ap Called (call_made (record { head = head; replaced = c.args.replaced; arguments = c.in-Some.arguments; gain = c.in_ok-gain.gain }) c.args.list.now _ keeps c.requires.head (subst (FittingKnown s) c.in-Some.is c.requires.arguments) c.requires.list gains)
     ∙ ap (λ a. called (hiding s head) c.args.replaced.now (fitting_in s a) (hiding s c.args.close.now) (hidings s c.args.list.now)) (sym c.in-Some.is)
 

@@ -10,7 +10,7 @@ returns-clause-is c =
     let s = c.args.sets.now in
     let t = c.with.new.self in
     let keeps = c.in_ok-gain.ensures.keeps in
-    let gains : set_at t c.in_ok-gain.gain ≡ set.insert (set_at s c.args.head.hide) c.args.head.token.text = c.in_ok-gain.ensures.set ∙ ap (set.insert (set_at s c.args.head.hide)) c.as_bytes.ensures in
+    let gains : set_at t c.in_ok-gain.gain ≡ set.insert (set_at s c.args.head.hide) c.args.head.token.text = c.in_ok-gain.ensures.set ∙ (λ i. set.insert (set_at s (c.hide.ensures i)) (c.text.ensures i)) in
     let value : hiding t c.in_ok-predefined_value.field-0 ≡ predefined_value c.args.builtin c.args.env.now (hiding s c.args.head) (set.insert (set_at s c.args.head.hide) c.args.head.token.text) =
     c.in_ok-predefined_value.ensures.is t ∙ (λ i. predefined_value c.args.builtin c.args.env.now (hiding-keeps c.args.head keeps c.requires.head i) (gains i)) in
     let rest : hidings t c.args.list.now ≡ hidings s c.args.list.now = hidings-keeps c.args.list.now keeps c.requires.list in

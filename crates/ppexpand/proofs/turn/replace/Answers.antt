@@ -1,7 +1,9 @@
 use Rattle.std.proofs.Common.{◌≡◌, ◌∙◌, ◌++◌, sym, ap, subst}
 use Rattle.std.proofs.lemmas.List.{map-append}
-use Rattle.ppmacro.specs.HideSets.{hiding, hidings, AllKnown}
-use Rattle.ppmacro.specs.Substituting.{marked_in}
+use Rattle.ppmacro.specs.HideSets.{set_at, hiding, hidings, AllKnown}
+use Rattle.ppmacro.specs.Substitution.{substituted_by}
+use Rattle.ppmacro.specs.Substituting.{arguments_in, marked_in}
+use Rattle.ppexpand.proofs.Marks.{hidings-marked, known-marked}
 use Rattle.ppmacro.proofs.KeepLemmas.{hidings-keeps, known-keeps, known-append}
 use Rattle.ppexpand.specs.Turn.{Replaced, mark_next, replaced_by}
 use Rattle.ppexpand.proofs.turn.replace.Goals as goal
@@ -12,8 +14,8 @@ returns-in_ok-push_all-in-Ok-clause-is c =
     let t = c.substitute.new.sets in
     let list = c.args.list.now in
     let tokens = c.in-Ok.tokens.items in
-    let made = ap (marked_in t) (sym c.in-Ok.is) ∙ c.in_ok-tokens.ensures.is in
-    let marked : hidings t c.mark_next.new.self ≡ mark_next c.in-Ok.pending (hidings s list) = c.in_ok-mark_next-in-Ok.ensures.is t ∙ ap (mark_next c.in-Ok.pending) (hidings-keeps list c.in_ok-tokens.ensures.keeps c.requires.list) in
+    let made = ap (marked_in t) (sym c.in-Ok.is) ∙ c.in_ok-tokens.ensures.is ∙ (λ i. substituted_by c.args.chains.now (arguments_in s c.args.given.now c.args.expanded.now) (set_at s c.args.gain) (c.used.ensures i) (c.space.ensures i)) in
+    let marked : hidings t c.mark_next.new.self ≡ mark_next c.in-Ok.pending (hidings s list) = ap (hidings t) c.mark_next.ensures ∙ hidings-marked t c.in-Ok.pending list ∙ ap (mark_next c.in-Ok.pending) (hidings-keeps list c.in_ok-tokens.ensures.keeps c.requires.list) in
     let all : hidings t c.push_all.new.self ≡ hidings t tokens ++ mark_next c.in-Ok.pending (hidings s list) = ap (hidings t) c.in_ok-push_all-in-Ok.ensures ∙ map-append (hiding t) tokens c.mark_next.new.self ∙ ap (λ hs. hidings t tokens ++ hs) marked in
     ap Replaced all ∙ ap (λ r. replaced_by r (hidings s list)) made
 
@@ -21,9 +23,9 @@ pub returns-in_ok-push_all-in-Ok-clause-known : goal.returns-in_ok-push_all-in-O
 returns-in_ok-push_all-in-Ok-clause-known c =
     let t = c.substitute.new.sets in
     let tokens : AllKnown t c.in-Ok.tokens.items = rw c.in-Ok.is at c.in_ok-tokens.ensures.known in
-    let rest : AllKnown t c.mark_next.new.self = c.in_ok-mark_next-in-Ok.ensures.known t (known-keeps c.args.list.now c.in_ok-tokens.ensures.keeps c.requires.list) in
+    let rest : AllKnown t c.mark_next.new.self = subst (AllKnown t) (sym c.mark_next.ensures) (known-marked t c.in-Ok.pending c.args.list.now (known-keeps c.args.list.now c.in_ok-tokens.ensures.keeps c.requires.list)) in
     subst (AllKnown t) (sym c.in_ok-push_all-in-Ok.ensures) (known-append c.in-Ok.tokens.items c.mark_next.new.self tokens rest)
 
 pub returns-in-Err-clause-is : goal.returns-in-Err-clause-is
 returns-in-Err-clause-is c =
-    ap (λ r. replaced_by r (hidings c.args.sets.now c.args.list.now)) (ap (marked_in c.substitute.new.sets) (sym c.in-Err.is) ∙ c.in_ok-tokens.ensures.is)
+    ap (λ r. replaced_by r (hidings c.args.sets.now c.args.list.now)) (ap (marked_in c.substitute.new.sets) (sym c.in-Err.is) ∙ c.in_ok-tokens.ensures.is ∙ (λ i. substituted_by c.args.chains.now (arguments_in c.args.sets.now c.args.given.now c.args.expanded.now) (set_at c.args.sets.now c.args.gain) (c.used.ensures i) (c.space.ensures i)))

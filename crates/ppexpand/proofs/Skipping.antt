@@ -1,0 +1,169 @@
+-- Tokens that pass in a row.
+use Rattle.std.proofs.Common.{◌≡◌, ℕ, suc, ◌≤◌, Bool, true, false, not, ◌&&◌, List, [], ◌∷◌, ◌++◌, map, Option, Some, None, is_some, refl, sym, ap, ◌∙◌, subst, arith, append_assoc, append-nil, true≢false, if◌then◌else◌}
+use Rattle.std.specs.FinSet as set
+use Rattle.std.specs.FinMap as table
+use Rattle.std.specs.List.{AllByRecursion}
+use Rattle.std.proofs.lemmas.List.{map-append}
+use Rattle.pptext.specs.declared.tokens.Token.{Token}
+use Rattle.ppmacro.specs.Names.{Macros}
+use Rattle.ppmacro.specs.Spellings.{is_identifier}
+use Rattle.ppmacro.specs.Numbered.{Numbered}
+use Rattle.ppmacro.specs.HideSets.{set_at, IsKnown, Hiding, hiding, hidings, AllKnown}
+use Rattle.ppmacro.specs.Substitution.{plain}
+use Rattle.ppmacro.specs.Substituting.{tokens_of}
+use Rattle.ppmacro.proofs.KeepLemmas.{known-front, known-behind, known-append}
+use Rattle.ppmacro.specs.declared.flying.Hidden.{Hidden}
+use Rattle.ppmacro.specs.declared.macros.Definition.{Definition}
+use Rattle.ppexpand.specs.declared.env.Env.{Env}
+use Rattle.ppexpand.specs.Arguments.{is_lone_quote}
+use Rattle.ppexpand.specs.Turn.{Passes, named_turn, macro_of, turn}
+use Rattle.ppexpand.specs.Expansion.{Outcome, Expands, ExpandsTo, IsExpansion, passes, done, ended}
+use Rattle.ppexpand.specs.declared.expansion.Expanded.{Expanded}
+use Rattle.ppexpand.specs.Lists.{with_set, is_plain, is_inert, ArePlain}
+use Rattle.ppexpand.specs.Skipping.{HasSkipped}
+use Rattle.ppexpand.proofs.TurnLemmas.{turn-unnamed}
+use Rattle.ppexpand.proofs.Total.{total}
+use Rattle.ppexpand.proofs.Unique.{same_outcome}
+use Rattle.ppexpand.proofs.Follows.{Follows, turns_left}
+
+pub plain-with_set : (macros : Macros) (n : ℕ) (ts : List Token) → AllByRecursion (λ t. is_plain macros t ≡ true) ts → ArePlain macros (map (with_set n) ts)
+plain-with_set macros n [] h = record { each = tt }
+plain-with_set macros n (t ∷ ts) h = let rest = plain-with_set macros n ts h.1 in record { each = (h.0, rest.each) }
+
+both_false : (a b : Bool) → (not a && not b) ≡ true → (a ≡ false) × (b ≡ false)
+both_false true b h = absurd (true≢false (sym h))
+both_false false true h = absurd (true≢false (sym h))
+both_false false false h = (refl, refl)
+
+none_of : {A : Type 0} (o : Option A) → is_some o ≡ false → o ≡ None
+none_of None h = refl
+none_of (Some a) h = absurd (true≢false h)
+
+turn-plain : (macros : Macros) (env : Env) (t : Hiding) (rest : List Hiding) → is_plain macros t.token ≡ true → turn macros env (t ∷ rest) ≡ Passes t rest
+turn-plain macros env t rest h =
+    let parts = both_false (is_lone_quote t.token) (is_some (macro_of macros t.token)) h in
+    let none : macro_of macros t.token ≡ None = none_of (macro_of macros t.token) parts.1 in
+    turn-unnamed macros env t rest parts.0 none
+
+-- a list has this outcome in no fewer turns
+pub record Takes (macros : Macros) (env : Env) (level n : ℕ) (list : List Hiding) (out : Outcome) : Type 0 where
+  pub turns : ℕ
+  pub more : n ≤ turns
+  pub is : Expands macros env level turns list out
+
+-- ---- more tokens in a row
+
+pub skipped-none : (macros : Macros) (list passed : List Hidden) → HasSkipped macros list passed list passed
+skipped-none macros list passed = record { skipped = []; laid_out = refl; passes = sym (append-nil passed); plain = record { each = tt } }
+
+plain-append : (macros : Macros) (gs hs : List Hidden) → ArePlain macros gs → ArePlain macros hs → ArePlain macros (gs ++ hs)
+plain-append macros [] hs g h = h
+plain-append macros (x ∷ gs) hs g h = let rest = plain-append macros gs hs (record { each = g.each.1 }) h in record { each = (g.each.0, rest.each) }
+
+pub skipped-on : (macros : Macros) (list passed next more last all : List Hidden) → HasSkipped macros list passed next more → HasSkipped macros next more last all → HasSkipped macros list passed last all
+skipped-on macros list passed next more last all h k = record {
+  skipped = h.skipped ++ k.skipped;
+  laid_out = h.laid_out ∙ ap (λ l. h.skipped ++ l) k.laid_out ∙ sym (append_assoc h.skipped k.skipped last);
+  passes = k.passes ∙ ap (λ l. l ++ k.skipped) h.passes ∙ append_assoc passed h.skipped k.skipped;
+  plain = plain-append macros h.skipped k.skipped h.plain k.plain;
+}
+
+inert-plain : (macros : Macros) (t : Token) → is_inert t ≡ true → is_plain macros t ≡ true
+inert-plain macros t h =
+    let parts = both_false (is_lone_quote t) (is_identifier t) h in
+    (λ i. not (parts.0 i) && not (is_some (if parts.1 i then table.get macros t.text else None)))
+
+pub skipped-one : (macros : Macros) (h : Hidden) (list next passed : List Hidden) → list ≡ h ∷ next → is_inert h.token ≡ true → HasSkipped macros list passed next (passed ++ h ∷ [])
+skipped-one macros h list next passed is inert = record { skipped = h ∷ []; laid_out = is; passes = refl; plain = record { each = (inert-plain macros h.token inert, tt) } }
+
+module _ (macros : Macros) (env : Env) (level : ℕ) (s : Numbered) where
+  skips : (hs rest : List Hidden) → ArePlain macros hs → (n : ℕ) (out : Outcome) → Expands macros env level n (hidings s rest) out → Takes macros env level n (hidings s (hs ++ rest)) (record { tokens = hidings s hs ++ out.tokens; fault = out.fault })
+  skips [] rest h n out d = record { turns = n; more = omega arith; is = d }
+  skips (t ∷ ts) rest h n out d =
+      let after = skips ts rest (record { each = h.each.1 }) n out d in
+      let more = after.more in
+      record { turns = suc after.turns; more = omega arith; is = passes (turn-plain macros env (hiding s t) (hidings s (ts ++ rest)) h.each.0) after.is }
+
+  pub skipped_after : (list passed next more : List Hidden) (k : HasSkipped macros list passed next more) → (n : ℕ) (out : Outcome) → Expands macros env level n (hidings s next) out → Takes macros env level n (hidings s list) (record { tokens = hidings s k.skipped ++ out.tokens; fault = out.fault })
+  skipped_after list passed next more k n out d = subst (λ l. Takes macros env level n (hidings s l) (record { tokens = hidings s k.skipped ++ out.tokens; fault = out.fault })) (sym k.laid_out) (skips k.skipped next k.plain n out d)
+
+  -- what follows is what is left behind them
+  pub follows_skip : (start : List Hiding) (list passed next more : List Hidden) → HasSkipped macros list passed next more → Follows macros env level start (hidings s passed) (hidings s list) → Follows macros env level start (hidings s more) (hidings s next)
+  follows_skip start list passed next more k so_far n out d =
+      let after = skipped_after list passed next more k n out d in
+      let whole = so_far after.turns _ after.is in
+      let tokens : hidings s passed ++ (hidings s k.skipped ++ out.tokens) ≡ hidings s more ++ out.tokens =
+      sym (append_assoc (hidings s passed) (hidings s k.skipped) out.tokens) ∙ ap (λ hs. hs ++ out.tokens) (sym (ap (hidings s) k.passes ∙ map-append (hiding s) passed k.skipped)) in
+      (whole.0, subst (λ ts. Expands macros env level whole.0 start (record { tokens = ts; fault = out.fault })) tokens whole.1)
+
+  -- no more turns are left behind them
+  pub skip_falls : (list passed next more : List Hidden) → HasSkipped macros list passed next more → turns_left macros env level (hidings s next) ≤ turns_left macros env level (hidings s list)
+  skip_falls list passed next more k =
+      let here = total macros env level (hidings s list) in
+      let there = total macros env level (hidings s next) in
+      let after = skipped_after list passed next more k there.0 there.1 there.2 in
+      let same = (same_outcome macros env after.is here.0 here.1 here.2).0 in
+      let more = after.more in
+      rw (← same) (omega arith)
+
+pub next-known : {macros : Macros} (s : Numbered) (list passed next more : List Hidden) → HasSkipped macros list passed next more → AllKnown s list → AllKnown s next
+next-known s list passed next more k h = known-behind k.skipped next (subst (AllKnown s) k.laid_out h)
+
+pub more-known : {macros : Macros} (s : Numbered) (list passed next more : List Hidden) → HasSkipped macros list passed next more → AllKnown s list → AllKnown s passed → AllKnown s more
+more-known s list passed next more k h p = subst (AllKnown s) (sym k.passes) (known-append passed k.skipped p (known-front k.skipped next (subst (AllKnown s) k.laid_out h)))
+
+-- tokens of a file with one set
+pub known-with_set : (s : Numbered) (n : ℕ) (ts : List Token) → IsKnown s n → AllKnown s (map (with_set n) ts)
+known-with_set s n [] h = record { each = tt }
+known-with_set s n (t ∷ ts) h = let rest = known-with_set s n ts h in record { each = (h, rest.each) }
+
+pub hidings-with_set : (s : Numbered) (n : ℕ) (ts : List Token) → set_at s n ≡ set.empty → hidings s (map (with_set n) ts) ≡ map plain ts
+hidings-with_set s n [] h = refl
+hidings-with_set s n (t ∷ ts) h = λ i. record { token = t; hide = h i } ∷ hidings-with_set s n ts h i
+
+pub tokens-with_set : (n : ℕ) (ts : List Token) → tokens_of (map (with_set n) ts) ≡ ts
+tokens-with_set n [] = refl
+tokens-with_set n (t ∷ ts) = ap (λ us. t ∷ us) (tokens-with_set n ts)
+
+-- tokens that pass, before a list
+pub expands-front : (macros : Macros) (env : Env) (level : ℕ) (front : List Token) (rest : List Hiding) (out : Outcome) → AllByRecursion (λ t. is_plain macros t ≡ true) front → ExpandsTo macros env level rest out → ExpandsTo macros env level (map plain front ++ rest) (record { tokens = map plain front ++ out.tokens; fault = out.fault })
+expands-front macros env level [] rest out h d = d
+expands-front macros env level (t ∷ ts) rest out h d =
+    let after = expands-front macros env level ts rest out h.1 d in
+    (suc after.0, passes (turn-plain macros env (plain t) (map plain ts ++ rest) h.0) after.1)
+
+-- the empty list
+pub expands-nothing : (macros : Macros) (env : Env) (level : ℕ) → ExpandsTo macros env level [] (ended None)
+unfolding turn
+expands-nothing macros env level = (0, done refl)
+
+pub tokens-plain : (ts : List Token) → map (λ t. t.token) (map plain ts) ≡ ts
+tokens-plain [] = refl
+tokens-plain (t ∷ ts) = ap (λ us. t ∷ us) (tokens-plain ts)
+
+-- tokens that pass before what the rest is expanded to
+pub expansion-behind : (macros : Macros) (env : Env) (tokens front rest : List Token) (e : Expanded) (out : Outcome)
+    → tokens ≡ front ++ rest
+    → AllByRecursion (λ t. is_plain macros t ≡ true) front
+    → ExpandsTo macros env 0 (map plain rest) out
+    → e.tokens ≡ front ++ map (λ t. t.token) out.tokens
+    → e.fault ≡ out.fault
+    → IsExpansion macros env tokens e
+expansion-behind macros env tokens front rest e out laid_out h d is ends =
+    let whole : Outcome = record { tokens = map plain front ++ out.tokens; fault = out.fault } in
+    record {
+      outcome = whole;
+      expands = subst (λ ts. ExpandsTo macros env 0 ts whole) (sym (ap (map plain) laid_out ∙ map-append plain front rest)) (expands-front macros env 0 front (map plain rest) out h d);
+      passed = is ∙ (λ i. sym (tokens-plain front) i ++ map (λ t. t.token) out.tokens) ∙ sym (map-append (λ t. t.token) (map plain front) out.tokens);
+      ended = ends;
+    }
+
+-- tokens that all pass are expanded to themselves
+pub plain-expands : (macros : Macros) (env : Env) (level : ℕ) (s : Numbered) (hs : List Hidden) → ArePlain macros hs → ExpandsTo macros env level (hidings s hs) (record { tokens = hidings s hs; fault = None })
+plain-expands macros env level s [] h = expands-nothing macros env level
+plain-expands macros env level s (t ∷ ts) h =
+    let after = plain-expands macros env level s ts (record { each = h.each.1 }) in
+    (suc after.0, passes (turn-plain macros env (hiding s t) (hidings s ts) h.each.0) after.1)
+
+pub plain-more : (macros : Macros) (hs : List Hidden) (h : Hidden) → ArePlain macros hs → is_plain macros h.token ≡ true → ArePlain macros (hs ++ h ∷ [])
+plain-more macros hs h p k = plain-append macros hs (h ∷ []) p (record { each = (k, tt) })

@@ -1,0 +1,31 @@
+-- Lists of tokens in flight, by their parts.
+use Rattle.std.specs.Prelude.{◌≡◌, ℕ, Bool, true, false, not, ◌&&◌, List, [], ◌∷◌, ◌++◌, map, Option, Some, None, is_some}
+use Rattle.std.specs.List.{AllByRecursion}
+use Rattle.pptext.specs.declared.tokens.Token.{Token}
+use Rattle.ppmacro.specs.Names.{Macros}
+use Rattle.ppmacro.specs.Spellings.{is_identifier}
+use Rattle.ppmacro.specs.declared.flying.Hidden.{Hidden}
+use Rattle.ppexpand.specs.Arguments.{is_lone_quote}
+use Rattle.ppexpand.specs.Turn.{macro_of}
+
+-- a token of a file, with the number of a hide set
+abbrev pub with_set : ℕ → Token → Hidden
+with_set hide t = record { token = t; hide = hide }
+
+-- the first takes a mark
+abbrev pub marked : Bool → List Hidden → List Hidden
+marked true (h ∷ hs) = record h { token = record h.token { space = true } } ∷ hs
+marked true [] = []
+marked false hs = hs
+
+-- a token that passes, whatever its hide set is
+abbrev pub is_plain : Macros → Token → Bool
+is_plain macros t = not (is_lone_quote t) && not (is_some (macro_of macros t))
+
+-- each of these passes
+pub record ArePlain (macros : Macros) (hs : List Hidden) : Type 0 where
+  pub each : AllByRecursion (λ h. is_plain macros h.token ≡ true) hs
+
+-- neither an identifier nor a lone quote: it passes, whatever the macros are
+abbrev pub is_inert : Token → Bool
+is_inert t = not (is_lone_quote t) && not (is_identifier t)

@@ -1,0 +1,240 @@
+// What passed.
+ghost use Rattle.std.specs.Prelude.{◌≡◌, ◌∷◌, ◌++◌, [], map, flat_map, true, IfOk, IfSome, OnOk};
+ghost use Rattle.ppexpand.specs.Pieces.{piece_list};
+ghost use Rattle.ppmacro.specs.Substituting.{tokens_of};
+
+use crate::stretch::Stretch;
+use ppmacro::Hidden;
+use pptext::Token;
+use std::alloc::{AllocError, Global};
+use std::marker::Model;
+use std::mem;
+
+/// A stretch of a file, or tokens that passed one by one.
+#[derive(Drop)]
+pub enum Piece<'a> {
+    Shared(Stretch<'a>),
+    Made(Vec<Hidden<'a>>),
+}
+
+/// Tokens that passed: pieces, and behind them those that passed one by one. Contracts see their list.
+#[derive(Drop)]
+pub(crate) struct Passed<'a> {
+    pieces: Vec<Piece<'a>>,
+    singles: Vec<Hidden<'a>>,
+}
+
+impl<'a> Model for Passed<'a> {
+    ghost use Rattle.std.specs.Prelude.{List, flat_map, ◌++◌};
+    ghost use Rattle.ppmacro.specs.declared.flying.Hidden.{Hidden};
+
+    ghost Value = { List Hidden };
+
+    ghost use Rattle.ppexpand.specs.Pieces.{piece_list};
+
+    ghost view = { λ p. flat_map piece_list p.pieces.items ++ p.singles.items };
+}
+
+// Closes the piece of those that passed one by one.
+fn close<'a>(pieces: &mut Vec<Piece<'a>>, singles: &mut Vec<Hidden<'a>>) -> Result<(), AllocError>
+    ensures same { OnOk result (flat_map piece_list pieces.new.items ≡ flat_map piece_list pieces.old.items ++ singles.old.items) }
+    ensures closed { OnOk result (singles.new.items ≡ []) }
+{
+    if singles.is_empty() {
+        return Ok(());
+    }
+    let empty = Vec::new(*singles.allocator());
+    let made = mem::replace(singles, empty);
+    pieces.push(Piece::Made(made))?;
+    Ok(())
+}
+
+impl<'a> Passed<'a> {
+    /// Nothing.
+    pub(crate) fn new(alloc: Global) -> Passed<'a>
+        ensures { result ≡ [] }
+    {
+        Passed {
+            pieces: Vec::new(alloc),
+            singles: Vec::new(alloc),
+        }
+    }
+
+    /// Puts a stretch behind the others.
+    pub(crate) fn extend(&mut self, stretch: Stretch<'a>) -> Result<(), AllocError>
+        ensures { OnOk result (self.new ≡ self.old ++ stretch.entry) }
+    {
+        if stretch.is_empty() {
+            return Ok(());
+        }
+        close(&mut self.pieces, &mut self.singles)?;
+        self.pieces.push(Piece::Shared(stretch))?;
+        Ok(())
+    }
+
+    /// Puts a token behind the others.
+    pub(crate) fn push(&mut self, hidden: Hidden<'a>) -> Result<(), AllocError>
+        ensures { OnOk result (self.new ≡ self.old ++ hidden.entry ∷ []) }
+    {
+        self.singles.push(hidden)?;
+        Ok(())
+    }
+
+    /// Whether nothing passed.
+    pub(crate) fn is_empty(&self) -> bool
+        ensures { result ≡ true → self.now ≡ [] }
+    {
+        self.pieces.is_empty() && self.singles.is_empty()
+    }
+
+    /// Puts copies of the tokens behind others, without their hide sets.
+    pub(crate) fn copy_to(&self, tokens: &mut Vec<Token>) -> Result<(), AllocError>
+        ensures { OnOk result (tokens.new.items ≡ tokens.old.items ++ tokens_of self.now) }
+    {
+        copy_pieces(tokens, self.pieces.as_slice())?;
+        copy_made(tokens, self.singles.as_slice())
+    }
+
+    /// The tokens as one list.
+    pub(crate) fn into_vec(self, alloc: Global) -> Result<Vec<Hidden<'a>>, AllocError>
+        ensures { IfOk result (λ v. v.items ≡ self.entry) }
+    {
+        let Passed { pieces, singles } = self;
+        if pieces.is_empty() {
+            return Ok(singles);
+        }
+        let mut tokens = Vec::new(alloc);
+        for piece in pieces {
+            push_piece(&mut tokens, piece)?;
+        }
+        push_all(&mut tokens, singles)?;
+        Ok(tokens)
+    }
+}
+
+// Puts tokens behind others.
+fn push_all<'a>(tokens: &mut Vec<Hidden<'a>>, more: Vec<Hidden<'a>>) -> Result<(), AllocError>
+    ensures { OnOk result (tokens.new.items ≡ tokens.old.items ++ more.entry.items) }
+{
+    for hidden in more {
+        tokens.push(hidden)?;
+    }
+    Ok(())
+}
+
+// Puts the tokens of a stretch behind others.
+fn push_stretch<'a>(tokens: &mut Vec<Hidden<'a>>, stretch: Stretch<'a>) -> Result<(), AllocError>
+    ensures { OnOk result (tokens.new.items ≡ tokens.old.items ++ stretch.entry) }
+{
+    let mut stretch = stretch;
+    while let Some(hidden) = stretch.next() {
+        tokens.push(hidden)?;
+    }
+    Ok(())
+}
+
+// Puts the tokens of a piece behind others.
+fn push_piece<'a>(tokens: &mut Vec<Hidden<'a>>, piece: Piece<'a>) -> Result<(), AllocError>
+    ensures { OnOk result (tokens.new.items ≡ tokens.old.items ++ piece_list piece.entry) }
+{
+    match piece {
+        Piece::Shared(stretch) => push_stretch(tokens, stretch),
+        Piece::Made(more) => push_all(tokens, more),
+    }
+}
+
+/// What a list of tokens is expanded to, which contracts see as a list: the tokens of the file that pass before the first that is
+/// replaced, and what passed behind them.
+#[derive(Drop)]
+pub struct Run<'a> {
+    front: &'a [Token],
+    passed: Passed<'a>,
+}
+
+impl<'a> Model for Run<'a> {
+    ghost use Rattle.std.specs.Prelude.{List, ◌++◌};
+    ghost use Rattle.pptext.specs.declared.tokens.Token.{Token};
+
+    ghost Value = { List Token };
+
+    ghost use Rattle.ppmacro.specs.Substituting.{tokens_of};
+
+    ghost view = { λ r. r.front.now ++ tokens_of r.passed };
+}
+
+impl<'a> Run<'a> {
+    /// These tokens of the file, and what passed behind them.
+    pub(crate) fn new(front: &'a [Token], passed: Passed<'a>) -> Run<'a>
+        ensures { result ≡ front.now ++ tokens_of passed.entry }
+    {
+        Run { front, passed }
+    }
+
+    /// The tokens of the file that come first, then pieces, and behind them tokens that passed one by one.
+    pub fn parts(&self) -> (&'a [Token], &[Piece<'a>], &[Hidden<'a>])
+        ensures { result.0.now ++ tokens_of (flat_map piece_list result.1.now ++ result.2.now) ≡ self.now }
+    {
+        let Passed { pieces, singles } = &self.passed;
+        (self.front, pieces.as_slice(), singles.as_slice())
+    }
+
+    /// The tokens as they stand in the file, where nothing was replaced.
+    pub fn unchanged(&self) -> Option<&'a [Token]>
+        ensures { IfSome result (λ tokens. tokens.now ≡ self.now) }
+    {
+        if self.passed.is_empty() {
+            Some(self.front)
+        } else {
+            None
+        }
+    }
+
+    /// A copy of the tokens as one list.
+    pub fn to_vec(&self, alloc: Global) -> Result<Vec<Token>, AllocError>
+        ensures { IfOk result (λ v. v.items ≡ self.now) }
+    {
+        let mut tokens = Vec::from_clones(alloc, self.front)?;
+        self.passed.copy_to(&mut tokens)?;
+        Ok(tokens)
+    }
+}
+
+// Puts copies of tokens behind others.
+fn copy_shared(tokens: &mut Vec<Token>, more: &[Token]) -> Result<(), AllocError>
+    ensures { OnOk result (tokens.new.items ≡ tokens.old.items ++ more.now) }
+{
+    for token in more {
+        tokens.push(token.clone()?)?;
+    }
+    Ok(())
+}
+
+// Puts copies of tokens in flight behind others.
+fn copy_made(tokens: &mut Vec<Token>, more: &[Hidden]) -> Result<(), AllocError>
+    ensures { OnOk result (tokens.new.items ≡ tokens.old.items ++ tokens_of more.now) }
+{
+    for hidden in more {
+        tokens.push(hidden.to_token()?)?;
+    }
+    Ok(())
+}
+
+// Puts copies of the tokens of pieces behind others.
+fn copy_pieces(tokens: &mut Vec<Token>, pieces: &[Piece]) -> Result<(), AllocError>
+    ensures { OnOk result (tokens.new.items ≡ tokens.old.items ++ tokens_of (flat_map piece_list pieces.now)) }
+{
+    for piece in pieces {
+        copy_piece(tokens, piece)?;
+    }
+    Ok(())
+}
+
+// Puts copies of a piece's tokens behind others.
+fn copy_piece(tokens: &mut Vec<Token>, piece: &Piece) -> Result<(), AllocError>
+    ensures { OnOk result (tokens.new.items ≡ tokens.old.items ++ tokens_of (piece_list piece.now)) }
+{
+    match piece {
+        Piece::Shared(stretch) => copy_shared(tokens, stretch.tokens()),
+        Piece::Made(more) => copy_made(tokens, more.as_slice()),
+    }
+}
