@@ -6,8 +6,8 @@ use Rattle.ppmacro.specs.Names.{Macros}
 use Rattle.ppexpr.specs.Asking.{is_defined, Operand, operand, answer, Asks, nothing, other, question}
 
 -- tokens are equal where their parts are
-pub same_token : (u t : Token) → (u.kind ≡ t.kind) × ((u.text ≡ t.text) × ((u.space ≡ t.space) × ((u.at ≡ t.at) × (u.used ≡ t.used)))) → u ≡ t
-same_token u t e = λ i. record { kind = e.0 i; text = e.1.0 i; space = e.1.1.0 i; at = e.1.1.1.0 i; used = e.1.1.1.1 i }
+pub same_token : (u t : Token) → (u.text ≡ t.text) × ((u.at ≡ t.at) × ((u.used ≡ t.used) × ((u.kind ≡ t.kind) × (u.space ≡ t.space)))) → u ≡ t
+same_token u t e = λ i. record { text = e.0 i; at = e.1.0 i; used = e.1.1.0 i; kind = e.1.1.1.0 i; space = e.1.1.1.1 i }
 
 -- this list begins what becomes of the rest
 pub record Ahead (macros : Macros) (asked rest vs : List Token) : Type 0 where

@@ -9,7 +9,7 @@ use crate::nesting::is_too_nested;
 use crate::parsing::parse;
 use crate::symbols::{Failure, Symbol, Value};
 use crate::tokens::{fault, symbols_of};
-use ppexpand::{Env, Expanded, expand};
+use ppexpand::{Env, Expanded, Run, expand};
 use ppmacro::Table;
 use pptext::{Fault, Memory, Place, Token};
 use std::alloc::{AllocError, Global};
@@ -83,6 +83,17 @@ fn decide(alloc: Global, at: Place, tokens: &[Token]) -> Result<Result<bool, Fau
     }
 }
 
+// The same, without a copy of the tokens where they stand in the file as they are, as most do.
+fn decide_run(alloc: Global, at: Place, run: &Run) -> Result<Result<bool, Fault>, AllocError>
+    ensures { IfOk result (λ c. Decides at run.now c) }
+{
+    if let Some(tokens) = run.unchanged() {
+        return decide(alloc, at, tokens);
+    }
+    let tokens = run.to_vec(alloc)?;
+    decide(alloc, at, tokens.as_slice())
+}
+
 /// Whether the group behind `#if` or `#elif` is taken (6.10.1), or the one fault: 22 of a use of `defined` that is ill
 /// formed or made by a replacement, the faults of the replacement, 24 and 25 of the first constant without a value, 29 of
 /// too deep an expression, 23 of a list that is no expression, 26 to 28 of a division, an overflow or a shift.
@@ -105,5 +116,5 @@ pub fn evaluate(
     if let Some(fault) = fault {
         return Ok(Err(fault));
     }
-    Ok(decide(alloc, at, tokens.as_slice())?)
+    Ok(decide_run(alloc, at, &tokens)?)
 }

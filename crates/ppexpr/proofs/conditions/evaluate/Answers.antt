@@ -14,4 +14,4 @@ returns-in-Some-fault c =
 pub returns : goal.returns
 returns c =
     let asks = rw c.in-Some.is at c.in_ok-asked.ensures in
-    replaced asks (rw c.as_slice-asked.ensures.value at c.in_ok-tokens.ensures) c.in_default-fault.is (rw c.as_slice.ensures at c.in_ok-decide.ensures)
+    replaced asks (rw c.as_slice-asked.ensures.value at c.in_ok-tokens.ensures) c.in_default-fault.is c.in_ok-decide_run.ensures
