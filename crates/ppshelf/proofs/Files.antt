@@ -2,13 +2,15 @@
 use Rattle.std.proofs.Common.{Option, take, ◌-◌, ◌+◌, ◌++◌, replicate, length-append, ◌≡◌, ℕ, ◌<◌, ◌≤◌, List, [], ◌∷◌, length, get_or, set, Some, None, refl, sym, ◌∙◌, ap, arith, inl, inr, subst}
 use Rattle.std.specs.Option.{option_map}
 use Rattle.std.proofs.lemmas.Grind.{common_steps}
-use Rattle.std.proofs.lemmas.List.{map-append, replicate_more, map-set, get_or_past, get_or_read, get_or-set_other, length-set}
+use Rattle.std.proofs.lemmas.List.{length-map, map-append, replicate_more, map-set, get_or_past, get_or_read, get_or-set_other, length-set}
 use Rattle.std.proofs.Math.ListN.{get_or-map}
 use Rattle.std.proofs.Math.Seq.{map-set_same}
 use Rattle.std.proofs.lemmas.Bool.{cases_lt, cases_eq}
 use Rattle.std.proofs.lemmas.Option.{none-some, same_Some}
 use Rattle.ppshelf.specs.Content.{Content, Lawful}
-use Rattle.ppshelf.specs.Shelved.{Held, Spot, Sight, Files, file_at, name_at, AllLawful, FitsRow, Placed, IsPass, files_of, or_else, Agree, Joined, Extends, base_of, no_sight, no_spot}
+use Rattle.ppshelf.specs.Names.{name_in}
+use Rattle.ppshelf.specs.Files.{Files, Stock, file_at, AllLawful, or_else, Agree, Joined, Extends}
+use Rattle.ppshelf.specs.Shelved.{Held, Spot, Sight, FitsRow, Placed, IsPass, files_of, names_of, base_of, cells_of, stock_of, spot_at, no_sight, no_spot}
 
 abbrev pub content_of_sight : Sight → Option Content
 content_of_sight s = option_map (λ (h : Held). h.content) s.shown
@@ -32,25 +34,56 @@ known_within sights row c e =
       | inr h ↦ absurd (none-some c (ap content_of_sight (sym (get_or_past sights row no_sight h)) ∙ (sym (files_of-at sights row) ∙ e)))
     ]
 
-pub lawful_files : (may : List ℕ → Content → Type 0) (stock : List Spot) (sights : List Sight) → IsPass may stock sights → AllLawful may stock (files_of sights)
+-- ---- what callers see of a row
+
+held_is : (o : Option Held) (row : ℕ) (name : List ℕ) → ((h : Held) → o ≡ Some h → (h.row ≡ row) × (h.name ≡ name)) → o ≡ option_map (λ c. record { row = row; name = name; content = c }) (option_map (λ (h : Held). h.content) o)
+held_is None row name p = refl
+held_is (Some h) row name p =
+    let e = p h refl in
+    let one : Some h ≡ Some (record h { row = row }) = ap (λ (r : ℕ). Some (record h { row = r })) e.0 in
+    one ∙ ap (λ (n : List ℕ). Some (record { row = row; name = n; content = h.content })) e.1
+
+spot_by : (s : Spot) (row : ℕ) (name : List ℕ) (base : Option Content) (cell : ℕ) → name ≡ s.name → base ≡ option_map (λ (h : Held). h.content) s.base → cell ≡ s.cell → ((h : Held) → s.base ≡ Some h → (h.row ≡ row) × (h.name ≡ s.name))
+    → s ≡ record { name = name; base = option_map (λ c. record { row = row; name = name; content = c }) base; cell = cell }
+spot_by s row name base cell named based celled p =
+    let contents : Option Content = option_map (λ (h : Held). h.content) s.base in
+    let a : s ≡ record s { base = option_map (λ c. record { row = row; name = s.name; content = c }) contents } = ap (λ (b : Option Held). record s { base = b }) (held_is s.base row s.name p) in
+    a
+    ∙ (ap (λ (n : List ℕ). record { name = n; base = option_map (λ c. record { row = row; name = n; content = c }) contents; cell = s.cell }) (sym named)
+    ∙ (ap (λ (b : Option Content). record { name = name; base = option_map (λ c. record { row = row; name = name; content = c }) b; cell = s.cell }) (sym based)
+    ∙ ap (λ (k : ℕ). record { name = name; base = option_map (λ c. record { row = row; name = name; content = c }) base; cell = k }) (sym celled)))
+
+-- what a row is, callers see
+pub spot_is : (rows : List Spot) (row : ℕ) (spot : Spot) → Placed rows → row < length rows → spot ≡ get_or rows row spot → spot ≡ spot_at (stock_of rows) row
+spot_is rows row spot placed within read =
+    let name : Spot → List ℕ = λ s. s.name in
+    let base : Spot → Option Content = λ s. option_map (λ (h : Held). h.content) s.base in
+    let cell : Spot → ℕ = λ s. s.cell in
+    get_or_read rows row spot within read no_spot
+    ∙ spot_by (get_or rows row no_spot) row (name_in (names_of rows) row) (file_at (base_of rows) row) (get_or (cells_of rows) row 0) (get_or-map name rows row no_spot) (get_or-map base rows row no_spot) (get_or-map cell rows row no_spot) (placed row)
+
+-- ---- what a pass knows
+
+pub lawful_files : (may : List ℕ → Content → Type 0) (stock : Stock) (sights : List Sight) → IsPass may stock sights → AllLawful may stock.names (files_of sights)
 lawful_files may stock sights is row c e =
     let s = shown_of sights row c e in
-    let within : row < length stock = let k = known_within sights row c e in let l = is.len in omega arith in
+    let within : row < length stock.names = let k = known_within sights row c e in let l = is.len in omega arith in
     let f = (is.rows row within).fits s.0 s.1 in
-    let P : Content → Type 0 = λ x. Lawful may (name_at stock row) x in
+    let P : Content → Type 0 = λ x. Lawful may (name_in stock.names row) x in
     let Q : List ℕ → Type 0 = λ n. Lawful may n s.0.content in
     subst P s.2 (subst Q f.name_is f.lawful)
 
 -- what is known of a row that was filled is what was put there
-pub filled_files : (may : List ℕ → Content → Type 0) (stock : List Spot) (sights : List Sight) → IsPass may stock sights → Agree (base_of stock) (files_of sights)
+pub filled_files : (may : List ℕ → Content → Type 0) (stock : Stock) (sights : List Sight) → IsPass may stock sights → Agree stock.base (files_of sights)
 filled_files may stock sights is row c d base known =
     let s = shown_of sights row d known in
-    let within : row < length stock = let k = known_within sights row d known in let l = is.len in omega arith in
+    let within : row < length stock.names = let k = known_within sights row d known in let l = is.len in omega arith in
     let f = (is.rows row within).fits s.0 s.1 in
-    let b = some_of (get_or stock row no_spot).base c (sym (get_or-map (λ (s : Spot). option_map (λ (h : Held). h.content) s.base) stock row no_spot) ∙ base) in
+    let b : Held = record { row = row; name = name_in stock.names row; content = c } in
+    let there : (spot_at stock row).base ≡ Some b = ap (option_map (λ x. record { row = row; name = name_in stock.names row; content = x })) base in
     elim f.from [
-      | inl e ↦ sym b.2 ∙ (ap (λ (h : Held). h.content) (same_Some b.0 s.0 (sym b.1 ∙ e)) ∙ s.2)
-      | inr n ↦ absurd (none-some b.0 (sym n.0 ∙ b.1))
+      | inl e ↦ ap (λ (h : Held). h.content) (same_Some b s.0 (sym there ∙ e)) ∙ s.2
+      | inr n ↦ absurd (none-some b (sym n.0 ∙ there))
     ]
 
 pub placed_read : (stock : List Spot) (row : ℕ) (spot : Spot) → Placed stock → row < length stock → spot ≡ get_or stock row spot → (h : Held) → spot.base ≡ Some h → (h.row ≡ row) × (h.name ≡ spot.name)
@@ -97,26 +130,15 @@ unseen_more stock sights n spot s u within read cell shown = let len = u.len in 
   files = map-append content_of_sight sights (s ∷ []) ∙ (ap (λ (f : Files). f ++ content_of_sight s ∷ []) u.files ∙ (ap (λ (o : Option Held). replicate n None ++ option_map (λ (h : Held). h.content) o ∷ []) shown ∙ replicate_more n None));
 }
 
-pub unseen_pass : (may : List ℕ → Content → Type 0) (stock : List Spot) (sights : List Sight) → Unseen stock sights (length stock) → IsPass may stock sights
-unseen_pass may stock sights u = record {
-  len = u.len;
-  rows = λ row within. record { cell_is = (u.each row within).0; fits = λ h is. absurd (none-some h (sym (u.each row within).1 ∙ is)) };
-}
-
--- two passes have met at the rows from n on
-pub record Met (may : List ℕ → Content → Type 0) (stock : List Spot) (old other new : List Sight) (n : ℕ) : Type 0 where
-  pub is : IsPass may stock new
-  pub kept : (row : ℕ) → row < n → get_or new row no_sight ≡ get_or old row no_sight
-  pub joined : (row : ℕ) → n ≤ row → row < length stock → (get_or new row no_sight).shown ≡ or_else (get_or old row no_sight).shown (get_or other row no_sight).shown
-  pub agree : (row : ℕ) → n ≤ row → row < length stock → (h k : Held) → (get_or old row no_sight).shown ≡ Some h → (get_or other row no_sight).shown ≡ Some k → h ≡ k
-
-pub met_none : (may : List ℕ → Content → Type 0) (stock : List Spot) (old other : List Sight) (n : ℕ) → IsPass may stock old → length stock ≤ n → Met may stock old other old n
-met_none may stock old other n is e = record {
-  is = is;
-  kept = λ row below. refl;
-  joined = λ row above within. absurd (omega arith);
-  agree = λ row above within. absurd (omega arith);
-}
+pub unseen_pass : (may : List ℕ → Content → Type 0) (rows : List Spot) (sights : List Sight) → Unseen rows sights (length rows) → IsPass may (stock_of rows) sights
+unseen_pass may rows sights u =
+    let count : length (names_of rows) ≡ length rows = length-map rows (λ (s : Spot). s.name) in
+    record {
+      len = u.len ∙ sym count;
+      rows = λ row below.
+          let e = u.each row (omega arith) in
+          record { cell_is = e.0 ∙ sym (get_or-map (λ (s : Spot). s.cell) rows row no_spot); fits = λ h is. absurd (none-some h (sym e.1 ∙ is)) };
+    }
 
 set_here : (xs : List Sight) (n row : ℕ) (s : Sight) → row ≡ n → n < length xs → get_or (set xs n s) row no_sight ≡ s
 set_here xs n row s e w = grind (arith, common_steps)
@@ -124,29 +146,67 @@ set_here xs n row s e w = grind (arith, common_steps)
 set_there : (xs : List Sight) (n row : ℕ) (s : Sight) → (row ≡ n → ⊥) → get_or (set xs n s) row no_sight ≡ get_or xs row no_sight
 set_there xs n row s e = get_or-set_other xs n row s no_sight e
 
-pub met_more : (may : List ℕ → Content → Type 0) (stock : List Spot) (old other new : List Sight) (n : ℕ) (spot : Spot) (mine theirs s : Sight) → Met may stock old other new (n + 1) → n < length stock
-    → spot ≡ get_or stock n spot → mine ≡ get_or new n mine → theirs ≡ get_or other n no_sight → FitsRow may n spot s → s.shown ≡ or_else mine.shown theirs.shown
+-- a row that was looked at again leaves a pass of the shelf
+pub pass_set : (may : List ℕ → Content → Type 0) (stock : Stock) (sights : List Sight) (row : ℕ) (spot : Spot) (s : Sight) → IsPass may stock sights → row < length stock.names → spot ≡ spot_at stock row → FitsRow may row spot s → IsPass may stock (set sights row s)
+pass_set may stock sights n spot s is w at fits = record {
+  len = length-set sights n s ∙ is.len;
+  rows = λ row within.
+      elim (cases_eq row n) [
+        | inl e ↦
+            let P : Sight → Type 0 = λ x. FitsRow may row (spot_at stock row) x in
+            let Q : Spot → Type 0 = λ x. FitsRow may n x s in
+            let R : ℕ → Type 0 = λ k. FitsRow may k (spot_at stock k) s in
+            let len = is.len in
+            subst P (sym (set_here sights n row s e (omega arith))) (subst R (sym e) (subst Q at fits))
+        | inr e ↦
+            let P : Sight → Type 0 = λ x. FitsRow may row (spot_at stock row) x in
+            subst P (sym (set_there sights n row s e)) (is.rows row within)
+      ];
+}
+
+-- ---- a row of a shelf that is looked at
+
+pub fits_at : (may : List ℕ → Content → Type 0) (rows : List Spot) (stock : Stock) (sights : List Sight) (row : ℕ) (spot : Spot) (s : Sight) → Placed rows → stock ≡ stock_of rows → row < length rows → spot ≡ get_or rows row spot → IsPass may stock sights → s ≡ get_or sights row s → FitsRow may row spot s
+fits_at may rows stock sights row spot s placed same w read is mine =
+    let count : length (names_of rows) ≡ length rows = length-map rows (λ (x : Spot). x.name) in
+    let long : length stock.names ≡ length (names_of rows) = ap (λ (x : Stock). length x.names) same in
+    let len = is.len in
+    let at : spot ≡ spot_at stock row = spot_is rows row spot placed w read ∙ ap (λ (x : Stock). spot_at x row) (sym same) in
+    let P : Sight → Type 0 = λ x. FitsRow may row spot x in
+    let Q : Spot → Type 0 = λ x. FitsRow may row x (get_or sights row no_sight) in
+    subst P (sym (get_or_read sights row s (omega arith) mine no_sight)) (subst Q (sym at) (is.rows row (omega arith)))
+
+pub shown_pass : (may : List ℕ → Content → Type 0) (rows : List Spot) (stock : Stock) (sights : List Sight) (row : ℕ) (spot : Spot) (s : Sight) → Placed rows → stock ≡ stock_of rows → row < length rows → spot ≡ get_or rows row spot → IsPass may stock sights → FitsRow may row spot s
+    → IsPass may stock (set sights row s)
+shown_pass may rows stock sights row spot s placed same w read is fits =
+    let count : length (names_of rows) ≡ length rows = length-map rows (λ (x : Spot). x.name) in
+    let long : length stock.names ≡ length (names_of rows) = ap (λ (x : Stock). length x.names) same in
+    pass_set may stock sights row spot s is (omega arith) (spot_is rows row spot placed w read ∙ ap (λ (x : Stock). spot_at x row) (sym same)) fits
+
+-- two passes have met at the rows from n on
+pub record Met (may : List ℕ → Content → Type 0) (stock : Stock) (old other new : List Sight) (n : ℕ) : Type 0 where
+  pub is : IsPass may stock new
+  pub kept : (row : ℕ) → row < n → get_or new row no_sight ≡ get_or old row no_sight
+  pub joined : (row : ℕ) → n ≤ row → row < length stock.names → (get_or new row no_sight).shown ≡ or_else (get_or old row no_sight).shown (get_or other row no_sight).shown
+  pub agree : (row : ℕ) → n ≤ row → row < length stock.names → (h k : Held) → (get_or old row no_sight).shown ≡ Some h → (get_or other row no_sight).shown ≡ Some k → h ≡ k
+
+pub met_none : (may : List ℕ → Content → Type 0) (stock : Stock) (old other : List Sight) (n : ℕ) → IsPass may stock old → length stock.names ≤ n → Met may stock old other old n
+met_none may stock old other n is e = record {
+  is = is;
+  kept = λ row below. refl;
+  joined = λ row above within. absurd (omega arith);
+  agree = λ row above within. absurd (omega arith);
+}
+
+pub met_more : (may : List ℕ → Content → Type 0) (stock : Stock) (old other new : List Sight) (n : ℕ) (spot : Spot) (mine theirs s : Sight) → Met may stock old other new (n + 1) → n < length stock.names
+    → spot ≡ spot_at stock n → mine ≡ get_or new n mine → theirs ≡ get_or other n no_sight → FitsRow may n spot s → s.shown ≡ or_else mine.shown theirs.shown
     → ((h k : Held) → mine.shown ≡ Some h → theirs.shown ≡ Some k → h ≡ k) → Met may stock old other (set new n s) n
-met_more may stock old other new n spot mine theirs s m w spot_read mine_read theirs_is fits shown agree =
+met_more may stock old other new n spot mine theirs s m w at mine_read theirs_is fits shown agree =
     let len = m.is.len in
-    let spot_is : spot ≡ get_or stock n no_spot = get_or_read stock n spot w spot_read no_spot in
     let mine_is : mine ≡ get_or new n no_sight = get_or_read new n mine (omega arith) mine_read no_sight in
     let old_is : mine ≡ get_or old n no_sight = mine_is ∙ m.kept n (omega arith) in
     record {
-      is = record {
-        len = length-set new n s ∙ len;
-        rows = λ row within.
-            elim (cases_eq row n) [
-              | inl e ↦
-                  let P : Sight → Type 0 = λ x. FitsRow may row (get_or stock row no_spot) x in
-                  let Q : Spot → Type 0 = λ x. FitsRow may n x s in
-                  let R : ℕ → Type 0 = λ k. FitsRow may k (get_or stock k no_spot) s in
-                  subst P (sym (set_here new n row s e (omega arith))) (subst R (sym e) (subst Q spot_is fits))
-              | inr e ↦
-                  let P : Sight → Type 0 = λ x. FitsRow may row (get_or stock row no_spot) x in
-                  subst P (sym (set_there new n row s e)) (m.is.rows row within)
-            ];
-      };
+      is = pass_set may stock new n spot s m.is w at fits;
       kept = λ row below. set_there new n row s (λ e. absurd (omega arith)) ∙ m.kept row (omega arith);
       joined = λ row above within.
           elim (cases_eq row n) [
@@ -163,7 +223,7 @@ met_more may stock old other new n spot mine theirs s m w spot_read mine_read th
     }
 
 -- at the end every row has met
-pub met_agree : (may : List ℕ → Content → Type 0) (stock : List Spot) (old other new : List Sight) → Met may stock old other new 0 → length old ≡ length stock → Agree (files_of old) (files_of other)
+pub met_agree : (may : List ℕ → Content → Type 0) (stock : Stock) (old other new : List Sight) → Met may stock old other new 0 → length old ≡ length stock.names → Agree (files_of old) (files_of other)
 met_agree may stock old other new m len row c d a b =
     let s = shown_of old row c a in
     let t = shown_of other row d b in
@@ -174,15 +234,15 @@ or_else_content : (a b : Option Held) → option_map (λ (h : Held). h.content) 
 or_else_content None b = refl
 or_else_content (Some h) b = refl
 
-pub met_joined : (may : List ℕ → Content → Type 0) (stock : List Spot) (old other new : List Sight) → Met may stock old other new 0 → length old ≡ length stock → length other ≡ length stock → Joined (files_of old) (files_of other) (files_of new)
+pub met_joined : (may : List ℕ → Content → Type 0) (stock : Stock) (old other new : List Sight) → Met may stock old other new 0 → length old ≡ length stock.names → length other ≡ length stock.names → Joined (files_of old) (files_of other) (files_of new)
 met_joined may stock old other new m lo lt row =
     let ln = m.is.len in
     let cs : List Sight → Option Content = λ xs. content_of_sight (get_or xs row no_sight) in
     files_of-at new row
-    ∙ (elim (cases_lt row (length stock)) [
+    ∙ (elim (cases_lt row (length stock.names)) [
       | inl w ↦ ap (λ (o : Option Held). option_map (λ (h : Held). h.content) o) (m.joined row (omega arith) w) ∙ or_else_content (get_or old row no_sight).shown (get_or other row no_sight).shown
       | inr w ↦
-          let past : (xs : List Sight) → length xs ≡ length stock → cs xs ≡ None = λ xs e. ap content_of_sight (get_or_past xs row no_sight (omega arith)) in
+          let past : (xs : List Sight) → length xs ≡ length stock.names → cs xs ≡ None = λ xs e. ap content_of_sight (get_or_past xs row no_sight (omega arith)) in
           past new ln ∙ sym (ap (λ (o : Option Content). or_else o (cs other)) (past old lo) ∙ past other lt)
     ]
     ∙ (ap (λ (o : Option Content). or_else o (cs other)) (sym (files_of-at old row)) ∙ ap (λ (o : Option Content). or_else (file_at (files_of old) row) o) (sym (files_of-at other row))))
@@ -193,11 +253,11 @@ popped_last other items len n theirs is value e = grind (arith, common_steps)
 pub popped_rest : (other items rest : List Sight) (len n : ℕ) → items ≡ take len other → rest ≡ take (len - 1) items → n + 1 ≡ len → rest ≡ take n other
 popped_rest other items rest len n is value e = grind (arith, common_steps)
 
-pub fits_read : (may : List ℕ → Content → Type 0) (stock : List Spot) (sights : List Sight) (row : ℕ) (spot : Spot) (s : Sight) → IsPass may stock sights → row < length stock → spot ≡ get_or stock row spot → s ≡ get_or sights row no_sight → FitsRow may row spot s
+pub fits_read : (may : List ℕ → Content → Type 0) (stock : Stock) (sights : List Sight) (row : ℕ) (spot : Spot) (s : Sight) → IsPass may stock sights → row < length stock.names → spot ≡ spot_at stock row → s ≡ get_or sights row no_sight → FitsRow may row spot s
 fits_read may stock sights row spot s is w read at =
     let P : Sight → Type 0 = λ x. FitsRow may row spot x in
     let Q : Spot → Type 0 = λ x. FitsRow may row x (get_or sights row no_sight) in
-    subst P (sym at) (subst Q (sym (get_or_read stock row spot w read no_spot)) (is.rows row w))
+    subst P (sym at) (subst Q (sym read) (is.rows row w))
 
 some_join : (a b c' : Option Content) (c : Content) → ((d e : Content) → a ≡ Some d → b ≡ Some e → d ≡ e) → c' ≡ or_else a b → b ≡ Some c → c' ≡ Some c
 some_join None b c' c same is e = is ∙ e

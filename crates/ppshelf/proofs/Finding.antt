@@ -7,7 +7,8 @@ use Rattle.std.proofs.lemmas.Option.{none-some}
 use Rattle.ppshelf.specs.Content.{Content, readable}
 use Rattle.ppshelf.specs.OnDisk.{IsFile}
 use Rattle.ppshelf.specs.Names.{AreNames}
-use Rattle.ppshelf.specs.Shelved.{Held, Spot, Files, Placed, IsShelf, base_of, names_of, no_spot}
+use Rattle.ppshelf.specs.Files.{Files, most_rows}
+use Rattle.ppshelf.specs.Shelved.{Held, Spot, Placed, IsShelf, base_of, names_of, no_spot}
 use Rattle.ppshelf.specs.declared.memory_disk.File.{File}
 
 cons_at : (files : List File) (i : ℕ) (f : File) → i < length files → f ≡ get_or files i f → f ∷ drop (i + 1) files ≡ drop i files
@@ -32,7 +33,7 @@ none_placed stock n e row h is =
     absurd (none-some h.content (sym (all_none n row) ∙ (ap (λ (f : Files). get_or f row None) (sym e) ∙ (get_or-map base stock row no_spot ∙ ap (λ (o : Option Held). option_map (λ (x : Held). x.content) o) is))))
 
 -- rows of these names, of which none is filled
-pub empty_shelf : (names : List (List ℕ)) (stock : List Spot) (n : ℕ) → names_of stock ≡ names → base_of stock ≡ replicate n None → length names ≤ 65535 → AreNames names → IsShelf names stock
+pub empty_shelf : (names : List (List ℕ)) (stock : List Spot) (n : ℕ) → names_of stock ≡ names → base_of stock ≡ replicate n None → length names ≤ most_rows → AreNames names → IsShelf names stock
 empty_shelf names stock n named base small form = record {
   small = let l = length-map stock (λ (s : Spot). s.name) in let m = ap length named in omega arith;
   named = sym named;

@@ -2,9 +2,7 @@
 use Rattle.std.proofs.Common.{◌≡◌, ℕ, ◌+◌, suc, ◌<◌, ◌≤◌, List, [], ◌∷◌, ◌++◌, length, get_or, drop, drop-cons, Option, Some, None, IfSome, IsSome, is_some, false, refl, sym, ap, ◌∙◌, subst, arith, inl, inr}
 use Rattle.std.proofs.lemmas.Grind.{common_steps}
 use Rattle.std.proofs.lemmas.Bool.{cases_lt, false≢true}
-use Rattle.std.proofs.lemmas.List.{length-map}
 use Rattle.ppshelf.specs.Names.{AreNames, IsRowOf}
-use Rattle.ppshelf.specs.Shelved.{Spot, names_of}
 use Rattle.ppshelf.specs.Search.{IsFirstRow, inside, spelled, lead}
 
 nothing_left : (folders : List (List ℕ)) (i : ℕ) → length folders ≤ i → drop i folders ≡ []
@@ -101,9 +99,3 @@ one_first names good (c ∷ cs) a b x y =
       | inl h ↦ elim y [ inl k ↦ same_row names good c a b h.0 h.1 k.0 k.1 | inr k ↦ absurd (not_both names c a h.0 h.1 k.0) ]
       | inr h ↦ elim y [ inl k ↦ absurd (not_both names c b k.0 k.1 h.0) | inr k ↦ one_first names good cs a b h.1 k.1 ]
     ]
-
--- what is found is a row of the shelf
-pub shelf_row : (stock : List Spot) (cs : List (List ℕ)) (row : Option ℕ) → IsFirstRow (names_of stock) cs row → IfSome row (λ r. r < length stock)
-shelf_row stock cs row h =
-    let P : ℕ → Type 0 = λ n. IfSome row (λ r. r < n) in
-    subst P (length-map stock (λ (s : Spot). s.name)) (first_within (names_of stock) cs row h)

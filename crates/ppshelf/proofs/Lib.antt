@@ -1,4 +1,5 @@
 pub mod Files
+pub mod Events
 pub mod Filling
 pub mod Finding
 pub mod Naming

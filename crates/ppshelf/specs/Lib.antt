@@ -2,7 +2,9 @@ pub mod Content
 pub mod Parsed
 pub mod Names
 pub mod Indexed
+pub mod Files
 pub mod Shelved
+pub mod Events
 pub mod Faults
 pub mod OnDisk
 pub mod Search

@@ -1,27 +1,9 @@
--- What a shelf and a pass are, to a contract.
+-- What the rows of a shelf and the notes of a pass hold. Only this crate cites it.
 use Rattle.std.specs.Prelude.{◌≡◌, ℕ, ◌<◌, ◌≤◌, List, [], length, map, Option, Some, None, slice_index_or, ◌⊎◌}
 use Rattle.std.specs.Option.{option_map}
 use Rattle.ppshelf.specs.Content.{Content, Lawful}
-use Rattle.ppshelf.specs.Names.{AreNames}
-
--- A finite map from rows to contents: at each row its content, or nothing where the row is unknown
-abbrev pub Files : Type 0
-Files = List (Option Content)
-
-abbrev pub file_at : Files → ℕ → Option Content
-file_at files row = slice_index_or files row None
-
--- Every row known to the second has the same content in the first
-abbrev pub Extends : Files → Files → Type 0
-Extends new old = (row : ℕ) (c : Content) → file_at old row ≡ Some c → file_at new row ≡ Some c
-
-abbrev pub or_else : {T : Type 0} → Option T → Option T → Option T
-or_else None d = d
-or_else (Some c) d = Some c
-
--- The two maps have one content at every row that both know
-abbrev pub Agree : Files → Files → Type 0
-Agree one two = (row : ℕ) (c d : Content) → file_at one row ≡ Some c → file_at two row ≡ Some d → c ≡ d
+use Rattle.ppshelf.specs.Names.{AreNames, name_in}
+use Rattle.ppshelf.specs.Files.{most_rows, Files, file_at, Stock}
 
 -- A kept content with its row and name
 pub record Held : Type 0 where
@@ -38,19 +20,22 @@ pub record Spot : Type 0 where
 abbrev pub no_spot : Spot
 no_spot = record { name = []; base = None; cell = 0 }
 
--- A row's name
-abbrev pub name_at : List Spot → ℕ → List ℕ
-name_at stock row = (slice_index_or stock row no_spot).name
-
 abbrev pub names_of : List Spot → List (List ℕ)
-names_of stock = map (λ (s : Spot). s.name) stock
+names_of rows = map (λ (s : Spot). s.name) rows
 
 abbrev pub base_of : List Spot → Files
-base_of stock = map (λ (s : Spot). option_map (λ (h : Held). h.content) s.base) stock
+base_of rows = map (λ (s : Spot). option_map (λ (h : Held). h.content) s.base) rows
 
--- Every content is lawful for its row's name
-abbrev pub AllLawful : (List ℕ → Content → Type 0) → List Spot → Files → Type 0
-AllLawful may stock files = (row : ℕ) (c : Content) → file_at files row ≡ Some c → Lawful may (name_at stock row) c
+abbrev pub cells_of : List Spot → List ℕ
+cells_of rows = map (λ (s : Spot). s.cell) rows
+
+-- What callers see of rows
+abbrev pub stock_of : List Spot → Stock
+stock_of rows = record { names = names_of rows; base = base_of rows; cells = cells_of rows }
+
+-- A row of what callers see
+abbrev pub spot_at : Stock → ℕ → Spot
+spot_at shelf row = record { name = name_in shelf.names row; base = option_map (λ c. record { row = row; name = name_in shelf.names row; content = c }) (file_at shelf.base row); cell = slice_index_or shelf.cells row 0 }
 
 -- What one caller has seen of a row: the name of its cell, what its note knows, and what it was shown
 pub record Sight : Type 0 where
@@ -74,34 +59,25 @@ pub record FitsRow (may : List ℕ → Content → Type 0) (row : ℕ) (spot : S
 
 -- Each base content lies in its own row
 abbrev pub Placed : List Spot → Type 0
-Placed stock = (row : ℕ) (h : Held) → (slice_index_or stock row no_spot).base ≡ Some h → (h.row ≡ row) × (h.name ≡ name_at stock row)
+Placed rows = (row : ℕ) (h : Held) → (slice_index_or rows row no_spot).base ≡ Some h → (h.row ≡ row) × (h.name ≡ (slice_index_or rows row no_spot).name)
 
--- A shelf: at most 65,535 rows, their names as the index has them, in normal form and each once, each base content in its own row
-pub record IsShelf (names : List (List ℕ)) (stock : List Spot) : Type 0 where
-  pub small : length stock ≤ 65535
-  pub named : names ≡ names_of stock
+-- A shelf: not too many rows, their names as the index has them, in normal form and each once, each base content in its own row
+pub record IsShelf (names : List (List ℕ)) (rows : List Spot) : Type 0 where
+  pub small : length rows ≤ most_rows
+  pub named : names ≡ names_of rows
   pub form : AreNames names
-  pub placed : Placed stock
-
--- The shelf that the pass belongs to, and what the pass knows
-pub record Known : Type 0 where
-  pub shelf : List Spot
-  pub files : Files
+  pub placed : Placed rows
 
 abbrev pub files_of : List Sight → Files
 files_of sights = map (λ (s : Sight). option_map (λ (h : Held). h.content) s.shown) sights
 
-pub record IsPass (may : List ℕ → Content → Type 0) (stock : List Spot) (sights : List Sight) : Type 0 where
-  pub len : length sights ≡ length stock
-  pub rows : (row : ℕ) → row < length stock → FitsRow may row (slice_index_or stock row no_spot) (slice_index_or sights row no_sight)
+pub record IsPass (may : List ℕ → Content → Type 0) (shelf : Stock) (sights : List Sight) : Type 0 where
+  pub len : length sights ≡ length shelf.names
+  pub rows : (row : ℕ) → row < length shelf.names → FitsRow may row (spot_at shelf row) (slice_index_or sights row no_sight)
 
--- At each row, what either map knows there
-abbrev pub Joined : Files → Files → Files → Type 0
-Joined one two both = (row : ℕ) → file_at both row ≡ or_else (file_at one row) (file_at two row)
-
--- What a fill does to a row: what was filled stays, and what is new is lawful by what the disk gives
-pub record FilledRow (gives : List ℕ → Content → Type 0) (row : ℕ) (old new : Spot) : Type 0 where
+-- What a fill does to a row: what was filled stays, and what is new is one of these contents for the row's name
+pub record FilledRow (puts : List ℕ → Content → Type 0) (row : ℕ) (old new : Spot) : Type 0 where
   pub name : new.name ≡ old.name
   pub cell : new.cell ≡ old.cell
   pub stays : (h : Held) → old.base ≡ Some h → new.base ≡ Some h
-  pub lawful : (h : Held) → old.base ≡ None → new.base ≡ Some h → (h.row ≡ row) × (h.name ≡ old.name) × Lawful gives h.name h.content
+  pub put : (h : Held) → old.base ≡ None → new.base ≡ Some h → (h.row ≡ row) × (h.name ≡ old.name) × puts h.name h.content

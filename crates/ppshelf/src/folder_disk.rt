@@ -1,5 +1,5 @@
 // Real files.
-ghost use Rattle.std.specs.Prelude.{◌≡◌, ◌≤◌, ◌++◌, ◌∷◌, take, IfOk, IfSome};
+ghost use Rattle.std.specs.Prelude.{◌≡◌, ◌≤◌, ◌++◌, ◌∷◌, suc, take, IfOk, IfSome};
 ghost use Rattle.std.specs.String.{string_bytes};
 ghost use Rattle.ppshelf.specs.Content.{longest};
 
@@ -56,7 +56,7 @@ fn path_under(alloc: Global, folder: &str, name: &str) -> Result<String, AllocEr
 
 // Reads a file, but no more than one byte above the longest content.
 fn read_start<F: Read + Drop>(alloc: Global, file: F) -> Result<Vec<u8>, ReadFault>
-    ensures { IfOk result (λ bytes. IfSome (F.remaining file) (λ all. bytes.items ≡ take 16777217 all)) }
+    ensures { IfOk result (λ bytes. IfSome (F.remaining file) (λ all. bytes.items ≡ take (suc longest) all)) }
 {
     let mut bytes = Vec::new(alloc);
     match file.take(LONGEST as u64 + 1).read_to_end(&mut bytes) {

@@ -17,9 +17,9 @@ mod tests;
 
 pub use disk::{Disk, ReadFault};
 pub use folder_disk::FolderDisk;
-pub use laws::one_row;
+pub use laws::{callers_agree, learnt_stays, one_row};
 pub use loaded::{LONGEST, Loaded};
 pub use memory_disk::{File, MemoryDisk};
 pub use names::{is_folder, is_name};
 pub use search::{Folders, Form, resolve};
-pub use shelf::{LookFault, Pass, Shelf, ShelfFault};
+pub use shelf::{LookFault, MOST_ROWS, Pass, Shelf, ShelfFault};

@@ -3,6 +3,7 @@ ghost use Rattle.std.specs.Prelude.{◌≡◌, ℕ, ◌<◌, ◌≤◌, ◌↔�
 ghost use Rattle.std.specs.String.{string_bytes};
 ghost use Rattle.pptext.specs.Sources.{Reads};
 ghost use Rattle.ppshelf.specs.Content.{Content, unreadable, readable, Lawful, longest, content_of, IsRead};
+ghost use Rattle.ppshelf.specs.Files.{most_rows};
 ghost use Rattle.ppshelf.specs.Parsed.{parsed_content, HasReading};
 ghost use Rattle.ppshelf.specs.Shelved.{Held};
 
@@ -56,8 +57,8 @@ impl<D: Disk> Drop for Loaded<D> {
 
 // The lines of a row's bytes, or their first fault.
 fn read_lines(alloc: Global, row: usize, bytes: &[u8]) -> Result<Result<Source, Fault>, Memory>
-    requires row { row < 65535 }
-    requires short { length bytes.now ≤ 16777216 }
+    requires row { row < most_rows }
+    requires short { length bytes.now ≤ longest }
     ensures { IfOk result (λ lines. Reads row bytes.now lines) }
 {
     match read_source(alloc, bytes, row as u32) {
@@ -67,6 +68,17 @@ fn read_lines(alloc: Global, row: usize, bytes: &[u8]) -> Result<Result<Source, 
     }
 }
 
+// The bytes of a row's file with their lines.
+fn parsed_bytes(alloc: Global, row: usize, bytes: Vec<u8>) -> Result<Parsed, Memory>
+    requires row { row < most_rows }
+    requires short { length bytes.items ≤ longest }
+    ensures bytes { IfOk result (λ p. p.bytes.items ≡ bytes.items) }
+    ensures reading { IfOk result (λ p. Reads row p.bytes.items p.lines) }
+{
+    let lines = read_lines(alloc, row, bytes.as_slice())?;
+    Ok(Parsed { bytes, lines })
+}
+
 // Asks the disk for the file of a name. `None`: it cannot be read, or is too long.
 fn parsed_of<D: Disk>(
     alloc: Global,
@@ -74,7 +86,7 @@ fn parsed_of<D: Disk>(
     row: usize,
     name: &str,
 ) -> Result<Option<Parsed>, Memory>
-    requires { row < 65535 }
+    requires { row < most_rows }
     ensures content { IfOk result (λ p. Lawful (D.gives disk.now) name.now (parsed_content p)) }
     ensures reading { IfOk result (λ p. HasReading row p) }
 {
@@ -83,8 +95,7 @@ fn parsed_of<D: Disk>(
             if bytes.len() > LONGEST {
                 return Ok(None);
             }
-            let lines = read_lines(alloc, row, bytes.as_slice())?;
-            Ok(Some(Parsed { bytes, lines }))
+            Ok(Some(parsed_bytes(alloc, row, bytes)?))
         }
         Err(ReadFault::Unreadable) => Ok(None),
         Err(ReadFault::Memory) => Err(Memory),
@@ -94,7 +105,7 @@ fn parsed_of<D: Disk>(
 impl<D: Disk> Loaded<D> {
     // Reads a row from the disk.
     pub(crate) fn read(alloc: Global, disk: &D, row: usize, name: &str) -> Result<Loaded<D>, Memory>
-        requires { row < 65535 }
+        requires { row < most_rows }
         ensures place { IfOk result (λ l. (l.row ≡ row) × (l.name ≡ name.now)) }
         ensures content { IfOk result (λ l. Lawful (D.gives disk.now) name.now l.content) }
     {
@@ -104,6 +115,28 @@ impl<D: Disk> Loaded<D> {
             row,
             name,
             parsed,
+            of: PhantomData,
+        })
+    }
+
+    // A row's content of these bytes.
+    pub(crate) fn of_bytes(
+        alloc: Global,
+        row: usize,
+        name: &str,
+        bytes: Vec<u8>,
+    ) -> Result<Loaded<D>, Memory>
+        requires row { row < most_rows }
+        requires lawful { Lawful D.may name.now (readable bytes.items) }
+        ensures place { IfOk result (λ l. (l.row ≡ row) × (l.name ≡ name.now)) }
+        ensures content { IfOk result (λ l. l.content ≡ readable bytes.items) }
+    {
+        let parsed = parsed_bytes(alloc, row, bytes)?;
+        let name = String::from_str(alloc, name)?;
+        Ok(Loaded {
+            row,
+            name,
+            parsed: Some(parsed),
             of: PhantomData,
         })
     }

@@ -1,8 +1,9 @@
 // Rows that are filled once, and what callers know of them.
 ghost use Rattle.std.specs.Prelude.{◌≡◌, ℕ, ◌<◌, IfOk, OnErr, OnOk, IsSome, IfSome, IsOkAnd, Some, None};
 ghost use Rattle.std.specs.String.{string_bytes};
-ghost use Rattle.ppshelf.specs.Content.{Lawful};
-ghost use Rattle.ppshelf.specs.Shelved.{Held, FitsRow, or_else, FilledRow};
+ghost use Rattle.ppshelf.specs.Content.{Lawful, readable};
+ghost use Rattle.ppshelf.specs.Files.{most_rows, or_else};
+ghost use Rattle.ppshelf.specs.Shelved.{Held, FitsRow, FilledRow};
 
 use crate::disk::Disk;
 use crate::loaded::Loaded;
@@ -89,14 +90,29 @@ impl<D: Disk> Row<D> {
 
     // Reads the row, unless it was filled before.
     pub(crate) fn fill(&mut self, alloc: Global, row: usize, disk: &D) -> Result<(), Memory>
-        requires { row < 65535 }
-        ensures turned { FilledRow (D.gives disk.now) row self.old self.new }
+        requires { row < most_rows }
+        ensures turned { FilledRow (Lawful (D.gives disk.now)) row self.old self.new }
         ensures full { OnOk result (IsSome self.new.base) }
     {
         if self.base.is_none() {
             let loaded = Loaded::read(alloc, disk, row, self.name.as_str())?;
             self.base = Some(loaded);
         }
+        Ok(())
+    }
+
+    // Moves a content to the row, unless it was filled before.
+    pub(crate) fn put(&mut self, alloc: Global, row: usize, bytes: Vec<u8>) -> Result<(), Memory>
+        requires row { row < most_rows }
+        requires lawful { Lawful D.may self.old.name (readable bytes.items) }
+        ensures turned { FilledRow (λ name c. c ≡ readable bytes.items) row self.old self.new }
+        ensures full { OnOk result (IsSome self.new.base) }
+    {
+        if self.base.is_some() {
+            return Ok(());
+        }
+        let loaded = Loaded::of_bytes(alloc, row, self.name.as_str(), bytes)?;
+        self.base = Some(loaded);
         Ok(())
     }
 
@@ -108,7 +124,7 @@ impl<D: Disk> Row<D> {
         row: usize,
         disk: &D,
     ) -> Result<&'a Loaded<D>, Memory>
-        requires row { row < 65535 }
+        requires row { row < most_rows }
         requires placed { (h : Held) → self.now.base ≡ Some h → (h.row ≡ row) × (h.name ≡ self.now.name) }
         requires fits { FitsRow D.may row self.now seen.old }
         ensures fits { FitsRow D.may row self.now seen.new }
@@ -138,7 +154,7 @@ impl<D: Disk> Row<D> {
         row: usize,
         disk: &D,
     ) -> Result<&'a Loaded<D>, Memory>
-        requires row { row < 65535 }
+        requires row { row < most_rows }
         requires cell { note.old.cell ≡ self.now.cell }
         ensures cell { note.new.cell ≡ note.old.cell }
         ensures known { IfOk result (λ l. note.new.known ≡ Some l.now) }

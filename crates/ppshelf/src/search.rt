@@ -1,7 +1,7 @@
 // The search for included files (6.10.2).
 ghost use Rattle.std.specs.Prelude.{◌≡◌, ◌<◌, ℕ, List, length, map, IfOk, IfSome, Some, []};
 ghost use Rattle.std.specs.String.{string_bytes};
-ghost use Rattle.ppshelf.specs.Shelved.{names_of, name_at};
+ghost use Rattle.ppshelf.specs.Names.{name_in};
 ghost use Rattle.ppshelf.specs.Search as spec;
 
 use crate::disk::Disk;
@@ -38,9 +38,9 @@ pub fn resolve<D: Disk>(
     name: &[u8],
     folders: Folders<'_>,
 ) -> Result<Option<usize>, Memory>
-    requires { from < length shelf.now }
-    ensures first { IfOk result (λ row. spec.IsFirstRow (names_of shelf.now) (spec.candidates form (name_at shelf.now from) (map string_bytes folders.entry.unit.now) (map string_bytes folders.entry.setting.now) name.now) row) }
-    ensures within { IfOk result (λ found. IfSome found (λ row. row < length shelf.now)) }
+    requires { from < length shelf.now.names }
+    ensures first { IfOk result (λ row. spec.IsFirstRow shelf.now.names (spec.candidates form (name_in shelf.now.names from) (map string_bytes folders.entry.unit.now) (map string_bytes folders.entry.setting.now) name.now) row) }
+    ensures within { IfOk result (λ found. IfSome found (λ row. row < length shelf.now.names)) }
 {
     let beside = row_beside(alloc, shelf, from, form, name)?;
     if beside.is_some() {
@@ -62,8 +62,8 @@ fn row_beside<D: Disk>(
     form: Form,
     name: &[u8],
 ) -> Result<Option<usize>, Memory>
-    requires { from < length shelf.now }
-    ensures { IfOk result (λ row. spec.IsFirstRow (names_of shelf.now) (spec.beside form (name_at shelf.now from) name.now) row) }
+    requires { from < length shelf.now.names }
+    ensures { IfOk result (λ row. spec.IsFirstRow shelf.now.names (spec.beside form (name_in shelf.now.names from) name.now) row) }
 {
     if form == Form::Angle {
         return Ok(None);
@@ -85,7 +85,7 @@ fn row_inside<D: Disk>(
     folders: &[String],
     name: &[u8],
 ) -> Result<Option<usize>, Memory>
-    ensures { IfOk result (λ row. spec.IsFirstRow (names_of shelf.now) (spec.inside (map string_bytes folders.now) name.now) row) }
+    ensures { IfOk result (λ row. spec.IsFirstRow shelf.now.names (spec.inside (map string_bytes folders.now) name.now) row) }
 {
     for folder in folders {
         let row = row_in_folder(alloc, shelf, folder.as_bytes(), name)?;
@@ -102,7 +102,7 @@ fn row_in_folder<D: Disk>(
     folder: &[u8],
     name: &[u8],
 ) -> Result<Option<usize>, Memory>
-    ensures { IfOk result (λ row. spec.IsFirstRow (names_of shelf.now) (spec.spelled (spec.lead (spec.lead (Some []) folder.now) name.now)) row) }
+    ensures { IfOk result (λ row. spec.IsFirstRow shelf.now.names (spec.spelled (spec.lead (spec.lead (Some []) folder.now) name.now)) row) }
 {
     let mut path = Path::root(alloc);
     if !path.lead(folder)? {
@@ -118,7 +118,7 @@ fn row_led<'a, D: Disk>(
     mut path: Path<'a>,
     text: &'a [u8],
 ) -> Result<Option<usize>, Memory>
-    ensures { IfOk result (λ row. spec.IsFirstRow (names_of shelf.now) (spec.spelled (spec.lead (Some path.entry) text.now)) row) }
+    ensures { IfOk result (λ row. spec.IsFirstRow shelf.now.names (spec.spelled (spec.lead (Some path.entry) text.now)) row) }
 {
     if !path.lead(text)? {
         return Ok(None);

@@ -2,9 +2,11 @@
 ghost use Rattle.std.specs.Prelude.{◌≡◌, ℕ, ◌<◌, ◌≤◌, List, length, map, replicate, IfErr, IfOk, OnErr, OnOk, IfSome, IsSome, IsOkAnd, Some, None, slice_set, slice_index_or};
 ghost use Rattle.std.specs.String.{string_bytes};
 ghost use Rattle.std.specs.Vec.{vec_len};
+ghost use Rattle.ppshelf.specs.Content.{Lawful, readable};
 ghost use Rattle.ppshelf.specs.Faults.{IsShelfFault};
-ghost use Rattle.ppshelf.specs.Names.{AreNames, IsRowOf};
-ghost use Rattle.ppshelf.specs.Shelved.{file_at, name_at, names_of, base_of, AllLawful, Agree, Extends, Joined, FilledRow, Placed, no_spot};
+ghost use Rattle.ppshelf.specs.Files.{most_rows, file_at, AllLawful, Agree, Extends, Joined, IsFull, Filled, bytes_at};
+ghost use Rattle.ppshelf.specs.Names.{AreNames, IsRowOf, name_in};
+ghost use Rattle.ppshelf.specs.Shelved.{names_of, base_of};
 
 use crate::disk::Disk;
 use crate::index::{Index, index_names};
@@ -14,9 +16,13 @@ use pptext::Memory;
 use std::alloc::Global;
 use std::marker::Model;
 
+/// The most rows of a shelf.
+pub const MOST_ROWS: usize = 65_535;
+
 /// Files by row. Each row is read once, by `fill` or by the first look.
 ///
-/// Contracts see the list of its rows. A row's cell has a name of its own, so no two shelves with a row are equal.
+/// Contracts see the names of its rows, the files that `fill` put there, and which shelf it is: no two shelves with a row are
+/// equal.
 pub struct Shelf<D: Disk> {
     alloc: Global,
     index: Index,
@@ -24,12 +30,12 @@ pub struct Shelf<D: Disk> {
 }
 
 impl<D: Disk> Model for Shelf<D> {
-    ghost use Rattle.std.specs.Prelude.{List};
-    ghost use Rattle.ppshelf.specs.Shelved.{Spot, IsShelf};
+    ghost use Rattle.ppshelf.specs.Files.{Stock};
+    ghost use Rattle.ppshelf.specs.Shelved.{IsShelf, stock_of};
 
-    ghost Value = { List Spot };
+    ghost Value = { Stock };
 
-    ghost view = { λ s. s.rows.items };
+    ghost view = { λ s. stock_of s.rows.items };
 
     ghost invariant = { λ s. IsShelf s.index s.rows.items };
 }
@@ -60,7 +66,8 @@ pub struct Pass<'a, D: Disk> {
 }
 
 impl<'a, D: Disk> Model for Pass<'a, D> {
-    ghost use Rattle.ppshelf.specs.Shelved.{Known, IsPass, files_of};
+    ghost use Rattle.ppshelf.specs.Files.{Known};
+    ghost use Rattle.ppshelf.specs.Shelved.{IsPass, files_of};
 
     ghost Value = { Known };
 
@@ -83,14 +90,14 @@ pub enum LookFault {
 }
 
 impl<D: Disk> Shelf<D> {
-    /// Rows with these names, at most 65,535, in order. None is filled.
+    /// Rows with these names, at most `MOST_ROWS`, in order. None is filled.
     ///
     /// Fails at the first name that is not in normal form or that stands before.
     pub fn new(alloc: Global, names: Vec<String>) -> Result<Shelf<D>, ShelfFault>
-        requires { vec_len names ≤ 65535 }
-        ensures names { IfOk result (λ s. names_of s ≡ map string_bytes names.items) }
+        requires { vec_len names ≤ most_rows }
+        ensures names { IfOk result (λ s. s.names ≡ map string_bytes names.items) }
         ensures form { OnOk result (AreNames (map string_bytes names.items)) }
-        ensures empty { IfOk result (λ s. base_of s ≡ replicate (length names.items) None) }
+        ensures empty { IfOk result (λ s. s.base ≡ replicate (length names.items) None) }
         ensures fault { IfErr result (λ e. IsShelfFault e (map string_bytes names.items)) }
     {
         let index = index_names(alloc, names.as_slice())?;
@@ -100,44 +107,44 @@ impl<D: Disk> Shelf<D> {
         Ok(Shelf { alloc, index, rows })
     }
 
-    /// How many rows there are, at most 65,535.
+    /// How many rows there are, at most `MOST_ROWS`.
     pub fn len(&self) -> usize
-        ensures count { result ≡ length self.now }
-        ensures small { result ≤ 65535 }
+        ensures count { result ≡ length self.now.names }
+        ensures small { result ≤ most_rows }
     {
         self.rows.len()
     }
 
     /// The row of this name. Takes no memory.
     pub fn row_of(&self, name: &[u8]) -> Option<usize>
-        ensures row { IsRowOf (names_of self.now) name.now result }
-        ensures within { IfSome result (λ row. row < length self.now) }
+        ensures row { IsRowOf self.now.names name.now result }
+        ensures within { IfSome result (λ row. row < length self.now.names) }
     {
         self.index.row_of(name)
     }
 
     /// The name of a row.
     pub fn name(&self, row: usize) -> &str
-        requires { row < length self.now }
-        ensures { result.now ≡ name_at self.now row }
+        requires { row < length self.now.names }
+        ensures { result.now ≡ name_in self.now.names row }
     {
         self.rows[row].name()
     }
 
-    /// A shelf's names are in normal form, each once. For proofs: it does nothing.
+    /// A shelf's names are in normal form, each once, and each has its place in the base. For proofs: it does nothing.
     pub fn lawful(&self)
-        ensures names { AreNames (names_of self.now) }
-        ensures placed { Placed self.now }
+        ensures names { AreNames self.now.names }
+        ensures base { length self.now.base ≡ length self.now.names }
     {
         let _rows = &self.rows;
     }
 
     /// Reads each row that no earlier fill read, whatever a look kept. Where memory runs out, the rows that were read stay.
     pub fn fill(&mut self, disk: &D) -> Result<(), Memory>
-        ensures names { names_of self.new ≡ names_of self.old }
-        ensures rows { (row : ℕ) → row < length self.old → FilledRow (D.gives disk.now) row (slice_index_or self.old row no_spot) (slice_index_or self.new row no_spot) }
-        ensures len { length self.new ≡ length self.old }
-        ensures full { OnOk result ((row : ℕ) → row < length self.new → IsSome (slice_index_or self.new row no_spot).base) }
+        ensures shelf { (self.new.names ≡ self.old.names) × (self.new.cells ≡ self.old.cells) }
+        ensures base { (row : ℕ) → row < length self.old.names → Filled (Lawful (D.gives disk.now) (name_in self.old.names row)) (file_at self.old.base row) (file_at self.new.base row) }
+        ensures len { length self.new.base ≡ length self.old.names }
+        ensures full { OnOk result (IsFull self.new) }
     {
         let alloc = self.alloc;
         for row in 0..self.rows.len() {
@@ -146,10 +153,29 @@ impl<D: Disk> Shelf<D> {
         Ok(())
     }
 
+    /// Moves a content to each row that no earlier fill read, and reads its lines; the others' are let go. Where memory runs
+    /// out, the rows that were read stay.
+    pub fn fill_with(&mut self, contents: Vec<Vec<u8>>) -> Result<(), Memory>
+        requires count { length contents.items ≡ length self.old.names }
+        requires lawful { (row : ℕ) → row < length self.old.names → Lawful D.may (name_in self.old.names row) (readable (bytes_at contents.items row)) }
+        ensures shelf { (self.new.names ≡ self.old.names) × (self.new.cells ≡ self.old.cells) }
+        ensures base { (row : ℕ) → row < length self.old.names → Filled (λ c. c ≡ readable (bytes_at contents.items row)) (file_at self.old.base row) (file_at self.new.base row) }
+        ensures len { length self.new.base ≡ length self.old.names }
+        ensures full { OnOk result (IsFull self.new) }
+    {
+        let alloc = self.alloc;
+        let mut row = 0;
+        for bytes in contents {
+            self.rows[row].put(alloc, row, bytes)?;
+            row += 1;
+        }
+        Ok(())
+    }
+
     /// A pass that knows nothing.
     pub fn pass(&self) -> Result<Pass<'_, D>, Memory>
         ensures shelf { IfOk result (λ p. p.shelf ≡ self.now) }
-        ensures empty { IfOk result (λ p. p.files ≡ replicate (length self.now) None) }
+        ensures empty { IfOk result (λ p. p.files ≡ replicate (length self.now.names) None) }
     {
         let mut rows = Vec::with_capacity(self.alloc, self.rows.len())?;
         for row in &self.rows {
@@ -171,17 +197,17 @@ impl<D: Disk> Shelf<D> {
         disk: &D,
     ) -> Result<&'a Loaded<D>, LookFault>
         requires shelf { pass.old.shelf ≡ self.now }
-        requires row { row < length self.now }
+        requires row { row < length self.now.names }
         ensures shelf { pass.new.shelf ≡ self.now }
-        ensures place { IfOk result (λ l. (l.now.row ≡ row) × (l.now.name ≡ name_at self.now row)) }
+        ensures place { IfOk result (λ l. (l.now.row ≡ row) × (l.now.name ≡ name_in self.now.names row)) }
         ensures known { IfOk result (λ l. pass.new.files ≡ slice_set pass.old.files row (Some l.now.content)) }
         ensures knows { IfOk result (λ l. file_at pass.new.files row ≡ Some l.now.content) }
         ensures grows { Extends pass.new.files pass.old.files }
         ensures stays { IfSome (file_at pass.old.files row) (λ c. IsOkAnd result (λ l. l.now.content ≡ c)) }
-        ensures base { IfSome (slice_index_or self.now row no_spot).base (λ h. IsOkAnd result (λ l. l.now ≡ h)) }
+        ensures base { IfSome (file_at self.now.base row) (λ c. IsOkAnd result (λ l. l.now.content ≡ c)) }
         ensures err { OnErr result (pass.new ≡ pass.old) }
-        ensures lawful { AllLawful D.may self.now pass.new.files }
-        ensures filled { Agree (base_of self.now) pass.new.files }
+        ensures lawful { AllLawful D.may self.now.names pass.new.files }
+        ensures filled { Agree self.now.base pass.new.files }
     {
         pass.lawful();
         let shown = pass.show(self, row, disk);
@@ -201,8 +227,8 @@ impl<D: Disk> Shelf<D> {
         ensures joined { Joined pass.old.files other.entry.files pass.new.files }
         ensures grows { Extends pass.new.files pass.old.files }
         ensures theirs { Extends pass.new.files other.entry.files }
-        ensures lawful { AllLawful D.may self.now pass.new.files }
-        ensures filled { Agree (base_of self.now) pass.new.files }
+        ensures lawful { AllLawful D.may self.now.names pass.new.files }
+        ensures filled { Agree self.now.base pass.new.files }
     {
         pass.join(self, other);
         pass.lawful();
@@ -225,9 +251,9 @@ fn empty_rows<D: Disk>(alloc: Global, names: Vec<String>) -> Result<Vec<Row<D>>,
 impl<'a, D: Disk> Pass<'a, D> {
     /// What a pass knows of a row is what `fill` put there, if it did, and lawful for the row's name. For proofs: it does nothing.
     pub fn lawful(&self)
-        ensures lawful { AllLawful D.may self.now.shelf self.now.files }
-        ensures filled { Agree (base_of self.now.shelf) self.now.files }
-        ensures rows { length self.now.files ≡ length self.now.shelf }
+        ensures lawful { AllLawful D.may self.now.shelf.names self.now.files }
+        ensures filled { Agree self.now.shelf.base self.now.files }
+        ensures rows { length self.now.files ≡ length self.now.shelf.names }
     {
         let _rows = &self.rows;
     }
@@ -240,12 +266,12 @@ impl<'a, D: Disk> Pass<'a, D> {
         disk: &D,
     ) -> Result<&'a Loaded<D>, LookFault>
         requires shelf { self.old.shelf ≡ shelf.now }
-        requires row { row < length shelf.now }
+        requires row { row < length shelf.now.names }
         ensures shelf { self.new.shelf ≡ shelf.now }
-        ensures place { IfOk result (λ l. (l.now.row ≡ row) × (l.now.name ≡ name_at shelf.now row)) }
+        ensures place { IfOk result (λ l. (l.now.row ≡ row) × (l.now.name ≡ name_in shelf.now.names row)) }
         ensures known { IfOk result (λ l. self.new.files ≡ slice_set self.old.files row (Some l.now.content)) }
         ensures stays { IfSome (file_at self.old.files row) (λ c. IsOkAnd result (λ l. l.now.content ≡ c)) }
-        ensures base { IfSome (slice_index_or shelf.now row no_spot).base (λ h. IsOkAnd result (λ l. l.now ≡ h)) }
+        ensures base { IfSome (file_at shelf.now.base row) (λ c. IsOkAnd result (λ l. l.now.content ≡ c)) }
         ensures err { OnErr result (self.new ≡ self.old) }
     {
         let seen = &mut self.rows[row];

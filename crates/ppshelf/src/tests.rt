@@ -1,9 +1,11 @@
-ghost use Rattle.std.specs.Prelude.{◌≡◌, ◌≤◌, IfOk, length};
+ghost use Rattle.std.specs.Prelude.{◌≡◌, ℕ, ◌<◌, ◌≤◌, IfOk, length, true};
 ghost use Rattle.std.specs.Vec.{vec_len};
+ghost use Rattle.ppshelf.specs.Content.{longest};
+ghost use Rattle.ppshelf.specs.Files.{most_rows, bytes_at};
 
 use crate::{
-    Disk, File, FolderDisk, Folders, Form, Loaded, MemoryDisk, Pass, ReadFault, Shelf, ShelfFault,
-    is_folder, is_name, resolve,
+    Disk, File, FolderDisk, Folders, Form, LONGEST, Loaded, MemoryDisk, Pass, ReadFault, Shelf,
+    ShelfFault, is_folder, is_name, resolve,
 };
 use pptext::{Fault, Memory, Source};
 use std::alloc::{AllocError, Global};
@@ -266,7 +268,7 @@ fn a_kept_row_is_not_read_again(rt: HostRuntime) -> Result<(), Fail> {
 }
 
 fn named(alloc: Global, names: &[&str]) -> Result<Shelf<MemoryDisk>, Fail>
-    requires { length names.now ≤ 65535 }
+    requires { length names.now ≤ most_rows }
 {
     Ok(Shelf::new(alloc, texts(alloc, names)?)?)
 }
@@ -278,7 +280,7 @@ fn searched<R: Abort + AllocGlobal>(
     setting: &[&str],
     cases: &[(usize, Form, &str, Option<usize>)],
 ) -> Result<(), Fail>
-    requires { length names.now ≤ 65535 }
+    requires { length names.now ≤ most_rows }
 {
     let alloc = rt.alloc();
     let shelf = named(alloc, names)?;
@@ -416,7 +418,7 @@ fn a_memory_disk_answers_its_files(rt: HostRuntime) -> Result<(), Fail> {
     })?;
     let disk = MemoryDisk { files };
     let mut shelf = named(alloc, &["a", "b"])?;
-    shelf.fill(&disk)?;
+    assert!(rt; shelf.fill(&disk) == Ok(()));
     let mut pass = shelf.pass()?;
     assert!(rt; bytes_of(&shelf, &mut pass, 0, &disk)? == Some(b"x\n".as_slice()));
     assert!(rt; bytes_of(&shelf, &mut pass, 1, &disk)? == None);
@@ -477,5 +479,48 @@ fn a_folder_disk_reads_real_files(rt: HostRuntime) -> Result<(), Fail> {
     let removed = fs::remove_dir_all(&rt, folder.as_str());
     read?;
     removed?;
+    Ok(())
+}
+
+// Whether each content is short enough for a row.
+fn are_short(contents: &[Vec<u8>]) -> bool
+    ensures { result ≡ true → (row : ℕ) → row < length contents.now → length (bytes_at contents.now row) ≤ longest }
+{
+    for bytes in contents {
+        if bytes.len() > LONGEST {
+            return false;
+        }
+    }
+    true
+}
+
+// Moves texts to the rows.
+fn fill_with_texts(alloc: Global, shelf: &mut Shelf<Counting>, texts: &[&str]) -> Result<(), Fail> {
+    let mut contents = Vec::new(alloc);
+    for text in texts {
+        contents.push(Vec::from_slice(alloc, text.as_bytes())?)?;
+    }
+    if contents.len() != shelf.len() || !are_short(contents.as_slice()) {
+        return Err(Fail::new("no such contents"));
+    }
+    Ok(shelf.fill_with(contents)?)
+}
+
+#[test]
+fn contents_are_moved_to_rows(rt: HostRuntime) -> Result<(), Fail> {
+    let alloc = rt.alloc();
+    let mut shelf: Shelf<Counting> = Shelf::new(alloc, texts(alloc, &["a.c", "h.h"])?)?;
+    let disk = refusing(0);
+    fill_with_texts(alloc, &mut shelf, &["x\n", "/*"])?;
+    // rows that are filled stay
+    fill_with_texts(alloc, &mut shelf, &["y\n", "z\n"])?;
+    assert!(rt; shelf.fill(&disk) == Ok(()));
+    let mut pass = shelf.pass()?;
+    assert!(rt; bytes_of(&shelf, &mut pass, 0, &disk)? == Some(b"x\n".as_slice()));
+    assert!(rt; bytes_of(&shelf, &mut pass, 1, &disk)? == Some(b"/*".as_slice()));
+    let lines = lines_of(&shelf, &mut pass, 0, &disk)?;
+    assert!(rt; matches!(lines, Some(Ok(source)) if source.lines().len() == 1));
+    assert!(rt; matches!(lines_of(&shelf, &mut pass, 1, &disk)?, Some(Err(_))));
+    assert!(rt; disk.reads.load(SeqCst) == 0);
     Ok(())
 }

@@ -1,5 +1,5 @@
 use Rattle.std.proofs.Common.{sym}
-use Rattle.ppshelf.proofs.Finds.{found_second, found_third, shelf_row}
+use Rattle.ppshelf.proofs.Finds.{found_second, found_third, first_within}
 use Rattle.ppshelf.proofs.search.resolve.Goals as goal
 
 pub returns-then-is_some-2-clause-first : goal.returns-then-is_some-2-clause-first
@@ -11,10 +11,10 @@ returns-clause-first g c =
     found_third _ _ _ _ c.in_ok-beside.beside c.in_ok-found.found c.in_ok-last.last (sym c.if-is_some.ensures) c.in_ok-beside.ensures (sym c.if-is_some-2.ensures) c.in_ok-found.ensures c.in_ok-last.ensures
 
 pub returns-then-is_some-clause-within : goal.returns-then-is_some-clause-within
-returns-then-is_some-clause-within g c = shelf_row _ _ _ c.in_ok-beside.ensures
+returns-then-is_some-clause-within g c = first_within _ _ _ c.in_ok-beside.ensures
 
 pub returns-then-is_some-2-clause-within : goal.returns-then-is_some-2-clause-within
-returns-then-is_some-2-clause-within g c = shelf_row _ _ _ c.in_ok-found.ensures
+returns-then-is_some-2-clause-within g c = first_within _ _ _ c.in_ok-found.ensures
 
 pub returns-clause-within : goal.returns-clause-within
-returns-clause-within g c = shelf_row _ _ _ c.in_ok-last.ensures
+returns-clause-within g c = first_within _ _ _ c.in_ok-last.ensures

@@ -1,9 +1,10 @@
 use Rattle.std.proofs.Common.{◌≡◌}
+use Rattle.ppshelf.specs.Content.{Lawful}
 use Rattle.ppshelf.proofs.Filling.{Filling}
 use Rattle.ppshelf.proofs.shelf.Shelf.fill.Given as goal
 
 abbrev pub invariant-loop-row : goal.invariant-loop-row
 invariant-loop-row g l = record {
   index_is : l.self-inside.index ≡ l.initial.self-inside.index;
-  filling : Filling (g.D.Disk.gives l.disk) l.initial.self-inside.rows.items l.self-inside.rows.items l.row;
+  filling : Filling (λ _. Lawful (g.D.Disk.gives l.disk)) l.initial.self-inside.rows.items l.self-inside.rows.items l.row;
 }

@@ -1,0 +1,10 @@
+use Rattle.std.proofs.Common.{◌≡◌, length}
+use Rattle.ppshelf.proofs.Filling.{Filling, given}
+use Rattle.ppshelf.proofs.shelf.Shelf.fill_with.Given as goal
+
+abbrev pub invariant-loop-bytes : goal.invariant-loop-bytes
+invariant-loop-bytes g l = record {
+  row_is : l.row ≡ length l.yielded;
+  index_is : l.self-inside.index ≡ l.initial.self-inside.index;
+  filling : Filling (given l.fn.contents.items) l.initial.self-inside.rows.items l.self-inside.rows.items l.row;
+}
