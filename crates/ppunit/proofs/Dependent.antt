@@ -1,7 +1,6 @@
 -- The dependencies of a unit are rows that there are.
 use Rattle.std.proofs.Common.{◌≡◌, ℕ, ◌<◌, Bool, true, false, List, [], ◌∷◌, ◌++◌, All, length, Option, Some, None, Result, Ok, Err, refl, sym, ap, ◌∙◌, subst, inl, inr, nat_eq, if◌then◌else◌}
 use Rattle.std.specs.List.{list_any}
-use Rattle.std.proofs.lemmas.List.{length-map}
 use Rattle.std.proofs.lemmas.List.Elements.{All-push, All-nil}
 use Rattle.pptext.specs.declared.tokens.Place.{Place}
 use Rattle.pptext.specs.declared.tokens.Token.{Token}
@@ -13,7 +12,7 @@ use Rattle.pptext.specs.Tree.{sign_place, Parts, Branches}
 use Rattle.ppmacro.specs.Names.{Macros}
 use Rattle.ppmacro.specs.Define.{after_define, after_undef}
 use Rattle.ppshelf.specs.Search.{IsFirstRow}
-use Rattle.ppshelf.specs.Shelved.{Files, Spot, names_of}
+use Rattle.ppshelf.specs.Files.{Files}
 use Rattle.ppunit.specs.declared.states.State.{State}
 use Rattle.ppunit.specs.declared.line_control.Presumed.{Presumed}
 use Rattle.ppunit.specs.declared.units.Unit.{Unit as UnitOfList}
@@ -115,11 +114,6 @@ module _ (around : Surroundings) where
   translates_within (undefined here) within all = defines_within here all
   translates_within (translated here opens) within all = opened_within opens within (defines_within here all)
 
-unit_within : (names : List (List ℕ)) (files : Files) (setting : Setting) (unit : UnitOfList) (out : UnitOut) → IsUnit names files setting unit out → unit.file < length names → All (λ row. row < length names) out.deps
+pub unit_within : (names : List (List ℕ)) (files : Files) (setting : Setting) (unit : UnitOfList) (out : UnitOut) → IsUnit names files setting unit out → unit.file < length names → All (λ row. row < length names) out.deps
 unit_within names files setting unit out is within =
     subst (λ (z : UnitOut). All (λ row. row < length names) z.deps) (sym is.gives) (translates_within (surroundings names files setting unit) is.translates within (All-nil (λ row. row < length names)))
-
-pub unit_of_shelf : (stock : List Spot) (files : Files) (setting : Setting) (unit : UnitOfList) (out : UnitOut) → IsUnit (names_of stock) files setting unit out → unit.file < length stock → All (λ row. row < length stock) out.deps
-unit_of_shelf stock files setting unit out is within =
-    let long : length (names_of stock) ≡ length stock = length-map stock (λ (s : Spot). s.name) in
-    subst (λ (n : ℕ). All (λ row. row < n) out.deps) long (unit_within (names_of stock) files setting unit out is (subst (λ (n : ℕ). unit.file < n) (sym long) within))

@@ -4,7 +4,7 @@ use Rattle.pptext.specs.declared.tokens.Place.{Place}
 use Rattle.pptext.specs.Lines.{Row}
 use Rattle.pptext.specs.Tree.{Parts, Branches}
 use Rattle.ppshelf.specs.Content.{unreadable}
-use Rattle.ppshelf.specs.Shelved.{Files, Extends}
+use Rattle.ppshelf.specs.Files.{Files, Extends}
 use Rattle.ppunit.specs.declared.states.State.{State}
 use Rattle.ppunit.specs.declared.units.Unit.{Unit as UnitOfList}
 use Rattle.ppunit.specs.declared.units.Setting.{Setting}

@@ -25,7 +25,7 @@ use Rattle.ppexpand.specs.Turn.{turn}
 use Rattle.ppexpand.specs.Expansion.{done}
 use Rattle.ppexpand.specs.Arguments.{is_lone_quote, is_other_kind}
 use Rattle.ppshelf.specs.Content.{Content, unreadable, readable, IsRead}
-use Rattle.ppshelf.specs.Shelved.{file_at}
+use Rattle.ppshelf.specs.Files.{file_at}
 use Rattle.ppexpr.specs.Conditions.{IsCondition}
 use Rattle.ppexpr.proofs.GuardConditions.{punctuator, as_defined, as_name, bare_false, parenthesized_false}
 use Rattle.ppunit.specs.declared.units.Item.{Item}

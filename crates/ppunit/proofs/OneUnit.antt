@@ -14,7 +14,7 @@ use Rattle.ppexpand.specs.declared.expansion.Expanded.{Expanded}
 use Rattle.ppexpand.specs.Expansion.{IsExpansion}
 use Rattle.ppexpr.specs.Conditions.{IsCondition}
 use Rattle.ppshelf.specs.Content.{unreadable, readable}
-use Rattle.ppshelf.specs.Shelved.{file_at}
+use Rattle.ppshelf.specs.Files.{file_at}
 use Rattle.ppshelf.specs.Names.{AreNames, name_in}
 use Rattle.ppshelf.specs.Search.{IsFirstRow}
 use Rattle.ppunit.specs.declared.states.State.{State}

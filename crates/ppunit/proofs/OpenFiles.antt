@@ -3,7 +3,7 @@ use Rattle.std.proofs.Common.{◌≡◌, ℕ, suc, ◌≤◌, List, [], ◌∷�
 use Rattle.pptext.specs.declared.tokens.Fault.{Fault}
 use Rattle.pptext.specs.Lines.{Row}
 use Rattle.pptext.specs.Tree.{Parts, Tree}
-use Rattle.ppshelf.specs.Shelved.{Files, Extends}
+use Rattle.ppshelf.specs.Files.{Files, Extends}
 use Rattle.ppunit.specs.declared.opening.Entered.{Entered}
 use Rattle.ppunit.specs.declared.opening.OpenFile.{OpenFile}
 use Rattle.ppunit.specs.declared.stack.Waiting.{Waiting}

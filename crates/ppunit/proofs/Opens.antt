@@ -1,5 +1,5 @@
 -- Opening a file, and control lines, from what the steps ensure.
-use Rattle.std.proofs.Common.{◌≡◌, ℕ, zero, suc, ◌+◌, ◌^◌, ◌<◌, ◌≤◌, pos, List, [], ◌∷◌, length, refl, sym, ap, ◌∙◌, subst, false, Option, None, Some, Result, Ok, Err, MatchResult}
+use Rattle.std.proofs.Common.{◌≡◌, ℕ, suc, ◌+◌, ◌^◌, ◌<◌, ◌≤◌, pos, List, [], length, sym, ap, ◌∙◌, subst, false, Option, None, Some, Result, Ok, Err, MatchResult}
 use Rattle.pptext.specs.declared.tokens.Place.{Place}
 use Rattle.pptext.specs.declared.tokens.Token.{Token}
 use Rattle.pptext.specs.declared.tokens.Fault.{Fault}
@@ -12,7 +12,7 @@ use Rattle.pptext.proofs.Trees.{a_tree}
 use Rattle.ppexpand.specs.declared.env.Env.{Env}
 use Rattle.ppshelf.specs.Content.{Content, unreadable, readable, IsRead}
 use Rattle.ppshelf.specs.Names.{name_in}
-use Rattle.ppshelf.specs.Shelved.{Spot, Files, Extends, file_at, names_of, name_at}
+use Rattle.ppshelf.specs.Files.{Files, Extends, file_at}
 use Rattle.ppunit.specs.declared.states.State.{State}
 use Rattle.ppunit.specs.declared.including.Asked.{Asked}
 use Rattle.ppunit.specs.declared.opening.Entered.{Entered}
@@ -34,14 +34,6 @@ pub other_control : (around : Surroundings) (depth row : ℕ) (s t : State) (d :
 other_control around depth row s t d r f g is alone same control =
     let by = subst (λ (z : Option Directive). ControlBy z s r (record { state = t; fault = f })) (sym is) control in
     subst (λ (z : Option Fault). Controls around depth row s r (record { state = t; fault = z })) same (Controls.other alone by)
-
--- ---- the name of a row
-
-pub name_is : (stock : List Spot) (row : ℕ) → name_in (names_of stock) row ≡ name_at stock row
-name_is [] zero = refl
-name_is [] (suc row) = refl
-name_is (s ∷ stock) zero = refl
-name_is (s ∷ stock) (suc row) = name_is stock row
 
 -- ---- a file
 

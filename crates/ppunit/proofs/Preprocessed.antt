@@ -5,7 +5,7 @@ use Rattle.pptext.specs.declared.tokens.Fault.{Fault}
 use Rattle.pptext.specs.Lines.{Row}
 use Rattle.pptext.specs.Sources.{IsSource, Reads}
 use Rattle.pptext.specs.Tree.{Parts, Tree, group_fault}
-use Rattle.ppshelf.specs.Shelved.{Files, Extends}
+use Rattle.ppshelf.specs.Files.{Files, Extends}
 use Rattle.ppunit.specs.declared.states.State.{State}
 use Rattle.ppunit.specs.declared.units.Unit.{Unit as UnitOfList}
 use Rattle.ppunit.specs.declared.units.Setting.{Setting}

@@ -21,7 +21,7 @@ use Rattle.ppunit.specs.Conditions.{Decides}
 use Rattle.ppunit.specs.Directives.{RunGives}
 use Rattle.ppunit.specs.Lines.{run_tokens}
 use Rattle.ppunit.specs.Group.{Controls}
-use Rattle.ppshelf.specs.Shelved.{Files, Extends}
+use Rattle.ppshelf.specs.Files.{Files, Extends}
 use Rattle.ppunit.specs.Walk.{no_row, line_at, opens_section, ends_group, Outer, lay, AreOuter, StandsAt, Ends, Advances, BranchesAt, Enters, FindsBranch, IsTextRow, IsRest, Passes, PassesFrom}
 
 -- ---- lines by index

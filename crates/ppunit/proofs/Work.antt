@@ -2,7 +2,7 @@
 use Rattle.std.proofs.Common.{◌≡◌, ℕ, zero, suc, ◌+◌, ◌-◌, ◌*◌, ◌^◌, ◌<◌, ◌≤◌, List, [], ◌∷◌, length, ap, Option, None, Some, arith}
 use Rattle.std.proofs.Math.Nat.{mul-lt-mul_of_pos_right, mul-le-mul_right}
 use Rattle.pptext.specs.Lines.{Row}
-use Rattle.ppshelf.specs.Shelved.{Files}
+use Rattle.ppshelf.specs.Files.{Files}
 use Rattle.ppunit.specs.declared.opening.Entered.{Entered}
 use Rattle.ppunit.specs.declared.opening.OpenFile.{OpenFile}
 use Rattle.ppunit.specs.declared.stack.Waiting.{Waiting}

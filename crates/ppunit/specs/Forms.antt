@@ -2,6 +2,7 @@
 use Rattle.std.specs.Prelude.{ℕ, ◌+◌, ◌-◌, ◌*◌, ◌==◌, ◌&&◌, ◌||◌, not, Bool, List, nat_le, nat_lt, codes, length, take, drop, slice_index}
 use Rattle.std.specs.List.{list_all}
 use Rattle.std.specs.Str.{bytes_eq}
+use Rattle.ppshelf.specs.Content.{longest}
 use Rattle.ppunit.specs.declared.units.Setting.{Setting}
 use Rattle.ppunit.specs.declared.units.Unit.{Unit as UnitOfList}
 use Rattle.ppunit.specs.Unit.{command_text}
@@ -46,4 +47,4 @@ is_setting setting = is_date setting.date && is_time setting.time
 
 -- the file is one of so many, each definition is one line, and all of them make no longer a file than there may be
 abbrev pub is_unit : ℕ → UnitOfList → Bool
-is_unit rows unit = nat_lt unit.file rows && (list_all is_one_line unit.defines && nat_le (length (command_text unit.defines)) 16777216)
+is_unit rows unit = nat_lt unit.file rows && (list_all is_one_line unit.defines && nat_le (length (command_text unit.defines)) longest)

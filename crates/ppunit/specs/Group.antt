@@ -7,7 +7,7 @@ use Rattle.pptext.specs.Lines.{Row, directive_of}
 use Rattle.pptext.specs.Sources.{Reads}
 use Rattle.pptext.specs.Tree.{sign_place, Parts, Done, Run, Control, Section, Branches, End, Branch, Tree}
 use Rattle.ppshelf.specs.Content.{unreadable, readable}
-use Rattle.ppshelf.specs.Shelved.{file_at}
+use Rattle.ppshelf.specs.Files.{file_at}
 use Rattle.ppshelf.specs.Names.{name_in}
 use Rattle.ppunit.specs.States.{Surroundings, Reached, going, stopped, depending, entering, leaving}
 use Rattle.ppunit.specs.declared.states.State.{State}

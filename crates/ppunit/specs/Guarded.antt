@@ -5,7 +5,7 @@ use Rattle.pptext.specs.Lines.{Row}
 use Rattle.pptext.specs.Sources.{Reads}
 use Rattle.pptext.specs.Guard.{GuardedBy}
 use Rattle.ppshelf.specs.Content.{readable}
-use Rattle.ppshelf.specs.Shelved.{file_at}
+use Rattle.ppshelf.specs.Files.{file_at}
 use Rattle.ppunit.specs.States.{Surroundings, going, depending}
 use Rattle.ppunit.specs.declared.states.State.{State}
 use Rattle.ppunit.specs.Conditions.{is_defined}

@@ -1,7 +1,7 @@
 -- Laws of units.
 use Rattle.std.specs.Prelude.{◌≡◌, ℕ, List}
 use Rattle.ppshelf.specs.Names.{AreNames}
-use Rattle.ppshelf.specs.Shelved.{Files, Extends}
+use Rattle.ppshelf.specs.Files.{Files, Extends}
 use Rattle.ppunit.specs.declared.units.Unit.{Unit as UnitOfList}
 use Rattle.ppunit.specs.declared.units.Setting.{Setting}
 use Rattle.ppunit.specs.declared.units.UnitOut.{UnitOut}

@@ -7,8 +7,11 @@ pub mod Including
 pub mod Conditions
 pub mod Directives
 pub mod Group
+pub mod Commands
 pub mod Unit
+pub mod Units
 pub mod Laws
 pub mod Walk
 pub mod Forms
 pub mod Guarded
+pub mod Parts

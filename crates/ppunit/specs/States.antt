@@ -2,12 +2,18 @@
 use Rattle.std.specs.Prelude.{ℕ, pos, List, [], ◌∷◌, ◌++◌, Option, Some, None}
 use Rattle.pptext.specs.declared.tokens.Fault.{Fault}
 use Rattle.ppmacro.specs.Substitution.{escaped}
-use Rattle.ppshelf.specs.Shelved.{Files}
+use Rattle.ppshelf.specs.Files.{Files, Stock}
 use Rattle.ppshelf.specs.Names.{name_in}
 use Rattle.ppunit.specs.Dependencies.{among}
 use Rattle.ppunit.specs.declared.units.Item.{Item}
 use Rattle.ppunit.specs.declared.units.UnitOut.{UnitOut}
 use Rattle.ppunit.specs.declared.states.State.{State}
+
+-- where a unit's files lie: their shelf, and the folders that are searched, the unit's before the setting's
+pub record Library : Type 0 where
+  pub shelf : Stock
+  pub unit_folders : List (List ℕ)
+  pub setting_folders : List (List ℕ)
 
 -- what does not change within a unit: the names of all files, what is known of them, and the folders that are searched, the unit's before the setting's
 pub record Surroundings : Type 0 where
@@ -15,6 +21,10 @@ pub record Surroundings : Type 0 where
   pub files : Files
   pub unit_folders : List (List ℕ)
   pub setting_folders : List (List ℕ)
+
+-- these files of a library
+abbrev pub surroundings_of : Library → Files → Surroundings
+surroundings_of library files = record { names = library.shelf.names; files = files; unit_folders = library.unit_folders; setting_folders = library.setting_folders }
 
 -- a unit goes on, or has stopped at its first fault
 pub record Reached : Type 0 where

@@ -1,29 +1,19 @@
 -- The value of a unit: phases 1 to 4 of its definitions and its file.
-use Rattle.std.specs.Prelude.{◌≡◌, ℕ, pos, List, [], ◌∷◌, ◌++◌, Ok, Err, codes, flat_map}
+use Rattle.std.specs.Prelude.{◌≡◌, ℕ, ◌<◌, pos, List, [], Ok, Err}
 use Rattle.pptext.specs.declared.tokens.Place.{Place}
 use Rattle.pptext.specs.declared.tokens.Fault.{Fault}
 use Rattle.pptext.specs.Lines.{Row}
 use Rattle.pptext.specs.Sources.{Reads}
 use Rattle.pptext.specs.Tree.{Parts, Tree}
 use Rattle.ppmacro.specs.Predefined.{predefined}
-use Rattle.ppshelf.specs.Shelved.{Files}
+use Rattle.ppshelf.specs.Files.{Files}
+pub use Rattle.ppunit.specs.Commands.{command_file, command_line, command_text}
 use Rattle.ppunit.specs.declared.units.Unit.{Unit as UnitOfList}
 use Rattle.ppunit.specs.declared.units.Setting.{Setting}
 use Rattle.ppunit.specs.declared.units.UnitOut.{UnitOut}
 use Rattle.ppunit.specs.States.{Surroundings, Reached, going, stopped, given}
 use Rattle.ppunit.specs.declared.states.State.{State}
 use Rattle.ppunit.specs.Group.{Group, Opened}
-
--- the number of the file that holds a unit's definitions
-abbrev pub command_file : ℕ
-command_file = 65535
-
-abbrev pub command_line : List ℕ → List ℕ
-command_line text = codes "#define " ++ text ++ 10 ∷ []
-
--- a line for each definition
-abbrev pub command_text : List (List ℕ) → List ℕ
-command_text defines = flat_map command_line defines
 
 -- a unit begins with the predefined names alone (6.10.8.1)
 abbrev pub beginning : Setting → State
@@ -45,6 +35,10 @@ pub data Translates (around : Surroundings) (defines : List (List ℕ)) (row : �
 
 abbrev pub surroundings : List (List ℕ) → Files → Setting → UnitOfList → Surroundings
 surroundings names files setting unit = record { names = names; files = files; unit_folders = unit.search; setting_folders = setting.search }
+
+-- a unit's file is in one of so many rows
+abbrev pub IsUnitOf : ℕ → UnitOfList → Type 0
+IsUnitOf rows unit = unit.file < rows
 
 -- what a unit gives over these files
 pub record IsUnit (names : List (List ℕ)) (files : Files) (setting : Setting) (unit : UnitOfList) (out : UnitOut) : Type 0 where

@@ -8,7 +8,7 @@ use Rattle.pptext.specs.Lines.{Row, directive_of}
 use Rattle.pptext.specs.Sources.{next_branch}
 use Rattle.pptext.specs.Tree.{Parts, Branches, part_lines, branch_lines, AreParts, AreBranches, Tree, role, branch_behind}
 use Rattle.ppexpand.specs.declared.env.Env.{Env}
-use Rattle.ppshelf.specs.Shelved.{Files, Extends, Spot, names_of}
+use Rattle.ppshelf.specs.Files.{Files, Extends}
 use Rattle.ppunit.specs.declared.states.State.{State}
 use Rattle.ppunit.specs.declared.opening.Entered.{Entered}
 use Rattle.ppunit.specs.declared.opening.OpenFile.{OpenFile}
@@ -18,10 +18,6 @@ use Rattle.ppunit.specs.States.{Surroundings, Reached, going, stopped}
 use Rattle.ppunit.specs.Conditions.{Decides}
 use Rattle.ppunit.specs.Group.{deepest, Group, Branched, Controls}
 use Rattle.ppunit.specs.Unit.{Defines}
-
--- of a shelf and folders, over these files
-abbrev pub surroundings_of : List Spot → List (List ℕ) → List (List ℕ) → Files → Surroundings
-surroundings_of stock unit setting files = record { names = names_of stock; files = files; unit_folders = unit; setting_folders = setting }
 
 abbrev pub no_row : Row
 no_row = record { tokens = []; number = 0 }

@@ -10,17 +10,16 @@ ghost use Rattle.ppunit.specs.States.{Reached, passed};
 use crate::line_control::renumber;
 use crate::lines::{line_fault, name, operands, sign};
 use crate::states::State;
-use crate::units::Item;
 use ppexpand::expand;
 use ppmacro::{define, undef};
-use pptext::{Directive, Fault, Memory, Token, Tokens};
+use pptext::{Directive, Fault, Memory, Token};
 use std::alloc::{AllocError, Global};
 
 /// Passes on what a text run expands to, up to its first fault (6.10.3).
-pub(crate) fn run_text(
+pub(crate) fn run_text<'x>(
     alloc: Global,
-    state: &mut State,
-    tokens: &[Token],
+    state: &mut State<'x>,
+    tokens: &'x [Token],
 ) -> Result<Option<Fault>, Memory>
     ensures { IfOk result (λ f. spec.RunGives state.old tokens.now (record { state = state.new; fault = f })) }
 {
@@ -54,19 +53,18 @@ pub(crate) fn error(alloc: Global, line: &[Token]) -> Result<Fault, AllocError>
 }
 
 // A pragma with its tokens is passed on (6.10.6).
-fn pragma(alloc: Global, state: &mut State, line: &[Token]) -> Result<(), AllocError>
+fn pragma<'x>(state: &mut State<'x>, line: &'x [Token]) -> Result<(), AllocError>
     ensures { OnOk result (state.new ≡ passed state.old (item.Pragma (sign_place line.now) (spec_lines.operands line.now) ∷ [])) }
 {
-    let tokens = Tokens::new(Vec::from_clones(alloc, operands(line))?);
-    state.pass(Item::Pragma(sign(line), tokens))
+    state.pass_pragma(sign(line), operands(line))
 }
 
 /// What a control line without lone quotes does, where it opens no file; its fault, if it has one.
-pub(crate) fn control(
+pub(crate) fn control<'x>(
     alloc: Global,
-    state: &mut State,
+    state: &mut State<'x>,
     directive: Directive,
-    line: &[Token],
+    line: &'x [Token],
     physical: u32,
 ) -> Result<Option<Fault>, Memory>
     requires line { directive_of line.now ≡ Some directive }
@@ -83,7 +81,7 @@ pub(crate) fn control(
         Directive::Undef => Ok(undef(alloc, &mut state.macros, sign(line), operands(line))?.err()),
         Directive::Line => renumber(alloc, state, line, physical),
         Directive::Pragma => {
-            pragma(alloc, state, line)?;
+            pragma(state, line)?;
             Ok(None)
         }
         Directive::Unknown => Ok(Some(line_fault(alloc, 8, line, name(line))?)),

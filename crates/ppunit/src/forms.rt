@@ -2,11 +2,12 @@
 ghost use Rattle.std.specs.Prelude.{◌≡◌, length, map, nat_le};
 ghost use Rattle.std.specs.List.{list_all};
 ghost use Rattle.std.specs.String.{string_bytes};
+ghost use Rattle.ppshelf.specs.Content.{longest};
 ghost use Rattle.ppunit.specs.Forms as spec;
 ghost use Rattle.ppunit.specs.Unit.{command_text};
 
 use crate::units::{Setting, Unit};
-use ppshelf::{Disk, Shelf};
+use ppshelf::{Disk, LONGEST, Shelf};
 
 #[cfg(test)]
 mod tests;
@@ -91,17 +92,14 @@ fn is_in_line(byte: u8) -> bool
     byte != b'\r' && byte != b'\n'
 }
 
-/// The most bytes of the file that holds a unit's definitions.
-const MOST_BYTES: usize = 16_777_216;
-
 // The bytes of a definition's line besides its text: `#define ` and a new-line.
 const AROUND: usize = 9;
 
-/// Whether the file of these definitions, a line `#define `, text, new-line for each, has at most 16,777,216 bytes.
+/// Whether the file of these definitions, a line `#define `, text, new-line for each, has at most `LONGEST` bytes.
 pub fn fits_command(defines: &[String]) -> bool
-    ensures { result ≡ nat_le (length (command_text (map string_bytes defines.now))) 16_777_216 }
+    ensures { result ≡ nat_le (length (command_text (map string_bytes defines.now))) longest }
 {
-    let mut room = MOST_BYTES;
+    let mut room = LONGEST;
     for text in defines {
         if room < AROUND || room - AROUND < text.len() {
             return false;
@@ -130,10 +128,10 @@ fn are_lines(texts: &[String]) -> bool
 }
 
 /// Whether the unit's file is one of the shelf's, each of its definitions is one line, and the file of its definitions has at
-/// most 16,777,216 bytes.
+/// most `LONGEST` bytes.
 pub fn unit_ok<D: Disk>(shelf: &Shelf<D>, unit: &Unit) -> bool
-    ensures { result ≡ spec.is_unit (length shelf.now) unit.now }
+    ensures { result ≡ spec.is_unit (length shelf.now.names) unit.now }
 {
-    let defines = unit.defines.as_slice();
+    let defines = unit.defines.texts().as_slice();
     unit.file < shelf.len() && are_lines(defines) && fits_command(defines)
 }

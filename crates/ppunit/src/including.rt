@@ -3,7 +3,7 @@ ghost use Rattle.std.specs.Prelude.{◌≡◌, IfOk, [], true};
 ghost use Rattle.std.specs.Option.{option_map};
 ghost use Rattle.ppunit.specs.Lines.{line_fault};
 ghost use Rattle.ppunit.specs.Including as spec;
-ghost use Rattle.ppunit.specs.Directives.{Asks};
+ghost use Rattle.ppunit.specs.Directives.{Asks, AsksReplaced};
 
 use crate::line_control::is_plain_string;
 use crate::lines::{line_fault, operands};
@@ -92,7 +92,7 @@ fn expanded_asked(alloc: Global, tokens: &[Token]) -> Result<Option<Asked>, Allo
             };
             Ok(Some(Asked {
                 form: Form::Angle,
-                name: Spelling::new(name),
+                name: Spelling::new(name)?,
             }))
         }
         _ => Ok(None),
@@ -119,11 +119,28 @@ fn is_nowhere(name: &[u8]) -> bool
     name.is_empty() || name[0] == b'/'
 }
 
-/// What an include line without lone quotes asks for, or its fault: one of replacement, or 30.
-pub(crate) fn ask(
+// What an include line that names no header asks for once its macros are replaced.
+fn ask_replaced<'x>(
     alloc: Global,
-    state: &State,
-    line: &[Token],
+    state: &State<'x>,
+    line: &'x [Token],
+) -> Result<Result<Asked, Fault>, Memory>
+    ensures { IfOk result (λ a. AsksReplaced state.now line.now a) }
+{
+    let Expanded { tokens, fault } = expand(alloc, &state.macros, &state.env, operands(line))?;
+    if let Some(fault) = fault {
+        return Ok(Err(fault));
+    }
+    let tokens = tokens.to_vec(alloc)?;
+    let asked = expanded_asked(alloc, tokens.as_slice())?;
+    Ok(asked_or_fault(alloc, line, asked)?)
+}
+
+/// What an include line without lone quotes asks for, or its fault: one of replacement, or 30.
+pub(crate) fn ask<'x>(
+    alloc: Global,
+    state: &State<'x>,
+    line: &'x [Token],
 ) -> Result<Result<Asked, Fault>, Memory>
     ensures { IfOk result (λ a. Asks state.now line.now a) }
 {
@@ -134,10 +151,5 @@ pub(crate) fn ask(
             return Ok(asked_or_fault(alloc, line, asked)?);
         }
     }
-    let Expanded { tokens, fault } = expand(alloc, &state.macros, &state.env, rest)?;
-    if let Some(fault) = fault {
-        return Ok(Err(fault));
-    }
-    let asked = expanded_asked(alloc, tokens.as_slice())?;
-    Ok(asked_or_fault(alloc, line, asked)?)
+    ask_replaced(alloc, state, line)
 }

@@ -2,6 +2,7 @@
 #![tactic(auto)]
 
 mod conditions;
+mod definitions;
 mod directives;
 mod forms;
 mod guards;
@@ -20,9 +21,10 @@ mod tests;
 mod units;
 mod walking;
 
+pub use definitions::Definitions;
 pub use forms::{fits_command, is_date, is_one_line, is_time, setting_ok, unit_ok};
 pub use guards::guard_changes_nothing;
 pub use laws::{growth, one_value};
-pub use lists::{Items, Rows, Text, Texts};
+pub use lists::{Items, Part, Rows, Text, Texts};
 pub use preprocessing::preprocess;
 pub use units::{Item, Setting, Unit, UnitOut};

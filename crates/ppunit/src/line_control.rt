@@ -78,10 +78,10 @@ fn rename(env: &mut Env, name: Option<Spelling>)
 
 /// The line behind the directive's new-line, which stands in this physical line, gets a number, and the file perhaps a
 /// name; or the fault of replacement, or 33.
-pub(crate) fn renumber(
+pub(crate) fn renumber<'x>(
     alloc: Global,
-    state: &mut State,
-    line: &[Token],
+    state: &mut State<'x>,
+    line: &'x [Token],
     physical: u32,
 ) -> Result<Option<Fault>, Memory>
     ensures { IfOk result (λ f. LineGives state.old (record { tokens = line.now; number = physical }) (record { state = state.new; fault = f })) }
@@ -90,6 +90,7 @@ pub(crate) fn renumber(
     if let Some(fault) = fault {
         return Ok(Some(fault));
     }
+    let tokens = tokens.to_vec(alloc)?;
     let Some(presumed) = presumed_by(tokens.as_slice())? else {
         return Ok(Some(line_fault(alloc, 33, line, b"")?));
     };

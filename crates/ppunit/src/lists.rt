@@ -1,11 +1,13 @@
 // Texts, rows and items, which contracts see as lists.
-ghost use Rattle.std.specs.Prelude.{◌≡◌, map, string_bytes, OnOk, ◌++◌, ◌∷◌, []};
+ghost use Rattle.ppunit.specs.Parts.{part_items};
+ghost use Rattle.std.specs.Prelude.{flat_map, ◌≡◌, map, string_bytes, IfOk, OnOk, ◌++◌, ◌∷◌, []};
 ghost use Rattle.ppunit.specs.declared.units.Item.TheVariants as item;
 ghost use Rattle.ppunit.specs.Dependencies.{among};
 
 use crate::units::Item;
 use indexmap::IndexSet;
-use pptext::Tokens;
+use ppexpand::Run;
+use pptext::{Place, Token, Tokens};
 use std::alloc::{AllocError, Global};
 use std::marker::Model;
 
@@ -118,51 +120,95 @@ impl Rows {
     }
 }
 
-/// Items, which contracts see as their list.
-#[derive(Drop, Debug)]
-pub struct Items {
-    items: Vec<Item>,
+/// A run of tokens, or a pragma with its tokens.
+#[derive(Drop)]
+pub enum Part<'a> {
+    Run(Run<'a>),
+    Pragma(Place, &'a [Token]),
 }
 
-impl Model for Items {
-    ghost use Rattle.std.specs.Prelude.{List};
+/// Items, which contracts see as their list.
+#[derive(Drop)]
+pub struct Items<'a> {
+    parts: Vec<Part<'a>>,
+}
+
+impl<'a> Model for Items<'a> {
+    ghost use Rattle.std.specs.Prelude.{List, flat_map};
     ghost use Rattle.ppunit.specs.declared.units.Item.{Item};
 
     ghost Value = { List Item };
 
-    ghost view = { λ s. s.items.items };
+    ghost use Rattle.ppunit.specs.Parts.{part_items};
+
+    ghost view = { λ s. flat_map part_items s.parts.items };
 }
 
-impl Items {
-    /// These items.
-    pub fn new(items: Vec<Item>) -> Items
-        ensures { result ≡ items.items }
+impl<'a> Items<'a> {
+    /// No items.
+    pub fn new(alloc: Global) -> Items<'a>
+        ensures { result ≡ [] }
     {
-        Items { items }
+        Items {
+            parts: Vec::new(alloc),
+        }
     }
 
-    /// Puts an item behind the others.
-    pub(crate) fn push(&mut self, item: Item) -> Result<(), AllocError>
-        ensures { OnOk result (self.new ≡ self.old ++ item ∷ []) }
+    /// The parts.
+    pub fn parts(&self) -> &[Part<'a>]
+        ensures { flat_map part_items result.now ≡ self.now }
     {
-        self.items.push(item)?;
+        self.parts.as_slice()
+    }
+
+    /// A copy of the items as one list.
+    pub fn to_vec(&self, alloc: Global) -> Result<Vec<Item>, AllocError>
+        ensures { IfOk result (λ v. v.items ≡ self.now) }
+    {
+        let mut items = Vec::new(alloc);
+        for part in &self.parts {
+            copy_part(alloc, &mut items, part)?;
+        }
+        Ok(items)
+    }
+
+    /// Puts a pragma behind the others.
+    pub(crate) fn push_pragma(&mut self, at: Place, tokens: &'a [Token]) -> Result<(), AllocError>
+        ensures { OnOk result (self.new ≡ self.old ++ item.Pragma at tokens.now ∷ []) }
+    {
+        self.parts.push(Part::Pragma(at, tokens))?;
         Ok(())
     }
 
     /// Puts tokens behind the others.
-    pub(crate) fn extend(&mut self, tokens: Tokens) -> Result<(), AllocError>
-        ensures { OnOk result (self.new ≡ self.old ++ map item.Token tokens) }
+    pub(crate) fn extend(&mut self, run: Run<'a>) -> Result<(), AllocError>
+        ensures { OnOk result (self.new ≡ self.old ++ map item.Token run.entry) }
     {
-        for token in tokens.into_vec() {
-            self.push(Item::Token(token))?;
-        }
+        self.parts.push(Part::Run(run))?;
         Ok(())
     }
+}
 
-    /// The items.
-    pub fn as_slice(&self) -> &[Item]
-        ensures { result.now ≡ self.now }
-    {
-        self.items.as_slice()
+// Puts copies of a part's items behind others.
+fn copy_part(alloc: Global, items: &mut Vec<Item>, part: &Part) -> Result<(), AllocError>
+    ensures { OnOk result (items.new.items ≡ items.old.items ++ part_items part.now) }
+{
+    match part {
+        Part::Run(run) => push_tokens(items, run.to_vec(alloc)?),
+        Part::Pragma(at, tokens) => {
+            let tokens = Tokens::new(Vec::from_clones(alloc, tokens)?);
+            items.push(Item::Pragma(*at, tokens))?;
+            Ok(())
+        }
     }
+}
+
+// Puts tokens behind other items.
+fn push_tokens(items: &mut Vec<Item>, tokens: Vec<Token>) -> Result<(), AllocError>
+    ensures { OnOk result (items.new.items ≡ items.old.items ++ map item.Token tokens.items) }
+{
+    for token in tokens {
+        items.push(Item::Token(token))?;
+    }
+    Ok(())
 }

@@ -1,11 +1,11 @@
 // Opening a file (6.10.2): its dependency, its content, and what the predefined names stand for in it.
 ghost use Rattle.std.specs.Prelude.{◌≡◌, ◌<◌, ◌^◌, pos, ℕ, map, length, string_bytes, IfOk, IfSome};
 ghost use Rattle.ppshelf.specs.Names.{name_in};
-ghost use Rattle.ppshelf.specs.Shelved.{Files, Extends, names_of, name_at};
+ghost use Rattle.ppshelf.specs.Files.{Files, Extends};
 ghost use Rattle.ppunit.specs.Directives.{Finds};
 ghost use Rattle.ppunit.specs.Group.{Opened, fault_at};
-ghost use Rattle.ppunit.specs.States.{Reached, literal};
-ghost use Rattle.ppunit.specs.Walk.{surroundings_of, Leads};
+ghost use Rattle.ppunit.specs.States.{Reached, literal, surroundings_of};
+ghost use Rattle.ppunit.specs.Walk.{Leads};
 
 use crate::guards::is_left_out;
 use crate::including::Asked;
@@ -15,17 +15,29 @@ use ppexpand::Env;
 use ppshelf::{Disk, Folders, Form, Pass, Shelf, resolve};
 use pptext::{Fault, Memory, Place, Source, Spelling};
 use std::alloc::{AllocError, Global};
+use std::marker::Model;
 use std::mem::replace;
 
 /// The deepest include: the unit's file is at depth 0, and an included file one deeper than its include line.
 const DEEPEST: u32 = 200;
 
-/// What does not change within a unit: the files, where they come from, and the folders that are searched.
+/// What does not change within a unit: the files, where they come from, and the folders that are searched. Contracts see the
+/// shelf of the files and the folders.
 pub(crate) struct Around<'a, 'b, D: Disk> {
     pub alloc: Global,
-    pub shelf: &'a Shelf<D>,
-    pub disk: &'b D,
-    pub folders: Folders<'b>,
+    shelf: &'a Shelf<D>,
+    disk: &'b D,
+    folders: Folders<'b>,
+}
+
+impl<'a, 'b, D: Disk> Model for Around<'a, 'b, D> {
+    ghost use Rattle.std.specs.Prelude.{map};
+    ghost use Rattle.std.specs.String.{string_bytes};
+    ghost use Rattle.ppunit.specs.States.{Library};
+
+    ghost Value = { Library };
+
+    ghost view = { λ a. record { shelf = a.shelf.now; unit_folders = map string_bytes a.folders.unit.now; setting_folders = map string_bytes a.folders.setting.now } };
 }
 
 impl<D: Disk> Drop for Around<'_, '_, D> {
@@ -36,6 +48,40 @@ impl<D: Disk> Drop for Around<'_, '_, D> {
             disk: _,
             folders: _,
         } = self;
+    }
+}
+
+impl<'a, 'b, D: Disk> Around<'a, 'b, D> {
+    /// The files of this shelf, and these folders.
+    pub(crate) fn new(
+        alloc: Global,
+        shelf: &'a Shelf<D>,
+        disk: &'b D,
+        folders: Folders<'b>,
+    ) -> Around<'a, 'b, D>
+        ensures { result ≡ record { shelf = shelf.now; unit_folders = map string_bytes folders.entry.unit.now; setting_folders = map string_bytes folders.entry.setting.now } }
+    {
+        Around {
+            alloc,
+            shelf,
+            disk,
+            folders,
+        }
+    }
+
+    /// The shelf of the files.
+    pub(crate) fn shelf(&self) -> &'a Shelf<D>
+        ensures { result.now ≡ self.now.shelf }
+    {
+        self.shelf
+    }
+
+    // The folders that are searched.
+    fn folders(&self) -> Folders<'b>
+        ensures unit { map string_bytes result.unit.now ≡ self.now.unit_folders }
+        ensures setting { map string_bytes result.setting.now ≡ self.now.setting_folders }
+    {
+        self.folders
     }
 }
 
@@ -102,29 +148,17 @@ pub(crate) fn resolve_in<D: Disk>(
     row: usize,
     asked: &Asked,
 ) -> Result<Option<usize>, Memory>
-    requires { 0 < length around.now.shelf.now }
-    ensures finds { (files : Files) → IfOk result (λ found. Finds (surroundings_of around.now.shelf.now (map string_bytes around.now.folders.unit.now) (map string_bytes around.now.folders.setting.now) files) row asked.now found) }
-    ensures within { IfOk result (λ found. IfSome found (λ found. found < length around.now.shelf.now)) }
+    requires { 0 < length around.now.shelf.names }
+    ensures finds { (files : Files) → IfOk result (λ found. Finds (surroundings_of around.now files) row asked.now found) }
+    ensures within { IfOk result (λ found. IfSome found (λ found. found < length around.now.shelf.names)) }
 {
+    let shelf = around.shelf();
+    let folders = around.folders();
     let name = asked.name.as_bytes();
-    if row < around.shelf.len() {
-        return resolve(
-            around.alloc,
-            around.shelf,
-            row,
-            asked.form,
-            name,
-            around.folders,
-        );
+    if row < shelf.len() {
+        return resolve(around.alloc, shelf, row, asked.form, name, folders);
     }
-    resolve(
-        around.alloc,
-        around.shelf,
-        0,
-        Form::Angle,
-        name,
-        around.folders,
-    )
+    resolve(around.alloc, shelf, 0, Form::Angle, name, folders)
 }
 
 /// Opens the file of a row for the line at this place, or leaves it out for its guard. Faults 32 and 6, or the file's own.
@@ -136,18 +170,19 @@ pub(crate) fn open<'a, D: Disk>(
     at: Place,
     row: usize,
 ) -> Result<Result<Option<Entered<'a>>, Fault>, Memory>
-    requires shelf { pass.old.shelf ≡ around.now.shelf.now }
-    requires row { row < length around.now.shelf.now }
-    ensures shelf { pass.new.shelf ≡ around.now.shelf.now }
+    requires shelf { pass.old.shelf ≡ around.now.shelf }
+    requires row { row < length around.now.shelf.names }
+    ensures shelf { pass.new.shelf ≡ around.now.shelf }
     ensures grows { Extends pass.new.files pass.old.files }
-    ensures opened { IfOk result (λ leads. Leads (surroundings_of around.now.shelf.now (map string_bytes around.now.folders.unit.now) (map string_bytes around.now.folders.setting.now)) pass.new.files depth (λ (more : Files) (m : Reached). Opened (surroundings_of around.now.shelf.now (map string_bytes around.now.folders.unit.now) (map string_bytes around.now.folders.setting.now) more) depth at state.old row m) state.new leads) }
+    ensures opened { IfOk result (λ leads. Leads (surroundings_of around.now) pass.new.files depth (λ (more : Files) (m : Reached). Opened (surroundings_of around.now more) depth at state.old row m) state.new leads) }
 {
-    let name = around.shelf.name(row);
+    let shelf = around.shelf();
+    let name = shelf.name(row);
     if depth > DEEPEST {
         return Ok(Err(file_fault(around.alloc, 32, at, name)?));
     }
     state.depend(row)?;
-    let Ok(loaded) = around.shelf.look(pass, row, around.disk) else {
+    let Ok(loaded) = shelf.look(pass, row, around.disk) else {
         return Err(Memory);
     };
     let Some(read) = loaded.lines() else {

@@ -2,48 +2,49 @@
 ghost use Rattle.std.specs.Prelude.{◌≡◌, IfOk, OnOk, [], ◌∷◌, ◌++◌};
 ghost use Rattle.ppunit.specs.States.{passed, depending, literal};
 ghost use Rattle.ppunit.specs.Unit.{beginning};
+ghost use Rattle.ppunit.specs.declared.units.Item.TheVariants as item;
 
 use crate::lists::{Items, Rows};
-use crate::units::{Item, Setting};
+use crate::units::Setting;
 use ppexpand::Env;
 use ppmacro::{Table, push_escaped};
-use pptext::{Memory, Spelling};
+use pptext::{Memory, Place, Spelling, Token};
 use std::alloc::{AllocError, Global};
 
 /// Where phase 4 stands: the macros, what was passed on, the files that were opened in the order of their first
 /// opening, and what the predefined names stand for.
 #[derive(Drop)]
-pub(crate) struct State {
-    pub macros: Table,
-    pub items: Items,
+pub(crate) struct State<'x> {
+    pub macros: Table<'x>,
+    pub items: Items<'x>,
     pub deps: Rows,
     pub env: Env,
 }
 
-impl State {
+impl<'x> State<'x> {
     /// The predefined names alone, and nothing passed on.
-    pub(crate) fn new(alloc: Global, setting: &Setting) -> Result<State, Memory>
+    pub(crate) fn new(alloc: Global, setting: &Setting) -> Result<State<'x>, Memory>
         ensures { IfOk result (λ s. s ≡ beginning setting.now) }
     {
         let env = Env {
-            name: Spelling::new(Vec::new(alloc)),
+            name: Spelling::empty(),
             shift: 0,
             date: spelled(alloc, setting.date.as_str())?,
             time: spelled(alloc, setting.time.as_str())?,
         };
         Ok(State {
             macros: Table::new(alloc)?,
-            items: Items::new(Vec::new(alloc)),
+            items: Items::new(alloc),
             deps: Rows::new(alloc),
             env,
         })
     }
 
-    /// Passes an item on.
-    pub(crate) fn pass(&mut self, item: Item) -> Result<(), AllocError>
-        ensures { OnOk result (self.new ≡ passed self.old (item ∷ [])) }
+    /// Passes a pragma on.
+    pub(crate) fn pass_pragma(&mut self, at: Place, tokens: &'x [Token]) -> Result<(), AllocError>
+        ensures { OnOk result (self.new ≡ passed self.old (item.Pragma at tokens.now ∷ [])) }
     {
-        self.items.push(item)
+        self.items.push_pragma(at, tokens)
     }
 
     /// The file of this row joins the dependencies, once.
@@ -69,5 +70,5 @@ pub(crate) fn literal(alloc: Global, name: &str) -> Result<Spelling, AllocError>
     text.push(b'"')?;
     push_escaped(&mut text, name.as_bytes())?;
     text.push(b'"')?;
-    Ok(Spelling::new(text))
+    Spelling::new(text)
 }

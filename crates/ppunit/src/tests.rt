@@ -2,7 +2,10 @@
 ghost use Rattle.std.specs.Prelude.{◌≡◌, ◌≤◌, IfOk, length};
 ghost use Rattle.std.specs.Vec.{vec_len};
 
-use crate::{Item, Setting, Text, Texts, Unit, UnitOut, preprocess, setting_ok, unit_ok};
+use crate::{
+    Definitions, Item, Setting, Text, Texts, Unit, UnitOut, fits_command, preprocess, setting_ok,
+    unit_ok,
+};
 use ppshelf::{File, MemoryDisk, Pass, Shelf};
 use pptext::{Fault, Place, Token};
 use std::alloc::{AllocError, Global};
@@ -65,10 +68,14 @@ fn setting_of(alloc: Global, date: &str, time: &str) -> Result<Setting, AllocErr
 }
 
 /// A unit of the file in this row, with these definitions.
-fn unit_of(alloc: Global, file: usize, defines: &[&str]) -> Result<Unit, AllocError> {
+fn unit_of(alloc: Global, file: usize, defines: &[&str]) -> Result<Unit, Fail> {
+    let defines = texts_of(alloc, defines)?;
+    if !fits_command(defines.as_slice()) {
+        return Err(Fail::new("too long definitions"));
+    }
     Ok(Unit {
         file,
-        defines: texts_of(alloc, defines)?,
+        defines: Definitions::read(alloc, defines)?,
         search: texts_of(alloc, &[])?,
     })
 }
@@ -112,7 +119,7 @@ fn push_fault(alloc: Global, text: &mut Vec<u8>, fault: Option<&Fault>) -> Resul
 /// A unit's items, the rows that it depends on, and its fault: `1 x | 0 2 | 31 0:4:1 y.h`.
 fn shown(alloc: Global, out: &UnitOut) -> Result<Vec<u8>, AllocError> {
     let mut text = Vec::new(alloc);
-    for item in out.items.as_slice() {
+    for item in &out.items.to_vec(alloc)? {
         push_item(alloc, &mut text, item)?;
     }
     text.extend_from_slice(b"| ")?;
@@ -207,6 +214,10 @@ fn judges_settings_and_units(rt: HostRuntime) -> Result<(), Fail> {
             "{date} {time}"
         );
     }
+    let unit = unit_of(alloc, 0, &["A", "B 1"])?;
+    assert!(rt;
+        matches!(unit.defines.texts().as_slice(), [a, b] if a.as_str() == "A" && b.as_str() == "B 1")
+    );
     let shelf = shelf_of(alloc, &[("a.c", "")])?;
     for (file, define, good) in [(1, "A", true), (2, "A", false), (0, "A\nB", false)] {
         let unit = unit_of(alloc, file, &[define])?;

@@ -1,4 +1,5 @@
 // What a unit is, and what its preprocessing gives.
+use crate::definitions::Definitions;
 use crate::lists::{Items, Rows, Text, Texts};
 use pptext::{Fault, Place, Token, Tokens};
 
@@ -11,8 +12,8 @@ pub enum Item {
 
 /// What a unit gives: its items up to its first fault, the rows that it depends on, and that fault.
 #[derive(Drop)]
-pub struct UnitOut {
-    pub items: Items,
+pub struct UnitOut<'a> {
+    pub items: Items<'a>,
     pub deps: Rows,
     pub fault: Option<Fault>,
 }
@@ -29,6 +30,6 @@ pub struct Setting {
 #[derive(Drop, Debug)]
 pub struct Unit {
     pub file: usize,
-    pub defines: Texts,
+    pub defines: Definitions,
     pub search: Texts,
 }

@@ -4,13 +4,13 @@ ghost use Rattle.std.specs.Prelude.{◌≡◌, ◌≢◌, ◌<◌, ◌≤◌, �
 ghost use Rattle.std.specs.List.{AllByRecursion};
 ghost use Rattle.pptext.specs.Lines.{Row, directive_of};
 ghost use Rattle.pptext.specs.Tree.{Parts, Branches, branch_lines, AreBranches};
-ghost use Rattle.ppshelf.specs.Shelved.{Files, Extends};
+ghost use Rattle.ppshelf.specs.Files.{Files, Extends};
 ghost use Rattle.ppunit.specs.Directives.{Asks};
 ghost use Rattle.pptext.specs.declared.sources.Directive.TheVariants.{Include};
 ghost use Rattle.ppunit.specs.Group.{Controls};
-ghost use Rattle.ppunit.specs.States.{Surroundings, Reached};
+ghost use Rattle.ppunit.specs.States.{Surroundings, Reached, surroundings_of};
 ghost use Rattle.ppunit.specs.Quotes as quotes;
-ghost use Rattle.ppunit.specs.Walk.{surroundings_of, line_at, opens_section, ends_group, IsTextRow, IsRest, Outer, BranchesAt, Enters, FindsBranch, Advances, Leads, Steps, Walks};
+ghost use Rattle.ppunit.specs.Walk.{line_at, opens_section, ends_group, IsTextRow, IsRest, Outer, BranchesAt, Enters, FindsBranch, Advances, Leads, Steps, Walks};
 
 use crate::conditions::decide;
 use crate::directives::{control, error, run_text};
@@ -134,10 +134,10 @@ fn enter_section(
 }
 
 // A text run: the line behind it.
-fn do_run(
+fn do_run<'x>(
     alloc: Global,
-    state: &mut State,
-    source: &Source,
+    state: &mut State<'x>,
+    source: &'x Source,
     index: usize,
 ) -> Result<Result<usize, Fault>, Memory>
     requires index { index < length source.now }
@@ -153,22 +153,22 @@ fn do_run(
 }
 
 // An include line: the file that it asks for is opened, one deeper.
-fn include<'a, D: Disk>(
+fn include<'x, 'a: 'x, D: Disk>(
     around: &Around<'a, '_, D>,
     pass: &mut Pass<'a, D>,
-    state: &mut State,
+    state: &mut State<'x>,
     depth: u32,
     row: usize,
-    line: &[Token],
+    line: &'x [Token],
 ) -> Result<Result<Option<Entered<'a>>, Fault>, Memory>
-    requires shelf { pass.old.shelf ≡ around.now.shelf.now }
-    requires rows { 0 < length around.now.shelf.now }
+    requires shelf { pass.old.shelf ≡ around.now.shelf }
+    requires rows { 0 < length around.now.shelf.names }
     requires depth { depth ≤ 200 }
     requires line { directive_of line.now ≡ Some Include }
     requires quotes { quotes.lone_quote line.now ≡ None }
-    ensures shelf { pass.new.shelf ≡ around.now.shelf.now }
+    ensures shelf { pass.new.shelf ≡ around.now.shelf }
     ensures grows { Extends pass.new.files pass.old.files }
-    ensures control { IfOk result (λ leads. (number : ℕ) → Leads (surroundings_of around.now.shelf.now (map string_bytes around.now.folders.unit.now) (map string_bytes around.now.folders.setting.now)) pass.new.files (suc depth) (λ (more : Files) (m : Reached). Controls (surroundings_of around.now.shelf.now (map string_bytes around.now.folders.unit.now) (map string_bytes around.now.folders.setting.now) more) depth row state.old (record { tokens = line.now; number = number }) m) state.new leads) }
+    ensures control { IfOk result (λ leads. (number : ℕ) → Leads (surroundings_of around.now) pass.new.files (suc depth) (λ (more : Files) (m : Reached). Controls (surroundings_of around.now more) depth row state.old (record { tokens = line.now; number = number }) m) state.new leads) }
 {
     let asked = match ask(around.alloc, state, line)? {
         Ok(asked) => asked,
@@ -181,25 +181,25 @@ fn include<'a, D: Disk>(
 }
 
 // A control line: the file that it opens, if it opens one.
-fn do_line<'a, D: Disk>(
+fn do_line<'x, 'a: 'x, D: Disk>(
     around: &Around<'a, '_, D>,
     pass: &mut Pass<'a, D>,
-    state: &mut State,
+    state: &mut State<'x>,
     depth: u32,
     row: usize,
     directive: Directive,
-    line: &[Token],
+    line: &'x [Token],
     physical: u32,
 ) -> Result<Result<Option<Entered<'a>>, Fault>, Memory>
-    requires shelf { pass.old.shelf ≡ around.now.shelf.now }
-    requires rows { 0 < length around.now.shelf.now }
+    requires shelf { pass.old.shelf ≡ around.now.shelf }
+    requires rows { 0 < length around.now.shelf.names }
     requires depth { depth ≤ 200 }
     requires line { directive_of line.now ≡ Some directive }
     requires opens { opens_section directive ≡ false }
     requires ends { ends_group directive ≡ false }
-    ensures shelf { pass.new.shelf ≡ around.now.shelf.now }
+    ensures shelf { pass.new.shelf ≡ around.now.shelf }
     ensures grows { Extends pass.new.files pass.old.files }
-    ensures control { IfOk result (λ leads. Leads (surroundings_of around.now.shelf.now (map string_bytes around.now.folders.unit.now) (map string_bytes around.now.folders.setting.now)) pass.new.files (suc depth) (λ (more : Files) (m : Reached). Controls (surroundings_of around.now.shelf.now (map string_bytes around.now.folders.unit.now) (map string_bytes around.now.folders.setting.now) more) depth row state.old (record { tokens = line.now; number = physical }) m) state.new leads) }
+    ensures control { IfOk result (λ leads. Leads (surroundings_of around.now) pass.new.files (suc depth) (λ (more : Files) (m : Reached). Controls (surroundings_of around.now more) depth row state.old (record { tokens = line.now; number = physical }) m) state.new leads) }
 {
     if directive == Directive::Error {
         return Ok(Err(error(around.alloc, line)?));
@@ -235,21 +235,21 @@ fn to_line<'a>(found: Result<usize, Fault>) -> Result<Next<'a>, Fault>
 }
 
 // One text run or one directive line: what comes next, or the fault.
-fn step<'a, D: Disk>(
+fn step<'x, 'a: 'x, D: Disk>(
     around: &Around<'a, '_, D>,
     pass: &mut Pass<'a, D>,
-    state: &mut State,
+    state: &mut State<'x>,
     depth: u32,
-    file: &OpenFile<'_>,
+    file: &OpenFile<'x>,
 ) -> Result<Result<Next<'a>, Fault>, Memory>
-    requires shelf { pass.old.shelf ≡ around.now.shelf.now }
-    requires rows { 0 < length around.now.shelf.now }
+    requires shelf { pass.old.shelf ≡ around.now.shelf }
+    requires rows { 0 < length around.now.shelf.names }
     requires depth { depth ≤ 200 }
     requires index { file.now.index < length file.now.source.now }
-    ensures shelf { pass.new.shelf ≡ around.now.shelf.now }
+    ensures shelf { pass.new.shelf ≡ around.now.shelf }
     ensures grows { Extends pass.new.files pass.old.files }
     ensures further { IfOk result (λ found. IfOk found (λ next. file.now.index < next.line)) }
-    ensures step { IfOk result (λ found. Steps (surroundings_of around.now.shelf.now (map string_bytes around.now.folders.unit.now) (map string_bytes around.now.folders.setting.now)) pass.new.files depth file.now.row file.now.source.now file.now.index state.old state.new found) }
+    ensures step { IfOk result (λ found. Steps (surroundings_of around.now) pass.new.files depth file.now.row file.now.source.now file.now.index state.old state.new found) }
 {
     let OpenFile { row, source, index } = *file;
     let Some(directive) = line(source, index).directive else {
@@ -276,15 +276,15 @@ fn step<'a, D: Disk>(
 pub(crate) fn walk<'s, 'a: 's, D: Disk>(
     around: &Around<'a, '_, D>,
     pass: &mut Pass<'a, D>,
-    state: &mut State,
+    state: &mut State<'s>,
     first: OpenFile<'s>,
 ) -> Result<Option<Fault>, Memory>
-    requires shelf { pass.old.shelf ≡ around.now.shelf.now }
-    requires rows { 0 < length around.now.shelf.now }
+    requires shelf { pass.old.shelf ≡ around.now.shelf }
+    requires rows { 0 < length around.now.shelf.names }
     requires begins { first.index ≡ 0 }
-    ensures shelf { pass.new.shelf ≡ around.now.shelf.now }
+    ensures shelf { pass.new.shelf ≡ around.now.shelf }
     ensures grows { Extends pass.new.files pass.old.files }
-    ensures walk { IfOk result (λ f. Walks (surroundings_of around.now.shelf.now (map string_bytes around.now.folders.unit.now) (map string_bytes around.now.folders.setting.now)) pass.new.files 0 first.entry.row first.entry.source.now state.old (record { state = state.new; fault = f })) }
+    ensures walk { IfOk result (λ f. Walks (surroundings_of around.now) pass.new.files 0 first.entry.row first.entry.source.now state.old (record { state = state.new; fault = f })) }
 {
     let mut waiting = Stack::new(around.alloc);
     let mut file = first;

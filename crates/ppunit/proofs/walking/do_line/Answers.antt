@@ -1,11 +1,10 @@
-use Rattle.std.proofs.Common.{rules, ◌≡◌, ◌≢◌, map, None, Some, sym, ap, ◌∙◌, subst}
-use Rattle.std.specs.Prelude.{string_bytes}
+use Rattle.std.proofs.Common.{rules, ◌≡◌, ◌≢◌, None, Some, sym, ap, ◌∙◌, subst}
 use Rattle.pptext.specs.declared.sources.Directive.{Directive}
 use Rattle.pptext.specs.declared.sources.Directive.TheVariants.{Error}
 use Rattle.pptext.specs.declared.tokens.Fault.{Fault}
 use Rattle.pptext.specs.Lines.{directive_of}
+use Rattle.ppunit.specs.States.{surroundings_of}
 use Rattle.ppunit.specs.Group.{Controls}
-use Rattle.ppunit.specs.Walk.{surroundings_of}
 use Rattle.ppunit.proofs.Walk.{none_of}
 use Rattle.ppunit.proofs.Opens.{other_control}
 use Rattle.ppunit.proofs.Preprocessed.{on_ok}
@@ -15,7 +14,7 @@ pub returns-then-eq-clause-control : goal.returns-then-eq-clause-control
 returns-then-eq-clause-control g c more grows =
     let is : c.args.directive ≡ Error = search rules in
     let fault = c.in_ok-error.ensures in
-    subst (λ (z : Fault). Controls (surroundings_of c.args.around.now.shelf.now (map string_bytes c.args.around.now.folders.unit.now) (map string_bytes c.args.around.now.folders.setting.now) more) c.args.depth c.args.row c.args.state.now (record { tokens = c.args.line.now; number = c.args.physical }) (record { state = c.args.state.now; fault = Some z })) (sym fault) (Controls.error (c.requires.line ∙ ap (λ (z : Directive). Some z) is))
+    subst (λ (z : Fault). Controls (surroundings_of c.args.around.now more) c.args.depth c.args.row c.args.state.now (record { tokens = c.args.line.now; number = c.args.physical }) (record { state = c.args.state.now; fault = Some z })) (sym fault) (Controls.error (c.requires.line ∙ ap (λ (z : Directive). Some z) is))
 
 pub returns-in-Some-clause-control : goal.returns-in-Some-clause-control
 returns-in-Some-clause-control g c more grows =
@@ -28,9 +27,9 @@ returns-then-eq-2-clause-control g c = on_ok c.include.result (λ r leads. leads
 pub returns-in-None-clause-control : goal.returns-in-None-clause-control
 returns-in-None-clause-control g c more grows =
     let alone = sym c.in_ok-fault.ensures ∙ none_of c.in_ok-fault.field-0 c.in_default.not-Some in
-    other_control (surroundings_of c.args.around.now.shelf.now (map string_bytes c.args.around.now.folders.unit.now) (map string_bytes c.args.around.now.folders.setting.now) more) c.args.depth c.args.row c.args.state.now c.control.new.state c.args.directive (record { tokens = c.args.line.now; number = c.args.physical }) c.in_ok-control.field-0 None c.requires.line alone c.in-None.is c.in_ok-control.ensures
+    other_control (surroundings_of c.args.around.now more) c.args.depth c.args.row c.args.state.now c.control.new.state c.args.directive (record { tokens = c.args.line.now; number = c.args.physical }) c.in_ok-control.field-0 None c.requires.line alone c.in-None.is c.in_ok-control.ensures
 
 pub returns-in-Some-2-clause-control : goal.returns-in-Some-2-clause-control
 returns-in-Some-2-clause-control g c more grows =
     let alone = sym c.in_ok-fault.ensures ∙ none_of c.in_ok-fault.field-0 c.in_default.not-Some in
-    other_control (surroundings_of c.args.around.now.shelf.now (map string_bytes c.args.around.now.folders.unit.now) (map string_bytes c.args.around.now.folders.setting.now) more) c.args.depth c.args.row c.args.state.now c.control.new.state c.args.directive (record { tokens = c.args.line.now; number = c.args.physical }) c.in_ok-control.field-0 (Some c.in-Some-2.fault) c.requires.line alone c.in-Some-2.is c.in_ok-control.ensures
+    other_control (surroundings_of c.args.around.now more) c.args.depth c.args.row c.args.state.now c.control.new.state c.args.directive (record { tokens = c.args.line.now; number = c.args.physical }) c.in_ok-control.field-0 (Some c.in-Some-2.fault) c.requires.line alone c.in-Some-2.is c.in_ok-control.ensures

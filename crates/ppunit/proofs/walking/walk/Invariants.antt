@@ -1,17 +1,16 @@
-use Rattle.std.proofs.Common.{◌≡◌, ◌≤◌, map, length}
-use Rattle.std.specs.Prelude.{string_bytes}
-use Rattle.ppshelf.specs.Shelved.{Extends}
-use Rattle.ppunit.specs.Walk.{surroundings_of}
+use Rattle.std.proofs.Common.{◌≡◌, ◌≤◌, length}
+use Rattle.ppshelf.specs.Files.{Extends}
+use Rattle.ppunit.specs.States.{surroundings_of}
 use Rattle.ppunit.proofs.OpenFiles.{StackSoFar}
 use Rattle.ppunit.proofs.Work.{work}
 use Rattle.ppunit.proofs.walking.walk.Given as goal
 
 abbrev pub invariant-loop-file : goal.invariant-loop-file
 invariant-loop-file g l = record {
-  shelf : l.pass.shelf ≡ l.around.shelf.now;
+  shelf : l.pass.shelf ≡ l.around.shelf;
   grows : Extends l.pass.files l.fn.pass.files;
   depth : length l.waiting ≤ 200;
-  walked : StackSoFar (surroundings_of l.around.shelf.now (map string_bytes l.around.folders.unit.now) (map string_bytes l.around.folders.setting.now)) l.pass.files l.fn.first.row l.fn.first.source.now l.fn.state l.waiting l.file l.state;
+  walked : StackSoFar (surroundings_of l.around) l.pass.files l.fn.first.row l.fn.first.source.now l.fn.state l.waiting l.file l.state;
 }
 
 abbrev pub decreases-loop-file : goal.decreases-loop-file

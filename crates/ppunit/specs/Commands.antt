@@ -1,0 +1,14 @@
+-- The file that holds a unit's definitions.
+use Rattle.std.specs.Prelude.{ℕ, List, ◌∷◌, ◌++◌, [], codes, flat_map}
+use Rattle.ppshelf.specs.Files.{most_rows}
+
+-- the number of the file that holds a unit's definitions: no shelf has such a row
+abbrev pub command_file : ℕ
+command_file = most_rows
+
+abbrev pub command_line : List ℕ → List ℕ
+command_line text = codes "#define " ++ text ++ 10 ∷ []
+
+-- a line for each definition
+abbrev pub command_text : List (List ℕ) → List ℕ
+command_text defines = flat_map command_line defines

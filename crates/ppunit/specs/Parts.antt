@@ -1,0 +1,10 @@
+-- Parts of what a unit gives.
+use Rattle.std.specs.Prelude.{List, [], ◌∷◌, map}
+use Rattle.ppunit.specs.declared.units.Item.{Item}
+use Rattle.ppunit.specs.declared.units.Item.TheVariants as item
+use Rattle.ppunit.specs.declared.lists.Part.{Part}
+use Rattle.ppunit.specs.declared.lists.Part.TheVariants as part
+
+abbrev pub part_items : Part → List Item
+part_items (part.Run r) = map item.Token r
+part_items (part.Pragma at ts) = item.Pragma at ts.now ∷ []
