@@ -1,0 +1,73 @@
+-- What workers' answers keep.
+use Rattle.std.proofs.Common.{ℕ, ◌≡◌, ◌+◌, ◌/◌, ◌<◌, ◌≤◌, List, [], ◌∷◌, ◌++◌, length, get_or, refl, sym, ap, ◌∙◌, subst, arith, inl, inr}
+use Rattle.std.proofs.lemmas.Bool.{cases_lt, cases_eq}
+use Rattle.std.proofs.lemmas.Bool.Decides.{nat_tests}
+use Rattle.std.proofs.lemmas.List.{get_or_read}
+use Rattle.std.proofs.lemmas.List.Elements.{All-push}
+use Rattle.ppshelf.specs.Files.{Files, Extends, Stock}
+use Rattle.ppunit.specs.declared.units.Unit.{Unit as UnitOfList}
+use Rattle.ppunit.specs.declared.units.Setting.{Setting}
+use Rattle.ppunit.specs.declared.units.UnitOut.{UnitOut}
+use Rattle.ppunit.specs.Laws.{Grows}
+use Rattle.ppunit.specs.Unit.{IsUnit}
+use Rattle.pppool.specs.declared.workers.Answer.{Answer}
+use Rattle.pppool.specs.Desk.{times}
+use Rattle.pppool.specs.Workers.{IsAnswer, AreAnswers, AllAnswered, answered}
+use Rattle.pppool.proofs.Totals.{times-append, times_at}
+
+-- what is true of an answer over some files is true over more
+pub answers_grow : Grows → (stock : Stock) (old new : Files) (setting : Setting) (units : List UnitOfList) (answers : List Answer) → Extends new old → AreAnswers stock old setting units answers → AreAnswers stock new setting units answers
+answers_grow grows stock old new setting units answers more all k d w =
+    let a = all k d w in
+    record { within = a.within; value = λ u. grows stock.names old new setting (get_or units (get_or answers k d).unit u) (get_or answers k d).out more (a.value u) }
+
+-- one answer more
+pub answers_push : Grows → (stock : Stock) (old new : Files) (setting : Setting) (units : List UnitOfList) (answers : List Answer) (number : ℕ) (unit : UnitOfList) (out : UnitOut)
+    → Extends new old → AreAnswers stock old setting units answers → number < length units → unit ≡ get_or units number unit → IsUnit stock.names new setting unit out
+    → AreAnswers stock new setting units (answers ++ record { unit = number; out = out } ∷ [])
+answers_push grows stock old new setting units answers number unit out more all w read is =
+    let P : Answer → Type 0 = IsAnswer stock new setting units in
+    let Q : UnitOfList → Type 0 = λ u. IsUnit stock.names new setting u out in
+    All-push P answers (record { unit = number; out = out }) (answers_grow grows stock old new setting units answers more all)
+    (record { within = w; value = λ u. subst Q (get_or_read units number unit w read u) is })
+
+pub answered_push : (answers : List Answer) (a : Answer) → answered (answers ++ a ∷ []) ≡ answered answers ++ a.unit ∷ []
+answered_push [] a = refl
+answered_push (x ∷ answers) a = ap (λ l. x.unit ∷ l) (answered_push answers a)
+
+pub times_more : (i : ℕ) (xs ys : List ℕ) → 0 < times i xs → 0 < times i (xs ++ ys)
+times_more i xs ys h = let e = times-append i xs ys in omega arith
+
+pub times_one : (i : ℕ) → 0 < times i (i ∷ [])
+times_one i = times_at (i ∷ []) 0 0 (omega arith)
+
+pub times_last : (i : ℕ) (xs : List ℕ) → 0 < times i (xs ++ i ∷ [])
+times_last i xs = let e = times-append i xs (i ∷ []) in let f = times_one i in omega arith
+
+-- one unit more is answered
+pub stays_push : (old mid new : List ℕ) (unit : ℕ) → new ≡ mid ++ unit ∷ [] → ((i : ℕ) → 0 < times i old → 0 < times i mid) → (i : ℕ) → 0 < times i old → 0 < times i new
+stays_push old mid new unit is stay i h = let P : List ℕ → Type 0 = λ l. 0 < times i l in subst P (sym is) (times_more i mid (unit ∷ []) (stay i h))
+
+pub covers_push : (first unit : ℕ) (mid new : List ℕ) → new ≡ mid ++ unit ∷ [] → ((i : ℕ) → first ≤ i → i < unit → 0 < times i mid) → (i : ℕ) → first ≤ i → i < unit + 1 → 0 < times i new
+covers_push first unit mid new is all i above below =
+    let P : List ℕ → Type 0 = λ l. 0 < times i l in
+    let Q : ℕ → Type 0 = λ u. 0 < times i (mid ++ u ∷ []) in
+    elim (cases_lt i unit) [
+      | inl w ↦ subst P (sym is) (times_more i mid (unit ∷ []) (all i above w))
+      | inr w ↦ subst P (sym is) (subst Q (let e : i ≡ unit = omega arith in e) (times_last i mid))
+    ]
+
+pub times_other : (x y : ℕ) → (x ≡ y → ⊥) → times x (y ∷ []) ≡ 0
+times_other x y other = grind (arith, nat_tests)
+
+-- one block more is answered
+pub all_answered_push : (count block number : ℕ) (claims more old new : List ℕ) → more ≡ claims ++ number ∷ [] → AllAnswered count block claims old → ((i : ℕ) → 0 < times i old → 0 < times i new)
+    → ((i : ℕ) → i < count → i / block ≡ number → 0 < times i new) → AllAnswered count block more new
+all_answered_push count block number claims more old new is all stay here i w h =
+    elim (cases_eq (i / block) number) [
+      | inl e ↦ here i w e
+      | inr e ↦
+          let sum = ap (times (i / block)) is ∙ times-append (i / block) claims (number ∷ []) in
+          let none = times_other (i / block) number e in
+          stay i (all i w (omega arith))
+    ]

@@ -1,0 +1,149 @@
+-- Answers that are put into their units' slots.
+use Rattle.std.proofs.Common.{ℕ, suc, zero, ◌≡◌, ◌<◌, ◌/◌, List, [], ◌∷◌, ◌++◌, length, get_or, set, map, replicate, All, Option, Some, None, IsSome, IfSome, Result, Ok, Err, IfOk, refl, sym, ap, ◌∙◌, subst, arith, inl, inr}
+use Rattle.std.specs.List.{AllZip}
+use Rattle.std.proofs.lemmas.Bool.{cases_lt, cases_eq}
+use Rattle.std.proofs.lemmas.List.{length-set, get_or-set_same, get_or-set_other, get_or_default, set_past}
+use Rattle.std.proofs.lemmas.Slice.Zip.{AllZip-long}
+use Rattle.ppshelf.specs.Files.{Files, Extends, Stock}
+use Rattle.ppunit.specs.declared.units.Unit.{Unit as UnitOfList}
+use Rattle.ppunit.specs.declared.units.Setting.{Setting}
+use Rattle.ppunit.specs.declared.units.UnitOut.{UnitOut}
+use Rattle.ppunit.specs.Laws.{Grows}
+use Rattle.ppunit.specs.Unit.{IsUnit}
+use Rattle.ppunit.specs.Units.{AreUnits}
+use Rattle.pppool.specs.declared.workers.Answer.{Answer}
+use Rattle.pppool.specs.Desk.{DeskId, SeatView, times, claims_of, once_below}
+use Rattle.pppool.specs.Laws.{ListGrows}
+use Rattle.pppool.specs.Workers.{AreAnswers, AllFilled, FitSlots, answered, placed}
+use Rattle.pppool.proofs.Answering.{times_other}
+use Rattle.pppool.proofs.Closing.{claims-append}
+use Rattle.pppool.proofs.Totals.{times-append, below_once_one}
+
+pub placed_push : (slots : List (Option UnitOut)) (answers : List Answer) (a : Answer) → placed slots (answers ++ a ∷ []) ≡ set (placed slots answers) a.unit (Some a.out)
+placed_push slots [] a = refl
+placed_push slots (x ∷ answers) a = placed_push (set slots x.unit (Some x.out)) answers a
+
+-- one element of two lists side by side is set
+zip_set : {A B : Type 0} (R : A → B → Type 0) (xs : List A) (ys : List B) (k : ℕ) (y : B) → AllZip R xs ys → ((d : A) → k < length xs → R (get_or xs k d) y) → AllZip R xs (set ys k y)
+zip_set R [] [] k y all here = tt
+zip_set R [] (z ∷ ys) k y all here = elim all [ ]
+zip_set R (x ∷ xs) [] k y all here = elim all [ ]
+zip_set R (x ∷ xs) (z ∷ ys) zero y all here = (here x (omega arith), all.1)
+zip_set R (x ∷ xs) (z ∷ ys) (suc k) y all here = (all.0, zip_set R xs ys k y all.1 (λ d w. here d (omega arith)))
+
+zip_map : {A B : Type 0} (R Q : A → B → Type 0) (xs : List A) (ys : List B) → ((x : A) (y : B) → R x y → Q x y) → AllZip R xs ys → AllZip Q xs ys
+zip_map R Q [] [] more all = tt
+zip_map R Q [] (y ∷ ys) more all = elim all [ ]
+zip_map R Q (x ∷ xs) [] more all = elim all [ ]
+zip_map R Q (x ∷ xs) (y ∷ ys) more all = (more x y all.0, zip_map R Q xs ys more all.1)
+
+if_some_map : {T : Type 0} (P Q : T → Type 0) (o : Option T) → ((x : T) → P x → Q x) → IfSome o P → IfSome o Q
+if_some_map P Q None more h = tt
+if_some_map P Q (Some x) more h = more x h
+
+-- what stands in slots over some files stands there over more
+pub slots_grow : Grows → (stock : Stock) (old new : Files) (setting : Setting) (units : List UnitOfList) (slots : List (Option UnitOut)) → Extends new old → FitSlots stock old setting units slots → FitSlots stock new setting units slots
+slots_grow grows stock old new setting units slots more fit =
+    let At : Files → UnitOfList → UnitOut → Type 0 = λ files unit out. IsUnit stock.names files setting unit out in
+    zip_map (λ unit slot. IfSome slot (At old unit)) (λ unit slot. IfSome slot (At new unit)) units slots
+    (λ unit slot h. if_some_map (At old unit) (At new unit) slot (λ out is. grows stock.names old new setting unit out more is) h) fit
+
+-- answers that are their units' values go into slots
+pub slots_placed : (stock : Stock) (files : Files) (setting : Setting) (units : List UnitOfList) (slots : List (Option UnitOut)) (answers : List Answer) → FitSlots stock files setting units slots → AreAnswers stock files setting units answers → FitSlots stock files setting units (placed slots answers)
+slots_placed stock files setting units slots [] fit all = fit
+slots_placed stock files setting units slots (a ∷ answers) fit all =
+    let first = all 0 a (omega arith) in
+    let R : UnitOfList → Option UnitOut → Type 0 = λ unit slot. IfSome slot (λ out. IsUnit stock.names files setting unit out) in
+    slots_placed stock files setting units (set slots a.unit (Some a.out)) answers (zip_set R units slots a.unit (Some a.out) fit (λ d w. first.value d)) (λ k d w. all (suc k) d (omega arith))
+
+none_fit : (stock : Stock) (files : Files) (setting : Setting) (units : List UnitOfList) → FitSlots stock files setting units (replicate (length units) None)
+none_fit stock files setting [] = tt
+none_fit stock files setting (u ∷ units) = (tt, none_fit stock files setting units)
+
+-- empty slots
+pub slots_empty : (stock : Stock) (files : Files) (setting : Setting) (units : List UnitOfList) (slots : List (Option UnitOut)) → slots ≡ replicate (length units) None → FitSlots stock files setting units slots
+slots_empty stock files setting units slots is =
+    let P : List (Option UnitOut) → Type 0 = FitSlots stock files setting units in
+    subst P (sym is) (none_fit stock files setting units)
+
+-- a slot that was full stays full, and each answer's slot is full
+full_set : (slots : List (Option UnitOut)) (j i : ℕ) (out : UnitOut) → IsSome (get_or slots i None) → IsSome (get_or (set slots j (Some out)) i None)
+full_set slots j i out h =
+    let P : Option UnitOut → Type 0 = IsSome in
+    elim (cases_eq i j) [
+      | inl e ↦ elim (cases_lt j (length slots)) [
+        | inl w ↦ subst P (sym (ap (λ k. get_or (set slots j (Some out)) k None) e ∙ get_or-set_same slots j (Some out) None w)) refl
+        | inr w ↦ let Q : List (Option UnitOut) → Type 0 = λ xs. IsSome (get_or xs i None) in subst Q (sym (set_past slots j (Some out) w)) h
+      ]
+      | inr e ↦ subst P (sym (get_or-set_other slots j i (Some out) None e)) h
+    ]
+
+pub placed_stays : (slots : List (Option UnitOut)) (answers : List Answer) (i : ℕ) → IsSome (get_or slots i None) → IsSome (get_or (placed slots answers) i None)
+placed_stays slots [] i h = h
+placed_stays slots (a ∷ answers) i h = placed_stays (set slots a.unit (Some a.out)) answers i (full_set slots a.unit i a.out h)
+
+pub placed_fills : (slots : List (Option UnitOut)) (answers : List Answer) (i : ℕ) → i < length slots → 0 < times i (answered answers) → IsSome (get_or (placed slots answers) i None)
+placed_fills slots [] i w h = absurd (omega arith)
+placed_fills slots (a ∷ answers) i w h =
+    let P : Option UnitOut → Type 0 = IsSome in
+    elim (cases_eq i a.unit) [
+      | inl e ↦ placed_stays (set slots a.unit (Some a.out)) answers i (subst P (sym (ap (λ k. get_or (set slots a.unit (Some a.out)) k None) e ∙ get_or-set_same slots a.unit (Some a.out) None (omega arith))) refl)
+      | inr e ↦
+          let none = times_other i a.unit e in
+          let sum = times-append i (a.unit ∷ []) (answered answers) in
+          placed_fills (set slots a.unit (Some a.out)) answers i (let l = length-set slots a.unit (Some a.out) in omega arith) (omega arith)
+    ]
+
+-- at the end the slots have the units' values
+pub are_units : (stock : Stock) (files : Files) (setting : Setting) (units : List UnitOfList) (outs : List UnitOut) → FitSlots stock files setting units (map (λ x. Some x) outs) → AreUnits stock.names files setting units outs
+are_units stock files setting [] [] fit = tt
+are_units stock files setting [] (out ∷ outs) fit = elim fit [ ]
+are_units stock files setting (u ∷ units) [] fit = elim fit [ ]
+are_units stock files setting (u ∷ units) (out ∷ outs) fit = (fit.0, are_units stock files setting units outs fit.1)
+
+-- ---- what comes of a worker that is done
+
+-- each unit has a slot
+pub slots_long : (stock : Stock) (files : Files) (setting : Setting) (units : List UnitOfList) (slots : List (Option UnitOut)) → FitSlots stock files setting units slots → (i : ℕ) → i < length units → i < length slots
+slots_long stock files setting units slots fit i w =
+    let long = AllZip-long (λ unit slot. IfSome slot (λ out. IsUnit stock.names files setting unit out)) units slots fit in
+    omega arith
+
+-- each answer has a slot
+pub within_slots : (stock : Stock) (mine theirs : Files) (setting : Setting) (units : List UnitOfList) (slots : List (Option UnitOut)) (answers : List Answer) → FitSlots stock mine setting units slots → AreAnswers stock theirs setting units answers → All (λ a. a.unit < length slots) answers
+within_slots stock mine theirs setting units slots answers fit all k d w = slots_long stock mine setting units slots fit (get_or answers k d).unit (all k d w).within
+
+-- a seat more is handed in
+pub filled_push : (count block : ℕ) (seats more : List SeatView) (seat : SeatView) (old new : List (Option UnitOut)) → more ≡ seats ++ seat ∷ [] → AllFilled count block (claims_of seats) old
+    → ((i : ℕ) → IsSome (get_or old i None) → IsSome (get_or new i None)) → ((i : ℕ) → i < count → 0 < times (i / block) seat.claims → IsSome (get_or new i None)) → AllFilled count block (claims_of more) new
+filled_push count block seats more seat old new is all stay put i w h =
+    let sum = ap (λ l. times (i / block) (claims_of l)) is ∙ claims-append (i / block) seats seat in
+    elim (cases_lt 0 (times (i / block) seat.claims)) [
+      | inl e ↦ put i w e
+      | inr e ↦ stay i (all i w (omega arith))
+    ]
+
+pub filled_none : (count block : ℕ) (seats : List SeatView) (slots : List (Option UnitOut)) → seats ≡ [] → AllFilled count block (claims_of seats) slots
+filled_none count block seats slots is i w h = let e = ap (λ l. times (i / block) (claims_of l)) is in absurd (omega arith)
+
+pub none_at : (desk : DeskId) (seats : List SeatView) → seats ≡ [] → All (λ s. s.desk ≡ desk) seats
+none_at desk seats is k d w = let e = ap length is in absurd (omega arith)
+
+pub if_ok_then : {T E : Type 0} (r : Result T E) {P Q : T → Type 0} → IfOk r P → ((x : T) → P x → Q x) → IfOk r Q
+if_ok_then (Ok x) p more = more x p
+if_ok_then (Err e) p more = tt
+
+-- where each block was claimed, all slots are full
+pub all_full : (stock : Stock) (files : Files) (setting : Setting) (units : List UnitOfList) (block blocks : ℕ) (claims : List ℕ) (slots : List (Option UnitOut)) → FitSlots stock files setting units slots
+    → AllFilled (length units) block claims slots → ((x : ℕ) → times x claims ≡ once_below x blocks) → ((i : ℕ) → i < length units → i / block < blocks) → All (λ s. IsSome s) slots
+all_full stock files setting units block blocks claims slots fit full whole below k d w =
+    let long = AllZip-long (λ unit slot. IfSome slot (λ out. IsUnit stock.names files setting unit out)) units slots fit in
+    let u : k < length units = omega arith in
+    let P : Option UnitOut → Type 0 = IsSome in
+    let once = below_once_one (k / block) blocks (below k u) in
+    let claimed = whole (k / block) in
+    subst P (get_or_default slots k None d w) (full k u (omega arith))
+
+pub list_grows : Grows → ListGrows
+list_grows grows names files more setting units answers extends are =
+    zip_map (λ unit out. IsUnit names files setting unit out) (λ unit out. IsUnit names more setting unit out) units answers (λ unit out is. grows names files more setting unit out extends is) are

@@ -1,0 +1,13 @@
+use Rattle.std.proofs.Common.{sym, ap, ◌∙◌, set, List, Option, Some}
+use Rattle.std.proofs.lemmas.List.{length-set}
+use Rattle.ppunit.specs.declared.units.UnitOut.{UnitOut}
+use Rattle.pppool.proofs.Placing.{placed_push}
+use Rattle.pppool.proofs.slots.place.Goals as goal
+
+pub loop-answer-preserved : goal.loop-answer-preserved
+loop-answer-preserved c =
+    let k = c.loop-answer.invariant in
+    let a = c.in-Some.answer in (
+      length-set c.loop-answer.slots.items a.unit c.put.new.slot ∙ k.0,
+      ap (set c.loop-answer.slots.items a.unit) c.put.ensures ∙ (ap (λ (l : List (Option UnitOut)). set l a.unit (Some a.out)) k.1 ∙ sym (placed_push c.args.slots.now.items c.loop-answer.yielded a)),
+    )

@@ -1,0 +1,128 @@
+// The desk at which workers claim blocks.
+ghost use Rattle.std.specs.Prelude.{◌≡◌, ℕ, ◌<◌, ◌≤◌, ◌==◌, ◌&&◌, true, false, [], ◌∷◌, ◌++◌, length, All, IfOk, IfSome, IfNone, IsTrue, if◌then◌else◌};
+ghost use Rattle.pppool.specs.Desk.{times, once_below, claims_of, any_empty, plan_of, new_seat};
+
+use crate::dealing::{Claimed, Dealing, OneSeat, Together};
+use crate::hand::{Hand, Plan};
+use atomic_table::{Seat, Table};
+use pptext::Memory;
+use std::alloc::Global;
+use std::marker::Model;
+
+/// Blocks, numbered from 0, each of which is claimed once, by any number of threads. The next block is one word in memory; a claim
+/// is one addition to it.
+#[derive(Drop)]
+pub struct Desk {
+    table: Table<u8, Hand, Plan, Dealing, Global>,
+    plan: Plan,
+}
+
+impl Model for Desk {
+    ghost use Rattle.std.specs.Prelude.{◌≡◌};
+    ghost use Rattle.pppool.specs.Desk.{DeskId};
+
+    ghost Value = { DeskId };
+
+    ghost view = { λ d. record { table = d.table.shared.table_id; plan = d.plan } };
+
+    ghost invariant = { λ d. (d.table.shared.key ≡ d.plan) × (d.table.shared.table_id.words ≡ 1) × (d.table.shared.table_id.slots ≡ 0) };
+}
+
+/// The right to claim at one desk, for one thread.
+#[derive(Drop)]
+pub struct DeskSeat {
+    seat: Seat<u8, Hand>,
+    found_empty: bool,
+}
+
+impl Model for DeskSeat {
+    ghost use Rattle.std.specs.Prelude.{◌≡◌, [], if◌then◌else◌};
+    ghost use Rattle.pppool.specs.Desk.{DeskId, SeatView};
+
+    ghost Value = { SeatView };
+
+    ghost view = { λ s. record { desk = record { table = s.seat.table_id; plan = s.seat.me.0.plan }; claims = s.seat.me.0.claims; found_empty = s.found_empty } };
+
+    ghost invariant = { λ s. (s.seat.me.1 ≡ []) × (s.seat.me.0.seats ≡ 1) × (s.seat.me.0.marks ≡ (if s.found_empty then 1 else 0)) };
+}
+
+impl Desk {
+    /// A desk with so many blocks, at most 65,535, and its seats, 1 to 64, which have claimed nothing.
+    pub fn new(alloc: Global, blocks: u64, seats: usize) -> Result<(Desk, Vec<DeskSeat>), Memory>
+        requires blocks { blocks ≤ 65535 }
+        requires seats { (1 ≤ seats) × (seats ≤ 64) }
+        ensures plan { IfOk result (λ r. r.0.plan ≡ plan_of blocks seats) }
+        ensures count { IfOk result (λ r. length r.1.items ≡ seats) }
+        ensures fresh { IfOk result (λ r. All (λ s. s ≡ new_seat r.0) r.1.items) }
+    {
+        let plan = Plan {
+            blocks,
+            seats: seats as u64,
+        };
+        let (table, mut first) = Table::of_words(alloc, &[0], &plan)?;
+        let mut all = Vec::with_capacity(alloc, seats)?;
+        for _ in 0..seats {
+            let seat = table.shared.split_seat::<OneSeat>(&mut first);
+            all.push(DeskSeat {
+                seat,
+                found_empty: false,
+            })?;
+        }
+        Ok((Desk { table, plan }, all))
+    }
+
+    /// Claims the next block: one that no other seat claims, above all that this seat claimed. None where no block is left; a seat
+    /// that was told so is told so from then on. Takes no memory.
+    pub fn claim(&self, seat: &mut DeskSeat) -> Option<u64>
+        requires { seat.old.desk ≡ self.now }
+        ensures desk { seat.new.desk ≡ self.now }
+        ensures some { IfSome result (λ b. (seat.old.found_empty ≡ false) × (b < self.now.plan.blocks) × All (λ c. c < b) seat.old.claims × (seat.new.claims ≡ seat.old.claims ++ b ∷ []) × (seat.new.found_empty ≡ false)) }
+        ensures none { IfNone result ((seat.new.found_empty ≡ true) × (seat.new.claims ≡ seat.old.claims)) }
+    {
+        if seat.found_empty {
+            return None;
+        }
+        let found = self.table.shared.fetch_add::<Claimed>(&mut seat.seat, 0, 1);
+        if found < self.plan.blocks {
+            Some(found)
+        } else {
+            seat.found_empty = true;
+            None
+        }
+    }
+
+    /// Whether all seats of the desk are handed in and one of them was told that no block is left. Then each block was claimed, by one
+    /// of them, once. Whatever is answered, no block was claimed twice. Takes no memory.
+    pub fn close(self, mut seats: Vec<DeskSeat>) -> bool
+        requires { All (λ s. s.desk ≡ self) seats.items }
+        ensures apart { (x : ℕ) → times x (claims_of seats.items) ≤ 1 }
+        ensures answer { result ≡ ((length seats.items == self.plan.seats) && any_empty seats.items) }
+        ensures whole { IsTrue result → (x : ℕ) → times x (claims_of seats.items) ≡ once_below x self.plan.blocks }
+    {
+        let count = seats.len();
+        let Some(one) = seats.pop() else {
+            return false;
+        };
+        let (mut all, mut found_empty) = one.into_parts();
+        while let Some(other) = seats.pop() {
+            let (seat, empty) = other.into_parts();
+            self.table.shared.join_seat::<Together>(&mut all, seat);
+            found_empty = found_empty || empty;
+        }
+        let whole = found_empty && count as u64 == self.plan.seats;
+        let Desk { table, plan: _ } = self;
+        table.close_with(all).free();
+        whole
+    }
+}
+
+impl DeskSeat {
+    fn into_parts(self) -> (Seat<u8, Hand>, bool)
+        ensures desk { (result.0.table_id ≡ self.desk.table) × (result.0.me.0.plan ≡ self.desk.plan) }
+        ensures seat { (result.0.me.1 ≡ []) × (result.0.me.0.seats ≡ 1) × (result.0.me.0.claims ≡ self.claims) }
+        ensures mark { (result.1 ≡ self.found_empty) × (result.0.me.0.marks ≡ (if result.1 then 1 else 0)) }
+    {
+        let DeskSeat { seat, found_empty } = self;
+        (seat, found_empty)
+    }
+}

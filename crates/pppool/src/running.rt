@@ -1,0 +1,158 @@
+// All units of a list.
+ghost use Rattle.std.specs.Prelude.{◌≡◌, ℕ, ◌<◌, ◌≤◌, ◌/◌, [], length, All, IfOk, IsSome, Some, None, slice_index_or};
+ghost use Rattle.ppshelf.specs.Files.{Extends, Agree, AllLawful};
+ghost use Rattle.ppunit.specs.Unit.{IsUnitOf};
+ghost use Rattle.ppunit.specs.Units.{AreUnits};
+ghost use Rattle.pppool.specs.Desk.{new_seat, times, claims_of};
+ghost use Rattle.pppool.specs.Workers.{AllFilled, FitSlots, IsDone};
+
+use crate::desk::{Desk, DeskSeat};
+use crate::gate::Gate;
+use crate::slots::{all_of, empty_slots, place};
+use crate::workers::{Job, Worker};
+use ppshelf::{Disk, Pass, Shelf};
+use pptext::Memory;
+use ppunit::{Setting, Unit, UnitOut, growth};
+use std::alloc::Global;
+use std::thread;
+use std::thread::Threads;
+
+/// Preprocesses the units of a list, at most 65,535, by so many workers, 1 to 64, in blocks of 1 to 1024 units.
+///
+/// Each worker has a seat at a desk and a pass of its own, and claims blocks until none is left. Before each unit it enters the
+/// gate. Where no thread can be made the workers run in turn. In the end the pass has met all workers' passes, and the answers are
+/// the units' values over what it knows, in the list's order, each once.
+///
+/// Fails only for want of memory, and then the pass knows what it knew.
+pub fn run<'a, R: Threads + Sync, D: Disk + Send + Sync, G: Gate + Sync>(
+    threads: &R,
+    alloc: Global,
+    shelf: &'a Shelf<D>,
+    pass: &mut Pass<'a, D>,
+    disk: &D,
+    gate: &G,
+    setting: &Setting,
+    units: &'a [Unit],
+    workers: usize,
+    block: usize,
+) -> Result<Vec<UnitOut<'a>>, Memory>
+    requires shelf { pass.old.shelf ≡ shelf.now }
+    requires workers { (1 ≤ workers) × (workers ≤ 64) }
+    requires block { (1 ≤ block) × (block ≤ 1024) }
+    requires count { length units.now ≤ 65_535 }
+    requires rows { All (IsUnitOf (length shelf.now.names)) units.now }
+    ensures shelf { pass.new.shelf ≡ shelf.now }
+    ensures grows { Extends pass.new.files pass.old.files }
+    ensures value { IfOk result (λ outs. AreUnits shelf.now.names pass.new.files setting.now units.now outs.items) }
+    ensures lawful { AllLawful D.may shelf.now.names pass.new.files }
+    ensures filled { Agree shelf.now.base pass.new.files }
+{
+    pass.lawful();
+    let (desk, seats) = Desk::new(alloc, block_count(units.len(), block), workers)?;
+    let gathered = gather(
+        threads,
+        &Job {
+            alloc,
+            shelf,
+            disk,
+            gate,
+            setting,
+            units,
+            block,
+            desk: &desk,
+        },
+        seats,
+        pass,
+    );
+    pass.lawful();
+    let (seats, slots) = gathered?;
+    if desk.close(seats) {
+        all_of(alloc, slots)
+    } else {
+        Err(Memory)
+    }
+}
+
+// How many blocks there are. The last may have fewer units than the others.
+fn block_count(units: usize, block: usize) -> u64
+    requires units { units ≤ 65_535 }
+    requires block { 1 ≤ block }
+    ensures few { result ≤ 65_535 }
+    ensures all { (i : ℕ) → i < units → i / block < result }
+{
+    units.div_ceil(block) as u64
+}
+
+// Lets a worker in each seat work, and gathers what they give back.
+fn gather<'a, R: Threads + Sync, D: Disk + Send + Sync, G: Gate + Sync>(
+    threads: &R,
+    job: &Job<'a, '_, D, G>,
+    seats: Vec<DeskSeat>,
+    pass: &mut Pass<'a, D>,
+) -> Result<(Vec<DeskSeat>, Vec<Option<UnitOut<'a>>>), Memory>
+    requires seats { All (λ s. s ≡ new_seat job.now.desk.now) seats.items }
+    requires shelf { pass.old.shelf ≡ job.now.shelf.now }
+    requires block { (1 ≤ job.now.block) × (job.now.block ≤ 1024) }
+    requires blocks { job.now.desk.now.plan.blocks ≤ 65_535 }
+    requires rows { All (IsUnitOf (length job.now.shelf.now.names)) job.now.units.now }
+    ensures shelf { pass.new.shelf ≡ job.now.shelf.now }
+    ensures grows { Extends pass.new.files pass.old.files }
+    ensures seats { IfOk result (λ r. All (λ s. s.desk ≡ job.now.desk.now) r.0.items) }
+    ensures slots { IfOk result (λ r. FitSlots job.now.shelf.now pass.new.files job.now.setting.now job.now.units.now r.1.items) }
+    ensures full { IfOk result (λ r. AllFilled (length job.now.units.now) job.now.block (claims_of r.0.items) r.1.items) }
+{
+    let task = |seat: DeskSeat| -> Result<Worker<D>, Memory>
+        requires { (seat ≡ new_seat job.now.desk.now) × (1 ≤ job.now.block) × (job.now.block ≤ 1024) × (job.now.desk.now.plan.blocks ≤ 65_535) × All (IsUnitOf (length job.now.shelf.now.names)) job.now.units.now }
+        ensures { IfOk result (λ w. IsDone job.entry.now.desk.now job.entry.now.shelf.now job.entry.now.setting.now job.entry.now.units.now job.entry.now.block w.seat w.pass w.answers.items) }
+    { Worker::in_seat(job, seat) };
+    let done = thread::map_vec(threads, seats, &task)?;
+    collect(job, pass, done)
+}
+
+// Takes in what the workers give back.
+fn collect<'a, D: Disk, G: Gate>(
+    job: &Job<'a, '_, D, G>,
+    pass: &mut Pass<'a, D>,
+    done: Vec<Result<Worker<'a, D>, Memory>>,
+) -> Result<(Vec<DeskSeat>, Vec<Option<UnitOut<'a>>>), Memory>
+    requires shelf { pass.old.shelf ≡ job.now.shelf.now }
+    requires done { All (λ r. IfOk r (λ w. IsDone job.now.desk.now job.now.shelf.now job.now.setting.now job.now.units.now job.now.block w.seat w.pass w.answers.items)) done.items }
+    ensures shelf { pass.new.shelf ≡ job.now.shelf.now }
+    ensures grows { Extends pass.new.files pass.old.files }
+    ensures seats { IfOk result (λ r. All (λ s. s.desk ≡ job.now.desk.now) r.0.items) }
+    ensures slots { IfOk result (λ r. FitSlots job.now.shelf.now pass.new.files job.now.setting.now job.now.units.now r.1.items) }
+    ensures full { IfOk result (λ r. AllFilled (length job.now.units.now) job.now.block (claims_of r.0.items) r.1.items) }
+{
+    let mut seats = Vec::new(job.alloc);
+    let mut slots = empty_slots(job.alloc, job.units.len())?;
+    for one in done {
+        let worker = one?;
+        let seat = absorb(job, pass, worker, &mut slots);
+        seats.push(seat)?;
+    }
+    Ok((seats, slots))
+}
+
+// Meets one worker's pass, puts its answers into their slots, and gives back its seat.
+fn absorb<'a, D: Disk, G: Gate>(
+    job: &Job<'a, '_, D, G>,
+    pass: &mut Pass<'a, D>,
+    worker: Worker<'a, D>,
+    slots: &mut Vec<Option<UnitOut<'a>>>,
+) -> DeskSeat
+    requires mine { pass.old.shelf ≡ job.now.shelf.now }
+    requires done { IsDone job.now.desk.now job.now.shelf.now job.now.setting.now job.now.units.now job.now.block worker.seat worker.pass worker.answers.items }
+    requires slots { FitSlots job.now.shelf.now pass.old.files job.now.setting.now job.now.units.now slots.old.items }
+    ensures seat { result.desk ≡ job.now.desk.now }
+    ensures shelf { pass.new.shelf ≡ job.now.shelf.now }
+    ensures grows { Extends pass.new.files pass.old.files }
+    ensures slots { FitSlots job.now.shelf.now pass.new.files job.now.setting.now job.now.units.now slots.new.items }
+    ensures stay { (i : ℕ) → IsSome (slice_index_or slots.old.items i None) → IsSome (slice_index_or slots.new.items i None) }
+    ensures put { (i : ℕ) → i < length job.now.units.now → 0 < times (i / job.now.block) result.claims → IsSome (slice_index_or slots.new.items i None) }
+{
+    let (seat, other, answers) = worker.into_parts();
+    job.shelf.meet(pass, other);
+    growth();
+    place(answers, slots);
+    seat
+}

@@ -1,0 +1,4 @@
+mod callers;
+mod desks;
+mod lists;
+mod runs;

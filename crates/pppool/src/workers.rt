@@ -1,0 +1,158 @@
+// Workers, which claim blocks of units and preprocess them.
+ghost use Rattle.std.specs.Prelude.{◌≡◌, ℕ, ◌<◌, ◌≤◌, ◌/◌, [], ◌∷◌, ◌++◌, length, All, IfOk, OnOk};
+ghost use Rattle.ppshelf.specs.Files.{Extends};
+ghost use Rattle.ppunit.specs.Unit.{IsUnitOf};
+ghost use Rattle.pppool.specs.Desk.{new_seat, times};
+ghost use Rattle.pppool.specs.Workers.{AreAnswers, AllAnswered, IsDone, answered};
+
+use crate::desk::{Desk, DeskSeat};
+use crate::gate::Gate;
+use ppshelf::{Disk, Pass, Shelf};
+use pptext::Memory;
+use ppunit::{Setting, Unit, UnitOut, growth, preprocess};
+use std::alloc::Global;
+
+/// What all workers share: the units of a list in blocks, and the desk at which these are claimed.
+pub(crate) struct Job<'a, 'j, D: Disk, G: Gate> {
+    pub alloc: Global,
+    pub shelf: &'a Shelf<D>,
+    pub disk: &'j D,
+    pub gate: &'j G,
+    pub setting: &'j Setting,
+    pub units: &'a [Unit],
+    pub block: usize,
+    pub desk: &'j Desk,
+}
+
+impl<D: Disk, G: Gate> Drop for Job<'_, '_, D, G> {
+    fn drop(self) {
+        let Job {
+            alloc: _,
+            shelf: _,
+            disk: _,
+            gate: _,
+            setting: _,
+            units: _,
+            block: _,
+            desk: _,
+        } = self;
+    }
+}
+
+/// What a unit gives, with its number in the list.
+#[derive(Drop)]
+pub(crate) struct Answer<'a> {
+    pub unit: usize,
+    pub out: UnitOut<'a>,
+}
+
+/// A worker: its seat at the desk, what it knows of the shelf, and what the units of its blocks gave.
+pub(crate) struct Worker<'a, D: Disk> {
+    pub seat: DeskSeat,
+    pub pass: Pass<'a, D>,
+    pub answers: Vec<Answer<'a>>,
+}
+
+impl<D: Disk> Drop for Worker<'_, D> {
+    fn drop(self) {
+        let Worker {
+            seat: _,
+            pass: _,
+            answers: _,
+        } = self;
+    }
+}
+
+impl<'a, D: Disk> Worker<'a, D> {
+    // Preprocesses the unit with this number.
+    fn work_unit<G: Gate>(&mut self, job: &Job<'a, '_, D, G>, unit: usize) -> Result<(), Memory>
+        requires shelf { self.old.pass.shelf ≡ job.now.shelf.now }
+        requires unit { unit < length job.now.units.now }
+        requires rows { All (IsUnitOf (length job.now.shelf.now.names)) job.now.units.now }
+        requires answers { AreAnswers job.now.shelf.now self.old.pass.files job.now.setting.now job.now.units.now self.old.answers.items }
+        ensures seat { self.new.seat ≡ self.old.seat }
+        ensures shelf { self.new.pass.shelf ≡ job.now.shelf.now }
+        ensures answers { OnOk result (AreAnswers job.now.shelf.now self.new.pass.files job.now.setting.now job.now.units.now self.new.answers.items) }
+        ensures answered { OnOk result (answered self.new.answers.items ≡ answered self.old.answers.items ++ unit ∷ []) }
+    {
+        job.gate.enter(unit);
+        let given = preprocess(
+            job.alloc,
+            job.shelf,
+            &mut self.pass,
+            job.disk,
+            job.setting,
+            &job.units[unit],
+        );
+        growth();
+        let out = given?;
+        self.answers.push(Answer { unit, out })?;
+        Ok(())
+    }
+
+    // Preprocesses the units of the block with this number. The last block may have fewer than the others.
+    fn work_block<G: Gate>(&mut self, job: &Job<'a, '_, D, G>, number: usize) -> Result<(), Memory>
+        requires shelf { self.old.pass.shelf ≡ job.now.shelf.now }
+        requires block { (1 ≤ job.now.block) × (job.now.block ≤ 1024) }
+        requires number { number < 65_535 }
+        requires rows { All (IsUnitOf (length job.now.shelf.now.names)) job.now.units.now }
+        requires answers { AreAnswers job.now.shelf.now self.old.pass.files job.now.setting.now job.now.units.now self.old.answers.items }
+        ensures seat { self.new.seat ≡ self.old.seat }
+        ensures shelf { self.new.pass.shelf ≡ job.now.shelf.now }
+        ensures answers { OnOk result (AreAnswers job.now.shelf.now self.new.pass.files job.now.setting.now job.now.units.now self.new.answers.items) }
+        ensures stay { OnOk result ((i : ℕ) → 0 < times i (answered self.old.answers.items) → 0 < times i (answered self.new.answers.items)) }
+        ensures block { OnOk result ((i : ℕ) → i < length job.now.units.now → i / job.now.block ≡ number → 0 < times i (answered self.new.answers.items)) }
+    {
+        let first = number * job.block;
+        let end = (first + job.block).min(job.units.len());
+        for unit in first..end {
+            self.work_unit(job, unit)?;
+        }
+        Ok(())
+    }
+
+    /// Claims blocks and preprocesses their units until no block is left.
+    pub(crate) fn work<G: Gate>(&mut self, job: &Job<'a, '_, D, G>) -> Result<(), Memory>
+        requires seat { (self.old.seat.desk ≡ job.now.desk.now) × (self.old.seat.claims ≡ []) }
+        requires shelf { self.old.pass.shelf ≡ job.now.shelf.now }
+        requires block { (1 ≤ job.now.block) × (job.now.block ≤ 1024) }
+        requires blocks { job.now.desk.now.plan.blocks ≤ 65_535 }
+        requires rows { All (IsUnitOf (length job.now.shelf.now.names)) job.now.units.now }
+        requires answers { self.old.answers.items ≡ [] }
+        ensures { OnOk result (IsDone job.now.desk.now job.now.shelf.now job.now.setting.now job.now.units.now job.now.block self.new.seat self.new.pass self.new.answers.items) }
+    {
+        while let Some(number) = job.desk.claim(&mut self.seat) {
+            self.work_block(job, number as usize)?;
+        }
+        Ok(())
+    }
+
+    /// A worker in this seat, after its work. It begins with a pass that knows nothing.
+    pub(crate) fn in_seat<G: Gate>(job: &Job<'a, '_, D, G>, seat: DeskSeat) -> Result<Self, Memory>
+        requires seat { seat ≡ new_seat job.now.desk.now }
+        requires block { (1 ≤ job.now.block) × (job.now.block ≤ 1024) }
+        requires blocks { job.now.desk.now.plan.blocks ≤ 65_535 }
+        requires rows { All (IsUnitOf (length job.now.shelf.now.names)) job.now.units.now }
+        ensures { IfOk result (λ w. IsDone job.now.desk.now job.now.shelf.now job.now.setting.now job.now.units.now job.now.block w.seat w.pass w.answers.items) }
+    {
+        let mut worker = Worker {
+            seat,
+            pass: job.shelf.pass()?,
+            answers: Vec::new(job.alloc),
+        };
+        worker.work(job)?;
+        Ok(worker)
+    }
+
+    /// Its seat, its pass and its answers.
+    pub(crate) fn into_parts(self) -> (DeskSeat, Pass<'a, D>, Vec<Answer<'a>>)
+        ensures { (result.0 ≡ self.entry.seat) × (result.1 ≡ self.entry.pass) × (result.2 ≡ self.entry.answers) }
+    {
+        let Worker {
+            seat,
+            pass,
+            answers,
+        } = self;
+        (seat, pass, answers)
+    }
+}
