@@ -14,7 +14,9 @@ use Rattle.ppunit.specs.Forms.{is_one_line}
 use Rattle.ppunit.specs.Unit.{command_text}
 use Rattle.ppunit.specs.declared.units.Unit.{Unit as UnitOfList}
 use Rattle.cppunits.specs.Shape.{draft}
-use Rattle.cppunits.specs.Listing.{accepted, refused, json_value, outcome_of, judged, listed, listed_unit, place_of, names_of, contents_of, names_hold, sizes_hold, are_known, times_hold, lines_hold, folders_hold, most_input, most_bytes, IsRunnable}
+use Rattle.ppshelf.specs.Content.{longest}
+use Rattle.ppshelf.specs.Files.{most_rows}
+use Rattle.cppunits.specs.Listing.{accepted, refused, json_value, outcome_of, judged, listed, listed_unit, place_of, names_of, contents_of, names_hold, sizes_hold, are_known, times_hold, lines_hold, folders_hold, most_input, IsRunnable}
 use Rattle.cppunits.specs.declared.list.List.{List as CompilationList}
 use Rattle.cppunits.specs.declared.list.drafts.Draft.{Draft}
 use Rattle.cppunits.specs.declared.list.drafts.DraftFile.{DraftFile}
@@ -51,10 +53,10 @@ passed x true true true true true false l e = absurd (cc)
 passed x true true true true true true l e = record { is_list = cc; names_pass = refl; sizes_pass = refl; files_pass = refl; times_pass = refl; lines_pass = refl }
 
 judged-passed : (inline : Bool) (d : Draft) (l : CompilationList) → judged inline d ≡ accepted l
-    → Passed (listed inline d) (names_hold d.files) (sizes_hold d) (are_known (names_of d.files) d.units) (times_hold d.setting) (lines_hold (map (listed_unit (names_of d.files)) d.units)) l
-judged-passed inline d l e = passed (listed inline d) (names_hold d.files) (sizes_hold d) (are_known (names_of d.files) d.units) (times_hold d.setting) (lines_hold (map (listed_unit (names_of d.files)) d.units)) (folders_hold (listed inline d)) l e
+    → Passed (listed inline d) (names_hold d.files) (sizes_hold d) (are_known (names_of d.files) d.units) (times_hold d.setting) (lines_hold d.units) l
+judged-passed inline d l e = passed (listed inline d) (names_hold d.files) (sizes_hold d) (are_known (names_of d.files) d.units) (times_hold d.setting) (lines_hold d.units) (folders_hold d) l e
 
-both : (a b : Bool) → (a && b) ≡ true → (a ≡ true) × (b ≡ true)
+pub both : (a b : Bool) → (a && b) ≡ true → (a ≡ true) × (b ≡ true)
 both true b h = (refl, h)
 both false b h = absurd (cc)
 
@@ -66,9 +68,9 @@ below_by t names (Some i) e h = (position-Some (bytes_eq t) names i [] e).0
 place_below : (t : List ℕ) (names : List (List ℕ)) → is_some (place_of t names) ≡ true → unwrap_or (place_of t names) 0 < length names
 place_below t names h = below_by t names (place_of t names) refl h
 
-contents-small : (inline : Bool) (d : Draft) → All (λ (f : DraftFile). length f.content ≤ 16777216) d.files → All (λ bytes. length bytes ≤ 16777216) (listed inline d).contents
-contents-small true d h = All-map (λ (bytes : List ℕ). length bytes ≤ 16777216) (λ (f : DraftFile). f.content) d.files h
-contents-small false d h = All-nil (λ (bytes : List ℕ). length bytes ≤ 16777216)
+contents-small : (inline : Bool) (d : Draft) → All (λ (f : DraftFile). length f.content ≤ longest) d.files → All (λ bytes. length bytes ≤ longest) (listed inline d).contents
+contents-small true d h = All-map (λ (bytes : List ℕ). length bytes ≤ longest) (λ (f : DraftFile). f.content) d.files h
+contents-small false d h = All-nil (λ (bytes : List ℕ). length bytes ≤ longest)
 
 -- an accepted list can be preprocessed
 pub judged-runnable : (inline : Bool) (d : Draft) (l : CompilationList) → judged inline d ≡ accepted l → IsRunnable l
@@ -78,21 +80,27 @@ judged-runnable inline d l e =
     let commands_pass = (both _ _ p.sizes_pass).1 in
     let contents_pass = (both _ _ (both _ _ p.sizes_pass).0).1 in
     let files_pass = (both _ _ (both _ _ (both _ _ p.sizes_pass).0).0).0 in
-    let count : length d.files ≤ 65535 = leb-true (length d.files) 65535 files_pass in
+    let count : length d.files ≤ most_rows = leb-true (length d.files) most_rows files_pass in
+    let units_pass = (both _ _ (both _ _ (both _ _ p.sizes_pass).0).0).1 in
+    let unit_count : length d.units ≤ most_rows = leb-true (length d.units) most_rows units_pass in
+    let same_units : length (map (listed_unit names) d.units) ≡ length d.units = length-map d.units (listed_unit names) in
     let same : length names ≡ length d.files = length-map d.files (λ (f : DraftFile). f.name) in
-    let short : All (λ (f : DraftFile). length f.content ≤ 16777216) d.files = All-weaker _ _ (λ f h. leb-true (length f.content) 16777216 h) d.files (AllPass-from_list_all (λ (f : DraftFile). nat_le (length f.content) most_bytes) d.files contents_pass) in
+    let short : All (λ (f : DraftFile). length f.content ≤ longest) d.files = All-weaker _ _ (λ f h. leb-true (length f.content) longest h) d.files (AllPass-from_list_all (λ (f : DraftFile). nat_le (length f.content) longest) d.files contents_pass) in
     let known : All (λ (u : DraftUnit). unwrap_or (place_of u.file names) 0 < length names) d.units = All-weaker _ _ (λ u h. place_below u.file names h) d.units (AllPass-from_list_all (λ (u : DraftUnit). is_some (place_of u.file names)) d.units p.files_pass) in
-    let fit : All (λ (u : DraftUnit). length (command_text u.defines) ≤ 16777216) d.units = All-weaker _ _ (λ u h. leb-true (length (command_text u.defines)) 16777216 h) d.units (AllPass-from_list_all (λ (u : DraftUnit). nat_le (length (command_text u.defines)) most_bytes) d.units commands_pass) in
+    let fit : All (λ (u : DraftUnit). length (command_text u.defines) ≤ longest) d.units = All-weaker _ _ (λ u h. leb-true (length (command_text u.defines)) longest h) d.units (AllPass-from_list_all (λ (u : DraftUnit). nat_le (length (command_text u.defines)) longest) d.units commands_pass) in
     let files : All (λ (u : UnitOfList). u.file < length names) (map (listed_unit names) d.units) = All-map (λ (u : UnitOfList). u.file < length names) (listed_unit names) d.units known in
-    let commands : All (λ (u : UnitOfList). length (command_text u.defines) ≤ 16777216) (map (listed_unit names) d.units) = All-map (λ (u : UnitOfList). length (command_text u.defines) ≤ 16777216) (listed_unit names) d.units fit in
-    let lines : All (λ (u : UnitOfList). list_all is_one_line u.defines ≡ true) (map (listed_unit names) d.units) = AllPass-from_list_all (λ (u : UnitOfList). list_all is_one_line u.defines) (map (listed_unit names) d.units) p.lines_pass in
+    let commands : All (λ (u : UnitOfList). length (command_text u.defines) ≤ longest) (map (listed_unit names) d.units) = All-map (λ (u : UnitOfList). length (command_text u.defines) ≤ longest) (listed_unit names) d.units fit in
+    let lines : All (λ (u : UnitOfList). list_all is_one_line u.defines ≡ true) (map (listed_unit names) d.units) = All-map (λ (u : UnitOfList). list_all is_one_line u.defines ≡ true) (listed_unit names) d.units (AllPass-from_list_all (λ (u : DraftUnit). list_all is_one_line u.defines) d.units p.lines_pass) in
     subst IsRunnable p.is_list (record {
       names = p.names_pass;
       few = rw same count;
+      many = rw same_units unit_count;
       small = contents-small inline d short;
       date = (both _ _ p.times_pass).0;
       time = (both _ _ p.times_pass).1;
-      units = λ k u h. record { file = files k u h; command = commands k u h; lines = lines k u h };
+      units = files;
+      commands = commands;
+      lines = lines;
     })
 
 -- there is a content for each name

@@ -22,6 +22,6 @@ decided_by false inline known bytes rest e came whole =
     let all : known ≡ bytes = came ∙ (ap (λ xs. bytes ++ xs) none ∙ append-nil bytes) in
     ap (outcome_of inline) (sym all)
 
-pub decided : (known bytes : List ℕ) (after : Option (List ℕ)) → Received (Some known) after bytes → outcome_of true bytes ≡ outcome_of true known
-decided known bytes None r = absurd r.came
-decided known bytes (Some rest) r = decided_by (ltb most_input (length bytes)) true known bytes rest refl r.came r.whole
+pub decided : (inline : Bool) (known bytes : List ℕ) (after : Option (List ℕ)) → Received (Some known) after bytes → outcome_of inline bytes ≡ outcome_of inline known
+decided inline known bytes None r = absurd r.came
+decided inline known bytes (Some rest) r = decided_by (ltb most_input (length bytes)) inline known bytes rest refl r.came r.whole

@@ -1,17 +1,27 @@
--- The content of a name, in a list.
-use Rattle.std.specs.Prelude.{ℕ, List, [], length, if◌then◌else◌, nat_lt, slice_index_or, map, Option, None, Some}
-use Rattle.ppshelf.specs.Content.{Content, unreadable, readable}
-use Rattle.ppshelf.specs.Shelved.{Files}
-use Rattle.cppunits.specs.Listing.{place_of}
-
--- the content in a place
-abbrev pub content_in : List (List ℕ) → Option ℕ → Content
-content_in contents None = unreadable
-content_in contents (Some row) = if nat_lt row (length contents) then readable (slice_index_or contents row []) else unreadable
-
-abbrev pub content_named : List (List ℕ) → List (List ℕ) → List ℕ → Content
-content_named names contents name = content_in contents (place_of name names)
+-- The files of a list.
+use Rattle.std.specs.Prelude.{◌≡◌, ℕ, List, map, Some}
+use Rattle.ppshelf.specs.Content.{Content, readable}
+use Rattle.ppshelf.specs.Files.{Files, AllLawful}
+use Rattle.ppunit.specs.Units.{AreUnits}
+use Rattle.ppunit.specs.declared.units.Setting.{Setting}
+use Rattle.ppunit.specs.declared.units.Unit.{Unit as UnitOfList}
+use Rattle.ppunit.specs.declared.units.UnitOut.{UnitOut}
+use Rattle.cppunits.specs.declared.list.List.{List as CompilationList}
 
 -- the files whose contents these are, and no others
 abbrev pub files_of : List (List ℕ) → Files
 files_of contents = map (λ bytes. Some (readable bytes)) contents
+
+-- the files are those whose contents stand in the list
+abbrev pub StandIn : CompilationList → Files → Type 0
+StandIn list files = files ≡ files_of list.contents
+
+-- each content is one that a disk may answer for its name
+abbrev pub MayBe : (List ℕ → Content → Type 0) → CompilationList → Files → Type 0
+MayBe may list files = AllLawful may list.names files
+
+-- what units give over some one set of such files
+pub record GiveOverSome (may : List ℕ → Content → Type 0) (names : List (List ℕ)) (setting : Setting) (units : List UnitOfList) (outs : List UnitOut) : Type 0 where
+  pub files : Files
+  pub lawful : AllLawful may names files
+  pub gives : AreUnits names files setting units outs

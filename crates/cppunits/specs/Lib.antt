@@ -4,3 +4,6 @@ pub mod Contents
 pub mod Ending
 pub mod Output
 pub mod Serving
+pub mod Lines
+pub mod Printing
+pub mod Asking

@@ -5,9 +5,11 @@ use Rattle.std.specs.List.{list_all, position}
 use Rattle.std.specs.Str.{is_utf8, bytes_eq}
 use Rattle.serde_json.specs.Data.{Data}
 use Rattle.serde_json.specs.Read.{read}
+use Rattle.ppshelf.specs.Content.{longest}
+use Rattle.ppshelf.specs.Files.{most_rows}
 use Rattle.ppshelf.specs.Names.{is_name, is_folder}
 use Rattle.ppunit.specs.Forms.{is_date, is_time, is_one_line}
-use Rattle.ppunit.specs.Unit.{command_text}
+use Rattle.ppunit.specs.Unit.{IsUnitOf, command_text}
 use Rattle.ppunit.specs.declared.units.Setting.{Setting}
 use Rattle.ppunit.specs.declared.units.Unit.{Unit as UnitOfList}
 use Rattle.cppunits.specs.Shape.{has_text, draft}
@@ -41,14 +43,6 @@ names_of files = map (λ (f : DraftFile). f.name) files
 abbrev pub contents_of : List DraftFile → List (List ℕ)
 contents_of files = map (λ (f : DraftFile). f.content) files
 
--- the most files of a list, and the most units
-abbrev pub most_rows : ℕ
-most_rows = 65535
-
--- the most bytes of a file
-abbrev pub most_bytes : ℕ
-most_bytes = 2 ^ 24
-
 -- the most bytes of a list
 abbrev pub most_input : ℕ
 most_input = 2 ^ 28
@@ -62,10 +56,10 @@ abbrev pub names_hold : List DraftFile → Bool
 names_hold files = are_new [] (names_of files)
 
 abbrev pub contents_fit : List DraftFile → Bool
-contents_fit = list_all (λ (f : DraftFile). nat_le (length f.content) most_bytes)
+contents_fit = list_all (λ (f : DraftFile). nat_le (length f.content) longest)
 
 abbrev pub commands_fit : List DraftUnit → Bool
-commands_fit = list_all (λ (u : DraftUnit). nat_le (length (command_text u.defines)) most_bytes)
+commands_fit = list_all (λ (u : DraftUnit). nat_le (length (command_text u.defines)) longest)
 
 abbrev pub sizes_hold : Draft → Bool
 sizes_hold d = nat_le (length d.files) most_rows && nat_le (length d.units) most_rows && contents_fit d.files && commands_fit d.units
@@ -78,12 +72,12 @@ abbrev pub times_hold : Setting → Bool
 times_hold s = is_date s.date && is_time s.time
 
 -- each definition is one line
-abbrev pub lines_hold : List UnitOfList → Bool
-lines_hold = list_all (λ (u : UnitOfList). list_all is_one_line u.defines)
+abbrev pub lines_hold : List DraftUnit → Bool
+lines_hold = list_all (λ (u : DraftUnit). list_all is_one_line u.defines)
 
 -- each text that is searched is a folder
-abbrev pub folders_hold : CompilationList → Bool
-folders_hold l = list_all is_folder l.setting.search && list_all (λ (u : UnitOfList). list_all is_folder u.search) l.units
+abbrev pub folders_hold : Draft → Bool
+folders_hold d = list_all is_folder d.setting.search && list_all (λ (u : DraftUnit). list_all is_folder u.search) d.units
 
 abbrev pub listed_unit : List (List ℕ) → DraftUnit → UnitOfList
 listed_unit names u = record { file = unwrap_or (place_of u.file names) 0; defines = u.defines; search = u.search }
@@ -92,13 +86,13 @@ listed_unit names u = record { file = unwrap_or (place_of u.file names) 0; defin
 abbrev pub listed : Bool → Draft → CompilationList
 listed inline d = record { setting = d.setting; names = names_of d.files; contents = if inline then contents_of d.files else []; units = map (listed_unit (names_of d.files)) d.units }
 
--- what stands in a list whose units have their files
-abbrev pub judged_texts : CompilationList → Outcome
-judged_texts l = if not (times_hold l.setting) then refused 6 else (if not (lines_hold l.units) then refused 7 else (if not (folders_hold l) then refused 8 else accepted l))
+-- what stands in a draft whose units have their files
+abbrev pub judged_texts : Bool → Draft → Outcome
+judged_texts inline d = if not (times_hold d.setting) then refused 6 else (if not (lines_hold d.units) then refused 7 else (if not (folders_hold d) then refused 8 else accepted (listed inline d)))
 
 -- the list, or the least number of a refusal that applies
 abbrev pub judged : Bool → Draft → Outcome
-judged inline d = if not (names_hold d.files) then refused 3 else (if not (sizes_hold d) then refused 4 else (if not (are_known (names_of d.files) d.units) then refused 5 else judged_texts (listed inline d)))
+judged inline d = if not (names_hold d.files) then refused 3 else (if not (sizes_hold d) then refused 4 else (if not (are_known (names_of d.files) d.units) then refused 5 else judged_texts inline d))
 
 abbrev shaped : Bool → Option Draft → Outcome
 shaped inline None = refused 2
@@ -112,17 +106,14 @@ parsed inline (Some d) = shaped inline (draft inline d)
 abbrev pub outcome_of : Bool → List ℕ → Outcome
 outcome_of inline bytes = if nat_lt most_input (length bytes) then refused 1 else parsed inline (json_value bytes)
 
--- a unit of these files
-pub record IsUnitOf (names : List (List ℕ)) (u : UnitOfList) : Type 0 where
-  pub file : u.file < length names
-  pub command : length (command_text u.defines) ≤ 16777216
-  pub lines : list_all is_one_line u.defines ≡ true
-
 -- a list whose units can be preprocessed
 pub record IsRunnable (l : CompilationList) : Type 0 where
   pub names : are_new [] l.names ≡ true
-  pub few : length l.names ≤ 65535
-  pub small : All (λ bytes. length bytes ≤ 16777216) l.contents
+  pub few : length l.names ≤ most_rows
+  pub many : length l.units ≤ most_rows
+  pub small : All (λ bytes. length bytes ≤ longest) l.contents
   pub date : is_date l.setting.date ≡ true
   pub time : is_time l.setting.time ≡ true
-  pub units : All (IsUnitOf l.names) l.units
+  pub units : All (IsUnitOf (length l.names)) l.units
+  pub commands : All (λ (u : UnitOfList). length (command_text u.defines) ≤ longest) l.units
+  pub lines : All (λ (u : UnitOfList). list_all is_one_line u.defines ≡ true) l.units

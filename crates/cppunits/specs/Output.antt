@@ -11,7 +11,7 @@ use Rattle.ppunit.specs.declared.units.UnitOut.{UnitOut}
 use Rattle.ppunit.specs.declared.units.Unit.{Unit as UnitOfList}
 use Rattle.cppunits.specs.declared.list.List.{List as CompilationList}
 use Rattle.cppunits.specs.declared.output.Mode.{Mode}
-use Rattle.cppunits.specs.declared.output.Mode.TheVariants.{Dump}
+use Rattle.cppunits.specs.declared.output.Mode.TheVariants.{Dump, Deps}
 
 -- an upper-case hexadecimal digit
 abbrev pub hex_digit : ℕ → ℕ
@@ -74,6 +74,7 @@ last_line (Some f) = codes "fault " ++ decimal f.number ++ codes " " ++ place_te
 
 abbrev pub shown_items : Mode → List Item → List ℕ
 shown_items Dump items = flat_map item_lines items
+shown_items Deps items = []
 
 abbrev pub unit_lines : Mode → List (List ℕ) → ℕ → UnitOfList → UnitOut → List ℕ
 unit_lines mode names i unit out =

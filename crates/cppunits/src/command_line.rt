@@ -1,29 +1,63 @@
 // The command line, judged before any input is read.
+ghost use Rattle.std.specs.Prelude.{◌≤◌, IfOk};
+ghost use Rattle.cppunits.specs.Asking.{InRange, IfRun};
+
 use crate::ending::words;
 use crate::output::Mode;
 use crate::serving::RunFault;
 use clap::error::ErrorKind;
-use clap::{Command, Error};
+use clap::{Arg, ArgMatches, Command, Error};
 use std::alloc::{AllocError, Global};
 use std::rt::Env;
 use std::{env, io};
 
+/// What a run is asked to do.
+#[derive(Drop)]
+pub struct Options {
+    /// What is printed of each unit.
+    pub mode: Mode,
+    /// How many units are preprocessed at once, 1 to 64.
+    pub workers: usize,
+    /// How many units a worker takes at a time, 1 to 1024.
+    pub block: usize,
+    /// The folder that the files are read from; without one the list holds them.
+    pub root: Option<String>,
+}
+
 /// What the command line asks for.
+#[derive(Drop)]
 pub enum Asked {
     /// A run.
-    Run(Mode),
+    Run(Options),
     /// No run: its help was printed, or why it can't be followed, and the program ends with this status.
     Stop(u8),
 }
+
+const MOST_WORKERS: usize = 64;
+
+const MOST_BLOCK: usize = 1024;
 
 const USAGE: u8 = 2;
 
 const MEMORY: u8 = 4;
 
+const ABOUT: &str = "Preprocesses the C11 translation units of the list on standard input";
+
+const ABOUT_DUMP: &str =
+    "Prints each unit's tokens with their places, its pragmas, its dependencies and its first fault";
+
+const ABOUT_DEPS: &str = "Prints each unit's dependencies and its first fault";
+
+const MORE: &str = "\
+The list is a JSON object with `date`, `time`, `files` and `units`; the README says what stands in each.
+Status: 0 no unit has a fault, 1 some unit has one, 2 usage, 3 the list is refused, 4 out of memory, 5 a read or write failed.";
+
 /// Judges the program's words, and prints what there is to say of them.
-pub fn ask<R: Env + AllocGlobal + Print + Eprint>(rt: &R) -> Asked {
+pub fn ask<R: Env + AllocGlobal + Print + Eprint>(rt: &R) -> Asked
+    ensures { IfRun result InRange }
+{
     let error = match parse(rt) {
-        Ok(mode) => return Asked::Run(mode),
+        Ok(options) => return Asked::Run(options),
         Err(error) => error,
     };
     if error.kind() == ErrorKind::OutOfMemory {
@@ -34,7 +68,9 @@ pub fn ask<R: Env + AllocGlobal + Print + Eprint>(rt: &R) -> Asked {
     Asked::Stop(if error.exit_code() == 0 { 0 } else { USAGE })
 }
 
-fn parse<R: Env + AllocGlobal>(rt: &R) -> Result<Mode, Error> {
+fn parse<R: Env + AllocGlobal>(rt: &R) -> Result<Options, Error>
+    ensures { IfOk result InRange }
+{
     let mut command = command(rt.alloc())?;
     let words: Vec<String> = match env::args(rt) {
         Ok(words) => words.collect(rt.alloc())?,
@@ -45,16 +81,66 @@ fn parse<R: Env + AllocGlobal>(rt: &R) -> Result<Mode, Error> {
             return Err(command.error(ErrorKind::InvalidValue, "an argument is no UTF-8 text")?);
         }
     };
-    command.try_get_matches_from(words.as_slice())?;
-    Ok(Mode::Dump)
+    let matches = command.try_get_matches_from(words.as_slice())?;
+    Ok(read_options(rt.alloc(), &matches)?)
+}
+
+fn read_options(alloc: Global, matches: &ArgMatches<'_>) -> Result<Options, AllocError>
+    ensures { IfOk result InRange }
+{
+    let root = match matches.get_str("root") {
+        Some(folder) => Some(String::from_str(alloc, folder)?),
+        None => None,
+    };
+    let mode = if matches.subcommand_name() == Some("deps") {
+        Mode::Deps
+    } else {
+        Mode::Dump
+    };
+    Ok(Options {
+        mode,
+        workers: number(matches, "workers", MOST_WORKERS),
+        block: number(matches, "block", MOST_BLOCK),
+        root,
+    })
+}
+
+// The number behind an option, 1 to `most`, or its default; clap has refused all others.
+fn number(matches: &ArgMatches<'_>, option: &str, most: usize) -> usize
+    requires { 1 ≤ most }
+    ensures { (1 ≤ result) × (result ≤ most) }
+{
+    matches.get_one::<usize>(option).unwrap_or(1).clamp(1, most)
 }
 
 fn command<'a>(alloc: Global) -> Result<Command<'a>, AllocError> {
+    let workers = Arg::new(alloc, "workers")
+        .long("workers")
+        .value_name("N")
+        .help("How many units are preprocessed at once, 1 to 64")
+        .default_value("4")
+        .value_parser(clap::value_parser!(usize).range(1..=MOST_WORKERS as i64));
+    let block = Arg::new(alloc, "block")
+        .long("block")
+        .value_name("K")
+        .help("How many units a worker takes at a time, 1 to 1024")
+        .default_value("8")
+        .value_parser(clap::value_parser!(usize).range(1..=MOST_BLOCK as i64));
+    let root = Arg::new(alloc, "root").long("root").value_name("DIR").help(
+        "Read each listed file below this folder; the list then holds names alone",
+    );
     Command::new(alloc, "cppunits")
-        .about("preprocesses the C11 translation units of the list on standard input")
+        .about(ABOUT)
+        .after_help(MORE)
+        .arg(workers)?
+        .arg(block)?
+        .arg(root)?
         .subcommand_required(true)
         .disable_help_subcommand(true)
-        .subcommand(Command::new(alloc, "dump").about(
-            "prints the units' tokens, dependencies and faults",
-        ))
+        .subcommand(subcommand(alloc, "dump", ABOUT_DUMP))?
+        .subcommand(subcommand(alloc, "deps", ABOUT_DEPS))
+}
+
+fn subcommand<'a>(alloc: Global, name: &'a str, about: &'a str) -> Command<'a> {
+    Command::new(alloc, name).about(about).after_help(MORE)
 }

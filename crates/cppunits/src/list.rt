@@ -1,8 +1,8 @@
 // The list of translation units, read from JSON.
-ghost use Rattle.std.specs.Prelude.{◌≡◌, ℕ, Some, None, IfOk, IfErr, IsErrOf, true, length};
+ghost use Rattle.std.specs.Prelude.{◌≡◌, ◌≤◌, ℕ, Some, None, IfOk, IfErr, IsErrOf, true, length};
 ghost use Rattle.serde_json.specs.View.{view};
-ghost use Rattle.cppunits.specs.Listing.{RefusedFor, IsRunnable, json_value, outcome_of, accepted, refused};
-ghost use Rattle.cppunits.specs.declared.list.ListFault.TheVariants.{Bad, Memory};
+ghost use Rattle.cppunits.specs.Listing.{RefusedFor, IsRunnable, json_value, outcome_of, judged, accepted, refused, most_input};
+ghost use Rattle.cppunits.specs.declared.list.ListFault.TheVariants.{Bad, Memory as OutOfMemory};
 
 mod drafts;
 pub(crate) mod index;
@@ -10,8 +10,9 @@ mod judging;
 #[cfg(test)]
 mod tests;
 
-use crate::list::drafts::draft_of;
+use crate::list::drafts::{Draft, draft_of};
 use crate::list::judging::judge;
+use pptext::Memory;
 use ppunit::{Setting, Texts, Unit};
 use serde_json::{Category, Value};
 use std::alloc::{AllocError, AllocFailed, Global};
@@ -79,6 +80,13 @@ impl Contents {
     {
         self.contents.as_slice()
     }
+
+    /// The contents, given back.
+    pub fn into_vec(self) -> Vec<Vec<u8>>
+        ensures { map (λ bytes. bytes.items) result.items ≡ self }
+    {
+        self.contents
+    }
 }
 
 /// A list of translation units with its files: a file's row is its place among the names, and among the contents.
@@ -102,15 +110,23 @@ pub enum ListFault {
 }
 
 impl From<AllocError> for ListFault {
-    ghost from_gives = { λ _ e. e ≡ Memory };
+    ghost from_gives = { λ _ e. e ≡ OutOfMemory };
 
     fn from(_error: AllocError) -> ListFault {
         ListFault::Memory
     }
 }
 
+impl From<Memory> for ListFault {
+    ghost from_gives = { λ _ e. e ≡ OutOfMemory };
+
+    fn from(_error: Memory) -> ListFault {
+        ListFault::Memory
+    }
+}
+
 impl<T: Drop> From<AllocFailed<T>> for ListFault {
-    ghost from_gives = { λ _ e. e ≡ Memory };
+    ghost from_gives = { λ _ e. e ≡ OutOfMemory };
 
     fn from(_error: AllocFailed<T>) -> ListFault {
         ListFault::Memory
@@ -138,9 +154,18 @@ pub fn read_list(alloc: Global, bytes: &[u8], inline: bool) -> Result<List, List
     if bytes.len() > MOST_INPUT {
         return Err(ListFault::Bad(1));
     }
-    let value = json_of(alloc, bytes)?;
-    let draft = draft_of(alloc, &value, inline)?;
+    let draft = draft_from(alloc, bytes, inline)?;
     judge(alloc, draft, inline)
+}
+
+/// The list as it stands in JSON. The JSON value is given back before the list is judged.
+fn draft_from(alloc: Global, bytes: &[u8], inline: bool) -> Result<Draft, ListFault>
+    requires { length bytes.now ≤ most_input }
+    ensures ok { IfOk result (λ d. outcome_of inline bytes.now ≡ judged inline d) }
+    ensures bad { (n : ℕ) → IsErrOf result (Bad n) → outcome_of inline bytes.now ≡ refused n }
+{
+    let value = json_of(alloc, bytes)?;
+    draft_of(alloc, &value, inline)
 }
 
 fn json_of(alloc: Global, bytes: &[u8]) -> Result<Value, ListFault>

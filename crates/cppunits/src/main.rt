@@ -1,43 +1,58 @@
 // Preprocesses the translation units of the list on standard input.
 #![tactic(auto)]
 
+mod beginning;
 mod command_line;
 mod ending;
 mod list;
-mod list_disk;
 mod output;
+mod page;
 mod running;
 mod serving;
 mod streams;
 #[cfg(test)]
 mod tests;
+mod writing;
 
-use command_line::Asked;
+use command_line::{Asked, Options};
 use ending::{status, words};
-use serving::serve;
+use ppshelf::FolderDisk;
+use serving::{serve, serve_from};
 use std::process::ExitCode;
 use streams::{ReaderFeed, WriterSink};
 
-const WORKERS: usize = 4;
-
-const BLOCK: usize = 8;
-
 fn main(rt: HostRuntime) -> ExitCode {
-    let mode = match command_line::ask(&rt) {
-        Asked::Run(mode) => mode,
+    let Options {
+        mode,
+        workers,
+        block,
+        root,
+    } = match command_line::ask(&rt) {
+        Asked::Run(options) => options,
         Asked::Stop(status) => return ExitCode::from(status),
     };
-    let mut reader = ReaderFeed::new(rt.stdin());
-    let mut writer = WriterSink::new(rt.stdout());
-    let outcome = serve(
-        &rt,
+    let (alloc, mut reader, mut writer) = (
         rt.alloc(),
-        &mut reader,
-        &mut writer,
-        mode,
-        WORKERS,
-        BLOCK,
+        ReaderFeed::new(rt.stdin()),
+        WriterSink::new(rt.stdout()),
     );
+    let outcome = match &root {
+        None => serve(&rt, alloc, &mut reader, &mut writer, mode, workers, block),
+        Some(folder) => {
+            let (files, folder) = (&rt, folder.as_str());
+            let disk = FolderDisk { files, folder };
+            serve_from(
+                &rt,
+                alloc,
+                &mut reader,
+                &mut writer,
+                &disk,
+                mode,
+                workers,
+                block,
+            )
+        }
+    };
     if let Err(fault) = &outcome {
         let _ = eprintln!(rt; "{}", words(fault));
     }

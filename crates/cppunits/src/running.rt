@@ -1,109 +1,137 @@
-// The units of a list over its files, one after another.
-ghost use Rattle.std.specs.Prelude.{◌≡◌, ◌≤◌, [], true, length, All, IfOk};
-ghost use Rattle.ppshelf.specs.Shelved.{names_of, base_of};
-ghost use Rattle.ppunit.specs.Unit.{IsUnit};
-ghost use Rattle.cppunits.specs.Contents.{files_of};
-ghost use Rattle.cppunits.specs.Listing.{IsRunnable, IsUnitOf, are_new};
-ghost use Rattle.cppunits.specs.Serving.{Gives};
+// The units of a list, by workers over its files.
+ghost use Rattle.std.specs.Prelude.{◌≡◌, ◌≤◌, [], length, replicate, All, IfOk, None};
+ghost use Rattle.ppshelf.specs.Content.{longest};
+ghost use Rattle.ppshelf.specs.Files.{most_rows, IsFull};
+ghost use Rattle.ppunit.specs.Unit.{IsUnitOf};
+ghost use Rattle.ppunit.specs.Units.{AreUnits};
+ghost use Rattle.cppunits.specs.Contents.{files_of, GiveOverSome};
 
-use crate::list::List;
-use crate::list::index::Index;
-use crate::list_disk::ListDisk;
-use ppshelf::{Disk, Pass, Shelf};
+use crate::list::Contents;
+use pppool::{Gate, list_growth, run};
+use ppshelf::{Disk, MemoryDisk, Shelf};
 use pptext::Memory;
-use ppunit::{Texts, Unit, UnitOut, growth, preprocess};
-use std::alloc::{AllocError, Global};
+use ppunit::{Setting, Texts, Unit, UnitOut};
+use std::alloc::Global;
+use std::thread::Threads;
 
-/// What the units give over exactly the files of the list, in their order.
-pub(crate) fn answer_all(alloc: Global, list: &List) -> Result<Vec<UnitOut>, Memory>
-    requires runnable { IsRunnable list.now }
-    requires contents { length list.now.contents ≡ length list.now.names }
-    ensures { IfOk result (λ outs. Gives list.now outs.items) }
-{
-    let names = index_of(alloc, &list.names)?;
-    let disk = ListDisk {
-        names: &names,
-        contents: &list.contents,
-    };
-    let shelf = filled_shelf(alloc, &list.names, &disk)?;
-    answer_over(alloc, list, &shelf, &disk)
+/// How workers share the units of a list.
+#[derive(Clone, Copy, Debug, PartialEq, Eq)]
+pub(crate) struct Crew {
+    /// How many work at once, 1 to 64.
+    pub workers: usize,
+    /// How many units one takes at a time, 1 to 1024.
+    pub block: usize,
 }
 
-/// The places of names, each of which is new.
-fn index_of(alloc: Global, names: &Texts) -> Result<Index, AllocError>
-    requires { are_new [] names.now ≡ true }
-    ensures { IfOk result (λ i. i ≡ names.now) }
+/// A gate that lets each unit begin at once.
+struct OpenGate;
+
+impl Gate for OpenGate {
+    fn enter(&self, _unit: usize) {}
+}
+
+/// A disk without files. It is never asked, since all rows are filled.
+pub(crate) fn no_disk(alloc: Global) -> MemoryDisk
+    ensures { result.files.items ≡ [] }
 {
-    let mut index = Index::new(alloc);
-    for name in names.as_slice() {
-        let _new = index.push(name.as_bytes())?;
+    MemoryDisk {
+        files: Vec::new(alloc),
     }
-    Ok(index)
 }
 
-/// A shelf of these names, filled with the contents of the disk.
-fn filled_shelf<'a>(
-    alloc: Global,
-    names: &Texts,
-    disk: &ListDisk<'a>,
-) -> Result<Shelf<ListDisk<'a>>, Memory>
-    requires few { length names.now ≤ 65_535 }
-    requires places { disk.now.names.now ≡ names.now }
-    requires contents { length disk.now.contents.now ≡ length names.now }
-    requires small { All (λ bytes. length bytes ≤ 16_777_216) disk.now.contents.now }
-    ensures names { IfOk result (λ s. names_of s ≡ names.now) }
-    ensures files { IfOk result (λ s. base_of s ≡ files_of disk.now.contents.now) }
+/// A shelf of these names, to whose rows nothing was moved.
+pub(crate) fn empty_shelf<D: Disk>(alloc: Global, names: &Texts) -> Result<Shelf<D>, Memory>
+    requires few { length names.now ≤ most_rows }
+    ensures names { IfOk result (λ s. s.names ≡ names.now) }
+    ensures empty { IfOk result (λ s. s.base ≡ replicate (length names.now) None) }
 {
     let copies = Vec::from_clones(alloc, names.as_slice())?;
-    let Ok(mut shelf) = Shelf::new(alloc, copies) else {
+    let Ok(shelf) = Shelf::new(alloc, copies) else {
         return Err(Memory);
     };
-    shelf.fill(disk)?;
     Ok(shelf)
 }
 
-/// What the units give over a shelf of the list's files.
-fn answer_over<D: Disk>(
+/// A shelf of these names, to whose rows the contents are moved.
+pub(crate) fn filled_shelf(
     alloc: Global,
-    list: &List,
-    shelf: &Shelf<D>,
-    disk: &D,
-) -> Result<Vec<UnitOut>, Memory>
-    requires runnable { IsRunnable list.now }
-    requires names { names_of shelf.now ≡ list.now.names }
-    requires files { base_of shelf.now ≡ files_of list.now.contents }
-    ensures { IfOk result (λ outs. Gives list.now outs.items) }
+    names: &Texts,
+    contents: Contents,
+) -> Result<Shelf<MemoryDisk>, Memory>
+    requires few { length names.now ≤ most_rows }
+    requires count { length contents ≡ length names.now }
+    requires small { All (λ bytes. length bytes ≤ longest) contents }
+    ensures names { IfOk result (λ s. s.names ≡ names.now) }
+    ensures files { IfOk result (λ s. s.base ≡ files_of contents) }
+    ensures full { IfOk result (λ s. IsFull s) }
 {
+    let mut shelf = empty_shelf(alloc, names)?;
+    shelf.fill_with(contents.into_vec())?;
+    Ok(shelf)
+}
+
+/// What units give over exactly the files of a shelf, in their order: what they give over those that they open, and so over all.
+pub(crate) fn over_contents<'a, R: Threads + Sync>(
+    threads: &R,
+    alloc: Global,
+    shelf: &'a Shelf<MemoryDisk>,
+    setting: &Setting,
+    units: &'a [Unit],
+    crew: Crew,
+) -> Result<Vec<UnitOut<'a>>, Memory>
+    requires full { IsFull shelf.now }
+    requires count { length units.now ≤ most_rows }
+    requires units { All (IsUnitOf (length shelf.now.names)) units.now }
+    requires workers { (1 ≤ crew.workers) × (crew.workers ≤ 64) }
+    requires block { (1 ≤ crew.block) × (crew.block ≤ 1024) }
+    ensures { IfOk result (λ outs. AreUnits shelf.now.names shelf.now.base setting.now units.now outs.items) }
+{
+    let disk = no_disk(alloc);
     let mut pass = shelf.pass()?;
-    let mut outs = Vec::new(alloc);
-    for unit in list.units.as_slice() {
-        let out = answer(alloc, list, shelf, &mut pass, disk, unit)?;
-        let Ok(()) = outs.push(out) else {
-            return Err(Memory);
-        };
-    }
+    let outs = run(
+        threads,
+        alloc,
+        shelf,
+        &mut pass,
+        &disk,
+        &OpenGate,
+        setting,
+        units,
+        crew.workers,
+        crew.block,
+    )?;
+    pass.lawful();
+    list_growth();
     Ok(outs)
 }
 
-/// What a unit gives over a shelf of the list's files: what it gives over those that it opens, and so over all.
-fn answer<'a, D: Disk>(
+/// What units give over one set of files, each content one that disks of this type may answer for its name, in their order.
+pub(crate) fn over_disk<'a, R: Threads + Sync, D: Disk + Send + Sync>(
+    threads: &R,
     alloc: Global,
-    list: &'a List,
     shelf: &'a Shelf<D>,
-    pass: &mut Pass<'a, D>,
-    disk: &'a D,
-    unit: &'a Unit,
-) -> Result<UnitOut, Memory>
-    requires runnable { IsRunnable list.now }
-    requires unit { IsUnitOf list.now.names unit.now }
-    requires pass { pass.old.shelf ≡ shelf.now }
-    requires names { names_of shelf.now ≡ list.now.names }
-    requires files { base_of shelf.now ≡ files_of list.now.contents }
-    ensures pass { pass.new.shelf ≡ shelf.now }
-    ensures is { IfOk result (λ out. IsUnit list.now.names (files_of list.now.contents) list.now.setting unit.now out) }
+    disk: &D,
+    setting: &Setting,
+    units: &'a [Unit],
+    crew: Crew,
+) -> Result<Vec<UnitOut<'a>>, Memory>
+    requires count { length units.now ≤ most_rows }
+    requires units { All (IsUnitOf (length shelf.now.names)) units.now }
+    requires workers { (1 ≤ crew.workers) × (crew.workers ≤ 64) }
+    requires block { (1 ≤ crew.block) × (crew.block ≤ 1024) }
+    ensures { IfOk result (λ outs. GiveOverSome D.may shelf.now.names setting.now units.now outs.items) }
 {
-    let out = preprocess(alloc, shelf, pass, disk, &list.setting, unit)?;
-    pass.lawful();
-    growth();
-    Ok(out)
+    let mut pass = shelf.pass()?;
+    run(
+        threads,
+        alloc,
+        shelf,
+        &mut pass,
+        disk,
+        &OpenGate,
+        setting,
+        units,
+        crew.workers,
+        crew.block,
+    )
 }

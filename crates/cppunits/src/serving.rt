@@ -1,15 +1,18 @@
 // From the bytes of a list to the bytes of its output.
-ghost use Rattle.std.specs.Prelude.{◌≡◌, ◌⊎◌, ◌≤◌, ◌≢◌, ℕ, IfOk, IfErr, OnOk, OnErr, IsErrOf, take, true, false};
-ghost use Rattle.std.specs.Io.KnownBytes.{Appends};
+ghost use Rattle.std.specs.Prelude.{◌≡◌, ◌⊎◌, ◌≤◌, ◌≢◌, ℕ, IfOk, IfErr, IsErrOf, length, true, false};
+ghost use Rattle.cppunits.specs.Contents.{StandIn, MayBe};
+ghost use Rattle.cppunits.specs.Listing.{IsRunnable};
 ghost use Rattle.cppunits.specs.declared.serving.RunFault.TheVariants.{List as ListRefused, Memory as OutOfMemory, Read as ReadFailed, Write as WriteFailed};
-ghost use Rattle.cppunits.specs.Serving.{some_fault, Received, Serves, BreaksOff, Refuses, KnownBytesDecide};
+ghost use Rattle.cppunits.specs.Serving.{some_fault, Received, Comes, HandsOut, HandsOutFront, Serves, BreaksOff, Refuses, KnownBytesDecide};
 
-use crate::list::{ListFault, MOST_INPUT, read_list};
-use crate::output::{Mode, dump};
-use crate::running::answer_all;
-use crate::streams::{Failed, Feed, Sink};
+use crate::list::{List, ListFault, MOST_INPUT, read_list};
+use crate::output::{Mode, print};
+use crate::page::Page;
+use crate::running::{Crew, empty_shelf, filled_shelf, over_contents, over_disk};
+use crate::streams::{Feed, Sink};
+use ppshelf::Disk;
 use pptext::Memory;
-use ppunit::UnitOut;
+use ppunit::{Texts, Unit, UnitOut};
 use std::alloc::{AllocError, Global};
 use std::thread::Threads;
 use thiserror::Error;
@@ -62,9 +65,10 @@ impl From<ListFault> for RunFault {
 
 const CHUNK: usize = 65_536;
 
-/// Reads a list, preprocesses its units, and writes their output once they are all done. Answers whether some unit has a fault.
-pub fn serve<R: Feed, W: Sink>(
-    _threads: &impl Threads,
+/// Reads a list that holds its files, preprocesses its units by so many workers, each of which takes so many units at a time, and writes their
+/// output once they are all done. Answers whether some unit has a fault.
+pub fn serve<T: Threads + Sync, R: Feed, W: Sink>(
+    threads: &T,
     alloc: Global,
     reader: &mut R,
     writer: &mut W,
@@ -76,23 +80,69 @@ pub fn serve<R: Feed, W: Sink>(
     requires writer { W.has_failed writer.old ≡ false }
     requires workers { (1 ≤ workers) × (workers ≤ 64) }
     requires block { (1 ≤ block) × (block ≤ 1024) }
-    ensures ok { IfOk result (λ any. Serves mode (R.rest reader.old) (R.rest reader.new) (W.written writer.old) (W.written writer.new) any) }
-    ensures refused { (n : ℕ) → IsErrOf result (ListRefused n) → Refuses (R.rest reader.old) (R.rest reader.new) n }
+    ensures ok { IfOk result (λ any. Serves true StandIn mode (R.rest reader.old) (R.rest reader.new) (W.written writer.old) (W.written writer.new) any) }
+    ensures refused { (n : ℕ) → IsErrOf result (ListRefused n) → Refuses true (R.rest reader.old) (R.rest reader.new) n }
     ensures read { IsErrOf result ReadFailed → R.has_failed reader.new ≡ true }
     ensures write { IsErrOf result WriteFailed → W.has_failed writer.new ≡ true }
-    ensures broken_off { IsErrOf result WriteFailed → BreaksOff mode (R.rest reader.old) (R.rest reader.new) (W.written writer.old) (W.written writer.new) }
+    ensures broken_off { IsErrOf result WriteFailed → BreaksOff true StandIn mode (R.rest reader.old) (R.rest reader.new) (W.written writer.old) (W.written writer.new) }
     ensures untouched { IfErr result (λ fault. fault ≢ WriteFailed → writer.new ≡ writer.old) }
 {
+    let list = receive(alloc, reader, true)?;
+    let List {
+        setting,
+        names,
+        contents,
+        units,
+    } = list;
+    let shelf = filled_shelf(alloc, &names, contents)?;
+    let units = units.as_slice();
+    let crew = Crew { workers, block };
+    let outs = over_contents(threads, alloc, &shelf, &setting, units, crew)?;
+    hand_out(alloc, writer, mode, &names, units, outs.as_slice())
+}
+
+/// Reads a list of names, and what `serve` does, where workers read each file from the disk when it is first asked for. No file is read
+/// again: all units are preprocessed over one set of contents.
+pub fn serve_from<T: Threads + Sync, R: Feed, W: Sink, D: Disk + Send + Sync>(
+    threads: &T,
+    alloc: Global,
+    reader: &mut R,
+    writer: &mut W,
+    disk: &D,
+    mode: Mode,
+    workers: usize,
+    block: usize,
+) -> Result<bool, RunFault>
+    requires reader { R.has_failed reader.old ≡ false }
+    requires writer { W.has_failed writer.old ≡ false }
+    requires workers { (1 ≤ workers) × (workers ≤ 64) }
+    requires block { (1 ≤ block) × (block ≤ 1024) }
+    ensures ok { IfOk result (λ any. Serves false (MayBe D.may) mode (R.rest reader.old) (R.rest reader.new) (W.written writer.old) (W.written writer.new) any) }
+    ensures refused { (n : ℕ) → IsErrOf result (ListRefused n) → Refuses false (R.rest reader.old) (R.rest reader.new) n }
+    ensures read { IsErrOf result ReadFailed → R.has_failed reader.new ≡ true }
+    ensures write { IsErrOf result WriteFailed → W.has_failed writer.new ≡ true }
+    ensures broken_off { IsErrOf result WriteFailed → BreaksOff false (MayBe D.may) mode (R.rest reader.old) (R.rest reader.new) (W.written writer.old) (W.written writer.new) }
+    ensures untouched { IfErr result (λ fault. fault ≢ WriteFailed → writer.new ≡ writer.old) }
+{
+    let list = receive(alloc, reader, false)?;
+    let shelf = empty_shelf(alloc, &list.names)?;
+    let units = list.units.as_slice();
+    let crew = Crew { workers, block };
+    let outs = over_disk(threads, alloc, &shelf, disk, &list.setting, units, crew)?;
+    hand_out(alloc, writer, mode, &list.names, units, outs.as_slice())
+}
+
+/// The list that a reader brings, which holds its files or their names alone. Its bytes are given back once it is read.
+fn receive<R: Feed>(alloc: Global, reader: &mut R, inline: bool) -> Result<List, RunFault>
+    ensures ok { IfOk result (λ l. Comes inline (R.rest reader.old) (R.rest reader.new) l) }
+    ensures runnable { IfOk result (λ l. IsRunnable l) }
+    ensures contents { inline ≡ true → IfOk result (λ l. length l.contents ≡ length l.names) }
+    ensures refused { (n : ℕ) → IsErrOf result (ListRefused n) → Refuses inline (R.rest reader.old) (R.rest reader.new) n }
+    ensures read { IsErrOf result ReadFailed → R.has_failed reader.new ≡ true }
+    ensures unwritten { IfErr result (λ fault. fault ≢ WriteFailed) }
+{
     let bytes = read_all(alloc, reader)?;
-    let list = read_list(alloc, bytes.as_slice(), true)?;
-    let outs = answer_all(alloc, &list)?;
-    let text = match mode {
-        Mode::Dump => dump(alloc, &list, outs.as_slice())?,
-    };
-    let Ok(()) = write_all(writer, text.as_slice()) else {
-        return Err(RunFault::Write);
-    };
-    Ok(any_fault(outs.as_slice()))
+    Ok(read_list(alloc, bytes.as_slice(), inline)?)
 }
 
 /// Reads to the end, or until the bytes are too many for a list.
@@ -114,17 +164,28 @@ fn read_all<R: Feed>(alloc: Global, reader: &mut R) -> Result<Vec<u8>, RunFault>
     Ok(bytes)
 }
 
-/// Writes all bytes.
-fn write_all<W: Sink>(writer: &mut W, bytes: &[u8]) -> Result<(), Failed>
-    ensures ok { OnOk result (Appends (W.written writer.old) (W.written writer.new) bytes.now) }
-    ensures failed { OnErr result (W.has_failed writer.new ≡ true) }
-    ensures front { OnErr result ((n : ℕ) × Appends (W.written writer.old) (W.written writer.new) (take n bytes.now)) }
+/// Writes the output of units, and answers whether some unit has a fault.
+fn hand_out<W: Sink>(
+    alloc: Global,
+    writer: &mut W,
+    mode: Mode,
+    names: &Texts,
+    units: &[Unit],
+    outs: &[UnitOut],
+) -> Result<bool, RunFault>
+    requires writer { W.has_failed writer.old ≡ false }
+    requires counts { length outs.now ≡ length units.now }
+    ensures ok { IfOk result (λ any. HandsOut mode names.now units.now outs.now (W.written writer.old) (W.written writer.new) any) }
+    ensures kinds { IfErr result (λ fault. (fault ≡ OutOfMemory) ⊎ (fault ≡ WriteFailed)) }
+    ensures write { IsErrOf result WriteFailed → W.has_failed writer.new ≡ true }
+    ensures front { IsErrOf result WriteFailed → HandsOutFront mode names.now units.now outs.now (W.written writer.old) (W.written writer.new) }
+    ensures untouched { IfErr result (λ fault. fault ≢ WriteFailed → writer.new ≡ writer.old) }
 {
-    let mut done = 0;
-    while done < bytes.len() {
-        done += writer.write(&bytes[done..])?;
-    }
-    Ok(())
+    let mut page = Page::new(alloc)?;
+    let Ok(()) = print(&mut page, writer, mode, names, units, outs) else {
+        return Err(RunFault::Write);
+    };
+    Ok(any_fault(outs))
 }
 
 fn any_fault(outs: &[UnitOut]) -> bool

@@ -107,6 +107,13 @@ impl VecSink {
     {
         self.bytes.as_slice()
     }
+
+    /// The bytes that went out, in a vector.
+    pub fn into_bytes(self) -> Vec<u8>
+        ensures { ⟦<VecSink as Sink>⟧.written self ≡ Some result.items }
+    {
+        self.bytes
+    }
 }
 
 impl Sink for VecSink {

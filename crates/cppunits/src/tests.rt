@@ -3,8 +3,10 @@ ghost use Rattle.std.specs.Prelude.{None};
 
 use crate::ending::{status, words};
 use crate::output::Mode;
-use crate::serving::{RunFault, serve};
+use crate::serving::{RunFault, serve, serve_from};
 use crate::streams::{Failed, Feed, ReaderFeed, Sink, SliceFeed, VecSink, WriterSink};
+use ppshelf::{File, MemoryDisk};
+use std::alloc::{AllocError, Global};
 use std::process::Abort;
 use std::test::Fail;
 use std::thread::Threads;
@@ -16,7 +18,7 @@ const EXAMPLE_OUTPUT: &str =
     "unit 0 a.c\ntok 0:1:1 0:1:1 i+ a\ntok 0:1:2 0:1:2 p- +\ntok 0:1:3 0:1:3 i- b\ntok 0:1:8 0:1:8 i+ c\ndep 0 a.c\nok\n";
 
 /// The file's `text` or `hex`, what is printed between the unit's name and its dependency, and the last line.
-fn prints<R: Threads + AllocGlobal + Abort>(
+fn prints<R: Threads + AllocGlobal + Abort + Sync>(
     rt: &R,
     content: &str,
     items: &str,
@@ -125,6 +127,115 @@ fn prints_units_over_a_shared_header(rt: HostRuntime) -> Result<(), Fail> {
     let outcome = serve(&rt, rt.alloc(), &mut reader, &mut writer, Mode::Dump, 4, 8);
     assert_eq!(rt; status(&outcome), 1);
     assert!(rt; writer.bytes() == SHARED_OUTPUT.as_bytes());
+    Ok(())
+}
+
+/// The same without the items.
+const SHARED_DEPS: &str = r#"unit 0 a.c
+dep 0 a.c
+dep 1 inc/h.h
+ok
+unit 1 b.c
+dep 2 b.c
+dep 1 inc/h.h
+fault 34 2:3:1 no M
+unit 2 a.c
+fault 16 65535:2:1 N
+"#;
+
+#[test]
+fn prints_dependencies_alone(rt: HostRuntime) -> Result<(), Fail> {
+    let mut reader = SliceFeed::new(SHARED.as_bytes());
+    let mut writer = VecSink::new(rt.alloc());
+    let outcome = serve(&rt, rt.alloc(), &mut reader, &mut writer, Mode::Deps, 4, 8);
+    assert_eq!(rt; status(&outcome), 1);
+    assert!(rt; writer.bytes() == SHARED_DEPS.as_bytes());
+    Ok(())
+}
+
+#[test]
+fn gives_the_same_by_any_workers_and_blocks(rt: HostRuntime) -> Result<(), Fail> {
+    for (workers, block) in [(1, 1), (1, 1024), (2, 1), (2, 3), (7, 1), (64, 2)] {
+        let mut reader = SliceFeed::new(SHARED.as_bytes());
+        let mut writer = VecSink::new(rt.alloc());
+        let outcome = serve(
+            &rt,
+            rt.alloc(),
+            &mut reader,
+            &mut writer,
+            Mode::Dump,
+            workers,
+            block,
+        );
+        assert_eq!(rt; status(&outcome), 1, "with {workers} workers");
+        assert!(rt;
+            writer.bytes() == SHARED_OUTPUT.as_bytes(),
+            "with {workers} workers"
+        );
+    }
+    Ok(())
+}
+
+/// The same list with names alone.
+const SHARED_NAMES: &str =
+    r##"{"date":"Feb  9 2024","time":"08:05:03","search":["inc"],"files":[{"name":"a.c"},{"name":"inc/h.h"},{"name":"b.c"}],"units":[{"file":"a.c","define":["N 7"]},{"file":"b.c","search":["."]},{"file":"a.c","define":["N 7","N 8"]}]}"##;
+
+fn file_of(alloc: Global, name: &str, text: &str) -> Result<File, AllocError> {
+    Ok(File {
+        name: String::from_str(alloc, name)?,
+        bytes: Vec::from_slice(alloc, text.as_bytes())?,
+    })
+}
+
+/// The same files, but for the first so many, on a disk.
+fn shared_disk(alloc: Global, without: usize) -> Result<MemoryDisk, AllocError> {
+    let shared = [
+        ("a.c", "#include \"h.h\"\nN P(1) __FILE__\n"),
+        (
+            "inc/h.h",
+            "#ifndef H\n#define H\n#define P(x) x+N\n#pragma once n\n#endif\n",
+        ),
+        ("b.c", "#include <h.h>\nP(2)\n#error no M\nx\n"),
+    ];
+    let mut files = Vec::new(alloc);
+    for (name, text) in shared.iter().skip(without) {
+        files.push(file_of(alloc, name, text)?)?;
+    }
+    Ok(MemoryDisk { files })
+}
+
+#[test]
+fn serves_the_files_of_a_disk(rt: HostRuntime) -> Result<(), Fail> {
+    let disk = shared_disk(rt.alloc(), 0)?;
+    for (mode, want) in [(Mode::Dump, SHARED_OUTPUT), (Mode::Deps, SHARED_DEPS)] {
+        let mut reader = SliceFeed::new(SHARED_NAMES.as_bytes());
+        let mut writer = VecSink::new(rt.alloc());
+        let outcome = serve_from(&rt, rt.alloc(), &mut reader, &mut writer, &disk, mode, 2, 1);
+        assert_eq!(rt; status(&outcome), 1);
+        assert!(rt; writer.bytes() == want.as_bytes());
+    }
+    Ok(())
+}
+
+#[test]
+fn tells_a_file_that_the_disk_lacks(rt: HostRuntime) -> Result<(), Fail> {
+    let disk = shared_disk(rt.alloc(), 3)?;
+    let list =
+        r#"{"date":"Feb  9 2024","time":"08:05:03","files":[{"name":"a.c"}],"units":[{"file":"a.c"}]}"#;
+    let mut reader = SliceFeed::new(list.as_bytes());
+    let mut writer = VecSink::new(rt.alloc());
+    let outcome = serve_from(
+        &rt,
+        rt.alloc(),
+        &mut reader,
+        &mut writer,
+        &disk,
+        Mode::Dump,
+        4,
+        8,
+    );
+    assert_eq!(rt; status(&outcome), 1);
+    assert!(rt; writer.bytes() == b"unit 0 a.c\ndep 0 a.c\nfault 6 0:1:1 a.c\n".as_slice());
     Ok(())
 }
 

@@ -1,6 +1,7 @@
 // The judgement of a list's names, sizes and texts.
-ghost use Rattle.std.specs.Prelude.{◌≡◌, ℕ, IfOk, IfErr, OnOk, IsErrOf, true, false, [], map, length, nat_le, if◌then◌else◌};
+ghost use Rattle.std.specs.Prelude.{◌≡◌, ◌≤◌, ℕ, IfOk, IfErr, OnOk, IsErrOf, true, false, [], map, length, nat_le, if◌then◌else◌};
 ghost use Rattle.std.specs.List.{list_all};
+ghost use Rattle.ppshelf.specs.Content.{longest};
 ghost use Rattle.ppshelf.specs.Names as shelf_spec;
 ghost use Rattle.ppunit.specs.Forms as form;
 ghost use Rattle.ppunit.specs.Unit.{command_text};
@@ -11,13 +12,10 @@ ghost use Rattle.cppunits.specs.declared.list.ListFault.TheVariants.{Bad};
 use crate::list::drafts::{Draft, DraftFile, DraftFiles, DraftUnit, DraftUnits};
 use crate::list::index::Index;
 use crate::list::{Contents, List, ListFault, Units};
-use ppshelf::{is_folder, is_name};
-use ppunit::{Setting, Texts, Unit, fits_command, is_date, is_one_line, is_time};
+use ppshelf::{LONGEST, MOST_ROWS, is_folder, is_name};
+use pptext::Memory;
+use ppunit::{Definitions, Setting, Texts, Unit, fits_command, is_date, is_one_line, is_time};
 use std::alloc::{AllocError, Global};
-
-const MOST_ROWS: usize = 65_535;
-
-const MOST_BYTES: usize = 16_777_216;
 
 /// The list of a draft.
 ///
@@ -33,17 +31,19 @@ pub(super) fn judge(alloc: Global, draft: Draft, inline: bool) -> Result<List, L
     if !sizes_hold(&draft) {
         return Err(ListFault::Bad(4));
     }
-    let list = listed(alloc, draft, &index, inline)?;
-    if !times_hold(&list.setting) {
+    if !files_are_known(&index, draft.units.as_slice()) {
+        return Err(ListFault::Bad(5));
+    }
+    if !times_hold(&draft.setting) {
         return Err(ListFault::Bad(6));
     }
-    if !lines_hold(list.units.as_slice()) {
+    if !lines_hold(draft.units.as_slice()) {
         return Err(ListFault::Bad(7));
     }
-    if !folders_hold(&list) {
+    if !folders_hold(&draft) {
         return Err(ListFault::Bad(8));
     }
-    Ok(list)
+    Ok(listed(alloc, draft, &index, inline)?)
 }
 
 /// The places of the files' names.
@@ -84,7 +84,7 @@ fn sizes_hold(draft: &Draft) -> bool
 fn contents_fit(files: &[DraftFile]) -> bool
     ensures { result ≡ spec.contents_fit files.now }
 {
-    files.iter().all(|file| file.content.len() <= MOST_BYTES)
+    files.iter().all(|file| file.content.len() <= LONGEST)
 }
 
 fn commands_fit(units: &[DraftUnit]) -> bool
@@ -94,21 +94,16 @@ fn commands_fit(units: &[DraftUnit]) -> bool
 }
 
 fn command_fits(defines: &Texts) -> bool
-    ensures { result ≡ nat_le (length (command_text defines.now)) spec.most_bytes }
+    ensures { result ≡ nat_le (length (command_text defines.now)) longest }
 {
     fits_command(defines.as_slice())
 }
 
-/// The list of a draft, whose names have these places.
-///
-/// # Errors
-///
-/// `Bad(5)` where a unit's file isn't among the names, and `Memory`.
-fn listed(alloc: Global, draft: Draft, index: &Index, inline: bool) -> Result<List, ListFault>
-    requires { index.now ≡ spec.names_of draft.files }
-    ensures ok { IfOk result (λ l. l ≡ spec.listed inline draft) }
-    ensures known { OnOk result (spec.are_known (spec.names_of draft.files) draft.units ≡ true) }
-    ensures err { IfErr result (RefusedFor 5 (spec.are_known (spec.names_of draft.files) draft.units ≡ false)) }
+/// The list of a draft, whose names have these places. The definitions of its units are read.
+fn listed(alloc: Global, draft: Draft, index: &Index, inline: bool) -> Result<List, Memory>
+    requires names { index.now ≡ spec.names_of draft.files }
+    requires fits { spec.commands_fit draft.units ≡ true }
+    ensures { IfOk result (λ l. l ≡ spec.listed inline draft) }
 {
     let Draft {
         setting,
@@ -125,17 +120,16 @@ fn listed(alloc: Global, draft: Draft, index: &Index, inline: bool) -> Result<Li
     })
 }
 
-fn listed_units(alloc: Global, index: &Index, units: DraftUnits) -> Result<Units, ListFault>
-    ensures ok { IfOk result (λ us. us ≡ map (spec.listed_unit index.now) units) }
-    ensures known { OnOk result (spec.are_known index.now units ≡ true) }
-    ensures err { IfErr result (RefusedFor 5 (spec.are_known index.now units ≡ false)) }
+fn listed_units(alloc: Global, index: &Index, units: DraftUnits) -> Result<Units, Memory>
+    requires { spec.commands_fit units ≡ true }
+    ensures { IfOk result (λ us. us ≡ map (spec.listed_unit index.now) units) }
 {
-    if !files_are_known(index, units.as_slice()) {
-        return Err(ListFault::Bad(5));
-    }
     let mut listed = Vec::new(alloc);
     for unit in units.into_vec() {
-        listed.push(listed_unit(index, unit))?;
+        let unit = listed_unit(alloc, index, unit)?;
+        let Ok(()) = listed.push(unit) else {
+            return Err(Memory);
+        };
     }
     Ok(Units::new(listed))
 }
@@ -146,19 +140,20 @@ fn files_are_known(index: &Index, units: &[DraftUnit]) -> bool
     units.iter().all(|unit| index.place_of(unit.file.as_str().as_bytes()).is_some())
 }
 
-fn listed_unit(index: &Index, unit: DraftUnit) -> Unit
-    ensures { result ≡ spec.listed_unit index.now unit }
+fn listed_unit(alloc: Global, index: &Index, unit: DraftUnit) -> Result<Unit, Memory>
+    requires { length (command_text unit.defines) ≤ longest }
+    ensures { IfOk result (λ u. u ≡ spec.listed_unit index.now unit) }
 {
     let DraftUnit {
         file,
         defines,
         search,
     } = unit;
-    Unit {
+    Ok(Unit {
         file: index.place_of(file.as_str().as_bytes()).unwrap_or(0),
-        defines,
+        defines: Definitions::read(alloc, defines)?,
         search,
-    }
+    })
 }
 
 /// The names of the files, and their contents where lists hold them.
@@ -188,7 +183,7 @@ fn times_hold(setting: &Setting) -> bool
     is_date(setting.date.as_str().as_bytes()) && is_time(setting.time.as_str().as_bytes())
 }
 
-fn lines_hold(units: &[Unit]) -> bool
+fn lines_hold(units: &[DraftUnit]) -> bool
     ensures { result ≡ spec.lines_hold units.now }
 {
     units.iter().all(|unit| are_lines(&unit.defines))
@@ -203,13 +198,13 @@ fn are_lines(texts: &Texts) -> bool
         .all(|text| is_one_line(text.as_bytes()))
 }
 
-fn folders_hold(list: &List) -> bool
-    ensures { result ≡ spec.folders_hold list.now }
+fn folders_hold(draft: &Draft) -> bool
+    ensures { result ≡ spec.folders_hold draft.now }
 {
-    are_folders(&list.setting.search) && units_search_folders(list.units.as_slice())
+    are_folders(&draft.setting.search) && units_search_folders(draft.units.as_slice())
 }
 
-fn units_search_folders(units: &[Unit]) -> bool
+fn units_search_folders(units: &[DraftUnit]) -> bool
     ensures { result ≡ list_all (λ u. list_all shelf_spec.is_folder u.search) units.now }
 {
     units.iter().all(|unit| are_folders(&unit.search))

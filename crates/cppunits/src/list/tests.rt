@@ -39,7 +39,7 @@ fn reads_a_list(rt: HostRuntime) -> Result<(), Fail> {
     );
     let unit = list.units.as_slice().first().ok_or("a unit")?;
     assert_eq!(rt; unit.file, 0);
-    assert!(rt; unit.defines.as_slice().is_empty());
+    assert!(rt; unit.defines.texts().as_slice().is_empty());
     assert!(rt; unit.search.as_slice().is_empty());
     Ok(())
 }
@@ -270,12 +270,12 @@ fn reads_many_files_and_units(rt: HostRuntime) -> Result<(), Fail> {
     };
     assert!(rt; (first.file, second.file, third.file) == (2, 0, 2));
     assert!(rt;
-        matches!(first.defines.as_slice(), [a, f] if a.as_str() == "A 1" && f.as_str() == "F(x) x")
+        matches!(first.defines.texts().as_slice(), [a, f] if a.as_str() == "A 1" && f.as_str() == "F(x) x")
     );
     assert!(rt;
         matches!(first.search.as_slice(), [root, inc] if root.as_str() == "." && inc.as_str() == "inc/sub")
     );
-    assert!(rt; third.defines.as_slice().is_empty() && third.search.as_slice().is_empty());
+    assert!(rt; third.defines.texts().as_slice().is_empty() && third.search.as_slice().is_empty());
     Ok(())
 }
 

@@ -1,53 +1,35 @@
-use Rattle.std.proofs.Common.{◌≡◌, refl, sym, ap, ◌∙◌, take, true}
-use Rattle.cppunits.specs.declared.output.Mode.{Mode}
-use Rattle.cppunits.specs.declared.output.Mode.TheVariants.{Dump}
-use Rattle.cppunits.specs.Listing.{outcome_of}
-use Rattle.cppunits.specs.Output.{output_text}
-use Rattle.cppunits.specs.Serving.{some_fault}
-use Rattle.cppunits.proofs.Giving.{one_each}
-use Rattle.cppunits.proofs.Known.{appends_as}
+use Rattle.std.proofs.Common.{◌≡◌, ◌∙◌, refl, ap, sym, length}
+use Rattle.ppunit.specs.declared.units.Unit.{Unit as UnitOfList}
+use Rattle.ppunit.specs.declared.units.UnitOut.{UnitOut}
+use Rattle.cppunits.specs.Contents.{files_of}
+use Rattle.cppunits.proofs.Giving.{broken_off, can_run, few_units, gives_all, if_ok_then, one_each, served}
 use Rattle.cppunits.proofs.serving.serve.Goals as goal
 
-pub dump-requires : goal.dump-requires
-dump-requires g c = rw c.as_slice-2.ensures.value (one_each c.in_ok-list.list c.in_ok-outs.outs.items c.in_ok-outs.ensures)
+pub over_contents-requires-clause-count : goal.over_contents-requires-clause-count
+over_contents-requires-clause-count g c κs within = few_units c.in_ok-list.list c.as_slice-units.result.now c.in_ok-list.ensures.runnable c.as_slice-units.ensures
 
-only_dump : (mode : Mode) → Dump ≡ mode
-only_dump Dump = refl
+pub over_contents-requires-clause-units : goal.over_contents-requires-clause-units
+over_contents-requires-clause-units g c κs within = can_run c.in_ok-list.list c.in_ok-shelf.shelf.names c.as_slice-units.result.now c.in_ok-list.ensures.runnable c.in_ok-shelf.ensures.names c.as_slice-units.ensures
 
-pub returns-in_default-clause-broken_off : goal.returns-in_default-clause-broken_off
-returns-in_default-clause-broken_off g c = λ _.
+pub hand_out-requires-clause-counts : goal.hand_out-requires-clause-counts
+hand_out-requires-clause-counts g c =
     let list = c.in_ok-list.list in
     let outs = c.in_ok-outs.outs.items in
-    let text : c.as_slice-3.result.now ≡ output_text c.args.mode list outs =
-    c.as_slice-3.ensures.value ∙ (c.in_ok-text.ensures ∙ (ap (output_text Dump list) c.as_slice-2.ensures.value ∙ ap (λ mode. output_text mode list outs) (only_dump c.args.mode))) in
-    record {
-      list = list;
-      outs = outs;
-      came = record {
-        bytes = c.in_ok-bytes.bytes.items;
-        received = c.in_ok-bytes.ensures.ok;
-        is_list = ap (outcome_of true) (sym c.as_slice.ensures.value) ∙ c.in_ok-list.ensures.ok;
-        gives = c.in_ok-outs.ensures;
-      };
-      count = c.in_default.ensures.front.0;
-      went = appends_as _ _ _ _ (ap (take c.in_default.ensures.front.0) text) c.in_default.ensures.front.1;
-    }
+    let gives = gives_all list c.in_ok-shelf.shelf c.as_slice-units.result.now outs c.in_ok-shelf.ensures.names c.in_ok-shelf.ensures.files c.as_slice-units.ensures c.in_ok-outs.ensures in
+    ap length c.as_slice.ensures.value ∙ (one_each list.names (files_of list.contents) list.setting list.units outs gives ∙ sym (ap length c.as_slice-units.ensures))
 
 pub returns-clause-ok : goal.returns-clause-ok
 returns-clause-ok g c =
     let list = c.in_ok-list.list in
     let outs = c.in_ok-outs.outs.items in
-    let text : c.as_slice-3.result.now ≡ output_text c.args.mode list outs =
-    c.as_slice-3.ensures.value ∙ (c.in_ok-text.ensures ∙ (ap (output_text Dump list) c.as_slice-2.ensures.value ∙ ap (λ mode. output_text mode list outs) (only_dump c.args.mode))) in
-    record {
-      list = list;
-      outs = outs;
-      came = record {
-        bytes = c.in_ok-bytes.bytes.items;
-        received = c.in_ok-bytes.ensures.ok;
-        is_list = ap (outcome_of true) (sym c.as_slice.ensures.value) ∙ c.in_ok-list.ensures.ok;
-        gives = c.in_ok-outs.ensures;
-      };
-      went = appends_as _ _ _ _ text c.in-Ok.ensures.ok;
-      fault = c.any_fault.ensures ∙ ap some_fault c.as_slice-4.ensures.value;
-    }
+    let gives = gives_all list c.in_ok-shelf.shelf c.as_slice-units.result.now outs c.in_ok-shelf.ensures.names c.in_ok-shelf.ensures.files c.as_slice-units.ensures c.in_ok-outs.ensures in
+    if_ok_then c.hand_out.result c.hand_out.ensures.ok (λ any given. served c.args.mode list c.as_slice-units.result.now c.as_slice.result.now outs _ _ any c.as_slice-units.ensures c.as_slice.ensures.value
+    (record { came = c.in_ok-list.ensures.ok; files = files_of list.contents; such = refl; gives = gives }) given)
+
+pub returns-clause-broken_off : goal.returns-clause-broken_off
+returns-clause-broken_off g c = λ failed.
+    let list = c.in_ok-list.list in
+    let outs = c.in_ok-outs.outs.items in
+    let gives = gives_all list c.in_ok-shelf.shelf c.as_slice-units.result.now outs c.in_ok-shelf.ensures.names c.in_ok-shelf.ensures.files c.as_slice-units.ensures c.in_ok-outs.ensures in
+    broken_off c.args.mode list c.as_slice-units.result.now c.as_slice.result.now outs _ _ c.as_slice-units.ensures c.as_slice.ensures.value
+    (record { came = c.in_ok-list.ensures.ok; files = files_of list.contents; such = refl; gives = gives }) (c.hand_out.ensures.front failed)
