@@ -1,14 +1,15 @@
 #!/usr/bin/env python3
-"""Times `cppunits dump` on a list of many units over shared headers, beside `gcc -E -P` once for each unit.
+"""Times cppunits on a list of many units over shared headers, beside `gcc -E -P` once for each unit.
 
-    bench/units.py [--program PROGRAM] [--units 300] [--headers 40] [--runs N]
+    bench/units.py [--program PROGRAM] [--units 300] [--headers 40] [--runs N] [--workers 1,2,4]
 
 The headers are guarded, include one another and define object-like and function-like macros that call one another; each
 unit includes some of them and invokes their macros, one within another.  All is made from a fixed seed, the same on every
-machine.  cppunits reads one list that holds all files; gcc reads the same files from a folder, with the same search
-folder, and without predefined macros and system folders.  Both have their output thrown away.  Printed are tokens a
-second (as cppunits counts them), the ratio of the two times (above 1: cppunits is the faster), and the peak memory of
-cppunits beside that of one gcc and of as many as there are units.
+machine.  cppunits runs `dump` and `deps`, with each number of workers, over one list that holds all files and over a
+list of their names with --root; gcc reads the same files from a folder, with the same search folder, and without
+predefined macros and system folders.  All have their output thrown away.  Printed are the seconds, tokens a second (as
+`dump` counts them), the ratio to gcc's time (above 1: cppunits is the faster), how much faster than with the first
+number of workers it is, and the peak memory beside that of one gcc and of as many as there are units.
 """
 import argparse
 import json
@@ -84,6 +85,9 @@ def make(units, headers, folder):
                   units=[{"file": "src/u%d.c" % u} for u in range(units)])
     with open(os.path.join(folder, "list.json"), "w") as file:
         json.dump(listed, file)
+    listed["files"] = [{"name": name} for name, _ in files]
+    with open(os.path.join(folder, "names.json"), "w") as file:
+        json.dump(listed, file)
 
 
 def all_of_gcc(units, folder):
@@ -96,27 +100,41 @@ def all_of_gcc(units, folder):
     return seconds, peak, worst
 
 
+def rows(program, folder, workers, runs):
+    """Each mode, inline and from the folder, with each number of workers: its words, seconds and peak memory."""
+    for mode in ("dump", "deps"):
+        for where, listed in ((), "list.json"), (("--root", folder), "names.json"):
+            first = None
+            for count in workers:
+                command = [program, "--workers", str(count), *where, mode]
+                own, status, memory = min(timed(command, os.path.join(folder, listed)) for _ in range(runs))
+                first = first or own
+                name = "%s%s, %d worker%s" % (mode, " --root" if where else "", count, "" if count == 1 else "s")
+                yield name, own, first / own, memory, status
+
+
 def main():
     parser = argparse.ArgumentParser(description=__doc__, formatter_class=argparse.RawDescriptionHelpFormatter)
     parser.add_argument("--program", default=PROGRAM)
     parser.add_argument("--units", type=int, default=300)
     parser.add_argument("--headers", type=int, default=40)
     parser.add_argument("--runs", type=int, default=3)
+    parser.add_argument("--workers", default="1,2,4")
     asked = parser.parse_args()
     program = os.path.abspath(asked.program)
+    workers = [int(count) for count in asked.workers.split(",")]
     with tempfile.TemporaryDirectory() as folder:
         apart(make, asked.units, asked.headers, folder)
-        listed = os.path.join(folder, "list.json")
-        own, status, memory = min(timed([program, "dump"], listed) for _ in range(asked.runs))
-        other, peak, other_status = min(all_of_gcc(asked.units, folder) for _ in range(asked.runs))
-        with open(listed, "rb") as source:
+        with open(os.path.join(folder, "list.json"), "rb") as source:
             shown = subprocess.run([program, "dump"], stdin=source, stdout=subprocess.PIPE).stdout
         tokens = shown.count(b"\ntok ")
         print("%d units, %d headers, %d tokens" % (asked.units, asked.headers, tokens))
-        print("cppunits   %7.2f s  %9.0f tokens/s  peak %7.1f MB  status %d" % (own, tokens / own, memory / MEGABYTE, status))
-        print("gcc -E -P  %7.2f s  %9.0f tokens/s  peak %7.1f MB each, %.1f MB for all at once  status %d"
-              % (other, tokens / other, peak / MEGABYTE, peak * asked.units / MEGABYTE, other_status))
-        print("ratio %.2f" % (other / own))
+        other, peak, other_status = min(all_of_gcc(asked.units, folder) for _ in range(asked.runs))
+        print("%-24s %7.2f s  %9.0f tokens/s  peak %7.1f MB each, %.1f MB for all at once  status %d"
+              % ("gcc -E -P", other, tokens / other, peak / MEGABYTE, peak * asked.units / MEGABYTE, other_status))
+        for name, own, faster, memory, status in rows(program, folder, workers, asked.runs):
+            print("%-24s %7.2f s  %9.0f tokens/s  peak %7.1f MB  ratio %.2f  %.2f times as fast as with %d  status %d"
+                  % (name, own, tokens / own, memory / MEGABYTE, other / own, faster, workers[0], status))
 
 
 if __name__ == "__main__":

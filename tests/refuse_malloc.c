@@ -11,7 +11,7 @@ extern void *__libc_calloc(size_t, size_t);
 extern void *__libc_realloc(void *, size_t);
 extern void *__libc_memalign(size_t, size_t);
 
-static long calls;
+static _Atomic long calls;
 
 static int refused(void) {
     const char *wanted = getenv("REFUSED_CALL");

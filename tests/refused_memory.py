@@ -4,9 +4,10 @@
     tests/refused_memory.py [PROGRAM]
 
 PROGRAM is by default crates/cppunits/out/cppunits, which `rt ci` and `rt run` leave behind.  For each list below the
-program runs with its 1st, 2nd, 3rd .. request refused, until a run meets no refusal.  Each run must end with status 4,
-nothing on standard output and `cppunits: out of memory` on standard error, or with the answer of the run that meets
-no refusal.  The gate cannot refuse memory to the built program, so this is no part of it.
+program runs, with one worker and with four, with its 1st, 2nd, 3rd .. request refused, until a run meets no refusal.
+Each run must end with status 4, nothing on standard output and `cppunits: out of memory` on standard error, or with
+the answer of the run that meets no refusal.  The gate cannot refuse memory to the built program, so this is no part of
+it.
 """
 import os
 import sys
@@ -14,6 +15,7 @@ import sys
 from refusals import HERE, refusing_malloc, run, runs, tally
 
 PROGRAM = os.path.join(HERE, "..", "crates", "cppunits", "out", "cppunits")
+EXAMPLES = os.path.join(HERE, "..", "examples")
 OUT_OF_MEMORY = (b"", b"cppunits: out of memory\n", 4)
 
 
@@ -21,13 +23,13 @@ def one_file(text):
     return ('{"date":"Feb  9 2024","time":"08:05:03","files":[{"name":"a.c",%s}],"units":[{"file":"a.c"}]}' % text).encode()
 
 
-def example():
-    with open(os.path.join(HERE, "..", "examples", "units.json"), "rb") as file:
+def example(name):
+    with open(os.path.join(EXAMPLES, name), "rb") as file:
         return file.read()
 
 
 LISTS = {
-    "headers, definitions, conditions and a fault": example(),
+    "headers, definitions, conditions and a fault": example("units.json"),
     "a comment as one space": one_file(r'"text":"a+b/**/c\n"'),
     "an empty file": one_file('"text":""'),
     "bytes in hexadecimal digits": one_file('"hex":"efbbbf780d0a79"'),
@@ -38,12 +40,22 @@ LISTS = {
 }
 
 
+# what stands before the list, and in it: one thread, several, and files of a folder
+WAYS = {
+    "one worker": (["--workers", "1", "dump"], LISTS),
+    "four workers": (["--workers", "4", "--block", "1", "deps"], LISTS),
+    "four workers over a folder": (
+        ["--workers", "4", "--block", "1", "--root", os.path.join(EXAMPLES, "files"), "dump"],
+        {"names alone": example("names.json")},
+    ),
+}
+
+
 def outcome(done):
     return done.stdout, done.stderr, done.returncode
 
 
-def problems(program, data, malloc):
-    command = [program, "dump"]
+def problems(command, data, malloc):
     answer = outcome(run(command, malloc, 0, data)[0])
     requests = 0
     for call, done, met in runs(command, malloc, data):
@@ -57,7 +69,11 @@ def problems(program, data, malloc):
 def main(words):
     program = os.path.abspath(words[0] if words else PROGRAM)
     with refusing_malloc() as malloc:
-        return tally((name, problems(program, data, malloc)) for name, data in LISTS.items())
+        return tally(
+            ("%s: %s" % (way, name), problems([program, *words], data, malloc))
+            for way, (words, lists) in WAYS.items()
+            for name, data in lists.items()
+        )
 
 
 if __name__ == "__main__":

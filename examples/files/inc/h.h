@@ -1,0 +1,5 @@
+#ifndef H
+#define H
+#define M(a, b) a ## b #b
+int h;
+#endif
