@@ -101,8 +101,8 @@ pub fn serve<T: Threads + Sync, R: Feed, W: Sink>(
     hand_out(alloc, writer, mode, &names, units, outs.as_slice())
 }
 
-/// Reads a list of names, and what `serve` does, where workers read each file from the disk when it is first asked for. No file is read
-/// again: all units are preprocessed over one set of contents.
+/// Reads a list of names, and does with it what `serve` does; workers read a file from the disk when it is asked for, and the content that
+/// is kept first is the file's for all units.
 pub fn serve_from<T: Threads + Sync, R: Feed, W: Sink, D: Disk + Send + Sync>(
     threads: &T,
     alloc: Global,
