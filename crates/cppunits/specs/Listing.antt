@@ -1,10 +1,12 @@
 -- The list of translation units that bytes hold, or why they are refused.
-use Rattle.std.specs.Prelude.{◌≡◌, ℕ, ◌^◌, ◌<◌, ◌≤◌, ◌&&◌, ◌⊎◌, not, Bool, true, List, [], ◌∷◌, ◌++◌, All, if◌then◌else◌, nat_lt, nat_le, length, map, Option, Some, None, unwrap_or}
+use Rattle.std.specs.Prelude.{◌≡◌, ℕ, ◌^◌, ◌<◌, ◌≤◌, ◌&&◌, ◌⊎◌, not, Bool, true, List, [], ◌∷◌, ◌++◌, All, if◌then◌else◌, nat_lt, nat_le, codes, length, map, Option, Some, None, unwrap_or}
 use Rattle.std.specs.Option.{is_some}
 use Rattle.std.specs.List.{list_all, position}
 use Rattle.std.specs.Str.{is_utf8, bytes_eq}
 use Rattle.serde_json.specs.Data.{Data}
 use Rattle.serde_json.specs.Read.{read}
+use Rattle.pptext.specs.declared.sources.Profile.{Profile}
+use Rattle.pptext.specs.declared.sources.Profile.TheVariants.{C11, Later}
 use Rattle.ppshelf.specs.Content.{longest}
 use Rattle.ppshelf.specs.Files.{most_rows}
 use Rattle.ppshelf.specs.Names.{is_name, is_folder}
@@ -19,6 +21,7 @@ use Rattle.cppunits.specs.declared.list.ListFault.TheVariants.{Bad, Memory}
 use Rattle.cppunits.specs.declared.list.drafts.Draft.{Draft}
 use Rattle.cppunits.specs.declared.list.drafts.DraftFile.{DraftFile}
 use Rattle.cppunits.specs.declared.list.drafts.DraftUnit.{DraftUnit}
+use Rattle.cppunits.specs.declared.list.drafts.DraftSetting.{DraftSetting}
 
 -- a list, or the number of its refusal
 pub data Outcome : Type 0 where
@@ -68,7 +71,7 @@ sizes_hold d = nat_le (length d.files) most_rows && nat_le (length d.units) most
 abbrev pub are_known : List (List ℕ) → List DraftUnit → Bool
 are_known names = list_all (λ (u : DraftUnit). is_some (place_of u.file names))
 
-abbrev pub times_hold : Setting → Bool
+abbrev pub times_hold : DraftSetting → Bool
 times_hold s = is_date s.date && is_time s.time
 
 -- each definition is one line
@@ -79,16 +82,30 @@ lines_hold = list_all (λ (u : DraftUnit). list_all is_one_line u.defines)
 abbrev pub folders_hold : Draft → Bool
 folders_hold d = list_all is_folder d.setting.search && list_all (λ (u : DraftUnit). list_all is_folder u.search) d.units
 
-abbrev pub listed_unit : List (List ℕ) → DraftUnit → UnitOfList
-listed_unit names u = record { file = unwrap_or (place_of u.file names) 0; defines = u.defines; search = u.search }
+-- the profile that a text names
+abbrev pub profile_named : List ℕ → Option Profile
+profile_named t = if bytes_eq t (codes "c11") then Some C11 else (if bytes_eq t (codes "later") then Some Later else None)
+
+abbrev pub profile_holds : DraftSetting → Bool
+profile_holds s = is_some (profile_named s.profile)
+
+abbrev pub profile_of : DraftSetting → Profile
+profile_of s = unwrap_or (profile_named s.profile) C11
+
+abbrev pub listed_setting : DraftSetting → Setting
+listed_setting s = record { profile = profile_of s; date = s.date; time = s.time; search = s.search }
+
+-- a unit, whose definitions are read by this profile
+abbrev pub listed_unit : Profile → List (List ℕ) → DraftUnit → UnitOfList
+listed_unit profile names u = record { file = unwrap_or (place_of u.file names) 0; defines = record { texts = u.defines; profile = profile }; search = u.search }
 
 -- the list of a draft, with contents where lists hold them
 abbrev pub listed : Bool → Draft → CompilationList
-listed inline d = record { setting = d.setting; names = names_of d.files; contents = if inline then contents_of d.files else []; units = map (listed_unit (names_of d.files)) d.units }
+listed inline d = record { setting = listed_setting d.setting; names = names_of d.files; contents = if inline then contents_of d.files else []; units = map (listed_unit (profile_of d.setting) (names_of d.files)) d.units }
 
 -- what stands in a draft whose units have their files
 abbrev pub judged_texts : Bool → Draft → Outcome
-judged_texts inline d = if not (times_hold d.setting) then refused 6 else (if not (lines_hold d.units) then refused 7 else (if not (folders_hold d) then refused 8 else accepted (listed inline d)))
+judged_texts inline d = if not (times_hold d.setting) then refused 6 else (if not (lines_hold d.units) then refused 7 else (if not (folders_hold d) then refused 8 else (if not (profile_holds d.setting) then refused 9 else accepted (listed inline d))))
 
 -- the list, or the least number of a refusal that applies
 abbrev pub judged : Bool → Draft → Outcome
@@ -114,6 +131,6 @@ pub record IsRunnable (l : CompilationList) : Type 0 where
   pub small : All (λ bytes. length bytes ≤ longest) l.contents
   pub date : is_date l.setting.date ≡ true
   pub time : is_time l.setting.time ≡ true
-  pub units : All (IsUnitOf (length l.names)) l.units
-  pub commands : All (λ (u : UnitOfList). length (command_text u.defines) ≤ longest) l.units
-  pub lines : All (λ (u : UnitOfList). list_all is_one_line u.defines ≡ true) l.units
+  pub units : All (IsUnitOf (length l.names) l.setting.profile) l.units
+  pub commands : All (λ (u : UnitOfList). length (command_text u.defines.texts) ≤ longest) l.units
+  pub lines : All (λ (u : UnitOfList). list_all is_one_line u.defines.texts ≡ true) l.units

@@ -4,9 +4,9 @@ use Rattle.std.specs.List.{list_any}
 use Rattle.std.specs.Str.{bytes_eq}
 use Rattle.serde_json.specs.Data.{Data, Items, no_items, item, Members, no_members, member}
 use Rattle.serde_json.specs.Find.{get, as_str, as_array, as_object}
-use Rattle.ppunit.specs.declared.units.Setting.{Setting}
 use Rattle.cppunits.specs.declared.list.drafts.DraftFile.{DraftFile}
 use Rattle.cppunits.specs.declared.list.drafts.DraftUnit.{DraftUnit}
+use Rattle.cppunits.specs.declared.list.drafts.DraftSetting.{DraftSetting}
 use Rattle.cppunits.specs.declared.list.drafts.Draft.{Draft}
 
 abbrev pub has_text : List ℕ → List (List ℕ) → Bool
@@ -23,6 +23,11 @@ is_object_of names d = unwrap_or (option_map (has_only names) (as_object d)) fal
 
 abbrev pub text_at : List ℕ → Data → Option (List ℕ)
 text_at name d = option_and_then as_str (get name d)
+
+-- the text of a member, and another where it is missing
+abbrev pub text_or : List ℕ → Option Data → Option (List ℕ)
+text_or other None = Some other
+text_or other (Some d) = as_str d
 
 -- what `read` gives of each item
 abbrev pub each_item : {A : Type 0} → (Data → Option A) → Items → Option (List A)
@@ -82,11 +87,15 @@ unit_members = codes "file" ∷ codes "define" ∷ codes "search" ∷ []
 abbrev pub draft_unit : Data → Option DraftUnit
 draft_unit d = if is_object_of unit_members d then option_and_then (λ f. option_and_then (λ ts. option_map (λ ss. record { file = f; defines = ts; search = ss }) (texts_at (codes "search") d)) (texts_at (codes "define") d)) (text_at (codes "file") d) else None
 
-abbrev pub draft_setting : Data → Option Setting
-draft_setting d = option_and_then (λ day. option_and_then (λ hour. option_map (λ ss. record { date = day; time = hour; search = ss }) (texts_at (codes "search") d)) (text_at (codes "time") d)) (text_at (codes "date") d)
+-- the text of the profile, which is `c11` where it is missing
+abbrev pub profile_at : Data → Option (List ℕ)
+profile_at d = text_or (codes "c11") (get (codes "profile") d)
+
+abbrev pub draft_setting : Data → Option DraftSetting
+draft_setting d = option_and_then (λ p. option_and_then (λ day. option_and_then (λ hour. option_map (λ ss. record { profile = p; date = day; time = hour; search = ss }) (texts_at (codes "search") d)) (text_at (codes "time") d)) (text_at (codes "date") d)) (profile_at d)
 
 abbrev pub list_members : List (List ℕ)
-list_members = codes "date" ∷ codes "time" ∷ codes "search" ∷ codes "files" ∷ codes "units" ∷ []
+list_members = codes "profile" ∷ codes "date" ∷ codes "time" ∷ codes "search" ∷ codes "files" ∷ codes "units" ∷ []
 
 -- the list as it stands, where it has its shape, and no other members
 abbrev pub draft : Bool → Data → Option Draft

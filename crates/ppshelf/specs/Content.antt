@@ -1,8 +1,9 @@
 -- What a row of the shelf may contain, and when a content is lawful.
 use Rattle.std.specs.Prelude.{ℕ, ◌<◌, ◌≤◌, List, length, ◌⊎◌, Option, None, Some, Result}
-use Rattle.pptext.specs.Lines.{Row}
+use Rattle.pptext.specs.Lines.{LogicalLine}
 use Rattle.pptext.specs.Sources.{Reads}
 use Rattle.pptext.specs.declared.tokens.Fault.{Fault}
+use Rattle.pptext.specs.declared.sources.Profile.{Profile}
 
 -- What a disk answers for a name, and what a row contains: nothing that can be read, or its bytes
 pub data Content : Type 0 where
@@ -22,7 +23,7 @@ abbrev pub content_of : Option (List ℕ) → Content
 content_of None = unreadable
 content_of (Some bytes) = readable bytes
 
--- The content of a row is bytes in which phases 1 to 3 find these lines or this fault
-abbrev pub IsRead : ℕ → Content → Result (List Row) Fault → Type 0
-IsRead row unreadable lines = ⊥
-IsRead row (readable bytes) lines = Reads row bytes lines
+-- The content of a row is bytes in which phases 1 to 3 find these lines or this fault, by a profile
+abbrev pub IsRead : Profile → ℕ → Content → Result (List LogicalLine) Fault → Type 0
+IsRead profile row unreadable lines = ⊥
+IsRead profile row (readable bytes) lines = Reads profile row bytes lines

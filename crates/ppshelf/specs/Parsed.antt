@@ -1,6 +1,7 @@
 -- What is kept of a file.
 use Rattle.std.specs.Prelude.{ℕ, Option, Some, None}
 use Rattle.pptext.specs.Sources.{Reads}
+use Rattle.pptext.specs.declared.sources.Profile.{Profile}
 use Rattle.ppshelf.specs.Content.{Content, unreadable, readable}
 use Rattle.ppshelf.specs.declared.loaded.Parsed.{Parsed}
 
@@ -9,6 +10,6 @@ parsed_content None = unreadable
 parsed_content (Some p) = readable p.bytes.items
 
 -- what is kept beside the bytes is their lines or their fault
-abbrev pub HasReading : ℕ → Option Parsed → Type 0
-HasReading row None = Unit {0}
-HasReading row (Some p) = Reads row p.bytes.items p.lines
+abbrev pub HasReading : Profile → ℕ → Option Parsed → Type 0
+HasReading profile row None = Unit {0}
+HasReading profile row (Some p) = Reads profile row p.bytes.items p.lines

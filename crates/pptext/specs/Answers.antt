@@ -4,19 +4,19 @@ use Rattle.pptext.specs.declared.tokens.Fault.{Fault}
 use Rattle.pptext.specs.declared.sources.Source.{Source}
 use Rattle.pptext.specs.declared.sources.SourceFault.{SourceFault}
 use Rattle.pptext.specs.declared.sources.SourceFault.TheVariants.{Bad, Memory}
-use Rattle.pptext.specs.Lines.{Row}
+use Rattle.pptext.specs.Lines.{LogicalLine}
 use Rattle.pptext.specs.Tree.{group_fault}
 
-abbrev pub Fails : SourceFault → (Result (List Row) Fault → Type 0) → Type 0
+abbrev pub Fails : SourceFault → (Result (List LogicalLine) Fault → Type 0) → Type 0
 Fails (Bad f) Reads = Reads (Err f)
 Fails Memory Reads = Unit {0}
 
-abbrev pub Answers : Result Source SourceFault → (Result (List Row) Fault → Type 0) → Type 0
+abbrev pub Answers : Result Source SourceFault → (Result (List LogicalLine) Fault → Type 0) → Type 0
 Answers (Ok s) Reads = Reads (Ok s)
 Answers (Err e) Reads = Fails e Reads
 
 -- what grouping these lines answers
-abbrev pub GroupsInto : List Row → Result Source SourceFault → Type 0
+abbrev pub GroupsInto : List LogicalLine → Result Source SourceFault → Type 0
 GroupsInto lines (Ok s) = (s ≡ lines) × (group_fault [] lines ≡ None)
 GroupsInto lines (Err (Bad f)) = group_fault [] lines ≡ Some f
 GroupsInto lines (Err Memory) = Unit {0}

@@ -2,6 +2,7 @@
 use Rattle.std.specs.Prelude.{◌≡◌, ℕ, ◌<◌, ◌≤◌, List, length, None, Result, Ok, Err, IsTrue, slice_index}
 use Rattle.pptext.specs.declared.tokens.Token.{Token}
 use Rattle.pptext.specs.declared.sources.Line.{Line}
+use Rattle.pptext.specs.declared.sources.Profile.{Profile}
 use Rattle.pptext.specs.declared.characters.Char.{Char}
 use Rattle.pptext.specs.declared.cutting.Found.{Found}
 use Rattle.pptext.specs.declared.cutting.Found.TheVariants as found
@@ -10,7 +11,7 @@ use Rattle.pptext.specs.declared.cutting.CutFault.TheVariants as fault
 use Rattle.pptext.specs.Spellings.{is_blank}
 use Rattle.pptext.specs.Cut.{NewLine, Comment, Spelled, StandsAt, OpensBlock, ClosesAt, Piece, Cut, Unclosed}
 use Rattle.pptext.specs.Lines.{lines_of}
-use Rattle.pptext.specs.Sources.{rows_of}
+use Rattle.pptext.specs.Sources.{lines_from}
 use Rattle.pptext.specs.Grouping.{AreDrafts}
 
 -- n white-space characters, each of which is a piece of its own
@@ -28,6 +29,6 @@ abbrev pub FailsToCut : List Char → CutFault → Type 0
 FailsToCut chars (fault.Unclosed p) = Unclosed chars p
 FailsToCut chars fault.Memory = Unit {0}
 
-abbrev pub CutsInto : List Char → List Token → List Line → Result (Unit {0}) CutFault → Type 0
-CutsInto chars ts ls (Ok u) = (pieces : List Piece) × Cut chars pieces × (lines_of pieces ≡ rows_of ts ls) × AreDrafts ts ls × (length ls ≤ length chars)
-CutsInto chars ts ls (Err e) = FailsToCut chars e
+abbrev pub CutsInto : Profile → List Char → List Token → List Line → Result (Unit {0}) CutFault → Type 0
+CutsInto profile chars ts ls (Ok u) = (pieces : List Piece) × Cut chars pieces × (lines_of profile pieces ≡ lines_from ts ls) × AreDrafts ts ls × (length ls ≤ length chars)
+CutsInto profile chars ts ls (Err e) = FailsToCut chars e

@@ -4,27 +4,32 @@ use Rattle.std.specs.Prelude.{◌≡◌, ℕ, ◌+◌, ◌⊎◌, List, [], ◌�
 use Rattle.std.specs.List.{AllByRecursion}
 use Rattle.pptext.specs.declared.tokens.Token.{Token}
 use Rattle.pptext.specs.declared.sources.Line.{Line}
+use Rattle.pptext.specs.declared.sources.Profile.{Profile}
 use Rattle.pptext.specs.declared.directives.Role.{Role}
 use Rattle.pptext.specs.declared.directives.Role.TheVariants.{Opens, Elses, Closes}
 use Rattle.pptext.specs.declared.grouping.faults.Section.{Section}
-use Rattle.pptext.specs.Lines.{Row, directive_of}
+use Rattle.pptext.specs.Lines.{LogicalLine, IsDirected}
 use Rattle.pptext.specs.Tree.{role, role_by, branch_behind}
-use Rattle.pptext.specs.Sources.{rows_of, tokens_of, spans}
-use Rattle.pptext.specs.Guard.{IsBlankRow, guard_name}
+use Rattle.pptext.specs.Sources.{lines_from, tokens_of, spans}
+use Rattle.pptext.specs.Guard.{IsBlankLine, guard_name}
 
--- the span of these tokens of a line, from token start on, without its next branch line
-abbrev pub draft : ℕ → List Token → ℕ → Line
-draft start ts number =
-    record { start = start; end = start + length ts; number = number; directive = directive_of ts; next_branch = None }
+-- the span of a line from token start on, without its next branch line
+abbrev pub draft : ℕ → LogicalLine → Line
+draft start r =
+    record { start = start; end = start + length r.tokens; number = r.number; directive = r.directive; next_branch = None }
 
 -- the spans of the lines from token start on, without next branch lines
-abbrev pub drafts : ℕ → List Row → List Line
+abbrev pub drafts : ℕ → List LogicalLine → List Line
 drafts start [] = []
-drafts start (r ∷ rs) = draft start r.tokens r.number ∷ drafts (start + length r.tokens) rs
+drafts start (r ∷ rs) = draft start r ∷ drafts (start + length r.tokens) rs
+
+-- the directive of each line is that of its tokens, by some profile
+abbrev pub AreDirected : List LogicalLine → Type 0
+AreDirected rs = (profile : Profile) × AllByRecursion (IsDirected profile) rs
 
 -- the spans, without next branch lines, are those of the lines that they cut the tokens into
 abbrev pub AreDrafts : List Token → List Line → Type 0
-AreDrafts ts ls = (tokens_of (rows_of ts ls) ≡ ts) × (drafts 0 (rows_of ts ls) ≡ ls)
+AreDrafts ts ls = (tokens_of (lines_from ts ls) ≡ ts) × (drafts 0 (lines_from ts ls) ≡ ls) × AreDirected (lines_from ts ls)
 
 abbrev pub line_role : Line → Role
 line_role l = role_by l.directive
@@ -53,7 +58,7 @@ step_back k s behind = (None, behind)
 
 -- the spans are those of the lines that they cut the tokens into
 abbrev pub AreLines : List Token → List Line → Type 0
-AreLines ts ls = (tokens_of (rows_of ts ls) ≡ ts) × (spans 0 0 (rows_of ts ls) ≡ ls)
+AreLines ts ls = (tokens_of (lines_from ts ls) ≡ ts) × (spans 0 0 (lines_from ts ls) ≡ ls) × AreDirected (lines_from ts ls)
 
 -- the open sections, the innermost first
 abbrev pub sections : List Section → List (ℕ × Bool)
@@ -72,18 +77,18 @@ IsBranching Closes = Unit {0}
 IsBranching s = ⊥
 
 -- Of the lines behind an opening line, from place k on: the section's next branch line closes it, and no token stands behind that.
-pub record ClosedAtOnce (k : ℕ) (rows : List Row) : Type 0 where
+pub record ClosedAtOnce (k : ℕ) (rows : List LogicalLine) : Type 0 where
   pub skipped : ℕ
-  pub last : Row
-  pub rest : List Row
+  pub last : LogicalLine
+  pub rest : List LogicalLine
   pub next : branch_behind 0 k (map role rows) ≡ Some (k + skipped)
   pub there : drop skipped rows ≡ last ∷ rest
   pub closes : role last ≡ Closes
-  pub blank : AllByRecursion IsBlankRow rest
+  pub blank : AllByRecursion IsBlankLine rest
 
 -- A guard seen without the tree, of the lines from place k on: the first line with tokens opens a section and names X, and the section
 -- is closed at once.
-abbrev pub FlatGuard : ℕ → List Row → List ℕ → Type 0
+abbrev pub FlatGuard : ℕ → List LogicalLine → List ℕ → Type 0
 FlatGuard k [] x = ⊥
 FlatGuard k (r ∷ rs) x =
-    (IsBlankRow r × FlatGuard (k + 1) rs x) ⊎ ((role r ≡ Opens) × (guard_name r.tokens ≡ Some x) × ClosedAtOnce (k + 1) rs)
+    (IsBlankLine r × FlatGuard (k + 1) rs x) ⊎ ((role r ≡ Opens) × (guard_name r.tokens ≡ Some x) × ClosedAtOnce (k + 1) rs)

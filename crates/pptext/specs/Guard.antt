@@ -5,16 +5,16 @@ use Rattle.std.specs.Str.{bytes_eq}
 use Rattle.pptext.specs.declared.tokens.Token.{Token}
 use Rattle.pptext.specs.declared.tokens.Kind.{Kind}
 use Rattle.pptext.specs.declared.tokens.Kind.TheVariants.{Ident}
-use Rattle.pptext.specs.Lines.{Row}
+use Rattle.pptext.specs.Lines.{LogicalLine}
 use Rattle.pptext.specs.Tree.{Parts, Done, Run, Section, End, Tree}
 
 -- a line without tokens
-abbrev pub IsBlankRow : Row → Type 0
-IsBlankRow r = r.tokens ≡ []
+abbrev pub IsBlankLine : LogicalLine → Type 0
+IsBlankLine r = r.tokens ≡ []
 
 abbrev pub AreBlank : Parts → Type 0
 AreBlank Done = Unit {0}
-AreBlank (Run rs ps) = AllByRecursion IsBlankRow rs × AreBlank ps
+AreBlank (Run rs ps) = AllByRecursion IsBlankLine rs × AreBlank ps
 AreBlank ps = ⊥
 
 abbrev pub is_ident : Kind → Bool
@@ -43,10 +43,10 @@ guard_name ts = None
 
 -- one if-section without other branches, and no token outside it
 abbrev pub GuardedParts : Parts → List ℕ → Type 0
-GuardedParts (Run rs ps) x = AllByRecursion IsBlankRow rs × GuardedParts ps x
+GuardedParts (Run rs ps) x = AllByRecursion IsBlankLine rs × GuardedParts ps x
 GuardedParts (Section r ps (End e) qs) x = (guard_name r.tokens ≡ Some x) × AreBlank qs
 GuardedParts ps x = ⊥
 
 -- the whole file is one section under this guard
-abbrev pub GuardedBy : List Row → List ℕ → Type 0
+abbrev pub GuardedBy : List LogicalLine → List ℕ → Type 0
 GuardedBy lines x = (parts : Parts) × Tree lines parts × GuardedParts parts x

@@ -1,18 +1,21 @@
 -- The lines of a text: its tokens, grouped by the new-lines outside comments.
-use Rattle.std.specs.Prelude.{ℕ, List, [], ◌∷◌, ◌++◌, Bool, true, false, ◌||◌, if◌then◌else◌, Option, None, Some, codes}
+use Rattle.std.specs.Prelude.{◌≡◌, ℕ, List, [], ◌∷◌, ◌++◌, Bool, true, false, ◌||◌, if◌then◌else◌, Option, None, Some, codes}
 use Rattle.std.specs.Str.{bytes_eq}
 use Rattle.pptext.specs.declared.tokens.Token.{Token}
 use Rattle.pptext.specs.declared.tokens.Kind.{Kind}
 use Rattle.pptext.specs.declared.sources.Directive.{Directive}
-use Rattle.pptext.specs.declared.sources.Directive.TheVariants.{If, Ifdef, Ifndef, Elif, Else, Endif, Include, Define, Undef, Line, Error, Pragma, Null, Unknown}
+use Rattle.pptext.specs.declared.sources.Directive.TheVariants.{If, Ifdef, Ifndef, Elif, Else, Elifdef, Elifndef, Endif, Include, Define, Undef, Line, Error, Pragma, Null, Unknown}
+use Rattle.pptext.specs.declared.sources.Profile.{Profile}
+use Rattle.pptext.specs.declared.sources.Profile.TheVariants.{C11, Later}
 use Rattle.pptext.specs.declared.characters.Char.{Char}
 use Rattle.pptext.specs.Clean.{codes_of}
 use Rattle.pptext.specs.Cut.{Piece, Sort, NewLine, Spelled, head_place}
 
--- a line's tokens, and the physical line of its new-line
-pub record Row : Type 0 where
+-- a line's tokens, the physical line of its new-line, and the directive, where it is one
+pub record LogicalLine : Type 0 where
   pub tokens : List Token
   pub number : ℕ
+  pub directive : Option Directive
 
 -- the token of a piece; space says that white space or the line's beginning stands before it
 abbrev pub token_of : Kind → Bool → List Char → Token
@@ -29,30 +32,52 @@ tokens_after space tokens chars NewLine = []
 tokens_after space tokens chars (Spelled k) = tokens ++ token_of k space chars ∷ []
 tokens_after space tokens chars s = tokens
 
-abbrev pub rows_ended : List Token → List Char → Sort → List Row
-rows_ended tokens chars NewLine = record { tokens = tokens; number = (head_place chars).line } ∷ []
-rows_ended tokens chars s = []
+-- the names of directives (6.10)
+abbrev pub directive_names : List (List ℕ × Directive)
+directive_names =
+    (codes "if", If) ∷ (codes "ifdef", Ifdef) ∷ (codes "ifndef", Ifndef) ∷ (codes "elif", Elif) ∷ (codes "else", Else) ∷ (codes "endif", Endif)
+    ∷ (codes "include", Include) ∷ (codes "define", Define) ∷ (codes "undef", Undef) ∷ (codes "line", Line) ∷ (codes "error", Error) ∷ (codes "pragma", Pragma) ∷ []
 
--- the lines of the pieces, behind these tokens of the first
-abbrev pub rows_behind : Bool → List Token → List Piece → List Row
-rows_behind space tokens [] = []
-rows_behind space tokens (p ∷ ps) =
-    rows_ended tokens p.chars p.sort ++ rows_behind (leaves_space p.sort) (tokens_after space tokens p.chars p.sort) ps
+-- those that C23 added to the branches of an if-section (ISO/IEC 9899:2024, 6.10.2)
+abbrev pub later_names : List (List ℕ × Directive)
+later_names = (codes "elifdef", Elifdef) ∷ (codes "elifndef", Elifndef) ∷ []
 
-abbrev pub lines_of : List Piece → List Row
-lines_of ps = rows_behind true [] ps
+abbrev pub named_in : List (List ℕ × Directive) → List ℕ → Directive
+named_in [] name = Unknown
+named_in ((text, d) ∷ more) name = if bytes_eq name text then d else named_in more name
 
--- the directive of a name (6.10)
-abbrev pub directive_named : List ℕ → Directive
-directive_named name =
-    if bytes_eq name (codes "if") then If else (if bytes_eq name (codes "ifdef") then Ifdef else (if bytes_eq name (codes "ifndef") then Ifndef else (if bytes_eq name (codes "elif") then Elif else (if bytes_eq name (codes "else") then Else else (if bytes_eq name (codes "endif") then Endif else (if bytes_eq name (codes "include") then Include else (if bytes_eq name (codes "define") then Define else (if bytes_eq name (codes "undef") then Undef else (if bytes_eq name (codes "line") then Line else (if bytes_eq name (codes "error") then Error else (if bytes_eq name (codes "pragma") then Pragma else Unknown)))))))))))
+-- the directive of a name
+abbrev pub directive_named : Profile → List ℕ → Directive
+directive_named C11 name = named_in directive_names name
+directive_named Later name = named_in (directive_names ++ later_names) name
 
-abbrev pub directive_behind : List Token → Directive
-directive_behind [] = Null
-directive_behind (t ∷ ts) = directive_named t.text
+abbrev pub directive_behind : Profile → List Token → Directive
+directive_behind profile [] = Null
+directive_behind profile (t ∷ ts) = directive_named profile t.text
 
 -- the directive of a line, where its first token is `#` or `%:`
-abbrev pub directive_of : List Token → Option Directive
-directive_of [] = None
-directive_of (t ∷ ts) =
-    if bytes_eq t.text (codes "#") || bytes_eq t.text (codes "%:") then Some (directive_behind ts) else None
+abbrev pub directive_of : Profile → List Token → Option Directive
+directive_of profile [] = None
+directive_of profile (t ∷ ts) =
+    if bytes_eq t.text (codes "#") || bytes_eq t.text (codes "%:") then Some (directive_behind profile ts) else None
+
+-- a line of these tokens, whose new-line stands in the physical line of this number
+abbrev pub line_of : Profile → List Token → ℕ → LogicalLine
+line_of profile tokens number = record { tokens = tokens; number = number; directive = directive_of profile tokens }
+
+abbrev pub lines_ended : Profile → List Token → List Char → Sort → List LogicalLine
+lines_ended profile tokens chars NewLine = line_of profile tokens (head_place chars).line ∷ []
+lines_ended profile tokens chars s = []
+
+-- the lines of the pieces, behind these tokens of the first
+abbrev pub lines_behind : Profile → Bool → List Token → List Piece → List LogicalLine
+lines_behind profile space tokens [] = []
+lines_behind profile space tokens (p ∷ ps) =
+    lines_ended profile tokens p.chars p.sort ++ lines_behind profile (leaves_space p.sort) (tokens_after space tokens p.chars p.sort) ps
+
+abbrev pub lines_of : Profile → List Piece → List LogicalLine
+lines_of profile ps = lines_behind profile true [] ps
+
+-- a line whose directive is that of its tokens
+abbrev pub IsDirected : Profile → LogicalLine → Type 0
+IsDirected profile line = line.directive ≡ directive_of profile line.tokens

@@ -6,55 +6,60 @@ use Rattle.pptext.specs.declared.tokens.Token.{Token}
 use Rattle.pptext.specs.declared.tokens.Fault.{Fault}
 use Rattle.pptext.specs.declared.tokens.Kind.{Kind}
 use Rattle.pptext.specs.declared.sources.Line.{Line}
+use Rattle.pptext.specs.declared.sources.Profile.{Profile}
 use Rattle.pptext.specs.declared.characters.Char.{Char}
 use Rattle.pptext.specs.Clean.{cleaned, placed}
 use Rattle.pptext.specs.Cut.{Piece, Spelled, Cut, Unclosed}
-use Rattle.pptext.specs.Lines.{Row, lines_of, directive_of}
+use Rattle.pptext.specs.Lines.{LogicalLine, lines_of}
 use Rattle.pptext.specs.declared.directives.Role.{Role}
 use Rattle.pptext.specs.declared.directives.Role.TheVariants.{Opens, Elses}
 use Rattle.pptext.specs.Tree.{role, branch_behind, group_fault}
 
 -- in an if-section the next branch line, of a line at place k before these
-abbrev pub next_branch : ℕ → Role → List Row → Option ℕ
+abbrev pub next_branch : ℕ → Role → List LogicalLine → Option ℕ
 next_branch k Opens rest = branch_behind 0 (k + 1) (map role rest)
 next_branch k (Elses final) rest = branch_behind 0 (k + 1) (map role rest)
 next_branch k s rest = None
 
 -- the lines as spans of the tokens, from place k and token start on
-abbrev pub spans : ℕ → ℕ → List Row → List Line
+abbrev pub spans : ℕ → ℕ → List LogicalLine → List Line
 spans k start [] = []
 spans k start (r ∷ rs) =
     let stop = start + length r.tokens in
-    record { start = start; end = stop; number = r.number; directive = directive_of r.tokens; next_branch = next_branch k (role r) rs } ∷ spans (k + 1) stop rs
+    record { start = start; end = stop; number = r.number; directive = r.directive; next_branch = next_branch k (role r) rs } ∷ spans (k + 1) stop rs
 
-abbrev pub tokens_of : List Row → List Token
+abbrev pub tokens_of : List LogicalLine → List Token
 tokens_of rs = flat_map (λ r. r.tokens) rs
 
 -- the lines, of tokens and their spans
-abbrev pub rows_of : List Token → List Line → List Row
-rows_of ts ls = map (λ l. record { tokens = take (l.end - l.start) (drop l.start ts); number = l.number }) ls
+abbrev pub lines_from : List Token → List Line → List LogicalLine
+lines_from ts ls = map (λ l. record { tokens = take (l.end - l.start) (drop l.start ts); number = l.number; directive = l.directive }) ls
 
 abbrev pub file_fault : ℕ → Place → Fault
 file_fault number at = record { number = number; at = at; text = [] }
 
 -- the lines of a file without fault
-pub record IsSource (file : ℕ) (bytes : List ℕ) (lines : List Row) : Type 0 where
+pub record IsSource (profile : Profile) (file : ℕ) (bytes : List ℕ) (lines : List LogicalLine) : Type 0 where
   pub chars : List Char
   pub pieces : List Piece
   pub cleaned : cleaned file bytes ≡ Ok chars
   pub cut : Cut chars pieces
-  pub grouped : group_fault [] (lines_of pieces) ≡ None
-  pub same : lines ≡ lines_of pieces
+  pub grouped : group_fault [] (lines_of profile pieces) ≡ None
+  pub same : lines ≡ lines_of profile pieces
 
--- its first fault: 2, then 1, then 3 or 4 from the top, then 5
-abbrev pub IsFaultOf : ℕ → List ℕ → Fault → Type 0
-IsFaultOf file bytes f =
-    ((p : Place) × (cleaned file bytes ≡ Err p) × (f ≡ file_fault 2 p)) ⊎ (((chars : List Char) × (p : Place) × (cleaned file bytes ≡ Ok chars) × Unclosed chars p × (f ≡ file_fault 1 p)) ⊎ ((chars : List Char) × (pieces : List Piece) × (cleaned file bytes ≡ Ok chars) × Cut chars pieces × (group_fault [] (lines_of pieces) ≡ Some f)))
+-- its first fault
+pub data IsFaultOf (profile : Profile) (file : ℕ) (bytes : List ℕ) : Fault → Type 0 where
+  -- the last line ends in a backslash
+  spliced_end : {p : Place} → cleaned file bytes ≡ Err p → IsFaultOf profile file bytes (file_fault 2 p)
+  -- else a comment is not closed
+  open_comment : {chars : List Char} {p : Place} → cleaned file bytes ≡ Ok chars → Unclosed chars p → IsFaultOf profile file bytes (file_fault 1 p)
+  -- else the groups have a fault
+  bad_groups : {chars : List Char} {pieces : List Piece} {f : Fault} → cleaned file bytes ≡ Ok chars → Cut chars pieces → group_fault [] (lines_of profile pieces) ≡ Some f → IsFaultOf profile file bytes f
 
 -- what reading a file gives
-abbrev pub Reads : ℕ → List ℕ → Result (List Row) Fault → Type 0
-Reads file bytes (Ok lines) = IsSource file bytes lines
-Reads file bytes (Err f) = IsFaultOf file bytes f
+abbrev pub Reads : Profile → ℕ → List ℕ → Result (List LogicalLine) Fault → Type 0
+Reads profile file bytes (Ok lines) = IsSource profile file bytes lines
+Reads profile file bytes (Err f) = IsFaultOf profile file bytes f
 
 -- outside an include line the text is one token of this kind
 abbrev pub IsOneToken : List ℕ → Kind → Type 0

@@ -5,18 +5,20 @@ use Rattle.pptext.specs.declared.tokens.Place.{Place}
 use Rattle.pptext.specs.declared.tokens.Token.{Token}
 use Rattle.pptext.specs.declared.tokens.Fault.{Fault}
 use Rattle.pptext.specs.declared.sources.Directive.{Directive}
-use Rattle.pptext.specs.declared.sources.Directive.TheVariants.{If, Ifdef, Ifndef, Elif, Else, Endif}
+use Rattle.pptext.specs.declared.sources.Directive.TheVariants.{If, Ifdef, Ifndef, Elif, Elifdef, Elifndef, Else, Endif}
 use Rattle.pptext.specs.declared.directives.Role.{Role}
 use Rattle.pptext.specs.declared.directives.Role.TheVariants.{Text as IsText, Control as IsControl, Opens, Elses, Closes}
 use Rattle.pptext.specs.Clean.{place}
-use Rattle.pptext.specs.Lines.{Row, directive_of}
+use Rattle.pptext.specs.Lines.{LogicalLine}
 
--- What a line with this directive does to the groups. `Elses true` is `#else`, `Elses false` is `#elif`.
+-- What a line with this directive does to the groups. `Elses true` is `#else`, `Elses false` a branch with a condition.
 abbrev pub role_named : Directive → Role
 role_named If = Opens
 role_named Ifdef = Opens
 role_named Ifndef = Opens
 role_named Elif = Elses false
+role_named Elifdef = Elses false
+role_named Elifndef = Elses false
 role_named Else = Elses true
 role_named Endif = Closes
 role_named d = IsControl
@@ -25,31 +27,31 @@ abbrev pub role_by : Option Directive → Role
 role_by None = IsText
 role_by (Some d) = role_named d
 
-abbrev pub role : Row → Role
-role r = role_by (directive_of r.tokens)
+abbrev pub role : LogicalLine → Role
+role r = role_by r.directive
 
 -- A group: text runs, control lines and if-sections. An if-section has its opening line, its first group, and its branches.
 mutual
   pub data Parts : Type 0 where
     Done : Parts
-    Run : List Row → Parts → Parts
-    Control : Row → Parts → Parts
-    Section : Row → Parts → Branches → Parts → Parts
+    Run : List LogicalLine → Parts → Parts
+    Control : LogicalLine → Parts → Parts
+    Section : LogicalLine → Parts → Branches → Parts → Parts
 
-  -- the lines of `#elif` and `#else` with their groups, and the line of `#endif`
+  -- the lines of the branches with their groups, and the line of `#endif`
   pub data Branches : Type 0 where
-    End : Row → Branches
-    Branch : Row → Parts → Branches → Branches
+    End : LogicalLine → Branches
+    Branch : LogicalLine → Parts → Branches → Branches
 
 -- the lines of the parts, laid end to end
 abbrev mutual
-  pub part_lines : Parts → List Row
+  pub part_lines : Parts → List LogicalLine
   part_lines Done = []
   part_lines (Run rs ps) = rs ++ part_lines ps
   part_lines (Control r ps) = r ∷ part_lines ps
   part_lines (Section r ps bs qs) = r ∷ part_lines ps ++ branch_lines bs ++ part_lines qs
 
-  pub branch_lines : Branches → List Row
+  pub branch_lines : Branches → List LogicalLine
   branch_lines (End r) = r ∷ []
   branch_lines (Branch r ps bs) = r ∷ part_lines ps ++ branch_lines bs
 
@@ -70,13 +72,13 @@ abbrev mutual
   AreBranches last (Branch r ps bs) = (last ≡ false) × (final : Bool) × (role r ≡ Elses final) × AreParts ps × AreBranches final bs
 
 -- the tree of a file
-pub record Tree (lines : List Row) (parts : Parts) : Type 0 where
+pub record Tree (lines : List LogicalLine) (parts : Parts) : Type 0 where
   pub whole : part_lines parts ≡ lines
   pub each : AreParts parts
 
 -- the open if-sections, the innermost first: the line that opened it, and whether its `#else` has come
 abbrev pub Open : Type 0
-Open = Row × Bool
+Open = LogicalLine × Bool
 
 abbrev pub name_of : List Token → List ℕ
 name_of (a ∷ b ∷ ts) = b.text
@@ -86,7 +88,7 @@ abbrev pub sign_place : List Token → Place
 sign_place [] = place 0 0 0
 sign_place (t ∷ ts) = t.at
 
-abbrev pub fault_at : ℕ → Row → Fault
+abbrev pub fault_at : ℕ → LogicalLine → Fault
 fault_at number r = record { number = number; at = sign_place r.tokens; text = name_of r.tokens }
 
 -- what a line does to the open sections, or its fault: 3 without a section, 4 after `#else`
@@ -105,12 +107,12 @@ fault_at_end [] = None
 fault_at_end (o ∷ os) = Some (fault_at 5 o.0)
 
 -- the fault of this number at a line, or else the fault of the later lines
-abbrev pub fault_or : Row → Option ℕ → Option Fault → Option Fault
+abbrev pub fault_or : LogicalLine → Option ℕ → Option Fault → Option Fault
 fault_or r (Some n) later = Some (fault_at n r)
 fault_or r None later = later
 
 -- The first fault of the lines from the top, behind these open sections; 5 for a section that is open at the end.
-abbrev pub group_fault : List Open → List Row → Option Fault
+abbrev pub group_fault : List Open → List LogicalLine → Option Fault
 group_fault os [] = fault_at_end os
 group_fault os (r ∷ rs) = fault_or r (opened (role r) r os).0 (group_fault (opened (role r) r os).1 rs)
 

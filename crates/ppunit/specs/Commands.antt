@@ -1,5 +1,6 @@
 -- The file that holds a unit's definitions.
 use Rattle.std.specs.Prelude.{ℕ, List, ◌∷◌, ◌++◌, [], codes, flat_map}
+use Rattle.pptext.specs.declared.sources.Profile.{Profile}
 use Rattle.ppshelf.specs.Files.{most_rows}
 
 -- the number of the file that holds a unit's definitions: no shelf has such a row
@@ -8,6 +9,11 @@ command_file = most_rows
 
 abbrev pub command_line : List ℕ → List ℕ
 command_line text = codes "#define " ++ text ++ 10 ∷ []
+
+-- a unit's definitions, each the text behind `#define `, and the profile by which the file that holds them is read
+pub record Commands : Type 0 where
+  pub texts : List (List ℕ)
+  pub profile : Profile
 
 -- a line for each definition
 abbrev pub command_text : List (List ℕ) → List ℕ

@@ -5,8 +5,8 @@ use Rattle.std.specs.FinMap as table
 use Rattle.pptext.specs.declared.tokens.Token.{Token}
 use Rattle.pptext.specs.declared.tokens.Fault.{Fault}
 use Rattle.pptext.specs.declared.sources.Directive.{Directive}
-use Rattle.pptext.specs.declared.sources.Directive.TheVariants.{If, Ifdef, Ifndef, Elif}
-use Rattle.pptext.specs.Lines.{directive_of}
+use Rattle.pptext.specs.declared.sources.Directive.TheVariants.{If, Ifdef, Ifndef, Elif, Elifdef, Elifndef}
+use Rattle.pptext.specs.Lines.{LogicalLine}
 use Rattle.pptext.specs.Tree.{sign_place}
 use Rattle.ppmacro.specs.Names.{Macros}
 use Rattle.ppexpr.specs.Conditions.{IsCondition}
@@ -21,7 +21,7 @@ abbrev pub same_as : Bool → Bool → Bool
 same_as true b = b
 same_as false b = not b
 
--- `#ifdef` takes the group of a defined name, `#ifndef` that of another; fault 9 where no name stands alone
+-- `#ifdef` and `#elifdef` take the group of a defined name, `#ifndef` and `#elifndef` that of another; fault 9 where no name stands alone
 abbrev pub by_name : Bool → Macros → List Token → Option (List ℕ) → Result Bool Fault
 by_name wanted macros line None = Err (named_fault 9 line)
 by_name wanted macros line (Some name) = Ok (same_as wanted (is_defined macros name))
@@ -32,15 +32,17 @@ DecidesBy (Some If) s line taken = IsCondition s.macros s.env (sign_place line) 
 DecidesBy (Some Elif) s line taken = IsCondition s.macros s.env (sign_place line) (operands line) taken
 DecidesBy (Some Ifdef) s line taken = taken ≡ by_name true s.macros line (one_identifier (operands line))
 DecidesBy (Some Ifndef) s line taken = taken ≡ by_name false s.macros line (one_identifier (operands line))
+DecidesBy (Some Elifdef) s line taken = taken ≡ by_name true s.macros line (one_identifier (operands line))
+DecidesBy (Some Elifndef) s line taken = taken ≡ by_name false s.macros line (one_identifier (operands line))
 DecidesBy _ s line taken = ⊥
 
-abbrev pub DecidesUnless : Option Fault → State → List Token → Result Bool Fault → Type 0
-DecidesUnless (Some f) s line taken = taken ≡ Err f
-DecidesUnless None s line taken = DecidesBy (directive_of line) s line taken
+abbrev pub DecidesUnless : Option Fault → Option Directive → State → List Token → Result Bool Fault → Type 0
+DecidesUnless (Some f) d s line taken = taken ≡ Err f
+DecidesUnless None d s line taken = DecidesBy d s line taken
 
 -- whether the group behind a line is taken, or the line's fault
-abbrev pub Decides : State → List Token → Result Bool Fault → Type 0
-Decides s line taken = DecidesUnless (lone_quote line) s line taken
+abbrev pub Decides : State → LogicalLine → Result Bool Fault → Type 0
+Decides s line taken = DecidesUnless (lone_quote line.tokens) line.directive s line.tokens taken
 
 -- the lines that have a condition
 abbrev pub IsConditional : Directive → Type 0
@@ -48,4 +50,6 @@ IsConditional If = Unit {0}
 IsConditional Elif = Unit {0}
 IsConditional Ifdef = Unit {0}
 IsConditional Ifndef = Unit {0}
+IsConditional Elifdef = Unit {0}
+IsConditional Elifndef = Unit {0}
 IsConditional _ = ⊥

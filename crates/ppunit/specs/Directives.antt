@@ -1,10 +1,13 @@
 -- What a control line does (6.10.2 to 6.10.7), but for the file that it includes.
-use Rattle.std.specs.Prelude.{◌≡◌, ℕ, Bool, true, false, not, ◌&&◌, List, [], ◌∷◌, ◌++◌, map, if◌then◌else◌, Option, None, Some, Result, Ok, Err}
+use Rattle.std.specs.Prelude.{◌≡◌, ℕ, Bool, true, false, not, ◌&&◌, List, [], ◌∷◌, ◌++◌, map, if◌then◌else◌, Option, None, Some, Result, Ok, Err, codes}
+use Rattle.std.specs.Str.{bytes_eq}
 use Rattle.pptext.specs.declared.tokens.Token.{Token}
 use Rattle.pptext.specs.declared.tokens.Fault.{Fault}
 use Rattle.pptext.specs.declared.sources.Directive.{Directive}
+use Rattle.pptext.specs.declared.sources.Profile.{Profile}
+use Rattle.pptext.specs.declared.sources.Profile.TheVariants.{Later}
 use Rattle.pptext.specs.declared.sources.Directive.TheVariants.{Define, Undef, Line, Pragma, Null, Unknown}
-use Rattle.pptext.specs.Lines.{Row}
+use Rattle.pptext.specs.Lines.{LogicalLine}
 use Rattle.pptext.specs.Tree.{sign_place}
 use Rattle.ppmacro.specs.Names.{Macros}
 use Rattle.ppmacro.specs.Define.{after_define, after_undef}
@@ -13,7 +16,7 @@ use Rattle.ppexpand.specs.Expansion.{IsExpansion}
 use Rattle.ppshelf.specs.Names.{name_in}
 use Rattle.ppshelf.specs.Search.{candidates, IsFirstRow}
 use Rattle.ppunit.specs.declared.units.Item.TheVariants as item
-use Rattle.ppunit.specs.States.{Surroundings, Reached, going, stopped, passed}
+use Rattle.ppunit.specs.States.{Surroundings, Reached, going, stopped, passed, reading_once}
 use Rattle.ppunit.specs.declared.states.State.{State}
 use Rattle.ppunit.specs.Lines.{operands, line_fault}
 use Rattle.ppunit.specs.declared.including.Asked.{Asked}
@@ -42,12 +45,12 @@ message first (t ∷ ts) = (if t.space && not first then 32 ∷ [] else []) ++ (
 
 -- ---- `#line` (6.10.4)
 
-abbrev pub renumbered_by : State → Row → Option Fault → Option Presumed → Reached
+abbrev pub renumbered_by : State → LogicalLine → Option Fault → Option Presumed → Reached
 renumbered_by s r (Some f) p = stopped s f
 renumbered_by s r None None = stopped s (line_fault 33 r.tokens [])
 renumbered_by s r None (Some p) = going (renumbered s r p)
 
-pub record LineGives (s : State) (r : Row) (reached : Reached) : Type 0 where
+pub record LineGives (s : State) (r : LogicalLine) (reached : Reached) : Type 0 where
   pub expanded : Expanded
   pub expands : IsExpansion s.macros s.env (operands r.tokens) expanded
   pub is : reached ≡ renumbered_by s r expanded.fault (presumed expanded.tokens)
@@ -72,21 +75,35 @@ Asks s line asked = AsksBy (begins_with_header (operands line)) s line asked
 abbrev pub Finds : Surroundings → ℕ → Asked → Option ℕ → Type 0
 Finds around from a found = IsFirstRow around.names (candidates a.form (name_in around.names from) around.unit_folders around.setting_folders a.name) found
 
+-- ---- `#pragma` (6.10.6)
+
+-- the tokens behind `#pragma` say that the file is read once, in a profile that has this
+abbrev pub is_once : Profile → List Token → Bool
+is_once Later (t ∷ []) = bytes_eq t.text (codes "once")
+is_once profile ts = false
+
+-- the file of this row is not read again behind such a pragma
+abbrev pub noting_once : Profile → ℕ → List Token → State → State
+noting_once profile row ts s = if is_once profile ts then reading_once s row else s
+
+abbrev pub pragma_passed : Profile → ℕ → State → List Token → State
+pragma_passed profile row s line = noting_once profile row (operands line) (passed s (item.Pragma (sign_place line) (operands line) ∷ []))
+
 -- ---- the other control lines
 
 abbrev pub unknown_name : List Token → List ℕ
 unknown_name (hash ∷ name ∷ ts) = name.text
 unknown_name ts = []
 
--- a control line without lone quotes that includes no file
-abbrev pub ControlBy : Option Directive → State → Row → Reached → Type 0
-ControlBy (Some Null) s r reached = reached ≡ going s
-ControlBy (Some Define) s r reached = reached ≡ with_macros s (after_define s.macros (sign_place r.tokens) (operands r.tokens))
-ControlBy (Some Undef) s r reached = reached ≡ with_macros s (after_undef s.macros (sign_place r.tokens) (operands r.tokens))
-ControlBy (Some Line) s r reached = LineGives s r reached
-ControlBy (Some Pragma) s r reached = reached ≡ going (passed s (item.Pragma (sign_place r.tokens) (operands r.tokens) ∷ []))
-ControlBy (Some Unknown) s r reached = reached ≡ stopped s (line_fault 8 r.tokens (unknown_name r.tokens))
-ControlBy _ s r reached = ⊥
+-- a control line without lone quotes that includes no file, in the file of a row
+abbrev pub ControlBy : Profile → ℕ → Option Directive → State → LogicalLine → Reached → Type 0
+ControlBy profile row (Some Null) s r reached = reached ≡ going s
+ControlBy profile row (Some Define) s r reached = reached ≡ with_macros s (after_define s.macros (sign_place r.tokens) (operands r.tokens))
+ControlBy profile row (Some Undef) s r reached = reached ≡ with_macros s (after_undef s.macros (sign_place r.tokens) (operands r.tokens))
+ControlBy profile row (Some Line) s r reached = LineGives s r reached
+ControlBy profile row (Some Pragma) s r reached = reached ≡ going (pragma_passed profile row s r.tokens)
+ControlBy profile row (Some Unknown) s r reached = reached ≡ stopped s (line_fault 8 r.tokens (unknown_name r.tokens))
+ControlBy _ _ _ s r reached = ⊥
 
 -- the control lines that open no file, but for `#error`
 abbrev pub IsControl : Directive → Type 0

@@ -1,7 +1,9 @@
 -- Which texts are dates, times and single lines.
-use Rattle.std.specs.Prelude.{ℕ, ◌+◌, ◌-◌, ◌*◌, ◌==◌, ◌&&◌, ◌||◌, not, Bool, List, nat_le, nat_lt, codes, length, take, drop, slice_index}
+use Rattle.std.specs.Prelude.{ℕ, ◌+◌, ◌-◌, ◌*◌, ◌==◌, ◌&&◌, ◌||◌, not, Bool, true, false, List, nat_le, nat_lt, codes, length, take, drop, slice_index}
 use Rattle.std.specs.List.{list_all}
 use Rattle.std.specs.Str.{bytes_eq}
+use Rattle.pptext.specs.declared.sources.Profile.{Profile}
+use Rattle.pptext.specs.declared.sources.Profile.TheVariants.{C11, Later}
 use Rattle.ppshelf.specs.Content.{longest}
 use Rattle.ppunit.specs.declared.units.Setting.{Setting}
 use Rattle.ppunit.specs.declared.units.Unit.{Unit as UnitOfList}
@@ -41,10 +43,18 @@ is_in_line b = not (b == 10) && not (b == 13)
 abbrev pub is_one_line : List ℕ → Bool
 is_one_line s = list_all is_in_line s
 
+abbrev pub is_same : Profile → Profile → Bool
+is_same C11 C11 = true
+is_same Later Later = true
+is_same _ _ = false
+
 -- date and time have their forms
 abbrev pub is_setting : Setting → Bool
 is_setting setting = is_date setting.date && is_time setting.time
 
--- the file is one of so many, each definition is one line, and all of them make no longer a file than there may be
-abbrev pub is_unit : ℕ → UnitOfList → Bool
-is_unit rows unit = nat_lt unit.file rows && (list_all is_one_line unit.defines && nat_le (length (command_text unit.defines)) longest)
+-- the file is one of so many, the definitions are read by the profile, each is one line, and all of them make no longer a file than there may be
+abbrev pub is_unit : ℕ → Profile → UnitOfList → Bool
+is_unit rows profile unit =
+    nat_lt unit.file rows
+    && (is_same unit.defines.profile profile && (list_all is_one_line unit.defines.texts && nat_le (length (command_text unit.defines.texts))
+    longest))

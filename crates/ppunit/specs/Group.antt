@@ -2,13 +2,14 @@
 use Rattle.std.specs.Prelude.{◌≡◌, ◌≢◌, ℕ, suc, ◌<◌, ◌≤◌, List, true, false, None, Some, Ok, Err}
 use Rattle.pptext.specs.declared.tokens.Place.{Place}
 use Rattle.pptext.specs.declared.tokens.Fault.{Fault}
-use Rattle.pptext.specs.declared.sources.Directive.TheVariants.{Include, Error, Else, Elif}
-use Rattle.pptext.specs.Lines.{Row, directive_of}
+use Rattle.pptext.specs.declared.sources.Directive.TheVariants.{Include, Error, Else}
+use Rattle.pptext.specs.Lines.{LogicalLine}
 use Rattle.pptext.specs.Sources.{Reads}
 use Rattle.pptext.specs.Tree.{sign_place, Parts, Done, Run, Control, Section, Branches, End, Branch, Tree}
 use Rattle.ppshelf.specs.Content.{unreadable, readable}
 use Rattle.ppshelf.specs.Files.{file_at}
 use Rattle.ppshelf.specs.Names.{name_in}
+use Rattle.ppunit.specs.Dependencies.{is_among}
 use Rattle.ppunit.specs.States.{Surroundings, Reached, going, stopped, depending, entering, leaving}
 use Rattle.ppunit.specs.declared.states.State.{State}
 use Rattle.ppunit.specs.Lines.{operands, line_fault, run_tokens}
@@ -29,32 +30,107 @@ mutual
   pub data Group (around : Surroundings) : ℕ → ℕ → Reached → Parts → Reached → Type 0 where
     stays : {depth row : ℕ} {s : State} {f : Fault} {ps : Parts} → Group around depth row (stopped s f) ps (stopped s f)
     done : {depth row : ℕ} {s : State} → Group around depth row (going s) Done (going s)
-    run : {depth row : ℕ} {s : State} {rows : List Row} {ps : Parts} {m end : Reached} → RunGives s (run_tokens rows) m → Group around depth row m ps end → Group around depth row (going s) (Run rows ps) end
-    control : {depth row : ℕ} {s : State} {line : Row} {ps : Parts} {m end : Reached} → Controls around depth row s line m → Group around depth row m ps end → Group around depth row (going s) (Control line ps) end
-    taken : {depth row : ℕ} {s : State} {line : Row} {ps qs : Parts} {bs : Branches} {m end : Reached} → Decides s line.tokens (Ok true) → Group around depth row (going s) ps m → Group around depth row m qs end → Group around depth row (going s) (Section line ps bs qs) end
-    skipped : {depth row : ℕ} {s : State} {line : Row} {ps qs : Parts} {bs : Branches} {m end : Reached} → Decides s line.tokens (Ok false) → Branched around depth row s bs m → Group around depth row m qs end → Group around depth row (going s) (Section line ps bs qs) end
-    refused : {depth row : ℕ} {s : State} {line : Row} {ps qs : Parts} {bs : Branches} {f : Fault} → Decides s line.tokens (Err f) → Group around depth row (going s) (Section line ps bs qs) (stopped s f)
+    run : {depth row : ℕ} {s : State} {rows : List LogicalLine} {ps : Parts} {m end : Reached}
+        → RunGives s (run_tokens rows) m
+        → Group around depth row m ps end
+        → Group around depth row (going s) (Run rows ps) end
+    control : {depth row : ℕ} {s : State} {line : LogicalLine} {ps : Parts} {m end : Reached}
+        → Controls around depth row s line m
+        → Group around depth row m ps end
+        → Group around depth row (going s) (Control line ps) end
+    taken : {depth row : ℕ} {s : State} {line : LogicalLine} {ps qs : Parts} {bs : Branches} {m end : Reached}
+        → Decides s line (Ok true)
+        → Group around depth row (going s) ps m
+        → Group around depth row m qs end
+        → Group around depth row (going s) (Section line ps bs qs) end
+    skipped : {depth row : ℕ} {s : State} {line : LogicalLine} {ps qs : Parts} {bs : Branches} {m end : Reached}
+        → Decides s line (Ok false)
+        → Branched around depth row s bs m
+        → Group around depth row m qs end
+        → Group around depth row (going s) (Section line ps bs qs) end
+    refused : {depth row : ℕ} {s : State} {line : LogicalLine} {ps qs : Parts} {bs : Branches} {f : Fault}
+        → Decides s line (Err f)
+        → Group around depth row (going s) (Section line ps bs qs) (stopped s f)
 
   -- the branches of an if-section, up to the first that is taken (6.10.1)
   pub data Branched (around : Surroundings) : ℕ → ℕ → State → Branches → Reached → Type 0 where
-    ended : {depth row : ℕ} {s : State} {line : Row} → Branched around depth row s (End line) (going s)
-    otherwise : {depth row : ℕ} {s : State} {line : Row} {ps : Parts} {bs : Branches} {m : Reached} → directive_of line.tokens ≡ Some Else → Group around depth row (going s) ps m → Branched around depth row s (Branch line ps bs) m
-    branch_taken : {depth row : ℕ} {s : State} {line : Row} {ps : Parts} {bs : Branches} {m : Reached} → directive_of line.tokens ≡ Some Elif → Decides s line.tokens (Ok true) → Group around depth row (going s) ps m → Branched around depth row s (Branch line ps bs) m
-    branch_skipped : {depth row : ℕ} {s : State} {line : Row} {ps : Parts} {bs : Branches} {m : Reached} → directive_of line.tokens ≡ Some Elif → Decides s line.tokens (Ok false) → Branched around depth row s bs m → Branched around depth row s (Branch line ps bs) m
-    branch_refused : {depth row : ℕ} {s : State} {line : Row} {ps : Parts} {bs : Branches} {f : Fault} → directive_of line.tokens ≡ Some Elif → Decides s line.tokens (Err f) → Branched around depth row s (Branch line ps bs) (stopped s f)
+    ended : {depth row : ℕ} {s : State} {line : LogicalLine} → Branched around depth row s (End line) (going s)
+    otherwise : {depth row : ℕ} {s : State} {line : LogicalLine} {ps : Parts} {bs : Branches} {m : Reached}
+        → line.directive ≡ Some Else
+        → Group around depth row (going s) ps m
+        → Branched around depth row s (Branch line ps bs) m
+    branch_taken : {depth row : ℕ} {s : State} {line : LogicalLine} {ps : Parts} {bs : Branches} {m : Reached}
+        → line.directive ≢ Some Else
+        → Decides s line (Ok true)
+        → Group around depth row (going s) ps m
+        → Branched around depth row s (Branch line ps bs) m
+    branch_skipped : {depth row : ℕ} {s : State} {line : LogicalLine} {ps : Parts} {bs : Branches} {m : Reached}
+        → line.directive ≢ Some Else
+        → Decides s line (Ok false)
+        → Branched around depth row s bs m
+        → Branched around depth row s (Branch line ps bs) m
+    branch_refused : {depth row : ℕ} {s : State} {line : LogicalLine} {ps : Parts} {bs : Branches} {f : Fault}
+        → line.directive ≢ Some Else
+        → Decides s line (Err f)
+        → Branched around depth row s (Branch line ps bs) (stopped s f)
 
   -- a control line
-  pub data Controls (around : Surroundings) : ℕ → ℕ → State → Row → Reached → Type 0 where
-    error : {depth row : ℕ} {s : State} {line : Row} → directive_of line.tokens ≡ Some Error → Controls around depth row s line (stopped s (line_fault 34 line.tokens (message true (operands line.tokens))))
-    quote : {depth row : ℕ} {s : State} {line : Row} {f : Fault} → directive_of line.tokens ≢ Some Error → lone_quote line.tokens ≡ Some f → Controls around depth row s line (stopped s f)
-    other : {depth row : ℕ} {s : State} {line : Row} {m : Reached} → lone_quote line.tokens ≡ None → ControlBy (directive_of line.tokens) s line m → Controls around depth row s line m
-    misnamed : {depth row : ℕ} {s : State} {line : Row} {f : Fault} → directive_of line.tokens ≡ Some Include → lone_quote line.tokens ≡ None → Asks s line.tokens (Err f) → Controls around depth row s line (stopped s f)
-    missing : {depth row : ℕ} {s : State} {line : Row} → (a : Asked) → directive_of line.tokens ≡ Some Include → lone_quote line.tokens ≡ None → Asks s line.tokens (Ok a) → Finds around row a None → Controls around depth row s line (stopped s (line_fault 31 line.tokens a.name))
-    included : {depth row : ℕ} {s : State} {line : Row} → (a : Asked) (found : ℕ) → {m : Reached} → directive_of line.tokens ≡ Some Include → lone_quote line.tokens ≡ None → Asks s line.tokens (Ok a) → Finds around row a (Some found) → Opened around (suc depth) (sign_place line.tokens) s found m → Controls around depth row s line m
+  pub data Controls (around : Surroundings) : ℕ → ℕ → State → LogicalLine → Reached → Type 0 where
+    error : {depth row : ℕ} {s : State} {line : LogicalLine}
+        → line.directive ≡ Some Error
+        → Controls around depth row s line (stopped s (line_fault 34 line.tokens (message true (operands line.tokens))))
+    quote : {depth row : ℕ} {s : State} {line : LogicalLine} {f : Fault}
+        → line.directive ≢ Some Error
+        → lone_quote line.tokens ≡ Some f
+        → Controls around depth row s line (stopped s f)
+    other : {depth row : ℕ} {s : State} {line : LogicalLine} {m : Reached}
+        → lone_quote line.tokens ≡ None
+        → ControlBy around.profile row line.directive s line m
+        → Controls around depth row s line m
+    misnamed : {depth row : ℕ} {s : State} {line : LogicalLine} {f : Fault}
+        → line.directive ≡ Some Include
+        → lone_quote line.tokens ≡ None
+        → Asks s line.tokens (Err f)
+        → Controls around depth row s line (stopped s f)
+    missing : {depth row : ℕ} {s : State} {line : LogicalLine} (a : Asked)
+        → line.directive ≡ Some Include
+        → lone_quote line.tokens ≡ None
+        → Asks s line.tokens (Ok a)
+        → Finds around row a None
+        → Controls around depth row s line (stopped s (line_fault 31 line.tokens a.name))
+    included : {depth row : ℕ} {s : State} {line : LogicalLine} (a : Asked) (found : ℕ) {m : Reached}
+        → line.directive ≡ Some Include
+        → lone_quote line.tokens ≡ None
+        → Asks s line.tokens (Ok a)
+        → Finds around row a (Some found)
+        → Opened around (suc depth) (sign_place line.tokens) s found m
+        → Controls around depth row s line m
 
-  -- the file of a row is opened, for the line at this place
+  -- the file of a row is opened, for the line at this place; one that is read once and was read changes the dependencies alone
   pub data Opened (around : Surroundings) : ℕ → Place → State → ℕ → Reached → Type 0 where
-    too_deep : {depth row : ℕ} {at : Place} {s : State} → deepest < depth → Opened around depth at s row (stopped s (fault_at 32 at (name_in around.names row)))
-    not_readable : {depth row : ℕ} {at : Place} {s : State} → depth ≤ deepest → file_at around.files row ≡ Some unreadable → Opened around depth at s row (stopped (depending s row) (fault_at 6 at (name_in around.names row)))
-    faulty : {depth row : ℕ} {at : Place} {s : State} {bytes : List ℕ} {f : Fault} → depth ≤ deepest → file_at around.files row ≡ Some (readable bytes) → Reads row bytes (Err f) → Opened around depth at s row (stopped (depending s row) f)
-    read : {depth row : ℕ} {at : Place} {s : State} {bytes : List ℕ} {lines : List Row} {parts : Parts} {m : Reached} → depth ≤ deepest → file_at around.files row ≡ Some (readable bytes) → Reads row bytes (Ok lines) → Tree lines parts → Group around depth row (going (entering around s row)) parts m → Opened around depth at s row (leaving s m)
+    too_deep : {depth row : ℕ} {at : Place} {s : State}
+        → deepest < depth
+        → Opened around depth at s row (stopped s (fault_at 32 at (name_in around.names row)))
+    known : {depth row : ℕ} {at : Place} {s : State}
+        → depth ≤ deepest
+        → is_among row s.once ≡ true
+        → Opened around depth at s row (going (depending s row))
+    not_readable : {depth row : ℕ} {at : Place} {s : State}
+        → depth ≤ deepest
+        → is_among row s.once ≡ false
+        → file_at around.files row ≡ Some unreadable
+        → Opened around depth at s row (stopped (depending s row) (fault_at 6 at (name_in around.names row)))
+    faulty : {depth row : ℕ} {at : Place} {s : State} {bytes : List ℕ} {f : Fault}
+        → depth ≤ deepest
+        → is_among row s.once ≡ false
+        → file_at around.files row ≡ Some (readable bytes)
+        → Reads around.profile row bytes (Err f)
+        → Opened around depth at s row (stopped (depending s row) f)
+    read : {depth row : ℕ} {at : Place} {s : State} {bytes : List ℕ} {lines : List LogicalLine} {parts : Parts} {m : Reached}
+        → depth ≤ deepest
+        → is_among row s.once ≡ false
+        → file_at around.files row ≡ Some (readable bytes)
+        → Reads around.profile row bytes (Ok lines)
+        → Tree lines parts
+        → Group around depth row (going (entering around s row)) parts m
+        → Opened around depth at s row (leaving s m)

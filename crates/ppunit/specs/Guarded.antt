@@ -1,7 +1,7 @@
 -- Leaving a guarded file out (6.10.1).
 use Rattle.std.specs.Prelude.{◌≡◌, ℕ, ◌≤◌, List, true, Some, Ok}
 use Rattle.pptext.specs.declared.tokens.Place.{Place}
-use Rattle.pptext.specs.Lines.{Row}
+use Rattle.pptext.specs.Lines.{LogicalLine}
 use Rattle.pptext.specs.Sources.{Reads}
 use Rattle.pptext.specs.Guard.{GuardedBy}
 use Rattle.ppshelf.specs.Content.{readable}
@@ -13,8 +13,15 @@ use Rattle.ppunit.specs.Group.{deepest, Opened}
 
 -- a file whose guard is a macro's name changes nothing but the dependencies
 abbrev pub GuardsLeaveOut : Type 0
-GuardsLeaveOut = (around : Surroundings) (depth row : ℕ) (at : Place) (s : State) (bytes : List ℕ) (lines : List Row) (x : List ℕ) → depth ≤ deepest → file_at around.files row ≡ Some (readable bytes) → Reads row bytes (Ok lines) → GuardedBy lines x → is_defined s.macros x ≡ true → Opened around depth at s row (going (depending s row))
+GuardsLeaveOut =
+    (around : Surroundings) (depth row : ℕ) (at : Place) (s : State) (bytes : List ℕ) (lines : List LogicalLine) (x : List ℕ)
+    → depth ≤ deepest
+    → file_at around.files row ≡ Some (readable bytes)
+    → Reads around.profile row bytes (Ok lines)
+    → GuardedBy lines x
+    → is_defined s.macros x ≡ true
+    → Opened around depth at s row (going (depending s row))
 
 -- the lines are one section under a guard that is a macro's name
-abbrev pub IsLeftOut : State → List Row → Type 0
+abbrev pub IsLeftOut : State → List LogicalLine → Type 0
 IsLeftOut s lines = (x : List ℕ) × GuardedBy lines x × (is_defined s.macros x ≡ true)

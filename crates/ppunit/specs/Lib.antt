@@ -15,3 +15,4 @@ pub mod Walk
 pub mod Forms
 pub mod Guarded
 pub mod Parts
+pub mod Yielding

@@ -6,7 +6,7 @@ use Rattle.pptext.specs.declared.tokens.Token.{Token}
 use Rattle.pptext.specs.declared.tokens.Kind.{Kind}
 use Rattle.pptext.specs.declared.tokens.Kind.TheVariants.{Number, Str}
 use Rattle.pptext.specs.Spellings.{is_digit}
-use Rattle.pptext.specs.Lines.{Row}
+use Rattle.pptext.specs.Lines.{LogicalLine}
 use Rattle.ppunit.specs.declared.line_control.Presumed.{Presumed}
 use Rattle.ppunit.specs.declared.states.State.{State}
 
@@ -53,5 +53,5 @@ or_old old None = old
 or_old old (Some new) = new
 
 -- the line behind the directive's new-line gets the number
-abbrev pub renumbered : State → Row → Presumed → State
+abbrev pub renumbered : State → LogicalLine → Presumed → State
 renumbered s r p = record s { env = record s.env { name = or_old s.env.name p.name; shift = pos p.number -ℤ pos (r.number + 1) } }

@@ -2,9 +2,14 @@
 use Rattle.std.specs.Prelude.{ℕ, List, [], ◌∷◌, if◌then◌else◌, Option, None, Some, drop, flat_map}
 use Rattle.pptext.specs.declared.tokens.Token.{Token}
 use Rattle.pptext.specs.declared.tokens.Fault.{Fault}
-use Rattle.pptext.specs.Lines.{Row}
+use Rattle.pptext.specs.declared.sources.Directive.{Directive}
+use Rattle.pptext.specs.Lines.{LogicalLine}
 use Rattle.pptext.specs.Tree.{sign_place, name_of}
 use Rattle.ppmacro.specs.Spellings.{is_identifier}
+
+-- a line of these tokens with this directive
+abbrev pub directed : Directive → List Token → ℕ → LogicalLine
+directed d tokens number = record { tokens = tokens; number = number; directive = Some d }
 
 -- what stands behind the directive's name
 abbrev pub operands : List Token → List Token
@@ -24,5 +29,5 @@ one_identifier (t ∷ []) = if is_identifier t then Some t.text else None
 one_identifier ts = None
 
 -- the tokens of a text run
-abbrev pub run_tokens : List Row → List Token
+abbrev pub run_tokens : List LogicalLine → List Token
 run_tokens rows = flat_map (λ r. r.tokens) rows

@@ -1,6 +1,7 @@
 -- Where phase 4 stands in a unit (5.1.1.2, 6.10).
 use Rattle.std.specs.Prelude.{ℕ, pos, List, [], ◌∷◌, ◌++◌, Option, Some, None}
 use Rattle.pptext.specs.declared.tokens.Fault.{Fault}
+use Rattle.pptext.specs.declared.sources.Profile.{Profile}
 use Rattle.ppmacro.specs.Substitution.{escaped}
 use Rattle.ppshelf.specs.Files.{Files, Stock}
 use Rattle.ppshelf.specs.Names.{name_in}
@@ -15,16 +16,26 @@ pub record Library : Type 0 where
   pub unit_folders : List (List ℕ)
   pub setting_folders : List (List ℕ)
 
--- what does not change within a unit: the names of all files, what is known of them, and the folders that are searched, the unit's before the setting's
+-- what does not change within a unit: the names of all files, their profile, what is known of them, and the folders that are searched, the unit's before
+-- the setting's
 pub record Surroundings : Type 0 where
   pub names : List (List ℕ)
+  pub profile : Profile
   pub files : Files
   pub unit_folders : List (List ℕ)
   pub setting_folders : List (List ℕ)
 
 -- these files of a library
 abbrev pub surroundings_of : Library → Files → Surroundings
-surroundings_of library files = record { names = library.shelf.names; files = files; unit_folders = library.unit_folders; setting_folders = library.setting_folders }
+surroundings_of library files =
+    record {
+      names = library.shelf.names;
+      profile = library.shelf.profile;
+      files = files;
+      unit_folders = library.unit_folders;
+      setting_folders =
+          library.setting_folders;
+    }
 
 -- a unit goes on, or has stopped at its first fault
 pub record Reached : Type 0 where
@@ -43,6 +54,10 @@ passed s items = record s { items = s.items ++ items }
 -- the file joins the dependencies, once
 abbrev pub depending : State → ℕ → State
 depending s row = record s { deps = among row s.deps }
+
+-- the file joins those that are not read again
+abbrev pub reading_once : State → ℕ → State
+reading_once s row = record s { once = among row s.once }
 
 -- what a unit gives
 abbrev pub given : Reached → UnitOut

@@ -2,12 +2,13 @@
 use Rattle.std.specs.Prelude.{◌≡◌, ℕ, ◌<◌, pos, List, [], Ok, Err}
 use Rattle.pptext.specs.declared.tokens.Place.{Place}
 use Rattle.pptext.specs.declared.tokens.Fault.{Fault}
-use Rattle.pptext.specs.Lines.{Row}
+use Rattle.pptext.specs.declared.sources.Profile.{Profile}
+use Rattle.pptext.specs.Lines.{LogicalLine}
 use Rattle.pptext.specs.Sources.{Reads}
 use Rattle.pptext.specs.Tree.{Parts, Tree}
 use Rattle.ppmacro.specs.Predefined.{predefined}
 use Rattle.ppshelf.specs.Files.{Files}
-pub use Rattle.ppunit.specs.Commands.{command_file, command_line, command_text}
+pub use Rattle.ppunit.specs.Commands.{Commands, command_file, command_line, command_text}
 use Rattle.ppunit.specs.declared.units.Unit.{Unit as UnitOfList}
 use Rattle.ppunit.specs.declared.units.Setting.{Setting}
 use Rattle.ppunit.specs.declared.units.UnitOut.{UnitOut}
@@ -17,7 +18,15 @@ use Rattle.ppunit.specs.Group.{Group, Opened}
 
 -- a unit begins with the predefined names alone (6.10.8.1)
 abbrev pub beginning : Setting → State
-beginning setting = record { macros = predefined; items = []; deps = []; env = record { name = []; shift = pos 0; date = setting.date; time = setting.time } }
+beginning setting =
+    record {
+      macros = predefined;
+      items = [];
+      deps = [];
+      once = [];
+      env = record
+          { name = []; shift = pos 0; date = setting.date; time = setting.time };
+    }
 
 -- the file's first byte
 abbrev pub first_place : ℕ → Place
@@ -25,8 +34,12 @@ first_place row = record { file = row; line = 1; col = 1 }
 
 -- phases 1 to 4 of a unit's definitions, before its file
 pub data Defines (around : Surroundings) (defines : List (List ℕ)) : State → Reached → Type 0 where
-  unread : {s : State} {f : Fault} → Reads command_file (command_text defines) (Err f) → Defines around defines s (stopped s f)
-  processed : {s : State} {lines : List Row} {parts : Parts} {m : Reached} → Reads command_file (command_text defines) (Ok lines) → Tree lines parts → Group around 0 command_file (going s) parts m → Defines around defines s m
+  unread : {s : State} {f : Fault} → Reads around.profile command_file (command_text defines) (Err f) → Defines around defines s (stopped s f)
+  processed : {s : State} {lines : List LogicalLine} {parts : Parts} {m : Reached}
+      → Reads around.profile command_file (command_text defines) (Ok lines)
+      → Tree lines parts
+      → Group around 0 command_file (going s) parts m
+      → Defines around defines s m
 
 -- the definitions, and then the unit's file
 pub data Translates (around : Surroundings) (defines : List (List ℕ)) (row : ℕ) : State → Reached → Type 0 where
@@ -34,14 +47,15 @@ pub data Translates (around : Surroundings) (defines : List (List ℕ)) (row : �
   translated : {s t : State} {m : Reached} → Defines around defines s (going t) → Opened around 0 (first_place row) t row m → Translates around defines row s m
 
 abbrev pub surroundings : List (List ℕ) → Files → Setting → UnitOfList → Surroundings
-surroundings names files setting unit = record { names = names; files = files; unit_folders = unit.search; setting_folders = setting.search }
+surroundings names files setting unit =
+    record { names = names; profile = setting.profile; files = files; unit_folders = unit.search; setting_folders = setting.search }
 
--- a unit's file is in one of so many rows
-abbrev pub IsUnitOf : ℕ → UnitOfList → Type 0
-IsUnitOf rows unit = unit.file < rows
+-- a unit of so many rows and of a profile: its file is in one of them, and its definitions are read by the profile
+abbrev pub IsUnitOf : ℕ → Profile → UnitOfList → Type 0
+IsUnitOf rows profile unit = (unit.file < rows) × (unit.defines.profile ≡ profile)
 
 -- what a unit gives over these files
 pub record IsUnit (names : List (List ℕ)) (files : Files) (setting : Setting) (unit : UnitOfList) (out : UnitOut) : Type 0 where
   pub reached : Reached
-  pub translates : Translates (surroundings names files setting unit) unit.defines unit.file (beginning setting) reached
+  pub translates : Translates (surroundings names files setting unit) unit.defines.texts unit.file (beginning setting) reached
   pub gives : out ≡ given reached

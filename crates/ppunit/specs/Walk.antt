@@ -3,8 +3,8 @@ use Rattle.std.specs.Prelude.{◌≡◌, ℕ, suc, ◌+◌, ◌<◌, ◌≤◌, 
 use Rattle.pptext.specs.declared.tokens.Token.{Token}
 use Rattle.pptext.specs.declared.tokens.Fault.{Fault}
 use Rattle.pptext.specs.declared.sources.Directive.{Directive}
-use Rattle.pptext.specs.declared.sources.Directive.TheVariants.{If, Ifdef, Ifndef, Elif, Else, Endif}
-use Rattle.pptext.specs.Lines.{Row, directive_of}
+use Rattle.pptext.specs.declared.sources.Directive.TheVariants.{If, Ifdef, Ifndef, Elif, Elifdef, Elifndef, Else, Endif}
+use Rattle.pptext.specs.Lines.{LogicalLine}
 use Rattle.pptext.specs.Sources.{next_branch}
 use Rattle.pptext.specs.Tree.{Parts, Branches, part_lines, branch_lines, AreParts, AreBranches, Tree, role, branch_behind}
 use Rattle.ppexpand.specs.declared.env.Env.{Env}
@@ -19,11 +19,11 @@ use Rattle.ppunit.specs.Conditions.{Decides}
 use Rattle.ppunit.specs.Group.{deepest, Group, Branched, Controls}
 use Rattle.ppunit.specs.Unit.{Defines}
 
-abbrev pub no_row : Row
-no_row = record { tokens = []; number = 0 }
+abbrev pub no_line : LogicalLine
+no_line = record { tokens = []; number = 0; directive = None }
 
-abbrev pub line_at : List Row → ℕ → Row
-line_at lines index = slice_index_or lines index no_row
+abbrev pub line_at : List LogicalLine → ℕ → LogicalLine
+line_at lines index = slice_index_or lines index no_line
 
 -- `#if`, `#ifdef`, `#ifndef`
 abbrev pub opens_section : Directive → Bool
@@ -32,9 +32,18 @@ opens_section Ifdef = true
 opens_section Ifndef = true
 opens_section d = false
 
--- `#elif`, `#else`, `#endif`: a group ends before the line
+-- `#elif`, `#elifdef`, `#elifndef`: a branch with a condition
+abbrev pub has_condition : Directive → Bool
+has_condition Elif = true
+has_condition Elifdef = true
+has_condition Elifndef = true
+has_condition d = false
+
+-- a branch or `#endif`: a group ends before the line
 abbrev pub ends_group : Directive → Bool
 ends_group Elif = true
+ends_group Elifdef = true
+ends_group Elifndef = true
 ends_group Else = true
 ends_group Endif = true
 ends_group d = false
@@ -44,7 +53,7 @@ abbrev pub Outer : Type 0
 Outer = List (Branches × Parts)
 
 -- the lines of parts in these sections, up to the end of the file
-abbrev pub lay : Parts → Outer → List Row
+abbrev pub lay : Parts → Outer → List LogicalLine
 lay ps [] = part_lines ps
 lay ps ((bs, qs) ∷ k) = part_lines ps ++ (branch_lines bs ++ lay qs k)
 
@@ -53,7 +62,7 @@ AreOuter [] = Unit {0}
 AreOuter ((bs, qs) ∷ k) = ((last : Bool) × AreBranches last bs) × AreParts qs × AreOuter k
 
 -- the lines from this index on are those of parts in these sections
-pub record StandsAt (lines : List Row) (index : ℕ) (ps : Parts) (k : Outer) : Type 0 where
+pub record StandsAt (lines : List LogicalLine) (index : ℕ) (ps : Parts) (k : Outer) : Type 0 where
   pub rest : drop index lines ≡ lay ps k
   pub parts : AreParts ps
   pub outer : AreOuter k
@@ -64,7 +73,7 @@ Ends around depth row m ps [] end = Group around depth row m ps end
 Ends around depth row m ps ((bs, qs) ∷ k) end = (n : Reached) × Group around depth row m ps n × Ends around depth row n qs k end
 
 -- From the line at an index to the line at another, or to a fault: what is behind follows from what is left.
-abbrev pub Advances : (Files → Surroundings) → Files → ℕ → ℕ → List Row → ℕ → State → State → Result ℕ Fault → Type 0
+abbrev pub Advances : (Files → Surroundings) → Files → ℕ → ℕ → List LogicalLine → ℕ → State → State → Result ℕ Fault → Type 0
 Advances around files depth row lines index s t (Ok next) = (ps : Parts) (k : Outer) → StandsAt lines index ps k → (ps' : Parts) × (k' : Outer) × StandsAt lines next ps' k' × ((more : Files) → Extends more files → (end : Reached) → Ends (around more) depth row (going t) ps' k' end → Ends (around more) depth row (going s) ps k end)
 Advances around files depth row lines index s t (Err f) = (ps : Parts) (k : Outer) → StandsAt lines index ps k → (more : Files) → Extends more files → Ends (around more) depth row (going s) ps k (stopped t f)
 
@@ -89,19 +98,19 @@ Leads around files depth whole t (Ok (Some e)) = EntersFile around files depth w
 Leads around files depth whole t (Err f) = (more : Files) → Extends more files → whole more (stopped t f)
 
 -- From the control line at an index to the line at another: what is behind follows from what the control line reaches.
-abbrev pub PassesFrom : ℕ → ℕ → List Row → ℕ → State → ℕ → Parts → Outer → Type 0
+abbrev pub PassesFrom : ℕ → ℕ → List LogicalLine → ℕ → State → ℕ → Parts → Outer → Type 0
 PassesFrom depth row lines index s next ps k = (ps' : Parts) × (k' : Outer) × StandsAt lines next ps' k' × ((around : Surroundings) (m end : Reached) → Controls around depth row s (line_at lines index) m → Ends around depth row m ps' k' end → Ends around depth row (going s) ps k end)
 
-abbrev pub Passes : ℕ → ℕ → List Row → ℕ → State → ℕ → Type 0
+abbrev pub Passes : ℕ → ℕ → List LogicalLine → ℕ → State → ℕ → Type 0
 Passes depth row lines index s next = (ps : Parts) (k : Outer) → StandsAt lines index ps k → PassesFrom depth row lines index s next ps k
 
 -- from the line at an index to the line at another, and into a file if one was entered
-abbrev pub StepsTo : (Files → Surroundings) → Files → ℕ → ℕ → List Row → ℕ → State → State → ℕ → Option Entered → Type 0
+abbrev pub StepsTo : (Files → Surroundings) → Files → ℕ → ℕ → List LogicalLine → ℕ → State → State → ℕ → Option Entered → Type 0
 StepsTo around files depth row lines index s t next None = Advances around files depth row lines index s t (Ok next)
 StepsTo around files depth row lines index s t next (Some e) = Passes depth row lines index s next × EntersFile around files (suc depth) (λ more m. Controls (around more) depth row s (line_at lines index) m) t e
 
 -- the same, or to a fault
-abbrev pub Steps : (Files → Surroundings) → Files → ℕ → ℕ → List Row → ℕ → State → State → Result Next Fault → Type 0
+abbrev pub Steps : (Files → Surroundings) → Files → ℕ → ℕ → List LogicalLine → ℕ → State → State → Result Next Fault → Type 0
 Steps around files depth row lines index s t (Ok next) = StepsTo around files depth row lines index s t next.line next.entered
 Steps around files depth row lines index s t (Err f) = Advances around files depth row lines index s t (Err f)
 
@@ -120,34 +129,39 @@ brought_back [] s = s
 brought_back (w ∷ ws) s = brought_back ws (record s { env = w.env })
 
 -- phase 4 of a file's lines, over these files and any more
-abbrev pub Walks : (Files → Surroundings) → Files → ℕ → ℕ → List Row → State → Reached → Type 0
+abbrev pub Walks : (Files → Surroundings) → Files → ℕ → ℕ → List LogicalLine → State → Reached → Type 0
 Walks around files depth row lines s end = (parts : Parts) → Tree lines parts → (more : Files) → Extends more files → Group (around more) depth row (going s) parts end
 
--- At the index stands an opening line or `#elif`, then the parts of its group, and then these branches.
-pub record BranchesAt (lines : List Row) (index : ℕ) (ps : Parts) (bs : Branches) (qs : Parts) (k : Outer) : Type 0 where
-  pub line : Row
+-- At the index stands an opening line or a branch with a condition, then the parts of its group, and then these branches.
+pub record BranchesAt (lines : List LogicalLine) (index : ℕ) (ps : Parts) (bs : Branches) (qs : Parts) (k : Outer) : Type 0 where
+  pub line : LogicalLine
   pub rest : drop index lines ≡ line ∷ lay ps ((bs, qs) ∷ k)
-  pub next : (n : ℕ) (rows : List Row) → next_branch n (role line) rows ≡ branch_behind 0 (n + 1) (map role rows)
+  pub next : (n : ℕ) (rows : List LogicalLine) → next_branch n (role line) rows ≡ branch_behind 0 (n + 1) (map role rows)
   pub parts : AreParts ps
   pub outer : AreOuter ((bs, qs) ∷ k)
 
--- whether the work goes on behind a branch line, or its fault
-abbrev pub Enters : Option Directive → State → List Token → Result Bool Fault → Type 0
-Enters (Some Elif) s line taken = Decides s line taken
-Enters d s line taken = taken ≡ Ok true
+-- whether the work goes on behind a line of this directive, a branch or `#endif`, or its fault
+abbrev pub EntersBy : Option Directive → State → LogicalLine → Result Bool Fault → Type 0
+EntersBy (Some Elif) s line taken = Decides s line taken
+EntersBy (Some Elifdef) s line taken = Decides s line taken
+EntersBy (Some Elifndef) s line taken = Decides s line taken
+EntersBy d s line taken = taken ≡ Ok true
+
+abbrev pub Enters : State → LogicalLine → Result Bool Fault → Type 0
+Enters s line taken = EntersBy line.directive s line taken
 
 -- the line that the work goes on with, behind a group that is not taken
-abbrev pub FindsBranch : List Row → State → Branches → Parts → Outer → Result ℕ Fault → Type 0
+abbrev pub FindsBranch : List LogicalLine → State → Branches → Parts → Outer → Result ℕ Fault → Type 0
 FindsBranch lines s bs qs k (Ok next) = (ps : Parts) × (k' : Outer) × StandsAt lines next ps k' × ((around : Surroundings) (depth row : ℕ) (end : Reached) → Ends around depth row (going s) ps k' end → (m : Reached) × Branched around depth row s bs m × Ends around depth row m qs k end)
 FindsBranch lines s bs qs k (Err f) = (around : Surroundings) (depth row : ℕ) → Branched around depth row s bs (stopped s f)
 
-abbrev pub IsTextRow : Row → Type 0
-IsTextRow r = directive_of r.tokens ≡ None
+abbrev pub IsTextLine : LogicalLine → Type 0
+IsTextLine r = r.directive ≡ None
 
 -- no text line stands first
-abbrev pub IsRest : List Row → Type 0
+abbrev pub IsRest : List LogicalLine → Type 0
 IsRest [] = Unit {0}
-IsRest (r ∷ rows) = ¬ IsTextRow r
+IsRest (r ∷ rows) = ¬ IsTextLine r
 
 -- phases 1 to 4 of a unit's definitions, over these files and any more
 abbrev pub DefinesOver : (Files → Surroundings) → Files → List (List ℕ) → State → Reached → Type 0
