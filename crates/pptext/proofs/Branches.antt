@@ -1,14 +1,14 @@
 -- The next branch line of each line, from the last line to the first.
-use Rattle.std.proofs.Common.{◌≡◌, ℕ, zero, suc, ◌+◌, ◌<◌, ◌≤◌, List, [], ◌∷◌, ◌++◌, map, length, take, drop, get_or, set, refl, sym, ap, ◌∙◌, arith, Option, append_assoc}
+use Rattle.std.proofs.Common.{◌≡◌, ℕ, zero, suc, ◌+◌, ◌<◌, ◌≤◌, List, [], ◌∷◌, ◌++◌, map, length, take, drop, get_or, set, refl, sym, ap, ◌∙◌, arith, Option, append_assoc, subst}
 use Rattle.std.proofs.lemmas.List.{at_drop_more, take_more, set_at, get_or_at, length-take-le, take_all, drop_all, append-nil}
 use Rattle.pptext.specs.declared.tokens.Token.{Token}
 use Rattle.pptext.specs.declared.sources.Line.{Line}
 use Rattle.pptext.specs.declared.directives.Role.{Role}
 use Rattle.pptext.specs.declared.directives.Role.TheVariants.{Text as IsText, Control as IsControl, Opens, Elses, Closes}
-use Rattle.pptext.specs.Lines.{Row, directive_of}
+use Rattle.pptext.specs.Lines.{LogicalLine}
 use Rattle.pptext.specs.Tree.{role, branch_behind}
-use Rattle.pptext.specs.Sources.{next_branch, spans, tokens_of, rows_of}
-use Rattle.pptext.specs.Grouping.{drafts, AreDrafts, AreLines, line_role, branch_of, linked, first, step_back}
+use Rattle.pptext.specs.Sources.{next_branch, spans, tokens_of, lines_from}
+use Rattle.pptext.specs.Grouping.{drafts, AreDirected, AreDrafts, AreLines, line_role, branch_of, linked, first, step_back}
 use Rattle.pptext.proofs.Spans.{row_of}
 
 -- the next branch line of each section that is open before these lines, the innermost first
@@ -84,34 +84,34 @@ linked_all ls now behind at l sofar =
 
 -- the spans are the drafts, linked
 
-branch_next : (k : ℕ) (s : Role) (rs : List Row) → branch_of k s (map role rs) ≡ next_branch k s rs
+branch_next : (k : ℕ) (s : Role) (rs : List LogicalLine) → branch_of k s (map role rs) ≡ next_branch k s rs
 branch_next k Opens rs = refl
 branch_next k (Elses final) rs = refl
 branch_next k Closes rs = refl
 branch_next k IsText rs = refl
 branch_next k IsControl rs = refl
 
-draft_roles : (start : ℕ) (rs : List Row) → map line_role (drafts start rs) ≡ map role rs
+draft_roles : (start : ℕ) (rs : List LogicalLine) → map line_role (drafts start rs) ≡ map role rs
 draft_roles start [] = refl
 draft_roles start (r ∷ rs) = ap (λ (z : List Role). role r ∷ z) (draft_roles (start + length r.tokens) rs)
 
-pub linked_drafts : (k start : ℕ) (rs : List Row) → linked k (drafts start rs) ≡ spans k start rs
+pub linked_drafts : (k start : ℕ) (rs : List LogicalLine) → linked k (drafts start rs) ≡ spans k start rs
 linked_drafts k start [] = refl
 linked_drafts k start (r ∷ rs) =
     let stop = start + length r.tokens in
     let next : branch_of k (role r) (map line_role (drafts stop rs)) ≡ next_branch k (role r) rs = ap (branch_of k (role r)) (draft_roles stop rs) ∙ branch_next k (role r) rs in
-    ap (λ (z : Option ℕ). record { start = start; end = stop; number = r.number; directive = directive_of r.tokens; next_branch = z } ∷ linked (k + 1) (drafts stop rs)) next ∙ ap (λ (z : List Line). record { start = start; end = stop; number = r.number; directive = directive_of r.tokens; next_branch = next_branch k (role r) rs } ∷ z) (linked_drafts (k + 1) stop rs)
+    ap (λ (z : Option ℕ). record { start = start; end = stop; number = r.number; directive = r.directive; next_branch = z } ∷ linked (k + 1) (drafts stop rs)) next ∙ ap (λ (z : List Line). record { start = start; end = stop; number = r.number; directive = r.directive; next_branch = next_branch k (role r) rs } ∷ z) (linked_drafts (k + 1) stop rs)
 
--- a link changes no line's tokens or number
-rows_of_linked : (ts : List Token) (k : ℕ) (ls : List Line) → rows_of ts (linked k ls) ≡ rows_of ts ls
+-- a link changes no line
+rows_of_linked : (ts : List Token) (k : ℕ) (ls : List Line) → lines_from ts (linked k ls) ≡ lines_from ts ls
 rows_of_linked ts k [] = refl
-rows_of_linked ts k (l ∷ ls) = ap (λ (z : List Row). row_of ts l ∷ z) (rows_of_linked ts (k + 1) ls)
+rows_of_linked ts k (l ∷ ls) = ap (λ (z : List LogicalLine). row_of ts l ∷ z) (rows_of_linked ts (k + 1) ls)
 
-pub linked_are : (ts : List Token) (ls now : List Line) → AreDrafts ts ls → now ≡ linked 0 ls → (rows_of ts now ≡ rows_of ts ls) × AreLines ts now
+pub linked_are : (ts : List Token) (ls now : List Line) → AreDrafts ts ls → now ≡ linked 0 ls → (lines_from ts now ≡ lines_from ts ls) × AreLines ts now
 linked_are ts ls now are is =
-    let same : rows_of ts now ≡ rows_of ts ls = ap (rows_of ts) is ∙ rows_of_linked ts 0 ls in
-    let spans_are : spans 0 0 (rows_of ts ls) ≡ now = sym (linked_drafts 0 0 (rows_of ts ls)) ∙ ap (linked 0) are.1 ∙ sym is in
-    (same, (ap tokens_of same ∙ are.0, ap (spans 0 0) same ∙ spans_are))
+    let same : lines_from ts now ≡ lines_from ts ls = ap (lines_from ts) is ∙ rows_of_linked ts 0 ls in
+    let spans_are : spans 0 0 (lines_from ts ls) ≡ now = sym (linked_drafts 0 0 (lines_from ts ls)) ∙ ap (linked 0) are.1 ∙ sym is in
+    (same, (ap tokens_of same ∙ are.0, ap (spans 0 0) same ∙ spans_are, subst AreDirected (sym same) are.2))
 
 pub linked_length : (k : ℕ) (ls : List Line) → length (linked k ls) ≡ length ls
 linked_length k [] = refl

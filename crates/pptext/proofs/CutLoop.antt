@@ -6,45 +6,48 @@ use Rattle.pptext.specs.declared.tokens.Place.{Place}
 use Rattle.pptext.specs.declared.tokens.Kind.{Kind}
 use Rattle.pptext.specs.declared.characters.Char.{Char}
 use Rattle.pptext.specs.declared.sources.Line.{Line}
+use Rattle.pptext.specs.declared.sources.Profile.{Profile}
 use Rattle.pptext.specs.Clean.{codes_of}
 use Rattle.pptext.specs.Cut.{Piece, Sort, NewLine, Blank, Comment, Spelled, line_after, with_piece, StandsAt, CutUpTo, head_place, Unclosed, OpensBlock, ClosesAt, BeginsWith}
-use Rattle.pptext.specs.Lines.{Row, rows_ended, leaves_space, tokens_after, token_of}
+use Rattle.std.specs.List.{AllByRecursion}
+use Rattle.pptext.specs.Lines.{LogicalLine, line_of, lines_ended, leaves_space, tokens_after, token_of, IsDirected}
 use Rattle.pptext.specs.Tokens.{spelled}
 use Rattle.pptext.specs.Spellings.{is_blank}
 use Rattle.pptext.specs.Sources.{tokens_of}
 use Rattle.pptext.specs.Grouping.{draft, drafts}
 use Rattle.pptext.specs.Finds.{CutsInto}
 use Rattle.pptext.proofs.Spans.{drafts_are, drafts-append, tokens_of-append}
-use Rattle.pptext.proofs.CutSteps.{cut_more, no_piece, line_after-append, RowsSoFar, rows_start, rows_more, rows_all}
+use Rattle.pptext.proofs.Directed.{pieces_are_directed}
+use Rattle.pptext.proofs.CutSteps.{cut_more, no_piece, line_after-append, LinesSoFar, lines_start, lines_more, lines_all}
 
 spelled-append : (ts : List Token) (t : Token) → spelled (ts ++ t ∷ []) ≡ spelled ts ++ t.text ∷ []
 spelled-append [] t = refl
 spelled-append (u ∷ ts) t = ap (λ z. u.text ∷ z) (spelled-append ts t)
 
 -- what the loop keeps
-pub record State (chars : List Char) (at start : ℕ) (space : Bool) (ts : List Token) (ls : List Line) : Type 0 where
+pub record State (profile : Profile) (chars : List Char) (at start : ℕ) (space : Bool) (ts : List Token) (ls : List Line) : Type 0 where
   pub within : at ≤ length chars
   pub started : start ≤ length ts
   pub few : length ls ≤ at
   pub pieces : List Piece
   pub cut : CutUpTo chars pieces (drop at chars)
-  pub rows : List Row
+  pub rows : List LogicalLine
   pub tokens : tokens_of rows ≡ take start ts
   pub lines : ls ≡ drafts 0 rows
-  pub sofar : RowsSoFar pieces rows space (drop start ts)
+  pub sofar : LinesSoFar profile pieces rows space (drop start ts)
   pub line : line_after [] pieces ≡ spelled (drop start ts)
 
-pub state_start : (chars : List Char) → State chars 0 0 true [] []
-state_start chars = record { within = omega arith; started = omega arith; few = omega arith; pieces = []; cut = no_piece chars; rows = []; tokens = refl; lines = refl; sofar = rows_start; line = refl }
+pub state_start : (profile : Profile) (chars : List Char) → State profile chars 0 0 true [] []
+state_start profile chars = record { within = omega arith; started = omega arith; few = omega arith; pieces = []; cut = no_piece chars; rows = []; tokens = refl; lines = refl; sofar = lines_start profile; line = refl }
 
 abbrev pub piece_at : List Char → ℕ → ℕ → Sort → Piece
 piece_at chars at n s = record { sort = s; chars = take n (drop at chars) }
 
 -- one more piece of any sort
-pub record Grown (chars : List Char) (at n : ℕ) (s : Sort) (space : Bool) (done : List Row) (open_tokens : List Token) (pieces : List Piece) : Type 0 where
+pub record Grown (profile : Profile) (chars : List Char) (at n : ℕ) (s : Sort) (space : Bool) (done : List LogicalLine) (open_tokens : List Token) (pieces : List Piece) : Type 0 where
   pub room : at + n ≤ length chars
   pub cut : CutUpTo chars (pieces ++ piece_at chars at n s ∷ []) (drop (at + n) chars)
-  pub sofar : RowsSoFar (pieces ++ piece_at chars at n s ∷ []) (done ++ rows_ended open_tokens (take n (drop at chars)) s) (leaves_space s) (tokens_after space open_tokens (take n (drop at chars)) s)
+  pub sofar : LinesSoFar profile (pieces ++ piece_at chars at n s ∷ []) (done ++ lines_ended profile open_tokens (take n (drop at chars)) s) (leaves_space s) (tokens_after space open_tokens (take n (drop at chars)) s)
   pub line : line_after [] (pieces ++ piece_at chars at n s ∷ []) ≡ with_piece (spelled open_tokens) (piece_at chars at n s) s
 
 pub head_of_drop : (chars : List Char) (at : ℕ) (d : Char) → at < length chars → (get_or chars at d).at ≡ head_place (drop at chars)
@@ -66,8 +69,8 @@ codes_from chars at = sym (drop-map (λ (c : Char). c.code) at chars)
 pub codes_length : (chars : List Char) → length (codes_of chars) ≡ length chars
 codes_length chars = length-map chars (λ (c : Char). c.code)
 
-module _ (chars : List Char) where
-  pub grown : (at start n : ℕ) (space : Bool) (ts : List Token) (ls : List Line) (s : Sort) (st : State chars at start space ts ls) → n ≤ length (drop at (codes_of chars)) → StandsAt (spelled (drop start ts)) (drop at (codes_of chars)) n s → Grown chars at n s space st.rows (drop start ts) st.pieces
+module _ (profile : Profile) (chars : List Char) where
+  pub grown : (at start n : ℕ) (space : Bool) (ts : List Token) (ls : List Line) (s : Sort) (st : State profile chars at start space ts ls) → n ≤ length (drop at (codes_of chars)) → StandsAt (spelled (drop start ts)) (drop at (codes_of chars)) n s → Grown profile chars at n s space st.rows (drop start ts) st.pieces
   grown at start n space ts ls s st fits here =
       let p = piece_at chars at n s in
       let l = codes_length chars in
@@ -79,57 +82,57 @@ module _ (chars : List Char) where
       record {
         room = omega (arith, st.within);
         cut = cut_more chars st.pieces p (drop (at + n) chars) (subst (CutUpTo chars st.pieces) (sym split) st.cut) standing;
-        sofar = rows_more st.pieces st.rows space (drop start ts) p st.sofar;
+        sofar = lines_more profile st.pieces st.rows space (drop start ts) p st.sofar;
         line = line_after-append [] st.pieces p ∙ ap (λ z. with_piece z p s) st.line;
       }
 
   -- one blank
-  skip_blank : (at start : ℕ) (space : Bool) (ts : List Token) (ls : List Line) → State chars at start space ts ls → at < length chars → IsTrue (is_blank (get_or (codes_of chars) at 0)) → State chars (at + 1) start true ts ls
+  skip_blank : (at start : ℕ) (space : Bool) (ts : List Token) (ls : List Line) → State profile chars at start space ts ls → at < length chars → IsTrue (is_blank (get_or (codes_of chars) at 0)) → State profile chars (at + 1) start true ts ls
   skip_blank at start space ts ls st lt here =
       let l = codes_length chars in
       let d = length-drop at (codes_of chars) in
       let begins : BeginsWith (drop at (codes_of chars)) (get_or (codes_of chars) at 0 ∷ []) = rw (drop_more (codes_of chars) at 0 (omega arith)) refl in
       let g = grown at start 1 space ts ls Blank st (omega arith) (refl, get_or (codes_of chars) at 0, begins, here) in
-      record { within = g.room; started = st.started; few = omega (arith, st.few); pieces = st.pieces ++ piece_at chars at 1 Blank ∷ []; cut = g.cut; rows = st.rows; tokens = st.tokens; lines = st.lines; sofar = subst (λ (z : List Row). RowsSoFar (st.pieces ++ piece_at chars at 1 Blank ∷ []) z true (drop start ts)) (append-nil st.rows) g.sofar; line = g.line }
+      record { within = g.room; started = st.started; few = omega (arith, st.few); pieces = st.pieces ++ piece_at chars at 1 Blank ∷ []; cut = g.cut; rows = st.rows; tokens = st.tokens; lines = st.lines; sofar = subst (λ (z : List LogicalLine). LinesSoFar profile (st.pieces ++ piece_at chars at 1 Blank ∷ []) z true (drop start ts)) (append-nil st.rows) g.sofar; line = g.line }
 
   -- blanks
-  pub skip_blanks : (n at start : ℕ) (space : Bool) (ts : List Token) (ls : List Line) → State chars at start space ts ls → 0 < n → at + n ≤ length chars → ((k : ℕ) → k < n → IsTrue (is_blank (get_or (codes_of chars) (at + k) 0))) → State chars (at + n) start true ts ls
+  pub skip_blanks : (n at start : ℕ) (space : Bool) (ts : List Token) (ls : List Line) → State profile chars at start space ts ls → 0 < n → at + n ≤ length chars → ((k : ℕ) → k < n → IsTrue (is_blank (get_or (codes_of chars) (at + k) 0))) → State profile chars (at + n) start true ts ls
   skip_blanks zero at start space ts ls st some fits blank = absurd (omega arith)
   skip_blanks (suc zero) at start space ts ls st some fits blank =
       skip_blank at start space ts ls st (omega arith) (rw add-zero at (blank 0 (omega arith)))
   skip_blanks (suc (suc n)) at start space ts ls st some fits blank =
       let one = skip_blank at start space ts ls st (omega arith) (rw add-zero at (blank 0 (omega arith))) in
-      subst (λ z. State chars z start true ts ls) (omega arith) (skip_blanks (suc n) (at + 1) start true ts ls one (omega arith) (omega arith) (λ k lt. subst (λ z. IsTrue (is_blank (get_or (codes_of chars) z 0))) (omega arith) (blank (k + 1) (omega arith))))
+      subst (λ z. State profile chars z start true ts ls) (omega arith) (skip_blanks (suc n) (at + 1) start true ts ls one (omega arith) (omega arith) (λ k lt. subst (λ z. IsTrue (is_blank (get_or (codes_of chars) z 0))) (omega arith) (blank (k + 1) (omega arith))))
 
   -- a comment
-  pub skip_comment : (at start n : ℕ) (space : Bool) (ts : List Token) (ls : List Line) → State chars at start space ts ls → n ≤ length (drop at (codes_of chars)) → StandsAt (spelled (drop start ts)) (drop at (codes_of chars)) n Comment → State chars (at + n) start true ts ls
+  pub skip_comment : (at start n : ℕ) (space : Bool) (ts : List Token) (ls : List Line) → State profile chars at start space ts ls → n ≤ length (drop at (codes_of chars)) → StandsAt (spelled (drop start ts)) (drop at (codes_of chars)) n Comment → State profile chars (at + n) start true ts ls
   skip_comment at start n space ts ls st fits here =
       let g = grown at start n space ts ls Comment st fits here in
-      record { within = g.room; started = st.started; few = omega (arith, st.few); pieces = st.pieces ++ piece_at chars at n Comment ∷ []; cut = g.cut; rows = st.rows; tokens = st.tokens; lines = st.lines; sofar = subst (λ (z : List Row). RowsSoFar (st.pieces ++ piece_at chars at n Comment ∷ []) z true (drop start ts)) (append-nil st.rows) g.sofar; line = g.line }
+      record { within = g.room; started = st.started; few = omega (arith, st.few); pieces = st.pieces ++ piece_at chars at n Comment ∷ []; cut = g.cut; rows = st.rows; tokens = st.tokens; lines = st.lines; sofar = subst (λ (z : List LogicalLine). LinesSoFar profile (st.pieces ++ piece_at chars at n Comment ∷ []) z true (drop start ts)) (append-nil st.rows) g.sofar; line = g.line }
 
   -- a new-line
-  pub end_line : (at start stop : ℕ) (space : Bool) (ts : List Token) (ls : List Line) (number : ℕ) → State chars at start space ts ls → stop ≡ length ts → number ≡ (head_place (take 1 (drop at chars))).line → 1 ≤ length (drop at (codes_of chars)) → StandsAt (spelled (drop start ts)) (drop at (codes_of chars)) 1 NewLine → State chars (at + 1) stop true ts (ls ++ draft start (drop start ts) number ∷ [])
+  pub end_line : (at start stop : ℕ) (space : Bool) (ts : List Token) (ls : List Line) (number : ℕ) → State profile chars at start space ts ls → stop ≡ length ts → number ≡ (head_place (take 1 (drop at chars))).line → 1 ≤ length (drop at (codes_of chars)) → StandsAt (spelled (drop start ts)) (drop at (codes_of chars)) 1 NewLine → State profile chars (at + 1) stop true ts (ls ++ draft start (line_of profile (drop start ts) number) ∷ [])
   end_line at start stop space ts ls number st stop_is number_is fits here =
       let g = grown at start 1 space ts ls NewLine st fits here in
-      let row : Row = record { tokens = drop start ts; number = number } in
+      let row : LogicalLine = line_of profile (drop start ts) number in
       let none : drop stop ts ≡ [] = drop_all stop ts (omega arith) in
       let before : 0 + length (tokens_of st.rows) ≡ start = omega (arith, ap length st.tokens, length-take-le start ts st.started) in
-      let done : st.rows ++ rows_ended (drop start ts) (take 1 (drop at chars)) NewLine ≡ st.rows ++ row ∷ [] = ap (λ (z : ℕ). st.rows ++ record { tokens = drop start ts; number = z } ∷ []) (sym number_is) in
+      let done : st.rows ++ lines_ended profile (drop start ts) (take 1 (drop at chars)) NewLine ≡ st.rows ++ row ∷ [] = ap (λ (z : ℕ). st.rows ++ line_of profile (drop start ts) z ∷ []) (sym number_is) in
       record {
         within = g.room;
         started = omega arith;
-        few = omega (arith, st.few, length_push ls (draft start (drop start ts) number));
+        few = omega (arith, st.few, length_push ls (draft start (line_of profile (drop start ts) number)));
         pieces = st.pieces ++ piece_at chars at 1 NewLine ∷ [];
         cut = g.cut;
         rows = st.rows ++ row ∷ [];
         tokens = tokens_of-append st.rows row ∙ ap (λ (z : List Token). z ++ drop start ts) st.tokens ∙ take-append-drop start ts ∙ sym (take_all stop ts (omega arith));
-        lines = ap (λ (z : List Line). z ++ draft start (drop start ts) number ∷ []) st.lines ∙ ap (λ (n : ℕ). drafts 0 st.rows ++ draft n (drop start ts) number ∷ []) (sym before) ∙ sym (drafts-append 0 st.rows row);
+        lines = ap (λ (z : List Line). z ++ draft start (line_of profile (drop start ts) number) ∷ []) st.lines ∙ ap (λ (n : ℕ). drafts 0 st.rows ++ draft n row ∷ []) (sym before) ∙ sym (drafts-append 0 st.rows row);
         sofar = rw (none, sym done) g.sofar;
         line = rw none g.line;
       }
 
   -- a token
-  pub add_token : (at start n : ℕ) (space : Bool) (ts : List Token) (ls : List Line) (k : Kind) (t : Token) → State chars at start space ts ls → t ≡ token_of k space (take n (drop at chars)) → n ≤ length (drop at (codes_of chars)) → StandsAt (spelled (drop start ts)) (drop at (codes_of chars)) n (Spelled k) → State chars (at + n) start false (ts ++ t ∷ []) ls
+  pub add_token : (at start n : ℕ) (space : Bool) (ts : List Token) (ls : List Line) (k : Kind) (t : Token) → State profile chars at start space ts ls → t ≡ token_of k space (take n (drop at chars)) → n ≤ length (drop at (codes_of chars)) → StandsAt (spelled (drop start ts)) (drop at (codes_of chars)) n (Spelled k) → State profile chars (at + n) start false (ts ++ t ∷ []) ls
   add_token at start n space ts ls k t st is fits here =
       let g = grown at start n space ts ls (Spelled k) st fits here in
       let wider : length (ts ++ t ∷ []) ≡ length ts + 1 = length_push ts t in
@@ -144,17 +147,18 @@ module _ (chars : List Char) where
         rows = st.rows;
         tokens = st.tokens ∙ sym (take-append-le start ts (t ∷ []) st.started);
         lines = st.lines;
-        sofar = subst (λ (z : List Token). RowsSoFar (st.pieces ++ piece_at chars at n (Spelled k) ∷ []) st.rows false z) (opened ∙ sym more) (subst (λ (z : List Row). RowsSoFar (st.pieces ++ piece_at chars at n (Spelled k) ∷ []) z false (tokens_after space (drop start ts) (take n (drop at chars)) (Spelled k))) (append-nil st.rows) g.sofar);
+        sofar = subst (λ (z : List Token). LinesSoFar profile (st.pieces ++ piece_at chars at n (Spelled k) ∷ []) st.rows false z) (opened ∙ sym more) (subst (λ (z : List LogicalLine). LinesSoFar profile (st.pieces ++ piece_at chars at n (Spelled k) ∷ []) z false (tokens_after space (drop start ts) (take n (drop at chars)) (Spelled k))) (append-nil st.rows) g.sofar);
         line = g.line ∙ ap (λ (z : List ℕ). spelled (drop start ts) ++ z ∷ []) (sym (ap (λ (u : Token). u.text) is)) ∙ sym (ap spelled more ∙ spelled-append (drop start ts) t);
       }
 
   -- the end, where the tokens behind the last new-line are dropped
-  pub cut_all : (at start : ℕ) (space : Bool) (ts : List Token) (ls : List Line) → State chars at start space ts ls → length (codes_of chars) ≤ at → CutsInto chars (take start ts) ls (Ok tt)
+  pub cut_all : (at start : ℕ) (space : Bool) (ts : List Token) (ls : List Line) → State profile chars at start space ts ls → length (codes_of chars) ≤ at → CutsInto profile chars (take start ts) ls (Ok tt)
   cut_all at start space ts ls st past =
       let l = codes_length chars in
       let none : drop at chars ≡ [] = drop_all at chars (omega arith) in
-      let are = drafts_are (take start ts) ls st.rows st.tokens st.lines in
-      (st.pieces, subst (CutUpTo chars st.pieces) none st.cut, rows_all st.pieces st.rows space (drop start ts) st.sofar ∙ sym are.0, are.1, omega (arith, st.few, st.within))
+      let all = lines_all profile st.pieces st.rows space (drop start ts) st.sofar in
+      let are = drafts_are (take start ts) ls st.rows st.tokens st.lines (profile, subst (AllByRecursion (IsDirected profile)) all (pieces_are_directed profile st.pieces)) in
+      (st.pieces, subst (CutUpTo chars st.pieces) none st.cut, all ∙ sym are.0, are.1, omega (arith, st.few, st.within))
 
-  pub never_closed : (at start : ℕ) (space : Bool) (ts : List Token) (ls : List Line) (p : Place) → State chars at start space ts ls → p ≡ head_place (drop at chars) → OpensBlock (drop at (codes_of chars)) × ClosesAt (drop at (codes_of chars)) None → Unclosed chars p
+  pub never_closed : (at start : ℕ) (space : Bool) (ts : List Token) (ls : List Line) (p : Place) → State profile chars at start space ts ls → p ≡ head_place (drop at chars) → OpensBlock (drop at (codes_of chars)) × ClosesAt (drop at (codes_of chars)) None → Unclosed chars p
   never_closed at start space ts ls p st is open_block = record { pieces = st.pieces; rest = drop at chars; cut = st.cut; opens = rw (codes_from chars at) open_block.0; never = rw (codes_from chars at) open_block.1; here = is }

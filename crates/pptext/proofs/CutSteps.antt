@@ -1,11 +1,12 @@
--- A cut grows by one piece; the lines_of of the pieces grow with it.
+-- A cut grows by one piece; the lines of the pieces grow with it.
 use Rattle.std.proofs.Common.{◌≡◌, ℕ, Bool, true, List, [], ◌∷◌, ◌++◌, length, refl, sym, ap, ◌∙◌, subst, append_assoc}
 use Rattle.std.proofs.lemmas.List.{append-nil}
 use Rattle.pptext.specs.declared.tokens.Token.{Token}
 use Rattle.pptext.specs.declared.characters.Char.{Char}
+use Rattle.pptext.specs.declared.sources.Profile.{Profile}
 use Rattle.pptext.specs.Clean.{codes_of}
 use Rattle.pptext.specs.Cut.{Piece, laid, line_after, with_piece, StandsAt, EachStands, CutUpTo}
-use Rattle.pptext.specs.Lines.{Row, rows_behind, rows_ended, leaves_space, tokens_after}
+use Rattle.pptext.specs.Lines.{LogicalLine, lines_behind, lines_ended, leaves_space, tokens_after}
 
 laid-append : (ps qs : List Piece) → laid (ps ++ qs) ≡ laid ps ++ laid qs
 laid-append [] qs = refl
@@ -34,19 +35,20 @@ pub line_after-append : (line : List (List ℕ)) (ps : List Piece) (p : Piece) �
 line_after-append line [] p = refl
 line_after-append line (q ∷ qs) p = line_after-append (with_piece line q q.sort) qs p
 
--- What the lines_of are, as far as the pieces go: whatever pieces follow give the rest.
-pub RowsSoFar : List Piece → List Row → Bool → List Token → Type 0
-RowsSoFar ps done space open_tokens = (more : List Piece) → rows_behind true [] (ps ++ more) ≡ done ++ rows_behind space open_tokens more
+-- What the lines are, as far as the pieces go: whatever pieces follow give the rest.
+pub LinesSoFar : Profile → List Piece → List LogicalLine → Bool → List Token → Type 0
+LinesSoFar profile ps done space open_tokens =
+    (more : List Piece) → lines_behind profile true [] (ps ++ more) ≡ done ++ lines_behind profile space open_tokens more
 
-pub rows_start : RowsSoFar [] [] true []
-unfolding RowsSoFar
-rows_start more = refl
+pub lines_start : (profile : Profile) → LinesSoFar profile [] [] true []
+unfolding LinesSoFar
+lines_start profile more = refl
 
-pub rows_more : (ps : List Piece) (done : List Row) (space : Bool) (ts : List Token) (p : Piece) → RowsSoFar ps done space ts → RowsSoFar (ps ++ p ∷ []) (done ++ rows_ended ts p.chars p.sort) (leaves_space p.sort) (tokens_after space ts p.chars p.sort)
-unfolding RowsSoFar
-rows_more ps done space ts p sofar more =
-    ap (rows_behind true []) (append_assoc ps (p ∷ []) more) ∙ sofar (p ∷ more) ∙ sym (append_assoc done (rows_ended ts p.chars p.sort) (rows_behind (leaves_space p.sort) (tokens_after space ts p.chars p.sort) more))
+pub lines_more : (profile : Profile) (ps : List Piece) (done : List LogicalLine) (space : Bool) (ts : List Token) (p : Piece) → LinesSoFar profile ps done space ts → LinesSoFar profile (ps ++ p ∷ []) (done ++ lines_ended profile ts p.chars p.sort) (leaves_space p.sort) (tokens_after space ts p.chars p.sort)
+unfolding LinesSoFar
+lines_more profile ps done space ts p sofar more =
+    ap (lines_behind profile true []) (append_assoc ps (p ∷ []) more) ∙ sofar (p ∷ more) ∙ sym (append_assoc done (lines_ended profile ts p.chars p.sort) (lines_behind profile (leaves_space p.sort) (tokens_after space ts p.chars p.sort) more))
 
-pub rows_all : (ps : List Piece) (done : List Row) (space : Bool) (ts : List Token) → RowsSoFar ps done space ts → rows_behind true [] ps ≡ done
-unfolding RowsSoFar
-rows_all ps done space ts sofar = ap (rows_behind true []) (sym (append-nil ps)) ∙ sofar [] ∙ append-nil done
+pub lines_all : (profile : Profile) (ps : List Piece) (done : List LogicalLine) (space : Bool) (ts : List Token) → LinesSoFar profile ps done space ts → lines_behind profile true [] ps ≡ done
+unfolding LinesSoFar
+lines_all profile ps done space ts sofar = ap (lines_behind profile true []) (sym (append-nil ps)) ∙ sofar [] ∙ append-nil done

@@ -11,10 +11,11 @@ use Rattle.pptext.specs.declared.sources.Directive.TheVariants.{Null}
 use Rattle.pptext.specs.declared.directives.Role.{Role}
 use Rattle.pptext.specs.declared.directives.Role.TheVariants.{Text as IsText, Control as IsControl, Opens, Elses, Closes}
 use Rattle.pptext.specs.declared.tokens.Kind.TheVariants.{Ident}
+use Rattle.pptext.specs.declared.sources.Profile.{Profile}
 use Rattle.pptext.specs.Clean.{place}
-use Rattle.pptext.specs.Lines.{Row, directive_of}
+use Rattle.pptext.specs.Lines.{LogicalLine, directive_of}
 use Rattle.pptext.specs.Tree.{role, role_by, Open, opened, fault_at, fault_at_end, fault_or, group_fault, sign_place, name_of}
-use Rattle.pptext.specs.Sources.{rows_of}
+use Rattle.pptext.specs.Sources.{lines_from}
 use Rattle.pptext.specs.Grouping.{AreLines, line_role, IsBranching, sections}
 use Rattle.pptext.specs.declared.grouping.faults.Section.{Section}
 use Rattle.pptext.proofs.Spans.{line_at, row_of}
@@ -22,24 +23,24 @@ use Rattle.pptext.proofs.Spans.{line_at, row_of}
 pub no_token : Token
 no_token = record { kind = Ident; text = []; space = false; at = place 0 0 0; used = place 0 0 0 }
 
-pub no_row : Row
-no_row = record { tokens = []; number = 0 }
+pub blank_line : LogicalLine
+blank_line = record { tokens = []; number = 0; directive = None }
 
 lone : (b : Bool) → IsBranching (role_by (if b then Some Null else None)) → ⊥
 lone true h = h
 lone false h = h
 
 -- a line of a directive's name has two tokens
-pub two_tokens : (ts : List Token) → IsBranching (role_by (directive_of ts)) → 2 ≤ length ts
-two_tokens [] h = absurd h
-two_tokens (a ∷ []) h = absurd (lone (bytes_eq a.text (codes "#") || bytes_eq a.text (codes "%:")) h)
-two_tokens (a ∷ b ∷ ts) h = omega arith
+pub two_tokens : (profile : Profile) (ts : List Token) → IsBranching (role_by (directive_of profile ts)) → 2 ≤ length ts
+two_tokens profile [] h = absurd h
+two_tokens profile (a ∷ []) h = absurd (lone (bytes_eq a.text (codes "#") || bytes_eq a.text (codes "%:")) h)
+two_tokens profile (a ∷ b ∷ ts) h = omega arith
 
 -- the open sections by their opening lines
-abbrev pub open_rows : List Row → List (ℕ × Bool) → List Open
-open_rows rs os = map (λ o. (get_or rs o.0 no_row, o.1)) os
+abbrev pub open_rows : List LogicalLine → List (ℕ × Bool) → List Open
+open_rows rs os = map (λ o. (get_or rs o.0 blank_line, o.1)) os
 
-opened_rows : (rs : List Row) (s : Role) (at : ℕ) (os : List (ℕ × Bool)) → opened s (get_or rs at no_row) (open_rows rs os) ≡ ((opened s at os).0, open_rows rs (opened s at os).1)
+opened_rows : (rs : List LogicalLine) (s : Role) (at : ℕ) (os : List (ℕ × Bool)) → opened s (get_or rs at blank_line) (open_rows rs os) ≡ ((opened s at os).0, open_rows rs (opened s at os).1)
 opened_rows rs Opens at os = refl
 opened_rows rs (Elses final) at [] = refl
 opened_rows rs (Elses final) at ((o, true) ∷ os) = refl
@@ -76,50 +77,50 @@ sections_more ss s = ap (map (λ (z : Section). (z.opening, z.last))) (reverse-a
 
 -- before the line at an index, with these sections open
 pub record FaultsSoFar (ts : List Token) (ls : List Line) (at : ℕ) (os : List (ℕ × Bool)) : Type 0 where
-  pub same : group_fault (open_rows (rows_of ts ls) os) (drop at (rows_of ts ls)) ≡ group_fault [] (rows_of ts ls)
+  pub same : group_fault (open_rows (lines_from ts ls) os) (drop at (lines_from ts ls)) ≡ group_fault [] (lines_from ts ls)
   pub opens : AllByRecursion (λ o. OpensAt ls o.0) os
 
 pub faults_start : (ts : List Token) (ls : List Line) → FaultsSoFar ts ls 0 []
 faults_start ts ls = record { same = refl; opens = tt }
 
 module _ (ts : List Token) (ls : List Line) (lines : AreLines ts ls) where
-  role_at : (at : ℕ) (d : Line) → at < length ls → role (get_or (rows_of ts ls) at no_row) ≡ line_role (get_or ls at d)
+  role_at : (at : ℕ) (d : Line) → at < length ls → role (get_or (lines_from ts ls) at blank_line) ≡ line_role (get_or ls at d)
   role_at at d l =
       let x = line_at ts ls at d lines l in
-      ap role (x.row no_row) ∙ ap role_by (sym x.directive)
+      ap role (x.row blank_line)
 
   -- what the line at an index does
-  step_at : (at : ℕ) (os : List (ℕ × Bool)) (d : Line) → at < length ls → FaultsSoFar ts ls at os → fault_or (get_or (rows_of ts ls) at no_row) (opened (line_role (get_or ls at d)) at os).0 (group_fault (open_rows (rows_of ts ls) (opened (line_role (get_or ls at d)) at os).1) (drop (at + 1) (rows_of ts ls))) ≡ group_fault [] (rows_of ts ls)
+  step_at : (at : ℕ) (os : List (ℕ × Bool)) (d : Line) → at < length ls → FaultsSoFar ts ls at os → fault_or (get_or (lines_from ts ls) at blank_line) (opened (line_role (get_or ls at d)) at os).0 (group_fault (open_rows (lines_from ts ls) (opened (line_role (get_or ls at d)) at os).1) (drop (at + 1) (lines_from ts ls))) ≡ group_fault [] (lines_from ts ls)
   step_at at os d l sofar =
-      let rs = rows_of ts ls in
-      let r = get_or rs at no_row in
+      let rs = lines_from ts ls in
+      let r = get_or rs at blank_line in
       let m : at < length rs = omega (arith, length-map ls (row_of ts)) in
       let step : opened (role r) r (open_rows rs os) ≡ ((opened (line_role (get_or ls at d)) at os).0, open_rows rs (opened (line_role (get_or ls at d)) at os).1) = ap (λ (z : Role). opened z r (open_rows rs os)) (role_at at d l) ∙ opened_rows rs (line_role (get_or ls at d)) at os in
-      sym (ap (λ (z : Option ℕ × List Open). fault_or r z.0 (group_fault z.1 (drop (at + 1) rs))) step) ∙ sym (at_drop_more (group_fault (open_rows rs os)) rs at no_row m) ∙ sofar.same
+      sym (ap (λ (z : Option ℕ × List Open). fault_or r z.0 (group_fault z.1 (drop (at + 1) rs))) step) ∙ sym (at_drop_more (group_fault (open_rows rs os)) rs at blank_line m) ∙ sofar.same
 
   pub faults_step : (at : ℕ) (os after : List (ℕ × Bool)) (d : Line) → at < length ls → FaultsSoFar ts ls at os → opened (line_role (get_or ls at d)) at os ≡ (None, after) → FaultsSoFar ts ls (at + 1) after
   faults_step at os after d l sofar e =
-      let rs = rows_of ts ls in
-      let r = get_or rs at no_row in
+      let rs = lines_from ts ls in
+      let r = get_or rs at blank_line in
       let here : line_role (get_or ls at d) ≡ Opens → OpensAt ls at = λ (o : line_role (get_or ls at d) ≡ Opens). record { within = l; opens = λ (f : Line). ap line_role (get_or_default ls at f d l) ∙ o } in
       record {
         same = sym (ap (λ (z : Option ℕ × List (ℕ × Bool)). fault_or r z.0 (group_fault (open_rows rs z.1) (drop (at + 1) rs))) e) ∙ step_at at os d l sofar;
         opens = subst (λ (z : Option ℕ × List (ℕ × Bool)). AllByRecursion (λ o. OpensAt ls o.0) z.1) e (opened_all (OpensAt ls) (line_role (get_or ls at d)) at os sofar.opens here);
       }
 
-  pub fault_here : (at n : ℕ) (os : List (ℕ × Bool)) (d : Line) → at < length ls → FaultsSoFar ts ls at os → (opened (line_role (get_or ls at d)) at os).0 ≡ Some n → Some (fault_at n (get_or (rows_of ts ls) at no_row)) ≡ group_fault [] (rows_of ts ls)
+  pub fault_here : (at n : ℕ) (os : List (ℕ × Bool)) (d : Line) → at < length ls → FaultsSoFar ts ls at os → (opened (line_role (get_or ls at d)) at os).0 ≡ Some n → Some (fault_at n (get_or (lines_from ts ls) at blank_line)) ≡ group_fault [] (lines_from ts ls)
   fault_here at n os d l sofar e =
-      let rs = rows_of ts ls in
-      sym (ap (λ (z : Option ℕ). fault_or (get_or rs at no_row) z (group_fault (open_rows rs (opened (line_role (get_or ls at d)) at os).1) (drop (at + 1) rs))) e) ∙ step_at at os d l sofar
+      let rs = lines_from ts ls in
+      sym (ap (λ (z : Option ℕ). fault_or (get_or rs at blank_line) z (group_fault (open_rows rs (opened (line_role (get_or ls at d)) at os).1) (drop (at + 1) rs))) e) ∙ step_at at os d l sofar
 
   pub branching_here : (at n : ℕ) (os : List (ℕ × Bool)) (d f : Line) → at < length ls → (opened (line_role (get_or ls at d)) at os).0 ≡ Some n → IsBranching (line_role (get_or ls at f))
   branching_here at n os d f l e =
       subst (λ (z : Line). IsBranching (line_role z)) (get_or_default ls at d f l) (faulty_branches (line_role (get_or ls at d)) at n os e)
 
   -- at the end
-  pub fault_at_last : (at : ℕ) (os : List (ℕ × Bool)) → length ls ≤ at → FaultsSoFar ts ls at os → fault_at_end (open_rows (rows_of ts ls) os) ≡ group_fault [] (rows_of ts ls)
+  pub fault_at_last : (at : ℕ) (os : List (ℕ × Bool)) → length ls ≤ at → FaultsSoFar ts ls at os → fault_at_end (open_rows (lines_from ts ls) os) ≡ group_fault [] (lines_from ts ls)
   fault_at_last at os l sofar =
-      let rs = rows_of ts ls in
+      let rs = lines_from ts ls in
       sym (at_drop_all (group_fault (open_rows rs os)) rs at (omega (arith, length-map ls (row_of ts)))) ∙ sofar.same
 
   pub opens_branching : (at : ℕ) → OpensAt ls at → (d : Line) → IsBranching (line_role (get_or ls at d))
@@ -130,21 +131,21 @@ module _ (ts : List Token) (ls : List Line) (lines : AreLines ts ls) where
   named_within at d l b =
       let x = get_or ls at d in
       let a = line_at ts ls at d lines l in
-      let two : 2 ≤ length (row_of ts x).tokens = two_tokens (row_of ts x).tokens (subst (λ (z : Option Directive). IsBranching (role_by z)) a.directive b) in
+      let two : 2 ≤ length (row_of ts x).tokens = two_tokens a.directed.0 (row_of ts x).tokens (subst (λ (z : Option Directive). IsBranching (role_by z)) a.directed.1 b) in
       omega (arith, a.begins, a.behind, a.tokens, two)
 
-  pub fault_is : (at number : ℕ) (d : Line) (e : Token) (r : Row) → at < length ls → IsBranching (line_role (get_or ls at d)) → record { number = number; at = (get_or ts (get_or ls at d).start e).at; text = (get_or ts ((get_or ls at d).start + 1) e).text } ≡ fault_at number (get_or (rows_of ts ls) at r)
+  pub fault_is : (at number : ℕ) (d : Line) (e : Token) (r : LogicalLine) → at < length ls → IsBranching (line_role (get_or ls at d)) → record { number = number; at = (get_or ts (get_or ls at d).start e).at; text = (get_or ts ((get_or ls at d).start + 1) e).text } ≡ fault_at number (get_or (lines_from ts ls) at r)
   fault_is at number d e r l branching =
       let x = get_or ls at d in
       let start = x.start in
       let more = x.end - start - 2 in
       let n = line_at ts ls at d lines l in
-      let two : 2 ≤ length (row_of ts x).tokens = two_tokens (row_of ts x).tokens (subst (λ (z : Option Directive). IsBranching (role_by z)) n.directive branching) in
+      let two : 2 ≤ length (row_of ts x).tokens = two_tokens n.directed.0 (row_of ts x).tokens (subst (λ (z : Option Directive). IsBranching (role_by z)) n.directed.1 branching) in
       let within : start + 1 < length ts = named_within at d l branching in
       let count : x.end - start ≡ suc (suc more) = omega (arith, n.tokens, two) in
       let rest : drop start ts ≡ get_or ts start e ∷ get_or ts (start + 1) e ∷ drop (start + 1 + 1) ts = drop_more ts start e (omega arith) ∙ ap (λ (z : List Token). get_or ts start e ∷ z) (drop_more ts (start + 1) e within) in
       let tokens : (row_of ts x).tokens ≡ get_or ts start e ∷ get_or ts (start + 1) e ∷ take more (drop (start + 1 + 1) ts) = ap (λ (z : ℕ). take z (drop start ts)) count ∙ ap (take (suc (suc more))) rest in
       sym (ap (fault_at number) (n.row r) ∙ ap (λ (z : List Token). record { number = number; at = sign_place z; text = name_of z }) tokens)
 
-  pub fault_last : (at : ℕ) (o : ℕ × Bool) (os : List (ℕ × Bool)) (f : Fault) → length ls ≤ at → FaultsSoFar ts ls at (o ∷ os) → f ≡ fault_at 5 (get_or (rows_of ts ls) o.0 no_row) → Some f ≡ group_fault [] (rows_of ts ls)
+  pub fault_last : (at : ℕ) (o : ℕ × Bool) (os : List (ℕ × Bool)) (f : Fault) → length ls ≤ at → FaultsSoFar ts ls at (o ∷ os) → f ≡ fault_at 5 (get_or (lines_from ts ls) o.0 blank_line) → Some f ≡ group_fault [] (lines_from ts ls)
   fault_last at o os f l sofar e = ap Some e ∙ fault_at_last at (o ∷ os) l sofar

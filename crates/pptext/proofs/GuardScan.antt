@@ -6,13 +6,13 @@ use Rattle.pptext.specs.declared.tokens.Token.{Token}
 use Rattle.pptext.specs.declared.sources.Line.{Line}
 use Rattle.pptext.specs.declared.directives.Role.{Role}
 use Rattle.pptext.specs.declared.directives.Role.TheVariants.{Text as IsText, Control as IsControl, Opens, Elses, Closes}
-use Rattle.pptext.specs.Lines.{Row}
-use Rattle.pptext.specs.Tree.{role, role_by, branch_behind, group_fault}
-use Rattle.pptext.specs.Sources.{next_branch, tokens_of, rows_of}
-use Rattle.pptext.specs.Guard.{IsBlankRow, GuardedBy, guard_name}
-use Rattle.pptext.specs.Grouping.{AreLines, line_role, ClosedAtOnce, FlatGuard}
+use Rattle.pptext.specs.Lines.{LogicalLine}
+use Rattle.pptext.specs.Tree.{role, branch_behind, group_fault}
+use Rattle.pptext.specs.Sources.{next_branch, tokens_of, lines_from}
+use Rattle.pptext.specs.Guard.{IsBlankLine, GuardedBy, guard_name}
+use Rattle.pptext.specs.Grouping.{AreDirected, AreLines, line_role, ClosedAtOnce, FlatGuard}
 use Rattle.pptext.proofs.Spans.{line_at, row_of, same_rows}
-use Rattle.pptext.proofs.Faults.{no_row}
+use Rattle.pptext.proofs.Faults.{blank_line}
 use Rattle.pptext.proofs.Guards.{blank_role, guarded_by_flat, flat_by_guarded}
 
 -- a next branch line is a later line
@@ -26,11 +26,11 @@ branch_within (suc depth) k (Elses final ∷ ss) j e = let w = branch_within (su
 branch_within depth k (IsText ∷ ss) j e = let w = branch_within depth (k + 1) ss j e in (omega (arith, w.0), omega (arith, w.1))
 branch_within depth k (IsControl ∷ ss) j e = let w = branch_within depth (k + 1) ss j e in (omega (arith, w.0), omega (arith, w.1))
 
-no_tokens : (rs : List Row) → AllByRecursion IsBlankRow rs → length (tokens_of rs) ≡ 0
+no_tokens : (rs : List LogicalLine) → AllByRecursion IsBlankLine rs → length (tokens_of rs) ≡ 0
 no_tokens [] all = refl
 no_tokens (r ∷ rs) all = omega (arith, length-append r.tokens (tokens_of rs), ap length all.0, no_tokens rs all.1)
 
-blank_if_none : (rs : List Row) → length (tokens_of rs) ≡ 0 → AllByRecursion IsBlankRow rs
+blank_if_none : (rs : List LogicalLine) → length (tokens_of rs) ≡ 0 → AllByRecursion IsBlankLine rs
 blank_if_none [] e = tt
 blank_if_none (r ∷ rs) e =
     let l = length-append r.tokens (tokens_of rs) in
@@ -52,32 +52,32 @@ if_some (Some x) P Q f p = f x p
 
 module _ (ts : List Token) (ls : List Line) (lines : AreLines ts ls) where
   role_is : (at : ℕ) (d : Line) → at < length ls → role (row_of ts (get_or ls at d)) ≡ line_role (get_or ls at d)
-  role_is at d l = ap role_by (sym (line_at ts ls at d lines l).directive)
+  role_is at d l = refl
 
-  rest_at : (at : ℕ) (d : Line) → at < length ls → drop at (rows_of ts ls) ≡ row_of ts (get_or ls at d) ∷ drop (at + 1) (rows_of ts ls)
+  rest_at : (at : ℕ) (d : Line) → at < length ls → drop at (lines_from ts ls) ≡ row_of ts (get_or ls at d) ∷ drop (at + 1) (lines_from ts ls)
   rest_at at d l =
-      drop_more (rows_of ts ls) at no_row (omega (arith, length-map ls (row_of ts))) ∙ ap (λ (z : Row). z ∷ drop (at + 1) (rows_of ts ls)) ((line_at ts ls at d lines l).row no_row)
+      drop_more (lines_from ts ls) at blank_line (omega (arith, length-map ls (row_of ts))) ∙ ap (λ (z : LogicalLine). z ∷ drop (at + 1) (lines_from ts ls)) ((line_at ts ls at d lines l).row blank_line)
 
-  next_is : (at : ℕ) (d : Line) → at < length ls → line_role (get_or ls at d) ≡ Opens → (get_or ls at d).next_branch ≡ branch_behind 0 (at + 1) (map role (drop (at + 1) (rows_of ts ls)))
+  next_is : (at : ℕ) (d : Line) → at < length ls → line_role (get_or ls at d) ≡ Opens → (get_or ls at d).next_branch ≡ branch_behind 0 (at + 1) (map role (drop (at + 1) (lines_from ts ls)))
   next_is at d l opens =
       let n : suc at ≡ at + 1 = omega arith in
-      (line_at ts ls at d lines l).next ∙ ap (λ (z : Role). next_branch at z (drop (suc at) (rows_of ts ls))) (role_is at d l ∙ opens) ∙ ap (λ (z : ℕ). branch_behind 0 (at + 1) (map role (drop z (rows_of ts ls)))) n
+      (line_at ts ls at d lines l).next ∙ ap (λ (z : Role). next_branch at z (drop (suc at) (lines_from ts ls))) (role_is at d l ∙ opens) ∙ ap (λ (z : ℕ). branch_behind 0 (at + 1) (map role (drop z (lines_from ts ls)))) n
 
   pub branch_in : (at last : ℕ) (d : Line) → at < length ls → line_role (get_or ls at d) ≡ Opens → (get_or ls at d).next_branch ≡ Some last → (at + 1 ≤ last) × (last < length ls)
   branch_in at last d l opens e =
-      let rs = rows_of ts ls in
+      let rs = lines_from ts ls in
       let w = branch_within 0 (at + 1) (map role (drop (at + 1) rs)) last (sym (next_is at d l opens) ∙ e) in
       (omega (arith, w.0), omega (arith, w.1, length-map (drop (at + 1) rs) role, length-drop (at + 1) rs, length-map ls (row_of ts)))
 
-  pub never_closed : (at : ℕ) (d : Line) → at < length ls → line_role (get_or ls at d) ≡ Opens → (get_or ls at d).next_branch ≡ None → ClosedAtOnce (at + 1) (drop (at + 1) (rows_of ts ls)) → ⊥
+  pub never_closed : (at : ℕ) (d : Line) → at < length ls → line_role (get_or ls at d) ≡ Opens → (get_or ls at d).next_branch ≡ None → ClosedAtOnce (at + 1) (drop (at + 1) (lines_from ts ls)) → ⊥
   never_closed at d l opens e closed =
       let next = closed.next in
       let same = next_is at d l opens in
       cc
 
-  pub closed_if : (at last : ℕ) (d f : Line) → at < length ls → line_role (get_or ls at d) ≡ Opens → (get_or ls at d).next_branch ≡ Some last → line_role (get_or ls last f) ≡ Closes → (get_or ls last f).end ≡ length ts → ClosedAtOnce (at + 1) (drop (at + 1) (rows_of ts ls))
+  pub closed_if : (at last : ℕ) (d f : Line) → at < length ls → line_role (get_or ls at d) ≡ Opens → (get_or ls at d).next_branch ≡ Some last → line_role (get_or ls last f) ≡ Closes → (get_or ls last f).end ≡ length ts → ClosedAtOnce (at + 1) (drop (at + 1) (lines_from ts ls))
   closed_if at last d f l opens e closes end =
-      let rs = rows_of ts ls in
+      let rs = lines_from ts ls in
       let w = branch_in at last d l opens e in
       let n : at + 1 + (last - (at + 1)) ≡ last = omega (arith, w.0) in
       let s : suc last ≡ last + 1 = omega arith in
@@ -92,9 +92,9 @@ module _ (ts : List Token) (ls : List Line) (lines : AreLines ts ls) where
         blank = blank_if_none (drop (last + 1) rs) (omega arith);
       }
 
-  pub closed_only_if : (at last : ℕ) (d f : Line) → at < length ls → line_role (get_or ls at d) ≡ Opens → (get_or ls at d).next_branch ≡ Some last → ClosedAtOnce (at + 1) (drop (at + 1) (rows_of ts ls)) → (line_role (get_or ls last f) ≡ Closes) × ((get_or ls last f).end ≡ length ts)
+  pub closed_only_if : (at last : ℕ) (d f : Line) → at < length ls → line_role (get_or ls at d) ≡ Opens → (get_or ls at d).next_branch ≡ Some last → ClosedAtOnce (at + 1) (drop (at + 1) (lines_from ts ls)) → (line_role (get_or ls last f) ≡ Closes) × ((get_or ls last f).end ≡ length ts)
   closed_only_if at last d f l opens e closed =
-      let rs = rows_of ts ls in
+      let rs = lines_from ts ls in
       let w = branch_in at last d l opens e in
       let next : Some (at + 1 + closed.skipped) ≡ Some last = sym closed.next ∙ sym (next_is at d l opens) ∙ e in
       let n : at + 1 + closed.skipped ≡ last = cc in
@@ -102,45 +102,45 @@ module _ (ts : List Token) (ls : List Line) (lines : AreLines ts ls) where
       let cons : closed.last ∷ closed.rest ≡ row_of ts (get_or ls last f) ∷ drop (last + 1) rs = sym closed.there ∙ drop-drop closed.skipped (at + 1) rs ∙ ap (λ (z : ℕ). drop z rs) n ∙ rest_at last f w.1 in
       let head : row_of ts (get_or ls last f) ≡ closed.last = cc in
       let tail : closed.rest ≡ drop (last + 1) rs = cc in
-      let none : length (tokens_of (drop (last + 1) rs)) ≡ 0 = ap (λ (z : List Row). length (tokens_of z)) (sym tail) ∙ no_tokens closed.rest closed.blank in
+      let none : length (tokens_of (drop (last + 1) rs)) ≡ 0 = ap (λ (z : List LogicalLine). length (tokens_of z)) (sym tail) ∙ no_tokens closed.rest closed.blank in
       let behind : (get_or ls last f).end + length (tokens_of (drop (last + 1) rs)) ≡ length ts = ap (λ (z : ℕ). (get_or ls last f).end + length (tokens_of (drop z rs))) (sym s) ∙ (line_at ts ls last f lines w.1).behind in
       (sym (role_is last f w.1) ∙ ap role head ∙ closed.closes, omega arith)
 
   -- at a line with tokens
-  pub flat_here : (at : ℕ) (d : Line) (x : List ℕ) → at < length ls → line_role (get_or ls at d) ≡ Opens → guard_name (row_of ts (get_or ls at d)).tokens ≡ Some x → ClosedAtOnce (at + 1) (drop (at + 1) (rows_of ts ls)) → FlatGuard at (drop at (rows_of ts ls)) x
+  pub flat_here : (at : ℕ) (d : Line) (x : List ℕ) → at < length ls → line_role (get_or ls at d) ≡ Opens → guard_name (row_of ts (get_or ls at d)).tokens ≡ Some x → ClosedAtOnce (at + 1) (drop (at + 1) (lines_from ts ls)) → FlatGuard at (drop at (lines_from ts ls)) x
   flat_here at d x l opens name closed =
-      subst (λ (z : List Row). FlatGuard at z x) (sym (rest_at at d l)) (inr (role_is at d l ∙ opens, name, closed))
+      subst (λ (z : List LogicalLine). FlatGuard at z x) (sym (rest_at at d l)) (inr (role_is at d l ∙ opens, name, closed))
 
-  pub only_here : (at : ℕ) (d : Line) (x : List ℕ) → at < length ls → (get_or ls at d).start < (get_or ls at d).end → FlatGuard at (drop at (rows_of ts ls)) x → (line_role (get_or ls at d) ≡ Opens) × (guard_name (row_of ts (get_or ls at d)).tokens ≡ Some x) × ClosedAtOnce (at + 1) (drop (at + 1) (rows_of ts ls))
-  only_here at d x l some flat = cases (subst (λ (z : List Row). FlatGuard at z x) (rest_at at d l) flat)
+  pub only_here : (at : ℕ) (d : Line) (x : List ℕ) → at < length ls → (get_or ls at d).start < (get_or ls at d).end → FlatGuard at (drop at (lines_from ts ls)) x → (line_role (get_or ls at d) ≡ Opens) × (guard_name (row_of ts (get_or ls at d)).tokens ≡ Some x) × ClosedAtOnce (at + 1) (drop (at + 1) (lines_from ts ls))
+  only_here at d x l some flat = cases (subst (λ (z : List LogicalLine). FlatGuard at z x) (rest_at at d l) flat)
     where
-      r : Row
+      r : LogicalLine
       r = row_of ts (get_or ls at d)
 
-      cases : FlatGuard at (row_of ts (get_or ls at d) ∷ drop (at + 1) (rows_of ts ls)) x → (line_role (get_or ls at d) ≡ Opens) × (guard_name (row_of ts (get_or ls at d)).tokens ≡ Some x) × ClosedAtOnce (at + 1) (drop (at + 1) (rows_of ts ls))
+      cases : FlatGuard at (row_of ts (get_or ls at d) ∷ drop (at + 1) (lines_from ts ls)) x → (line_role (get_or ls at d) ≡ Opens) × (guard_name (row_of ts (get_or ls at d)).tokens ≡ Some x) × ClosedAtOnce (at + 1) (drop (at + 1) (lines_from ts ls))
       cases (inl here) = absurd (omega (arith, ap length here.0, (line_at ts ls at d lines l).tokens, some))
       cases (inr here) = (sym (role_is at d l) ∙ here.0, here.1, here.2)
 
   -- past a line without tokens
-  pub flat_past : (at : ℕ) (d : Line) (x : List ℕ) → at < length ls → (get_or ls at d).end ≤ (get_or ls at d).start → FlatGuard at (drop at (rows_of ts ls)) x ↔ FlatGuard (at + 1) (drop (at + 1) (rows_of ts ls)) x
+  pub flat_past : (at : ℕ) (d : Line) (x : List ℕ) → at < length ls → (get_or ls at d).end ≤ (get_or ls at d).start → FlatGuard at (drop at (lines_from ts ls)) x ↔ FlatGuard (at + 1) (drop (at + 1) (lines_from ts ls)) x
   flat_past at d x l none =
-      (λ flat. cases (subst (λ (z : List Row). FlatGuard at z x) (rest_at at d l) flat), λ later. subst (λ (z : List Row). FlatGuard at z x) (sym (rest_at at d l)) (inl (blank, later)))
+      (λ flat. cases (subst (λ (z : List LogicalLine). FlatGuard at z x) (rest_at at d l) flat), λ later. subst (λ (z : List LogicalLine). FlatGuard at z x) (sym (rest_at at d l)) (inl (blank, later)))
     where
-      blank : IsBlankRow (row_of ts (get_or ls at d))
+      blank : IsBlankLine (row_of ts (get_or ls at d))
       blank = nil_from_length (row_of ts (get_or ls at d)).tokens (omega (arith, (line_at ts ls at d lines l).tokens, none))
 
-      cases : FlatGuard at (row_of ts (get_or ls at d) ∷ drop (at + 1) (rows_of ts ls)) x → FlatGuard (at + 1) (drop (at + 1) (rows_of ts ls)) x
+      cases : FlatGuard at (row_of ts (get_or ls at d) ∷ drop (at + 1) (lines_from ts ls)) x → FlatGuard (at + 1) (drop (at + 1) (lines_from ts ls)) x
       cases (inl here) = here.1
-      cases (inr here) = let opens = here.0 in let text = blank_role (row_of ts (get_or ls at d)) blank in absurd (cc)
+      cases (inr here) = let opens = here.0 in let a = (line_at ts ls at d lines l).directed in let text = blank_role a.0 (row_of ts (get_or ls at d)) a.1 blank in absurd (cc)
 
-  pub flat_never : (at : ℕ) (x : List ℕ) → length ls ≤ at → FlatGuard at (drop at (rows_of ts ls)) x → ⊥
-  flat_never at x l flat = subst (λ (z : List Row). FlatGuard at z x) (drop_all at (rows_of ts ls) (omega (arith, length-map ls (row_of ts)))) flat
+  pub flat_never : (at : ℕ) (x : List ℕ) → length ls ≤ at → FlatGuard at (drop at (lines_from ts ls)) x → ⊥
+  flat_never at x l flat = subst (λ (z : List LogicalLine). FlatGuard at z x) (drop_all at (lines_from ts ls) (omega (arith, length-map ls (row_of ts)))) flat
 
 -- of a file without fault the token that was found is the guard's name
-pub guard_found : (ts ts' : List Token) (ls ls' : List Line) (r : Option ℕ) → ts' ≡ ts → ls' ≡ ls → group_fault [] (rows_of ts ls) ≡ None → IfNone r ((x : List ℕ) → ¬ FlatGuard 0 (rows_of ts' ls') x) → IfSome r (λ i. (i < length ts') × ((d : Token) → FlatGuard 0 (rows_of ts' ls') (get_or ts' i d).text)) → MatchOption r ((x : List ℕ) → GuardedBy (rows_of ts ls) x → ⊥) (λ i. (i < length ts) × ((d : Token) → GuardedBy (rows_of ts ls) (get_or ts i d).text))
-guard_found ts ts' ls ls' None st sl e none some =
-    let same : rows_of ts ls ≡ rows_of ts' ls' = sym (same_rows ts ts' ls ls' st sl) in
-    λ x g. none x (subst (λ (z : List Row). FlatGuard 0 z x) same (flat_by_guarded (rows_of ts ls) x g))
-guard_found ts ts' ls ls' (Some i) st sl e none some =
-    let same : rows_of ts' ls' ≡ rows_of ts ls = same_rows ts ts' ls ls' st sl in
-    (subst (λ (z : List Token). i < length z) st some.0, λ d. guarded_by_flat (rows_of ts ls) (get_or ts i d).text e (subst (λ (z : List Token). FlatGuard 0 (rows_of ts ls) (get_or z i d).text) st (subst (λ (z : List Row). FlatGuard 0 z (get_or ts' i d).text) same (some.1 d))))
+pub guard_found : (ts ts' : List Token) (ls ls' : List Line) (r : Option ℕ) → ts' ≡ ts → ls' ≡ ls → AreDirected (lines_from ts ls) → group_fault [] (lines_from ts ls) ≡ None → IfNone r ((x : List ℕ) → ¬ FlatGuard 0 (lines_from ts' ls') x) → IfSome r (λ i. (i < length ts') × ((d : Token) → FlatGuard 0 (lines_from ts' ls') (get_or ts' i d).text)) → MatchOption r ((x : List ℕ) → GuardedBy (lines_from ts ls) x → ⊥) (λ i. (i < length ts) × ((d : Token) → GuardedBy (lines_from ts ls) (get_or ts i d).text))
+guard_found ts ts' ls ls' None st sl directed e none some =
+    let same : lines_from ts ls ≡ lines_from ts' ls' = sym (same_rows ts ts' ls ls' st sl) in
+    λ x g. none x (subst (λ (z : List LogicalLine). FlatGuard 0 z x) same (flat_by_guarded (lines_from ts ls) x g))
+guard_found ts ts' ls ls' (Some i) st sl directed e none some =
+    let same : lines_from ts' ls' ≡ lines_from ts ls = same_rows ts ts' ls ls' st sl in
+    (subst (λ (z : List Token). i < length z) st some.0, λ d. guarded_by_flat (lines_from ts ls) (get_or ts i d).text directed e (subst (λ (z : List Token). FlatGuard 0 (lines_from ts ls) (get_or z i d).text) st (subst (λ (z : List LogicalLine). FlatGuard 0 z (get_or ts' i d).text) same (some.1 d))))

@@ -3,71 +3,82 @@ use Rattle.std.proofs.Common.{◌≡◌, ℕ, suc, ◌+◌, Bool, false, List, [
 use Rattle.std.specs.List.{AllByRecursion}
 use Rattle.std.proofs.lemmas.List.{drop_at, length-append}
 use Rattle.pptext.specs.declared.tokens.Token.{Token}
+use Rattle.pptext.specs.declared.sources.Profile.{Profile}
 use Rattle.pptext.specs.declared.directives.Role.{Role}
 use Rattle.pptext.specs.declared.directives.Role.TheVariants.{Text as IsText, Control as IsControl, Opens, Elses, Closes}
-use Rattle.pptext.specs.Lines.{Row, directive_of}
+use Rattle.pptext.specs.Lines.{LogicalLine, directive_of, IsDirected}
 use Rattle.pptext.specs.Tree.{Parts, Done, Run, Control, Section, Branches, End, Branch, part_lines, branch_lines, AreParts, AreBranches, role, role_by, branch_behind, group_fault}
-use Rattle.pptext.specs.Guard.{IsBlankRow, AreBlank, guard_name, GuardedParts, GuardedBy}
-use Rattle.pptext.specs.Grouping.{ClosedAtOnce, FlatGuard}
+use Rattle.pptext.specs.Guard.{IsBlankLine, AreBlank, guard_name, GuardedParts, GuardedBy}
+use Rattle.pptext.specs.Grouping.{AreDirected, ClosedAtOnce, FlatGuard}
 use Rattle.pptext.proofs.Trees.{section_lines, branch_line, a_tree}
 
 -- the next branch line behind parts stands behind their lines
 
-one_role : (depth k : ℕ) (r : Row) (rs : List Row) (s : Role) → role r ≡ s → branch_behind depth k (map role (r ∷ rs)) ≡ branch_behind depth k (s ∷ map role rs)
+one_role : (depth k : ℕ) (r : LogicalLine) (rs : List LogicalLine) (s : Role) → role r ≡ s → branch_behind depth k (map role (r ∷ rs)) ≡ branch_behind depth k (s ∷ map role rs)
 one_role depth k r rs s e = ap (λ (z : Role). branch_behind depth k (z ∷ map role rs)) e
 
-text_roles : (rs : List Row) (depth k : ℕ) (rest : List Row) → AllByRecursion (λ r. role r ≡ IsText) rs → branch_behind depth k (map role (rs ++ rest)) ≡ branch_behind depth (k + length rs) (map role rest)
+text_roles : (rs : List LogicalLine) (depth k : ℕ) (rest : List LogicalLine) → AllByRecursion (λ r. role r ≡ IsText) rs → branch_behind depth k (map role (rs ++ rest)) ≡ branch_behind depth (k + length rs) (map role rest)
 text_roles [] depth k rest all = ap (λ (z : ℕ). branch_behind depth z (map role rest)) (omega arith)
 text_roles (r ∷ rs) depth k rest all =
     one_role depth k r (rs ++ rest) IsText all.0 ∙ text_roles rs depth (k + 1) rest all.1 ∙ ap (λ (z : ℕ). branch_behind depth z (map role rest)) (omega arith)
 
 mutual
-  pub behind_parts : (ps : Parts) (depth k : ℕ) (rest : List Row) → AreParts ps → branch_behind depth k (map role (part_lines ps ++ rest)) ≡ branch_behind depth (k + length (part_lines ps)) (map role rest)
+  pub behind_parts : (ps : Parts) (depth k : ℕ) (rest : List LogicalLine) → AreParts ps → branch_behind depth k (map role (part_lines ps ++ rest)) ≡ branch_behind depth (k + length (part_lines ps)) (map role rest)
   behind_parts Done depth k rest are = ap (λ (z : ℕ). branch_behind depth z (map role rest)) (omega arith)
   behind_parts (Run rs ps) depth k rest are =
-      ap (λ (z : List Row). branch_behind depth k (map role z)) (append_assoc rs (part_lines ps) rest) ∙ text_roles rs depth k (part_lines ps ++ rest) are.1 ∙ behind_parts ps depth (k + length rs) rest are.3 ∙ ap (λ (z : ℕ). branch_behind depth z (map role rest)) (omega (arith, length-append rs (part_lines ps)))
+      ap (λ (z : List LogicalLine). branch_behind depth k (map role z)) (append_assoc rs (part_lines ps) rest) ∙ text_roles rs depth k (part_lines ps ++ rest) are.1 ∙ behind_parts ps depth (k + length rs) rest are.3 ∙ ap (λ (z : ℕ). branch_behind depth z (map role rest)) (omega (arith, length-append rs (part_lines ps)))
   behind_parts (Control r ps) depth k rest are =
       one_role depth k r (part_lines ps ++ rest) IsControl are.0 ∙ behind_parts ps depth (k + 1) rest are.1 ∙ ap (λ (z : ℕ). branch_behind depth z (map role rest)) (omega arith)
   behind_parts (Section r ps bs qs) depth k rest are =
-      ap (λ (z : List Row). branch_behind depth k (map role z)) (section_lines r ps qs bs rest) ∙ one_role depth k r (part_lines ps ++ (branch_lines bs ++ (part_lines qs ++ rest))) Opens are.0 ∙ behind_parts ps (suc depth) (k + 1) (branch_lines bs ++ (part_lines qs ++ rest)) are.1 ∙ behind_branches bs false depth (k + 1 + length (part_lines ps)) (part_lines qs ++ rest) are.2 ∙ behind_parts qs depth (k + 1 + length (part_lines ps) + length (branch_lines bs)) rest are.3 ∙ ap (λ (z : ℕ). branch_behind depth z (map role rest)) (omega (arith, length-append (part_lines ps ++ branch_lines bs) (part_lines qs), length-append (part_lines ps) (branch_lines bs)))
+      ap (λ (z : List LogicalLine). branch_behind depth k (map role z)) (section_lines r ps qs bs rest) ∙ one_role depth k r (part_lines ps ++ (branch_lines bs ++ (part_lines qs ++ rest))) Opens are.0 ∙ behind_parts ps (suc depth) (k + 1) (branch_lines bs ++ (part_lines qs ++ rest)) are.1 ∙ behind_branches bs false depth (k + 1 + length (part_lines ps)) (part_lines qs ++ rest) are.2 ∙ behind_parts qs depth (k + 1 + length (part_lines ps) + length (branch_lines bs)) rest are.3 ∙ ap (λ (z : ℕ). branch_behind depth z (map role rest)) (omega (arith, length-append (part_lines ps ++ branch_lines bs) (part_lines qs), length-append (part_lines ps) (branch_lines bs)))
 
-  pub behind_branches : (bs : Branches) (last : Bool) (depth k : ℕ) (rest : List Row) → AreBranches last bs → branch_behind (suc depth) k (map role (branch_lines bs ++ rest)) ≡ branch_behind depth (k + length (branch_lines bs)) (map role rest)
+  pub behind_branches : (bs : Branches) (last : Bool) (depth k : ℕ) (rest : List LogicalLine) → AreBranches last bs → branch_behind (suc depth) k (map role (branch_lines bs ++ rest)) ≡ branch_behind depth (k + length (branch_lines bs)) (map role rest)
   behind_branches (End r) last depth k rest are = one_role (suc depth) k r rest Closes are
   behind_branches (Branch r ps bs) last depth k rest (first, final, is, parts, more) =
-      ap (λ (z : List Row). branch_behind (suc depth) k (map role z)) (branch_line r ps bs rest) ∙ one_role (suc depth) k r (part_lines ps ++ (branch_lines bs ++ rest)) (Elses final) is ∙ behind_parts ps (suc depth) (k + 1) (branch_lines bs ++ rest) parts ∙ behind_branches bs final depth (k + 1 + length (part_lines ps)) rest more ∙ ap (λ (z : ℕ). branch_behind depth z (map role rest)) (omega (arith, length-append (part_lines ps) (branch_lines bs)))
+      ap (λ (z : List LogicalLine). branch_behind (suc depth) k (map role z)) (branch_line r ps bs rest) ∙ one_role (suc depth) k r (part_lines ps ++ (branch_lines bs ++ rest)) (Elses final) is ∙ behind_parts ps (suc depth) (k + 1) (branch_lines bs ++ rest) parts ∙ behind_branches bs final depth (k + 1 + length (part_lines ps)) rest more ∙ ap (λ (z : ℕ). branch_behind depth z (map role rest)) (omega (arith, length-append (part_lines ps) (branch_lines bs)))
 
 -- lines without tokens
 
-pub blank_role : (r : Row) → IsBlankRow r → role r ≡ IsText
-blank_role r blank = ap (λ (z : List Token). role_by (directive_of z)) blank
+-- a line without tokens is text, since its directive is that of its tokens
+abbrev pub IsTextIfBlank : LogicalLine → Type 0
+IsTextIfBlank r = IsBlankLine r → role r ≡ IsText
 
-blank_lines : (ps : Parts) → AreBlank ps → AllByRecursion IsBlankRow (part_lines ps)
+pub blank_role : (profile : Profile) (r : LogicalLine) → IsDirected profile r → IsTextIfBlank r
+blank_role profile r directed blank = ap role_by directed ∙ ap (λ (z : List Token). role_by (directive_of profile z)) blank
+
+text_if_blank : (rs : List LogicalLine) → AreDirected rs → AllByRecursion IsTextIfBlank rs
+text_if_blank [] are = tt
+text_if_blank (r ∷ rs) (profile, all) = (blank_role profile r all.0, text_if_blank rs (profile, all.1))
+
+blank_lines : (ps : Parts) → AreBlank ps → AllByRecursion IsBlankLine (part_lines ps)
 blank_lines Done blank = tt
 blank_lines (Run rs ps) blank = both rs (part_lines ps) blank.0 (blank_lines ps blank.1)
   where
-    both : (rs qs : List Row) → AllByRecursion IsBlankRow rs → AllByRecursion IsBlankRow qs → AllByRecursion IsBlankRow (rs ++ qs)
+    both : (rs qs : List LogicalLine) → AllByRecursion IsBlankLine rs → AllByRecursion IsBlankLine qs → AllByRecursion IsBlankLine (rs ++ qs)
     both [] qs a b = b
     both (r ∷ rs) qs a b = (a.0, both rs qs a.1 b)
 blank_lines (Control r ps) blank = absurd blank
 blank_lines (Section r ps bs qs) blank = absurd blank
 
-parted : (rs qs : List Row) → AllByRecursion IsBlankRow (rs ++ qs) → AllByRecursion IsBlankRow rs × AllByRecursion IsBlankRow qs
-parted [] qs all = (tt, all)
-parted (r ∷ rs) qs all = let b = parted rs qs all.1 in ((all.0, b.0), b.1)
+parted : (P : LogicalLine → Type 0) (rs qs : List LogicalLine) → AllByRecursion P (rs ++ qs) → AllByRecursion P rs × AllByRecursion P qs
+parted P [] qs all = (tt, all)
+parted P (r ∷ rs) qs all = let b = parted P rs qs all.1 in ((all.0, b.0), b.1)
 
-blank_parts : (ps : Parts) → AreParts ps → AllByRecursion IsBlankRow (part_lines ps) → AreBlank ps
-blank_parts Done are all = tt
-blank_parts (Run rs ps) are all = let b = parted rs (part_lines ps) all in (b.0, blank_parts ps are.3 b.1)
-blank_parts (Control r ps) are all = let text = blank_role r all.0 in let control = are.0 in absurd (cc)
-blank_parts (Section r ps bs qs) are all = let text = blank_role r all.0 in let opens = are.0 in absurd (cc)
+blank_parts : (ps : Parts) → AreParts ps → AllByRecursion IsTextIfBlank (part_lines ps) → AllByRecursion IsBlankLine (part_lines ps) → AreBlank ps
+blank_parts Done are texts all = tt
+blank_parts (Run rs ps) are texts all =
+    let b = parted IsBlankLine rs (part_lines ps) all in
+    (b.0, blank_parts ps are.3 (parted IsTextIfBlank rs (part_lines ps) texts).1 b.1)
+blank_parts (Control r ps) are texts all = let text = texts.0 all.0 in let control = are.0 in absurd (cc)
+blank_parts (Section r ps bs qs) are texts all = let text = texts.0 all.0 in let opens = are.0 in absurd (cc)
 
 -- from the tree to the flat form
 
-blank_front : (rs rest : List Row) (k : ℕ) (x : List ℕ) → AllByRecursion IsBlankRow rs → ((j : ℕ) → FlatGuard j rest x) → FlatGuard k (rs ++ rest) x
+blank_front : (rs rest : List LogicalLine) (k : ℕ) (x : List ℕ) → AllByRecursion IsBlankLine rs → ((j : ℕ) → FlatGuard j rest x) → FlatGuard k (rs ++ rest) x
 blank_front [] rest k x all later = later k
 blank_front (r ∷ rs) rest k x all later = inl (all.0, blank_front rs rest (k + 1) x all.1 later)
 
-closed_section : (ps qs : Parts) (e : Row) (k : ℕ) → AreParts ps → role e ≡ Closes → AreBlank qs → ClosedAtOnce k (part_lines ps ++ (e ∷ part_lines qs))
+closed_section : (ps qs : Parts) (e : LogicalLine) (k : ℕ) → AreParts ps → role e ≡ Closes → AreBlank qs → ClosedAtOnce k (part_lines ps ++ (e ∷ part_lines qs))
 closed_section ps qs e k are closes blank = record {
   skipped = length (part_lines ps);
   last = e;
@@ -88,13 +99,13 @@ guarded_flat (Section r ps (Branch e ps' bs) qs) x k are g = absurd g
 
 -- from the flat form to the tree
 
-text_front : (rs rest : List Row) (k : ℕ) (x : List ℕ) → AllByRecursion (λ r. role r ≡ IsText) rs → FlatGuard k (rs ++ rest) x → AllByRecursion IsBlankRow rs × ((j : ℕ) × FlatGuard j rest x)
+text_front : (rs rest : List LogicalLine) (k : ℕ) (x : List ℕ) → AllByRecursion (λ r. role r ≡ IsText) rs → FlatGuard k (rs ++ rest) x → AllByRecursion IsBlankLine rs × ((j : ℕ) × FlatGuard j rest x)
 text_front [] rest k x all flat = (tt, (k, flat))
 text_front (r ∷ rs) rest k x all (inl here) = let later = text_front rs rest (k + 1) x all.1 here.1 in ((here.0, later.0), later.1)
 text_front (r ∷ rs) rest k x all (inr here) = let opens = here.0 in let text = all.0 in absurd (cc)
 
 -- the first line behind the parts of a section is its next branch line
-closed_first : (ps : Parts) (h : Row) (rest : List Row) (k : ℕ) → AreParts ps → ((j : ℕ) → branch_behind 0 j (map role (h ∷ rest)) ≡ Some j) → ClosedAtOnce k (part_lines ps ++ (h ∷ rest)) → (role h ≡ Closes) × AllByRecursion IsBlankRow rest
+closed_first : (ps : Parts) (h : LogicalLine) (rest : List LogicalLine) (k : ℕ) → AreParts ps → ((j : ℕ) → branch_behind 0 j (map role (h ∷ rest)) ≡ Some j) → ClosedAtOnce k (part_lines ps ++ (h ∷ rest)) → (role h ≡ Closes) × AllByRecursion IsBlankLine rest
 closed_first ps h rest k are here closed =
     let n = length (part_lines ps) in
     let next : Some (k + n) ≡ Some (k + closed.skipped) = sym (behind_parts ps 0 k (h ∷ rest) are ∙ here (k + n)) ∙ closed.next in
@@ -103,34 +114,34 @@ closed_first ps h rest k are here closed =
     let cons : h ∷ rest ≡ closed.last ∷ closed.rest = sym (drop_at (part_lines ps) (h ∷ rest) closed.skipped skipped) ∙ closed.there in
     let head : h ≡ closed.last = cc in
     let tail : closed.rest ≡ rest = cc in
-    (ap role head ∙ closed.closes, subst (AllByRecursion IsBlankRow) tail closed.blank)
+    (ap role head ∙ closed.closes, subst (AllByRecursion IsBlankLine) tail closed.blank)
 
-flat_section : (r : Row) (ps qs : Parts) (bs : Branches) (x : List ℕ) (k : ℕ) → AreParts (Section r ps bs qs) → guard_name r.tokens ≡ Some x → ClosedAtOnce k (part_lines ps ++ branch_lines bs ++ part_lines qs) → GuardedParts (Section r ps bs qs) x
-flat_section r ps qs (End e) x k are name closed =
+flat_section : (r : LogicalLine) (ps qs : Parts) (bs : Branches) (x : List ℕ) (k : ℕ) → AreParts (Section r ps bs qs) → AllByRecursion IsTextIfBlank (part_lines (Section r ps bs qs)) → guard_name r.tokens ≡ Some x → ClosedAtOnce k (part_lines ps ++ branch_lines bs ++ part_lines qs) → GuardedParts (Section r ps bs qs) x
+flat_section r ps qs (End e) x k are texts name closed =
     let first = closed_first ps e (part_lines qs) k are.1 (λ j. one_role 0 j e (part_lines qs) Closes are.2) (subst (ClosedAtOnce k) (append_assoc (part_lines ps) (e ∷ []) (part_lines qs)) closed) in
-    (name, blank_parts qs are.3 first.1)
-flat_section r ps qs (Branch e ps' bs) x k (opens, parts, (before, final, is, inner, more), others) name closed =
+    (name, blank_parts qs are.3 (parted IsTextIfBlank (part_lines ps ++ (e ∷ [])) (part_lines qs) texts.1).1 first.1)
+flat_section r ps qs (Branch e ps' bs) x k (opens, parts, (before, final, is, inner, more), others) texts name closed =
     let rest = part_lines ps' ++ branch_lines bs ++ part_lines qs in
     let first = closed_first ps e rest k parts (λ j. one_role 0 j e rest (Elses final) is) (subst (ClosedAtOnce k) (append_assoc (part_lines ps) (branch_lines (Branch e ps' bs)) (part_lines qs)) closed) in
     let closes : role e ≡ Closes = first.0 in
     absurd (cc)
 
-flat_guarded : (ps : Parts) (x : List ℕ) (k : ℕ) → AreParts ps → FlatGuard k (part_lines ps) x → GuardedParts ps x
-flat_guarded Done x k are flat = absurd flat
-flat_guarded (Run rs ps) x k are flat =
+flat_guarded : (ps : Parts) (x : List ℕ) (k : ℕ) → AreParts ps → AllByRecursion IsTextIfBlank (part_lines ps) → FlatGuard k (part_lines ps) x → GuardedParts ps x
+flat_guarded Done x k are texts flat = absurd flat
+flat_guarded (Run rs ps) x k are texts flat =
     let f = text_front rs (part_lines ps) k x are.1 flat in
-    (f.0, flat_guarded ps x f.1.0 are.3 f.1.1)
-flat_guarded (Control r ps) x k are (inl here) = let text = blank_role r here.0 in let control = are.0 in absurd (cc)
-flat_guarded (Control r ps) x k are (inr here) = let opens = here.0 in let control = are.0 in absurd (cc)
-flat_guarded (Section r ps bs qs) x k are (inl here) = let text = blank_role r here.0 in let opens = are.0 in absurd (cc)
-flat_guarded (Section r ps bs qs) x k are (inr here) = flat_section r ps qs bs x (k + 1) are here.1 here.2
+    (f.0, flat_guarded ps x f.1.0 are.3 (parted IsTextIfBlank rs (part_lines ps) texts).1 f.1.1)
+flat_guarded (Control r ps) x k are texts (inl here) = let text = texts.0 here.0 in let control = are.0 in absurd (cc)
+flat_guarded (Control r ps) x k are texts (inr here) = let opens = here.0 in let control = are.0 in absurd (cc)
+flat_guarded (Section r ps bs qs) x k are texts (inl here) = let text = texts.0 here.0 in let opens = are.0 in absurd (cc)
+flat_guarded (Section r ps bs qs) x k are texts (inr here) = flat_section r ps qs bs x (k + 1) are texts here.1 here.2
 
 -- of a file without fault the flat form is the guard
-pub guarded_by_flat : (lines : List Row) (x : List ℕ) → group_fault [] lines ≡ None → FlatGuard 0 lines x → GuardedBy lines x
-guarded_by_flat lines x e flat =
+pub guarded_by_flat : (lines : List LogicalLine) (x : List ℕ) → AreDirected lines → group_fault [] lines ≡ None → FlatGuard 0 lines x → GuardedBy lines x
+guarded_by_flat lines x directed e flat =
     let t = a_tree lines e in
-    (t.0, t.1, flat_guarded t.0 x 0 t.1.each (subst (λ (z : List Row). FlatGuard 0 z x) (sym t.1.whole) flat))
+    (t.0, t.1, flat_guarded t.0 x 0 t.1.each (subst (AllByRecursion IsTextIfBlank) (sym t.1.whole) (text_if_blank lines directed)) (subst (λ (z : List LogicalLine). FlatGuard 0 z x) (sym t.1.whole) flat))
 
-pub flat_by_guarded : (lines : List Row) (x : List ℕ) → GuardedBy lines x → FlatGuard 0 lines x
+pub flat_by_guarded : (lines : List LogicalLine) (x : List ℕ) → GuardedBy lines x → FlatGuard 0 lines x
 flat_by_guarded lines x (parts, tree, guarded) =
-    subst (λ (z : List Row). FlatGuard 0 z x) tree.whole (guarded_flat parts x 0 tree.each guarded)
+    subst (λ (z : List LogicalLine). FlatGuard 0 z x) tree.whole (guarded_flat parts x 0 tree.each guarded)

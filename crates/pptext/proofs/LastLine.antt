@@ -7,10 +7,11 @@ use Rattle.std.proofs.lemmas.List.{append-nil, length-map, map-append, take_all,
 use Rattle.pptext.specs.declared.tokens.Place.{Place}
 use Rattle.pptext.specs.declared.tokens.Token.{Token}
 use Rattle.pptext.specs.declared.characters.Char.{Char}
+use Rattle.pptext.specs.declared.sources.Profile.{Profile}
 use Rattle.pptext.specs.Clean.{codes_of, newline, next_col, terminated, line_ends, trigraph, trigraph_at, trigraphs_behind, trigraphs, splice_at, splices_behind, splices, splice_at_end, unless_at, cleaned}
 use Rattle.pptext.specs.Spellings.{is_blank, IsHeader, Spells}
 use Rattle.pptext.specs.Cut.{Piece, Sort, NewLine, Blank, Comment, Spelled, StandsAt, CommentAt, EachStands, Cut, laid, with_piece, BeginsWith}
-use Rattle.pptext.specs.Lines.{lines_of, rows_behind, rows_ended, leaves_space, tokens_after, token_of}
+use Rattle.pptext.specs.Lines.{lines_of, lines_behind, lines_ended, leaves_space, tokens_after, token_of}
 use Rattle.pptext.specs.Sources.{tokens_of}
 use Rattle.pptext.specs.Tokens.{spelled}
 use Rattle.pptext.specs.Laws.{spelling_of, spellings_of}
@@ -175,27 +176,27 @@ spelled-append : (a b : List Token) → spelled (a ++ b) ≡ spelled a ++ spelle
 spelled-append [] b = refl
 spelled-append (t ∷ a) b = ap (λ z. t.text ∷ z) (spelled-append a b)
 
-kept_one : (space : Bool) (ts : List Token) (chars : List Char) (s : Sort) → s ≡ NewLine → spelled (tokens_of (rows_ended ts chars s ++ rows_behind (leaves_space s) (tokens_after space ts chars s) [])) ≡ spelled ts ++ (spelling_of chars s ++ [])
-kept_one space ts chars NewLine e = ap spelled (append-nil ts) ∙ sym (append-nil (spelled ts))
-kept_one space ts chars Blank e = cc
-kept_one space ts chars Comment e = cc
-kept_one space ts chars (Spelled k) e = cc
+kept_one : (profile : Profile) (space : Bool) (ts : List Token) (chars : List Char) (s : Sort) → s ≡ NewLine → spelled (tokens_of (lines_ended profile ts chars s ++ lines_behind profile (leaves_space s) (tokens_after space ts chars s) [])) ≡ spelled ts ++ (spelling_of chars s ++ [])
+kept_one profile space ts chars NewLine e = ap spelled (append-nil ts) ∙ sym (append-nil (spelled ts))
+kept_one profile space ts chars Blank e = cc
+kept_one profile space ts chars Comment e = cc
+kept_one profile space ts chars (Spelled k) e = cc
 
-kept_more : (space : Bool) (ts : List Token) (chars : List Char) (s : Sort) (ps : List Piece) → ((after : Bool) (us : List Token) → spelled (tokens_of (rows_behind after us ps)) ≡ spelled us ++ spellings_of ps) → spelled (tokens_of (rows_ended ts chars s ++ rows_behind (leaves_space s) (tokens_after space ts chars s) ps)) ≡ spelled ts ++ (spelling_of chars s ++ spellings_of ps)
-kept_more space ts chars NewLine ps later = spelled-append ts (tokens_of (rows_behind true [] ps)) ∙ ap (λ z. spelled ts ++ z) (later true [])
-kept_more space ts chars Blank ps later = later true ts
-kept_more space ts chars Comment ps later = later true ts
-kept_more space ts chars (Spelled k) ps later =
+kept_more : (profile : Profile) (space : Bool) (ts : List Token) (chars : List Char) (s : Sort) (ps : List Piece) → ((after : Bool) (us : List Token) → spelled (tokens_of (lines_behind profile after us ps)) ≡ spelled us ++ spellings_of ps) → spelled (tokens_of (lines_ended profile ts chars s ++ lines_behind profile (leaves_space s) (tokens_after space ts chars s) ps)) ≡ spelled ts ++ (spelling_of chars s ++ spellings_of ps)
+kept_more profile space ts chars NewLine ps later = spelled-append ts (tokens_of (lines_behind profile true [] ps)) ∙ ap (λ z. spelled ts ++ z) (later true [])
+kept_more profile space ts chars Blank ps later = later true ts
+kept_more profile space ts chars Comment ps later = later true ts
+kept_more profile space ts chars (Spelled k) ps later =
     later false (ts ++ token_of k space chars ∷ []) ∙ ap (λ z. z ++ spellings_of ps) (spelled-append ts (token_of k space chars ∷ [])) ∙ append_assoc (spelled ts) (codes_of chars ∷ []) (spellings_of ps)
 
-kept : (space : Bool) (ts : List Token) (ps : List Piece) → EndsLine ps → spelled (tokens_of (rows_behind space ts ps)) ≡ spelled ts ++ spellings_of ps
-kept space ts [] e = absurd e
-kept space ts (p ∷ []) e = kept_one space ts p.chars p.sort e
-kept space ts (p ∷ q ∷ ps) e = kept_more space ts p.chars p.sort (q ∷ ps) (λ after us. kept after us (q ∷ ps) e)
+kept : (profile : Profile) (space : Bool) (ts : List Token) (ps : List Piece) → EndsLine ps → spelled (tokens_of (lines_behind profile space ts ps)) ≡ spelled ts ++ spellings_of ps
+kept profile space ts [] e = absurd e
+kept profile space ts (p ∷ []) e = kept_one profile space ts p.chars p.sort e
+kept profile space ts (p ∷ q ∷ ps) e = kept_more profile space ts p.chars p.sort (q ∷ ps) (λ after us. kept profile after us (q ∷ ps) e)
 
-pub keeps_every_token : (file : ℕ) (bytes : List ℕ) (chars : List Char) (pieces : List Piece) → cleaned file bytes ≡ Ok chars → Cut chars pieces → spelled (tokens_of (lines_of pieces)) ≡ spellings_of pieces
-keeps_every_token file bytes chars [] clean cut = refl
-keeps_every_token file bytes chars (p ∷ ps) clean cut = cases (cleaned_end file bytes chars clean)
+pub keeps_every_token : (profile : Profile) (file : ℕ) (bytes : List ℕ) (chars : List Char) (pieces : List Piece) → cleaned file bytes ≡ Ok chars → Cut chars pieces → spelled (tokens_of (lines_of profile pieces)) ≡ spellings_of pieces
+keeps_every_token profile file bytes chars [] clean cut = refl
+keeps_every_token profile file bytes chars (p ∷ ps) clean cut = cases (cleaned_end file bytes chars clean)
   where
     some : 0 < length (laid (p ∷ ps))
     some =
@@ -206,6 +207,6 @@ keeps_every_token file bytes chars (p ∷ ps) clean cut = cases (cleaned_end fil
     same : laid (p ∷ ps) ≡ chars
     same = sym (append-nil (laid (p ∷ ps))) ∙ cut.whole
 
-    cases : Ended chars → spelled (tokens_of (lines_of (p ∷ ps))) ≡ spellings_of (p ∷ ps)
+    cases : Ended chars → spelled (tokens_of (lines_of profile (p ∷ ps))) ≡ spellings_of (p ∷ ps)
     cases (inl e) = let none = ap length (same ∙ e) in absurd (omega (arith, some))
-    cases (inr e) = kept true [] (p ∷ ps) (pieces_end [] (p ∷ ps) cut.each (ap (λ (z : List Char). last (codes_of z)) same ∙ e))
+    cases (inr e) = kept profile true [] (p ∷ ps) (pieces_end [] (p ∷ ps) cut.each (ap (λ (z : List Char). last (codes_of z)) same ∙ e))

@@ -1,27 +1,29 @@
 -- Lines as spans of tokens: each span at its index, and the lines that the spans cut the tokens into.
-use Rattle.std.proofs.Common.{◌≡◌, ℕ, zero, suc, ◌+◌, ◌-◌, ◌<◌, ◌≤◌, List, [], ◌∷◌, ◌++◌, length, take, drop, get_or, refl, sym, ap, ◌∙◌, arith, add-zero, zero-add, append_assoc, None}
+use Rattle.std.proofs.Common.{◌≡◌, ℕ, zero, suc, ◌+◌, ◌-◌, ◌<◌, ◌≤◌, List, [], ◌∷◌, ◌++◌, length, take, drop, get_or, refl, sym, ap, ◌∙◌, arith, add-zero, zero-add, append_assoc, subst, None}
+use Rattle.std.specs.List.{AllByRecursion}
 use Rattle.std.proofs.lemmas.List.{append-nil, length-append, length-map}
 use Rattle.std.proofs.Math.Seq.{drop-append_seam, take-append_seam}
 use Rattle.pptext.specs.declared.tokens.Token.{Token}
 use Rattle.pptext.specs.declared.sources.Line.{Line}
-use Rattle.pptext.specs.Lines.{Row, directive_of}
+use Rattle.pptext.specs.declared.sources.Profile.{Profile}
+use Rattle.pptext.specs.Lines.{LogicalLine, IsDirected}
 use Rattle.pptext.specs.Tree.{role}
-use Rattle.pptext.specs.Sources.{next_branch, spans, tokens_of, rows_of}
-use Rattle.pptext.specs.Grouping.{draft, drafts, AreDrafts, AreLines}
+use Rattle.pptext.specs.Sources.{next_branch, spans, tokens_of, lines_from}
+use Rattle.pptext.specs.Grouping.{draft, drafts, AreDirected, AreDrafts, AreLines}
 
 abbrev pub no_line : Line
 no_line = record { start = 0; end = 0; number = 0; directive = None; next_branch = None }
 
 -- the span of a line at place k from token start on, before these lines
-abbrev pub span : ℕ → ℕ → Row → List Row → Line
+abbrev pub span : ℕ → ℕ → LogicalLine → List LogicalLine → Line
 span k start r rest =
-    record { start = start; end = start + length r.tokens; number = r.number; directive = directive_of r.tokens; next_branch = next_branch k (role r) rest }
+    record { start = start; end = start + length r.tokens; number = r.number; directive = r.directive; next_branch = next_branch k (role r) rest }
 
 -- the line of a span
-abbrev pub row_of : List Token → Line → Row
-row_of ts l = record { tokens = take (l.end - l.start) (drop l.start ts); number = l.number }
+abbrev pub row_of : List Token → Line → LogicalLine
+row_of ts l = record { tokens = take (l.end - l.start) (drop l.start ts); number = l.number; directive = l.directive }
 
-pub span_at : (k start : ℕ) (rs : List Row) (i : ℕ) (d : Line) (r : Row) → i < length rs → get_or (spans k start rs) i d ≡ span (k + i) (start + length (tokens_of (take i rs))) (get_or rs i r) (drop (suc i) rs)
+pub span_at : (k start : ℕ) (rs : List LogicalLine) (i : ℕ) (d : Line) (r : LogicalLine) → i < length rs → get_or (spans k start rs) i d ≡ span (k + i) (start + length (tokens_of (take i rs))) (get_or rs i r) (drop (suc i) rs)
 span_at k start [] i d r l = absurd (omega arith)
 span_at k start (r ∷ rs) zero d e l =
     ap (λ (z : ℕ). span z start r rs) (sym (add-zero k)) ∙ ap (λ (z : ℕ). span (k + 0) z r rs) (sym (add-zero start))
@@ -31,74 +33,79 @@ span_at k start (r ∷ rs) (suc i) d e l =
     span_at (k + 1) (start + length r.tokens) rs i d e (omega arith) ∙ ap (λ (z : ℕ). span z (start + length r.tokens + length (tokens_of (take i rs))) (get_or rs i e) (drop (suc i) rs)) n ∙ ap (λ (z : ℕ). span (k + suc i) z (get_or rs i e) (drop (suc i) rs)) m
 
 -- the tokens before, on and behind a line
-pub tokens_parted : (rs : List Row) (i : ℕ) (r : Row) → i < length rs → length (tokens_of (take i rs)) + length (get_or rs i r).tokens + length (tokens_of (drop (suc i) rs)) ≡ length (tokens_of rs)
+pub tokens_parted : (rs : List LogicalLine) (i : ℕ) (r : LogicalLine) → i < length rs → length (tokens_of (take i rs)) + length (get_or rs i r).tokens + length (tokens_of (drop (suc i) rs)) ≡ length (tokens_of rs)
 tokens_parted [] i r l = absurd (omega arith)
 tokens_parted (r ∷ rs) zero e l = omega (arith, length-append r.tokens (tokens_of rs))
 tokens_parted (r ∷ rs) (suc i) e l =
     omega (arith, length-append r.tokens (tokens_of rs), length-append r.tokens (tokens_of (take i rs)), tokens_parted rs i e (omega arith))
 
+pub each_directed : (profile : Profile) (rs : List LogicalLine) (i : ℕ) (r : LogicalLine) → AllByRecursion (IsDirected profile) rs → i < length rs → IsDirected profile (get_or rs i r)
+each_directed profile [] i r all l = absurd (omega arith)
+each_directed profile (q ∷ rs) zero r all l = all.0
+each_directed profile (q ∷ rs) (suc i) r all l = each_directed profile rs i r all.1 (omega arith)
+
 -- what is known of the line at an index
 pub record LineAt (ts : List Token) (ls : List Line) (i : ℕ) (l : Line) : Type 0 where
   pub begins : l.start ≤ l.end
-  pub behind : l.end + length (tokens_of (drop (suc i) (rows_of ts ls))) ≡ length ts
-  pub row : (r : Row) → get_or (rows_of ts ls) i r ≡ row_of ts l
-  pub directive : l.directive ≡ directive_of (row_of ts l).tokens
-  pub next : l.next_branch ≡ next_branch i (role (row_of ts l)) (drop (suc i) (rows_of ts ls))
+  pub behind : l.end + length (tokens_of (drop (suc i) (lines_from ts ls))) ≡ length ts
+  pub row : (r : LogicalLine) → get_or (lines_from ts ls) i r ≡ row_of ts l
+  pub directed : (profile : Profile) × IsDirected profile (row_of ts l)
+  pub next : l.next_branch ≡ next_branch i (role (row_of ts l)) (drop (suc i) (lines_from ts ls))
   pub tokens : length (row_of ts l).tokens ≡ l.end - l.start
 
-rows_at : (ts : List Token) (ls : List Line) (i : ℕ) (d : Line) (r : Row) → i < length ls → get_or (rows_of ts ls) i r ≡ row_of ts (get_or ls i d)
+rows_at : (ts : List Token) (ls : List Line) (i : ℕ) (d : Line) (r : LogicalLine) → i < length ls → get_or (lines_from ts ls) i r ≡ row_of ts (get_or ls i d)
 rows_at ts [] i d r l = absurd (omega arith)
 rows_at ts (x ∷ ls) zero d r l = refl
 rows_at ts (x ∷ ls) (suc i) d r l = rows_at ts ls i d r (omega arith)
 
 pub line_at : (ts : List Token) (ls : List Line) (i : ℕ) (d : Line) → AreLines ts ls → i < length ls → LineAt ts ls i (get_or ls i d)
 line_at ts ls i d lines l =
-    let rs = rows_of ts ls in
+    let rs = lines_from ts ls in
     let x = get_or ls i d in
     let r = row_of ts x in
     let m : i < length rs = omega (arith, length-map ls (row_of ts)) in
     let same : get_or rs i r ≡ r = rows_at ts ls i d r l in
     let is : x ≡ span i (length (tokens_of (take i rs))) r (drop (suc i) rs) =
-    ap (λ (z : List Line). get_or z i d) (sym lines.1) ∙ span_at 0 0 rs i d r m ∙ ap (λ (z : ℕ). span z (0 + length (tokens_of (take i rs))) (get_or rs i r) (drop (suc i) rs)) (zero-add i) ∙ ap (λ (z : ℕ). span i z (get_or rs i r) (drop (suc i) rs)) (zero-add (length (tokens_of (take i rs)))) ∙ ap (λ (z : Row). span i (length (tokens_of (take i rs))) z (drop (suc i) rs)) same in
+    ap (λ (z : List Line). get_or z i d) (sym lines.1) ∙ span_at 0 0 rs i d r m ∙ ap (λ (z : ℕ). span z (0 + length (tokens_of (take i rs))) (get_or rs i r) (drop (suc i) rs)) (zero-add i) ∙ ap (λ (z : ℕ). span i z (get_or rs i r) (drop (suc i) rs)) (zero-add (length (tokens_of (take i rs)))) ∙ ap (λ (z : LogicalLine). span i (length (tokens_of (take i rs))) z (drop (suc i) rs)) same in
     let start : x.start ≡ length (tokens_of (take i rs)) = ap (λ (z : Line). z.start) is in
     let end : x.end ≡ length (tokens_of (take i rs)) + length r.tokens = ap (λ (z : Line). z.end) is in
     let whole : length (tokens_of rs) ≡ length ts = ap length lines.0 in
-    let parted : length (tokens_of (take i rs)) + length r.tokens + length (tokens_of (drop (suc i) rs)) ≡ length (tokens_of rs) = ap (λ (z : Row). length (tokens_of (take i rs)) + length z.tokens + length (tokens_of (drop (suc i) rs))) (sym same) ∙ tokens_parted rs i r m in
+    let parted : length (tokens_of (take i rs)) + length r.tokens + length (tokens_of (drop (suc i) rs)) ≡ length (tokens_of rs) = ap (λ (z : LogicalLine). length (tokens_of (take i rs)) + length z.tokens + length (tokens_of (drop (suc i) rs))) (sym same) ∙ tokens_parted rs i r m in
     record {
       begins = omega arith;
       behind = omega arith;
       row = λ e. rows_at ts ls i d e l;
-      directive = ap (λ (z : Line). z.directive) is;
+      directed = (lines.2.0, subst (IsDirected lines.2.0) same (each_directed lines.2.0 rs i r lines.2.1 m));
       next = ap (λ (z : Line). z.next_branch) is;
       tokens = omega arith;
     }
 
 -- the spans without next branch lines
 
-pub rows_of_drafts : (before : List Token) (rs : List Row) → rows_of (before ++ tokens_of rs) (drafts (length before) rs) ≡ rs
+pub rows_of_drafts : (before : List Token) (rs : List LogicalLine) → lines_from (before ++ tokens_of rs) (drafts (length before) rs) ≡ rs
 rows_of_drafts before [] = refl
 rows_of_drafts before (r ∷ rs) =
     let wider : length (before ++ r.tokens) ≡ length before + length r.tokens = length-append before r.tokens in
     let here : take (length before + length r.tokens - length before) (drop (length before) (before ++ (r.tokens ++ tokens_of rs))) ≡ r.tokens = ap (take (length before + length r.tokens - length before)) (drop-append_seam before (r.tokens ++ tokens_of rs)) ∙ ap (λ (n : ℕ). take n (r.tokens ++ tokens_of rs)) (omega arith) ∙ take-append_seam r.tokens (tokens_of rs) in
-    let rest : rows_of (before ++ (r.tokens ++ tokens_of rs)) (drafts (length before + length r.tokens) rs) ≡ rs = ap (λ (z : List Token). rows_of z (drafts (length before + length r.tokens) rs)) (sym (append_assoc before r.tokens (tokens_of rs))) ∙ ap (λ (n : ℕ). rows_of ((before ++ r.tokens) ++ tokens_of rs) (drafts n rs)) (sym wider) ∙ rows_of_drafts (before ++ r.tokens) rs in
-    ap (λ (z : List Token). record { tokens = z; number = r.number } ∷ rows_of (before ++ (r.tokens ++ tokens_of rs)) (drafts (length before + length r.tokens) rs)) here ∙ ap (λ (z : List Row). r ∷ z) rest
+    let rest : lines_from (before ++ (r.tokens ++ tokens_of rs)) (drafts (length before + length r.tokens) rs) ≡ rs = ap (λ (z : List Token). lines_from z (drafts (length before + length r.tokens) rs)) (sym (append_assoc before r.tokens (tokens_of rs))) ∙ ap (λ (n : ℕ). lines_from ((before ++ r.tokens) ++ tokens_of rs) (drafts n rs)) (sym wider) ∙ rows_of_drafts (before ++ r.tokens) rs in
+    ap (λ (z : List Token). record { tokens = z; number = r.number; directive = r.directive } ∷ lines_from (before ++ (r.tokens ++ tokens_of rs)) (drafts (length before + length r.tokens) rs)) here ∙ ap (λ (z : List LogicalLine). r ∷ z) rest
 
 -- the lines that a text is cut into
-pub drafts_are : (ts : List Token) (ls : List Line) (rs : List Row) → tokens_of rs ≡ ts → ls ≡ drafts 0 rs → (rows_of ts ls ≡ rs) × AreDrafts ts ls
-drafts_are ts ls rs tokens lines =
-    let same : rows_of ts ls ≡ rs = ap (rows_of ts) lines ∙ ap (λ (z : List Token). rows_of z (drafts 0 rs)) (sym tokens) ∙ rows_of_drafts [] rs in
-    (same, (ap tokens_of same ∙ tokens, ap (drafts 0) same ∙ sym lines))
+pub drafts_are : (ts : List Token) (ls : List Line) (rs : List LogicalLine) → tokens_of rs ≡ ts → ls ≡ drafts 0 rs → AreDirected rs → (lines_from ts ls ≡ rs) × AreDrafts ts ls
+drafts_are ts ls rs tokens lines directed =
+    let same : lines_from ts ls ≡ rs = ap (lines_from ts) lines ∙ ap (λ (z : List Token). lines_from z (drafts 0 rs)) (sym tokens) ∙ rows_of_drafts [] rs in
+    (same, (ap tokens_of same ∙ tokens, ap (drafts 0) same ∙ sym lines, subst AreDirected (sym same) directed))
 
-pub drafts-append : (start : ℕ) (rs : List Row) (r : Row) → drafts start (rs ++ r ∷ []) ≡ drafts start rs ++ draft (start + length (tokens_of rs)) r.tokens r.number ∷ []
-drafts-append start [] r = ap (λ (n : ℕ). draft n r.tokens r.number ∷ []) (sym (add-zero start))
+pub drafts-append : (start : ℕ) (rs : List LogicalLine) (r : LogicalLine) → drafts start (rs ++ r ∷ []) ≡ drafts start rs ++ draft (start + length (tokens_of rs)) r ∷ []
+drafts-append start [] r = ap (λ (n : ℕ). draft n r ∷ []) (sym (add-zero start))
 drafts-append start (q ∷ rs) r =
     let n : start + length q.tokens + length (tokens_of rs) ≡ start + length (q.tokens ++ tokens_of rs) = omega (arith, length-append q.tokens (tokens_of rs)) in
-    ap (λ (z : List Line). draft start q.tokens q.number ∷ z) (drafts-append (start + length q.tokens) rs r ∙ ap (λ (k : ℕ). drafts (start + length q.tokens) rs ++ draft k r.tokens r.number ∷ []) n)
+    ap (λ (z : List Line). draft start q ∷ z) (drafts-append (start + length q.tokens) rs r ∙ ap (λ (k : ℕ). drafts (start + length q.tokens) rs ++ draft k r ∷ []) n)
 
-pub tokens_of-append : (rs : List Row) (r : Row) → tokens_of (rs ++ r ∷ []) ≡ tokens_of rs ++ r.tokens
+pub tokens_of-append : (rs : List LogicalLine) (r : LogicalLine) → tokens_of (rs ++ r ∷ []) ≡ tokens_of rs ++ r.tokens
 tokens_of-append [] r = append-nil r.tokens
 tokens_of-append (q ∷ rs) r = ap (λ (z : List Token). q.tokens ++ z) (tokens_of-append rs r) ∙ sym (append_assoc q.tokens (tokens_of rs) r.tokens)
 
 -- the same lines of equal tokens and spans
-pub same_rows : (ts ts' : List Token) (ls ls' : List Line) → ts' ≡ ts → ls' ≡ ls → rows_of ts' ls' ≡ rows_of ts ls
-same_rows ts ts' ls ls' st sl = ap (λ (z : List Token). rows_of z ls') st ∙ ap (rows_of ts) sl
+pub same_rows : (ts ts' : List Token) (ls ls' : List Line) → ts' ≡ ts → ls' ≡ ls → lines_from ts' ls' ≡ lines_from ts ls
+same_rows ts ts' ls ls' st sl = ap (λ (z : List Token). lines_from z ls') st ∙ ap (lines_from ts) sl

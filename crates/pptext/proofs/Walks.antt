@@ -1,9 +1,9 @@
 -- What a walk over the lines of a file knows of the next branch lines.
-use Rattle.std.proofs.Common.{◌≡◌, ℕ, zero, suc, ◌+◌, ◌<◌, ◌≤◌, Bool, List, [], ◌∷◌, ◌++◌, map, length, refl, sym, ap, ◌∙◌, arith, Option, None, Some}
+use Rattle.std.proofs.Common.{◌≡◌, ℕ, zero, suc, ◌+◌, ◌<◌, ◌≤◌, Bool, List, [], ◌∷◌, ◌++◌, map, length, ap, ◌∙◌, arith, None, Some}
 use Rattle.std.proofs.lemmas.List.{length-map}
 use Rattle.pptext.specs.declared.directives.Role.{Role}
 use Rattle.pptext.specs.declared.directives.Role.TheVariants.{Text as IsText, Control as IsControl, Opens, Elses, Closes}
-use Rattle.pptext.specs.Lines.{Row}
+use Rattle.pptext.specs.Lines.{LogicalLine}
 use Rattle.pptext.specs.Tree.{Parts, Branches, End, Branch, part_lines, branch_lines, AreParts, AreBranches, role, branch_behind}
 use Rattle.pptext.specs.Sources.{next_branch}
 use Rattle.pptext.proofs.Guards.{behind_parts}
@@ -21,7 +21,7 @@ behind_within (suc depth) k (Elses final ∷ ss) n e = let h = behind_within (su
 behind_within depth k (IsText ∷ ss) n e = let h = behind_within depth (k + 1) ss n e in (omega (arith, h.0), omega (arith, h.1))
 behind_within depth k (IsControl ∷ ss) n e = let h = behind_within depth (k + 1) ss n e in (omega (arith, h.0), omega (arith, h.1))
 
-next_role_within : (s : Role) (k : ℕ) (rows : List Row) (n : ℕ) → next_branch k s rows ≡ Some n → (k < n) × (n < k + 1 + length rows)
+next_role_within : (s : Role) (k : ℕ) (rows : List LogicalLine) (n : ℕ) → next_branch k s rows ≡ Some n → (k < n) × (n < k + 1 + length rows)
 next_role_within Opens k rows n e = let h = behind_within 0 (k + 1) (map role rows) n e in (omega (arith, h.0), omega (arith, h.1, length-map rows role))
 next_role_within (Elses final) k rows n e = let h = behind_within 0 (k + 1) (map role rows) n e in (omega (arith, h.0), omega (arith, h.1, length-map rows role))
 next_role_within Closes k rows n e = absurd (cc)
@@ -29,24 +29,24 @@ next_role_within IsText k rows n e = absurd (cc)
 next_role_within IsControl k rows n e = absurd (cc)
 
 -- the next branch line stands behind the line, in the file
-pub next_within : (r : Row) (k : ℕ) (rows : List Row) (n : ℕ) → next_branch k (role r) rows ≡ Some n → (k < n) × (n < k + 1 + length rows)
+pub next_within : (r : LogicalLine) (k : ℕ) (rows : List LogicalLine) (n : ℕ) → next_branch k (role r) rows ≡ Some n → (k < n) × (n < k + 1 + length rows)
 next_within r k rows n e = next_role_within (role r) k rows n e
 
 -- of an opening line and of `#elif` and `#else`
 
-pub next_of_opening : (r : Row) → role r ≡ Opens → (k : ℕ) (rows : List Row) → next_branch k (role r) rows ≡ branch_behind 0 (k + 1) (map role rows)
+pub next_of_opening : (r : LogicalLine) → role r ≡ Opens → (k : ℕ) (rows : List LogicalLine) → next_branch k (role r) rows ≡ branch_behind 0 (k + 1) (map role rows)
 next_of_opening r is k rows = ap (λ (z : Role). next_branch k z rows) is
 
-pub next_of_branch : (r : Row) (final : Bool) → role r ≡ Elses final → (k : ℕ) (rows : List Row) → next_branch k (role r) rows ≡ branch_behind 0 (k + 1) (map role rows)
+pub next_of_branch : (r : LogicalLine) (final : Bool) → role r ≡ Elses final → (k : ℕ) (rows : List LogicalLine) → next_branch k (role r) rows ≡ branch_behind 0 (k + 1) (map role rows)
 next_of_branch r final is k rows = ap (λ (z : Role). next_branch k z rows) is
 
-pub next_of_end : (r : Row) → role r ≡ Closes → (k : ℕ) (rows : List Row) → next_branch k (role r) rows ≡ None
+pub next_of_end : (r : LogicalLine) → role r ≡ Closes → (k : ℕ) (rows : List LogicalLine) → next_branch k (role r) rows ≡ None
 next_of_end r is k rows = ap (λ (z : Role). next_branch k z rows) is
 
-first_branch : (bs : Branches) (last : Bool) (k : ℕ) (rest : List Row) → AreBranches last bs → branch_behind 0 k (map role (branch_lines bs ++ rest)) ≡ Some k
+first_branch : (bs : Branches) (last : Bool) (k : ℕ) (rest : List LogicalLine) → AreBranches last bs → branch_behind 0 k (map role (branch_lines bs ++ rest)) ≡ Some k
 first_branch (End r) last k rest is = ap (λ (z : Role). branch_behind 0 k (z ∷ map role rest)) is
 first_branch (Branch r ps bs) last k rest (before, final, is, parts, more) = ap (λ (z : Role). branch_behind 0 k (z ∷ map role (part_lines ps ++ branch_lines bs ++ rest))) is
 
 -- it is the first line of the branches behind the parts of the group
-pub next_behind : (ps : Parts) (bs : Branches) (last : Bool) (k : ℕ) (rest : List Row) → AreParts ps → AreBranches last bs → branch_behind 0 k (map role (part_lines ps ++ (branch_lines bs ++ rest))) ≡ Some (k + length (part_lines ps))
+pub next_behind : (ps : Parts) (bs : Branches) (last : Bool) (k : ℕ) (rest : List LogicalLine) → AreParts ps → AreBranches last bs → branch_behind 0 k (map role (part_lines ps ++ (branch_lines bs ++ rest))) ≡ Some (k + length (part_lines ps))
 next_behind ps bs last k rest parts are = behind_parts ps 0 k (branch_lines bs ++ rest) parts ∙ first_branch bs last (k + length (part_lines ps)) rest are

@@ -2,7 +2,7 @@
 ghost use Rattle.std.specs.Prelude.{◌≡◌, ◌↔◌, ◌+◌, ◌<◌, ◌≤◌, ℕ, [], length, take, drop, IsTrue, slice_index, None, IfOk, IfSome, IfNone};
 ghost use Rattle.pptext.specs.Spellings.{is_blank};
 ghost use Rattle.pptext.specs.Cut.{OpensBlock, OpensLine, CommentAt, ClosesAt, StandsAt, Spelled};
-ghost use Rattle.pptext.specs.Lines.{token_of};
+ghost use Rattle.pptext.specs.Lines.{token_of, line_of};
 ghost use Rattle.pptext.specs.Lone.{KnowsLone};
 ghost use Rattle.pptext.specs.Tokens.{spelled};
 ghost use Rattle.pptext.specs.Finds.{Finds, CutsInto};
@@ -11,7 +11,7 @@ ghost use Rattle.pptext.specs.Grouping.{draft};
 use crate::directives::directive_of;
 use crate::scanning::is_blank;
 use crate::scanning::literals::LoneQuotes;
-use crate::sources::Line;
+use crate::sources::{Line, Profile};
 use crate::texts::Text;
 use crate::tokenizing::token_at;
 use crate::tokens::{Kind, Place, Spelling, Token};
@@ -174,15 +174,15 @@ fn token_from(
 }
 
 /// The line of the tokens from this start on, without its next branch line.
-fn draft_line(tokens: &[Token], start: usize, number: u32) -> Line
+fn draft_line(profile: Profile, tokens: &[Token], start: usize, number: u32) -> Line
     requires { start ≤ length tokens.now }
-    ensures { result ≡ draft start (drop start tokens.now) number }
+    ensures { result ≡ draft start (line_of profile (drop start tokens.now) number) }
 {
     Line {
         start,
         end: tokens.len(),
         number,
-        directive: directive_of(&tokens[start..]),
+        directive: directive_of(profile, &tokens[start..]),
         next_branch: None,
     }
 }
@@ -193,11 +193,12 @@ pub(crate) fn cut_lines(
     text: &mut Text<'_>,
     tokens: &mut Vec<Token>,
     lines: &mut Vec<Line>,
+    profile: Profile,
 ) -> Result<(), CutFault>
     requires unread { text.old.passed ≡ 0 }
     requires no_tokens { tokens.old.items ≡ [] }
     requires no_lines { lines.old.items ≡ [] }
-    ensures { CutsInto text.old.chars tokens.new.items lines.new.items result }
+    ensures { CutsInto profile text.old.chars tokens.new.items lines.new.items result }
 {
     let mut at = 0;
     let mut start = 0;
@@ -208,7 +209,7 @@ pub(crate) fn cut_lines(
         match piece_at(&text.codes()[at..], &tokens[start..], &mut lone) {
             Found::NewLine => {
                 let number = text.place(at).line;
-                lines.push(draft_line(tokens, start, number))?;
+                lines.push(draft_line(profile, tokens, start, number))?;
                 start = tokens.len();
                 at += 1;
                 space = true;

@@ -1,10 +1,10 @@
 // Directives by name.
 ghost use Rattle.std.specs.Prelude.{◌≡◌, codes, ◌||◌};
 ghost use Rattle.std.specs.Str.{bytes_eq};
-ghost use Rattle.pptext.specs.Lines.{directive_named, directive_of};
+ghost use Rattle.pptext.specs.Lines.{directive_names, later_names, named_in, directive_named, directive_of};
 ghost use Rattle.pptext.specs.Tree.{role_named, role_by};
 
-use crate::sources::Directive;
+use crate::sources::{Directive, Profile};
 use crate::tokens::Token;
 
 /// What a line does to the groups of its file (6.10).
@@ -16,7 +16,7 @@ pub(crate) enum Role {
     Control,
     /// `#if`, `#ifdef`, `#ifndef`
     Opens,
-    /// `#else`, where true, or `#elif`
+    /// `#else`, where true, or a branch with a condition
     Elses(bool),
     /// `#endif`
     Closes,
@@ -28,7 +28,7 @@ fn role_named(directive: Directive) -> Role
 {
     match directive {
         Directive::If | Directive::Ifdef | Directive::Ifndef => Role::Opens,
-        Directive::Elif => Role::Elses(false),
+        Directive::Elif | Directive::Elifdef | Directive::Elifndef => Role::Elses(false),
         Directive::Else => Role::Elses(true),
         Directive::Endif => Role::Closes,
         _ => Role::Control,
@@ -45,9 +45,9 @@ pub(crate) fn role_of(directive: Option<Directive>) -> Role
     }
 }
 
-/// The directive of a name.
-fn directive_named(name: &[u8]) -> Directive
-    ensures { result ≡ directive_named name.now }
+/// The directive of a name in C11.
+fn plain_directive(name: &[u8]) -> Directive
+    ensures { result ≡ named_in directive_names name.now }
 {
     if name == b"if".as_slice() {
         return Directive::If;
@@ -88,6 +88,30 @@ fn directive_named(name: &[u8]) -> Directive
     Directive::Unknown
 }
 
+/// The directive of a name that C23 added.
+fn later_directive(name: &[u8]) -> Directive
+    ensures { result ≡ named_in later_names name.now }
+{
+    if name == b"elifdef".as_slice() {
+        return Directive::Elifdef;
+    }
+    if name == b"elifndef".as_slice() {
+        return Directive::Elifndef;
+    }
+    Directive::Unknown
+}
+
+/// The directive of a name.
+fn directive_named(profile: Profile, name: &[u8]) -> Directive
+    ensures { result ≡ directive_named profile name.now }
+{
+    let directive = plain_directive(name);
+    match (profile, directive) {
+        (Profile::Later, Directive::Unknown) => later_directive(name),
+        _ => directive,
+    }
+}
+
 /// Whether `#` or its digraph.
 pub(crate) fn is_hash(text: &[u8]) -> bool
     ensures { result ≡ (bytes_eq text.now (codes "#") || bytes_eq text.now (codes "%:")) }
@@ -96,8 +120,8 @@ pub(crate) fn is_hash(text: &[u8]) -> bool
 }
 
 /// The directive of a line's tokens.
-pub(crate) fn directive_of(line: &[Token]) -> Option<Directive>
-    ensures { result ≡ directive_of line.now }
+pub(crate) fn directive_of(profile: Profile, line: &[Token]) -> Option<Directive>
+    ensures { result ≡ directive_of profile line.now }
 {
     if line.is_empty() {
         return None;
@@ -108,5 +132,5 @@ pub(crate) fn directive_of(line: &[Token]) -> Option<Directive>
     if line.len() == 1 {
         return Some(Directive::Null);
     }
-    Some(directive_named(line[1].text.as_bytes()))
+    Some(directive_named(profile, line[1].text.as_bytes()))
 }

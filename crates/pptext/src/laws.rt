@@ -1,6 +1,7 @@
 // Laws of the definitions: functions that do nothing, whose contracts are the laws.
 ghost use Rattle.std.specs.Prelude.{◌≡◌, ◌≢◌, ◌↔◌, ℕ, List, [], None, Result, Ok, Contains};
 ghost use Rattle.pptext.specs.declared.tokens.Fault.{Fault};
+ghost use Rattle.pptext.specs.declared.sources.Profile.{Profile};
 ghost use Rattle.pptext.specs.declared.tokens.Kind.{Kind};
 ghost use Rattle.pptext.specs.declared.tokens.Kind.TheVariants.{Header};
 ghost use Rattle.pptext.specs.declared.characters.Char.{Char};
@@ -8,7 +9,7 @@ ghost use Rattle.pptext.specs.Clean.{cleaned, codes_of};
 ghost use Rattle.pptext.specs.Cut.{Piece, Spelled, Cut};
 ghost use Rattle.pptext.specs.Laws.{spellings_of};
 ghost use Rattle.pptext.specs.Lexing.{HasOneLexer};
-ghost use Rattle.pptext.specs.Lines.{Row, lines_of};
+ghost use Rattle.pptext.specs.Lines.{LogicalLine, lines_of};
 ghost use Rattle.pptext.specs.Sources.{Reads, tokens_of, IsOneToken};
 ghost use Rattle.pptext.specs.Tokens.{spelled};
 ghost use Rattle.pptext.specs.Tree.{group_fault, Parts, Tree};
@@ -20,12 +21,12 @@ pub fn one_cut()
 
 /// Reading a file gives these lines or this fault, and nothing else.
 pub fn one_reading()
-    ensures { (file : ℕ) (bytes : List ℕ) (a b : Result (List Row) Fault) → Reads file bytes a → Reads file bytes b → a ≡ b }
+    ensures { (profile : Profile) (file : ℕ) (bytes : List ℕ) (a b : Result (List LogicalLine) Fault) → Reads profile file bytes a → Reads profile file bytes b → a ≡ b }
 {}
 
 /// Each token of a file stands on one of its lines, since a text behind phase 2 ends in a new-line (5.1.1.2).
 pub fn keeps_every_token()
-    ensures { (file : ℕ) (bytes : List ℕ) (chars : List Char) (pieces : List Piece) → cleaned file bytes ≡ Ok chars → Cut chars pieces → spelled (tokens_of (lines_of pieces)) ≡ spellings_of pieces }
+    ensures { (profile : Profile) (file : ℕ) (bytes : List ℕ) (chars : List Char) (pieces : List Piece) → cleaned file bytes ≡ Ok chars → Cut chars pieces → spelled (tokens_of (lines_of profile pieces)) ≡ spellings_of pieces }
 {}
 
 /// Each token of a text but a header name (6.4.7) is the one token of its spelling, so that `relex` finds its kind again,
@@ -36,12 +37,12 @@ pub fn relexes_what_is_cut()
 
 /// A file's lines have a tree of groups (6.10) exactly where they have no fault.
 pub fn tree_unless_fault()
-    ensures { (lines : List Row) → (group_fault [] lines ≡ None) ↔ ((parts : Parts) × Tree lines parts) }
+    ensures { (lines : List LogicalLine) → (group_fault [] lines ≡ None) ↔ ((parts : Parts) × Tree lines parts) }
 {}
 
 /// A file's lines have at most one tree of groups (6.10).
 pub fn one_tree()
-    ensures { (lines : List Row) (a b : Parts) → Tree lines a → Tree lines b → a ≡ b }
+    ensures { (lines : List LogicalLine) (a b : Parts) → Tree lines a → Tree lines b → a ≡ b }
 {}
 
 /// The kind of the one token that each text is (6.4) can be told, and in one way.

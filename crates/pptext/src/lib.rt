@@ -21,5 +21,5 @@ pub use laws::{
     tree_unless_fault,
 };
 pub use reading::{read_source, relex};
-pub use sources::{Directive, Line, Source, SourceFault};
+pub use sources::{Directive, Line, Profile, Source, SourceFault};
 pub use tokens::{Fault, Kind, Memory, Place, Spelling, Token, Tokens};

@@ -9,7 +9,7 @@ ghost use Rattle.pptext.specs.Answers.{Answers};
 use crate::cleaning::clean_text;
 use crate::cutting::{CutFault, Found, cut_lines, next_piece};
 use crate::grouping::group_lines;
-use crate::sources::{Line, Source, SourceFault};
+use crate::sources::{Line, Profile, Source, SourceFault};
 use crate::tokens::{Fault, Kind, Place, Spelling, Token};
 use std::alloc::Global;
 
@@ -41,21 +41,26 @@ fn fault_at(number: u8, at: Place) -> SourceFault
 }
 
 /// Reads a file of at most 16,777,216 bytes: its lines of preprocessing tokens behind translation phases 1 to 3 (5.1.1.2, 6.4),
-/// and its groups (6.10). Every place has this file number, and the line and the byte, both from 1, at which the character was
-/// spelled in the file; a byte order mark has no place.
+/// and its groups (6.10) by the directives of this profile. Every place has this file number, and the line and the byte, both
+/// from 1, at which the character was spelled in the file; a byte order mark has no place.
 ///
 /// # Errors
 ///
 /// `Bad` with the file's first fault, so that nothing of the file is processed:
 /// 2, at the `\` of a last line that ends in one; else
 /// 1, at the opening of a comment that isn't closed; else the first of
-/// 3, an `#elif`, `#else` or `#endif` without an open section, and
-/// 4, an `#elif` or `#else` behind the `#else` of its section; else
+/// 3, a branch, as `#elif` and `#else` are, or an `#endif` without an open section, and
+/// 4, a branch behind the `#else` of its section; else
 /// 5, at the innermost section that isn't closed. The last three are told at the line's `#`, with the directive's name.
 /// `Memory` where memory ran out.
-pub fn read_source(alloc: Global, bytes: &[u8], file: u32) -> Result<Source, SourceFault>
+pub fn read_source(
+    alloc: Global,
+    bytes: &[u8],
+    file: u32,
+    profile: Profile,
+) -> Result<Source, SourceFault>
     requires { length bytes.now ≤ 16_777_216 }
-    ensures { Answers result (Reads file bytes.now) }
+    ensures { Answers result (Reads profile file bytes.now) }
 {
     let mut text = match clean_text(alloc, bytes, file)? {
         Ok(text) => text,
@@ -63,7 +68,7 @@ pub fn read_source(alloc: Global, bytes: &[u8], file: u32) -> Result<Source, Sou
     };
     let mut tokens = Vec::new(alloc);
     let mut lines = Vec::new(alloc);
-    match cut_lines(alloc, &mut text, &mut tokens, &mut lines) {
+    match cut_lines(alloc, &mut text, &mut tokens, &mut lines, profile) {
         Ok(()) => {}
         Err(CutFault::Unclosed(place)) => return Err(fault_at(1, place)),
         Err(CutFault::Memory) => return Err(SourceFault::Memory),
@@ -139,7 +144,7 @@ mod tests {
     )
         requires { length bytes.now ≤ 16_777_216 }
     {
-        match read_source(alloc, bytes, 7) {
+        match read_source(alloc, bytes, 7, Profile::C11) {
             Err(SourceFault::Bad(fault)) => {
                 assert_eq!(rt; fault.number, number, "of {bytes:?}");
                 assert_eq!(rt; fault.at, at, "of {bytes:?}");
@@ -151,7 +156,7 @@ mod tests {
 
     #[test]
     fn reads_tokens(rt: HostRuntime) -> Result<(), Fail> {
-        let source = read_source(rt.alloc(), b"a+b/**/c", 7)?;
+        let source = read_source(rt.alloc(), b"a+b/**/c", 7, Profile::C11)?;
         let wanted = [
             (Kind::Ident, b"a".as_slice(), true, place(1, 1)),
             (Kind::Punct, b"+".as_slice(), false, place(1, 2)),
@@ -172,7 +177,7 @@ mod tests {
     #[test]
     fn reads_lines(rt: HostRuntime) -> Result<(), Fail> {
         let bytes = b"#ifndef X\n\t/*\n*/ # def\\\nine X\n\n??=endif\n";
-        let source = read_source(rt.alloc(), bytes, 7)?;
+        let source = read_source(rt.alloc(), bytes, 7, Profile::C11)?;
         let wanted = [
             (0, 3, 1, Some(Directive::Ifndef), Some(3)),
             (3, 6, 4, Some(Directive::Define), None),

@@ -5,6 +5,15 @@ use crate::tokens::{Fault, Token};
 use std::alloc::{AllocError, AllocFailed};
 use std::marker::Model;
 
+/// Which directives there are.
+#[derive(Clone, Copy, PartialEq, Eq, Debug)]
+pub enum Profile {
+    /// Those of ISO/IEC 9899:2011.
+    C11,
+    /// Those, and `#elifdef`, `#elifndef` of ISO/IEC 9899:2024 (6.10.2), and `#pragma once`.
+    Later,
+}
+
 /// What a directive's name says (6.10).
 ///
 /// A line is a directive if its first token is `#` or `%:`. The name is the token after it.
@@ -18,6 +27,10 @@ pub enum Directive {
     Ifndef,
     /// `#elif` (6.10.1)
     Elif,
+    /// `#elifdef` (ISO/IEC 9899:2024, 6.10.2)
+    Elifdef,
+    /// `#elifndef` (ISO/IEC 9899:2024, 6.10.2)
+    Elifndef,
     /// `#else` (6.10.1)
     Else,
     /// `#endif` (6.10.1)
@@ -51,8 +64,8 @@ pub struct Line {
     pub number: u32,
     /// The directive, where it is one.
     pub directive: Option<Directive>,
-    /// For `#if`, `#ifdef`, `#ifndef`, `#elif` and `#else` the index, from 0, of the line of the next `#elif`, `#else` or `#endif`
-    /// of the same if-section (6.10.1); for other lines nothing.
+    /// For `#if`, `#ifdef`, `#ifndef` and for a branch, as `#elif` and `#else` are, the index, from 0, of the line of the next branch
+    /// or the `#endif` of the same if-section (6.10.1); for other lines nothing.
     pub next_branch: Option<usize>,
 }
 
@@ -67,16 +80,16 @@ pub struct Source {
 impl Model for Source {
     ghost use Rattle.std.specs.Prelude.{◌≡◌, ◌<◌, ℕ, List, length, MatchOption, slice_index_or};
     ghost use Rattle.pptext.specs.declared.tokens.Token.{Token};
-    ghost use Rattle.pptext.specs.Lines.{Row};
+    ghost use Rattle.pptext.specs.Lines.{LogicalLine};
 
-    ghost Value = { List Row };
+    ghost Value = { List LogicalLine };
 
-    ghost use Rattle.pptext.specs.Sources.{rows_of, tokens_of, spans};
+    ghost use Rattle.pptext.specs.Sources.{lines_from, tokens_of, spans};
     ghost use Rattle.pptext.specs.Guard.{GuardedBy};
 
-    ghost view = { λ s. rows_of s.tokens.items s.lines.items };
+    ghost view = { λ s. lines_from s.tokens.items s.lines.items };
 
-    ghost invariant = { λ s. (tokens_of (rows_of s.tokens.items s.lines.items) ≡ s.tokens.items) × (spans 0 0 (rows_of s.tokens.items s.lines.items) ≡ s.lines.items) × MatchOption s.guard ((x : List ℕ) → GuardedBy (rows_of s.tokens.items s.lines.items) x → ⊥) (λ i. (i < length s.tokens.items) × ((d : Token) → GuardedBy (rows_of s.tokens.items s.lines.items) (slice_index_or s.tokens.items i d).text)) };
+    ghost invariant = { λ s. (tokens_of (lines_from s.tokens.items s.lines.items) ≡ s.tokens.items) × (spans 0 0 (lines_from s.tokens.items s.lines.items) ≡ s.lines.items) × MatchOption s.guard ((x : List ℕ) → GuardedBy (lines_from s.tokens.items s.lines.items) x → ⊥) (λ i. (i < length s.tokens.items) × ((d : Token) → GuardedBy (lines_from s.tokens.items s.lines.items) (slice_index_or s.tokens.items i d).text)) };
 }
 
 /// Why a file can't be read.
@@ -86,8 +99,8 @@ pub enum SourceFault {
     ///
     /// - 2: the last line ends in a backslash (5.1.1.2). The text is empty.
     /// - 1: a comment is not closed (6.4.9). The text is empty.
-    /// - 3: `#elif`, `#else` or `#endif` outside an if-section (6.10.1).
-    /// - 4: `#elif` or `#else` behind the `#else` of its if-section (6.10.1).
+    /// - 3: a branch, as `#elif` and `#else` are, or `#endif` outside an if-section (6.10.1).
+    /// - 4: a branch behind the `#else` of its if-section (6.10.1).
     /// - 5: an if-section has no `#endif` (6.10.1), told of the innermost one that is open.
     ///
     /// At 3, 4 and 5 the place is that of the line's `#`, and the text is the directive's name; at 5 those of the opening line.

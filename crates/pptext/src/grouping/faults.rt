@@ -2,8 +2,8 @@
 ghost use Rattle.std.specs.Prelude.{◌≡◌, ◌+◌, ◌<◌, ◌^◌, [], length, slice_index_or, IfOk, MatchResult};
 ghost use Rattle.pptext.specs.declared.sources.Line.{Line};
 ghost use Rattle.pptext.specs.declared.tokens.Token.{Token};
-ghost use Rattle.pptext.specs.Lines.{Row};
-ghost use Rattle.pptext.specs.Sources.{rows_of};
+ghost use Rattle.pptext.specs.Lines.{LogicalLine};
+ghost use Rattle.pptext.specs.Sources.{lines_from};
 ghost use Rattle.pptext.specs.Tree.{opened, fault_at, group_fault};
 ghost use Rattle.pptext.specs.Grouping.{AreLines, line_role, IsBranching, sections, Takes};
 
@@ -74,7 +74,7 @@ fn fault_at(number: u8, tokens: &[Token], lines: &[Line], at: usize) -> Result<F
     requires are_lines { AreLines tokens.now lines.now }
     requires within { at < length lines.now }
     requires branching { (d : Line) → IsBranching (line_role (slice_index_or lines.now at d)) }
-    ensures { (r : Row) → IfOk result (λ f. f ≡ fault_at number (slice_index_or (rows_of tokens.now lines.now) at r)) }
+    ensures { (r : LogicalLine) → IfOk result (λ f. f ≡ fault_at number (slice_index_or (lines_from tokens.now lines.now) at r)) }
 {
     fault_of(number, tokens, lines[at].start)
 }
@@ -87,7 +87,7 @@ pub(super) fn first_fault(
 ) -> Result<Option<Fault>, SourceFault>
     requires are_lines { AreLines tokens.now lines.now }
     requires few { length lines.now < 2 ^ 32 }
-    ensures { MatchResult result (λ f. f ≡ group_fault [] (rows_of tokens.now lines.now)) (λ e. e ≡ SourceFault.Memory) }
+    ensures { MatchResult result (λ f. f ≡ group_fault [] (lines_from tokens.now lines.now)) (λ e. e ≡ SourceFault.Memory) }
 {
     // A line that opens a section has two tokens at the least.
     let most = lines.len().min(tokens.len() / 2);

@@ -3,7 +3,7 @@ ghost use Rattle.std.specs.Prelude.{◌≡◌, ◌&&◌, ◌+◌, ◌<◌, ◌�
 ghost use Rattle.std.specs.Str.{bytes_eq};
 ghost use Rattle.pptext.specs.declared.sources.Line.{Line};
 ghost use Rattle.pptext.specs.declared.tokens.Token.{Token};
-ghost use Rattle.pptext.specs.Sources.{rows_of};
+ghost use Rattle.pptext.specs.Sources.{lines_from};
 ghost use Rattle.pptext.specs.Guard.{are_parentheses, guard_name, ident_if, is_ident, is_not_defined};
 ghost use Rattle.pptext.specs.Grouping.{AreLines, line_role, ClosedAtOnce, FlatGuard};
 
@@ -99,7 +99,7 @@ fn closes_file(tokens: &[Token], lines: &[Line], at: usize) -> bool
     requires are_lines { AreLines tokens.now lines.now }
     requires within { at < length lines.now }
     requires opens { (d : Line) → line_role (slice_index_or lines.now at d) ≡ Role.Opens }
-    ensures { IsTrue result ↔ ClosedAtOnce (at + 1) (drop (at + 1) (rows_of tokens.now lines.now)) }
+    ensures { IsTrue result ↔ ClosedAtOnce (at + 1) (drop (at + 1) (lines_from tokens.now lines.now)) }
 {
     match lines[at].next_branch {
         Some(last) => ends_file(tokens, lines, last),
@@ -112,8 +112,8 @@ fn guard_at(tokens: &[Token], lines: &[Line], at: usize) -> Option<usize>
     requires are_lines { AreLines tokens.now lines.now }
     requires within { at < length lines.now }
     requires some { (d : Line) → (slice_index_or lines.now at d).start < (slice_index_or lines.now at d).end }
-    ensures none { IfNone result ((x : List ℕ) → ¬ FlatGuard at (drop at (rows_of tokens.now lines.now)) x) }
-    ensures some { IfSome result (λ i. (i < length tokens.now) × ((d : Token) → FlatGuard at (drop at (rows_of tokens.now lines.now)) (slice_index_or tokens.now i d).text)) }
+    ensures none { IfNone result ((x : List ℕ) → ¬ FlatGuard at (drop at (lines_from tokens.now lines.now)) x) }
+    ensures some { IfSome result (λ i. (i < length tokens.now) × ((d : Token) → FlatGuard at (drop at (lines_from tokens.now lines.now)) (slice_index_or tokens.now i d).text)) }
 {
     let Role::Opens = role_of(lines[at].directive) else {
         return None;
@@ -127,8 +127,8 @@ fn guard_at(tokens: &[Token], lines: &[Line], at: usize) -> Option<usize>
 /// The index of the guard's token, where the file is one guarded section.
 pub(super) fn guard_token(tokens: &[Token], lines: &[Line]) -> Option<usize>
     requires { AreLines tokens.now lines.now }
-    ensures none { IfNone result ((x : List ℕ) → ¬ FlatGuard 0 (rows_of tokens.now lines.now) x) }
-    ensures some { IfSome result (λ i. (i < length tokens.now) × ((d : Token) → FlatGuard 0 (rows_of tokens.now lines.now) (slice_index_or tokens.now i d).text)) }
+    ensures none { IfNone result ((x : List ℕ) → ¬ FlatGuard 0 (lines_from tokens.now lines.now) x) }
+    ensures some { IfSome result (λ i. (i < length tokens.now) × ((d : Token) → FlatGuard 0 (lines_from tokens.now lines.now) (slice_index_or tokens.now i d).text)) }
 {
     for (at, line) in lines.iter().enumerate() {
         if line.start < line.end {

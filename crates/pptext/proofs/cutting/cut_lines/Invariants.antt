@@ -8,7 +8,7 @@ abbrev pub invariant-loop-at : goal.invariant-loop-at
 invariant-loop-at l = record {
   same : l.text.chars ≡ l.initial.text.chars;
   passed : l.text.passed ≤ l.at;
-  state : State l.initial.text.chars l.at l.start l.space l.tokens.items l.lines.items;
+  state : State l.profile l.initial.text.chars l.at l.start l.space l.tokens.items l.lines.items;
   lone : KnowsLone (drop l.at (codes_of l.initial.text.chars)) l.lone;
 }
 

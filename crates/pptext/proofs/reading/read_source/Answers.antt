@@ -1,9 +1,47 @@
-use Rattle.std.proofs.Common.{subst, arith}
+use Rattle.std.proofs.Common.{◌≡◌, ℕ, List, [], sym, ap, ◌∙◌, subst, arith, Result, Ok, Err}
+use Rattle.pptext.specs.declared.characters.Char.{Char}
+use Rattle.pptext.specs.declared.sources.Profile.{Profile}
+use Rattle.pptext.specs.declared.sources.Source.{Source}
+use Rattle.pptext.specs.declared.sources.SourceFault.{SourceFault}
+use Rattle.pptext.specs.declared.sources.SourceFault.TheVariants.{Bad, Memory}
+use Rattle.pptext.specs.Answers.{Answers, GroupsInto}
+use Rattle.pptext.specs.Clean.{cleaned}
+use Rattle.pptext.specs.Cut.{Piece, Cut}
+use Rattle.pptext.specs.Lines.{LogicalLine, lines_of}
+use Rattle.pptext.specs.Tree.{group_fault}
+use Rattle.pptext.specs.Sources.{lines_from, Reads, spliced_end, open_comment, bad_groups}
+use Rattle.pptext.specs.Finds.{FailsToCut}
 use Rattle.pptext.specs.Texts.{Cleans}
+use Rattle.pptext.proofs.Spans.{same_rows}
 use Rattle.pptext.proofs.Lengths.{cleaned_length}
 use Rattle.pptext.proofs.reading.read_source.Goals as goal
+
+-- what grouping answers is what reading answers
+grouped : (profile : Profile) (file : ℕ) (bytes : List ℕ) (chars : List Char) (pieces : List Piece) (lines : List LogicalLine) (r : Result Source SourceFault) → cleaned file bytes ≡ Ok chars → Cut chars pieces → lines_of profile pieces ≡ lines → GroupsInto lines r → Answers r (Reads profile file bytes)
+grouped profile file bytes chars pieces lines (Ok s) clean cut are groups =
+    record { chars = chars; pieces = pieces; cleaned = clean; cut = cut; grouped = ap (group_fault []) are ∙ groups.1; same = groups.0 ∙ sym are }
+grouped profile file bytes chars pieces lines (Err (Bad f)) clean cut are groups = bad_groups clean cut (ap (group_fault []) are ∙ groups)
+grouped profile file bytes chars pieces lines (Err Memory) clean cut are groups = tt
 
 pub group_lines-requires-clause-few : goal.group_lines-requires-clause-few
 group_lines-requires-clause-few c =
     let text = subst (Cleans c.args.file c.args.bytes.now) c.in-Ok.is c.in_ok-text.ensures in
     omega (arith, c.in-Ok-cut_lines.ensures.4, cleaned_length c.args.file c.args.bytes.now c.in-Ok.text.chars text.0, c.requires)
+
+pub returns-in-Err : goal.returns-in-Err
+returns-in-Err c =
+    let text = subst (Cleans c.args.file c.args.bytes.now) c.in-Err.is c.in_ok-text.ensures in
+    rw c.fault_at.ensures (spliced_end text)
+
+pub returns-in-Err-Unclosed : goal.returns-in-Err-Unclosed
+returns-in-Err-Unclosed c =
+    let text = subst (Cleans c.args.file c.args.bytes.now) c.in-Ok.is c.in_ok-text.ensures in
+    let open_at = open_comment text.0 (subst (FailsToCut c.in-Ok.text.chars) c.in-Err-Unclosed.field-0-is c.in-Err-Unclosed.ensures) in
+    rw (c.fault_at-in-Err-Unclosed.ensures, c.in-Err-Unclosed.place-is) open_at
+
+pub returns : goal.returns
+returns c =
+    let text = subst (Cleans c.args.file c.args.bytes.now) c.in-Ok.is c.in_ok-text.ensures in
+    let same = same_rows c.cut_lines.new.tokens.items c.shrink_to_fit.new.self.items c.cut_lines.new.lines.items c.shrink_to_fit-2.new.self.items c.shrink_to_fit.ensures.items c.shrink_to_fit-2.ensures.items in
+    let cut = c.in-Ok-cut_lines.ensures in
+    grouped c.args.profile c.args.file c.args.bytes.now c.in-Ok.text.chars cut.0 (lines_from c.shrink_to_fit.new.self.items c.shrink_to_fit-2.new.self.items) c.group_lines.result text.0 cut.1 (cut.2 ∙ sym same) c.group_lines.ensures

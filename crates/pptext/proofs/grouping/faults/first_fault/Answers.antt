@@ -2,11 +2,11 @@ use Rattle.std.proofs.Common.{◌≡◌, ◌∙◌, ℕ, Option, None, Some, ap,
 use Rattle.std.proofs.lemmas.List.{nil_from_length}
 use Rattle.pptext.specs.declared.grouping.faults.Section.{Section}
 use Rattle.pptext.specs.declared.directives.Role.{Role}
-use Rattle.pptext.specs.Sources.{rows_of}
+use Rattle.pptext.specs.Sources.{lines_from}
 use Rattle.pptext.specs.Tree.{opened, fault_at_end, group_fault}
 use Rattle.pptext.specs.Grouping.{line_role, sections, Takes}
 use Rattle.pptext.proofs.Spans.{no_line}
-use Rattle.pptext.proofs.Faults.{FaultsSoFar, no_row, faults_start, faults_step, fault_here, open_rows, sections_more, fault_at_last, fault_last, opens_branching}
+use Rattle.pptext.proofs.Faults.{FaultsSoFar, blank_line, faults_start, faults_step, fault_here, open_rows, sections_more, fault_at_last, fault_last, opens_branching}
 use Rattle.pptext.proofs.grouping.faults.first_fault.Goals as goal
 
 pub loop-at-init : goal.loop-at-init
@@ -18,7 +18,7 @@ returns-in-Some c =
     let before = sections c.loop-at.open_sections.items in
     let after = sections c.take_line.new.open_sections.items in
     let step : (opened role c.loop-at.at before).0 ≡ Some c.in-Some.number = ap (λ (z : Role). (opened z c.loop-at.at before).0) (sym c.role_of.ensures) ∙ subst (λ (z : Option ℕ). Takes (opened c.role_of.result c.loop-at.at before) z after) c.in-Some.is c.in_ok-number.ensures in
-    ap Some (c.in_ok-fault_at.ensures no_row) ∙ fault_here c.args.tokens.now c.args.lines.now c.requires.are_lines c.loop-at.at c.in-Some.number before no_line c.loop-at-test.true c.loop-at.invariant step
+    ap Some (c.in_ok-fault_at.ensures blank_line) ∙ fault_here c.args.tokens.now c.args.lines.now c.requires.are_lines c.loop-at.at c.in-Some.number before no_line c.loop-at-test.true c.loop-at.invariant step
 
 pub loop-at-preserved : goal.loop-at-preserved
 loop-at-preserved c =
@@ -32,7 +32,7 @@ pub returns-in-None : goal.returns-in-None
 returns-in-None c =
     let none : c.loop-at.open_sections.items ≡ [] = nil_from_length c.loop-at.open_sections.items (sym c.loop-at.open_sections.ok.0 ∙ c.in-None.ensures.cases.0) in
     let ended = fault_at_last c.args.tokens.now c.args.lines.now c.requires.are_lines c.loop-at.at (sections c.loop-at.open_sections.items) c.loop-at-test.false c.loop-at.invariant in
-    subst (λ (z : List Section). fault_at_end (open_rows (rows_of c.args.tokens.now c.args.lines.now) (sections z)) ≡ group_fault [] (rows_of c.args.tokens.now c.args.lines.now)) none ended
+    subst (λ (z : List Section). fault_at_end (open_rows (lines_from c.args.tokens.now c.args.lines.now) (sections z)) ≡ group_fault [] (lines_from c.args.tokens.now c.args.lines.now)) none ended
 
 pub fault_at-requires-in-Some-pop-clause-branching : goal.fault_at-requires-in-Some-pop-clause-branching
 fault_at-requires-in-Some-pop-clause-branching c =
@@ -44,4 +44,4 @@ pub returns : goal.returns
 returns c =
     let top = ap sections c.in-Some-pop.ensures.items ∙ sections_more c.pop.new.self.items c.in-Some-pop.section in
     let sofar = subst (FaultsSoFar c.args.tokens.now c.args.lines.now c.loop-at.at) top c.loop-at.invariant in
-    fault_last c.args.tokens.now c.args.lines.now c.requires.are_lines c.loop-at.at (c.in-Some-pop.section.opening, c.in-Some-pop.section.last) (sections c.pop.new.self.items) c.in_ok-fault_at-in-Some-pop.field-0 c.loop-at-test.false sofar (c.in_ok-fault_at-in-Some-pop.ensures no_row)
+    fault_last c.args.tokens.now c.args.lines.now c.requires.are_lines c.loop-at.at (c.in-Some-pop.section.opening, c.in-Some-pop.section.last) (sections c.pop.new.self.items) c.in_ok-fault_at-in-Some-pop.field-0 c.loop-at-test.false sofar (c.in_ok-fault_at-in-Some-pop.ensures blank_line)
