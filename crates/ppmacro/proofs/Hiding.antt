@@ -229,3 +229,17 @@ hide-none names ns n h = ap set.from_list (kept-nothing (member ns n) 0 names h)
 
 pub union-none : (s : HideSet) → set.union set.empty s ≡ s
 union-none s = same-by _ _ (λ q. set.contains-union nat_list_cmp_total set.empty s q ∙ (λ i. set.contains-empty (slice_cmp nat_cmp) q i || set.contains s q))
+
+-- a set that gained a name has gained it, with what it had
+pub insert-gained : (s : HideSet) (r : Name) → set.insert s r ≡ set.union s (set.insert s r)
+insert-gained s r = same-by _ _ (λ q.
+    set.contains-insert nat_list_cmp_total s r q
+    ∙ once (same_name q r) (set.contains s q)
+    ∙ (λ i. set.contains s q || sym (set.contains-insert nat_list_cmp_total s r q) i)
+    ∙ sym (set.contains-union nat_list_cmp_total s (set.insert s r) q))
+  where
+    once : (a b : Bool) → (a || b) ≡ (b || (a || b))
+    once true true = refl
+    once true false = refl
+    once false true = refl
+    once false false = refl

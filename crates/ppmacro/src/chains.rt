@@ -136,8 +136,7 @@ fn begin_chain<'a>(
 ) -> Result<(), AllocError>
     ensures { OnOk result (chains.new.items ≡ chains.old.items ++ record { mark = mark; operands = operand.entry ∷ [] } ∷ []) }
 {
-    let mut operands = Operands::new(*chains.allocator());
-    operands.push(operand)?;
+    let operands = Operands::new(operand);
     chains.push(Chain { mark, operands })?;
     Ok(())
 }
@@ -157,8 +156,9 @@ fn put<'a>(
     let Some(last) = chains.len().checked_sub(1) else {
         return begin_chain(chains, mark, operand);
     };
+    let alloc = *chains.allocator();
     let chain = &mut chains[last];
-    chain.operands.push(operand)?;
+    chain.operands.push(alloc, operand)?;
     Ok(())
 }
 

@@ -5,9 +5,9 @@ ghost use Rattle.ppmacro.specs.Chains.{chains_of};
 use crate::borrowed::{Body, Leaf};
 use crate::chains::chains_of;
 use pptext::{Place, Spelling};
-use smallvec::SmallVec;
 use std::alloc::{AllocError, Global};
 use std::marker::Model;
+use std::{mem, slice};
 
 /// The predefined macro names (6.10.8.1).
 #[derive(Clone, Copy, Debug, PartialEq, Eq)]
@@ -84,16 +84,23 @@ impl<'a> Default for Operand<'a> {
 
     ghost is_default = { λ o. o ≡ Param 0 };
 
-    // What stands where `Operands` have room for one; nobody sees it.
+    // What stands in the place of an operand that moves; nobody sees it.
     fn default() -> Operand<'a> {
         Operand::Param(0)
     }
 }
 
+/// An operand, or those that `##` joins.
+#[derive(Drop)]
+pub(crate) enum Held<'a> {
+    Lone(Operand<'a>),
+    Joined(Vec<Operand<'a>>),
+}
+
 /// Operands, which contracts see as their list. One alone, as most are, takes no memory beside the value.
 #[derive(Drop)]
 pub struct Operands<'a> {
-    operands: SmallVec<Operand<'a>, 1>,
+    held: Held<'a>,
 }
 
 impl<'a> Model for Operands<'a> {
@@ -102,24 +109,34 @@ impl<'a> Model for Operands<'a> {
 
     ghost Value = { List Operand };
 
-    ghost view = { λ s. s.operands.items };
+    ghost use Rattle.ppmacro.specs.Holding.{held_operands};
+
+    ghost view = { λ s. held_operands s.held };
 }
 
 impl<'a> Operands<'a> {
-    /// No operands.
-    pub fn new(alloc: Global) -> Operands<'a>
-        ensures { result ≡ [] }
+    /// An operand alone.
+    pub(crate) fn new(operand: Operand<'a>) -> Operands<'a>
+        ensures { result ≡ operand.entry ∷ [] }
     {
         Operands {
-            operands: SmallVec::new(alloc),
+            held: Held::Lone(operand),
         }
     }
 
     /// Puts one more behind them.
-    pub(crate) fn push(&mut self, operand: Operand<'a>) -> Result<(), AllocError>
+    pub(crate) fn push(&mut self, alloc: Global, operand: Operand<'a>) -> Result<(), AllocError>
         ensures ok { OnOk result (self.new ≡ self.old ++ operand.entry ∷ []) }
     {
-        self.operands.push(operand)?;
+        match &mut self.held {
+            Held::Joined(operands) => operands.push(operand)?,
+            Held::Lone(first) => {
+                let mut operands = Vec::with_capacity(alloc, 2)?;
+                operands.push(mem::take(first))?;
+                operands.push(operand)?;
+                self.held = Held::Joined(operands);
+            }
+        }
         Ok(())
     }
 
@@ -127,7 +144,10 @@ impl<'a> Operands<'a> {
     pub fn as_slice(&self) -> &[Operand<'a>]
         ensures { result.now ≡ self.now }
     {
-        self.operands.as_slice()
+        match &self.held {
+            Held::Lone(operand) => slice::from_ref(operand),
+            Held::Joined(operands) => operands.as_slice(),
+        }
     }
 }
 

@@ -71,6 +71,7 @@ fn push_chain<'a>(
     };
     let mut hidden = first.clone()?;
     hidden.mark(pending);
+    tokens.reserve(more.len())?;
     tokens.push(hidden)?;
     push_all(tokens, &more[1..])?;
     Ok(false)
@@ -153,7 +154,7 @@ fn chains_tokens<'x, 'a: 'x>(
     ensures known { IfOk result (λ r. IfOk r (λ m. AllKnown sets.new m.0.items)) }
     ensures keeps { Keeps sets.old sets.new }
 {
-    let mut tokens = Vec::new(alloc);
+    let mut tokens = Vec::with_capacity(alloc, chains.len())?;
     let mut pending = space;
     let mut first = true;
     for chain in chains {
@@ -224,51 +225,74 @@ fn push_one<'a>(tokens: &mut Vec<Hidden<'a>>, hidden: Hidden<'a>) -> Result<(), 
     Ok(())
 }
 
-// Each token gains the names, and is used where the macro's name is.
+// Each token gains the names, and is used where the macro's name is. `last` is what a set becomes.
 fn gain_all(
     sets: &mut HideSets,
     tokens: &mut Vec<Hidden>,
+    last: LastGain,
     gain: Set,
     used: Place,
 ) -> Result<(), Memory>
     requires tokens { AllKnown sets.old tokens.old.items }
+    requires last { HasGained sets.old gain last.from last.to }
     requires gain { IsKnown sets.old gain }
     ensures is { OnOk result (hidings sets.new tokens.new.items ≡ map (gained (set_at sets.old gain) used) (hidings sets.old tokens.old.items)) }
     ensures known { OnOk result (AllKnown sets.new tokens.new.items) }
     ensures keeps { Keeps sets.old sets.new }
 {
-    let mut last = LastGain {
-        from: sets.empty(),
-        to: gain,
-    };
+    let mut last = last;
     for hidden in tokens.iter_mut() {
         gain_one(sets, &mut last, hidden, gain, used)?;
     }
     Ok(())
 }
 
+// Each token gains the names of `base` and one name more, and is used where the macro's name is. Most tokens have the set `base`
+// or none.
+fn gain_names(
+    sets: &mut HideSets,
+    tokens: &mut Vec<Hidden>,
+    base: Set,
+    name: &[u8],
+    used: Place,
+) -> Result<(), Memory>
+    requires tokens { AllKnown sets.old tokens.old.items }
+    requires base { IsKnown sets.old base }
+    ensures is { OnOk result (hidings sets.new tokens.new.items ≡ map (gained (set.insert (set_at sets.old base) name.now) used) (hidings sets.old tokens.old.items)) }
+    ensures known { OnOk result (AllKnown sets.new tokens.new.items) }
+    ensures keeps { Keeps sets.old sets.new }
+{
+    let gain = sets.with(base, name)?;
+    let last = LastGain {
+        from: base,
+        to: gain,
+    };
+    gain_all(sets, tokens, last, gain, used)
+}
+
 /// What an invocation is replaced by, and the space mark that waits for the token behind it; or the first of the
 /// faults 19 and 20. `chains` are the macro's, `given` the arguments, `expanded` the expansions of those that stand away from `#` and
-/// `##`; `gain` the names that each token gains, `used` the place of the macro's name, `space` its mark.
+/// `##`; the names of `base` and `name` are what each token gains, `used` is the place of the macro's name, `space` its mark.
 pub fn substitute<'x, 'a: 'x>(
     alloc: Global,
     chains: &[Chain<'a>],
     given: &[Vec<Hidden<'x>>],
     expanded: &[Option<Vec<Hidden<'x>>>],
-    gain: Set,
+    base: Set,
+    name: &[u8],
     used: Place,
     space: bool,
     sets: &mut HideSets,
 ) -> Result<Result<(Vec<Hidden<'x>>, bool), Fault>, Memory>
     requires arguments { ArgumentsKnown sets.old given.now expanded.now }
-    requires gain { IsKnown sets.old gain }
-    ensures is { IfOk result (λ r. marked_in sets.new r ≡ substituted_by chains.now (arguments_in sets.old given.now expanded.now) (set_at sets.old gain) used space) }
+    requires base { IsKnown sets.old base }
+    ensures is { IfOk result (λ r. marked_in sets.new r ≡ substituted_by chains.now (arguments_in sets.old given.now expanded.now) (set.insert (set_at sets.old base) name.now) used space) }
     ensures known { IfOk result (λ r. IfOk r (λ m. AllKnown sets.new m.0.items)) }
     ensures keeps { Keeps sets.old sets.new }
 {
     match chains_tokens(alloc, sets, given, expanded, used, space, chains)? {
         Ok((mut tokens, pending)) => {
-            gain_all(sets, &mut tokens, gain, used)?;
+            gain_names(sets, &mut tokens, base, name, used)?;
             Ok(Ok((tokens, pending)))
         }
         Err(fault) => Ok(Err(fault)),

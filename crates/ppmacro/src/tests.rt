@@ -5,7 +5,7 @@ mod hide_sets;
 mod substitution;
 
 use crate::{HideSets, Set, Shape, Table, define, undef};
-use pptext::{Fault, Memory, Place, Token, read_source};
+use pptext::{Fault, Memory, Place, Profile, Token, read_source};
 use std::alloc::{AllocError, Global};
 use std::process::Abort;
 use std::test::Fail;
@@ -22,7 +22,7 @@ fn lexed(alloc: Global, line: &str) -> Result<Vec<Token>, Fail> {
     if line.len() > 1_000 {
         return Err(Fail::new("a long line"));
     }
-    let source = read_source(alloc, line.as_bytes(), HASH.file)?;
+    let source = read_source(alloc, line.as_bytes(), HASH.file, Profile::C11)?;
     Ok(Vec::from_clones(alloc, source.tokens())?)
 }
 

@@ -17,10 +17,7 @@ pub(crate) fn push_all<'a>(
 ) -> Result<(), AllocError>
     ensures { OnOk result (tokens.new.items ≡ tokens.old.items ++ more.now) }
 {
-    for hidden in more {
-        tokens.push(hidden.clone()?)?;
-    }
-    Ok(())
+    tokens.extend_with_clones(more)
 }
 
 // Puts a token and others behind a list.

@@ -63,23 +63,29 @@ fn as_they_are<'a>(
     lists.into_iter().map(|list| Some(list)).collect(alloc)
 }
 
-/// What `substitute` answers. Where memory is refused, the set `gain` has its member `f`, and the call is made again.
+/// What `substitute` answers, where `f` is the name. Where memory is refused, the set `base` has its member `b`, and the call is
+/// made again.
 fn substituted<'x, 'a: 'x, R: Abort>(
     rt: &R,
     alloc: Global,
     chains: &[Chain<'a>],
     given: &[Vec<Hidden<'x>>],
     expanded: &[Option<Vec<Hidden<'x>>>],
-    gain: Set,
+    base: Set,
     space: bool,
     sets: &mut HideSets,
 ) -> Result<Result<(Vec<Hidden<'x>>, bool), Fault>, Memory>
     requires arguments { ArgumentsKnown sets.old given.now expanded.now }
-    requires gain { IsKnown sets.old gain }
+    requires base { IsKnown sets.old base }
 {
-    let Ok(answer) = substitute(alloc, chains, given, expanded, gain, USED, space, sets) else {
-        assert!(rt; has(rt, sets, gain, b"f") && !has(rt, sets, gain, b"g"));
-        return substitute(alloc, chains, given, expanded, gain, USED, space, sets);
+    let name = b"f";
+    let Ok(answer) = substitute(
+        alloc, chains, given, expanded, base, name, USED, space, sets,
+    ) else {
+        assert!(rt; has(rt, sets, base, b"b") && !has(rt, sets, base, b"f"));
+        return substitute(
+            alloc, chains, given, expanded, base, name, USED, space, sets,
+        );
     };
     Ok(answer)
 }
@@ -105,13 +111,13 @@ fn replaced_by<'x, 'a: 'x, R: Abort>(
     sets: &mut HideSets,
     chains: &[Chain<'a>],
     texts: &'x [Vec<Token>],
-    (hide, gain, space): (Set, Set, bool),
+    (hide, base, space): (Set, Set, bool),
 ) -> Result<Result<(Vec<Hidden<'x>>, bool), Fault>, Memory> {
-    assert!(rt; sets.knows(hide) && sets.knows(gain));
+    assert!(rt; sets.knows(hide) && sets.knows(base));
     let given = arguments(alloc, sets, hide, texts)?;
     let expanded = as_they_are(alloc, arguments(alloc, sets, hide, texts)?)?;
     let (given, expanded) = (given.as_slice(), expanded.as_slice());
-    substituted(rt, alloc, chains, given, expanded, gain, space, sets)
+    substituted(rt, alloc, chains, given, expanded, base, space, sets)
 }
 
 /// The same for the macro that a `#define` line defines.
@@ -147,8 +153,8 @@ fn assert_gives<R: Abort>(
     (space, wanted, mark): (bool, &str, bool),
 ) -> Result<(), Fail> {
     let none = sets.empty();
-    let gain = more(rt, sets, none, b"f")?;
-    let Ok((tokens, pending)) = replaced(rt, alloc, sets, line, texts, (none, gain, space))? else {
+    let base = more(rt, sets, none, b"b")?;
+    let Ok((tokens, pending)) = replaced(rt, alloc, sets, line, texts, (none, base, space))? else {
         return Err(Fail::new("a fault"));
     };
     let text = spelled(alloc, tokens.as_slice())?;
@@ -187,8 +193,8 @@ fn assert_refuses<R: Abort>(
     (number, wanted): (u8, &str),
 ) -> Result<(), Fail> {
     let none = sets.empty();
-    let gain = more(rt, sets, none, b"f")?;
-    let Err(fault) = replaced(rt, alloc, sets, line, texts, (none, gain, false))? else {
+    let base = more(rt, sets, none, b"b")?;
+    let Err(fault) = replaced(rt, alloc, sets, line, texts, (none, base, false))? else {
         return Err(Fail::new("no fault"));
     };
     assert_eq!(rt; fault.number, number);
@@ -370,7 +376,7 @@ fn refuses_what_is_no_token(rt: HostRuntime) -> Result<(), Fail> {
 
 /// Asserts that a token has the name `f`, whether it has `g`, and where it stands.
 fn assert_placed<R: Abort>(rt: &R, sets: &HideSets, hidden: &Hidden, (hides, col): (bool, u32)) {
-    assert!(rt; has(rt, sets, hidden.hide(), b"f"));
+    assert!(rt; has(rt, sets, hidden.hide(), b"f") && has(rt, sets, hidden.hide(), b"b"));
     assert_eq!(rt; has(rt, sets, hidden.hide(), b"g"), hides);
     assert_eq!(rt; hidden.at().col, col);
     assert_eq!(rt; hidden.used(), USED);
@@ -385,8 +391,8 @@ fn names_and_places_are_given<R: Abort>(
 ) -> Result<(), Fail> {
     let none = sets.empty();
     let hide = more(rt, sets, none, b"g")?;
-    let gain = more(rt, sets, none, b"f")?;
-    let Ok((tokens, _)) = replaced(rt, alloc, sets, line, texts, (hide, gain, false))? else {
+    let base = more(rt, sets, none, b"b")?;
+    let Ok((tokens, _)) = replaced(rt, alloc, sets, line, texts, (hide, base, false))? else {
         return Err(Fail::new("a fault"));
     };
     let text = spelled(alloc, tokens.as_slice())?;
@@ -404,7 +410,7 @@ fn names_and_places_are_given<R: Abort>(
     Ok(())
 }
 
-// Every token gains a name. Beside it the argument's tokens keep their sets, a pasted one has what both parts have, and
+// Every token gains a set and a name. Beside them the argument's tokens keep their sets, a pasted one has what both parts have, and
 // one of the replacement list or of `#` has none. A token stands where its first part was spelled, and one that is joined
 // to nothing stays what it is.
 #[test]

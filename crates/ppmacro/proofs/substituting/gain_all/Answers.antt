@@ -1,9 +1,7 @@
 use Rattle.std.proofs.Common.{rules, ◌≡◌, ◌∙◌, ◌<◌, ◌+◌, refl, sym, ap, subst, [], ◌∷◌, map, take, drop, suc, length, get_or, arith}
 use Rattle.std.proofs.lemmas.List.{take_more_set, drop-set-lt, drop_more}
-use Rattle.std.specs.FinSet as set
 use Rattle.ppmacro.specs.HideSets.{set_at, hidings, AllKnown}
 use Rattle.ppmacro.specs.Substitution.{gained}
-use Rattle.ppmacro.proofs.Hiding.{union-none}
 use Rattle.ppmacro.proofs.KeepLemmas.{keeps-all, known-keeps, known-append, keeps-after}
 use Rattle.ppmacro.proofs.WalkLemmas.{next-item, known-drop, gained-more}
 use Rattle.ppmacro.proofs.substituting.gain_all.Goals as goal
@@ -11,12 +9,11 @@ use Rattle.ppmacro.proofs.substituting.gain_all.Goals as goal
 pub loop-hidden-init : goal.loop-hidden-init
 loop-hidden-init c =
     let s = c.args.sets.now in
-    let names = set_at s c.args.gain in
     record {
       same = refl;
       rest = c.deref_mut-hidden-items.ensures.value;
       done_known = record { each = tt };
-      last = record { from_known = c.empty.ensures.known; to_known = c.requires.gain; is = sym ((λ i. set.union (c.empty.ensures.set i) names) ∙ union-none names) };
+      last = c.requires.last;
       keeps = keeps-all s;
     }
 
