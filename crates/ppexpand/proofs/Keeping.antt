@@ -1,6 +1,7 @@
 -- Arguments and invocations stand for the same while hide sets are added.
 use Rattle.std.proofs.Common.{◌≡◌, ℕ, zero, suc, List, [], ◌∷◌, ◌++◌, Option, Some, None, Vec, Global, refl, ap}
 use Rattle.std.specs.Option.{option_map}
+use Rattle.std.specs.FinSet as set
 use Rattle.ppmacro.specs.Names.{HideSet}
 use Rattle.ppmacro.specs.Numbered.{Numbered}
 use Rattle.ppmacro.specs.HideSets.{set_at, IsKnown, hiding, hidings, AllKnown, Keeps}
@@ -66,18 +67,18 @@ pub no_arguments_known : (s : Numbered) → ArgumentsKnown s [] []
 no_arguments_known s = arguments_known [] [] (record { each = tt }) (record { each = tt })
 
 pub call_known-keeps : {s t : Numbered} (c : Invocation) → Keeps s t → CallKnown s c → CallKnown t c
-call_known-keeps c k h = record { head = known-set c.head.hide k h.head; arguments = given_known-keeps c.arguments.items k h.arguments; gain = known-set c.gain k h.gain }
+call_known-keeps c k h = record { head = known-set c.head.hide k h.head; arguments = given_known-keeps c.arguments.items k h.arguments; both = known-set c.both k h.both }
 
 pub call_in-keeps : {s t : Numbered} (c : Invocation) (behind : List Hidden) → Keeps s t → CallKnown s c → AllKnown s behind → call_in t c behind ≡ call_in s c behind
 call_in-keeps {s} {t} c behind k h rest =
-    let gains : set_at t c.gain ≡ set_at s c.gain = set-keeps c.gain k h.gain in
+    let sets : set_at t c.both ≡ set_at s c.both = set-keeps c.both k h.both in
     let heads : hiding t c.head ≡ hiding s c.head = hiding-keeps c.head k h.head in
     let lists : given_in t c.arguments.items ≡ given_in s c.arguments.items = given-keeps c.arguments.items k h.arguments in
     let rests : hidings t behind ≡ hidings s behind = hidings-keeps behind k rest in
-    λ i. record { head = heads i; macro = c.replaced.now; arguments = lists i; gain = gains i; behind = rests i }
+    λ i. record { head = heads i; macro = c.replaced.now; arguments = lists i; gain = set.insert (sets i) c.head.token.text; behind = rests i }
 
 -- an invocation that was made while sets were added
-pub call_made : {s t : Numbered} (c : Invocation) (behind : List Hidden) (gain : HideSet) → Keeps s t → IsKnown s c.head.hide → ListsKnown s c.arguments.items → AllKnown s behind → set_at t c.gain ≡ gain → call_in t c behind ≡ record { head = hiding s c.head; macro = c.replaced.now; arguments = given_in s c.arguments.items; gain = gain; behind = hidings s behind }
+pub call_made : {s t : Numbered} (c : Invocation) (behind : List Hidden) (gain : HideSet) → Keeps s t → IsKnown s c.head.hide → ListsKnown s c.arguments.items → AllKnown s behind → set.insert (set_at t c.both) c.head.token.text ≡ gain → call_in t c behind ≡ record { head = hiding s c.head; macro = c.replaced.now; arguments = given_in s c.arguments.items; gain = gain; behind = hidings s behind }
 call_made {s} {t} c behind gain k head lists rest gains =
     let heads : hiding t c.head ≡ hiding s c.head = hiding-keeps c.head k head in
     let arguments : given_in t c.arguments.items ≡ given_in s c.arguments.items = given-keeps c.arguments.items k lists in

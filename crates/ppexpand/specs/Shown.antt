@@ -1,6 +1,7 @@
 -- What the program's values stand for.
 use Rattle.std.specs.Prelude.{◌≡◌, ℕ, suc, ◌<◌, ◌≤◌, List, [], ◌∷◌, ◌++◌, map, Bool, false, length, ◌==◌, Option, Some, None, Result, Ok, Err, Vec}
 use Rattle.std.specs.Global.{Global}
+use Rattle.std.specs.FinSet as set
 use Rattle.std.specs.List.{AllByRecursion}
 use Rattle.std.specs.Option.{option_map}
 use Rattle.pptext.specs.declared.tokens.Token.{Token}
@@ -65,13 +66,13 @@ GatheredKnown sets left _ = Unit {0}
 
 -- an invocation with what stands behind its `)`
 abbrev pub call_in : Numbered → Invocation → List Hidden → Call
-call_in sets c behind = record { head = hiding sets c.head; macro = c.replaced.now; arguments = given_in sets c.arguments.items; gain = set_at sets c.gain; behind = hidings sets behind }
+call_in sets c behind = record { head = hiding sets c.head; macro = c.replaced.now; arguments = given_in sets c.arguments.items; gain = set.insert (set_at sets c.both) c.head.token.text; behind = hidings sets behind }
 
 -- the sets of an invocation are there
 pub record CallKnown (sets : Numbered) (c : Invocation) : Type 0 where
   pub head : IsKnown sets c.head.hide
   pub arguments : ListsKnown sets c.arguments.items
-  pub gain : IsKnown sets c.gain
+  pub both : IsKnown sets c.both
 
 -- the turn, where this list is left
 abbrev pub turn_in : Numbered → List Hidden → Next → Turn

@@ -8,6 +8,7 @@ mod expansion;
 mod laws;
 mod passed;
 mod predefined;
+mod run_iter;
 mod spellings;
 mod stretch;
 #[cfg(test)]
@@ -20,5 +21,6 @@ pub use laws::{
     expansion_ends, finds_arguments, leaves_settled_tokens, one_expansion, one_outcome,
 };
 pub use passed::{Piece, Run};
+pub use run_iter::{RunIter, TokenRef};
 pub use spellings::is_lone_quote;
 pub use stretch::Stretch;

@@ -1,7 +1,7 @@
 // Macro replacement on the standard's examples.
 use crate::{Env, Piece, Run, expand};
 use ppmacro::{Hidden, Table, define, undef};
-use pptext::{Directive, Fault, Memory, Place, Source, Spelling, Token, read_source};
+use pptext::{Directive, Fault, Memory, Place, Profile, Source, Spelling, Token, read_source};
 use std::alloc::{AllocError, Global};
 use std::process::Abort;
 use std::test::Fail;
@@ -64,7 +64,7 @@ fn directed<'a>(
 /// What the lines behind the last directive of a text are expanded to.
 fn expanded(rt: &impl Abort, alloc: Global, env: &Env, text: &[u8]) -> Result<Outcome, Fail> {
     assert!(rt; text.len() <= 16_777_216);
-    let source = read_source(alloc, text, 1)?;
+    let source = read_source(alloc, text, 1, Profile::C11)?;
     let mut table = Table::new(alloc)?;
     let tokens = directed(rt, alloc, &mut table, &source)?;
     let expanded = expand(alloc, &table, env, tokens)?;
@@ -82,7 +82,7 @@ fn assert_spelled(
     given: &[u8],
 ) -> Result<(), Fail> {
     assert!(rt; given.len() <= 16_777_216);
-    let wanted = read_source(alloc, given, 2)?;
+    let wanted = read_source(alloc, given, 2, Profile::C11)?;
     for (token, want) in tokens.iter().zip(wanted.tokens()) {
         assert_eq!(rt; token.text.as_bytes(), want.text.as_bytes());
     }
@@ -414,7 +414,7 @@ fn spelled_by_parts(alloc: Global, run: &Run) -> Result<Vec<u8>, AllocError> {
 /// The same of what the lines behind the last directive of a text are expanded to.
 fn expanded_by_parts(rt: &impl Abort, alloc: Global, text: &[u8]) -> Result<Vec<u8>, Fail> {
     assert!(rt; text.len() <= 16_777_216);
-    let source = read_source(alloc, text, 1)?;
+    let source = read_source(alloc, text, 1, Profile::C11)?;
     let mut table = Table::new(alloc)?;
     let tokens = directed(rt, alloc, &mut table, &source)?;
     let expanded = expand(alloc, &table, &env(alloc)?, tokens)?;
@@ -430,10 +430,59 @@ fn passes_stretches_of_the_file(rt: HostRuntime) -> Result<(), Fail> {
     Ok(())
 }
 
+/// That the tokens of a run, one by one, are those of its list.
+fn assert_yields_all(rt: &impl Abort, alloc: Global, run: &Run) -> Result<(), Fail> {
+    let tokens = run.to_vec(alloc)?;
+    for (shown, token) in run.iter().zip(&tokens) {
+        assert_eq!(rt; shown.kind(), token.kind);
+        assert_eq!(rt; shown.text(), token.text.as_bytes());
+        assert_eq!(rt; shown.at(), token.at);
+        assert_eq!(rt; shown.used(), token.used);
+        assert_eq!(rt; shown.space(), token.space);
+        assert_eq!(rt; shown.to_token()?.text.as_bytes(), token.text.as_bytes());
+    }
+    assert_eq!(rt; run.iter().count(), tokens.len());
+    Ok(())
+}
+
+/// The spellings of a run's tokens one by one, each behind a blank.
+fn spelled_one_by_one(alloc: Global, run: &Run) -> Result<Vec<u8>, AllocError> {
+    let mut text = Vec::new(alloc);
+    for token in run.iter() {
+        text.push(b' ')?;
+        text.extend_from_slice(token.text())?;
+    }
+    Ok(text)
+}
+
+/// That what the lines behind the last directive of a text are expanded to has these spellings, one by one.
+fn assert_yields(rt: &impl Abort, alloc: Global, text: &[u8], wanted: &[u8]) -> Result<(), Fail> {
+    assert!(rt; text.len() <= 16_777_216);
+    let source = read_source(alloc, text, 1)?;
+    let mut table = Table::new(alloc)?;
+    let tokens = directed(rt, alloc, &mut table, &source)?;
+    let expanded = expand(alloc, &table, &env(alloc)?, tokens)?;
+    assert_eq!(rt;
+        spelled_one_by_one(alloc, &expanded.tokens)?.as_slice(),
+        wanted
+    );
+    assert_yields_all(rt, alloc, &expanded.tokens)
+}
+
+#[test]
+fn yields_tokens_one_by_one(rt: HostRuntime) -> Result<(), Fail> {
+    let alloc = rt.alloc();
+    let text = b"#define X 1 + 2\n#define J(a,b) a##b\na b X c X J(d,e)";
+    assert_yields(&rt, alloc, text, b" a b 1 + 2 c 1 + 2 de")?;
+    assert_yields(&rt, alloc, b"#define X 1 + 2\nX c", b" 1 + 2 c")?;
+    assert_yields(&rt, alloc, b"#define X 1\na b", b" a b")?;
+    assert_yields(&rt, alloc, b"#define X\nX", b"")
+}
+
 /// Whether the lines behind the last directive of a text pass as they stand.
 fn passes_unchanged(rt: &impl Abort, alloc: Global, text: &[u8]) -> Result<bool, Fail> {
     assert!(rt; text.len() <= 16_777_216);
-    let source = read_source(alloc, text, 1)?;
+    let source = read_source(alloc, text, 1, Profile::C11)?;
     let mut table = Table::new(alloc)?;
     let tokens = directed(rt, alloc, &mut table, &source)?;
     let expanded = expand(alloc, &table, &env(alloc)?, tokens)?;

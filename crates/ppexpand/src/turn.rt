@@ -29,8 +29,8 @@ pub(crate) struct Invocation<'t, 'x, 'a> {
     pub(crate) replaced: &'t Macro<'a>,
     /// An argument for each parameter.
     pub(crate) arguments: Vec<Vec<Hidden<'x>>>,
-    /// The names that each token of the replacement gains.
-    pub(crate) gain: Set,
+    /// The names that hide both its name and its `)`; each token of the replacement gains them and the macro's name.
+    pub(crate) both: Set,
 }
 
 /// What the next token of a list called for, once the list is what is left.
@@ -66,20 +66,21 @@ pub(crate) fn macro_at<'t, 'a>(table: &'t Table<'a>, token: &Token) -> Option<&'
 }
 
 /// Puts what an invocation of the macro with these chains is replaced by before the rest of the list, or raises fault 19 or 20.
+/// Each token gains the names of `base` and that of the macro.
 fn replace<'x, 'a: 'x>(
     alloc: Global,
     sets: &mut HideSets,
     chains: &[Chain<'a>],
     given: &[Vec<Hidden<'x>>],
     expanded: &[Option<Vec<Hidden<'x>>>],
-    gain: Set,
+    base: Set,
     head: &Hidden,
     list: &mut Cursor<'x>,
 ) -> Result<Result<(), Fault>, Memory>
     requires arguments { ArgumentsKnown sets.old given.now expanded.now }
-    requires gain { IsKnown sets.old gain }
+    requires base { IsKnown sets.old base }
     requires list { AllKnown sets.old list.old }
-    ensures is { IfOk result (λ r. replaced_in sets.new list.new r ≡ replaced_by (substituted_by chains.now (arguments_in sets.old given.now expanded.now) (set_at sets.old gain) head.now.token.used head.now.token.space) (hidings sets.old list.old)) }
+    ensures is { IfOk result (λ r. replaced_in sets.new list.new r ≡ replaced_by (substituted_by chains.now (arguments_in sets.old given.now expanded.now) (set.insert (set_at sets.old base) head.now.token.text) head.now.token.used head.now.token.space) (hidings sets.old list.old)) }
     ensures known { IfOk result (λ r. OnOk r (AllKnown sets.new list.new)) }
     ensures keeps { Keeps sets.old sets.new }
 {
@@ -88,7 +89,8 @@ fn replace<'x, 'a: 'x>(
         chains,
         given,
         expanded,
-        gain,
+        base,
+        head.text(),
         head.used(),
         head.space(),
         sets,
@@ -136,9 +138,9 @@ fn object_turn<'t, 'x, 'a: 'x>(
     ensures known { IfOk result (λ n. NextKnown sets.new list.new n) }
     ensures keeps { Keeps sets.old sets.new }
 {
-    let gain = sets.with(head.hide(), head.text())?;
     let chains = replaced.chains(alloc)?;
-    match replace(alloc, sets, chains.as_slice(), &[], &[], gain, &head, list)? {
+    let base = head.hide();
+    match replace(alloc, sets, chains.as_slice(), &[], &[], base, &head, list)? {
         Ok(()) => Ok(Next::Replaced),
         Err(fault) => Ok(Next::Refused(fault)),
     }
@@ -166,12 +168,11 @@ fn called<'t, 'x, 'a: 'x>(
         return Ok(Next::Refused(at_use(18, &head)?));
     };
     let both = sets.meet(head.hide(), close.hide())?;
-    let gain = sets.with(both, head.text())?;
     Ok(Next::Called(Invocation {
         head,
         replaced,
         arguments,
-        gain,
+        both,
     }))
 }
 
@@ -304,5 +305,5 @@ pub(crate) fn finish<'x, 'a: 'x>(
 {
     let given = call.arguments.as_slice();
     let head = &call.head;
-    replace(alloc, sets, chains, given, expanded, call.gain, head, list)
+    replace(alloc, sets, chains, given, expanded, call.both, head, list)
 }

@@ -1,5 +1,6 @@
 use Rattle.std.proofs.Common.{◌≡◌, sym, subst, IfOk, List, Vec}
 use Rattle.std.specs.Global.{Global}
+use Rattle.std.specs.FinSet as set
 use Rattle.ppmacro.specs.HideSets.{set_at, hidings}
 use Rattle.ppmacro.specs.Chains.{chains_of}
 use Rattle.ppmacro.specs.declared.macros.Chain.{Chain}
@@ -20,5 +21,5 @@ unfolding finished
 returns-clause-is c =
     let s = c.args.sets.now in
     let call = c.args.call.now in
-    let shown : List Chain → List (Vec Hidden Global) → Type 0 = λ chains given. IfOk c.replace.result (λ r. replaced_in c.replace.new.sets c.replace.new.list r ≡ replaced_by (substituted_by chains (arguments_in s given c.args.expanded.now) (set_at s call.gain) call.head.token.used call.head.token.space) (hidings s c.args.list.now)) in
+    let shown : List Chain → List (Vec Hidden Global) → Type 0 = λ chains given. IfOk c.replace.result (λ r. replaced_in c.replace.new.sets c.replace.new.list r ≡ replaced_by (substituted_by chains (arguments_in s given c.args.expanded.now) (set.insert (set_at s call.both) call.head.token.text) call.head.token.used call.head.token.space) (hidings s c.args.list.now)) in
     subst (λ given. shown (chains_of call.replaced.now) given) c.as_slice-given.ensures.value (subst (λ chains. shown chains c.as_slice-given.result.now) c.requires.chains c.replace.ensures.is)

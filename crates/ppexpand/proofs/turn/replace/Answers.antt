@@ -1,5 +1,6 @@
 use Rattle.std.proofs.Common.{◌≡◌, ◌∙◌, ◌++◌, sym, ap, subst}
 use Rattle.std.proofs.lemmas.List.{map-append}
+use Rattle.std.specs.FinSet as set
 use Rattle.ppmacro.specs.HideSets.{set_at, hiding, hidings, AllKnown}
 use Rattle.ppmacro.specs.Substitution.{substituted_by}
 use Rattle.ppmacro.specs.Substituting.{arguments_in, marked_in}
@@ -14,7 +15,7 @@ returns-in_ok-push_all-in-Ok-clause-is c =
     let t = c.substitute.new.sets in
     let list = c.args.list.now in
     let tokens = c.in-Ok.tokens.items in
-    let made = ap (marked_in t) (sym c.in-Ok.is) ∙ c.in_ok-tokens.ensures.is ∙ (λ i. substituted_by c.args.chains.now (arguments_in s c.args.given.now c.args.expanded.now) (set_at s c.args.gain) (c.used.ensures i) (c.space.ensures i)) in
+    let made = ap (marked_in t) (sym c.in-Ok.is) ∙ c.in_ok-tokens.ensures.is ∙ (λ i. substituted_by c.args.chains.now (arguments_in s c.args.given.now c.args.expanded.now) (set.insert (set_at s c.args.base) (c.text.ensures i)) (c.used.ensures i) (c.space.ensures i)) in
     let marked : hidings t c.mark_next.new.self ≡ mark_next c.in-Ok.pending (hidings s list) = ap (hidings t) c.mark_next.ensures ∙ hidings-marked t c.in-Ok.pending list ∙ ap (mark_next c.in-Ok.pending) (hidings-keeps list c.in_ok-tokens.ensures.keeps c.requires.list) in
     let all : hidings t c.push_all.new.self ≡ hidings t tokens ++ mark_next c.in-Ok.pending (hidings s list) = ap (hidings t) c.in_ok-push_all-in-Ok.ensures ∙ map-append (hiding t) tokens c.mark_next.new.self ∙ ap (λ hs. hidings t tokens ++ hs) marked in
     ap Replaced all ∙ ap (λ r. replaced_by r (hidings s list)) made
@@ -28,4 +29,4 @@ returns-in_ok-push_all-in-Ok-clause-known c =
 
 pub returns-in-Err-clause-is : goal.returns-in-Err-clause-is
 returns-in-Err-clause-is c =
-    ap (λ r. replaced_by r (hidings c.args.sets.now c.args.list.now)) (ap (marked_in c.substitute.new.sets) (sym c.in-Err.is) ∙ c.in_ok-tokens.ensures.is ∙ (λ i. substituted_by c.args.chains.now (arguments_in c.args.sets.now c.args.given.now c.args.expanded.now) (set_at c.args.sets.now c.args.gain) (c.used.ensures i) (c.space.ensures i)))
+    ap (λ r. replaced_by r (hidings c.args.sets.now c.args.list.now)) (ap (marked_in c.substitute.new.sets) (sym c.in-Err.is) ∙ c.in_ok-tokens.ensures.is ∙ (λ i. substituted_by c.args.chains.now (arguments_in c.args.sets.now c.args.given.now c.args.expanded.now) (set.insert (set_at c.args.sets.now c.args.base) (c.text.ensures i)) (c.used.ensures i) (c.space.ensures i)))
