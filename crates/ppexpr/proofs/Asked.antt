@@ -39,7 +39,7 @@ begins_question macros d ts vs o e g (question {us = us} {o = p} f k h) =
     let same : o ≡ p = cc in
     subst (λ (q : Operand). Asks macros q.rest us → Begins macros (answer macros d o.name) o.rest (answer macros d q.name ∷ us)) same (λ a. record { us = us; is = refl; asks = a }) h
 
-asks_none : (macros : Macros) (d : Token) (ts vs : List Token) → is_defined d ≡ true → operand ts ≡ None → Asks macros (d ∷ ts) vs → ⊥
+pub asks_none : (macros : Macros) (d : Token) (ts vs : List Token) → is_defined d ≡ true → operand ts ≡ None → Asks macros (d ∷ ts) vs → ⊥
 asks_none macros d ts vs e g (other f h) = cc
 asks_none macros d ts vs e g (question f k h) = cc
 

@@ -11,7 +11,8 @@ use Rattle.ppexpr.specs.declared.symbols.Binary.TheVariants.{Multiply, Divide, R
 use Rattle.ppexpr.specs.Symbols.{unary_of, binary_of}
 use Rattle.ppexpr.specs.Trees.{Tree, Leaf, Applied, Joined, Chosen}
 use Rattle.ppexpr.specs.Grammar.{level_of, Derives, constant, parentheses, unary, binary, conditional, tighter}
-use Rattle.ppexpr.specs.Pending.{Meaning, Frame, Group, Sign, Left, Test, Arms, frame_level, completed, kept, settled, signed, operated, between, closed, ended, run}
+use Rattle.ppexpr.specs.Pending.{Meaning, Frame, Group, Sign, Left, Test, Arms, frame_level, completed, kept, settled, signed, operated, between, closed, ended}
+use Rattle.ppexpr.proofs.Machine.{run}
 
 -- what a tree means
 abbrev pub meaning : {A : Type 0} → Meaning A → Tree → A

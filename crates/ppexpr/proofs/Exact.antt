@@ -8,10 +8,11 @@ use Rattle.ppexpr.specs.Trees.{Tree, Leaf, Applied, Joined, Chosen}
 use Rattle.ppexpr.specs.Grammar.{IsExpression}
 use Rattle.ppexpr.specs.Values.{unary_outcome, binary_outcome, choice_outcome, outcome_of}
 use Rattle.ppexpr.specs.Reading.{Denotes}
-use Rattle.ppexpr.specs.Pending.{State, step, finish, run}
+use Rattle.ppexpr.specs.Pending.{State, step, finish}
 use Rattle.ppexpr.specs.Frames.{outcomes}
 use Rattle.ppexpr.proofs.Complete.{meaning, complete}
 use Rattle.ppexpr.proofs.Sound.{Means, sound}
+use Rattle.ppexpr.proofs.Machine.{run}
 
 meaning-outcomes : (t : Tree) → meaning outcomes t ≡ outcome_of t
 meaning-outcomes (Leaf v) = refl
@@ -26,7 +27,7 @@ no_answer s e = λ x. some_is_none (meaning outcomes x.0) (sym (complete outcome
     some_is_none z h = cc
 
 -- what the machine answers is what the symbols denote, or they are no expression
-exact : (s : List Symbol) (r : Option Outcome) → run outcomes ([], None) s ≡ r → MatchOption r (¬ IsExpression s) (Denotes s)
+pub exact : (s : List Symbol) (r : Option Outcome) → run outcomes ([], None) s ≡ r → MatchOption r (¬ IsExpression s) (Denotes s)
 exact s None e = no_answer s e
 exact s (Some z) e = denoted (subst (λ q. IfSome q (Means outcomes s)) e (sound outcomes s))
   where

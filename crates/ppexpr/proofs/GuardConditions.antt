@@ -1,10 +1,9 @@
 -- The condition of a guard (6.10.1) whose name is a macro's.
-use Rattle.std.proofs.Common.{◌≡◌, ℕ, ◌≤◌, pos, Bool, true, false, List, [], ◌∷◌, length, take, None, Ok, inl, inr, refl, ap, subst, codes, if◌then◌else◌, is_some, arith, length-take}
+use Rattle.std.proofs.Common.{◌≡◌, ℕ, pos, Bool, true, false, List, [], ◌∷◌, None, Ok, refl, ap, subst, codes, if◌then◌else◌, is_some, arith}
 use Rattle.std.specs.Ordering.{nat_cmp}
 use Rattle.std.specs.Cmp.Lexicographic.{slice_cmp}
 use Rattle.std.specs.FinSet as set
 use Rattle.std.specs.FinMap as table
-use Rattle.std.proofs.lemmas.List.Sums.{count_by-le-length, suffix_len-le-length}
 use Rattle.pptext.specs.declared.tokens.Place.{Place}
 use Rattle.pptext.specs.declared.tokens.Token.{Token}
 use Rattle.pptext.specs.declared.tokens.Kind.TheVariants.{Ident, Number, Punct}
@@ -22,8 +21,9 @@ use Rattle.ppexpr.specs.Trees.{Tree, Leaf, Applied}
 use Rattle.ppexpr.specs.Values.{unary_outcome, constant_outcome}
 use Rattle.ppexpr.specs.Grammar.{Derives, constant, unary, tighter}
 use Rattle.ppexpr.specs.Asking.{Asks, nothing, other, question, answer}
-use Rattle.ppexpr.specs.Nesting.{IsTooNested, is_open, is_question, is_sign}
+use Rattle.ppexpr.specs.Nesting.{IsTooNested}
 use Rattle.ppexpr.specs.Conditions.{Evaluates, has_value, not_nested, constants, IsCondition, replaced}
+use Rattle.ppexpr.proofs.Shallow.{few_shallow}
 
 -- ---- `! 1`
 
@@ -37,13 +37,8 @@ tree = Applied Not (Leaf (Signed (pos 1)))
 whole : {s : List Symbol} {t : Tree} → Derives 12 s t → Derives 0 s t
 whole d = tighter {k = 0} (tighter {k = 1} (tighter {k = 2} (tighter {k = 3} (tighter {k = 4} (tighter {k = 5} (tighter {k = 6} (tighter {k = 7} (tighter {k = 8} (tighter {k = 9} (tighter {k = 10} (tighter {k = 11} d)))))))))))
 
-few : (k : ℕ) → length (take k symbols) ≤ 2
-few k = omega (arith, length-take k symbols)
-
 shallow : ¬ IsTooNested symbols
-shallow (inl (k, deep)) = absurd (omega (arith, few k, count_by-le-length is_open (take k symbols)))
-shallow (inr (inl many)) = absurd (omega (arith, count_by-le-length is_question symbols))
-shallow (inr (inr (k, deep))) = absurd (omega (arith, few k, suffix_len-le-length is_sign (take k symbols)))
+shallow = few_shallow symbols (omega arith)
 
 is_false : (at : Place) → Evaluates at symbols (Ok false)
 unfolding tree unary_outcome constant_outcome

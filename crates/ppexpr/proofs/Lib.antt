@@ -1,6 +1,7 @@
 pub mod Shifts
 pub mod Digits
 pub mod Large
+pub mod Machine
 pub mod Complete
 pub mod Sound
 pub mod Exact
@@ -8,6 +9,9 @@ pub mod OneTree
 pub mod Asked
 pub mod SymbolSteps
 pub mod ConditionSteps
+pub mod Shallow
+pub mod Unreplaced
 pub mod OneCondition
+pub mod SomeCondition
 pub mod Types
 pub mod GuardConditions

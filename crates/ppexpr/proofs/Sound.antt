@@ -10,8 +10,9 @@ use Rattle.ppexpr.specs.declared.symbols.Binary.{Binary}
 use Rattle.ppexpr.specs.Symbols.{unary_of, binary_of}
 use Rattle.ppexpr.specs.Trees.{Tree, Leaf, Applied, Joined, Chosen}
 use Rattle.ppexpr.specs.Grammar.{level_of, Derives, constant, parentheses, unary, binary, conditional, tighter}
-use Rattle.ppexpr.specs.Pending.{Meaning, Frame, Group, Sign, Left, Test, Arms, frame_level, completed, kept, settled, State, signed, operated, between, closed, ended, step, run}
+use Rattle.ppexpr.specs.Pending.{Meaning, Frame, Group, Sign, Left, Test, Arms, frame_level, completed, kept, settled, State, signed, operated, between, closed, ended, step}
 use Rattle.ppexpr.proofs.Complete.{meaning, level_bounds}
+use Rattle.ppexpr.proofs.Machine.{run}
 
 -- an expression of a level is one of each looser level
 loosened : (j k : ℕ) {s : List Symbol} {t : Tree} → k ≤ j → Derives j s t → Derives k s t

@@ -10,4 +10,5 @@ pub mod Characters
 pub mod Asking
 pub mod Tokens
 pub mod Nesting
+pub mod Direct
 pub mod Conditions

@@ -1,5 +1,6 @@
--- Reading an expression from the left with a stack of what still waits for its last operand.
-use Rattle.std.specs.Prelude.{ℕ, List, [], ◌∷◌, Option, Some, None, nat_le, if◌then◌else◌, option_and_then}
+-- Reading an expression from the left with a stack of what still waits for its last operand: what the parser's own functions
+-- say of their steps. What is read is said by the grammar alone.
+use Rattle.std.specs.Prelude.{ℕ, List, [], ◌∷◌, Option, Some, None, nat_le, if◌then◌else◌}
 use Rattle.ppexpr.specs.declared.symbols.Value.{Value}
 use Rattle.ppexpr.specs.declared.symbols.Symbol.{Symbol}
 use Rattle.ppexpr.specs.declared.symbols.Symbol.TheVariants.{Constant, Operator, Open, Close, Question, Colon}
@@ -86,7 +87,3 @@ step m (fs, Some z) s = None
 abbrev pub finish : {A : Type 0} → Meaning A → State A → Option A
 finish m (fs, None) = None
 finish m (fs, Some z) = ended (kept 1 fs) (settled m 1 fs z)
-
-abbrev pub run : {A : Type 0} → Meaning A → State A → List Symbol → Option A
-run m s [] = finish m s
-run m s (x ∷ xs) = option_and_then (λ r. run m r xs) (step m s x)

@@ -1,5 +1,6 @@
 // `defined` in a controlling expression (6.10.1p1).
-ghost use Rattle.std.specs.Prelude.{◌≡◌, IfOk, MatchOption, None, Some, List};
+ghost use Rattle.std.specs.Prelude.{◌≡◌, IfOk, MatchOption, None, Some, List, is_some};
+ghost use Rattle.std.specs.FinMap as map;
 ghost use Rattle.pptext.specs.declared.tokens.Token.{Token};
 ghost use Rattle.ppexpr.specs.Asking.{is_defined, parenthesized, operand, answer, Asks};
 
@@ -29,8 +30,8 @@ fn parenthesized(tokens: &[Token]) -> Option<(&Token, &[Token])>
     }
 }
 
-// The name that `defined` asks for, and what stands behind it.
-fn operand(tokens: &[Token]) -> Option<(&Token, &[Token])>
+/// The name that `defined` asks for, and what stands behind it.
+pub(crate) fn operand(tokens: &[Token]) -> Option<(&Token, &[Token])>
     ensures { MatchOption result (operand tokens.now ≡ None) (λ o. operand tokens.now ≡ Some (record { name = o.0.now; rest = o.1.now })) }
 {
     let [name, rest @ ..] = tokens else {
@@ -42,11 +43,18 @@ fn operand(tokens: &[Token]) -> Option<(&Token, &[Token])>
     parenthesized(tokens)
 }
 
+/// Whether an identifier is defined as a macro name.
+pub(crate) fn is_macro_name(table: &Table, name: &Token) -> bool
+    ensures { result ≡ is_some (map.get table.now name.now.text) }
+{
+    table.get(name.text.as_bytes()).is_some()
+}
+
 // The number that stands in the place of `defined`.
 fn answer(alloc: Global, table: &Table, defined: &Token, name: &Token) -> Result<Token, AllocError>
     ensures { IfOk result (λ t. t ≡ answer table.now defined.now name.now) }
 {
-    let digit = if table.get(name.text.as_bytes()).is_some() {
+    let digit = if is_macro_name(table, name) {
         b"1".as_slice()
     } else {
         b"0".as_slice()

@@ -5,6 +5,7 @@ ghost use Rattle.ppexpr.specs.Asking.{is_defined};
 ghost use Rattle.ppexpr.specs.Conditions.{failure_fault, taken, Evaluates, Judges, Decides, IsCondition};
 
 use crate::asking::{asked, is_defined};
+use crate::direct::direct_symbols;
 use crate::nesting::is_too_nested;
 use crate::parsing::parse;
 use crate::symbols::{Failure, Symbol, Value};
@@ -83,7 +84,7 @@ fn decide(alloc: Global, at: Place, tokens: &[Token]) -> Result<Result<bool, Fau
     }
 }
 
-// The same, without a copy of the tokens where they stand in the file as they are, as most do.
+// The same, without a copy of the tokens where they stand as they are.
 fn decide_run(alloc: Global, at: Place, run: &Run) -> Result<Result<bool, Fault>, AllocError>
     ensures { IfOk result (λ c. Decides at run.now c) }
 {
@@ -94,12 +95,8 @@ fn decide_run(alloc: Global, at: Place, run: &Run) -> Result<Result<bool, Fault>
     decide(alloc, at, tokens.as_slice())
 }
 
-/// Whether the group behind `#if` or `#elif` is taken (6.10.1), or the one fault: 22 of a use of `defined` that is ill
-/// formed or made by a replacement, the faults of the replacement, 24 and 25 of the first constant without a value, 29 of
-/// too deep an expression, 23 of a list that is no expression, 26 to 28 of a division, an overflow or a shift.
-///
-/// `at` is the place of the directive's `#`, and `tokens` are those behind the directive's name.
-pub fn evaluate(
+// The same for tokens in which macros may be replaced.
+fn evaluate_replaced(
     alloc: Global,
     table: &Table,
     env: &Env,
@@ -117,4 +114,25 @@ pub fn evaluate(
         return Ok(Err(fault));
     }
     Ok(decide_run(alloc, at, &tokens)?)
+}
+
+/// Whether the group behind `#if` or `#elif` is taken (6.10.1), or the one fault: 22 of a use of `defined` that is ill
+/// formed or made by a replacement, the faults of the replacement, 24 and 25 of the first constant without a value, 29 of
+/// too deep an expression, 23 of a list that is no expression, 26 to 28 of a division, an overflow or a shift.
+///
+/// `at` is the place of the directive's `#`, and `tokens` are those behind the directive's name.
+pub fn evaluate(
+    alloc: Global,
+    table: &Table,
+    env: &Env,
+    at: Place,
+    tokens: &[Token],
+) -> Result<Result<bool, Fault>, Memory>
+    ensures { IfOk result (λ c. IsCondition table.now env.now at tokens.now c) }
+{
+    // In most conditions nothing is replaced.
+    match direct_symbols(alloc, table, tokens)? {
+        Some(symbols) => Ok(judge(alloc, at, symbols.as_slice())?),
+        None => evaluate_replaced(alloc, table, env, at, tokens),
+    }
 }

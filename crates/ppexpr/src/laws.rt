@@ -25,3 +25,8 @@ pub fn value_has_its_type()
 pub fn one_condition()
     ensures { (macros : Macros) (env : Env) (at : Place) (tokens : List Token) (c d : Condition) → IsCondition macros env at tokens c → IsCondition macros env at tokens d → c ≡ d }
 {}
+
+/// Each list of tokens has a condition, whatever the macros are.
+pub fn some_condition()
+    ensures { (macros : Macros) (env : Env) (at : Place) (tokens : List Token) → (c : Condition) × IsCondition macros env at tokens c }
+{}

@@ -4,6 +4,7 @@
 mod asking;
 mod characters;
 mod conditions;
+mod direct;
 mod integers;
 mod laws;
 mod nesting;
@@ -17,4 +18,4 @@ mod tokens;
 mod values;
 
 pub use conditions::evaluate;
-pub use laws::{one_condition, one_tree, value_has_its_type};
+pub use laws::{one_condition, one_tree, some_condition, value_has_its_type};

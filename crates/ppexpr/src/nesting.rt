@@ -68,6 +68,10 @@ fn nests_signs(symbols: &[Symbol]) -> bool
 pub(crate) fn is_too_nested(symbols: &[Symbol]) -> bool
     ensures { IsTrue result ↔ IsTooNested symbols.now }
 {
+    // Few symbols can't be nested so deep.
+    if symbols.len() <= MOST {
+        return false;
+    }
     if nests_parentheses(symbols) {
         return true;
     }

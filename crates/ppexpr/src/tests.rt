@@ -2,7 +2,7 @@
 use crate::evaluate;
 use ppexpand::Env;
 use ppmacro::{Table, define};
-use pptext::{Directive, Fault, Spelling, read_source};
+use pptext::{Directive, Fault, Profile, Spelling, read_source};
 use std::alloc::{AllocError, Global};
 use std::process::Abort;
 use std::test::Fail;
@@ -23,7 +23,7 @@ fn env(alloc: Global) -> Result<Env, AllocError> {
 /// The condition of the first `#if` of a text, with the definitions before it.
 fn condition_in(rt: &impl Abort, alloc: Global, text: &[u8]) -> Result<Result<bool, Fault>, Fail> {
     assert!(rt; text.len() <= 16_777_216);
-    let source = read_source(alloc, text, 1)?;
+    let source = read_source(alloc, text, 1, Profile::C11)?;
     let mut table = Table::new(alloc)?;
     for line in source.lines() {
         let tokens = source.tokens().get(line.start..line.end).ok_or("no line")?;

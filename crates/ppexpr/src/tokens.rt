@@ -42,8 +42,8 @@ pub(crate) fn fault(alloc: Global, number: u8, at: Place, text: &[u8]) -> Result
     })
 }
 
-// The symbol of a punctuator.
-fn punctuator(text: &[u8]) -> Symbol
+/// The symbol of a punctuator.
+pub(crate) fn punctuator(text: &[u8]) -> Symbol
     ensures { result ≡ punctuator_among operators text.now }
 {
     let operator = match text {

@@ -1,17 +1,7 @@
-use Rattle.ppexpr.specs.Conditions.{ill_formed, not_replaced, replaced}
+use Rattle.ppexpr.proofs.Unreplaced.{direct_condition}
 use Rattle.ppexpr.proofs.conditions.evaluate.Goals as goal
 
-pub returns-in_default : goal.returns-in_default
-returns-in_default c =
-    let none = rw c.in_default.is at c.in_ok-asked.ensures in
-    rw c.in_ok-fault.ensures (ill_formed none)
-
-pub returns-in-Some-fault : goal.returns-in-Some-fault
-returns-in-Some-fault c =
-    let asks = rw c.in-Some.is at c.in_ok-asked.ensures in
-    not_replaced asks (rw c.as_slice-asked.ensures.value at c.in_ok-tokens.ensures) c.in-Some-fault.is
-
-pub returns : goal.returns
-returns c =
-    let asks = rw c.in-Some.is at c.in_ok-asked.ensures in
-    replaced asks (rw c.as_slice-asked.ensures.value at c.in_ok-tokens.ensures) c.in_default-fault.is c.in_ok-decide_run.ensures
+pub returns-in_ok-judge-in-Some : goal.returns-in_ok-judge-in-Some
+returns-in_ok-judge-in-Some c =
+    let stands = rw c.in-Some.is at c.in_ok-symbols.ensures in
+    direct_condition c.args.table.now c.args.env.now c.args.at c.args.tokens.now _ _ stands (rw c.as_slice.ensures.value at c.in_ok-judge-in-Some.ensures)

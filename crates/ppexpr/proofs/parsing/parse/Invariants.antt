@@ -1,8 +1,8 @@
 use Rattle.std.proofs.Common.{◌≡◌, [], drop}
 use Rattle.std.specs.Prelude.{None}
-use Rattle.ppexpr.specs.Pending.{run}
 use Rattle.ppexpr.specs.Frames.{outcomes, state_of}
 use Rattle.ppexpr.proofs.parsing.parse.Given as goal
+use Rattle.ppexpr.proofs.Machine.{run}
 
 abbrev pub invariant-loop-symbol : goal.invariant-loop-symbol
 invariant-loop-symbol l = run outcomes (state_of l.parser) (drop l.symbol-index l.symbols) ≡ run outcomes ([], None) l.symbols

@@ -1,0 +1,108 @@
+-- A condition in which nothing is replaced is the condition of the symbols that its tokens stand for.
+use Rattle.std.proofs.Common.{◌≡◌, suc, ◌<◌, ◌⊎◌, inl, inr, ◌&&◌, Bool, true, false, List, [], ◌∷◌, ◌++◌, length, Option, Some, None, Ok, refl, sym, subst, append-nil, append_assoc, arith, is_some, codes, if◌then◌else◌}
+use Rattle.std.specs.FinMap as table
+use Rattle.std.specs.List.{list_any, AllByRecursion}
+use Rattle.pptext.specs.declared.tokens.Place.{Place}
+use Rattle.pptext.specs.declared.tokens.Token.{Token}
+use Rattle.pptext.specs.declared.tokens.Kind.TheVariants.{Number}
+use Rattle.ppmacro.specs.Names.{Macros}
+use Rattle.ppmacro.specs.Spellings.{is_identifier, is_punct}
+use Rattle.ppexpand.specs.declared.env.Env.{Env}
+use Rattle.ppexpand.specs.Lists.{is_plain}
+use Rattle.ppexpand.specs.Expansion.{IsExpansion, ended}
+use Rattle.ppexpand.proofs.Skipping.{expansion-behind, expands-nothing}
+use Rattle.ppexpr.specs.declared.symbols.Symbol.{Symbol}
+use Rattle.ppexpr.specs.declared.symbols.Symbol.TheVariants.{Constant}
+use Rattle.ppexpr.specs.Values.{truth}
+use Rattle.ppexpr.specs.Asking.{is_defined, Operand, parenthesized, operand, answer, Asks, nothing as asks_nothing, other, question as asks_question}
+use Rattle.ppexpr.specs.Tokens.{symbol_of, symbols_of, before}
+use Rattle.ppexpr.specs.Direct.{BeginsWith, token, question, StandFor, nothing, more}
+use Rattle.ppexpr.specs.Conditions.{Condition, Judges, IsCondition, replaced, constants}
+
+-- what the tokens become before replacement, which leaves it as it is
+record Unreplaced (macros : Macros) (ts : List Token) (ss : List Symbol) : Type 0 where
+  asked : List Token
+  asks : Asks macros ts asked
+  plain : AllByRecursion (λ t. is_plain macros t ≡ true) asked
+  undefined : list_any is_defined asked ≡ false
+  symbols : (at : Place) → symbols_of at asked ≡ Ok ss
+
+answer_symbol : (b : Bool) (at : Place) (d : Token) → symbol_of at (record d { kind = Number; text = if b then codes "1" else codes "0" }) ≡ Ok (Constant (truth b))
+answer_symbol true at d = refl
+answer_symbol false at d = refl
+
+unreplaced_more : (macros : Macros) (ts rest : List Token) (s : Symbol) (ss : List Symbol) → BeginsWith macros ts s rest → Unreplaced macros rest ss → Unreplaced macros ts (s ∷ ss)
+unreplaced_more macros ts rest s ss (token {t = t} e h) u = record {
+  asked = t ∷ u.asked;
+  asks = other e u.asks;
+  plain = (h.plain, u.plain);
+  undefined = rw e u.undefined;
+  symbols = λ at. λ i. before (h.symbol at i) (u.symbols at i);
+}
+unreplaced_more macros ts rest s ss (question {d = d} {o = o} e k) u = record {
+  asked = answer macros d o.name ∷ u.asked;
+  asks = asks_question e k u.asks;
+  plain = (refl, u.plain);
+  undefined = u.undefined;
+  symbols = λ at. λ i. before (answer_symbol (is_some (table.get macros o.name.text)) at d i) (u.symbols at i);
+}
+
+unreplaced : (macros : Macros) (ts : List Token) (ss : List Symbol) → StandFor macros ts ss → Unreplaced macros ts ss
+unreplaced macros ts ss nothing = record { asked = []; asks = asks_nothing; plain = tt; undefined = refl; symbols = λ at. refl }
+unreplaced macros ts ss (more {rest = rest} {s = s} {ss = qs} b h) = unreplaced_more macros ts rest s qs b (unreplaced macros rest qs h)
+
+expands_as_is : (macros : Macros) (env : Env) (ts : List Token) → AllByRecursion (λ t. is_plain macros t ≡ true) ts → IsExpansion macros env ts (record { tokens = ts; fault = None })
+expands_as_is macros env ts h = expansion-behind macros env ts ts [] (record { tokens = ts; fault = None }) (ended None) (sym (append-nil ts)) h (expands-nothing macros env 0) (sym (append-nil ts)) refl
+
+-- the condition of the symbols is the condition of the tokens
+pub direct_condition : (macros : Macros) (env : Env) (at : Place) (ts : List Token) (ss : List Symbol) (c : Condition) → StandFor macros ts ss → Judges at ss c → IsCondition macros env at ts c
+direct_condition macros env at ts ss c h j =
+    let u : Unreplaced macros ts ss = unreplaced macros ts ss h in
+    replaced u.asks (expands_as_is macros env u.asked u.plain) refl (constants u.undefined (u.symbols at) j)
+
+-- ---- the loop over the tokens
+
+none_is_some : (p o : Operand) → None ≡ Some o → ⊥
+none_is_some p o e = cc
+
+same_operand : (p o : Operand) → Some p ≡ Some o → p ≡ o
+same_operand p o e = cc
+
+-- one of two operands
+picked : (b : Bool) (p o : Operand) (q : Option Operand) → (if b then Some p else q) ≡ Some o → (p ≡ o) ⊎ (q ≡ Some o)
+picked true p o q e = inl (same_operand p o e)
+picked false p o q e = inr e
+
+parenthesized_shorter : (ts : List Token) (o : Operand) → parenthesized ts ≡ Some o → length o.rest < length ts
+parenthesized_shorter [] o e = absurd (none_is_some o o e)
+parenthesized_shorter (x ∷ []) o e = absurd (none_is_some o o e)
+parenthesized_shorter (x ∷ y ∷ []) o e = absurd (none_is_some o o e)
+parenthesized_shorter (x ∷ y ∷ z ∷ ts) o e = elim (picked (is_punct (codes "(") x && (is_identifier y && is_punct (codes ")") z)) (record { name = y; rest = ts }) o None e) [
+  | inl same ↦ subst (λ (p : Operand). length p.rest < suc (suc (suc (length ts)))) same (omega arith)
+  | inr none ↦ absurd (none_is_some o o none)
+]
+
+pub operand_shorter : (ts : List Token) (o : Operand) → operand ts ≡ Some o → length o.rest < length ts
+operand_shorter [] o e = absurd (none_is_some o o e)
+operand_shorter (x ∷ ts) o e = elim (picked (is_identifier x) (record { name = x; rest = ts }) o (parenthesized (x ∷ ts)) e) [
+  | inl same ↦ subst (λ (p : Operand). length p.rest < suc (length ts)) same (omega arith)
+  | inr other_way ↦ parenthesized_shorter (x ∷ ts) o other_way
+]
+
+pub rest_shorter : (macros : Macros) (ts rest : List Token) (s : Symbol) → BeginsWith macros ts s rest → length rest < length ts
+rest_shorter macros ts rest s (token {t = t} {ts = us} e h) = omega arith
+rest_shorter macros ts rest s (question {d = d} {ts = us} {o = o} e k) = omega (arith, operand_shorter us o k)
+
+-- what the rest stands for comes behind these symbols
+abbrev pub Onward : Macros → List Token → List Symbol → List Token → Type 0
+Onward macros tokens symbols rest = (ss : List Symbol) → StandFor macros rest ss → StandFor macros tokens (symbols ++ ss)
+
+pub onward_start : (macros : Macros) (tokens : List Token) → Onward macros tokens [] tokens
+onward_start macros tokens ss h = h
+
+pub onward_more : (macros : Macros) (tokens rest next : List Token) (symbols grown : List Symbol) (s : Symbol) → grown ≡ symbols ++ s ∷ [] → BeginsWith macros rest s next → Onward macros tokens symbols rest → Onward macros tokens grown next
+onward_more macros tokens rest next symbols grown s is b h ss k = rw is (rw append_assoc (h (s ∷ ss) (more b k)))
+
+pub onward_end : (macros : Macros) (tokens rest : List Token) (symbols : List Symbol) → length rest ≡ 0 → Onward macros tokens symbols rest → StandFor macros tokens symbols
+onward_end macros tokens [] symbols e h = rw (← append-nil symbols) (h [] nothing)
+onward_end macros tokens (t ∷ ts) symbols e h = absurd (omega arith)
