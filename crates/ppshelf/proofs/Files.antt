@@ -10,7 +10,8 @@ use Rattle.std.proofs.lemmas.Option.{none-some, same_Some}
 use Rattle.ppshelf.specs.Content.{Content, Lawful}
 use Rattle.ppshelf.specs.Names.{name_in}
 use Rattle.ppshelf.specs.Files.{Files, Stock, file_at, AllLawful, or_else, Agree, Joined, Extends}
-use Rattle.ppshelf.specs.Shelved.{Held, Spot, Sight, FitsRow, Placed, IsPass, files_of, names_of, base_of, cells_of, stock_of, spot_at, no_sight, no_spot}
+use Rattle.pptext.specs.declared.sources.Profile.{Profile}
+use Rattle.ppshelf.specs.Shelved.{Held, Spot, Sight, IsPlaced, FitsRow, Placed, IsPass, files_of, names_of, base_of, cells_of, stock_of, spot_at, no_sight, no_spot}
 
 abbrev pub content_of_sight : Sight → Option Content
 content_of_sight s = option_map (λ (h : Held). h.content) s.shown
@@ -36,31 +37,35 @@ known_within sights row c e =
 
 -- ---- what callers see of a row
 
-held_is : (o : Option Held) (row : ℕ) (name : List ℕ) → ((h : Held) → o ≡ Some h → (h.row ≡ row) × (h.name ≡ name)) → o ≡ option_map (λ c. record { row = row; name = name; content = c }) (option_map (λ (h : Held). h.content) o)
-held_is None row name p = refl
-held_is (Some h) row name p =
+abbrev held : Profile → ℕ → List ℕ → Content → Held
+held profile row name c = record { row = row; name = name; profile = profile; content = c }
+
+held_is : (o : Option Held) (profile : Profile) (row : ℕ) (name : List ℕ) → ((h : Held) → o ≡ Some h → IsPlaced profile row name h) → o ≡ option_map (held profile row name) (option_map (λ (h : Held). h.content) o)
+held_is None profile row name p = refl
+held_is (Some h) profile row name p =
     let e = p h refl in
     let one : Some h ≡ Some (record h { row = row }) = ap (λ (r : ℕ). Some (record h { row = r })) e.0 in
-    one ∙ ap (λ (n : List ℕ). Some (record { row = row; name = n; content = h.content })) e.1
+    let two : Some (record h { row = row }) ≡ Some (record h { row = row; name = name }) = ap (λ (n : List ℕ). Some (record h { row = row; name = n })) e.1 in
+    one ∙ (two ∙ ap (λ (p : Profile). Some (held p row name h.content)) e.2)
 
-spot_by : (s : Spot) (row : ℕ) (name : List ℕ) (base : Option Content) (cell : ℕ) → name ≡ s.name → base ≡ option_map (λ (h : Held). h.content) s.base → cell ≡ s.cell → ((h : Held) → s.base ≡ Some h → (h.row ≡ row) × (h.name ≡ s.name))
-    → s ≡ record { name = name; base = option_map (λ c. record { row = row; name = name; content = c }) base; cell = cell }
-spot_by s row name base cell named based celled p =
+spot_by : (s : Spot) (profile : Profile) (row : ℕ) (name : List ℕ) (base : Option Content) (cell : ℕ) → name ≡ s.name → base ≡ option_map (λ (h : Held). h.content) s.base → cell ≡ s.cell → ((h : Held) → s.base ≡ Some h → IsPlaced profile row s.name h)
+    → s ≡ record { name = name; base = option_map (held profile row name) base; cell = cell }
+spot_by s profile row name base cell named based celled p =
     let contents : Option Content = option_map (λ (h : Held). h.content) s.base in
-    let a : s ≡ record s { base = option_map (λ c. record { row = row; name = s.name; content = c }) contents } = ap (λ (b : Option Held). record s { base = b }) (held_is s.base row s.name p) in
+    let a : s ≡ record s { base = option_map (held profile row s.name) contents } = ap (λ (b : Option Held). record s { base = b }) (held_is s.base profile row s.name p) in
     a
-    ∙ (ap (λ (n : List ℕ). record { name = n; base = option_map (λ c. record { row = row; name = n; content = c }) contents; cell = s.cell }) (sym named)
-    ∙ (ap (λ (b : Option Content). record { name = name; base = option_map (λ c. record { row = row; name = name; content = c }) b; cell = s.cell }) (sym based)
-    ∙ ap (λ (k : ℕ). record { name = name; base = option_map (λ c. record { row = row; name = name; content = c }) base; cell = k }) (sym celled)))
+    ∙ (ap (λ (n : List ℕ). record { name = n; base = option_map (held profile row n) contents; cell = s.cell }) (sym named)
+    ∙ (ap (λ (b : Option Content). record { name = name; base = option_map (held profile row name) b; cell = s.cell }) (sym based)
+    ∙ ap (λ (k : ℕ). record { name = name; base = option_map (held profile row name) base; cell = k }) (sym celled)))
 
 -- what a row is, callers see
-pub spot_is : (rows : List Spot) (row : ℕ) (spot : Spot) → Placed rows → row < length rows → spot ≡ get_or rows row spot → spot ≡ spot_at (stock_of rows) row
-spot_is rows row spot placed within read =
+pub spot_is : (profile : Profile) (rows : List Spot) (row : ℕ) (spot : Spot) → Placed profile rows → row < length rows → spot ≡ get_or rows row spot → spot ≡ spot_at (stock_of profile rows) row
+spot_is profile rows row spot placed within read =
     let name : Spot → List ℕ = λ s. s.name in
     let base : Spot → Option Content = λ s. option_map (λ (h : Held). h.content) s.base in
     let cell : Spot → ℕ = λ s. s.cell in
     get_or_read rows row spot within read no_spot
-    ∙ spot_by (get_or rows row no_spot) row (name_in (names_of rows) row) (file_at (base_of rows) row) (get_or (cells_of rows) row 0) (get_or-map name rows row no_spot) (get_or-map base rows row no_spot) (get_or-map cell rows row no_spot) (placed row)
+    ∙ spot_by (get_or rows row no_spot) profile row (name_in (names_of rows) row) (file_at (base_of rows) row) (get_or (cells_of rows) row 0) (get_or-map name rows row no_spot) (get_or-map base rows row no_spot) (get_or-map cell rows row no_spot) (placed row)
 
 -- ---- what a pass knows
 
@@ -79,19 +84,19 @@ filled_files may stock sights is row c d base known =
     let s = shown_of sights row d known in
     let within : row < length stock.names = let k = known_within sights row d known in let l = is.len in omega arith in
     let f = (is.rows row within).fits s.0 s.1 in
-    let b : Held = record { row = row; name = name_in stock.names row; content = c } in
-    let there : (spot_at stock row).base ≡ Some b = ap (option_map (λ x. record { row = row; name = name_in stock.names row; content = x })) base in
+    let b : Held = held stock.profile row (name_in stock.names row) c in
+    let there : (spot_at stock row).base ≡ Some b = ap (option_map (held stock.profile row (name_in stock.names row))) base in
     elim f.from [
       | inl e ↦ ap (λ (h : Held). h.content) (same_Some b s.0 (sym there ∙ e)) ∙ s.2
       | inr n ↦ absurd (none-some b (sym n.0 ∙ there))
     ]
 
-pub placed_read : (stock : List Spot) (row : ℕ) (spot : Spot) → Placed stock → row < length stock → spot ≡ get_or stock row spot → (h : Held) → spot.base ≡ Some h → (h.row ≡ row) × (h.name ≡ spot.name)
-placed_read stock row spot placed within read h is =
+pub placed_read : (profile : Profile) (stock : List Spot) (row : ℕ) (spot : Spot) → Placed profile stock → row < length stock → spot ≡ get_or stock row spot → (h : Held) → spot.base ≡ Some h → IsPlaced profile row spot.name h
+placed_read profile stock row spot placed within read h is =
     let same : spot ≡ get_or stock row no_spot = get_or_read stock row spot within read no_spot in
     let at : (get_or stock row no_spot).base ≡ Some h = ap (λ (s : Spot). s.base) (sym same) ∙ is in
     let p = placed row h at in
-    (p.0, p.1 ∙ ap (λ (s : Spot). s.name) (sym same))
+    (p.0, p.1 ∙ ap (λ (s : Spot). s.name) (sym same), p.2)
 
 -- what is known after the row is shown h
 pub files_of-set : (sights : List Sight) (row : ℕ) (s : Sight) (h : Held) → s.shown ≡ Some h → files_of (set sights row s) ≡ set (files_of sights) row (Some h.content)
@@ -130,8 +135,8 @@ unseen_more stock sights n spot s u within read cell shown = let len = u.len in 
   files = map-append content_of_sight sights (s ∷ []) ∙ (ap (λ (f : Files). f ++ content_of_sight s ∷ []) u.files ∙ (ap (λ (o : Option Held). replicate n None ++ option_map (λ (h : Held). h.content) o ∷ []) shown ∙ replicate_more n None));
 }
 
-pub unseen_pass : (may : List ℕ → Content → Type 0) (rows : List Spot) (sights : List Sight) → Unseen rows sights (length rows) → IsPass may (stock_of rows) sights
-unseen_pass may rows sights u =
+pub unseen_pass : (may : List ℕ → Content → Type 0) (profile : Profile) (rows : List Spot) (sights : List Sight) → Unseen rows sights (length rows) → IsPass may (stock_of profile rows) sights
+unseen_pass may profile rows sights u =
     let count : length (names_of rows) ≡ length rows = length-map rows (λ (s : Spot). s.name) in
     record {
       len = u.len ∙ sym count;
@@ -147,41 +152,43 @@ set_there : (xs : List Sight) (n row : ℕ) (s : Sight) → (row ≡ n → ⊥) 
 set_there xs n row s e = get_or-set_other xs n row s no_sight e
 
 -- a row that was looked at again leaves a pass of the shelf
-pub pass_set : (may : List ℕ → Content → Type 0) (stock : Stock) (sights : List Sight) (row : ℕ) (spot : Spot) (s : Sight) → IsPass may stock sights → row < length stock.names → spot ≡ spot_at stock row → FitsRow may row spot s → IsPass may stock (set sights row s)
+pub pass_set : (may : List ℕ → Content → Type 0) (stock : Stock) (sights : List Sight) (row : ℕ) (spot : Spot) (s : Sight) → IsPass may stock sights → row < length stock.names → spot ≡ spot_at stock row → FitsRow may stock.profile row spot s → IsPass may stock (set sights row s)
 pass_set may stock sights n spot s is w at fits = record {
   len = length-set sights n s ∙ is.len;
   rows = λ row within.
       elim (cases_eq row n) [
         | inl e ↦
-            let P : Sight → Type 0 = λ x. FitsRow may row (spot_at stock row) x in
-            let Q : Spot → Type 0 = λ x. FitsRow may n x s in
-            let R : ℕ → Type 0 = λ k. FitsRow may k (spot_at stock k) s in
+            let P : Sight → Type 0 = λ x. FitsRow may stock.profile row (spot_at stock row) x in
+            let Q : Spot → Type 0 = λ x. FitsRow may stock.profile n x s in
+            let R : ℕ → Type 0 = λ k. FitsRow may stock.profile k (spot_at stock k) s in
             let len = is.len in
             subst P (sym (set_here sights n row s e (omega arith))) (subst R (sym e) (subst Q at fits))
         | inr e ↦
-            let P : Sight → Type 0 = λ x. FitsRow may row (spot_at stock row) x in
+            let P : Sight → Type 0 = λ x. FitsRow may stock.profile row (spot_at stock row) x in
             subst P (sym (set_there sights n row s e)) (is.rows row within)
       ];
 }
 
 -- ---- a row of a shelf that is looked at
 
-pub fits_at : (may : List ℕ → Content → Type 0) (rows : List Spot) (stock : Stock) (sights : List Sight) (row : ℕ) (spot : Spot) (s : Sight) → Placed rows → stock ≡ stock_of rows → row < length rows → spot ≡ get_or rows row spot → IsPass may stock sights → s ≡ get_or sights row s → FitsRow may row spot s
-fits_at may rows stock sights row spot s placed same w read is mine =
+pub fits_at : (may : List ℕ → Content → Type 0) (profile : Profile) (rows : List Spot) (stock : Stock) (sights : List Sight) (row : ℕ) (spot : Spot) (s : Sight) → Placed profile rows → stock ≡ stock_of profile rows → row < length rows → spot ≡ get_or rows row spot → IsPass may stock sights
+    → s ≡ get_or sights row s → FitsRow may profile row spot s
+fits_at may profile rows stock sights row spot s placed same w read is mine =
     let count : length (names_of rows) ≡ length rows = length-map rows (λ (x : Spot). x.name) in
     let long : length stock.names ≡ length (names_of rows) = ap (λ (x : Stock). length x.names) same in
     let len = is.len in
-    let at : spot ≡ spot_at stock row = spot_is rows row spot placed w read ∙ ap (λ (x : Stock). spot_at x row) (sym same) in
-    let P : Sight → Type 0 = λ x. FitsRow may row spot x in
-    let Q : Spot → Type 0 = λ x. FitsRow may row x (get_or sights row no_sight) in
-    subst P (sym (get_or_read sights row s (omega arith) mine no_sight)) (subst Q (sym at) (is.rows row (omega arith)))
+    let at : spot ≡ spot_at stock row = spot_is profile rows row spot placed w read ∙ ap (λ (x : Stock). spot_at x row) (sym same) in
+    let P : Sight → Type 0 = λ x. FitsRow may profile row spot x in
+    let Q : Spot → Type 0 = λ x. FitsRow may profile row x (get_or sights row no_sight) in
+    let R : Profile → Type 0 = λ p. FitsRow may p row (spot_at stock row) (get_or sights row no_sight) in
+    subst P (sym (get_or_read sights row s (omega arith) mine no_sight)) (subst Q (sym at) (subst R (ap (λ (x : Stock). x.profile) same) (is.rows row (omega arith))))
 
-pub shown_pass : (may : List ℕ → Content → Type 0) (rows : List Spot) (stock : Stock) (sights : List Sight) (row : ℕ) (spot : Spot) (s : Sight) → Placed rows → stock ≡ stock_of rows → row < length rows → spot ≡ get_or rows row spot → IsPass may stock sights → FitsRow may row spot s
-    → IsPass may stock (set sights row s)
-shown_pass may rows stock sights row spot s placed same w read is fits =
+pub shown_pass : (may : List ℕ → Content → Type 0) (profile : Profile) (rows : List Spot) (stock : Stock) (sights : List Sight) (row : ℕ) (spot : Spot) (s : Sight) → Placed profile rows → stock ≡ stock_of profile rows → row < length rows → spot ≡ get_or rows row spot → IsPass may stock sights
+    → FitsRow may profile row spot s → IsPass may stock (set sights row s)
+shown_pass may profile rows stock sights row spot s placed same w read is fits =
     let count : length (names_of rows) ≡ length rows = length-map rows (λ (x : Spot). x.name) in
     let long : length stock.names ≡ length (names_of rows) = ap (λ (x : Stock). length x.names) same in
-    pass_set may stock sights row spot s is (omega arith) (spot_is rows row spot placed w read ∙ ap (λ (x : Stock). spot_at x row) (sym same)) fits
+    pass_set may stock sights row spot s is (omega arith) (spot_is profile rows row spot placed w read ∙ ap (λ (x : Stock). spot_at x row) (sym same)) (let R : Profile → Type 0 = λ p. FitsRow may p row spot s in subst R (ap (λ (x : Stock). x.profile) (sym same)) fits)
 
 -- two passes have met at the rows from n on
 pub record Met (may : List ℕ → Content → Type 0) (stock : Stock) (old other new : List Sight) (n : ℕ) : Type 0 where
@@ -199,7 +206,7 @@ met_none may stock old other n is e = record {
 }
 
 pub met_more : (may : List ℕ → Content → Type 0) (stock : Stock) (old other new : List Sight) (n : ℕ) (spot : Spot) (mine theirs s : Sight) → Met may stock old other new (n + 1) → n < length stock.names
-    → spot ≡ spot_at stock n → mine ≡ get_or new n mine → theirs ≡ get_or other n no_sight → FitsRow may n spot s → s.shown ≡ or_else mine.shown theirs.shown
+    → spot ≡ spot_at stock n → mine ≡ get_or new n mine → theirs ≡ get_or other n no_sight → FitsRow may stock.profile n spot s → s.shown ≡ or_else mine.shown theirs.shown
     → ((h k : Held) → mine.shown ≡ Some h → theirs.shown ≡ Some k → h ≡ k) → Met may stock old other (set new n s) n
 met_more may stock old other new n spot mine theirs s m w at mine_read theirs_is fits shown agree =
     let len = m.is.len in
@@ -253,10 +260,10 @@ popped_last other items len n theirs is value e = grind (arith, common_steps)
 pub popped_rest : (other items rest : List Sight) (len n : ℕ) → items ≡ take len other → rest ≡ take (len - 1) items → n + 1 ≡ len → rest ≡ take n other
 popped_rest other items rest len n is value e = grind (arith, common_steps)
 
-pub fits_read : (may : List ℕ → Content → Type 0) (stock : Stock) (sights : List Sight) (row : ℕ) (spot : Spot) (s : Sight) → IsPass may stock sights → row < length stock.names → spot ≡ spot_at stock row → s ≡ get_or sights row no_sight → FitsRow may row spot s
+pub fits_read : (may : List ℕ → Content → Type 0) (stock : Stock) (sights : List Sight) (row : ℕ) (spot : Spot) (s : Sight) → IsPass may stock sights → row < length stock.names → spot ≡ spot_at stock row → s ≡ get_or sights row no_sight → FitsRow may stock.profile row spot s
 fits_read may stock sights row spot s is w read at =
-    let P : Sight → Type 0 = λ x. FitsRow may row spot x in
-    let Q : Spot → Type 0 = λ x. FitsRow may row x (get_or sights row no_sight) in
+    let P : Sight → Type 0 = λ x. FitsRow may stock.profile row spot x in
+    let Q : Spot → Type 0 = λ x. FitsRow may stock.profile row x (get_or sights row no_sight) in
     subst P (sym at) (subst Q (sym read) (is.rows row w))
 
 some_join : (a b c' : Option Content) (c : Content) → ((d e : Content) → a ≡ Some d → b ≡ Some e → d ≡ e) → c' ≡ or_else a b → b ≡ Some c → c' ≡ Some c

@@ -7,25 +7,26 @@ use Rattle.ppshelf.specs.Content.{Content, readable, Lawful}
 use Rattle.std.specs.Option.{option_map}
 use Rattle.ppshelf.specs.Names.{name_in}
 use Rattle.ppshelf.specs.Files.{Stock, IsFull, Filled, file_at, bytes_at}
+use Rattle.pptext.specs.declared.sources.Profile.{Profile}
 use Rattle.ppshelf.specs.Shelved.{Held, Spot, FilledRow, Placed, IsShelf, names_of, base_of, cells_of, stock_of, no_spot}
 
-pub record Turned (gives : ℕ → List ℕ → Content → Type 0) (old new : List Spot) : Type 0 where
+pub record Turned (profile : Profile) (gives : ℕ → List ℕ → Content → Type 0) (old new : List Spot) : Type 0 where
   pub len : length new ≡ length old
-  pub rows : (row : ℕ) → row < length old → FilledRow (gives row) row (get_or old row no_spot) (get_or new row no_spot)
+  pub rows : (row : ℕ) → row < length old → FilledRow (gives row) profile row (get_or old row no_spot) (get_or new row no_spot)
 
-pub record Filling (gives : ℕ → List ℕ → Content → Type 0) (old new : List Spot) (n : ℕ) : Type 0 where
-  pub turned : Turned gives old new
+pub record Filling (profile : Profile) (gives : ℕ → List ℕ → Content → Type 0) (old new : List Spot) (n : ℕ) : Type 0 where
+  pub turned : Turned profile gives old new
   pub full : (row : ℕ) → row < n → IsSome (get_or new row no_spot).base
   pub ahead : (row : ℕ) → n ≤ row → get_or new row no_spot ≡ get_or old row no_spot
 
-same_row : (gives : ℕ → List ℕ → Content → Type 0) (row : ℕ) (s : Spot) → FilledRow (gives row) row s s
-same_row gives row s = record { name = refl; cell = refl; stays = λ h e. e; put = λ h a b. absurd (none-some h (sym a ∙ b)) }
+same_row : (profile : Profile) (gives : ℕ → List ℕ → Content → Type 0) (row : ℕ) (s : Spot) → FilledRow (gives row) profile row s s
+same_row profile gives row s = record { name = refl; cell = refl; stays = λ h e. e; put = λ h a b. absurd (none-some h (sym a ∙ b)) }
 
-pub none_filled : (gives : ℕ → List ℕ → Content → Type 0) (old : List Spot) → Filling gives old old 0
-none_filled gives old = record { turned = record { len = refl; rows = λ row w. same_row gives row (get_or old row no_spot) }; full = λ row w. absurd (omega arith); ahead = λ row w. refl }
+pub none_filled : (profile : Profile) (gives : ℕ → List ℕ → Content → Type 0) (old : List Spot) → Filling profile gives old old 0
+none_filled profile gives old = record { turned = record { len = refl; rows = λ row w. same_row profile gives row (get_or old row no_spot) }; full = λ row w. absurd (omega arith); ahead = λ row w. refl }
 
-pub turned_set : (gives : ℕ → List ℕ → Content → Type 0) (old new : List Spot) (n : ℕ) (mine s : Spot) → Filling gives old new n → n < length old → mine ≡ get_or new n mine → FilledRow (gives n) n mine s → Turned gives old (set new n s)
-turned_set gives old new n mine s f w read turned =
+pub turned_set : (profile : Profile) (gives : ℕ → List ℕ → Content → Type 0) (old new : List Spot) (n : ℕ) (mine s : Spot) → Filling profile gives old new n → n < length old → mine ≡ get_or new n mine → FilledRow (gives n) profile n mine s → Turned profile gives old (set new n s)
+turned_set profile gives old new n mine s f w read turned =
     let len = f.turned.len in
     let at : mine ≡ get_or old n no_spot = get_or_read new n mine (omega arith) read no_spot ∙ f.ahead n (omega arith) in
     record {
@@ -33,19 +34,20 @@ turned_set gives old new n mine s f w read turned =
       rows = λ row below.
           elim (cases_eq row n) [
             | inl e ↦
-                let P : ℕ → Type 0 = λ k. FilledRow (gives k) k (get_or old k no_spot) (get_or (set new n s) k no_spot) in
-                let Q : Spot → Type 0 = λ x. FilledRow (gives n) n (get_or old n no_spot) x in
-                let R : Spot → Type 0 = λ x. FilledRow (gives n) n x s in
+                let P : ℕ → Type 0 = λ k. FilledRow (gives k) profile k (get_or old k no_spot) (get_or (set new n s) k no_spot) in
+                let Q : Spot → Type 0 = λ x. FilledRow (gives n) profile n (get_or old n no_spot) x in
+                let R : Spot → Type 0 = λ x. FilledRow (gives n) profile n x s in
                 subst P (sym e) (subst Q (sym (get_or-set_same new n s no_spot (omega arith))) (subst R at turned))
             | inr e ↦
-                let Q : Spot → Type 0 = λ x. FilledRow (gives row) row (get_or old row no_spot) x in
+                let Q : Spot → Type 0 = λ x. FilledRow (gives row) profile row (get_or old row no_spot) x in
                 subst Q (sym (get_or-set_other new n row s no_spot e)) (f.turned.rows row below)
           ];
     }
 
-pub filling_more : (gives : ℕ → List ℕ → Content → Type 0) (old new : List Spot) (n : ℕ) (mine s : Spot) → Filling gives old new n → n < length old → mine ≡ get_or new n mine → FilledRow (gives n) n mine s → IsSome s.base → Filling gives old (set new n s) (n + 1)
-filling_more gives old new n mine s f w read turned some = let len = f.turned.len in record {
-  turned = turned_set gives old new n mine s f w read turned;
+pub filling_more : (profile : Profile) (gives : ℕ → List ℕ → Content → Type 0) (old new : List Spot) (n : ℕ) (mine s : Spot) → Filling profile gives old new n → n < length old → mine ≡ get_or new n mine → FilledRow (gives n) profile n mine s → IsSome s.base
+    → Filling profile gives old (set new n s) (n + 1)
+filling_more profile gives old new n mine s f w read turned some = let len = f.turned.len in record {
+  turned = turned_set profile gives old new n mine s f w read turned;
   full = λ row below.
       elim (cases_eq row n) [
         | inl e ↦
@@ -61,23 +63,23 @@ old_or_new : (o : Option Held) → (o ≡ None) ⊎ ((h : Held) × (o ≡ Some h
 old_or_new None = inl refl
 old_or_new (Some h) = inr (h, refl)
 
-pub placed_turned : (gives : ℕ → List ℕ → Content → Type 0) (old new : List Spot) → Placed old → Turned gives old new → Placed new
-placed_turned gives old new placed t row h is =
+pub placed_turned : (profile : Profile) (gives : ℕ → List ℕ → Content → Type 0) (old new : List Spot) → Placed profile old → Turned profile gives old new → Placed profile new
+placed_turned profile gives old new placed t row h is =
     elim (cases_lt row (length old)) [
       | inl w ↦
           let f = t.rows row w in
           elim (old_or_new (get_or old row no_spot).base) [
-            | inl e ↦ let l = f.put h e is in (l.0, l.1 ∙ sym f.name)
+            | inl e ↦ let l = (f.put h e is).0 in (l.0, l.1 ∙ sym f.name, l.2)
             | inr e ↦
                 let same : e.0 ≡ h = let a : Some e.0 ≡ Some h = sym (f.stays e.0 e.1) ∙ is in cc in
-                let p = placed row h (e.1 ∙ ap (λ (x : Held). Some x) same) in (p.0, p.1 ∙ sym f.name)
+                let p = placed row h (e.1 ∙ ap (λ (x : Held). Some x) same) in (p.0, p.1 ∙ sym f.name, p.2)
           ]
       | inr w ↦ absurd (none-some h (let l = t.len in ap (λ (s : Spot). s.base) (sym (get_or_past new row no_spot (omega arith))) ∙ is))
     ]
 
 -- a fill keeps the names
-pub names_turned : (gives : ℕ → List ℕ → Content → Type 0) (old new : List Spot) → Turned gives old new → names_of new ≡ names_of old
-names_turned gives old new t =
+pub names_turned : (profile : Profile) (gives : ℕ → List ℕ → Content → Type 0) (old new : List Spot) → Turned profile gives old new → names_of new ≡ names_of old
+names_turned profile gives old new t =
     let name : Spot → List ℕ = λ s. s.name in
     let len : length (names_of new) ≡ length (names_of old) = length-map new name ∙ (t.len ∙ sym (length-map old name)) in
     ext_get_or [] (names_of new) (names_of old) len (λ row below.
@@ -85,8 +87,8 @@ names_turned gives old new t =
     let before : row < length old = let l = t.len in omega arith in
     get_or-map name new row no_spot [] within ∙ ((t.rows row before).name ∙ sym (get_or-map name old row no_spot [] before)))
 
-cells_turned : (gives : ℕ → List ℕ → Content → Type 0) (old new : List Spot) → Turned gives old new → cells_of new ≡ cells_of old
-cells_turned gives old new t =
+cells_turned : (profile : Profile) (gives : ℕ → List ℕ → Content → Type 0) (old new : List Spot) → Turned profile gives old new → cells_of new ≡ cells_of old
+cells_turned profile gives old new t =
     let cell : Spot → ℕ = λ s. s.cell in
     let len : length (cells_of new) ≡ length (cells_of old) = length-map new cell ∙ (t.len ∙ sym (length-map old cell)) in
     ext_get_or 0 (cells_of new) (cells_of old) len (λ row below.
@@ -99,25 +101,25 @@ filled_by P (Some h) new stays put = ap (option_map (λ (h : Held). h.content)) 
 filled_by P None None stays put = tt
 filled_by P None (Some h) stays put = put h refl refl
 
-filled_row : (gives : List ℕ → Content → Type 0) (row : ℕ) (old new : Spot) → FilledRow gives row old new → Filled (gives old.name) (option_map (λ (h : Held). h.content) old.base) (option_map (λ (h : Held). h.content) new.base)
-filled_row gives row old new f =
+filled_row : (gives : List ℕ → Content → Type 0) (profile : Profile) (row : ℕ) (old new : Spot) → FilledRow gives profile row old new → Filled (gives old.name) (option_map (λ (h : Held). h.content) old.base) (option_map (λ (h : Held). h.content) new.base)
+filled_row gives profile row old new f =
     filled_by (gives old.name) old.base new.base f.stays (λ h was now.
     let l = f.put h was now in
     let P : List ℕ → Type 0 = λ n. gives n h.content in
-    subst P l.1 l.2)
+    subst P l.0.1 l.1)
 
 -- what a fill makes of a shelf, as callers see it
 pub record Fills (gives : ℕ → List ℕ → Content → Type 0) (old new : Stock) : Type 0 where
-  pub shelf : (new.names ≡ old.names) × (new.cells ≡ old.cells)
+  pub shelf : (new.names ≡ old.names) × (new.profile ≡ old.profile) × (new.cells ≡ old.cells)
   pub base : (row : ℕ) → row < length old.names → Filled (gives row (name_in old.names row)) (file_at old.base row) (file_at new.base row)
   pub len : length new.base ≡ length old.names
 
-pub fills_turned : (gives : ℕ → List ℕ → Content → Type 0) (old new : List Spot) → Turned gives old new → Fills gives (stock_of old) (stock_of new)
-fills_turned gives old new t =
+pub fills_turned : (profile : Profile) (gives : ℕ → List ℕ → Content → Type 0) (old new : List Spot) → Turned profile gives old new → Fills gives (stock_of profile old) (stock_of profile new)
+fills_turned profile gives old new t =
     let name : Spot → List ℕ = λ s. s.name in
     let base : Spot → Option Content = λ s. option_map (λ (h : Held). h.content) s.base in
     record {
-      shelf = (names_turned gives old new t, cells_turned gives old new t);
+      shelf = (names_turned profile gives old new t, refl, cells_turned profile gives old new t);
       base = λ row below.
           let before : row < length old = let l = length-map old name in omega arith in
           let within : row < length new = let l = t.len in omega arith in
@@ -127,7 +129,7 @@ fills_turned gives old new t =
           subst P (sym (get_or-map name old row no_spot [] before))
           (subst Q (sym (get_or-map base old row no_spot None before))
           (subst R (sym (get_or-map base new row no_spot None within))
-          (filled_row (gives row) row (get_or old row no_spot) (get_or new row no_spot) (t.rows row before))));
+          (filled_row (gives row) profile row (get_or old row no_spot) (get_or new row no_spot) (t.rows row before))));
       len = length-map new base ∙ (t.len ∙ sym (length-map old name));
     }
 
@@ -136,20 +138,27 @@ some_content None some = some
 some_content (Some h) some = refl
 
 -- at the end each row is filled
-pub full_turned : (gives : ℕ → List ℕ → Content → Type 0) (old new : List Spot) (n : ℕ) → length old ≤ n → Filling gives old new n → IsFull (stock_of new)
-full_turned gives old new n past f row below =
+pub full_turned : (profile : Profile) (gives : ℕ → List ℕ → Content → Type 0) (old new : List Spot) (n : ℕ) → length old ≤ n → Filling profile gives old new n → IsFull (stock_of profile new)
+full_turned profile gives old new n past f row below =
     let base : Spot → Option Content = λ s. option_map (λ (h : Held). h.content) s.base in
     let within : row < length new = let l = length-map new (λ (s : Spot). s.name) in omega arith in
     let P : Option Content → Type 0 = λ o. IsSome o in
     subst P (sym (get_or-map base new row no_spot None within)) (some_content (get_or new row no_spot).base (f.full row (let l = f.turned.len in omega arith)))
 
-pub shelf_turned : (gives : ℕ → List ℕ → Content → Type 0) (names : List (List ℕ)) (old new : List Spot) → IsShelf names old → Turned gives old new → IsShelf names new
-shelf_turned gives names old new s t = record {
+pub shelf_turned : (profile : Profile) (gives : ℕ → List ℕ → Content → Type 0) (names : List (List ℕ)) (old new : List Spot) → IsShelf profile names old → Turned profile gives old new → IsShelf profile names new
+shelf_turned profile gives names old new s t = record {
   small = let l = t.len in let m = s.small in omega arith;
-  named = s.named ∙ sym (names_turned gives old new t);
+  named = s.named ∙ sym (names_turned profile gives old new t);
   form = s.form;
-  placed = placed_turned gives old new s.placed t;
+  placed = placed_turned profile gives old new s.placed t;
 }
+
+-- the profile is the same
+pub kept_shelf : (names : List (List ℕ)) (rows : List Spot) (was is : Profile) → was ≡ is → IsShelf was names rows → IsShelf is names rows
+kept_shelf names rows was is e s = let P : Profile → Type 0 = λ p. IsShelf p names rows in subst P e s
+
+pub kept_fills : (gives : ℕ → List ℕ → Content → Type 0) (old : Stock) (rows : List Spot) (was is : Profile) → was ≡ is → Fills gives old (stock_of was rows) → Fills gives old (stock_of is rows)
+kept_fills gives old rows was is e f = let P : Profile → Type 0 = λ p. Fills gives old (stock_of p rows) in subst P e f
 
 -- what a shelf that is filled with contents holds in each row
 abbrev pub given : List (Vec ℕ Global) → ℕ → List ℕ → Content → Type 0
@@ -164,15 +173,15 @@ bytes_here contents row n bytes e t =
     subst P (sym e) (t.0, at)
 
 -- a row to which these bytes were moved has the content of its place
-pub given_row : (contents : List (Vec ℕ Global)) (row : ℕ) (bytes : List ℕ) (old new : Spot) → bytes ≡ bytes_at contents row → FilledRow (λ name c. c ≡ readable bytes) row old new → FilledRow (given contents row) row old new
-given_row contents row bytes old new e f =
-    let P : List ℕ → Type 0 = λ b. FilledRow (λ (name : List ℕ) (c : Content). c ≡ readable b) row old new in
+pub given_row : (contents : List (Vec ℕ Global)) (profile : Profile) (row : ℕ) (bytes : List ℕ) (old new : Spot) → bytes ≡ bytes_at contents row → FilledRow (λ name c. c ≡ readable bytes) profile row old new → FilledRow (given contents row) profile row old new
+given_row contents profile row bytes old new e f =
+    let P : List ℕ → Type 0 = λ b. FilledRow (λ (name : List ℕ) (c : Content). c ≡ readable b) profile row old new in
     subst P e f
 
 -- what is lawful for a row by its name is lawful for what stands there now
-pub lawful_here : (may : List ℕ → Content → Type 0) (gives : ℕ → List ℕ → Content → Type 0) (old new : List Spot) (row : ℕ) (mine : Spot) (bytes theirs : List ℕ) → Filling gives old new row → row < length old → mine ≡ get_or new row mine → bytes ≡ theirs
+pub lawful_here : (profile : Profile) (may : List ℕ → Content → Type 0) (gives : ℕ → List ℕ → Content → Type 0) (old new : List Spot) (row : ℕ) (mine : Spot) (bytes theirs : List ℕ) → Filling profile gives old new row → row < length old → mine ≡ get_or new row mine → bytes ≡ theirs
     → Lawful may (name_in (names_of old) row) (readable theirs) → Lawful may mine.name (readable bytes)
-lawful_here may gives old new row mine bytes theirs f w read same lawful =
+lawful_here profile may gives old new row mine bytes theirs f w read same lawful =
     let len = f.turned.len in
     let at : mine ≡ get_or old row no_spot = get_or_read new row mine (omega arith) read no_spot ∙ f.ahead row (omega arith) in
     let P : List ℕ → Type 0 = λ b. Lawful may mine.name (readable b) in

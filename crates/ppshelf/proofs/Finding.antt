@@ -8,6 +8,7 @@ use Rattle.ppshelf.specs.Content.{Content, readable}
 use Rattle.ppshelf.specs.OnDisk.{IsFile}
 use Rattle.ppshelf.specs.Names.{AreNames}
 use Rattle.ppshelf.specs.Files.{Files, most_rows}
+use Rattle.pptext.specs.declared.sources.Profile.{Profile}
 use Rattle.ppshelf.specs.Shelved.{Held, Spot, Placed, IsShelf, base_of, names_of, no_spot}
 use Rattle.ppshelf.specs.declared.memory_disk.File.{File}
 
@@ -27,16 +28,16 @@ all_none zero row = refl
 all_none (suc n) zero = refl
 all_none (suc n) (suc row) = all_none n row
 
-pub none_placed : (stock : List Spot) (n : ℕ) → base_of stock ≡ replicate n None → Placed stock
-none_placed stock n e row h is =
+pub none_placed : (profile : Profile) (stock : List Spot) (n : ℕ) → base_of stock ≡ replicate n None → Placed profile stock
+none_placed profile stock n e row h is =
     let base : Spot → Option Content = λ (s : Spot). option_map (λ (x : Held). x.content) s.base in
     absurd (none-some h.content (sym (all_none n row) ∙ (ap (λ (f : Files). get_or f row None) (sym e) ∙ (get_or-map base stock row no_spot ∙ ap (λ (o : Option Held). option_map (λ (x : Held). x.content) o) is))))
 
 -- rows of these names, of which none is filled
-pub empty_shelf : (names : List (List ℕ)) (stock : List Spot) (n : ℕ) → names_of stock ≡ names → base_of stock ≡ replicate n None → length names ≤ most_rows → AreNames names → IsShelf names stock
-empty_shelf names stock n named base small form = record {
+pub empty_shelf : (profile : Profile) (names : List (List ℕ)) (stock : List Spot) (n : ℕ) → names_of stock ≡ names → base_of stock ≡ replicate n None → length names ≤ most_rows → AreNames names → IsShelf profile names stock
+empty_shelf profile names stock n named base small form = record {
   small = let l = length-map stock (λ (s : Spot). s.name) in let m = ap length named in omega arith;
   named = sym named;
   form = form;
-  placed = none_placed stock n base;
+  placed = none_placed profile stock n base;
 }

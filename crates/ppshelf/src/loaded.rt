@@ -1,14 +1,14 @@
-// A kept content with its row and name.
+// A kept content with its row, its name and the profile that it was read by.
 ghost use Rattle.std.specs.Prelude.{◌≡◌, ℕ, ◌<◌, ◌≤◌, ◌↔◌, List, length, IfOk, IfSome, IsTrue, MatchOption, MatchResult, OnErr, Option, Ok, Err, option_copied};
 ghost use Rattle.std.specs.String.{string_bytes};
 ghost use Rattle.pptext.specs.Sources.{Reads};
 ghost use Rattle.ppshelf.specs.Content.{Content, unreadable, readable, Lawful, longest, content_of, IsRead};
 ghost use Rattle.ppshelf.specs.Files.{most_rows};
 ghost use Rattle.ppshelf.specs.Parsed.{parsed_content, HasReading};
-ghost use Rattle.ppshelf.specs.Shelved.{Held};
+ghost use Rattle.ppshelf.specs.Shelved.{Held, IsPlaced};
 
 use crate::disk::{Disk, ReadFault};
-use pptext::{Fault, Memory, Source, SourceFault, read_source};
+use pptext::{Fault, Memory, Profile, Source, SourceFault, read_source};
 use std::alloc::Global;
 use std::marker::{Model, PhantomData};
 
@@ -26,6 +26,7 @@ pub(crate) struct Parsed {
 pub struct Loaded<D: Disk> {
     row: usize,
     name: String,
+    profile: Profile,
     parsed: Option<Parsed>,
     of: PhantomData<D>,
 }
@@ -39,9 +40,9 @@ impl<D: Disk> Model for Loaded<D> {
 
     ghost Value = { Held };
 
-    ghost view = { λ l. record { row = l.row; name = string_bytes l.name; content = parsed_content l.parsed } };
+    ghost view = { λ l. record { row = l.row; name = string_bytes l.name; profile = l.profile; content = parsed_content l.parsed } };
 
-    ghost invariant = { λ l. Lawful D.may (string_bytes l.name) (parsed_content l.parsed) × HasReading l.row l.parsed };
+    ghost invariant = { λ l. Lawful D.may (string_bytes l.name) (parsed_content l.parsed) × HasReading l.profile l.row l.parsed };
 }
 
 impl<D: Disk> Drop for Loaded<D> {
@@ -49,6 +50,7 @@ impl<D: Disk> Drop for Loaded<D> {
         let Loaded {
             row: _,
             name: _,
+            profile: _,
             parsed: _,
             of: _,
         } = self;
@@ -56,12 +58,17 @@ impl<D: Disk> Drop for Loaded<D> {
 }
 
 // The lines of a row's bytes, or their first fault.
-fn read_lines(alloc: Global, row: usize, bytes: &[u8]) -> Result<Result<Source, Fault>, Memory>
+fn read_lines(
+    alloc: Global,
+    profile: Profile,
+    row: usize,
+    bytes: &[u8],
+) -> Result<Result<Source, Fault>, Memory>
     requires row { row < most_rows }
     requires short { length bytes.now ≤ longest }
-    ensures { IfOk result (λ lines. Reads row bytes.now lines) }
+    ensures { IfOk result (λ lines. Reads profile row bytes.now lines) }
 {
-    match read_source(alloc, bytes, row as u32) {
+    match read_source(alloc, bytes, row as u32, profile) {
         Ok(source) => Ok(Ok(source)),
         Err(SourceFault::Bad(fault)) => Ok(Err(fault)),
         Err(SourceFault::Memory) => Err(Memory),
@@ -69,13 +76,18 @@ fn read_lines(alloc: Global, row: usize, bytes: &[u8]) -> Result<Result<Source, 
 }
 
 // The bytes of a row's file with their lines.
-fn parsed_bytes(alloc: Global, row: usize, bytes: Vec<u8>) -> Result<Parsed, Memory>
+fn parsed_bytes(
+    alloc: Global,
+    profile: Profile,
+    row: usize,
+    bytes: Vec<u8>,
+) -> Result<Parsed, Memory>
     requires row { row < most_rows }
     requires short { length bytes.items ≤ longest }
     ensures bytes { IfOk result (λ p. p.bytes.items ≡ bytes.items) }
-    ensures reading { IfOk result (λ p. Reads row p.bytes.items p.lines) }
+    ensures reading { IfOk result (λ p. Reads profile row p.bytes.items p.lines) }
 {
-    let lines = read_lines(alloc, row, bytes.as_slice())?;
+    let lines = read_lines(alloc, profile, row, bytes.as_slice())?;
     Ok(Parsed { bytes, lines })
 }
 
@@ -83,19 +95,20 @@ fn parsed_bytes(alloc: Global, row: usize, bytes: Vec<u8>) -> Result<Parsed, Mem
 fn parsed_of<D: Disk>(
     alloc: Global,
     disk: &D,
+    profile: Profile,
     row: usize,
     name: &str,
 ) -> Result<Option<Parsed>, Memory>
     requires { row < most_rows }
     ensures content { IfOk result (λ p. Lawful (D.gives disk.now) name.now (parsed_content p)) }
-    ensures reading { IfOk result (λ p. HasReading row p) }
+    ensures reading { IfOk result (λ p. HasReading profile row p) }
 {
     match disk.read(alloc, name) {
         Ok(bytes) => {
             if bytes.len() > LONGEST {
                 return Ok(None);
             }
-            Ok(Some(parsed_bytes(alloc, row, bytes)?))
+            Ok(Some(parsed_bytes(alloc, profile, row, bytes)?))
         }
         Err(ReadFault::Unreadable) => Ok(None),
         Err(ReadFault::Memory) => Err(Memory),
@@ -104,16 +117,23 @@ fn parsed_of<D: Disk>(
 
 impl<D: Disk> Loaded<D> {
     // Reads a row from the disk.
-    pub(crate) fn read(alloc: Global, disk: &D, row: usize, name: &str) -> Result<Loaded<D>, Memory>
+    pub(crate) fn read(
+        alloc: Global,
+        disk: &D,
+        profile: Profile,
+        row: usize,
+        name: &str,
+    ) -> Result<Loaded<D>, Memory>
         requires { row < most_rows }
-        ensures place { IfOk result (λ l. (l.row ≡ row) × (l.name ≡ name.now)) }
+        ensures place { IfOk result (λ l. IsPlaced profile row name.now l) }
         ensures content { IfOk result (λ l. Lawful (D.gives disk.now) name.now l.content) }
     {
-        let parsed = parsed_of(alloc, disk, row, name)?;
+        let parsed = parsed_of(alloc, disk, profile, row, name)?;
         let name = String::from_str(alloc, name)?;
         Ok(Loaded {
             row,
             name,
+            profile,
             parsed,
             of: PhantomData,
         })
@@ -122,20 +142,22 @@ impl<D: Disk> Loaded<D> {
     // A row's content of these bytes.
     pub(crate) fn of_bytes(
         alloc: Global,
+        profile: Profile,
         row: usize,
         name: &str,
         bytes: Vec<u8>,
     ) -> Result<Loaded<D>, Memory>
         requires row { row < most_rows }
         requires lawful { Lawful D.may name.now (readable bytes.items) }
-        ensures place { IfOk result (λ l. (l.row ≡ row) × (l.name ≡ name.now)) }
+        ensures place { IfOk result (λ l. IsPlaced profile row name.now l) }
         ensures content { IfOk result (λ l. l.content ≡ readable bytes.items) }
     {
-        let parsed = parsed_bytes(alloc, row, bytes)?;
+        let parsed = parsed_bytes(alloc, profile, row, bytes)?;
         let name = String::from_str(alloc, name)?;
         Ok(Loaded {
             row,
             name,
+            profile,
             parsed: Some(parsed),
             of: PhantomData,
         })
@@ -153,7 +175,7 @@ impl<D: Disk> Loaded<D> {
 
     /// The file's lines or its first fault, or `None` where it cannot be read.
     pub fn lines(&self) -> Option<Result<&Source, &Fault>>
-        ensures { MatchOption result (self.now.content ≡ unreadable) (λ r. MatchResult r (λ s. IsRead self.now.row self.now.content (Ok s.now)) (λ f. IsRead self.now.row self.now.content (Err f.now))) }
+        ensures { MatchOption result (self.now.content ≡ unreadable) (λ r. MatchResult r (λ s. IsRead self.now.profile self.now.row self.now.content (Ok s.now)) (λ f. IsRead self.now.profile self.now.row self.now.content (Err f.now))) }
     {
         match &self.parsed {
             Some(parsed) => Some(parsed.lines.as_ref()),
@@ -161,12 +183,12 @@ impl<D: Disk> Loaded<D> {
         }
     }
 
-    // Whether the content is that of this row and name.
-    pub(crate) fn is_of(&self, row: usize, name: &str) -> bool
-        ensures same { IsTrue result ↔ ((self.now.row ≡ row) × (self.now.name ≡ name.now)) }
+    // Whether the content is that of this row and name, read by this profile.
+    pub(crate) fn is_of(&self, profile: Profile, row: usize, name: &str) -> bool
+        ensures same { IsTrue result ↔ IsPlaced profile row name.now self.now }
         ensures lawful { Lawful D.may self.now.name self.now.content }
     {
-        self.row == row && self.name.as_str() == name
+        self.row == row && self.name.as_str() == name && self.profile == profile
     }
 
     // For proofs: the content is lawful.
@@ -176,14 +198,19 @@ impl<D: Disk> Loaded<D> {
         let _row = &self.row;
     }
 
-    // The content itself where it is that of this row and name. No caller meets another.
-    pub(crate) fn checked(&self, row: usize, name: &str) -> Result<&Loaded<D>, Memory>
+    // The content itself where it is that of this row and name by this profile. No caller meets another.
+    pub(crate) fn checked(
+        &self,
+        profile: Profile,
+        row: usize,
+        name: &str,
+    ) -> Result<&Loaded<D>, Memory>
         ensures same { IfOk result (λ l. l.now ≡ self.now) }
-        ensures place { IfOk result (λ l. (l.now.row ≡ row) × (l.now.name ≡ name.now)) }
+        ensures place { IfOk result (λ l. IsPlaced profile row name.now l.now) }
         ensures lawful { IfOk result (λ l. Lawful D.may l.now.name l.now.content) }
-        ensures err { OnErr result (((self.now.row ≡ row) × (self.now.name ≡ name.now)) → ⊥) }
+        ensures err { OnErr result (IsPlaced profile row name.now self.now → ⊥) }
     {
-        if self.is_of(row, name) {
+        if self.is_of(profile, row, name) {
             Ok(self)
         } else {
             Err(Memory)

@@ -3,12 +3,12 @@ ghost use Rattle.std.specs.Prelude.{◌≡◌, ℕ, ◌<◌, IfOk, OnErr, OnOk, 
 ghost use Rattle.std.specs.String.{string_bytes};
 ghost use Rattle.ppshelf.specs.Content.{Lawful, readable};
 ghost use Rattle.ppshelf.specs.Files.{most_rows, or_else};
-ghost use Rattle.ppshelf.specs.Shelved.{Held, FitsRow, FilledRow};
+ghost use Rattle.ppshelf.specs.Shelved.{Held, IsPlaced, FitsRow, FilledRow};
 
 use crate::disk::Disk;
 use crate::loaded::Loaded;
 use once_cell::race::{Note, OnceBox};
-use pptext::Memory;
+use pptext::{Memory, Profile};
 use std::alloc::Global;
 use std::marker::Model;
 use std::mem;
@@ -89,29 +89,41 @@ impl<D: Disk> Row<D> {
     }
 
     // Reads the row, unless it was filled before.
-    pub(crate) fn fill(&mut self, alloc: Global, row: usize, disk: &D) -> Result<(), Memory>
+    pub(crate) fn fill(
+        &mut self,
+        alloc: Global,
+        profile: Profile,
+        row: usize,
+        disk: &D,
+    ) -> Result<(), Memory>
         requires { row < most_rows }
-        ensures turned { FilledRow (Lawful (D.gives disk.now)) row self.old self.new }
+        ensures turned { FilledRow (Lawful (D.gives disk.now)) profile row self.old self.new }
         ensures full { OnOk result (IsSome self.new.base) }
     {
         if self.base.is_none() {
-            let loaded = Loaded::read(alloc, disk, row, self.name.as_str())?;
+            let loaded = Loaded::read(alloc, disk, profile, row, self.name.as_str())?;
             self.base = Some(loaded);
         }
         Ok(())
     }
 
     // Moves a content to the row, unless it was filled before.
-    pub(crate) fn put(&mut self, alloc: Global, row: usize, bytes: Vec<u8>) -> Result<(), Memory>
+    pub(crate) fn put(
+        &mut self,
+        alloc: Global,
+        profile: Profile,
+        row: usize,
+        bytes: Vec<u8>,
+    ) -> Result<(), Memory>
         requires row { row < most_rows }
         requires lawful { Lawful D.may self.old.name (readable bytes.items) }
-        ensures turned { FilledRow (λ name c. c ≡ readable bytes.items) row self.old self.new }
+        ensures turned { FilledRow (λ name c. c ≡ readable bytes.items) profile row self.old self.new }
         ensures full { OnOk result (IsSome self.new.base) }
     {
         if self.base.is_some() {
             return Ok(());
         }
-        let loaded = Loaded::of_bytes(alloc, row, self.name.as_str(), bytes)?;
+        let loaded = Loaded::of_bytes(alloc, profile, row, self.name.as_str(), bytes)?;
         self.base = Some(loaded);
         Ok(())
     }
@@ -121,13 +133,14 @@ impl<D: Disk> Row<D> {
         &'a self,
         seen: &mut Seen<'a, D>,
         alloc: Global,
+        profile: Profile,
         row: usize,
         disk: &D,
     ) -> Result<&'a Loaded<D>, Memory>
         requires row { row < most_rows }
-        requires placed { (h : Held) → self.now.base ≡ Some h → (h.row ≡ row) × (h.name ≡ self.now.name) }
-        requires fits { FitsRow D.may row self.now seen.old }
-        ensures fits { FitsRow D.may row self.now seen.new }
+        requires placed { (h : Held) → self.now.base ≡ Some h → IsPlaced profile row self.now.name h }
+        requires fits { FitsRow D.may profile row self.now seen.old }
+        ensures fits { FitsRow D.may profile row self.now seen.new }
         ensures shown { IfOk result (λ l. seen.new.shown ≡ Some l.now) }
         ensures stays { IfSome seen.old.shown (λ h. IsOkAnd result (λ l. l.now ≡ h)) }
         ensures base { IfSome self.now.base (λ h. IsOkAnd result (λ l. l.now ≡ h)) }
@@ -141,7 +154,7 @@ impl<D: Disk> Row<D> {
             seen.shown = Some(loaded);
             return Ok(loaded);
         }
-        let loaded = self.kept(&mut seen.note, alloc, row, disk)?;
+        let loaded = self.kept(&mut seen.note, alloc, profile, row, disk)?;
         seen.shown = Some(loaded);
         Ok(loaded)
     }
@@ -151,6 +164,7 @@ impl<D: Disk> Row<D> {
         &'a self,
         note: &mut Note<Loaded<D>>,
         alloc: Global,
+        profile: Profile,
         row: usize,
         disk: &D,
     ) -> Result<&'a Loaded<D>, Memory>
@@ -158,19 +172,19 @@ impl<D: Disk> Row<D> {
         requires cell { note.old.cell ≡ self.now.cell }
         ensures cell { note.new.cell ≡ note.old.cell }
         ensures known { IfOk result (λ l. note.new.known ≡ Some l.now) }
-        ensures place { IfOk result (λ l. (l.now.row ≡ row) × (l.now.name ≡ self.now.name)) }
+        ensures place { IfOk result (λ l. IsPlaced profile row self.now.name l.now) }
         ensures lawful { IfOk result (λ l. Lawful D.may l.now.name l.now.content) }
     {
         if let Some(loaded) = self.cell.get_as(note) {
-            return loaded.checked(row, self.name.as_str());
+            return loaded.checked(profile, row, self.name.as_str());
         }
-        let made = Loaded::read(alloc, disk, row, self.name.as_str())?;
+        let made = Loaded::read(alloc, disk, profile, row, self.name.as_str())?;
         let Ok(made) = Box::new(alloc, made) else {
             return Err(Memory);
         };
         let _lost = self.cell.set_as(made, note);
         match self.cell.get_as(note) {
-            Some(loaded) => loaded.checked(row, self.name.as_str()),
+            Some(loaded) => loaded.checked(profile, row, self.name.as_str()),
             None => unreachable!(),
         }
     }
@@ -178,10 +192,10 @@ impl<D: Disk> Row<D> {
 
 impl<'a, D: Disk> Seen<'a, D> {
     // Takes in what another caller has seen of the same row.
-    pub(crate) fn join(&mut self, place: &Row<D>, row: usize, other: Self)
-        requires mine { FitsRow D.may row place.now self.old }
-        requires theirs { FitsRow D.may row place.now other }
-        ensures fits { FitsRow D.may row place.now self.new }
+    pub(crate) fn join(&mut self, place: &Row<D>, profile: Profile, row: usize, other: Self)
+        requires mine { FitsRow D.may profile row place.now self.old }
+        requires theirs { FitsRow D.may profile row place.now other }
+        ensures fits { FitsRow D.may profile row place.now self.new }
         ensures agree { (h k : Held) → self.old.shown ≡ Some h → other.entry.shown ≡ Some k → h ≡ k }
         ensures shown { self.new.shown ≡ or_else self.old.shown other.entry.shown }
     {

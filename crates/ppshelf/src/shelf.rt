@@ -12,19 +12,20 @@ use crate::disk::Disk;
 use crate::index::{Index, index_names};
 use crate::loaded::Loaded;
 use crate::row::{Row, Seen};
-use pptext::Memory;
+use pptext::{Memory, Profile};
 use std::alloc::Global;
 use std::marker::Model;
 
 /// The most rows of a shelf.
 pub const MOST_ROWS: usize = 65_535;
 
-/// Files by row. Each row is read once, by `fill` or by the first look.
+/// Files by row. Each row is read once, by `fill` or by the first look, and all are read by one profile.
 ///
-/// Contracts see the names of its rows, the files that `fill` put there, and which shelf it is: no two shelves with a row are
-/// equal.
+/// Contracts see the names of its rows, the files that `fill` put there, its profile, and which shelf it is: no two shelves
+/// with a row are equal.
 pub struct Shelf<D: Disk> {
     alloc: Global,
+    profile: Profile,
     index: Index,
     rows: Vec<Row<D>>,
 }
@@ -35,15 +36,16 @@ impl<D: Disk> Model for Shelf<D> {
 
     ghost Value = { Stock };
 
-    ghost view = { λ s. stock_of s.rows.items };
+    ghost view = { λ s. stock_of s.profile s.rows.items };
 
-    ghost invariant = { λ s. IsShelf s.index s.rows.items };
+    ghost invariant = { λ s. IsShelf s.profile s.index s.rows.items };
 }
 
 impl<D: Disk> Drop for Shelf<D> {
     fn drop(self) {
         let Shelf {
             alloc: _,
+            profile: _,
             index: _,
             rows: _,
         } = self;
@@ -90,12 +92,13 @@ pub enum LookFault {
 }
 
 impl<D: Disk> Shelf<D> {
-    /// Rows with these names, at most `MOST_ROWS`, in order. None is filled.
+    /// Rows with these names, at most `MOST_ROWS`, in order, to be read by this profile. None is filled.
     ///
     /// Fails at the first name that is not in normal form or that stands before.
-    pub fn new(alloc: Global, names: Vec<String>) -> Result<Shelf<D>, ShelfFault>
+    pub fn new(alloc: Global, names: Vec<String>, profile: Profile) -> Result<Shelf<D>, ShelfFault>
         requires { vec_len names ≤ most_rows }
         ensures names { IfOk result (λ s. s.names ≡ map string_bytes names.items) }
+        ensures profile { IfOk result (λ s. s.profile ≡ profile) }
         ensures form { OnOk result (AreNames (map string_bytes names.items)) }
         ensures empty { IfOk result (λ s. s.base ≡ replicate (length names.items) None) }
         ensures fault { IfErr result (λ e. IsShelfFault e (map string_bytes names.items)) }
@@ -104,7 +107,12 @@ impl<D: Disk> Shelf<D> {
         let Ok(rows) = empty_rows(alloc, names) else {
             return Err(ShelfFault::Memory);
         };
-        Ok(Shelf { alloc, index, rows })
+        Ok(Shelf {
+            alloc,
+            profile,
+            index,
+            rows,
+        })
     }
 
     /// How many rows there are, at most `MOST_ROWS`.
@@ -113,6 +121,13 @@ impl<D: Disk> Shelf<D> {
         ensures small { result ≤ most_rows }
     {
         self.rows.len()
+    }
+
+    /// The profile by which its rows are read. Takes no memory.
+    pub fn profile(&self) -> Profile
+        ensures { result ≡ self.now.profile }
+    {
+        self.profile
     }
 
     /// The row of this name. Takes no memory.
@@ -141,14 +156,14 @@ impl<D: Disk> Shelf<D> {
 
     /// Reads each row that no earlier fill read, whatever a look kept. Where memory runs out, the rows that were read stay.
     pub fn fill(&mut self, disk: &D) -> Result<(), Memory>
-        ensures shelf { (self.new.names ≡ self.old.names) × (self.new.cells ≡ self.old.cells) }
+        ensures shelf { (self.new.names ≡ self.old.names) × (self.new.profile ≡ self.old.profile) × (self.new.cells ≡ self.old.cells) }
         ensures base { (row : ℕ) → row < length self.old.names → Filled (Lawful (D.gives disk.now) (name_in self.old.names row)) (file_at self.old.base row) (file_at self.new.base row) }
         ensures len { length self.new.base ≡ length self.old.names }
         ensures full { OnOk result (IsFull self.new) }
     {
-        let alloc = self.alloc;
+        let (alloc, profile) = (self.alloc, self.profile);
         for row in 0..self.rows.len() {
-            self.rows[row].fill(alloc, row, disk)?;
+            self.rows[row].fill(alloc, profile, row, disk)?;
         }
         Ok(())
     }
@@ -158,15 +173,15 @@ impl<D: Disk> Shelf<D> {
     pub fn fill_with(&mut self, contents: Vec<Vec<u8>>) -> Result<(), Memory>
         requires count { length contents.items ≡ length self.old.names }
         requires lawful { (row : ℕ) → row < length self.old.names → Lawful D.may (name_in self.old.names row) (readable (bytes_at contents.items row)) }
-        ensures shelf { (self.new.names ≡ self.old.names) × (self.new.cells ≡ self.old.cells) }
+        ensures shelf { (self.new.names ≡ self.old.names) × (self.new.profile ≡ self.old.profile) × (self.new.cells ≡ self.old.cells) }
         ensures base { (row : ℕ) → row < length self.old.names → Filled (λ c. c ≡ readable (bytes_at contents.items row)) (file_at self.old.base row) (file_at self.new.base row) }
         ensures len { length self.new.base ≡ length self.old.names }
         ensures full { OnOk result (IsFull self.new) }
     {
-        let alloc = self.alloc;
+        let (alloc, profile) = (self.alloc, self.profile);
         let mut row = 0;
         for bytes in contents {
-            self.rows[row].put(alloc, row, bytes)?;
+            self.rows[row].put(alloc, profile, row, bytes)?;
             row += 1;
         }
         Ok(())
@@ -199,7 +214,7 @@ impl<D: Disk> Shelf<D> {
         requires shelf { pass.old.shelf ≡ self.now }
         requires row { row < length self.now.names }
         ensures shelf { pass.new.shelf ≡ self.now }
-        ensures place { IfOk result (λ l. (l.now.row ≡ row) × (l.now.name ≡ name_in self.now.names row)) }
+        ensures place { IfOk result (λ l. (l.now.row ≡ row) × (l.now.name ≡ name_in self.now.names row) × (l.now.profile ≡ self.now.profile)) }
         ensures known { IfOk result (λ l. pass.new.files ≡ slice_set pass.old.files row (Some l.now.content)) }
         ensures knows { IfOk result (λ l. file_at pass.new.files row ≡ Some l.now.content) }
         ensures grows { Extends pass.new.files pass.old.files }
@@ -268,14 +283,14 @@ impl<'a, D: Disk> Pass<'a, D> {
         requires shelf { self.old.shelf ≡ shelf.now }
         requires row { row < length shelf.now.names }
         ensures shelf { self.new.shelf ≡ shelf.now }
-        ensures place { IfOk result (λ l. (l.now.row ≡ row) × (l.now.name ≡ name_in shelf.now.names row)) }
+        ensures place { IfOk result (λ l. (l.now.row ≡ row) × (l.now.name ≡ name_in shelf.now.names row) × (l.now.profile ≡ shelf.now.profile)) }
         ensures known { IfOk result (λ l. self.new.files ≡ slice_set self.old.files row (Some l.now.content)) }
         ensures stays { IfSome (file_at self.old.files row) (λ c. IsOkAnd result (λ l. l.now.content ≡ c)) }
         ensures base { IfSome (file_at shelf.now.base row) (λ c. IsOkAnd result (λ l. l.now.content ≡ c)) }
         ensures err { OnErr result (self.new ≡ self.old) }
     {
         let seen = &mut self.rows[row];
-        let Ok(loaded) = shelf.rows[row].look(seen, shelf.alloc, row, disk) else {
+        let Ok(loaded) = shelf.rows[row].look(seen, shelf.alloc, shelf.profile, row, disk) else {
             return Err(LookFault::Memory);
         };
         Ok(loaded)
@@ -292,7 +307,7 @@ impl<'a, D: Disk> Pass<'a, D> {
         let Pass { shelf: _, mut rows } = other;
         while let Some(theirs) = rows.pop() {
             let row = rows.len();
-            self.rows[row].join(&shelf.rows[row], row, theirs);
+            self.rows[row].join(&shelf.rows[row], shelf.profile, row, theirs);
         }
     }
 }

@@ -7,7 +7,7 @@ use crate::{
     Disk, File, FolderDisk, Folders, Form, LONGEST, Loaded, MemoryDisk, Pass, ReadFault, Shelf,
     ShelfFault, is_folder, is_name, resolve,
 };
-use pptext::{Fault, Memory, Source};
+use pptext::{Directive, Fault, Memory, Profile, Source};
 use std::alloc::{AllocError, Global};
 use std::fs::OpenFile;
 use std::process::Abort;
@@ -104,10 +104,25 @@ fn lines_of<'a, D: Disk>(
     Ok(loaded.lines())
 }
 
+// The directive of the second line of the first row.
+fn second_directive<'a>(
+    shelf: &'a Shelf<MemoryDisk>,
+    pass: &mut Pass<'a, MemoryDisk>,
+    disk: &MemoryDisk,
+) -> Result<Option<Directive>, Memory>
+    requires { pass.old.shelf ≡ shelf.now }
+    ensures { pass.new.shelf ≡ shelf.now }
+{
+    match lines_of(shelf, pass, 0, disk)? {
+        Some(Ok(source)) => Ok(source.lines().get(1).and_then(|line| line.directive)),
+        _ => Ok(None),
+    }
+}
+
 #[test]
 fn passes_find_the_same(rt: HostRuntime) -> Result<(), Fail> {
     let alloc = rt.alloc();
-    let shelf: Shelf<Counting> = Shelf::new(alloc, texts(alloc, &["h.h", "a.c"])?)?;
+    let shelf: Shelf<Counting> = Shelf::new(alloc, texts(alloc, &["h.h", "a.c"])?, Profile::C11)?;
     let disk = refusing(99);
     let (mut one, mut two) = (shelf.pass()?, shelf.pass()?);
     assert!(rt; bytes_of(&shelf, &mut one, 0, &disk)? == Some(b"0\n".as_slice()));
@@ -198,7 +213,7 @@ fn all_open<'a>(
 #[test]
 fn contents_outlive_later_looks(rt: HostRuntime) -> Result<(), Fail> {
     let alloc = rt.alloc();
-    let shelf: Shelf<Counting> = Shelf::new(alloc, texts(alloc, &["a", "b", "c"])?)?;
+    let shelf: Shelf<Counting> = Shelf::new(alloc, texts(alloc, &["a", "b", "c"])?, Profile::C11)?;
     let disk = refusing(99);
     let mut pass = shelf.pass()?;
     let open = all_open(alloc, &shelf, &mut pass, &disk)?;
@@ -216,7 +231,7 @@ fn contents_outlive_later_looks(rt: HostRuntime) -> Result<(), Fail> {
 #[test]
 fn threads_find_the_same(rt: HostRuntime) -> Result<(), Fail> {
     let alloc = rt.alloc();
-    let shelf: Shelf<Counting> = Shelf::new(alloc, texts(alloc, &["h.h", "a.c"])?)?;
+    let shelf: Shelf<Counting> = Shelf::new(alloc, texts(alloc, &["h.h", "a.c"])?, Profile::C11)?;
     let disk = refusing(99);
     let mut pass = by_four_threads(&rt, &shelf, &disk)?;
     let first = bytes_of(&shelf, &mut pass, 0, &disk)?;
@@ -228,7 +243,11 @@ fn threads_find_the_same(rt: HostRuntime) -> Result<(), Fail> {
 #[test]
 fn a_fill_goes_on_after_want_of_memory(rt: HostRuntime) -> Result<(), Fail> {
     let alloc = rt.alloc();
-    let mut shelf: Shelf<Counting> = Shelf::new(alloc, texts(alloc, &["a", "b", "c"])?)?;
+    let mut shelf: Shelf<Counting> = Shelf::new(
+        alloc,
+        texts(alloc, &["a", "b", "c"])?,
+        Profile::C11,
+    )?;
     let disk = refusing(1);
     assert!(rt; shelf.fill(&disk) == Err(Memory));
     assert!(rt; shelf.fill(&disk) == Ok(()));
@@ -243,7 +262,7 @@ fn a_fill_goes_on_after_want_of_memory(rt: HostRuntime) -> Result<(), Fail> {
 #[test]
 fn a_fill_reads_what_a_look_has_kept(rt: HostRuntime) -> Result<(), Fail> {
     let alloc = rt.alloc();
-    let mut shelf: Shelf<Counting> = Shelf::new(alloc, texts(alloc, &["a"])?)?;
+    let mut shelf: Shelf<Counting> = Shelf::new(alloc, texts(alloc, &["a"])?, Profile::C11)?;
     let disk = refusing(99);
     let mut pass = shelf.pass()?;
     assert!(rt; bytes_of(&shelf, &mut pass, 0, &disk)? == Some(b"0\n".as_slice()));
@@ -257,7 +276,7 @@ fn a_fill_reads_what_a_look_has_kept(rt: HostRuntime) -> Result<(), Fail> {
 #[test]
 fn a_kept_row_is_not_read_again(rt: HostRuntime) -> Result<(), Fail> {
     let alloc = rt.alloc();
-    let shelf: Shelf<Counting> = Shelf::new(alloc, texts(alloc, &["h.h"])?)?;
+    let shelf: Shelf<Counting> = Shelf::new(alloc, texts(alloc, &["h.h"])?, Profile::C11)?;
     let mut pass = shelf.pass()?;
     assert!(rt; bytes_of(&shelf, &mut pass, 0, &refusing(0)) == Err(Memory));
     assert!(rt; bytes_of(&shelf, &mut pass, 0, &refusing(1))? == Some(b"0\n".as_slice()));
@@ -270,7 +289,7 @@ fn a_kept_row_is_not_read_again(rt: HostRuntime) -> Result<(), Fail> {
 fn named(alloc: Global, names: &[&str]) -> Result<Shelf<MemoryDisk>, Fail>
     requires { length names.now ≤ most_rows }
 {
-    Ok(Shelf::new(alloc, texts(alloc, names)?)?)
+    Ok(Shelf::new(alloc, texts(alloc, names)?, Profile::C11)?)
 }
 
 fn searched<R: Abort + AllocGlobal>(
@@ -375,11 +394,13 @@ fn a_shelf_refuses_the_first_bad_name(rt: HostRuntime) -> Result<(), Fail> {
     let twice: Result<Shelf<MemoryDisk>, ShelfFault> = Shelf::new(
         alloc,
         texts(alloc, &["a", "b", "a", "."])?,
+        Profile::C11,
     );
     assert!(rt; twice.map(|_| ()) == Err(ShelfFault::Name(2)));
     let out_of_form: Result<Shelf<MemoryDisk>, ShelfFault> = Shelf::new(
         alloc,
         texts(alloc, &["a", "b/", "a"])?,
+        Profile::C11,
     );
     assert!(rt; out_of_form.map(|_| ()) == Err(ShelfFault::Name(1)));
     Ok(())
@@ -395,7 +416,7 @@ fn a_shelf_holds_65535_names(rt: HostRuntime) -> Result<(), Fail> {
     if names.len() != 65535 {
         return Ok(());
     }
-    let shelf: Shelf<MemoryDisk> = Shelf::new(alloc, names)?;
+    let shelf: Shelf<MemoryDisk> = Shelf::new(alloc, names, Profile::C11)?;
     if shelf.len() != 65535 {
         return Err(Fail::new("not all names"));
     }
@@ -442,6 +463,34 @@ fn a_file_is_kept_with_its_fault(rt: HostRuntime) -> Result<(), Fail> {
     Ok(())
 }
 
+// A line that is a directive by the later profile alone.
+#[test]
+fn a_shelf_reads_by_its_profile(rt: HostRuntime) -> Result<(), Fail> {
+    let alloc = rt.alloc();
+    for (profile, directive) in [
+        (Profile::C11, Directive::Unknown),
+        (Profile::Later, Directive::Elifdef),
+    ] {
+        let names = texts(alloc, &["a"])?;
+        let mut shelf: Shelf<MemoryDisk> = Shelf::new(alloc, names, profile)?;
+        assert!(rt; shelf.profile() == profile);
+        let mut files = Vec::new(alloc);
+        files.push(File {
+            name: String::from_str(alloc, "a")?,
+            bytes: Vec::from_slice(alloc, b"#if 0\n#elifdef X\n#endif\n".as_slice())?,
+        })?;
+        let disk = MemoryDisk { files };
+        let mut looking = shelf.pass()?;
+        let looked = second_directive(&shelf, &mut looking, &disk)?;
+        assert!(rt; looked == Some(directive));
+        drop(looking);
+        assert!(rt; shelf.fill(&disk) == Ok(()));
+        let mut filled = shelf.pass()?;
+        assert!(rt; second_directive(&shelf, &mut filled, &disk)? == Some(directive));
+    }
+    Ok(())
+}
+
 // Files of several lengths, of which `long` is longer than what is read of a file, and a folder in place of one.
 fn make_files<R: Files + AllocGlobal>(rt: &R, folder: &str) -> Result<(), Fail> {
     let alloc = rt.alloc();
@@ -459,7 +508,7 @@ fn read_files<R: Abort + Files + AllocGlobal>(rt: &R, folder: &str) -> Result<()
     let long = disk.read(alloc, "long");
     assert!(rt; long.is_ok_and(|bytes| bytes.len() == 16_777_217));
     let names = texts(alloc, &["inc/x.h", "inc", "x.h", "long"])?;
-    let shelf: Shelf<FolderDisk<R>> = Shelf::new(alloc, names)?;
+    let shelf: Shelf<FolderDisk<R>> = Shelf::new(alloc, names, Profile::C11)?;
     let mut pass = shelf.pass()?;
     assert!(rt; bytes_of(&shelf, &mut pass, 0, &disk)? == Some(b"x\n".as_slice()));
     for row in 1..4 {
@@ -509,7 +558,11 @@ fn fill_with_texts(alloc: Global, shelf: &mut Shelf<Counting>, texts: &[&str]) -
 #[test]
 fn contents_are_moved_to_rows(rt: HostRuntime) -> Result<(), Fail> {
     let alloc = rt.alloc();
-    let mut shelf: Shelf<Counting> = Shelf::new(alloc, texts(alloc, &["a.c", "h.h"])?)?;
+    let mut shelf: Shelf<Counting> = Shelf::new(
+        alloc,
+        texts(alloc, &["a.c", "h.h"])?,
+        Profile::C11,
+    )?;
     let disk = refusing(0);
     fill_with_texts(alloc, &mut shelf, &["x\n", "/*"])?;
     // rows that are filled stay

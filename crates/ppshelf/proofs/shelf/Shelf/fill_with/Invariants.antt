@@ -5,6 +5,7 @@ use Rattle.ppshelf.proofs.shelf.Shelf.fill_with.Given as goal
 abbrev pub invariant-loop-bytes : goal.invariant-loop-bytes
 invariant-loop-bytes g l = record {
   row_is : l.row ≡ length l.yielded;
+  profile_is : l.self-inside.profile ≡ l.initial.self-inside.profile;
   index_is : l.self-inside.index ≡ l.initial.self-inside.index;
-  filling : Filling (given l.fn.contents.items) l.initial.self-inside.rows.items l.self-inside.rows.items l.row;
+  filling : Filling l.initial.self-inside.profile (given l.fn.contents.items) l.initial.self-inside.rows.items l.self-inside.rows.items l.row;
 }
