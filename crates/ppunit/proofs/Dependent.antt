@@ -5,9 +5,10 @@ use Rattle.std.proofs.lemmas.List.Elements.{All-push, All-nil}
 use Rattle.pptext.specs.declared.tokens.Place.{Place}
 use Rattle.pptext.specs.declared.tokens.Token.{Token}
 use Rattle.pptext.specs.declared.tokens.Fault.{Fault}
+use Rattle.pptext.specs.declared.sources.Profile.{Profile}
 use Rattle.pptext.specs.declared.sources.Directive.{Directive}
-use Rattle.pptext.specs.declared.sources.Directive.TheVariants.{If, Ifdef, Ifndef, Elif, Else, Endif, Include, Define, Undef, Line, Error, Pragma, Null, Unknown}
-use Rattle.pptext.specs.Lines.{Row, directive_of}
+use Rattle.pptext.specs.declared.sources.Directive.TheVariants.{If, Ifdef, Ifndef, Elif, Elifdef, Elifndef, Else, Endif, Include, Define, Undef, Line, Error, Pragma, Null, Unknown}
+use Rattle.pptext.specs.Lines.{LogicalLine}
 use Rattle.pptext.specs.Tree.{sign_place, Parts, Branches}
 use Rattle.ppmacro.specs.Names.{Macros}
 use Rattle.ppmacro.specs.Define.{after_define, after_undef}
@@ -18,11 +19,12 @@ use Rattle.ppunit.specs.declared.line_control.Presumed.{Presumed}
 use Rattle.ppunit.specs.declared.units.Unit.{Unit as UnitOfList}
 use Rattle.ppunit.specs.declared.units.Setting.{Setting}
 use Rattle.ppunit.specs.declared.units.UnitOut.{UnitOut}
+use Rattle.ppunit.specs.declared.units.Item.TheVariants as item
 use Rattle.ppunit.specs.Dependencies.{among}
-use Rattle.ppunit.specs.States.{Surroundings, Reached}
+use Rattle.ppunit.specs.States.{Surroundings, Reached, passed, reading_once}
 use Rattle.ppunit.specs.Lines.{operands, run_tokens}
 use Rattle.ppunit.specs.LineControl.{presumed}
-use Rattle.ppunit.specs.Directives.{RunGives, renumbered_by, with_macros, ControlBy}
+use Rattle.ppunit.specs.Directives.{RunGives, renumbered_by, with_macros, is_once, ControlBy}
 use Rattle.ppunit.specs.Group.{Group, Branched, Controls, Opened}
 use Rattle.ppunit.specs.Unit.{IsUnit, Defines, unread, processed, Translates, undefined, translated, surroundings}
 
@@ -31,7 +33,7 @@ use Rattle.ppunit.specs.Unit.{IsUnit, Defines, unread, processed, Translates, un
 run_keeps : (s : State) (tokens : List Token) (m : Reached) → RunGives s tokens m → m.state.deps ≡ s.deps
 run_keeps s tokens m gives = ap (λ (r : Reached). r.state.deps) gives.is
 
-renumbered_keeps : (s : State) (r : Row) (f : Option Fault) (p : Option Presumed) → (renumbered_by s r f p).state.deps ≡ s.deps
+renumbered_keeps : (s : State) (r : LogicalLine) (f : Option Fault) (p : Option Presumed) → (renumbered_by s r f p).state.deps ≡ s.deps
 renumbered_keeps s r (Some f) p = refl
 renumbered_keeps s r None None = refl
 renumbered_keeps s r None (Some p) = refl
@@ -40,22 +42,35 @@ macros_keep : (s : State) (r : Result Macros Fault) → (with_macros s r).state.
 macros_keep s (Ok macros) = refl
 macros_keep s (Err f) = refl
 
-control_keeps : (d : Option Directive) (s : State) (r : Row) (m : Reached) → ControlBy d s r m → m.state.deps ≡ s.deps
-control_keeps None s r m does = absurd does
-control_keeps (Some If) s r m does = absurd does
-control_keeps (Some Ifdef) s r m does = absurd does
-control_keeps (Some Ifndef) s r m does = absurd does
-control_keeps (Some Elif) s r m does = absurd does
-control_keeps (Some Else) s r m does = absurd does
-control_keeps (Some Endif) s r m does = absurd does
-control_keeps (Some Include) s r m does = absurd does
-control_keeps (Some Define) s r m does = ap (λ (z : Reached). z.state.deps) does ∙ macros_keep s (after_define s.macros (sign_place r.tokens) (operands r.tokens))
-control_keeps (Some Undef) s r m does = ap (λ (z : Reached). z.state.deps) does ∙ macros_keep s (after_undef s.macros (sign_place r.tokens) (operands r.tokens))
-control_keeps (Some Line) s r m does = ap (λ (z : Reached). z.state.deps) does.is ∙ renumbered_keeps s r does.expanded.fault (presumed does.expanded.tokens)
-control_keeps (Some Error) s r m does = absurd does
-control_keeps (Some Pragma) s r m does = ap (λ (z : Reached). z.state.deps) does
-control_keeps (Some Null) s r m does = ap (λ (z : Reached). z.state.deps) does
-control_keeps (Some Unknown) s r m does = ap (λ (z : Reached). z.state.deps) does
+noting_keeps : (b : Bool) (s : State) (row : ℕ) → (if b then reading_once s row else s).deps ≡ s.deps
+noting_keeps true s row = refl
+noting_keeps false s row = refl
+
+control_keeps : (profile : Profile) (row : ℕ) (d : Option Directive) (s : State) (r : LogicalLine) (m : Reached)
+    → ControlBy profile row d s r m
+    → m.state.deps ≡ s.deps
+control_keeps profile row None s r m does = absurd does
+control_keeps profile row (Some If) s r m does = absurd does
+control_keeps profile row (Some Ifdef) s r m does = absurd does
+control_keeps profile row (Some Ifndef) s r m does = absurd does
+control_keeps profile row (Some Elif) s r m does = absurd does
+control_keeps profile row (Some Elifdef) s r m does = absurd does
+control_keeps profile row (Some Elifndef) s r m does = absurd does
+control_keeps profile row (Some Else) s r m does = absurd does
+control_keeps profile row (Some Endif) s r m does = absurd does
+control_keeps profile row (Some Include) s r m does = absurd does
+control_keeps profile row (Some Define) s r m does =
+    ap (λ (z : Reached). z.state.deps) does ∙ macros_keep s (after_define s.macros (sign_place r.tokens) (operands r.tokens))
+control_keeps profile row (Some Undef) s r m does =
+    ap (λ (z : Reached). z.state.deps) does ∙ macros_keep s (after_undef s.macros (sign_place r.tokens) (operands r.tokens))
+control_keeps profile row (Some Line) s r m does =
+    ap (λ (z : Reached). z.state.deps) does.is ∙ renumbered_keeps s r does.expanded.fault (presumed does.expanded.tokens)
+control_keeps profile row (Some Error) s r m does = absurd does
+control_keeps profile row (Some Pragma) s r m does =
+    let t = passed s (item.Pragma (sign_place r.tokens) (operands r.tokens) ∷ []) in
+    ap (λ (z : Reached). z.state.deps) does ∙ noting_keeps (is_once profile (operands r.tokens)) t row
+control_keeps profile row (Some Null) s r m does = ap (λ (z : Reached). z.state.deps) does
+control_keeps profile row (Some Unknown) s r m does = ap (λ (z : Reached). z.state.deps) does
 
 -- ---- what joins them
 
@@ -92,19 +107,21 @@ module _ (around : Surroundings) where
     branches_within (Branched.branch_skipped is decides rest) all = branches_within rest all
     branches_within (Branched.branch_refused is decides) all = all
 
-    control_within : {depth row : ℕ} {s : State} {line : Row} {m : Reached} → Controls around depth row s line m → Within s.deps → Within m.state.deps
+    control_within : {depth row : ℕ} {s : State} {line : LogicalLine} {m : Reached} → Controls around depth row s line m → Within s.deps → Within m.state.deps
     control_within (Controls.error is) all = all
     control_within (Controls.quote is q) all = all
-    control_within {s = s} {line = line} {m = m} (Controls.other q does) all = subst Within (sym (control_keeps (directive_of line.tokens) s line m does)) all
+    control_within {row = row} {s = s} {line = line} {m = m} (Controls.other q does) all =
+        subst Within (sym (control_keeps around.profile row line.directive s line m does)) all
     control_within (Controls.misnamed is q asks) all = all
     control_within (Controls.missing a is q asks finds) all = all
     control_within (Controls.included a found is q asks finds opens) all = opened_within opens (first_within around.names _ found finds) all
 
     opened_within : {depth row : ℕ} {at : Place} {s : State} {m : Reached} → Opened around depth at s row m → row < length around.names → Within s.deps → Within m.state.deps
     opened_within (Opened.too_deep deep) within all = all
-    opened_within {row = row} {s = s} (Opened.not_readable fits is) within all = among_within row s.deps within all
-    opened_within {row = row} {s = s} (Opened.faulty fits is reads) within all = among_within row s.deps within all
-    opened_within {row = row} {s = s} (Opened.read fits is reads tree here) within all = group_within here (among_within row s.deps within all)
+    opened_within {row = row} {s = s} (Opened.known fits known) within all = among_within row s.deps within all
+    opened_within {row = row} {s = s} (Opened.not_readable fits new is) within all = among_within row s.deps within all
+    opened_within {row = row} {s = s} (Opened.faulty fits new is reads) within all = among_within row s.deps within all
+    opened_within {row = row} {s = s} (Opened.read fits new is reads tree here) within all = group_within here (among_within row s.deps within all)
 
   defines_within : {defines : List (List ℕ)} {s : State} {m : Reached} → Defines around defines s m → Within s.deps → Within m.state.deps
   defines_within (unread reads) all = all

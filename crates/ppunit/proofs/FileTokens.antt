@@ -1,4 +1,4 @@
--- Each token of a file is spelled as its kind, or as a header name.
+-- Each token of a file is spelled as its kind, or as a header name, and each line has the directive of its tokens.
 use Rattle.std.proofs.Common.{◌≡◌, ℕ, Bool, true, false, ◌||◌, nat_eq, List, [], ◌∷◌, ◌++◌, length, take, ◌⊎◌, inl, inr, refl, sym, ap, ◌∙◌, subst, codes}
 use Rattle.std.specs.List.{AllByRecursion}
 use Rattle.std.proofs.lemmas.Bool.{false≢true}
@@ -6,12 +6,13 @@ use Rattle.std.proofs.lemmas.List.{length-map, map-append, take_at}
 use Rattle.pptext.specs.declared.tokens.Kind.{Kind}
 use Rattle.pptext.specs.declared.tokens.Kind.TheVariants.{Ident}
 use Rattle.pptext.specs.declared.tokens.Token.{Token}
+use Rattle.pptext.specs.declared.sources.Profile.{Profile}
 use Rattle.pptext.specs.declared.characters.Char.{Char}
 use Rattle.pptext.specs.Clean.{codes_of}
 use Rattle.pptext.specs.Languages.{Either, One}
 use Rattle.pptext.specs.Spellings.{is_digit, is_nondigit, IsNondigit, IsHeader, Spells}
 use Rattle.pptext.specs.Cut.{Sort, NewLine, Blank, Comment, Spelled, Piece, StandsAt, EachStands, with_piece, laid}
-use Rattle.pptext.specs.Lines.{Row, leaves_space, tokens_after, rows_ended, rows_behind}
+use Rattle.pptext.specs.Lines.{LogicalLine, leaves_space, tokens_after, lines_ended, lines_behind, IsDirected}
 use Rattle.pptext.specs.Sources.{IsSource}
 use Rattle.pptext.proofs.OneKind.{begins, one_kind}
 
@@ -21,8 +22,9 @@ IsSpelled t = Spells t.kind t.text ⊎ IsHeader t.text
 abbrev pub AreSpelled : List Token → Type 0
 AreSpelled ts = AllByRecursion IsSpelled ts
 
-abbrev pub IsSpelledRow : Row → Type 0
-IsSpelledRow r = AreSpelled r.tokens
+-- the tokens are spelled so, and the directive is that of the tokens
+abbrev pub IsSpelledLine : Profile → LogicalLine → Type 0
+IsSpelledLine profile r = AreSpelled r.tokens × IsDirected profile r
 
 pub both : {A : Type 0} (P : A → Type 0) (xs ys : List A) → AllByRecursion P xs → AllByRecursion P ys → AllByRecursion P (xs ++ ys)
 both P [] ys a b = b
@@ -40,11 +42,13 @@ piece_spelled line chars rest k here = cases here
     cases (inl h) = inr (subst IsHeader front h.0.spelled)
     cases (inr p) = inl (subst (Spells k) front p.spelled)
 
-ended_spelled : (tokens : List Token) (chars : List Char) (sort : Sort) → AreSpelled tokens → AllByRecursion IsSpelledRow (rows_ended tokens chars sort)
-ended_spelled tokens chars NewLine all = (all, tt)
-ended_spelled tokens chars Blank all = tt
-ended_spelled tokens chars Comment all = tt
-ended_spelled tokens chars (Spelled k) all = tt
+ended_spelled : (profile : Profile) (tokens : List Token) (chars : List Char) (sort : Sort)
+    → AreSpelled tokens
+    → AllByRecursion (IsSpelledLine profile) (lines_ended profile tokens chars sort)
+ended_spelled profile tokens chars NewLine all = ((all, refl), tt)
+ended_spelled profile tokens chars Blank all = tt
+ended_spelled profile tokens chars Comment all = tt
+ended_spelled profile tokens chars (Spelled k) all = tt
 
 after_spelled : (line : List (List ℕ)) (space : Bool) (tokens : List Token) (chars rest : List Char) (sort : Sort) → AreSpelled tokens → StandsAt line (codes_of (chars ++ rest)) (length chars) sort → AreSpelled (tokens_after space tokens chars sort)
 after_spelled line space tokens chars rest NewLine all here = tt
@@ -52,13 +56,23 @@ after_spelled line space tokens chars rest Blank all here = all
 after_spelled line space tokens chars rest Comment all here = all
 after_spelled line space tokens chars rest (Spelled k) all here = both IsSpelled tokens _ all (piece_spelled line chars rest k here, tt)
 
-rows_spelled : (line : List (List ℕ)) (space : Bool) (tokens : List Token) (ps : List Piece) (rest : List Char) → AreSpelled tokens → EachStands line ps rest → AllByRecursion IsSpelledRow (rows_behind space tokens ps)
-rows_spelled line space tokens [] rest all each = tt
-rows_spelled line space tokens (p ∷ ps) rest all each =
-    both IsSpelledRow (rows_ended tokens p.chars p.sort) (rows_behind (leaves_space p.sort) (tokens_after space tokens p.chars p.sort) ps) (ended_spelled tokens p.chars p.sort all) (rows_spelled (with_piece line p p.sort) (leaves_space p.sort) (tokens_after space tokens p.chars p.sort) ps rest (after_spelled line space tokens p.chars (laid ps ++ rest) p.sort all each.0) each.1)
+lines_spelled : (profile : Profile) (line : List (List ℕ)) (space : Bool) (tokens : List Token) (ps : List Piece) (rest : List Char)
+    → AreSpelled tokens
+    → EachStands line ps rest
+    → AllByRecursion (IsSpelledLine profile) (lines_behind profile space tokens ps)
+lines_spelled profile line space tokens [] rest all each = tt
+lines_spelled profile line space tokens (p ∷ ps) rest all each =
+    let after = tokens_after space tokens p.chars p.sort in
+    both (IsSpelledLine profile) (lines_ended profile tokens p.chars p.sort) (lines_behind profile (leaves_space p.sort) after ps)
+    (ended_spelled profile tokens p.chars p.sort all)
+    (lines_spelled profile (with_piece line p p.sort) (leaves_space p.sort) after ps rest
+    (after_spelled line space tokens p.chars (laid ps ++ rest) p.sort all each.0) each.1)
 
-pub source_spelled : (file : ℕ) (bytes : List ℕ) (lines : List Row) → IsSource file bytes lines → AllByRecursion IsSpelledRow lines
-source_spelled file bytes lines is = subst (AllByRecursion IsSpelledRow) (sym is.same) (rows_spelled [] true [] is.pieces [] tt is.cut.each)
+pub source_spelled : (profile : Profile) (file : ℕ) (bytes : List ℕ) (lines : List LogicalLine)
+    → IsSource profile file bytes lines
+    → AllByRecursion (IsSpelledLine profile) lines
+source_spelled profile file bytes lines is =
+    subst (AllByRecursion (IsSpelledLine profile)) (sym is.same) (lines_spelled profile [] true [] is.pieces [] tt is.cut.each)
 
 -- ---- the kind of a spelling
 

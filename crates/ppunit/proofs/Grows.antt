@@ -1,7 +1,7 @@
 -- Where a unit gives something over some files, it gives the same over any more.
 use Rattle.std.proofs.Common.{ℕ, List}
 use Rattle.pptext.specs.declared.tokens.Place.{Place}
-use Rattle.pptext.specs.Lines.{Row}
+use Rattle.pptext.specs.Lines.{LogicalLine}
 use Rattle.pptext.specs.Tree.{Parts, Branches}
 use Rattle.ppshelf.specs.Content.{unreadable}
 use Rattle.ppshelf.specs.Files.{Files, Extends}
@@ -34,7 +34,7 @@ module _ (around : Surroundings) (more : Files) (grows : Extends more around.fil
     branches_grow (Branched.branch_skipped is decides rest) = Branched.branch_skipped is decides (branches_grow rest)
     branches_grow (Branched.branch_refused is decides) = Branched.branch_refused is decides
 
-    control_grows : {depth row : ℕ} {s : State} {line : Row} {m : Reached} → Controls around depth row s line m → Controls wider depth row s line m
+    control_grows : {depth row : ℕ} {s : State} {line : LogicalLine} {m : Reached} → Controls around depth row s line m → Controls wider depth row s line m
     control_grows (Controls.error is) = Controls.error is
     control_grows (Controls.quote is q) = Controls.quote is q
     control_grows (Controls.other q does) = Controls.other q does
@@ -44,9 +44,10 @@ module _ (around : Surroundings) (more : Files) (grows : Extends more around.fil
 
     pub opened_grows : {depth row : ℕ} {at : Place} {s : State} {m : Reached} → Opened around depth at s row m → Opened wider depth at s row m
     opened_grows (Opened.too_deep deep) = Opened.too_deep deep
-    opened_grows {depth} {row} (Opened.not_readable fits is) = Opened.not_readable fits (grows row unreadable is)
-    opened_grows {depth} {row} (Opened.faulty fits is reads) = Opened.faulty fits (grows row _ is) reads
-    opened_grows {depth} {row} (Opened.read fits is reads tree here) = Opened.read fits (grows row _ is) reads tree (group_grows here)
+    opened_grows (Opened.known fits known) = Opened.known fits known
+    opened_grows {depth} {row} (Opened.not_readable fits new is) = Opened.not_readable fits new (grows row unreadable is)
+    opened_grows {depth} {row} (Opened.faulty fits new is reads) = Opened.faulty fits new (grows row _ is) reads
+    opened_grows {depth} {row} (Opened.read fits new is reads tree here) = Opened.read fits new (grows row _ is) reads tree (group_grows here)
 
   defines_grow : {defines : List (List ℕ)} {s : State} {m : Reached} → Defines around defines s m → Defines wider defines s m
   defines_grow (unread reads) = unread reads

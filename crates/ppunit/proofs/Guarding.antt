@@ -12,12 +12,14 @@ use Rattle.pptext.specs.declared.tokens.Fault.{Fault}
 use Rattle.pptext.specs.declared.tokens.Kind.{Kind}
 use Rattle.pptext.specs.declared.tokens.Kind.TheVariants.{Ident, Number, CharConst, Str, Punct, Header, Other}
 use Rattle.pptext.specs.declared.sources.Directive.{Directive}
-use Rattle.pptext.specs.declared.sources.Directive.TheVariants.{If}
+use Rattle.pptext.specs.declared.sources.Directive.TheVariants.{If, Ifndef}
+use Rattle.pptext.specs.declared.sources.Profile.{Profile}
+use Rattle.pptext.specs.declared.sources.Profile.TheVariants.{C11, Later}
 use Rattle.pptext.specs.Spellings.{Spells}
 use Rattle.pptext.specs.Sources.{Reads}
-use Rattle.pptext.specs.Lines.{Row, directive_of, directive_named}
-use Rattle.pptext.specs.Tree.{role_by, role_named, Parts, Done, Run, Control, Section, End, Branch, part_lines, AreParts}
-use Rattle.pptext.specs.Guard.{IsBlankRow, AreBlank, is_ident, named, is_not_defined, are_parentheses, ident_if, guard_name, GuardedParts, GuardedBy}
+use Rattle.pptext.specs.Lines.{LogicalLine, directive_of, directive_named}
+use Rattle.pptext.specs.Tree.{role, role_by, role_named, Parts, Done, Run, Control, Section, End, Branch, part_lines, AreParts}
+use Rattle.pptext.specs.Guard.{IsBlankLine, AreBlank, is_ident, named, is_not_defined, are_parentheses, ident_if, guard_name, GuardedParts, GuardedBy}
 use Rattle.pptext.proofs.OneKind.{begins}
 use Rattle.pptext.proofs.Trees.{at_most_one}
 use Rattle.ppmacro.specs.Spellings.{is_identifier_kind}
@@ -31,13 +33,14 @@ use Rattle.ppexpr.proofs.GuardConditions.{punctuator, as_defined, as_name, bare_
 use Rattle.ppunit.specs.declared.units.Item.{Item}
 use Rattle.ppunit.specs.declared.states.State.{State}
 use Rattle.ppunit.specs.States.{Surroundings, going, depending, entering}
+use Rattle.ppunit.specs.Dependencies.{is_among}
 use Rattle.ppunit.specs.Lines.{run_tokens}
 use Rattle.ppunit.specs.Quotes.{quote_fault, lone_quote}
 use Rattle.ppunit.specs.Conditions.{same_as, is_defined, by_name, Decides, DecidesBy, DecidesUnless}
 use Rattle.ppunit.specs.Directives.{RunGives}
 use Rattle.ppunit.specs.Group.{deepest, Group, Branched, Opened}
 use Rattle.ppunit.specs.Guarded.{GuardsLeaveOut, IsLeftOut}
-use Rattle.ppunit.proofs.FileTokens.{IsSpelled, AreSpelled, IsSpelledRow, source_spelled, opens_header, kind_is, defined_spelled}
+use Rattle.ppunit.proofs.FileTokens.{IsSpelled, AreSpelled, IsSpelledLine, source_spelled, opens_header, kind_is, defined_spelled}
 
 -- ---- tokens without quotes
 
@@ -94,12 +97,35 @@ no_quote (t ∷ ts) all = ap (λ (b : Bool). if b then Some (quote_fault t) else
 named_unquoted : (t : Token) (text : List ℕ) → named t text ≡ true → is_quote text ≡ false → is_lone_quote t ≡ false
 named_unquoted t text e f = text_unquoted t text (named_is t text e) f
 
+-- the group behind a line of these tokens is not taken
+abbrev Skips : State → Option Directive → List Token → Type 0
+Skips s d tokens = DecidesUnless (lone_quote tokens) d s tokens (Ok false)
+
 -- of a line without lone quotes whose directive is spelled so
-decided : (s : State) (h d : Token) (ts : List Token) (name : List ℕ) → is_hash h.text ≡ true → named d name ≡ true → is_quote name ≡ false → AreUnquoted ts → DecidesBy (Some (directive_named name)) s (h ∷ d ∷ ts) (Ok false) → Decides s (h ∷ d ∷ ts) (Ok false)
-decided s h d ts name hash is plain rest by =
+decided : (s : State) (profile : Profile) (h d : Token) (ts : List Token) (name : List ℕ) (is_called : Directive)
+    → is_hash h.text ≡ true
+    → named d name ≡ true
+    → directive_named profile name ≡ is_called
+    → is_quote name ≡ false
+    → AreUnquoted ts
+    → DecidesBy (Some is_called) s (h ∷ d ∷ ts) (Ok false)
+    → Skips s (directive_of profile (h ∷ d ∷ ts)) (h ∷ d ∷ ts)
+decided s profile h d ts name is_called hash is called plain rest decides =
     let quotes : lone_quote (h ∷ d ∷ ts) ≡ None = no_quote (h ∷ d ∷ ts) (hash_unquoted h hash, (named_unquoted d name is plain, rest)) in
-    let directive : directive_of (h ∷ d ∷ ts) ≡ Some (directive_named name) = ap (λ (b : Bool). if b then Some (directive_named d.text) else None) hash ∙ ap (λ (z : List ℕ). Some (directive_named z)) (named_is d name is) in
-    subst (λ (q : Option Fault). DecidesUnless q s (h ∷ d ∷ ts) (Ok false)) (sym quotes) (subst (λ (z : Option Directive). DecidesBy z s (h ∷ d ∷ ts) (Ok false)) (sym directive) by)
+    let directive : directive_of profile (h ∷ d ∷ ts) ≡ Some is_called =
+    ap (λ (b : Bool). if b then Some (directive_named profile d.text) else None) hash
+    ∙ ap (λ (z : List ℕ). Some (directive_named profile z)) (named_is d name is) ∙ ap (λ (z : Directive). Some z) called in
+    subst (λ (q : Option Fault). DecidesUnless q (directive_of profile (h ∷ d ∷ ts)) s (h ∷ d ∷ ts) (Ok false)) (sym quotes)
+    (subst (λ (z : Option Directive). DecidesBy z s (h ∷ d ∷ ts) (Ok false)) (sym directive) decides)
+
+-- each profile has the names of C11
+if_called : (profile : Profile) → directive_named profile (codes "if") ≡ If
+if_called C11 = refl
+if_called Later = refl
+
+ifndef_called : (profile : Profile) → directive_named profile (codes "ifndef") ≡ Ifndef
+ifndef_called C11 = refl
+ifndef_called Later = refl
 
 -- ---- the three forms of a guard
 
@@ -136,13 +162,25 @@ defined_is t spelled is =
 name_is : (t : Token) → t.kind ≡ Ident → as_name t ≡ t
 name_is t e = let k : Ident ≡ t.kind = sym e in λ i. record t { kind = k i }
 
-by_ifndef : (s : State) (h d t : Token) (x : List ℕ) → is_hash h.text ≡ true → IsGuard (named d (codes "ifndef")) t x → is_defined s.macros x ≡ true → Decides s (h ∷ d ∷ t ∷ []) (Ok false)
-by_ifndef s h d t x hash g known =
+by_ifndef : (s : State) (profile : Profile) (h d t : Token) (x : List ℕ)
+    → is_hash h.text ≡ true
+    → IsGuard (named d (codes "ifndef")) t x
+    → is_defined s.macros x ≡ true
+    → Skips s (directive_of profile (h ∷ d ∷ t ∷ [])) (h ∷ d ∷ t ∷ [])
+by_ifndef s profile h d t x hash g known =
     let line = h ∷ d ∷ t ∷ [] in
-    decided s h d (t ∷ []) (codes "ifndef") hash g.form refl (ident_unquoted t g.kind, tt) (sym (ap (λ (k : Kind). by_name false s.macros line (if is_identifier_kind k then Some t.text else None)) g.kind ∙ ap (λ (b : Bool). Ok (same_as false b)) (known_name s x t g.name known)))
+    decided s profile h d (t ∷ []) (codes "ifndef") Ifndef hash g.form (ifndef_called profile) refl (ident_unquoted t g.kind, tt)
+    (sym (ap (λ (k : Kind). by_name false s.macros line (if is_identifier_kind k then Some t.text else None)) g.kind ∙ ap
+    (λ (b : Bool). Ok (same_as false b)) (known_name s x t g.name known)))
 
-by_bare : (s : State) (h d n f t : Token) (x : List ℕ) → IsSpelled n → IsSpelled f → is_hash h.text ≡ true → IsGuard (is_not_defined d n f) t x → is_defined s.macros x ≡ true → Decides s (h ∷ d ∷ n ∷ f ∷ t ∷ []) (Ok false)
-by_bare s h d n f t x sn sf hash g known =
+by_bare : (s : State) (profile : Profile) (h d n f t : Token) (x : List ℕ)
+    → IsSpelled n
+    → IsSpelled f
+    → is_hash h.text ≡ true
+    → IsGuard (is_not_defined d n f) t x
+    → is_defined s.macros x ≡ true
+    → Skips s (directive_of profile (h ∷ d ∷ n ∷ f ∷ t ∷ [])) (h ∷ d ∷ n ∷ f ∷ t ∷ [])
+by_bare s profile h d n f t x sn sf hash g known =
     let p = and_parts (named d (codes "if")) (named n (codes "!") && named f (codes "defined")) g.form in
     let q = and_parts (named n (codes "!")) (named f (codes "defined")) p.1 in
     let bang = punctuator_is n (codes "!") sn q.0 refl refl in
@@ -150,10 +188,19 @@ by_bare s h d n f t x sn sf hash g known =
     let name = name_is t g.kind in
     let same : (punctuator (codes "!") n ∷ as_defined f ∷ as_name t ∷ []) ≡ (n ∷ f ∷ t ∷ []) = λ i. bang i ∷ asks i ∷ name i ∷ [] in
     let condition : IsCondition s.macros s.env h.at (n ∷ f ∷ t ∷ []) (Ok false) = subst (λ (z : List Token). IsCondition s.macros s.env h.at z (Ok false)) same (bare_false s.macros s.env h.at n f t (known_name s x t g.name known)) in
-    decided s h d (n ∷ f ∷ t ∷ []) (codes "if") hash p.0 refl (named_unquoted n (codes "!") q.0 refl, (named_unquoted f (codes "defined") q.1 refl, (ident_unquoted t g.kind, tt))) condition
+    decided s profile h d (n ∷ f ∷ t ∷ []) (codes "if") If hash p.0 (if_called profile) refl
+    (named_unquoted n (codes "!") q.0 refl, (named_unquoted f (codes "defined") q.1 refl, (ident_unquoted t g.kind, tt))) condition
 
-by_parenthesized : (s : State) (h d n f l t r : Token) (x : List ℕ) → IsSpelled n → IsSpelled f → IsSpelled l → IsSpelled r → is_hash h.text ≡ true → IsGuard (is_not_defined d n f && are_parentheses l r) t x → is_defined s.macros x ≡ true → Decides s (h ∷ d ∷ n ∷ f ∷ l ∷ t ∷ r ∷ []) (Ok false)
-by_parenthesized s h d n f l t r x sn sf sl sr hash g known =
+by_parenthesized : (s : State) (profile : Profile) (h d n f l t r : Token) (x : List ℕ)
+    → IsSpelled n
+    → IsSpelled f
+    → IsSpelled l
+    → IsSpelled r
+    → is_hash h.text ≡ true
+    → IsGuard (is_not_defined d n f && are_parentheses l r) t x
+    → is_defined s.macros x ≡ true
+    → Skips s (directive_of profile (h ∷ d ∷ n ∷ f ∷ l ∷ t ∷ r ∷ [])) (h ∷ d ∷ n ∷ f ∷ l ∷ t ∷ r ∷ [])
+by_parenthesized s profile h d n f l t r x sn sf sl sr hash g known =
     let forms = and_parts (is_not_defined d n f) (are_parentheses l r) g.form in
     let p = and_parts (named d (codes "if")) (named n (codes "!") && named f (codes "defined")) forms.0 in
     let q = and_parts (named n (codes "!")) (named f (codes "defined")) p.1 in
@@ -165,22 +212,48 @@ by_parenthesized s h d n f l t r x sn sf sl sr hash g known =
     let closes = punctuator_is r (codes ")") sr around.1 refl refl in
     let same : (punctuator (codes "!") n ∷ as_defined f ∷ punctuator (codes "(") l ∷ as_name t ∷ punctuator (codes ")") r ∷ []) ≡ (n ∷ f ∷ l ∷ t ∷ r ∷ []) = λ i. bang i ∷ asks i ∷ opens i ∷ name i ∷ closes i ∷ [] in
     let condition : IsCondition s.macros s.env h.at (n ∷ f ∷ l ∷ t ∷ r ∷ []) (Ok false) = subst (λ (z : List Token). IsCondition s.macros s.env h.at z (Ok false)) same (parenthesized_false s.macros s.env h.at n f l t r (known_name s x t g.name known)) in
-    decided s h d (n ∷ f ∷ l ∷ t ∷ r ∷ []) (codes "if") hash p.0 refl (named_unquoted n (codes "!") q.0 refl, (named_unquoted f (codes "defined") q.1 refl, (named_unquoted l (codes "(") around.0 refl, (ident_unquoted t g.kind, (named_unquoted r (codes ")") around.1 refl, tt))))) condition
+    decided s profile h d (n ∷ f ∷ l ∷ t ∷ r ∷ []) (codes "if") If hash p.0 (if_called profile) refl (
+      named_unquoted n (codes "!") q.0 refl,
+      (
+        named_unquoted f (codes "defined") q.1 refl,
+        (named_unquoted l (codes "(") around.0 refl, (ident_unquoted t g.kind, (named_unquoted r (codes ")") around.1 refl, tt))),
+      ),
+    ) condition
 
-guard_decides : (s : State) (tokens : List Token) (x : List ℕ) → AreSpelled tokens → role_by (directive_of tokens) ≡ role_named If → guard_name tokens ≡ Some x → is_defined s.macros x ≡ true → Decides s tokens (Ok false)
-guard_decides s [] x all opens is known = absurd (cc)
-guard_decides s (a ∷ []) x all opens is known = absurd (cc)
-guard_decides s (a ∷ b ∷ []) x all opens is known = absurd (cc)
-guard_decides s (h ∷ d ∷ t ∷ []) x all opens is known = by_ifndef s h d t x (opens_by (is_hash h.text) _ opens) (ident_if_is _ t x is) known
-guard_decides s (a ∷ b ∷ c ∷ d ∷ []) x all opens is known = absurd (cc)
-guard_decides s (h ∷ d ∷ n ∷ f ∷ t ∷ []) x all opens is known = by_bare s h d n f t x all.1.1.0 all.1.1.1.0 (opens_by (is_hash h.text) _ opens) (ident_if_is _ t x is) known
-guard_decides s (a ∷ b ∷ c ∷ d ∷ e ∷ f ∷ []) x all opens is known = absurd (cc)
-guard_decides s (h ∷ d ∷ n ∷ f ∷ l ∷ t ∷ r ∷ []) x all opens is known = by_parenthesized s h d n f l t r x all.1.1.0 all.1.1.1.0 all.1.1.1.1.0 all.1.1.1.1.1.1.0 (opens_by (is_hash h.text) _ opens) (ident_if_is _ t x is) known
-guard_decides s (a ∷ b ∷ c ∷ d ∷ e ∷ f ∷ g ∷ h ∷ ts) x all opens is known = absurd (cc)
+guard_decides : (s : State) (profile : Profile) (tokens : List Token) (x : List ℕ)
+    → AreSpelled tokens
+    → role_by (directive_of profile tokens) ≡ role_named If
+    → guard_name tokens ≡ Some x
+    → is_defined s.macros x ≡ true
+    → Skips s (directive_of profile tokens) tokens
+guard_decides s profile [] x all opens is known = absurd (cc)
+guard_decides s profile (a ∷ []) x all opens is known = absurd (cc)
+guard_decides s profile (a ∷ b ∷ []) x all opens is known = absurd (cc)
+guard_decides s profile (h ∷ d ∷ t ∷ []) x all opens is known =
+    by_ifndef s profile h d t x (opens_by (is_hash h.text) _ opens) (ident_if_is _ t x is) known
+guard_decides s profile (a ∷ b ∷ c ∷ d ∷ []) x all opens is known = absurd (cc)
+guard_decides s profile (h ∷ d ∷ n ∷ f ∷ t ∷ []) x all opens is known =
+    by_bare s profile h d n f t x all.1.1.0 all.1.1.1.0 (opens_by (is_hash h.text) _ opens) (ident_if_is _ t x is) known
+guard_decides s profile (a ∷ b ∷ c ∷ d ∷ e ∷ f ∷ []) x all opens is known = absurd (cc)
+guard_decides s profile (h ∷ d ∷ n ∷ f ∷ l ∷ t ∷ r ∷ []) x all opens is known =
+    by_parenthesized s profile h d n f l t r x all.1.1.0 all.1.1.1.0 all.1.1.1.1.0 all.1.1.1.1.1.1.0 (opens_by (is_hash h.text) _ opens)
+    (ident_if_is _ t x is) known
+guard_decides s profile (a ∷ b ∷ c ∷ d ∷ e ∷ f ∷ g ∷ h ∷ ts) x all opens is known = absurd (cc)
+
+-- the opening line of a guarded file
+guard_line : (s : State) (profile : Profile) (r : LogicalLine) (x : List ℕ)
+    → IsSpelledLine profile r
+    → role r ≡ role_named If
+    → guard_name r.tokens ≡ Some x
+    → is_defined s.macros x ≡ true
+    → Decides s r (Ok false)
+guard_line s profile r x (spelled, directed) opens is known =
+    subst (λ (z : Option Directive). Skips s z r.tokens) (sym directed)
+    (guard_decides s profile r.tokens x spelled (ap role_by (sym directed) ∙ opens) is known)
 
 -- ---- the file
 
-blank_tokens : (rows : List Row) → AllByRecursion IsBlankRow rows → run_tokens rows ≡ []
+blank_tokens : (rows : List LogicalLine) → AllByRecursion IsBlankLine rows → run_tokens rows ≡ []
 blank_tokens [] all = refl
 blank_tokens (r ∷ rs) all = ap (λ (z : List Token). z ++ run_tokens rs) all.0 ∙ blank_tokens rs all.1
 
@@ -192,7 +265,7 @@ nothing_gives s = record {
   is = ap (λ (items : List Item). going (record s { items = items })) (sym (append-nil s.items));
 }
 
-blank_gives : (s : State) (rows : List Row) → AllByRecursion IsBlankRow rows → RunGives s (run_tokens rows) (going s)
+blank_gives : (s : State) (rows : List LogicalLine) → AllByRecursion IsBlankLine rows → RunGives s (run_tokens rows) (going s)
 blank_gives s rows blank = subst (λ (z : List Token). RunGives s z (going s)) (sym (blank_tokens rows blank)) (nothing_gives s)
 
 behind : {A : Type 0} (P : A → Type 0) (xs ys : List A) → AllByRecursion P (xs ++ ys) → AllByRecursion P ys
@@ -206,16 +279,30 @@ module _ (around : Surroundings) (depth row : ℕ) (s : State) where
   blank_group (Control r ps) blank = absurd blank
   blank_group (Section r ps bs qs) blank = absurd blank
 
-  pub guarded_group : (ps : Parts) (x : List ℕ) → AllByRecursion IsSpelledRow (part_lines ps) → AreParts ps → GuardedParts ps x → is_defined s.macros x ≡ true → Group around depth row (going s) ps (going s)
+  pub guarded_group : (ps : Parts) (x : List ℕ)
+      → AllByRecursion (IsSpelledLine around.profile) (part_lines ps)
+      → AreParts ps
+      → GuardedParts ps x
+      → is_defined s.macros x ≡ true
+      → Group around depth row (going s) ps (going s)
   guarded_group Done x all are g known = absurd g
-  guarded_group (Run rs ps) x all are g known = Group.run (blank_gives s rs g.0) (guarded_group ps x (behind IsSpelledRow rs (part_lines ps) all) are.3 g.1 known)
+  guarded_group (Run rs ps) x all are g known =
+      Group.run (blank_gives s rs g.0) (guarded_group ps x (behind (IsSpelledLine around.profile) rs (part_lines ps) all) are.3 g.1 known)
   guarded_group (Control r ps) x all are g known = absurd g
-  guarded_group (Section r ps (End e) qs) x all are g known = Group.skipped (guard_decides s r.tokens x all.0 are.0 g.0 known) Branched.ended (blank_group qs g.1)
+  guarded_group (Section r ps (End e) qs) x all are g known =
+      Group.skipped (guard_line s around.profile r x all.0 are.0 g.0 known) Branched.ended (blank_group qs g.1)
   guarded_group (Section r ps (Branch e ps' bs) qs) x all are g known = absurd g
 
 pub guards_leave_out : GuardsLeaveOut
-guards_leave_out around depth row at s bytes lines x fits is reads (parts, tree, guarded) known =
-    Opened.read fits is reads tree (guarded_group around depth row (entering around s row) parts x (subst (AllByRecursion IsSpelledRow) (sym tree.whole) (source_spelled row bytes lines reads)) tree.each guarded known)
+guards_leave_out around depth row at s bytes lines x fits is reads (parts, tree, guarded) known = cases (is_among row s.once) refl
+  where
+    spelled : AllByRecursion (IsSpelledLine around.profile) (part_lines parts)
+    spelled = subst (AllByRecursion (IsSpelledLine around.profile)) (sym tree.whole) (source_spelled around.profile row bytes lines reads)
+
+    cases : (b : Bool) → is_among row s.once ≡ b → Opened around depth at s row (going (depending s row))
+    cases true once = Opened.known fits once
+    cases false new =
+        Opened.read fits new is reads tree (guarded_group around depth row (entering around s row) parts x spelled tree.each guarded known)
 
 -- ---- where a file is left out
 
@@ -227,17 +314,28 @@ parts_guard (Section r ps (End e) qs) x y g h = let a : Some x ≡ Some y = sym 
 parts_guard (Section r ps (Branch e ps' bs) qs) x y g h = absurd g
 
 -- lines have at most one guard
-pub one_guard : (lines : List Row) (x y : List ℕ) → GuardedBy lines x → GuardedBy lines y → x ≡ y
+pub one_guard : (lines : List LogicalLine) (x y : List ℕ) → GuardedBy lines x → GuardedBy lines y → x ≡ y
 one_guard lines x y (parts, tree, guarded) (parts', tree', guarded') =
     parts_guard parts x y guarded (subst (λ (z : Parts). GuardedParts z y) (at_most_one lines parts' parts tree' tree) guarded')
 
-pub opens_left_out : (around : Surroundings) (depth row from : ℕ) (at : Place) (s a : State) (content : Content) (lines : List Row) → depth ≤ deepest → file_at around.files row ≡ Some content → from ≡ row → IsRead from content (Ok lines) → a ≡ depending s row → IsLeftOut a lines → Opened around depth at s row (record { state = a; fault = None })
-opens_left_out around depth row from at s a unreadable lines fits known same reads is left = absurd reads
-opens_left_out around depth row from at s a (readable bytes) lines fits known same reads is (x, guarded, defined) =
-    subst (λ (z : State). Opened around depth at s row (going z)) (sym is) (guards_leave_out around depth row at s bytes lines x fits known (subst (λ (z : ℕ). Reads z bytes (Ok lines)) same reads) guarded (subst (λ (z : State). is_defined z.macros x ≡ true) is defined))
+pub opens_left_out : (around : Surroundings) (depth row from : ℕ) (by : Profile) (at : Place) (s a : State) (content : Content)
+    (lines : List LogicalLine)
+    → depth ≤ deepest
+    → file_at around.files row ≡ Some content
+    → by ≡ around.profile
+    → from ≡ row
+    → IsRead by from content (Ok lines)
+    → a ≡ depending s row
+    → IsLeftOut a lines
+    → Opened around depth at s row (record { state = a; fault = None })
+opens_left_out around depth row from by at s a unreadable lines fits known one same reads is left = absurd reads
+opens_left_out around depth row from by at s a (readable bytes) lines fits known one same reads is (x, guarded, defined) =
+    let read = subst (λ (z : ℕ). Reads around.profile z bytes (Ok lines)) same (subst (λ (z : Profile). Reads z from bytes (Ok lines)) one reads) in
+    subst (λ (z : State). Opened around depth at s row (going z)) (sym is)
+    (guards_leave_out around depth row at s bytes lines x fits known read guarded (subst (λ (z : State). is_defined z.macros x ≡ true) is defined))
 
-pub left_out_by : (s : State) (lines : List Row) (name : List ℕ) (b : Bool) → GuardedBy lines name → b ≡ is_defined s.macros name → IsTrue b ↔ IsLeftOut s lines
+pub left_out_by : (s : State) (lines : List LogicalLine) (name : List ℕ) (b : Bool) → GuardedBy lines name → b ≡ is_defined s.macros name → IsTrue b ↔ IsLeftOut s lines
 left_out_by s lines name b guarded is = (λ e. (name, guarded, sym is ∙ e), λ l. is ∙ ap (λ (z : List ℕ). is_defined s.macros z) (one_guard lines name l.0 guarded l.1) ∙ l.2)
 
-pub none_left_out : (s : State) (lines : List Row) → ((x : List ℕ) → ¬ GuardedBy lines x) → IsTrue false ↔ IsLeftOut s lines
+pub none_left_out : (s : State) (lines : List LogicalLine) → ((x : List ℕ) → ¬ GuardedBy lines x) → IsTrue false ↔ IsLeftOut s lines
 none_left_out s lines none = (λ e. absurd (false≢true e), λ l. absurd (none l.0 l.1))

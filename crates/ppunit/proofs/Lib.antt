@@ -11,3 +11,4 @@ pub mod Opens
 pub mod Dependent
 pub mod FileTokens
 pub mod Guarding
+pub mod Tested

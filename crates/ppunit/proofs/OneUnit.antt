@@ -3,9 +3,10 @@ use Rattle.std.proofs.Common.{◌≡◌, ◌≢◌, ℕ, suc, ◌<◌, ◌≤◌
 use Rattle.pptext.specs.declared.tokens.Place.{Place}
 use Rattle.pptext.specs.declared.tokens.Token.{Token}
 use Rattle.pptext.specs.declared.tokens.Fault.{Fault}
+use Rattle.pptext.specs.declared.sources.Profile.{Profile}
 use Rattle.pptext.specs.declared.sources.Directive.{Directive}
-use Rattle.pptext.specs.declared.sources.Directive.TheVariants.{If, Ifdef, Ifndef, Elif, Else, Endif, Include, Define, Undef, Line, Error, Pragma, Null, Unknown}
-use Rattle.pptext.specs.Lines.{Row, directive_of}
+use Rattle.pptext.specs.declared.sources.Directive.TheVariants.{If, Ifdef, Ifndef, Elif, Elifdef, Elifndef, Else, Endif, Include, Define, Undef, Line, Error, Pragma, Null, Unknown}
+use Rattle.pptext.specs.Lines.{LogicalLine}
 use Rattle.pptext.specs.Sources.{Reads}
 use Rattle.pptext.specs.Tree.{sign_place, Parts, Done, Run, Control, Section, Branches, End, Branch, Tree}
 use Rattle.ppmacro.specs.Names.{Macros}
@@ -20,6 +21,7 @@ use Rattle.ppshelf.specs.Search.{IsFirstRow}
 use Rattle.ppunit.specs.declared.states.State.{State}
 use Rattle.ppunit.specs.declared.including.Asked.{Asked}
 use Rattle.ppunit.specs.declared.units.Item.TheVariants as item
+use Rattle.ppunit.specs.Dependencies.{is_among}
 use Rattle.ppunit.specs.States.{Surroundings, Reached, going, stopped, passed, depending, entering, leaving, given}
 use Rattle.ppunit.specs.Lines.{operands, run_tokens, line_fault}
 use Rattle.ppunit.specs.Quotes.{lone_quote}
@@ -38,10 +40,12 @@ abbrev pub OneDecision : Type 0
 OneDecision = (macros : Macros) (env : Env) (at : Place) (tokens : List Token) (a b : Result Bool Fault) → IsCondition macros env at tokens a → IsCondition macros env at tokens b → a ≡ b
 
 abbrev pub OneReading : Type 0
-OneReading = (file : ℕ) (bytes : List ℕ) (a b : Result (List Row) Fault) → Reads file bytes a → Reads file bytes b → a ≡ b
+OneReading =
+    (profile : Profile) (file : ℕ) (bytes : List ℕ) (a b : Result (List LogicalLine) Fault) → Reads profile file bytes a → Reads profile file bytes b
+    → a ≡ b
 
 abbrev pub OneTree : Type 0
-OneTree = (lines : List Row) (a b : Parts) → Tree lines a → Tree lines b → a ≡ b
+OneTree = (lines : List LogicalLine) (a b : Parts) → Tree lines a → Tree lines b → a ≡ b
 
 abbrev pub OneRow : Type 0
 OneRow = (names : List (List ℕ)) → AreNames names → (candidates : List (List ℕ)) (a b : Option ℕ) → IsFirstRow names candidates a → IsFirstRow names candidates b → a ≡ b
@@ -51,26 +55,31 @@ module _ (expansions : OneExpansion) (decisions : OneDecision) (readings : OneRe
   run_once s tokens a b p q =
       p.is ∙ ap (λ (e : Expanded). record { state = passed s (map item.Token e.tokens); fault = e.fault }) (expansions s.macros s.env tokens p.expanded q.expanded p.expands q.expands) ∙ sym q.is
 
-  line_once : (s : State) (r : Row) (a b : Reached) → LineGives s r a → LineGives s r b → a ≡ b
+  line_once : (s : State) (r : LogicalLine) (a b : Reached) → LineGives s r a → LineGives s r b → a ≡ b
   line_once s r a b p q =
       p.is ∙ ap (λ (e : Expanded). renumbered_by s r e.fault (presumed e.tokens)) (expansions s.macros s.env (operands r.tokens) p.expanded q.expanded p.expands q.expands) ∙ sym q.is
 
-  control_by_once : (d : Option Directive) (s : State) (r : Row) (a b : Reached) → ControlBy d s r a → ControlBy d s r b → a ≡ b
-  control_by_once None s r a b p q = absurd p
-  control_by_once (Some If) s r a b p q = absurd p
-  control_by_once (Some Ifdef) s r a b p q = absurd p
-  control_by_once (Some Ifndef) s r a b p q = absurd p
-  control_by_once (Some Elif) s r a b p q = absurd p
-  control_by_once (Some Else) s r a b p q = absurd p
-  control_by_once (Some Endif) s r a b p q = absurd p
-  control_by_once (Some Include) s r a b p q = absurd p
-  control_by_once (Some Define) s r a b p q = p ∙ sym q
-  control_by_once (Some Undef) s r a b p q = p ∙ sym q
-  control_by_once (Some Line) s r a b p q = line_once s r a b p q
-  control_by_once (Some Error) s r a b p q = absurd p
-  control_by_once (Some Pragma) s r a b p q = p ∙ sym q
-  control_by_once (Some Null) s r a b p q = p ∙ sym q
-  control_by_once (Some Unknown) s r a b p q = p ∙ sym q
+  control_by_once : (profile : Profile) (row : ℕ) (d : Option Directive) (s : State) (r : LogicalLine) (a b : Reached)
+      → ControlBy profile row d s r a
+      → ControlBy profile row d s r b
+      → a ≡ b
+  control_by_once profile row None s r a b p q = absurd p
+  control_by_once profile row (Some If) s r a b p q = absurd p
+  control_by_once profile row (Some Ifdef) s r a b p q = absurd p
+  control_by_once profile row (Some Ifndef) s r a b p q = absurd p
+  control_by_once profile row (Some Elif) s r a b p q = absurd p
+  control_by_once profile row (Some Elifdef) s r a b p q = absurd p
+  control_by_once profile row (Some Elifndef) s r a b p q = absurd p
+  control_by_once profile row (Some Else) s r a b p q = absurd p
+  control_by_once profile row (Some Endif) s r a b p q = absurd p
+  control_by_once profile row (Some Include) s r a b p q = absurd p
+  control_by_once profile row (Some Define) s r a b p q = p ∙ sym q
+  control_by_once profile row (Some Undef) s r a b p q = p ∙ sym q
+  control_by_once profile row (Some Line) s r a b p q = line_once s r a b p q
+  control_by_once profile row (Some Error) s r a b p q = absurd p
+  control_by_once profile row (Some Pragma) s r a b p q = p ∙ sym q
+  control_by_once profile row (Some Null) s r a b p q = p ∙ sym q
+  control_by_once profile row (Some Unknown) s r a b p q = p ∙ sym q
 
   asks_by_once : (header : Bool) (s : State) (line : List Token) (a b : Result Asked Fault) → AsksBy header s line a → AsksBy header s line b → a ≡ b
   asks_by_once true s line a b p q = p ∙ sym q
@@ -86,6 +95,8 @@ module _ (expansions : OneExpansion) (decisions : OneDecision) (readings : OneRe
   decides_by_once (Some Elif) s line a b p q = decisions s.macros s.env (sign_place line) (operands line) a b p q
   decides_by_once (Some Ifdef) s line a b p q = p ∙ sym q
   decides_by_once (Some Ifndef) s line a b p q = p ∙ sym q
+  decides_by_once (Some Elifdef) s line a b p q = p ∙ sym q
+  decides_by_once (Some Elifndef) s line a b p q = p ∙ sym q
   decides_by_once (Some Else) s line a b p q = absurd p
   decides_by_once (Some Endif) s line a b p q = absurd p
   decides_by_once (Some Include) s line a b p q = absurd p
@@ -97,12 +108,15 @@ module _ (expansions : OneExpansion) (decisions : OneDecision) (readings : OneRe
   decides_by_once (Some Null) s line a b p q = absurd p
   decides_by_once (Some Unknown) s line a b p q = absurd p
 
-  decides_unless_once : (quote : Option Fault) (s : State) (line : List Token) (a b : Result Bool Fault) → DecidesUnless quote s line a → DecidesUnless quote s line b → a ≡ b
-  decides_unless_once None s line a b p q = decides_by_once (directive_of line) s line a b p q
-  decides_unless_once (Some f) s line a b p q = p ∙ sym q
+  decides_unless_once : (quote : Option Fault) (d : Option Directive) (s : State) (line : List Token) (a b : Result Bool Fault)
+      → DecidesUnless quote d s line a
+      → DecidesUnless quote d s line b
+      → a ≡ b
+  decides_unless_once None d s line a b p q = decides_by_once d s line a b p q
+  decides_unless_once (Some f) d s line a b p q = p ∙ sym q
 
-  decides_once : (s : State) (line : List Token) (a b : Result Bool Fault) → Decides s line a → Decides s line b → a ≡ b
-  decides_once s line a b p q = decides_unless_once (lone_quote line) s line a b p q
+  decides_once : (s : State) (line : LogicalLine) (a b : Result Bool Fault) → Decides s line a → Decides s line b → a ≡ b
+  decides_once s line a b p q = decides_unless_once (lone_quote line.tokens) line.directive s line.tokens a b p q
 
   module _ (around : Surroundings) (once : AreNames around.names) where
     finds_once : (from : ℕ) (asked : Asked) (a b : Option ℕ) → Finds around from asked a → Finds around from asked b → a ≡ b
@@ -110,16 +124,16 @@ module _ (expansions : OneExpansion) (decisions : OneDecision) (readings : OneRe
 
     -- ---- what a derivation is, by the form of what is worked on
 
-    abbrev AfterRun : ℕ → ℕ → State → List Row → Parts → Reached → Type 0
+    abbrev AfterRun : ℕ → ℕ → State → List LogicalLine → Parts → Reached → Type 0
     AfterRun depth row s rs ps end = (m : Reached) × RunGives s (run_tokens rs) m × Group around depth row m ps end
 
-    at_run : {depth row : ℕ} {s : State} {rs : List Row} {ps : Parts} {end : Reached} → Group around depth row (going s) (Run rs ps) end → AfterRun depth row s rs ps end
+    at_run : {depth row : ℕ} {s : State} {rs : List LogicalLine} {ps : Parts} {end : Reached} → Group around depth row (going s) (Run rs ps) end → AfterRun depth row s rs ps end
     at_run (Group.run {m = m} gives rest) = (m, gives, rest)
 
-    abbrev AfterControl : ℕ → ℕ → State → Row → Parts → Reached → Type 0
+    abbrev AfterControl : ℕ → ℕ → State → LogicalLine → Parts → Reached → Type 0
     AfterControl depth row s line ps end = (m : Reached) × Controls around depth row s line m × Group around depth row m ps end
 
-    at_control : {depth row : ℕ} {s : State} {line : Row} {ps : Parts} {end : Reached} → Group around depth row (going s) (Control line ps) end → AfterControl depth row s line ps end
+    at_control : {depth row : ℕ} {s : State} {line : LogicalLine} {ps : Parts} {end : Reached} → Group around depth row (going s) (Control line ps) end → AfterControl depth row s line ps end
     at_control (Group.control {m = m} here rest) = (m, here, rest)
 
     at_done : {depth row : ℕ} {s : State} {end : Reached} → Group around depth row (going s) Done end → going s ≡ end
@@ -128,26 +142,42 @@ module _ (expansions : OneExpansion) (decisions : OneDecision) (readings : OneRe
     at_stop : {depth row : ℕ} {s : State} {f : Fault} {ps : Parts} {end : Reached} → Group around depth row (stopped s f) ps end → stopped s f ≡ end
     at_stop Group.stays = refl
 
-    data AfterSection (depth row : ℕ) (s : State) (line : Row) (ps : Parts) (bs : Branches) (qs : Parts) : Reached → Type 0 where
-      is_taken : {m end : Reached} → Decides s line.tokens (Ok true) → Group around depth row (going s) ps m → Group around depth row m qs end → AfterSection depth row s line ps bs qs end
-      is_skipped : {m end : Reached} → Decides s line.tokens (Ok false) → Branched around depth row s bs m → Group around depth row m qs end → AfterSection depth row s line ps bs qs end
-      is_refused : {f : Fault} → Decides s line.tokens (Err f) → AfterSection depth row s line ps bs qs (stopped s f)
+    data AfterSection (depth row : ℕ) (s : State) (line : LogicalLine) (ps : Parts) (bs : Branches) (qs : Parts) : Reached → Type 0 where
+      is_taken : {m end : Reached}
+          → Decides s line (Ok true)
+          → Group around depth row (going s) ps m
+          → Group around depth row m qs end
+          → AfterSection depth row s line ps bs qs end
+      is_skipped : {m end : Reached}
+          → Decides s line (Ok false)
+          → Branched around depth row s bs m
+          → Group around depth row m qs end
+          → AfterSection depth row s line ps bs qs end
+      is_refused : {f : Fault} → Decides s line (Err f) → AfterSection depth row s line ps bs qs (stopped s f)
 
-    at_section : {depth row : ℕ} {s : State} {line : Row} {ps qs : Parts} {bs : Branches} {end : Reached} → Group around depth row (going s) (Section line ps bs qs) end → AfterSection depth row s line ps bs qs end
+    at_section : {depth row : ℕ} {s : State} {line : LogicalLine} {ps qs : Parts} {bs : Branches} {end : Reached} → Group around depth row (going s) (Section line ps bs qs) end → AfterSection depth row s line ps bs qs end
     at_section (Group.taken decides here rest) = is_taken decides here rest
     at_section (Group.skipped decides here rest) = is_skipped decides here rest
     at_section (Group.refused decides) = is_refused decides
 
-    at_end : {depth row : ℕ} {s : State} {line : Row} {m : Reached} → Branched around depth row s (End line) m → going s ≡ m
+    at_end : {depth row : ℕ} {s : State} {line : LogicalLine} {m : Reached} → Branched around depth row s (End line) m → going s ≡ m
     at_end Branched.ended = refl
 
-    data AfterBranch (depth row : ℕ) (s : State) (line : Row) (ps : Parts) (bs : Branches) : Reached → Type 0 where
-      is_else : {m : Reached} → directive_of line.tokens ≡ Some Else → Group around depth row (going s) ps m → AfterBranch depth row s line ps bs m
-      is_elif : {m : Reached} → directive_of line.tokens ≡ Some Elif → Decides s line.tokens (Ok true) → Group around depth row (going s) ps m → AfterBranch depth row s line ps bs m
-      is_passed : {m : Reached} → directive_of line.tokens ≡ Some Elif → Decides s line.tokens (Ok false) → Branched around depth row s bs m → AfterBranch depth row s line ps bs m
-      is_faulty : {f : Fault} → directive_of line.tokens ≡ Some Elif → Decides s line.tokens (Err f) → AfterBranch depth row s line ps bs (stopped s f)
+    data AfterBranch (depth row : ℕ) (s : State) (line : LogicalLine) (ps : Parts) (bs : Branches) : Reached → Type 0 where
+      is_else : {m : Reached} → line.directive ≡ Some Else → Group around depth row (going s) ps m → AfterBranch depth row s line ps bs m
+      is_elif : {m : Reached}
+          → line.directive ≢ Some Else
+          → Decides s line (Ok true)
+          → Group around depth row (going s) ps m
+          → AfterBranch depth row s line ps bs m
+      is_passed : {m : Reached}
+          → line.directive ≢ Some Else
+          → Decides s line (Ok false)
+          → Branched around depth row s bs m
+          → AfterBranch depth row s line ps bs m
+      is_faulty : {f : Fault} → line.directive ≢ Some Else → Decides s line (Err f) → AfterBranch depth row s line ps bs (stopped s f)
 
-    at_branch : {depth row : ℕ} {s : State} {line : Row} {ps : Parts} {bs : Branches} {m : Reached} → Branched around depth row s (Branch line ps bs) m → AfterBranch depth row s line ps bs m
+    at_branch : {depth row : ℕ} {s : State} {line : LogicalLine} {ps : Parts} {bs : Branches} {m : Reached} → Branched around depth row s (Branch line ps bs) m → AfterBranch depth row s line ps bs m
     at_branch (Branched.otherwise is here) = is_else is here
     at_branch (Branched.branch_taken is decides here) = is_elif is decides here
     at_branch (Branched.branch_skipped is decides rest) = is_passed is decides rest
@@ -155,7 +185,7 @@ module _ (expansions : OneExpansion) (decisions : OneDecision) (readings : OneRe
 
     -- ---- if-sections, by what was found of the first derivation
 
-    same_decision : (s : State) (line : List Token) (a b : Result Bool Fault) → Decides s line a → Decides s line b → a ≡ b
+    same_decision : (s : State) (line : LogicalLine) (a b : Result Bool Fault) → Decides s line a → Decides s line b → a ≡ b
     same_decision s line a b p q = decides_once s line a b p q
 
     abbrev SameGroup : ℕ → ℕ → Reached → Parts → Reached → Type 0
@@ -164,64 +194,124 @@ module _ (expansions : OneExpansion) (decisions : OneDecision) (readings : OneRe
     abbrev SameBranches : ℕ → ℕ → State → Branches → Reached → Type 0
     SameBranches depth row s bs y = (z : Reached) → Branched around depth row s bs z → y ≡ z
 
-    after_taken : {depth row : ℕ} {s : State} {line : Row} {ps qs : Parts} {bs : Branches} {m y : Reached} → Decides s line.tokens (Ok true) → SameGroup depth row (going s) ps m → SameGroup depth row m qs y → (z : Reached) → AfterSection depth row s line ps bs qs z → y ≡ z
+    after_taken : {depth row : ℕ} {s : State} {line : LogicalLine} {ps qs : Parts} {bs : Branches} {m y : Reached}
+        → Decides s line (Ok true)
+        → SameGroup depth row (going s) ps m
+        → SameGroup depth row m qs y
+        → (z : Reached)
+        → AfterSection depth row s line ps bs qs z
+        → y ≡ z
     after_taken {depth = depth} {row = row} {qs = qs} decides here rest z (is_taken {m = n} decides' here' rest') = rest z (subst (λ x. Group around depth row x qs z) (sym (here n here')) rest')
-    after_taken {s = s} {line = line} decides here rest z (is_skipped decides' here' rest') = let differs : Ok true ≡ Ok false = same_decision s line.tokens (Ok true) (Ok false) decides decides' in absurd (cc)
-    after_taken {s = s} {line = line} decides here rest z (is_refused {f = f} decides') = let differs : Ok true ≡ Err f = same_decision s line.tokens (Ok true) (Err f) decides decides' in absurd (cc)
+    after_taken {s = s} {line = line} decides here rest z (is_skipped decides' here' rest') =
+        let differs : Ok true ≡ Ok false = same_decision s line (Ok true) (Ok false) decides decides' in absurd (cc)
+    after_taken {s = s} {line = line} decides here rest z (is_refused {f = f} decides') =
+        let differs : Ok true ≡ Err f = same_decision s line (Ok true) (Err f) decides decides' in absurd (cc)
 
-    after_skipped : {depth row : ℕ} {s : State} {line : Row} {ps qs : Parts} {bs : Branches} {m y : Reached} → Decides s line.tokens (Ok false) → SameBranches depth row s bs m → SameGroup depth row m qs y → (z : Reached) → AfterSection depth row s line ps bs qs z → y ≡ z
-    after_skipped {s = s} {line = line} decides here rest z (is_taken decides' here' rest') = let differs : Ok false ≡ Ok true = same_decision s line.tokens (Ok false) (Ok true) decides decides' in absurd (cc)
+    after_skipped : {depth row : ℕ} {s : State} {line : LogicalLine} {ps qs : Parts} {bs : Branches} {m y : Reached}
+        → Decides s line (Ok false)
+        → SameBranches depth row s bs m
+        → SameGroup depth row m qs y
+        → (z : Reached)
+        → AfterSection depth row s line ps bs qs z
+        → y ≡ z
+    after_skipped {s = s} {line = line} decides here rest z (is_taken decides' here' rest') =
+        let differs : Ok false ≡ Ok true = same_decision s line (Ok false) (Ok true) decides decides' in absurd (cc)
     after_skipped {depth = depth} {row = row} {qs = qs} decides here rest z (is_skipped {m = n} decides' here' rest') = rest z (subst (λ x. Group around depth row x qs z) (sym (here n here')) rest')
-    after_skipped {s = s} {line = line} decides here rest z (is_refused {f = f} decides') = let differs : Ok false ≡ Err f = same_decision s line.tokens (Ok false) (Err f) decides decides' in absurd (cc)
+    after_skipped {s = s} {line = line} decides here rest z (is_refused {f = f} decides') =
+        let differs : Ok false ≡ Err f = same_decision s line (Ok false) (Err f) decides decides' in absurd (cc)
 
-    after_refused : {depth row : ℕ} {s : State} {line : Row} {ps qs : Parts} {bs : Branches} {f : Fault} → Decides s line.tokens (Err f) → (z : Reached) → AfterSection depth row s line ps bs qs z → stopped s f ≡ z
-    after_refused {s = s} {line = line} {f = f} decides z (is_taken decides' here' rest') = let differs : Err f ≡ Ok true = same_decision s line.tokens (Err f) (Ok true) decides decides' in absurd (cc)
-    after_refused {s = s} {line = line} {f = f} decides z (is_skipped decides' here' rest') = let differs : Err f ≡ Ok false = same_decision s line.tokens (Err f) (Ok false) decides decides' in absurd (cc)
+    after_refused : {depth row : ℕ} {s : State} {line : LogicalLine} {ps qs : Parts} {bs : Branches} {f : Fault}
+        → Decides s line (Err f)
+        → (z : Reached)
+        → AfterSection depth row s line ps bs qs z
+        → stopped s f ≡ z
+    after_refused {s = s} {line = line} {f = f} decides z (is_taken decides' here' rest') =
+        let differs : Err f ≡ Ok true = same_decision s line (Err f) (Ok true) decides decides' in absurd (cc)
+    after_refused {s = s} {line = line} {f = f} decides z (is_skipped decides' here' rest') =
+        let differs : Err f ≡ Ok false = same_decision s line (Err f) (Ok false) decides decides' in absurd (cc)
     after_refused {s = s} {line = line} {f = f} decides z (is_refused {f = g} decides') =
-        let one : Err f ≡ Err g = same_decision s line.tokens (Err f) (Err g) decides decides' in let same : f ≡ g = cc in ap (λ x. stopped s x) same
+        let one : Err f ≡ Err g = same_decision s line (Err f) (Err g) decides decides' in let same : f ≡ g = cc in ap (λ x. stopped s x) same
 
-    not_both : (line : Row) → directive_of line.tokens ≡ Some Else → directive_of line.tokens ≡ Some Elif → ⊥
-    not_both line e f = let differs : Some Else ≡ Some Elif = sym e ∙ f in absurd (cc)
+    not_both : (line : LogicalLine) → line.directive ≡ Some Else → line.directive ≢ Some Else → ⊥
+    not_both line e f = f e
 
-    after_else : {depth row : ℕ} {s : State} {line : Row} {ps : Parts} {bs : Branches} {y : Reached} → directive_of line.tokens ≡ Some Else → SameGroup depth row (going s) ps y → (z : Reached) → AfterBranch depth row s line ps bs z → y ≡ z
+    after_else : {depth row : ℕ} {s : State} {line : LogicalLine} {ps : Parts} {bs : Branches} {y : Reached}
+        → line.directive ≡ Some Else
+        → SameGroup depth row (going s) ps y
+        → (z : Reached)
+        → AfterBranch depth row s line ps bs z
+        → y ≡ z
     after_else is here z (is_else is' here') = here z here'
     after_else {line = line} is here z (is_elif is' decides here') = absurd (not_both line is is')
     after_else {line = line} is here z (is_passed is' decides rest) = absurd (not_both line is is')
     after_else {line = line} is here z (is_faulty is' decides) = absurd (not_both line is is')
 
-    after_elif : {depth row : ℕ} {s : State} {line : Row} {ps : Parts} {bs : Branches} {y : Reached} → directive_of line.tokens ≡ Some Elif → Decides s line.tokens (Ok true) → SameGroup depth row (going s) ps y → (z : Reached) → AfterBranch depth row s line ps bs z → y ≡ z
+    after_elif : {depth row : ℕ} {s : State} {line : LogicalLine} {ps : Parts} {bs : Branches} {y : Reached}
+        → line.directive ≢ Some Else
+        → Decides s line (Ok true)
+        → SameGroup depth row (going s) ps y
+        → (z : Reached)
+        → AfterBranch depth row s line ps bs z
+        → y ≡ z
     after_elif {line = line} is decides here z (is_else is' here') = absurd (not_both line is' is)
     after_elif is decides here z (is_elif is' decides' here') = here z here'
-    after_elif {s = s} {line = line} is decides here z (is_passed is' decides' rest) = let differs : Ok true ≡ Ok false = same_decision s line.tokens (Ok true) (Ok false) decides decides' in absurd (cc)
-    after_elif {s = s} {line = line} is decides here z (is_faulty {f = f} is' decides') = let differs : Ok true ≡ Err f = same_decision s line.tokens (Ok true) (Err f) decides decides' in absurd (cc)
+    after_elif {s = s} {line = line} is decides here z (is_passed is' decides' rest) =
+        let differs : Ok true ≡ Ok false = same_decision s line (Ok true) (Ok false) decides decides' in absurd (cc)
+    after_elif {s = s} {line = line} is decides here z (is_faulty {f = f} is' decides') =
+        let differs : Ok true ≡ Err f = same_decision s line (Ok true) (Err f) decides decides' in absurd (cc)
 
-    after_passed : {depth row : ℕ} {s : State} {line : Row} {ps : Parts} {bs : Branches} {y : Reached} → directive_of line.tokens ≡ Some Elif → Decides s line.tokens (Ok false) → SameBranches depth row s bs y → (z : Reached) → AfterBranch depth row s line ps bs z → y ≡ z
+    after_passed : {depth row : ℕ} {s : State} {line : LogicalLine} {ps : Parts} {bs : Branches} {y : Reached}
+        → line.directive ≢ Some Else
+        → Decides s line (Ok false)
+        → SameBranches depth row s bs y
+        → (z : Reached)
+        → AfterBranch depth row s line ps bs z
+        → y ≡ z
     after_passed {line = line} is decides rest z (is_else is' here') = absurd (not_both line is' is)
-    after_passed {s = s} {line = line} is decides rest z (is_elif is' decides' here') = let differs : Ok false ≡ Ok true = same_decision s line.tokens (Ok false) (Ok true) decides decides' in absurd (cc)
+    after_passed {s = s} {line = line} is decides rest z (is_elif is' decides' here') =
+        let differs : Ok false ≡ Ok true = same_decision s line (Ok false) (Ok true) decides decides' in absurd (cc)
     after_passed is decides rest z (is_passed is' decides' rest') = rest z rest'
-    after_passed {s = s} {line = line} is decides rest z (is_faulty {f = f} is' decides') = let differs : Ok false ≡ Err f = same_decision s line.tokens (Ok false) (Err f) decides decides' in absurd (cc)
+    after_passed {s = s} {line = line} is decides rest z (is_faulty {f = f} is' decides') =
+        let differs : Ok false ≡ Err f = same_decision s line (Ok false) (Err f) decides decides' in absurd (cc)
 
-    after_faulty : {depth row : ℕ} {s : State} {line : Row} {ps : Parts} {bs : Branches} {f : Fault} → directive_of line.tokens ≡ Some Elif → Decides s line.tokens (Err f) → (z : Reached) → AfterBranch depth row s line ps bs z → stopped s f ≡ z
+    after_faulty : {depth row : ℕ} {s : State} {line : LogicalLine} {ps : Parts} {bs : Branches} {f : Fault}
+        → line.directive ≢ Some Else
+        → Decides s line (Err f)
+        → (z : Reached)
+        → AfterBranch depth row s line ps bs z
+        → stopped s f ≡ z
     after_faulty {line = line} is decides z (is_else is' here') = absurd (not_both line is' is)
-    after_faulty {s = s} {line = line} {f = f} is decides z (is_elif is' decides' here') = let differs : Err f ≡ Ok true = same_decision s line.tokens (Err f) (Ok true) decides decides' in absurd (cc)
-    after_faulty {s = s} {line = line} {f = f} is decides z (is_passed is' decides' rest) = let differs : Err f ≡ Ok false = same_decision s line.tokens (Err f) (Ok false) decides decides' in absurd (cc)
+    after_faulty {s = s} {line = line} {f = f} is decides z (is_elif is' decides' here') =
+        let differs : Err f ≡ Ok true = same_decision s line (Err f) (Ok true) decides decides' in absurd (cc)
+    after_faulty {s = s} {line = line} {f = f} is decides z (is_passed is' decides' rest) =
+        let differs : Err f ≡ Ok false = same_decision s line (Err f) (Ok false) decides decides' in absurd (cc)
     after_faulty {s = s} {line = line} {f = f} is decides z (is_faulty {f = g} is' decides') =
-        let one : Err f ≡ Err g = same_decision s line.tokens (Err f) (Err g) decides decides' in let same : f ≡ g = cc in ap (λ x. stopped s x) same
+        let one : Err f ≡ Err g = same_decision s line (Err f) (Err g) decides decides' in let same : f ≡ g = cc in ap (λ x. stopped s x) same
 
     -- ---- control lines
 
-    not_other : (d : Directive) (s : State) (line : Row) (m : Reached) → directive_of line.tokens ≡ Some d → ControlBy (directive_of line.tokens) s line m → ControlBy (Some d) s line m
-    not_other d s line m is does = subst (λ x. ControlBy x s line m) is does
+    not_other : (row : ℕ) (d : Directive) (s : State) (line : LogicalLine) (m : Reached)
+        → line.directive ≡ Some d
+        → ControlBy around.profile row line.directive s line m
+        → ControlBy around.profile row (Some d) s line m
+    not_other row d s line m is does = subst (λ x. ControlBy around.profile row x s line m) is does
 
-    at_error : {depth row : ℕ} {s : State} {line : Row} {m : Reached} → directive_of line.tokens ≡ Some Error → Controls around depth row s line m → stopped s (line_fault 34 line.tokens (message true (operands line.tokens))) ≡ m
+    at_error : {depth row : ℕ} {s : State} {line : LogicalLine} {m : Reached}
+        → line.directive ≡ Some Error
+        → Controls around depth row s line m
+        → stopped s (line_fault 34 line.tokens (message true (operands line.tokens))) ≡ m
     at_error e (Controls.error is) = refl
     at_error e (Controls.quote is q) = absurd (is e)
-    at_error {s = s} {line = line} {m = m} e (Controls.other q does) = absurd (not_other Error s line m e does)
+    at_error {row = row} {s = s} {line = line} {m = m} e (Controls.other q does) = absurd (not_other row Error s line m e does)
     at_error e (Controls.misnamed is q asks) = let differs : Some Error ≡ Some Include = sym e ∙ is in absurd (cc)
     at_error e (Controls.missing a is q asks finds) = let differs : Some Error ≡ Some Include = sym e ∙ is in absurd (cc)
     at_error e (Controls.included a found is q asks finds opens) = let differs : Some Error ≡ Some Include = sym e ∙ is in absurd (cc)
 
-    at_quote : {depth row : ℕ} {s : State} {line : Row} {f : Fault} {m : Reached} → directive_of line.tokens ≢ Some Error → lone_quote line.tokens ≡ Some f → Controls around depth row s line m → stopped s f ≡ m
+    at_quote : {depth row : ℕ} {s : State} {line : LogicalLine} {f : Fault} {m : Reached}
+        → line.directive ≢ Some Error
+        → lone_quote line.tokens ≡ Some f
+        → Controls around depth row s line m
+        → stopped s f ≡ m
     at_quote other e (Controls.error is) = absurd (other is)
     at_quote {s = s} {f = f} other e (Controls.quote {f = g} is q) = let same : f ≡ g = cc in ap (λ x. stopped s x) same
     at_quote other e (Controls.other q does) = absurd (cc)
@@ -229,28 +319,38 @@ module _ (expansions : OneExpansion) (decisions : OneDecision) (readings : OneRe
     at_quote other e (Controls.missing a is q asks finds) = absurd (cc)
     at_quote other e (Controls.included a found is q asks finds opens) = absurd (cc)
 
-    at_other : {depth row : ℕ} {s : State} {line : Row} {k m : Reached} → lone_quote line.tokens ≡ None → ControlBy (directive_of line.tokens) s line k → Controls around depth row s line m → k ≡ m
-    at_other {s = s} {line = line} {k = k} q does (Controls.error is) = absurd (not_other Error s line k is does)
+    at_other : {depth row : ℕ} {s : State} {line : LogicalLine} {k m : Reached}
+        → lone_quote line.tokens ≡ None
+        → ControlBy around.profile row line.directive s line k
+        → Controls around depth row s line m
+        → k ≡ m
+    at_other {row = row} {s = s} {line = line} {k = k} q does (Controls.error is) = absurd (not_other row Error s line k is does)
     at_other q does (Controls.quote is e) = absurd (cc)
-    at_other {s = s} {line = line} {k = k} {m = m} q does (Controls.other e does') = control_by_once (directive_of line.tokens) s line k m does does'
-    at_other {s = s} {line = line} {k = k} q does (Controls.misnamed is e asks) = absurd (not_other Include s line k is does)
-    at_other {s = s} {line = line} {k = k} q does (Controls.missing a is e asks finds) = absurd (not_other Include s line k is does)
-    at_other {s = s} {line = line} {k = k} q does (Controls.included a found is e asks finds opens) = absurd (not_other Include s line k is does)
+    at_other {row = row} {s = s} {line = line} {k = k} {m = m} q does (Controls.other e does') =
+        control_by_once around.profile row line.directive s line k m does does'
+    at_other {row = row} {s = s} {line = line} {k = k} q does (Controls.misnamed is e asks) = absurd (not_other row Include s line k is does)
+    at_other {row = row} {s = s} {line = line} {k = k} q does (Controls.missing a is e asks finds) = absurd (not_other row Include s line k is does)
+    at_other {row = row} {s = s} {line = line} {k = k} q does (Controls.included a found is e asks finds opens) =
+        absurd (not_other row Include s line k is does)
 
-    data AfterAsk (depth row : ℕ) (s : State) (line : Row) : Reached → Type 0 where
+    data AfterAsk (depth row : ℕ) (s : State) (line : LogicalLine) : Reached → Type 0 where
       is_misnamed : {f : Fault} → Asks s line.tokens (Err f) → AfterAsk depth row s line (stopped s f)
       is_missing : (a : Asked) → Asks s line.tokens (Ok a) → Finds around row a None → AfterAsk depth row s line (stopped s (line_fault 31 line.tokens a.name))
       is_included : (a : Asked) (found : ℕ) → {m : Reached} → Asks s line.tokens (Ok a) → Finds around row a (Some found) → Opened around (suc depth) (sign_place line.tokens) s found m → AfterAsk depth row s line m
 
-    at_include : {depth row : ℕ} {s : State} {line : Row} {m : Reached} → directive_of line.tokens ≡ Some Include → lone_quote line.tokens ≡ None → Controls around depth row s line m → AfterAsk depth row s line m
+    at_include : {depth row : ℕ} {s : State} {line : LogicalLine} {m : Reached}
+        → line.directive ≡ Some Include
+        → lone_quote line.tokens ≡ None
+        → Controls around depth row s line m
+        → AfterAsk depth row s line m
     at_include e q (Controls.error is) = let differs : Some Include ≡ Some Error = sym e ∙ is in absurd (cc)
     at_include e q (Controls.quote is q') = absurd (cc)
-    at_include {s = s} {line = line} {m = m} e q (Controls.other q' does) = absurd (not_other Include s line m e does)
+    at_include {row = row} {s = s} {line = line} {m = m} e q (Controls.other q' does) = absurd (not_other row Include s line m e does)
     at_include e q (Controls.misnamed is q' asks) = is_misnamed asks
     at_include e q (Controls.missing a is q' asks finds) = is_missing a asks finds
     at_include e q (Controls.included a found is q' asks finds opens) = is_included a found asks finds opens
 
-    after_misnamed : {depth row : ℕ} {s : State} {line : Row} {f : Fault} {m : Reached} → Asks s line.tokens (Err f) → AfterAsk depth row s line m → stopped s f ≡ m
+    after_misnamed : {depth row : ℕ} {s : State} {line : LogicalLine} {f : Fault} {m : Reached} → Asks s line.tokens (Err f) → AfterAsk depth row s line m → stopped s f ≡ m
     after_misnamed {s = s} {line = line} {f = f} asks (is_misnamed {f = g} asks') = let one : Err f ≡ Err g = asks_once s line.tokens (Err f) (Err g) asks asks' in let same : f ≡ g = cc in ap (λ x. stopped s x) same
     after_misnamed {s = s} {line = line} {f = f} asks (is_missing a asks' finds) = let one : Err f ≡ Ok a = asks_once s line.tokens (Err f) (Ok a) asks asks' in absurd (cc)
     after_misnamed {s = s} {line = line} {f = f} asks (is_included a found asks' finds opens) = let one : Err f ≡ Ok a = asks_once s line.tokens (Err f) (Ok a) asks asks' in absurd (cc)
@@ -258,13 +358,13 @@ module _ (expansions : OneExpansion) (decisions : OneDecision) (readings : OneRe
     same_asked : (s : State) (line : List Token) (a b : Asked) → Asks s line (Ok a) → Asks s line (Ok b) → a ≡ b
     same_asked s line a b p q = let one : Ok a ≡ Ok b = asks_once s line (Ok a) (Ok b) p q in cc
 
-    after_missing : {depth row : ℕ} {s : State} {line : Row} {m : Reached} (a : Asked) → Asks s line.tokens (Ok a) → Finds around row a None → AfterAsk depth row s line m → stopped s (line_fault 31 line.tokens a.name) ≡ m
+    after_missing : {depth row : ℕ} {s : State} {line : LogicalLine} {m : Reached} (a : Asked) → Asks s line.tokens (Ok a) → Finds around row a None → AfterAsk depth row s line m → stopped s (line_fault 31 line.tokens a.name) ≡ m
     after_missing {s = s} {line = line} a asks finds (is_misnamed {f = f} asks') = let one : Ok a ≡ Err f = asks_once s line.tokens (Ok a) (Err f) asks asks' in absurd (cc)
     after_missing {s = s} {line = line} a asks finds (is_missing b asks' finds') = ap (λ (x : Asked). stopped s (line_fault 31 line.tokens x.name)) (same_asked s line.tokens a b asks asks')
     after_missing {row = row} {s = s} {line = line} a asks finds (is_included b found asks' finds' opens) =
         let one : None ≡ Some found = finds_once row b None (Some found) (subst (λ x. Finds around row x None) (same_asked s line.tokens a b asks asks') finds) finds' in absurd (cc)
 
-    after_included : {depth row : ℕ} {s : State} {line : Row} {m : Reached} (a : Asked) (found : ℕ) → Asks s line.tokens (Ok a) → Finds around row a (Some found) → AfterAsk depth row s line m → Opened around (suc depth) (sign_place line.tokens) s found m
+    after_included : {depth row : ℕ} {s : State} {line : LogicalLine} {m : Reached} (a : Asked) (found : ℕ) → Asks s line.tokens (Ok a) → Finds around row a (Some found) → AfterAsk depth row s line m → Opened around (suc depth) (sign_place line.tokens) s found m
     after_included {s = s} {line = line} a found asks finds (is_misnamed {f = f} asks') = let one : Ok a ≡ Err f = asks_once s line.tokens (Ok a) (Err f) asks asks' in absurd (cc)
     after_included {row = row} {s = s} {line = line} a found asks finds (is_missing b asks' finds') =
         let one : Some found ≡ None = finds_once row b (Some found) None (subst (λ x. Finds around row x (Some found)) (same_asked s line.tokens a b asks asks') finds) finds' in absurd (cc)
@@ -275,44 +375,84 @@ module _ (expansions : OneExpansion) (decisions : OneDecision) (readings : OneRe
 
     -- ---- opening a file
 
-    at_deep : {depth row : ℕ} {at : Place} {s : State} {m : Reached} → deepest < depth → Opened around depth at s row m → stopped s (fault_at 32 at (name_in around.names row)) ≡ m
+    at_deep : {depth row : ℕ} {at : Place} {s : State} {m : Reached}
+        → deepest < depth
+        → Opened around depth at s row m
+        → stopped s (fault_at 32 at (name_in around.names row)) ≡ m
     at_deep deep (Opened.too_deep d) = refl
-    at_deep deep (Opened.not_readable fits is) = absurd (omega arith)
-    at_deep deep (Opened.faulty fits is reads) = absurd (omega arith)
-    at_deep deep (Opened.read fits is reads tree here) = absurd (omega arith)
+    at_deep deep (Opened.known fits known) = absurd (omega arith)
+    at_deep deep (Opened.not_readable fits new is) = absurd (omega arith)
+    at_deep deep (Opened.faulty fits new is reads) = absurd (omega arith)
+    at_deep deep (Opened.read fits new is reads tree here) = absurd (omega arith)
 
-    at_unreadable : {depth row : ℕ} {at : Place} {s : State} {m : Reached} → depth ≤ deepest → file_at around.files row ≡ Some unreadable → Opened around depth at s row m → stopped (depending s row) (fault_at 6 at (name_in around.names row)) ≡ m
-    at_unreadable fits e (Opened.too_deep d) = absurd (omega arith)
-    at_unreadable fits e (Opened.not_readable f is) = refl
-    at_unreadable fits e (Opened.faulty {bytes = bytes} f is reads) = let differs : Some unreadable ≡ Some (readable bytes) = sym e ∙ is in absurd (cc)
-    at_unreadable fits e (Opened.read {bytes = bytes} f is reads tree here) = let differs : Some unreadable ≡ Some (readable bytes) = sym e ∙ is in absurd (cc)
+    -- the file is among those that are read once, or it is not
+    one_way : (row : ℕ) (s : State) → is_among row s.once ≡ true → is_among row s.once ≡ false → ⊥
+    one_way row s known new = let differs : true ≡ false = sym known ∙ new in absurd (cc)
 
-    same_reading : (row : ℕ) (b c : List ℕ) (x y : Result (List Row) Fault) → file_at around.files row ≡ Some (readable b) → Reads row b x → file_at around.files row ≡ Some (readable c) → Reads row c y → x ≡ y
+    at_known : {depth row : ℕ} {at : Place} {s : State} {m : Reached}
+        → depth ≤ deepest
+        → is_among row s.once ≡ true
+        → Opened around depth at s row m
+        → going (depending s row) ≡ m
+    at_known fits e (Opened.too_deep d) = absurd (omega arith)
+    at_known fits e (Opened.known f known) = refl
+    at_known {row = row} {s = s} fits e (Opened.not_readable f new is) = absurd (one_way row s e new)
+    at_known {row = row} {s = s} fits e (Opened.faulty f new is reads) = absurd (one_way row s e new)
+    at_known {row = row} {s = s} fits e (Opened.read f new is reads tree here) = absurd (one_way row s e new)
+
+    at_unreadable : {depth row : ℕ} {at : Place} {s : State} {m : Reached}
+        → depth ≤ deepest
+        → is_among row s.once ≡ false
+        → file_at around.files row ≡ Some unreadable
+        → Opened around depth at s row m
+        → stopped (depending s row) (fault_at 6 at (name_in around.names row)) ≡ m
+    at_unreadable fits new e (Opened.too_deep d) = absurd (omega arith)
+    at_unreadable {row = row} {s = s} fits new e (Opened.known f known) = absurd (one_way row s known new)
+    at_unreadable fits new e (Opened.not_readable f n is) = refl
+    at_unreadable fits new e (Opened.faulty {bytes = bytes} f n is reads) =
+        let differs : Some unreadable ≡ Some (readable bytes) = sym e ∙ is in absurd (cc)
+    at_unreadable fits new e (Opened.read {bytes = bytes} f n is reads tree here) =
+        let differs : Some unreadable ≡ Some (readable bytes) = sym e ∙ is in absurd (cc)
+
+    same_reading : (row : ℕ) (b c : List ℕ) (x y : Result (List LogicalLine) Fault)
+        → file_at around.files row ≡ Some (readable b)
+        → Reads around.profile row b x
+        → file_at around.files row ≡ Some (readable c)
+        → Reads around.profile row c y
+        → x ≡ y
     same_reading row b c x y e p is q =
         let both : Some (readable b) ≡ Some (readable c) = sym e ∙ is in
         let same : c ≡ b = cc in
-        readings row b x y p (subst (λ z. Reads row z y) same q)
+        readings around.profile row b x y p (subst (λ z. Reads around.profile row z y) same q)
 
-    data AfterReading (depth : ℕ) (at : Place) (s : State) (row : ℕ) : Result (List Row) Fault → Reached → Type 0 where
+    data AfterReading (depth : ℕ) (at : Place) (s : State) (row : ℕ) : Result (List LogicalLine) Fault → Reached → Type 0 where
       by_fault : {f : Fault} → AfterReading depth at s row (Err f) (stopped (depending s row) f)
-      by_lines : {lines : List Row} {parts : Parts} {m : Reached} → Tree lines parts → Group around depth row (going (entering around s row)) parts m → AfterReading depth at s row (Ok lines) (leaving s m)
+      by_lines : {lines : List LogicalLine} {parts : Parts} {m : Reached} → Tree lines parts → Group around depth row (going (entering around s row)) parts m → AfterReading depth at s row (Ok lines) (leaving s m)
 
-    at_reading : {depth row : ℕ} {at : Place} {s : State} {m : Reached} (bytes : List ℕ) (x : Result (List Row) Fault) → depth ≤ deepest → file_at around.files row ≡ Some (readable bytes) → Reads row bytes x → Opened around depth at s row m → AfterReading depth at s row x m
-    at_reading bytes x fits e p (Opened.too_deep d) = absurd (omega arith)
-    at_reading bytes x fits e p (Opened.not_readable f is) = let differs : Some unreadable ≡ Some (readable bytes) = sym is ∙ e in absurd (cc)
-    at_reading {depth = depth} {row = row} {at = at} {s = s} bytes x fits e p (Opened.faulty {bytes = c} {f = g} f is reads) =
+    at_reading : {depth row : ℕ} {at : Place} {s : State} {m : Reached} (bytes : List ℕ) (x : Result (List LogicalLine) Fault)
+        → depth ≤ deepest
+        → is_among row s.once ≡ false
+        → file_at around.files row ≡ Some (readable bytes)
+        → Reads around.profile row bytes x
+        → Opened around depth at s row m
+        → AfterReading depth at s row x m
+    at_reading bytes x fits new e p (Opened.too_deep d) = absurd (omega arith)
+    at_reading {row = row} {s = s} bytes x fits new e p (Opened.known f known) = absurd (one_way row s known new)
+    at_reading bytes x fits new e p (Opened.not_readable f n is) = let differs : Some unreadable ≡ Some (readable bytes) = sym is ∙ e in absurd (cc)
+    at_reading {depth = depth} {row = row} {at = at} {s = s} bytes x fits new e p (Opened.faulty {bytes = c} {f = g} f n is reads) =
         subst (λ z. AfterReading depth at s row z (stopped (depending s row) g)) (same_reading row c bytes (Err g) x is reads e p) by_fault
-    at_reading {depth = depth} {row = row} {at = at} {s = s} bytes x fits e p (Opened.read {bytes = c} {lines = lines} {m = m} f is reads tree here) =
+    at_reading {depth = depth} {row = row} {at = at} {s = s} bytes x fits new e p
+        (Opened.read {bytes = c} {lines = lines} {m = m} f n is reads tree here) =
         subst (λ z. AfterReading depth at s row z (leaving s m)) (same_reading row c bytes (Ok lines) x is reads e p) (by_lines tree here)
 
-    after_fault : {depth row : ℕ} {at : Place} {s : State} {f : Fault} {x : Result (List Row) Fault} {m : Reached} → Err f ≡ x → AfterReading depth at s row x m → stopped (depending s row) f ≡ m
+    after_fault : {depth row : ℕ} {at : Place} {s : State} {f : Fault} {x : Result (List LogicalLine) Fault} {m : Reached} → Err f ≡ x → AfterReading depth at s row x m → stopped (depending s row) f ≡ m
     after_fault {row = row} {s = s} {f = f} e (by_fault {f = g}) = let same : f ≡ g = cc in ap (λ x. stopped (depending s row) x) same
     after_fault e (by_lines tree here) = absurd (cc)
 
     abbrev AfterLines : ℕ → State → ℕ → Parts → Reached → Type 0
     AfterLines depth s row parts m = (n : Reached) × (m ≡ leaving s n) × Group around depth row (going (entering around s row)) parts n
 
-    after_lines : {depth row : ℕ} {at : Place} {s : State} {lines : List Row} {parts : Parts} {x : Result (List Row) Fault} {m : Reached} → Ok lines ≡ x → Tree lines parts → AfterReading depth at s row x m → AfterLines depth s row parts m
+    after_lines : {depth row : ℕ} {at : Place} {s : State} {lines : List LogicalLine} {parts : Parts} {x : Result (List LogicalLine) Fault} {m : Reached} → Ok lines ≡ x → Tree lines parts → AfterReading depth at s row x m → AfterLines depth s row parts m
     after_lines e tree by_fault = absurd (cc)
     after_lines {depth = depth} {row = row} {s = s} {lines = lines} {parts = parts} e tree (by_lines {lines = lines'} {parts = parts'} {m = n} tree' here) =
         let same : lines' ≡ lines = cc in
@@ -341,7 +481,7 @@ module _ (expansions : OneExpansion) (decisions : OneDecision) (readings : OneRe
       branches_once (Branched.branch_skipped is decides rest) z d = after_passed is decides (λ n g. branches_once rest n g) z (at_branch d)
       branches_once (Branched.branch_refused is decides) z d = after_faulty is decides z (at_branch d)
 
-      control_once : {depth row : ℕ} {s : State} {line : Row} {y : Reached} → Controls around depth row s line y → (z : Reached) → Controls around depth row s line z → y ≡ z
+      control_once : {depth row : ℕ} {s : State} {line : LogicalLine} {y : Reached} → Controls around depth row s line y → (z : Reached) → Controls around depth row s line z → y ≡ z
       control_once (Controls.error is) z d = at_error is d
       control_once (Controls.quote is q) z d = at_quote is q d
       control_once (Controls.other q does) z d = at_other q does d
@@ -351,28 +491,34 @@ module _ (expansions : OneExpansion) (decisions : OneDecision) (readings : OneRe
 
       pub opened_once : {depth row : ℕ} {at : Place} {s : State} {y : Reached} → Opened around depth at s row y → (z : Reached) → Opened around depth at s row z → y ≡ z
       opened_once (Opened.too_deep deep) z d = at_deep deep d
-      opened_once (Opened.not_readable fits is) z d = at_unreadable fits is d
-      opened_once (Opened.faulty {bytes = bytes} {f = f} fits is reads) z d = after_fault refl (at_reading bytes (Err f) fits is reads d)
-      opened_once {depth} {row} {at} {s} (Opened.read {bytes = bytes} {lines = lines} {parts = parts} {m = m} fits is reads tree here) z d =
-          let h : AfterLines depth s row parts z = after_lines refl tree (at_reading bytes (Ok lines) fits is reads d) in
+      opened_once (Opened.known fits known) z d = at_known fits known d
+      opened_once (Opened.not_readable fits new is) z d = at_unreadable fits new is d
+      opened_once (Opened.faulty {bytes = bytes} {f = f} fits new is reads) z d = after_fault refl (at_reading bytes (Err f) fits new is reads d)
+      opened_once {depth} {row} {at} {s} (Opened.read {bytes = bytes} {lines = lines} {parts = parts} {m = m} fits new is reads tree here) z d =
+          let h : AfterLines depth s row parts z = after_lines refl tree (at_reading bytes (Ok lines) fits new is reads d) in
           ap (λ x. leaving s x) (group_once here h.0 h.2) ∙ sym h.1
 
-    command_reading : (defines : List (List ℕ)) (x y : Result (List Row) Fault) → Reads command_file (command_text defines) x → Reads command_file (command_text defines) y → x ≡ y
-    command_reading defines x y p q = readings command_file (command_text defines) x y p q
+    command_reading : (defines : List (List ℕ)) (x y : Result (List LogicalLine) Fault)
+        → Reads around.profile command_file (command_text defines) x
+        → Reads around.profile command_file (command_text defines) y
+        → x ≡ y
+    command_reading defines x y p q = readings around.profile command_file (command_text defines) x y p q
 
-    data AfterCommands (s : State) : Result (List Row) Fault → Reached → Type 0 where
+    data AfterCommands (s : State) : Result (List LogicalLine) Fault → Reached → Type 0 where
       is_unread : {f : Fault} → AfterCommands s (Err f) (stopped s f)
-      is_processed : {lines : List Row} {parts : Parts} {m : Reached} → Tree lines parts → Group around 0 command_file (going s) parts m → AfterCommands s (Ok lines) m
+      is_processed : {lines : List LogicalLine} {parts : Parts} {m : Reached} → Tree lines parts → Group around 0 command_file (going s) parts m → AfterCommands s (Ok lines) m
 
-    at_commands : {defines : List (List ℕ)} {s : State} {m : Reached} (x : Result (List Row) Fault) → Reads command_file (command_text defines) x → Defines around defines s m → AfterCommands s x m
+    at_commands : {defines : List (List ℕ)} {s : State} {m : Reached} (x : Result (List LogicalLine) Fault)
+        → Reads around.profile command_file (command_text defines) x
+        → Defines around defines s m → AfterCommands s x m
     at_commands {defines = defines} {s = s} x p (unread {f = f} reads) = subst (λ z. AfterCommands s z (stopped s f)) (command_reading defines (Err f) x reads p) is_unread
     at_commands {defines = defines} {s = s} x p (processed {lines = lines} {m = m} reads tree here) = subst (λ z. AfterCommands s z m) (command_reading defines (Ok lines) x reads p) (is_processed tree here)
 
-    unread_once : {s : State} {f : Fault} {x : Result (List Row) Fault} {m : Reached} → Err f ≡ x → AfterCommands s x m → stopped s f ≡ m
+    unread_once : {s : State} {f : Fault} {x : Result (List LogicalLine) Fault} {m : Reached} → Err f ≡ x → AfterCommands s x m → stopped s f ≡ m
     unread_once {s = s} {f = f} e (is_unread {f = g}) = let same : f ≡ g = cc in ap (λ x. stopped s x) same
     unread_once e (is_processed tree here) = absurd (cc)
 
-    processed_once : {s : State} {lines : List Row} {parts : Parts} {y : Reached} {x : Result (List Row) Fault} {m : Reached} → Ok lines ≡ x → Tree lines parts → Group around 0 command_file (going s) parts y → AfterCommands s x m → y ≡ m
+    processed_once : {s : State} {lines : List LogicalLine} {parts : Parts} {y : Reached} {x : Result (List LogicalLine) Fault} {m : Reached} → Ok lines ≡ x → Tree lines parts → Group around 0 command_file (going s) parts y → AfterCommands s x m → y ≡ m
     processed_once e tree here is_unread = absurd (cc)
     processed_once {s = s} {lines = lines} {parts = parts} {m = m} e tree here (is_processed {lines = lines'} {parts = parts'} tree' here') =
         let same : lines' ≡ lines = cc in

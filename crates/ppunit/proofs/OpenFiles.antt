@@ -1,7 +1,7 @@
 -- A walk over the lines of a file and of all that it includes, with the files that wait.
 use Rattle.std.proofs.Common.{◌≡◌, ℕ, suc, ◌≤◌, List, [], ◌∷◌, length, Option, None, Some, Ok, Err}
 use Rattle.pptext.specs.declared.tokens.Fault.{Fault}
-use Rattle.pptext.specs.Lines.{Row}
+use Rattle.pptext.specs.Lines.{LogicalLine}
 use Rattle.pptext.specs.Tree.{Parts, Tree}
 use Rattle.ppshelf.specs.Files.{Files, Extends}
 use Rattle.ppunit.specs.declared.opening.Entered.{Entered}
@@ -37,7 +37,7 @@ pub record StackAt (around : Files → Surroundings) (files : Files) (whole : Fi
   pub file_so_far : FileSoFar around files (Owes around whole ws rests) (length ws) file.row file.source.now file.index t
 
 -- the same for each tree of the first file
-pub record StackSoFar (around : Files → Surroundings) (files : Files) (row : ℕ) (lines : List Row) (s : State) (ws : List Waiting) (file : OpenFile) (t : State) : Type 0 where
+pub record StackSoFar (around : Files → Surroundings) (files : Files) (row : ℕ) (lines : List LogicalLine) (s : State) (ws : List Waiting) (file : OpenFile) (t : State) : Type 0 where
   pub so_far : (parts : Parts) → Tree lines parts → StackAt around files (λ more m. Group (around more) 0 row (going s) parts m) ws file t
 
 pub stack_start : (around : Files → Surroundings) (files : Files) (s : State) (file : OpenFile) → file.index ≡ 0 → StackSoFar around files file.row file.source.now s [] file s
@@ -67,13 +67,13 @@ next_at around old new whole next t u ws file None at wider step = record {
 }
 next_at around old new whole next t u ws file (Some e) at wider step = enters_at around old new whole next t u ws file e at wider step.0 step.1
 
-pub stack_next : (around : Files → Surroundings) (old new : Files) (row : ℕ) (lines : List Row) (s t u : State) (ws : List Waiting) (file : OpenFile) (next : Next) → StackSoFar around old row lines s ws file t → Extends new old → Steps around new (length ws) file.row file.source.now file.index t u (Ok next) → StackSoFar around new row lines s (next_waiting (record file { index = next.line }) next.entered ws) (next_file (record file { index = next.line }) next.entered) u
+pub stack_next : (around : Files → Surroundings) (old new : Files) (row : ℕ) (lines : List LogicalLine) (s t u : State) (ws : List Waiting) (file : OpenFile) (next : Next) → StackSoFar around old row lines s ws file t → Extends new old → Steps around new (length ws) file.row file.source.now file.index t u (Ok next) → StackSoFar around new row lines s (next_waiting (record file { index = next.line }) next.entered ws) (next_file (record file { index = next.line }) next.entered) u
 stack_next around old new row lines s t u ws file next sofar wider step = record {
   so_far = λ parts tree. next_at around old new (λ more m. Group (around more) 0 row (going s) parts m) next.line t u ws file next.entered (sofar.so_far parts tree) wider step;
 }
 
 -- no file is deeper than 200
-pub next_depth : (around : Files → Surroundings) (files : Files) (row : ℕ) (lines : List Row) (index next : ℕ) (s t : State) (ws : List Waiting) (file : OpenFile) (entered : Option Entered) → length ws ≤ 200 → StepsTo around files (length ws) row lines index s t next entered → length (next_waiting file entered ws) ≤ 200
+pub next_depth : (around : Files → Surroundings) (files : Files) (row : ℕ) (lines : List LogicalLine) (index next : ℕ) (s t : State) (ws : List Waiting) (file : OpenFile) (entered : Option Entered) → length ws ≤ 200 → StepsTo around files (length ws) row lines index s t next entered → length (next_waiting file entered ws) ≤ 200
 next_depth around files row lines index next s t ws file None deep step = deep
 next_depth around files row lines index next s t ws file (Some e) deep step = step.1.fits
 
@@ -85,7 +85,7 @@ leaves_at around files whole w ws file t ((ps, k) ∷ rests) waits sofar over = 
   file_so_far = record { parts = ps; outer = k; stands = waits.0; ends = λ more grows end rest. file_done around files (Owes around whole (w ∷ ws) ((ps, k) ∷ rests)) (suc (length ws)) file.row file.source.now file.index t sofar over more grows end rest };
 }
 
-pub stack_leaves : (around : Files → Surroundings) (files : Files) (row : ℕ) (lines : List Row) (s t : State) (w : Waiting) (ws : List Waiting) (file : OpenFile) → StackSoFar around files row lines s (w ∷ ws) file t → length file.source.now ≤ file.index → StackSoFar around files row lines s ws w.file (record t { env = w.env })
+pub stack_leaves : (around : Files → Surroundings) (files : Files) (row : ℕ) (lines : List LogicalLine) (s t : State) (w : Waiting) (ws : List Waiting) (file : OpenFile) → StackSoFar around files row lines s (w ∷ ws) file t → length file.source.now ≤ file.index → StackSoFar around files row lines s ws w.file (record t { env = w.env })
 stack_leaves around files row lines s t w ws file sofar over = record {
   so_far = λ parts tree.
       let f = sofar.so_far parts tree in
@@ -99,13 +99,13 @@ stops_at around whole more t fault (w ∷ ws) ((ps, k) ∷ rests) waits owes =
     let u = record t { env = w.env } in
     stops_at around whole more u fault ws rests waits.1 (owes (stopped u fault) (ends_stop (around more) (length ws) w.file.row (stopped u fault) u fault ps k Group.stays))
 
-pub stack_stops : (around : Files → Surroundings) (old new : Files) (row : ℕ) (lines : List Row) (s t u : State) (fault : Fault) (ws : List Waiting) (file : OpenFile) → StackSoFar around old row lines s ws file t → Extends new old → Advances around new (length ws) file.row file.source.now file.index t u (Err fault) → Walks around new 0 row lines s (stopped (brought_back ws u) fault)
+pub stack_stops : (around : Files → Surroundings) (old new : Files) (row : ℕ) (lines : List LogicalLine) (s t u : State) (fault : Fault) (ws : List Waiting) (file : OpenFile) → StackSoFar around old row lines s ws file t → Extends new old → Advances around new (length ws) file.row file.source.now file.index t u (Err fault) → Walks around new 0 row lines s (stopped (brought_back ws u) fault)
 stack_stops around old new row lines s t u fault ws file sofar wider step parts tree more grows =
     let f = sofar.so_far parts tree in
     let whole : Files → Reached → Type 0 = λ more m. Group (around more) 0 row (going s) parts m in
     stops_at around whole more u fault ws f.rests f.waits (file_stop around old new (Owes around whole ws f.rests) (length ws) file.row file.source.now file.index t u fault f.file_so_far wider step more grows)
 
-pub stack_done : (around : Files → Surroundings) (files : Files) (row : ℕ) (lines : List Row) (s t : State) (file : OpenFile) → StackSoFar around files row lines s [] file t → length file.source.now ≤ file.index → Walks around files 0 row lines s (going t)
+pub stack_done : (around : Files → Surroundings) (files : Files) (row : ℕ) (lines : List LogicalLine) (s t : State) (file : OpenFile) → StackSoFar around files row lines s [] file t → length file.source.now ≤ file.index → Walks around files 0 row lines s (going t)
 stack_done around files row lines s t file sofar over parts tree more grows =
     let f = sofar.so_far parts tree in
     let whole : Files → Reached → Type 0 = λ more m. Group (around more) 0 row (going s) parts m in

@@ -2,7 +2,8 @@
 use Rattle.std.specs.Option.{is_some}
 use Rattle.std.proofs.Common.{◌≡◌, true, false, ◌↔◌, ℕ, List, [], Option, Some, None, Result, Ok, Err, refl, ap, ◌∙◌, subst, IfOk}
 use Rattle.pptext.specs.declared.tokens.Fault.{Fault}
-use Rattle.pptext.specs.Lines.{Row}
+use Rattle.pptext.specs.declared.sources.Profile.{Profile}
+use Rattle.pptext.specs.Lines.{LogicalLine}
 use Rattle.pptext.specs.Sources.{IsSource, Reads}
 use Rattle.pptext.specs.Tree.{Parts, Tree, group_fault}
 use Rattle.ppshelf.specs.Files.{Files, Extends}
@@ -16,18 +17,38 @@ use Rattle.ppunit.specs.declared.opening.Entered.{Entered}
 use Rattle.ppunit.specs.Walk.{EntersFile, Walks, DefinesOver}
 use Rattle.ppunit.proofs.Walk.{extends_trans}
 
+-- the files without fault are those with a tree
+abbrev pub TreesUnlessFault : Type 0
+TreesUnlessFault = (lines : List LogicalLine) → (group_fault [] lines ≡ None) ↔ ((parts : Parts) × Tree lines parts)
+
 -- a file without fault has a tree
-pub source_tree : ((lines : List Row) → (group_fault [] lines ≡ None) ↔ ((parts : Parts) × Tree lines parts)) → (file : ℕ) (bytes : List ℕ) (lines : List Row) → IsSource file bytes lines → (parts : Parts) × Tree lines parts
-source_tree trees file bytes lines is = (trees lines).0 (ap (group_fault []) is.same ∙ is.grouped)
+pub source_tree : TreesUnlessFault → (profile : Profile) (file : ℕ) (bytes : List ℕ) (lines : List LogicalLine)
+    → IsSource profile file bytes lines
+    → (parts : Parts) × Tree lines parts
+source_tree trees profile file bytes lines is = (trees lines).0 (ap (group_fault []) is.same ∙ is.grouped)
 
-pub defines_walked : ((lines : List Row) → (group_fault [] lines ≡ None) ↔ ((parts : Parts) × Tree lines parts)) → (around : Files → Surroundings) (files : Files) (defines : List (List ℕ)) (text : List ℕ) (x : Result (List Row) Fault) (lines : List Row) (s : State) (r : Reached) → text ≡ command_text defines → x ≡ Ok lines → Reads command_file text x → Walks around files 0 command_file lines s r → DefinesOver around files defines s r
-defines_walked trees around files defines text x lines s r e is reads walks =
-    let reads' : Reads command_file (command_text defines) (Ok lines) = subst (λ b. Reads command_file b (Ok lines)) e (subst (Reads command_file text) is reads) in
-    let tree = source_tree trees command_file (command_text defines) lines reads' in
-    λ more grows. processed reads' tree.1 (walks tree.0 tree.1 more grows)
+pub defines_walked : TreesUnlessFault → (around : Files → Surroundings) (files : Files) (profile : Profile) (defines : List (List ℕ))
+    (x : Result (List LogicalLine) Fault) (lines : List LogicalLine) (s : State) (r : Reached)
+    → ((more : Files) → profile ≡ (around more).profile)
+    → x ≡ Ok lines
+    → Reads profile command_file (command_text defines) x
+    → Walks around files 0 command_file lines s r
+    → DefinesOver around files defines s r
+defines_walked trees around files profile defines x lines s r one is reads walks =
+    let reads' : Reads profile command_file (command_text defines) (Ok lines) = subst (Reads profile command_file (command_text defines)) is reads in
+    let tree = source_tree trees profile command_file (command_text defines) lines reads' in
+    λ more grows. processed (subst (λ (z : Profile). Reads z command_file (command_text defines) (Ok lines)) (one more) reads') tree.1
+    (walks tree.0 tree.1 more grows)
 
-pub defines_unread : (around : Files → Surroundings) (files : Files) (defines : List (List ℕ)) (text : List ℕ) (x : Result (List Row) Fault) (s : State) (f : Fault) → text ≡ command_text defines → x ≡ Err f → Reads command_file text x → DefinesOver around files defines s (stopped s f)
-defines_unread around files defines text x s f e is reads = λ more grows. unread (subst (λ b. Reads command_file b (Err f)) e (subst (Reads command_file text) is reads))
+pub defines_unread : (around : Files → Surroundings) (files : Files) (profile : Profile) (defines : List (List ℕ))
+    (x : Result (List LogicalLine) Fault) (s : State) (f : Fault)
+    → ((more : Files) → profile ≡ (around more).profile)
+    → x ≡ Err f
+    → Reads profile command_file (command_text defines) x
+    → DefinesOver around files defines s (stopped s f)
+defines_unread around files profile defines x s f one is reads =
+    let reads' : Reads profile command_file (command_text defines) (Err f) = subst (Reads profile command_file (command_text defines)) is reads in
+    λ more grows. unread (subst (λ (z : Profile). Reads z command_file (command_text defines) (Err f)) (one more) reads')
 
 pub on_ok : {A E : Type 0} {P Q : A → Type 0} (r : Result A E) → ((a : A) → P a → Q a) → IfOk r P → IfOk r Q
 on_ok (Ok a) f p = f a p
@@ -48,9 +69,21 @@ pub translated_unit : (around : Files → Surroundings) (files more : Files) (de
 translated_unit around files more defines row s t u None g e over grows opens = translated (over more grows) (opens more (extends_itself more))
 translated_unit around files more defines row s t u (Some f) g e over grows opens = absurd (cc)
 
-pub whole_unit : (names : List (List ℕ)) (files : Files) (setting : Setting) (unit : UnitOfList) (ours theirs : List (List ℕ)) (s : State) (r : Reached) → ours ≡ unit.search → theirs ≡ setting.search → s ≡ beginning setting → Translates (record { names = names; files = files; unit_folders = ours; setting_folders = theirs }) unit.defines unit.file s r → IsUnit names files setting unit (given r)
-whole_unit names files setting unit ours theirs s r e f b is = record {
-  reached = r;
-  translates = subst (λ z. Translates (record { names = names; files = files; unit_folders = unit.search; setting_folders = setting.search }) unit.defines unit.file z r) b (subst (λ z. Translates (record { names = names; files = files; unit_folders = unit.search; setting_folders = z }) unit.defines unit.file s r) f (subst (λ z. Translates (record { names = names; files = files; unit_folders = z; setting_folders = theirs }) unit.defines unit.file s r) e is));
-  gives = refl;
-}
+pub whole_unit : (names : List (List ℕ)) (profile : Profile) (files : Files) (setting : Setting) (unit : UnitOfList) (ours theirs : List (List ℕ))
+    (s : State) (r : Reached)
+    → profile ≡ setting.profile
+    → ours ≡ unit.search
+    → theirs ≡ setting.search
+    → s ≡ beginning setting
+    → Translates (record { names = names; profile = profile; files = files; unit_folders = ours; setting_folders = theirs }) unit.defines.texts
+    unit.file s r
+    → IsUnit names files setting unit (given r)
+whole_unit names profile files setting unit ours theirs s r p e f b is =
+    let Of : Profile → List (List ℕ) → List (List ℕ) → State → Type 0 = λ q o t z.
+    Translates (record { names = names; profile = q; files = files; unit_folders = o; setting_folders = t }) unit.defines.texts unit.file z r in
+    record {
+      reached = r;
+      translates = subst (Of setting.profile unit.search setting.search) b
+          (subst (λ z. Of setting.profile unit.search z s) f (subst (λ z. Of setting.profile z theirs s) e (subst (λ z. Of z ours theirs s) p is)));
+      gives = refl;
+    }

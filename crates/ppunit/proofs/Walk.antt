@@ -8,8 +8,8 @@ use Rattle.pptext.specs.declared.tokens.Token.{Token}
 use Rattle.pptext.specs.declared.tokens.Fault.{Fault}
 use Rattle.pptext.specs.declared.sources.Line.{Line}
 use Rattle.pptext.specs.declared.sources.Directive.{Directive}
-use Rattle.pptext.specs.declared.sources.Directive.TheVariants.{If, Ifdef, Ifndef, Elif, Else, Endif, Include, Define, Undef, Line as LineOf, Error, Pragma, Null, Unknown}
-use Rattle.pptext.specs.Lines.{Row, directive_of}
+use Rattle.pptext.specs.declared.sources.Directive.TheVariants.{If, Ifdef, Ifndef, Elif, Elifdef, Elifndef, Else, Endif, Include, Define, Undef, Line as LineOf, Error, Pragma, Null, Unknown}
+use Rattle.pptext.specs.Lines.{LogicalLine}
 use Rattle.pptext.specs.Sources.{next_branch, spans, tokens_of}
 use Rattle.pptext.specs.Tree.{Parts, Done, Run, Control, Section, Branches, End, Branch, part_lines, branch_lines, BeginsRun, AreParts, AreBranches, Tree, role, role_by, branch_behind}
 use Rattle.pptext.proofs.Spans.{span, span_at}
@@ -17,61 +17,62 @@ use Rattle.pptext.proofs.Walks.{next_within, next_of_opening, next_of_branch, ne
 use Rattle.ppunit.specs.declared.states.State.{State}
 use Rattle.ppunit.specs.States.{Surroundings, Reached, going, stopped}
 use Rattle.ppunit.specs.Group.{Group, Branched}
-use Rattle.ppunit.specs.Conditions.{Decides}
+use Rattle.ppunit.specs.Conditions.{Decides, DecidesUnless, IsConditional}
+use Rattle.ppunit.specs.Quotes.{lone_quote}
 use Rattle.ppunit.specs.Directives.{RunGives}
-use Rattle.ppunit.specs.Lines.{run_tokens}
+use Rattle.ppunit.specs.Lines.{directed, run_tokens}
 use Rattle.ppunit.specs.Group.{Controls}
 use Rattle.ppshelf.specs.Files.{Files, Extends}
-use Rattle.ppunit.specs.Walk.{no_row, line_at, opens_section, ends_group, Outer, lay, AreOuter, StandsAt, Ends, Advances, BranchesAt, Enters, FindsBranch, IsTextRow, IsRest, Passes, PassesFrom}
+use Rattle.ppunit.specs.Walk.{no_line, line_at, opens_section, has_condition, ends_group, Outer, lay, AreOuter, StandsAt, Ends, Advances, BranchesAt, EntersBy, Enters, FindsBranch, IsTextLine, IsRest, Passes, PassesFrom}
 
 -- ---- lines by index
 
-pub spans_length : (k start : ℕ) (rows : List Row) → length (spans k start rows) ≡ length rows
+pub spans_length : (k start : ℕ) (rows : List LogicalLine) → length (spans k start rows) ≡ length rows
 spans_length k start [] = refl
 spans_length k start (r ∷ rows) = ap suc (spans_length (k + 1) (start + length r.tokens) rows)
 
-pub line_is : (lines : List Row) (index : ℕ) (d : Line) → index < length lines → get_or (spans 0 0 lines) index d ≡ span index (length (tokens_of (take index lines))) (line_at lines index) (drop (suc index) lines)
+pub line_is : (lines : List LogicalLine) (index : ℕ) (d : Line) → index < length lines → get_or (spans 0 0 lines) index d ≡ span index (length (tokens_of (take index lines))) (line_at lines index) (drop (suc index) lines)
 line_is lines index d l =
-    span_at 0 0 lines index d no_row l ∙ ap (λ (z : ℕ). span z (0 + length (tokens_of (take index lines))) (line_at lines index) (drop (suc index) lines)) (omega arith) ∙ ap (λ (z : ℕ). span index z (line_at lines index) (drop (suc index) lines)) (omega arith)
+    span_at 0 0 lines index d no_line l ∙ ap (λ (z : ℕ). span z (0 + length (tokens_of (take index lines))) (line_at lines index) (drop (suc index) lines)) (omega arith) ∙ ap (λ (z : ℕ). span index z (line_at lines index) (drop (suc index) lines)) (omega arith)
 
 -- what stands at an index
-pub record At (lines : List Row) (index : ℕ) (r : Row) (rows : List Row) : Type 0 where
+pub record At (lines : List LogicalLine) (index : ℕ) (r : LogicalLine) (rows : List LogicalLine) : Type 0 where
   pub within : index < length lines
   pub here : line_at lines index ≡ r
   pub behind : drop (suc index) lines ≡ rows
 
-pub at_index : (lines : List Row) (index : ℕ) (r : Row) (rows : List Row) → drop index lines ≡ r ∷ rows → At lines index r rows
+pub at_index : (lines : List LogicalLine) (index : ℕ) (r : LogicalLine) (rows : List LogicalLine) → drop index lines ≡ r ∷ rows → At lines index r rows
 at_index [] zero r rows e = absurd (cc)
 at_index [] (suc index) r rows e = absurd (cc)
 at_index (x ∷ lines) zero r rows e = record { within = omega arith; here = cc; behind = cc }
 at_index (x ∷ lines) (suc index) r rows e = let h = at_index lines index r rows e in record { within = omega (arith, h.within); here = h.here; behind = h.behind }
 
-pub from_index : (lines : List Row) (index : ℕ) → index < length lines → drop index lines ≡ line_at lines index ∷ drop (suc index) lines
+pub from_index : (lines : List LogicalLine) (index : ℕ) → index < length lines → drop index lines ≡ line_at lines index ∷ drop (suc index) lines
 from_index lines index l =
     let more : index + 1 ≡ suc index = omega arith in
-    drop_more lines index no_row l ∙ ap (λ (z : ℕ). line_at lines index ∷ drop z lines) more
+    drop_more lines index no_line l ∙ ap (λ (z : ℕ). line_at lines index ∷ drop z lines) more
 
-pub drop_further : (lines front rest : List Row) (index : ℕ) → drop index lines ≡ front ++ rest → drop (index + length front) lines ≡ rest
+pub drop_further : (lines front rest : List LogicalLine) (index : ℕ) → drop index lines ≡ front ++ rest → drop (index + length front) lines ≡ rest
 drop_further lines front rest index e = sym (drop-drop (length front) index lines) ∙ ap (drop (length front)) e ∙ drop_at front rest (length front) refl
 
 -- ---- tokens of lines
 
-tokens_split : (a b : List Row) → tokens_of (a ++ b) ≡ tokens_of a ++ tokens_of b
+tokens_split : (a b : List LogicalLine) → tokens_of (a ++ b) ≡ tokens_of a ++ tokens_of b
 tokens_split [] b = refl
 tokens_split (r ∷ a) b = ap (λ (z : List Token). r.tokens ++ z) (tokens_split a b) ∙ sym (append_assoc r.tokens (tokens_of a) (tokens_of b))
 
-take_parted : (lines : List Row) (i j : ℕ) → i ≤ j → take j lines ≡ take i lines ++ take (j - i) (drop i lines)
+take_parted : (lines : List LogicalLine) (i j : ℕ) → i ≤ j → take j lines ≡ take i lines ++ take (j - i) (drop i lines)
 take_parted lines i j l =
     let sum : j ≡ i + (j - i) = omega arith in
-    sym (take-append-drop i (take j lines)) ∙ ap (λ (z : List Row). z ++ drop i (take j lines)) (take-take i j lines l) ∙ ap (λ (z : ℕ). take i lines ++ drop i (take z lines)) sum ∙ ap (λ (z : List Row). take i lines ++ z) (drop-take i (j - i) lines)
+    sym (take-append-drop i (take j lines)) ∙ ap (λ (z : List LogicalLine). z ++ drop i (take j lines)) (take-take i j lines l) ∙ ap (λ (z : ℕ). take i lines ++ drop i (take z lines)) sum ∙ ap (λ (z : List LogicalLine). take i lines ++ z) (drop-take i (j - i) lines)
 
 -- the tokens of the lines from i up to j, among those of the file
-pub record Between (lines : List Row) (i j p q : ℕ) : Type 0 where
+pub record Between (lines : List LogicalLine) (i j p q : ℕ) : Type 0 where
   pub begins : p ≤ q
   pub ends : q ≤ length (tokens_of lines)
   pub tokens : take (q - p) (drop p (tokens_of lines)) ≡ tokens_of (take (j - i) (drop i lines))
 
-pub tokens_between : (lines : List Row) (i j : ℕ) → i ≤ j → Between lines i j (length (tokens_of (take i lines))) (length (tokens_of (take j lines)))
+pub tokens_between : (lines : List LogicalLine) (i j : ℕ) → i ≤ j → Between lines i j (length (tokens_of (take i lines))) (length (tokens_of (take j lines)))
 tokens_between lines i j l =
     let a = tokens_of (take i lines) in
     let b = tokens_of (take (j - i) (drop i lines)) in
@@ -88,19 +89,19 @@ tokens_between lines i j l =
       tokens = ap (λ (z : List Token). take (q - length a) (drop (length a) z)) whole ∙ ap (take (q - length a)) (drop_at a (b ++ c) (length a) refl) ∙ take_at b c (q - length a) count;
     }
 
-pub line_end : (lines : List Row) (index : ℕ) → index < length lines → length (tokens_of (take (index + 1) lines)) ≡ length (tokens_of (take index lines)) + length (line_at lines index).tokens
+pub line_end : (lines : List LogicalLine) (index : ℕ) → index < length lines → length (tokens_of (take (index + 1) lines)) ≡ length (tokens_of (take index lines)) + length (line_at lines index).tokens
 line_end lines index l =
     let r = line_at lines index in
-    ap (λ (z : List Row). length (tokens_of z)) (take_more lines index no_row l) ∙ ap length (tokens_split (take index lines) (r ∷ [])) ∙ length-append (tokens_of (take index lines)) (r.tokens ++ []) ∙ ap (λ (z : List Token). length (tokens_of (take index lines)) + length z) (append-nil r.tokens)
+    ap (λ (z : List LogicalLine). length (tokens_of z)) (take_more lines index no_line l) ∙ ap length (tokens_split (take index lines) (r ∷ [])) ∙ length-append (tokens_of (take index lines)) (r.tokens ++ []) ∙ ap (λ (z : List Token). length (tokens_of (take index lines)) + length z) (append-nil r.tokens)
 
-pub between_line : (lines : List Row) (i start end : ℕ) → i < length lines → start ≡ length (tokens_of (take i lines)) → end ≡ start + length (line_at lines i).tokens → Between lines i (i + 1) start end
+pub between_line : (lines : List LogicalLine) (i start end : ℕ) → i < length lines → start ≡ length (tokens_of (take i lines)) → end ≡ start + length (line_at lines i).tokens → Between lines i (i + 1) start end
 between_line lines i start end l from to =
     let b = tokens_between lines i (i + 1) (omega arith) in
     let over : length (tokens_of (take (i + 1) lines)) ≡ end = omega (arith, line_end lines i l) in
     let begin : length (tokens_of (take i lines)) ≡ start = sym from in
     subst (λ (z : ℕ). Between lines i (i + 1) z end) begin (subst (λ (z : ℕ). Between lines i (i + 1) (length (tokens_of (take i lines))) z) over b)
 
-pub between_lines : (lines : List Row) (i j start last end : ℕ) → i < j → j ≤ length lines → start ≡ length (tokens_of (take i lines)) → last ≡ length (tokens_of (take (j - 1) lines)) → end ≡ last + length (line_at lines (j - 1)).tokens → Between lines i j start end
+pub between_lines : (lines : List LogicalLine) (i j start last end : ℕ) → i < j → j ≤ length lines → start ≡ length (tokens_of (take i lines)) → last ≡ length (tokens_of (take (j - 1) lines)) → end ≡ last + length (line_at lines (j - 1)).tokens → Between lines i j start end
 between_lines lines i j start last end some within from before to =
     let b = tokens_between lines i j (omega arith) in
     let one : j - 1 + 1 ≡ j = omega arith in
@@ -108,27 +109,27 @@ between_lines lines i j start last end some within from before to =
     let begin : length (tokens_of (take i lines)) ≡ start = sym from in
     subst (λ (z : ℕ). Between lines i j z end) begin (subst (λ (z : ℕ). Between lines i j (length (tokens_of (take i lines))) z) over b)
 
-pub one_line : (lines : List Row) (index : ℕ) → index < length lines → tokens_of (take (index + 1 - index) (drop index lines)) ≡ (line_at lines index).tokens
+pub one_line : (lines : List LogicalLine) (index : ℕ) → index < length lines → tokens_of (take (index + 1 - index) (drop index lines)) ≡ (line_at lines index).tokens
 one_line lines index l =
     let one : index + 1 - index ≡ 1 = omega arith in
-    ap (λ (z : ℕ). tokens_of (take z (drop index lines))) one ∙ ap (λ (z : List Row). tokens_of (take 1 z)) (from_index lines index l) ∙ append-nil (line_at lines index).tokens
+    ap (λ (z : ℕ). tokens_of (take z (drop index lines))) one ∙ ap (λ (z : List LogicalLine). tokens_of (take 1 z)) (from_index lines index l) ∙ append-nil (line_at lines index).tokens
 
 -- ---- what is laid
 
-pub lay_run : (rs : List Row) (ps : Parts) (k : Outer) → lay (Run rs ps) k ≡ rs ++ lay ps k
+pub lay_run : (rs : List LogicalLine) (ps : Parts) (k : Outer) → lay (Run rs ps) k ≡ rs ++ lay ps k
 lay_run rs ps [] = refl
 lay_run rs ps ((bs, qs) ∷ k) = append_assoc rs (part_lines ps) (branch_lines bs ++ lay qs k)
 
-pub lay_control : (r : Row) (ps : Parts) (k : Outer) → lay (Control r ps) k ≡ r ∷ lay ps k
+pub lay_control : (r : LogicalLine) (ps : Parts) (k : Outer) → lay (Control r ps) k ≡ r ∷ lay ps k
 lay_control r ps [] = refl
 lay_control r ps ((bs, qs) ∷ k) = refl
 
-pub lay_section : (r : Row) (ps qs : Parts) (bs : Branches) (k : Outer) → lay (Section r ps bs qs) k ≡ r ∷ lay ps ((bs, qs) ∷ k)
-lay_section r ps qs bs [] = ap (λ (z : List Row). r ∷ z) (append_assoc (part_lines ps) (branch_lines bs) (part_lines qs))
-lay_section r ps qs bs ((cs, rs) ∷ k) = ap (λ (z : List Row). r ∷ z) (append_assoc (part_lines ps ++ branch_lines bs) (part_lines qs) (branch_lines cs ++ lay rs k) ∙ append_assoc (part_lines ps) (branch_lines bs) (part_lines qs ++ (branch_lines cs ++ lay rs k)))
+pub lay_section : (r : LogicalLine) (ps qs : Parts) (bs : Branches) (k : Outer) → lay (Section r ps bs qs) k ≡ r ∷ lay ps ((bs, qs) ∷ k)
+lay_section r ps qs bs [] = ap (λ (z : List LogicalLine). r ∷ z) (append_assoc (part_lines ps) (branch_lines bs) (part_lines qs))
+lay_section r ps qs bs ((cs, rs) ∷ k) = ap (λ (z : List LogicalLine). r ∷ z) (append_assoc (part_lines ps ++ branch_lines bs) (part_lines qs) (branch_lines cs ++ lay rs k) ∙ append_assoc (part_lines ps) (branch_lines bs) (part_lines qs ++ (branch_lines cs ++ lay rs k)))
 
-pub lay_branch : (r : Row) (ps qs : Parts) (bs : Branches) (k : Outer) → branch_lines (Branch r ps bs) ++ lay qs k ≡ r ∷ lay ps ((bs, qs) ∷ k)
-lay_branch r ps qs bs k = ap (λ (z : List Row). r ∷ z) (append_assoc (part_lines ps) (branch_lines bs) (lay qs k))
+pub lay_branch : (r : LogicalLine) (ps qs : Parts) (bs : Branches) (k : Outer) → branch_lines (Branch r ps bs) ++ lay qs k ≡ r ∷ lay ps ((bs, qs) ∷ k)
+lay_branch r ps qs bs k = ap (λ (z : List LogicalLine). r ∷ z) (append_assoc (part_lines ps) (branch_lines bs) (lay qs k))
 
 -- ---- directives and the grammar
 
@@ -138,6 +139,8 @@ text_directive (Some If) e = cc
 text_directive (Some Ifdef) e = cc
 text_directive (Some Ifndef) e = cc
 text_directive (Some Elif) e = cc
+text_directive (Some Elifdef) e = cc
+text_directive (Some Elifndef) e = cc
 text_directive (Some Else) e = cc
 text_directive (Some Endif) e = cc
 text_directive (Some d) e = cc
@@ -150,9 +153,18 @@ else_directive : (d : Option Directive) → role_by d ≡ role_by (Some Else) �
 else_directive (Some Else) e = refl
 else_directive d e = cc
 
-elif_directive : (d : Option Directive) → role_by d ≡ role_by (Some Elif) → d ≡ Some Elif
-elif_directive (Some Elif) e = refl
-elif_directive d e = cc
+-- a branch with a condition
+not_else : (d : Option Directive) → role_by d ≡ role_by (Some Elif) → d ≢ Some Else
+not_else d e h = let differs : role_by (Some Elif) ≡ role_by (Some Else) = sym e ∙ ap role_by h in cc
+
+condition_decides : (d : Option Directive) (s : State) (r : LogicalLine) (taken : Result Bool Fault)
+    → role_by d ≡ role_by (Some Elif)
+    → EntersBy d s r taken
+    → Decides s r taken
+condition_decides (Some Elif) s r taken e entered = entered
+condition_decides (Some Elifdef) s r taken e entered = entered
+condition_decides (Some Elifndef) s r taken e entered = entered
+condition_decides d s r taken e entered = absurd (cc)
 
 control_role : (d : Directive) → opens_section d ≡ false → ends_group d ≡ false → role_by (Some d) ≡ role_by (Some Null)
 control_role Define o e = refl
@@ -171,18 +183,20 @@ opening_role Ifdef e = refl
 opening_role Ifndef e = refl
 opening_role d e = absurd (cc)
 
-record Differs (r : Row) : Type 0 where
+record Differs (r : LogicalLine) : Type 0 where
   not_text : role r ≢ role_by None
   not_control : role r ≢ role_by (Some Null)
   not_opening : role r ≢ role_by (Some If)
 
-ending_role : (d : Directive) (r : Row) → ends_group d ≡ true → role r ≡ role_by (Some d) → Differs r
+ending_role : (d : Directive) (r : LogicalLine) → ends_group d ≡ true → role r ≡ role_by (Some d) → Differs r
 ending_role Elif r e is = record { not_text = λ h. cc; not_control = λ h. cc; not_opening = λ h. cc }
+ending_role Elifdef r e is = record { not_text = λ h. cc; not_control = λ h. cc; not_opening = λ h. cc }
+ending_role Elifndef r e is = record { not_text = λ h. cc; not_control = λ h. cc; not_opening = λ h. cc }
 ending_role Else r e is = record { not_text = λ h. cc; not_control = λ h. cc; not_opening = λ h. cc }
 ending_role Endif r e is = record { not_text = λ h. cc; not_control = λ h. cc; not_opening = λ h. cc }
 ending_role d r e is = absurd (cc)
 
-branches_differ : (bs : Branches) (last : Bool) (r : Row) (rest rows : List Row) → AreBranches last bs → branch_lines bs ++ rest ≡ r ∷ rows → Differs r
+branches_differ : (bs : Branches) (last : Bool) (r : LogicalLine) (rest rows : List LogicalLine) → AreBranches last bs → branch_lines bs ++ rest ≡ r ∷ rows → Differs r
 branches_differ (End x) last r rest rows is e =
     let same : x ≡ r = cc in
     let here = ap role (sym same) ∙ is in
@@ -193,13 +207,13 @@ branches_differ (Branch x ps bs) last r rest rows (before, final, is, parts, mor
     record { not_text = λ h. cc; not_control = λ h. cc; not_opening = λ h. cc }
 
 -- what the first line is to the parts that it belongs to
-data First (r : Row) : Parts → Outer → Type 0 where
-  text : {rs : List Row} {ps : Parts} {k : Outer} → role r ≡ role_by None → First r (Run rs ps) k
-  control : {x : Row} {ps : Parts} {k : Outer} → x ≡ r → role r ≡ role_by (Some Null) → First r (Control x ps) k
-  opening : {x : Row} {ps qs : Parts} {bs : Branches} {k : Outer} → x ≡ r → role r ≡ role_by (Some If) → First r (Section x ps bs qs) k
+data First (r : LogicalLine) : Parts → Outer → Type 0 where
+  text : {rs : List LogicalLine} {ps : Parts} {k : Outer} → role r ≡ role_by None → First r (Run rs ps) k
+  control : {x : LogicalLine} {ps : Parts} {k : Outer} → x ≡ r → role r ≡ role_by (Some Null) → First r (Control x ps) k
+  opening : {x : LogicalLine} {ps qs : Parts} {bs : Branches} {k : Outer} → x ≡ r → role r ≡ role_by (Some If) → First r (Section x ps bs qs) k
   ending : {bs : Branches} {qs : Parts} {k : Outer} → Differs r → First r Done ((bs, qs) ∷ k)
 
-first_of : (ps : Parts) (k : Outer) (r : Row) (rows : List Row) → lay ps k ≡ r ∷ rows → AreParts ps → AreOuter k → First r ps k
+first_of : (ps : Parts) (k : Outer) (r : LogicalLine) (rows : List LogicalLine) → lay ps k ≡ r ∷ rows → AreParts ps → AreOuter k → First r ps k
 first_of Done [] r rows e are outer = absurd (cc)
 first_of Done ((bs, qs) ∷ k) r rows e are outer = ending (branches_differ bs outer.0.0 r (lay qs k) rows outer.0.1 e)
 first_of (Run [] ps) k r rows e are outer = absurd (are.0 refl)
@@ -218,11 +232,11 @@ first_of (Section x ps bs qs) k r rows e are outer =
 
 -- ---- a text run
 
-text_rows : (rs : List Row) → AllByRecursion (λ r. role r ≡ role_by None) rs → AllByRecursion IsTextRow rs
+text_rows : (rs : List LogicalLine) → AllByRecursion (λ r. role r ≡ role_by None) rs → AllByRecursion IsTextLine rs
 text_rows [] all = tt
-text_rows (r ∷ rs) all = (text_directive (directive_of r.tokens) all.0, text_rows rs all.1)
+text_rows (r ∷ rs) all = (text_directive r.directive all.0, text_rows rs all.1)
 
-no_text : (r : Row) → role r ≢ role_by None → ¬ IsTextRow r
+no_text : (r : LogicalLine) → role r ≢ role_by None → ¬ IsTextLine r
 no_text r differs is = differs (ap role_by is)
 
 behind_run : (ps : Parts) (k : Outer) → AreParts ps → AreOuter k → (¬ BeginsRun ps) → IsRest (lay ps k)
@@ -238,37 +252,37 @@ behind_run (Section r ps cs rs) [] are outer alone = let is = are.0 in no_text r
 behind_run (Section r ps cs rs) ((bs, qs) ∷ k) are outer alone = let is = are.0 in no_text r (λ h. cc)
 
 -- as far as the text lines go that have been passed
-pub record RunSoFar (lines : List Row) (start end : ℕ) : Type 0 where
+pub record RunSoFar (lines : List LogicalLine) (start end : ℕ) : Type 0 where
   pub within : end ≤ length lines
   pub from : start ≤ end
-  pub so_far : (rows rest : List Row) → drop start lines ≡ rows ++ rest → AllByRecursion IsTextRow rows → IsRest rest → (more : List Row) × (drop end lines ≡ more ++ rest) × AllByRecursion IsTextRow more × (start + length rows ≡ end + length more)
+  pub so_far : (rows rest : List LogicalLine) → drop start lines ≡ rows ++ rest → AllByRecursion IsTextLine rows → IsRest rest → (more : List LogicalLine) × (drop end lines ≡ more ++ rest) × AllByRecursion IsTextLine more × (start + length rows ≡ end + length more)
 
-pub run_start : (lines : List Row) (start : ℕ) → start ≤ length lines → RunSoFar lines start start
+pub run_start : (lines : List LogicalLine) (start : ℕ) → start ≤ length lines → RunSoFar lines start start
 run_start lines start within = record { within = within; from = omega arith; so_far = λ rows rest e all is. (rows, e, all, refl) }
 
-run_one : (lines : List Row) (end goal : ℕ) (more rest : List Row) → end < length lines → IsTextRow (line_at lines end) → drop end lines ≡ more ++ rest → AllByRecursion IsTextRow more → IsRest rest → goal ≡ end + length more → (less : List Row) × (drop (end + 1) lines ≡ less ++ rest) × AllByRecursion IsTextRow less × (goal ≡ end + 1 + length less)
+run_one : (lines : List LogicalLine) (end goal : ℕ) (more rest : List LogicalLine) → end < length lines → IsTextLine (line_at lines end) → drop end lines ≡ more ++ rest → AllByRecursion IsTextLine more → IsRest rest → goal ≡ end + length more → (less : List LogicalLine) × (drop (end + 1) lines ≡ less ++ rest) × AllByRecursion IsTextLine less × (goal ≡ end + 1 + length less)
 run_one lines end goal [] [] within is e all ends sum = let there = sym (from_index lines end within) ∙ e in absurd (cc)
 run_one lines end goal [] (r ∷ rest) within is e all ends sum =
     let h = at_index lines end r rest e in
-    absurd (ends (subst IsTextRow h.here is))
+    absurd (ends (subst IsTextLine h.here is))
 run_one lines end goal (r ∷ more) rest within is e all ends sum =
     let h = at_index lines end r (more ++ rest) e in
     (more, rw add-one h.behind, all.1, omega arith)
 
-pub run_more : (lines : List Row) (start end : ℕ) → end < length lines → IsTextRow (line_at lines end) → RunSoFar lines start end → RunSoFar lines start (end + 1)
+pub run_more : (lines : List LogicalLine) (start end : ℕ) → end < length lines → IsTextLine (line_at lines end) → RunSoFar lines start end → RunSoFar lines start (end + 1)
 run_more lines start end within is sofar = record {
   within = omega arith;
   from = omega (arith, sofar.from);
   so_far = λ rows rest e all ends. let f = sofar.so_far rows rest e all ends in run_one lines end (start + length rows) f.0 rest within is f.1 f.2 ends f.3;
 }
 
-run_over : (lines : List Row) (end goal : ℕ) (more rest : List Row) → (end < length lines → ¬ IsTextRow (line_at lines end)) → drop end lines ≡ more ++ rest → AllByRecursion IsTextRow more → goal ≡ end + length more → (end ≡ goal) × (drop end lines ≡ rest)
+run_over : (lines : List LogicalLine) (end goal : ℕ) (more rest : List LogicalLine) → (end < length lines → ¬ IsTextLine (line_at lines end)) → drop end lines ≡ more ++ rest → AllByRecursion IsTextLine more → goal ≡ end + length more → (end ≡ goal) × (drop end lines ≡ rest)
 run_over lines end goal [] rest over e all sum = (omega arith, e)
 run_over lines end goal (r ∷ more) rest over e all sum =
     let h = at_index lines end r (more ++ rest) e in
-    absurd (over h.within (subst IsTextRow (sym h.here) all.0))
+    absurd (over h.within (subst IsTextLine (sym h.here) all.0))
 
-pub run_done : (lines : List Row) (start end : ℕ) → RunSoFar lines start end → (end < length lines → ¬ IsTextRow (line_at lines end)) → (rows rest : List Row) → drop start lines ≡ rows ++ rest → AllByRecursion IsTextRow rows → IsRest rest → (end ≡ start + length rows) × (drop end lines ≡ rest)
+pub run_done : (lines : List LogicalLine) (start end : ℕ) → RunSoFar lines start end → (end < length lines → ¬ IsTextLine (line_at lines end)) → (rows rest : List LogicalLine) → drop start lines ≡ rows ++ rest → AllByRecursion IsTextLine rows → IsRest rest → (end ≡ start + length rows) × (drop end lines ≡ rest)
 run_done lines start end sofar over rows rest e all ends =
     let f = sofar.so_far rows rest e all ends in
     run_over lines end (start + length rows) f.0 rest over f.1 f.2 f.3
@@ -285,43 +299,43 @@ ends_stop around depth row m s f ps ((bs, qs) ∷ k) g = (stopped s f, g, ends_s
 
 -- ---- the end of a section
 
-branches_next : (lines : List Row) (index : ℕ) (r : Row) (ps qs : Parts) (bs : Branches) (last : Bool) (rest : List Row) → drop index lines ≡ r ∷ (part_lines ps ++ (branch_lines bs ++ rest)) → ((n : ℕ) (rows : List Row) → next_branch n (role r) rows ≡ branch_behind 0 (n + 1) (map role rows)) → AreParts ps → AreBranches last bs → next_branch index (role (line_at lines index)) (drop (suc index) lines) ≡ Some (index + 1 + length (part_lines ps))
+branches_next : (lines : List LogicalLine) (index : ℕ) (r : LogicalLine) (ps qs : Parts) (bs : Branches) (last : Bool) (rest : List LogicalLine) → drop index lines ≡ r ∷ (part_lines ps ++ (branch_lines bs ++ rest)) → ((n : ℕ) (rows : List LogicalLine) → next_branch n (role r) rows ≡ branch_behind 0 (n + 1) (map role rows)) → AreParts ps → AreBranches last bs → next_branch index (role (line_at lines index)) (drop (suc index) lines) ≡ Some (index + 1 + length (part_lines ps))
 branches_next lines index r ps qs bs last rest e next parts are =
     let h = at_index lines index r (part_lines ps ++ (branch_lines bs ++ rest)) e in
-    ap (λ (z : Row). next_branch index (role z) (drop (suc index) lines)) h.here ∙ next index (drop (suc index) lines) ∙ ap (λ (z : List Row). branch_behind 0 (index + 1) (map role z)) h.behind ∙ next_behind ps bs last (index + 1) rest parts are
+    ap (λ (z : LogicalLine). next_branch index (role z) (drop (suc index) lines)) h.here ∙ next index (drop (suc index) lines) ∙ ap (λ (z : List LogicalLine). branch_behind 0 (index + 1) (map role z)) h.behind ∙ next_behind ps bs last (index + 1) rest parts are
 
-branches_there : (lines : List Row) (index : ℕ) (r : Row) (ps : Parts) (rest : List Row) → drop index lines ≡ r ∷ (part_lines ps ++ rest) → drop (index + 1 + length (part_lines ps)) lines ≡ rest
+branches_there : (lines : List LogicalLine) (index : ℕ) (r : LogicalLine) (ps : Parts) (rest : List LogicalLine) → drop index lines ≡ r ∷ (part_lines ps ++ rest) → drop (index + 1 + length (part_lines ps)) lines ≡ rest
 branches_there lines index r ps rest e =
     ap (λ (z : ℕ). drop z lines) (omega arith) ∙ drop_further lines (r ∷ part_lines ps) rest index e
 
-pub record SectionSoFar (lines : List Row) (branch index : ℕ) : Type 0 where
+pub record SectionSoFar (lines : List LogicalLine) (branch index : ℕ) : Type 0 where
   pub within : index < length lines
   pub from : branch ≤ index
-  pub so_far : (last : Bool) (bs : Branches) (rest : List Row) → drop branch lines ≡ branch_lines bs ++ rest → AreBranches last bs → (final : Bool) × (cs : Branches) × (drop index lines ≡ branch_lines cs ++ rest) × AreBranches final cs
+  pub so_far : (last : Bool) (bs : Branches) (rest : List LogicalLine) → drop branch lines ≡ branch_lines bs ++ rest → AreBranches last bs → (final : Bool) × (cs : Branches) × (drop index lines ≡ branch_lines cs ++ rest) × AreBranches final cs
 
-pub section_start : (lines : List Row) (branch : ℕ) → branch < length lines → SectionSoFar lines branch branch
+pub section_start : (lines : List LogicalLine) (branch : ℕ) → branch < length lines → SectionSoFar lines branch branch
 section_start lines branch within = record { within = within; from = omega arith; so_far = λ last bs rest e are. (last, bs, e, are) }
 
-section_one : (lines : List Row) (index next : ℕ) (last : Bool) (bs : Branches) (rest : List Row) → drop index lines ≡ branch_lines bs ++ rest → AreBranches last bs → next_branch index (role (line_at lines index)) (drop (suc index) lines) ≡ Some next → (final : Bool) × (cs : Branches) × (drop next lines ≡ branch_lines cs ++ rest) × AreBranches final cs
+section_one : (lines : List LogicalLine) (index next : ℕ) (last : Bool) (bs : Branches) (rest : List LogicalLine) → drop index lines ≡ branch_lines bs ++ rest → AreBranches last bs → next_branch index (role (line_at lines index)) (drop (suc index) lines) ≡ Some next → (final : Bool) × (cs : Branches) × (drop next lines ≡ branch_lines cs ++ rest) × AreBranches final cs
 section_one lines index next last (End r) rest e is found =
     let h = at_index lines index r rest e in
     let none = next_of_end (line_at lines index) (ap role h.here ∙ is) index (drop (suc index) lines) in
     absurd (cc)
 section_one lines index next last (Branch r ps bs) rest e (before, final, is, parts, more) found =
-    let there = e ∙ ap (λ (z : List Row). r ∷ z) (append_assoc (part_lines ps) (branch_lines bs) rest) in
+    let there = e ∙ ap (λ (z : List LogicalLine). r ∷ z) (append_assoc (part_lines ps) (branch_lines bs) rest) in
     let known = branches_next lines index r ps ps bs final rest there (next_of_branch r final is) parts more in
     let same : index + 1 + length (part_lines ps) ≡ next = cc in
     (final, bs, ap (λ (z : ℕ). drop z lines) (sym same) ∙ branches_there lines index r ps (branch_lines bs ++ rest) there, more)
 
-next_length : (lines : List Row) (index : ℕ) → index < length lines → index + 1 + length (drop (suc index) lines) ≡ length lines
+next_length : (lines : List LogicalLine) (index : ℕ) → index < length lines → index + 1 + length (drop (suc index) lines) ≡ length lines
 next_length lines index within = omega (arith, length-drop (suc index) lines)
 
-pub next_inside : (lines : List Row) (index next : ℕ) → index < length lines → next_branch index (role (line_at lines index)) (drop (suc index) lines) ≡ Some next → (index < next) × (next < length lines)
+pub next_inside : (lines : List LogicalLine) (index next : ℕ) → index < length lines → next_branch index (role (line_at lines index)) (drop (suc index) lines) ≡ Some next → (index < next) × (next < length lines)
 next_inside lines index next within found =
     let h = next_within (line_at lines index) index (drop (suc index) lines) next found in
     (h.0, omega (arith, h.1, next_length lines index within))
 
-pub section_more : (lines : List Row) (branch index next : ℕ) → next_branch index (role (line_at lines index)) (drop (suc index) lines) ≡ Some next → SectionSoFar lines branch index → SectionSoFar lines branch next
+pub section_more : (lines : List LogicalLine) (branch index next : ℕ) → next_branch index (role (line_at lines index)) (drop (suc index) lines) ≡ Some next → SectionSoFar lines branch index → SectionSoFar lines branch next
 section_more lines branch index next found sofar =
     let inside = next_inside lines index next sofar.within found in
     record {
@@ -330,93 +344,124 @@ section_more lines branch index next found sofar =
       so_far = λ last bs rest e are. let f = sofar.so_far last bs rest e are in section_one lines index next f.0 f.1 rest f.2 f.3 found;
     }
 
-section_over : (lines : List Row) (index : ℕ) (last : Bool) (bs : Branches) (rest : List Row) → drop index lines ≡ branch_lines bs ++ rest → AreBranches last bs → next_branch index (role (line_at lines index)) (drop (suc index) lines) ≡ None → drop (index + 1) lines ≡ rest
+section_over : (lines : List LogicalLine) (index : ℕ) (last : Bool) (bs : Branches) (rest : List LogicalLine) → drop index lines ≡ branch_lines bs ++ rest → AreBranches last bs → next_branch index (role (line_at lines index)) (drop (suc index) lines) ≡ None → drop (index + 1) lines ≡ rest
 section_over lines index last (End r) rest e is found = rw add-one (at_index lines index r rest e).behind
 section_over lines index last (Branch r ps bs) rest e (before, final, is, parts, more) found =
-    let there = e ∙ ap (λ (z : List Row). r ∷ z) (append_assoc (part_lines ps) (branch_lines bs) rest) in
+    let there = e ∙ ap (λ (z : List LogicalLine). r ∷ z) (append_assoc (part_lines ps) (branch_lines bs) rest) in
     let known = branches_next lines index r ps ps bs final rest there (next_of_branch r final is) parts more in
     absurd (cc)
 
-pub section_done : (lines : List Row) (branch index : ℕ) → SectionSoFar lines branch index → next_branch index (role (line_at lines index)) (drop (suc index) lines) ≡ None → (last : Bool) (bs : Branches) (rest : List Row) → drop branch lines ≡ branch_lines bs ++ rest → AreBranches last bs → drop (index + 1) lines ≡ rest
+pub section_done : (lines : List LogicalLine) (branch index : ℕ) → SectionSoFar lines branch index → next_branch index (role (line_at lines index)) (drop (suc index) lines) ≡ None → (last : Bool) (bs : Branches) (rest : List LogicalLine) → drop branch lines ≡ branch_lines bs ++ rest → AreBranches last bs → drop (index + 1) lines ≡ rest
 section_done lines branch index sofar found last bs rest e are =
     let f = sofar.so_far last bs rest e are in
     section_over lines index f.0 f.1 rest f.2 f.3 found
 
 -- ---- the branch that is taken
 
-at_branches : (lines : List Row) (index : ℕ) (ps : Parts) (bs : Branches) (qs : Parts) (k : Outer) → BranchesAt lines index ps bs qs k → (next_branch index (role (line_at lines index)) (drop (suc index) lines) ≡ Some (index + 1 + length (part_lines ps))) × (drop (index + 1 + length (part_lines ps)) lines ≡ branch_lines bs ++ lay qs k)
+at_branches : (lines : List LogicalLine) (index : ℕ) (ps : Parts) (bs : Branches) (qs : Parts) (k : Outer) → BranchesAt lines index ps bs qs k → (next_branch index (role (line_at lines index)) (drop (suc index) lines) ≡ Some (index + 1 + length (part_lines ps))) × (drop (index + 1 + length (part_lines ps)) lines ≡ branch_lines bs ++ lay qs k)
 at_branches lines index ps bs qs k b =
     (branches_next lines index b.line ps qs bs b.outer.0.0 (lay qs k) b.rest b.next b.parts b.outer.0.1, branches_there lines index b.line ps (branch_lines bs ++ lay qs k) b.rest)
 
-pub found_at : (lines : List Row) (index next : ℕ) (ps : Parts) (bs : Branches) (qs : Parts) (k : Outer) → BranchesAt lines index ps bs qs k → next_branch index (role (line_at lines index)) (drop (suc index) lines) ≡ Some next → drop next lines ≡ branch_lines bs ++ lay qs k
+pub found_at : (lines : List LogicalLine) (index next : ℕ) (ps : Parts) (bs : Branches) (qs : Parts) (k : Outer) → BranchesAt lines index ps bs qs k → next_branch index (role (line_at lines index)) (drop (suc index) lines) ≡ Some next → drop next lines ≡ branch_lines bs ++ lay qs k
 found_at lines index next ps bs qs k b found =
     let known = at_branches lines index ps bs qs k b in
     let is = known.0 in
     let same : index + 1 + length (part_lines ps) ≡ next = cc in
     ap (λ (z : ℕ). drop z lines) (sym same) ∙ known.1
 
-abbrev pub EntersAt : List Row → ℕ → State → Result Bool Fault → Type 0
-EntersAt lines index s taken = Enters (directive_of (line_at lines index).tokens) s (line_at lines index).tokens taken
+abbrev pub EntersAt : List LogicalLine → ℕ → State → Result Bool Fault → Type 0
+EntersAt lines index s taken = Enters s (line_at lines index) taken
 
-enters_by : (lines : List Row) (index : ℕ) (s : State) (taken : Result Bool Fault) (r : Row) (d : Option Directive) → line_at lines index ≡ r → directive_of r.tokens ≡ d → EntersAt lines index s taken → Enters d s r.tokens taken
+enters_by : (lines : List LogicalLine) (index : ℕ) (s : State) (taken : Result Bool Fault) (r : LogicalLine) (d : Option Directive)
+    → line_at lines index ≡ r
+    → r.directive ≡ d
+    → EntersAt lines index s taken
+    → EntersBy d s r taken
 enters_by lines index s taken r d here is e =
-    subst (λ (z : Option Directive). Enters z s r.tokens taken) is (subst (λ (z : Row). Enters (directive_of z.tokens) s z.tokens taken) here e)
+    subst (λ (z : Option Directive). EntersBy z s r taken) is (subst (λ (z : LogicalLine). Enters s z taken) here e)
 
-stands_behind : (lines : List Row) (index : ℕ) (r : Row) (ps : Parts) (k : Outer) → drop index lines ≡ r ∷ lay ps k → AreParts ps → AreOuter k → StandsAt lines (index + 1) ps k
+-- a branch that is no `#else` decides
+branch_decides : (lines : List LogicalLine) (index : ℕ) (s : State) (taken : Result Bool Fault) (r : LogicalLine) (rows : List LogicalLine)
+    → drop index lines ≡ r ∷ rows
+    → role r ≡ role_by (Some Elif)
+    → EntersAt lines index s taken
+    → Decides s r taken
+branch_decides lines index s taken r rows there is e =
+    condition_decides r.directive s r taken is (enters_by lines index s taken r r.directive (at_index lines index r rows there).here refl e)
+
+stands_behind : (lines : List LogicalLine) (index : ℕ) (r : LogicalLine) (ps : Parts) (k : Outer) → drop index lines ≡ r ∷ lay ps k → AreParts ps → AreOuter k → StandsAt lines (index + 1) ps k
 stands_behind lines index r ps k e are outer = record { rest = rw add-one (at_index lines index r (lay ps k) e).behind; parts = are; outer = outer }
 
-pub enter_branch : (lines : List Row) (next : ℕ) (s : State) (bs : Branches) (qs : Parts) (k : Outer) → drop next lines ≡ branch_lines bs ++ lay qs k → AreOuter ((bs, qs) ∷ k) → EntersAt lines next s (Ok true) → FindsBranch lines s bs qs k (Ok (next + 1))
+pub enter_branch : (lines : List LogicalLine) (next : ℕ) (s : State) (bs : Branches) (qs : Parts) (k : Outer) → drop next lines ≡ branch_lines bs ++ lay qs k → AreOuter ((bs, qs) ∷ k) → EntersAt lines next s (Ok true) → FindsBranch lines s bs qs k (Ok (next + 1))
 enter_branch lines next s (End r) qs k e outer entered =
     (qs, k, stands_behind lines next r qs k e outer.1 outer.2, λ around depth row end rest. (going s, Branched.ended, rest))
 enter_branch lines next s (Branch r ps bs) qs k e ((last, (before, true, is, parts, more)), behind, around) entered =
-    let there = e ∙ lay_branch r ps qs bs k in
-    (ps, (bs, qs) ∷ k, stands_behind lines next r ps ((bs, qs) ∷ k) there parts ((true, more), behind, around), λ around depth row end rest. (rest.0, Branched.otherwise (else_directive (directive_of r.tokens) is) rest.1, rest.2))
+    let there = e ∙ lay_branch r ps qs bs k in (
+      ps,
+      (bs, qs) ∷ k,
+      stands_behind lines next r ps ((bs, qs) ∷ k) there parts ((true, more), behind, around),
+      λ around depth row end rest. (rest.0, Branched.otherwise (else_directive r.directive is) rest.1, rest.2),
+    )
 enter_branch lines next s (Branch r ps bs) qs k e ((last, (before, false, is, parts, more)), behind, around) entered =
     let there = e ∙ lay_branch r ps qs bs k in
-    let elif = elif_directive (directive_of r.tokens) is in
-    let decides = enters_by lines next s (Ok true) r (Some Elif) (at_index lines next r (lay ps ((bs, qs) ∷ k)) there).here elif entered in
-    (ps, (bs, qs) ∷ k, stands_behind lines next r ps ((bs, qs) ∷ k) there parts ((false, more), behind, around), λ around depth row end rest. (rest.0, Branched.branch_taken elif decides rest.1, rest.2))
+    let other = not_else r.directive is in
+    let decides = branch_decides lines next s (Ok true) r (lay ps ((bs, qs) ∷ k)) there is entered in (
+      ps,
+      (bs, qs) ∷ k,
+      stands_behind lines next r ps ((bs, qs) ∷ k) there parts ((false, more), behind, around),
+      λ around depth row end rest. (rest.0, Branched.branch_taken other decides rest.1, rest.2),
+    )
 
-pub refuse_branch : (lines : List Row) (next : ℕ) (s : State) (f : Fault) (bs : Branches) (qs : Parts) (k : Outer) → drop next lines ≡ branch_lines bs ++ lay qs k → AreOuter ((bs, qs) ∷ k) → EntersAt lines next s (Err f) → FindsBranch lines s bs qs k (Err f)
+pub refuse_branch : (lines : List LogicalLine) (next : ℕ) (s : State) (f : Fault) (bs : Branches) (qs : Parts) (k : Outer) → drop next lines ≡ branch_lines bs ++ lay qs k → AreOuter ((bs, qs) ∷ k) → EntersAt lines next s (Err f) → FindsBranch lines s bs qs k (Err f)
 refuse_branch lines next s f (End r) qs k e ((last, is), behind, around) entered =
-    let not : Err f ≡ Ok true = enters_by lines next s (Err f) r (Some Endif) (at_index lines next r (lay qs k) e).here (endif_directive (directive_of r.tokens) is) entered in
+    let not : Err f ≡ Ok true =
+    enters_by lines next s (Err f) r (Some Endif) (at_index lines next r (lay qs k) e).here (endif_directive r.directive is) entered in
     absurd (cc)
 refuse_branch lines next s f (Branch r ps bs) qs k e ((last, (before, true, is, parts, more)), behind, around) entered =
     let there = e ∙ lay_branch r ps qs bs k in
-    let not : Err f ≡ Ok true = enters_by lines next s (Err f) r (Some Else) (at_index lines next r (lay ps ((bs, qs) ∷ k)) there).here (else_directive (directive_of r.tokens) is) entered in
+    let not : Err f ≡ Ok true =
+    enters_by lines next s (Err f) r (Some Else) (at_index lines next r (lay ps ((bs, qs) ∷ k)) there).here (else_directive r.directive is)
+    entered in
     absurd (cc)
 refuse_branch lines next s f (Branch r ps bs) qs k e ((last, (before, false, is, parts, more)), behind, around) entered =
     let there = e ∙ lay_branch r ps qs bs k in
-    let elif = elif_directive (directive_of r.tokens) is in
-    λ around depth row. Branched.branch_refused elif (enters_by lines next s (Err f) r (Some Elif) (at_index lines next r (lay ps ((bs, qs) ∷ k)) there).here elif entered)
+    let other = not_else r.directive is in
+    λ around depth row. Branched.branch_refused other (branch_decides lines next s (Err f) r (lay ps ((bs, qs) ∷ k)) there is entered)
 
-abbrev pub Later : List Row → ℕ → State → Branches → Parts → Outer → Type 0
+abbrev pub Later : List LogicalLine → ℕ → State → Branches → Parts → Outer → Type 0
 Later lines index s bs qs k = (ps : Parts) × (cs : Branches) × BranchesAt lines index ps cs qs k × ((around : Surroundings) (depth row : ℕ) (m : Reached) → Branched around depth row s cs m → Branched around depth row s bs m)
 
-pass_branch : (lines : List Row) (next : ℕ) (s : State) (bs : Branches) (qs : Parts) (k : Outer) → drop next lines ≡ branch_lines bs ++ lay qs k → AreOuter ((bs, qs) ∷ k) → EntersAt lines next s (Ok false) → Later lines next s bs qs k
+pass_branch : (lines : List LogicalLine) (next : ℕ) (s : State) (bs : Branches) (qs : Parts) (k : Outer) → drop next lines ≡ branch_lines bs ++ lay qs k → AreOuter ((bs, qs) ∷ k) → EntersAt lines next s (Ok false) → Later lines next s bs qs k
 pass_branch lines next s (End r) qs k e ((last, is), behind, around) entered =
-    let not : Ok false ≡ Ok true = enters_by lines next s (Ok false) r (Some Endif) (at_index lines next r (lay qs k) e).here (endif_directive (directive_of r.tokens) is) entered in
+    let not : Ok false ≡ Ok true =
+    enters_by lines next s (Ok false) r (Some Endif) (at_index lines next r (lay qs k) e).here (endif_directive r.directive is) entered in
     absurd (cc)
 pass_branch lines next s (Branch r ps bs) qs k e ((last, (before, true, is, parts, more)), behind, around) entered =
     let there = e ∙ lay_branch r ps qs bs k in
-    let not : Ok false ≡ Ok true = enters_by lines next s (Ok false) r (Some Else) (at_index lines next r (lay ps ((bs, qs) ∷ k)) there).here (else_directive (directive_of r.tokens) is) entered in
+    let not : Ok false ≡ Ok true =
+    enters_by lines next s (Ok false) r (Some Else) (at_index lines next r (lay ps ((bs, qs) ∷ k)) there).here (else_directive r.directive is)
+    entered in
     absurd (cc)
 pass_branch lines next s (Branch r ps bs) qs k e ((last, (before, false, is, parts, more)), behind, around) entered =
     let there = e ∙ lay_branch r ps qs bs k in
-    let elif = elif_directive (directive_of r.tokens) is in
-    let decides = enters_by lines next s (Ok false) r (Some Elif) (at_index lines next r (lay ps ((bs, qs) ∷ k)) there).here elif entered in
-    (ps, bs, record { line = r; rest = there; next = next_of_branch r false is; parts = parts; outer = ((false, more), behind, around) }, λ around depth row m rest. Branched.branch_skipped elif decides rest)
+    let other = not_else r.directive is in
+    let decides = branch_decides lines next s (Ok false) r (lay ps ((bs, qs) ∷ k)) there is entered in (
+      ps,
+      bs,
+      record { line = r; rest = there; next = next_of_branch r false is; parts = parts; outer = ((false, more), behind, around) },
+      λ around depth row m rest. Branched.branch_skipped other decides rest,
+    )
 
 -- as far as the branches go that have been passed
-pub record BranchSoFar (lines : List Row) (start : ℕ) (s : State) (index : ℕ) : Type 0 where
+pub record BranchSoFar (lines : List LogicalLine) (start : ℕ) (s : State) (index : ℕ) : Type 0 where
   pub within : index < length lines
   pub from : start ≤ index
   pub so_far : (ps : Parts) (bs : Branches) (qs : Parts) (k : Outer) → BranchesAt lines start ps bs qs k → Later lines index s bs qs k
 
-pub branch_start : (lines : List Row) (start : ℕ) (s : State) → start < length lines → BranchSoFar lines start s start
+pub branch_start : (lines : List LogicalLine) (start : ℕ) (s : State) → start < length lines → BranchSoFar lines start s start
 branch_start lines start s within = record { within = within; from = omega arith; so_far = λ ps bs qs k b. (ps, bs, b, λ around depth row m here. here) }
 
-pub branch_more : (lines : List Row) (start next index : ℕ) (s : State) → BranchSoFar lines start s index → next_branch index (role (line_at lines index)) (drop (suc index) lines) ≡ Some next → EntersAt lines next s (Ok false) → BranchSoFar lines start s next
+pub branch_more : (lines : List LogicalLine) (start next index : ℕ) (s : State) → BranchSoFar lines start s index → next_branch index (role (line_at lines index)) (drop (suc index) lines) ≡ Some next → EntersAt lines next s (Ok false) → BranchSoFar lines start s next
 branch_more lines start next index s sofar found entered =
     let inside = next_inside lines index next sofar.within found in
     record {
@@ -428,20 +473,20 @@ branch_more lines start next index s sofar found entered =
           (g.0, g.1, g.2, λ around depth row m here. f.3 around depth row m (g.3 around depth row m here));
     }
 
-pub branch_taken : (lines : List Row) (start next index : ℕ) (s : State) → BranchSoFar lines start s index → next_branch index (role (line_at lines index)) (drop (suc index) lines) ≡ Some next → EntersAt lines next s (Ok true) → (ps : Parts) (bs : Branches) (qs : Parts) (k : Outer) → BranchesAt lines start ps bs qs k → FindsBranch lines s bs qs k (Ok (next + 1))
+pub branch_taken : (lines : List LogicalLine) (start next index : ℕ) (s : State) → BranchSoFar lines start s index → next_branch index (role (line_at lines index)) (drop (suc index) lines) ≡ Some next → EntersAt lines next s (Ok true) → (ps : Parts) (bs : Branches) (qs : Parts) (k : Outer) → BranchesAt lines start ps bs qs k → FindsBranch lines s bs qs k (Ok (next + 1))
 branch_taken lines start next index s sofar found entered ps bs qs k b =
     let f = sofar.so_far ps bs qs k b in
     let g = enter_branch lines next s f.1 qs k (found_at lines index next f.0 f.1 qs k f.2 found) f.2.outer entered in
     (g.0, g.1, g.2, λ around depth row end rest. let h = g.3 around depth row end rest in (h.0, f.3 around depth row h.0 h.1, h.2))
 
-pub branch_refused : (lines : List Row) (start next index : ℕ) (s : State) (fault : Fault) → BranchSoFar lines start s index → next_branch index (role (line_at lines index)) (drop (suc index) lines) ≡ Some next → EntersAt lines next s (Err fault) → (ps : Parts) (bs : Branches) (qs : Parts) (k : Outer) → BranchesAt lines start ps bs qs k → FindsBranch lines s bs qs k (Err fault)
+pub branch_refused : (lines : List LogicalLine) (start next index : ℕ) (s : State) (fault : Fault) → BranchSoFar lines start s index → next_branch index (role (line_at lines index)) (drop (suc index) lines) ≡ Some next → EntersAt lines next s (Err fault) → (ps : Parts) (bs : Branches) (qs : Parts) (k : Outer) → BranchesAt lines start ps bs qs k → FindsBranch lines s bs qs k (Err fault)
 branch_refused lines start next index s fault sofar found entered ps bs qs k b =
     let f = sofar.so_far ps bs qs k b in
     let g = refuse_branch lines next s fault f.1 qs k (found_at lines index next f.0 f.1 qs k f.2 found) f.2.outer entered in
     λ around depth row. f.3 around depth row (stopped s fault) (g around depth row)
 
--- behind an opening line or `#elif` there is a branch line
-pub branch_found : (lines : List Row) (start index : ℕ) (s : State) → BranchSoFar lines start s index → next_branch index (role (line_at lines index)) (drop (suc index) lines) ≡ None → (ps : Parts) (bs : Branches) (qs : Parts) (k : Outer) → BranchesAt lines start ps bs qs k → ⊥
+-- behind an opening line or a branch there is a branch line
+pub branch_found : (lines : List LogicalLine) (start index : ℕ) (s : State) → BranchSoFar lines start s index → next_branch index (role (line_at lines index)) (drop (suc index) lines) ≡ None → (ps : Parts) (bs : Branches) (qs : Parts) (k : Outer) → BranchesAt lines start ps bs qs k → ⊥
 branch_found lines start index s sofar none ps bs qs k b =
     let f = sofar.so_far ps bs qs k b in
     let known = (at_branches lines index f.0 f.1 qs k f.2).0 in
@@ -449,50 +494,59 @@ branch_found lines start index s sofar none ps bs qs k b =
 
 -- ---- one step
 
-abbrev AdvancesFrom : (Files → Surroundings) → Files → ℕ → ℕ → List Row → State → State → Result ℕ Fault → Parts → Outer → Type 0
+abbrev AdvancesFrom : (Files → Surroundings) → Files → ℕ → ℕ → List LogicalLine → State → State → Result ℕ Fault → Parts → Outer → Type 0
 AdvancesFrom around files depth row lines s t (Ok next) ps k = (ps' : Parts) × (k' : Outer) × StandsAt lines next ps' k' × ((more : Files) → Extends more files → (end : Reached) → Ends (around more) depth row (going t) ps' k' end → Ends (around more) depth row (going s) ps k end)
 AdvancesFrom around files depth row lines s t (Err f) ps k = (more : Files) → Extends more files → Ends (around more) depth row (going s) ps k (stopped t f)
 
-advances : (around : Files → Surroundings) (files : Files) (depth row : ℕ) (lines : List Row) (index : ℕ) (s t : State) (r : Result ℕ Fault) → ((ps : Parts) (k : Outer) → StandsAt lines index ps k → AdvancesFrom around files depth row lines s t r ps k) → Advances around files depth row lines index s t r
+advances : (around : Files → Surroundings) (files : Files) (depth row : ℕ) (lines : List LogicalLine) (index : ℕ) (s t : State) (r : Result ℕ Fault) → ((ps : Parts) (k : Outer) → StandsAt lines index ps k → AdvancesFrom around files depth row lines s t r ps k) → Advances around files depth row lines index s t r
 advances around files depth row lines index s t (Ok next) each = each
 advances around files depth row lines index s t (Err f) each = each
 
 -- a line's role by its directive
-role_is : (lines : List Row) (index : ℕ) (d : Option Directive) (r : Row) → line_at lines index ≡ r → directive_of (line_at lines index).tokens ≡ d → role r ≡ role_by d
+role_is : (lines : List LogicalLine) (index : ℕ) (d : Option Directive) (r : LogicalLine)
+    → line_at lines index ≡ r
+    → (line_at lines index).directive ≡ d
+    → role r ≡ role_by d
 role_is lines index d r here is = ap role (sym here) ∙ ap role_by is
 
-first_at : (lines : List Row) (index : ℕ) (ps : Parts) (k : Outer) → index < length lines → StandsAt lines index ps k → First (line_at lines index) ps k
+first_at : (lines : List LogicalLine) (index : ℕ) (ps : Parts) (k : Outer) → index < length lines → StandsAt lines index ps k → First (line_at lines index) ps k
 first_at lines index ps k within stands = first_of ps k (line_at lines index) (drop (suc index) lines) (sym stands.rest ∙ from_index lines index within) stands.parts stands.outer
 
 abbrev pub run_result : ℕ → Option Fault → Result ℕ Fault
 run_result next None = Ok next
 run_result next (Some f) = Err f
 
-abbrev pub RunOf : List Row → ℕ → ℕ → Type 0
-RunOf lines index end = (rows rest : List Row) → drop index lines ≡ rows ++ rest → AllByRecursion IsTextRow rows → IsRest rest → (end ≡ index + length rows) × (drop end lines ≡ rest)
+abbrev pub RunOf : List LogicalLine → ℕ → ℕ → Type 0
+RunOf lines index end = (rows rest : List LogicalLine) → drop index lines ≡ rows ++ rest → AllByRecursion IsTextLine rows → IsRest rest → (end ≡ index + length rows) × (drop end lines ≡ rest)
 
-pub run_tokens_are : (lines rows rest : List Row) (index end : ℕ) → drop index lines ≡ rows ++ rest → end ≡ index + length rows → take (end - index) (drop index lines) ≡ rows
+pub run_tokens_are : (lines rows rest : List LogicalLine) (index end : ℕ) → drop index lines ≡ rows ++ rest → end ≡ index + length rows → take (end - index) (drop index lines) ≡ rows
 run_tokens_are lines rows rest index end e is =
     let count : length rows ≡ end - index = omega arith in
     ap (take (end - index)) e ∙ take_at rows rest (end - index) count
 
-run_by : (around : Files → Surroundings) (files : Files) (depth row : ℕ) (lines : List Row) (index end : ℕ) (s t : State) (f : Option Fault) (ps : Parts) (k : Outer) → role (line_at lines index) ≡ role_by None → First (line_at lines index) ps k → StandsAt lines index ps k → RunOf lines index end → RunGives s (run_tokens (take (end - index) (drop index lines))) (record { state = t; fault = f }) → (rs : List Row) × (qs : Parts) × (ps ≡ Run rs qs) × (drop end lines ≡ lay qs k) × RunGives s (run_tokens rs) (record { state = t; fault = f })
+run_by : (around : Files → Surroundings) (files : Files) (depth row : ℕ) (lines : List LogicalLine) (index end : ℕ) (s t : State) (f : Option Fault) (ps : Parts) (k : Outer) → role (line_at lines index) ≡ role_by None → First (line_at lines index) ps k → StandsAt lines index ps k → RunOf lines index end → RunGives s (run_tokens (take (end - index) (drop index lines))) (record { state = t; fault = f }) → (rs : List LogicalLine) × (qs : Parts) × (ps ≡ Run rs qs) × (drop end lines ≡ lay qs k) × RunGives s (run_tokens rs) (record { state = t; fault = f })
 run_by around files depth row lines index end s t f (Run rs ps) k is (text same) stands run gives =
     let there = stands.rest ∙ lay_run rs ps k in
     let parts = stands.parts in
     let over = run rs (lay ps k) there (text_rows rs parts.1) (behind_run ps k parts.3 stands.outer parts.2) in
-    (rs, ps, refl, over.1, subst (λ (z : List Row). RunGives s (run_tokens z) (record { state = t; fault = f })) (run_tokens_are lines rs (lay ps k) index end there over.0) gives)
+    (rs, ps, refl, over.1, subst (λ (z : List LogicalLine). RunGives s (run_tokens z) (record { state = t; fault = f })) (run_tokens_are lines rs (lay ps k) index end there over.0) gives)
 run_by around files depth row lines index end s t f ps k is (control same other) stands run gives = absurd (cc)
 run_by around files depth row lines index end s t f ps k is (opening same other) stands run gives = absurd (cc)
 run_by around files depth row lines index end s t f ps k is (ending differs) stands run gives = absurd (differs.not_text is)
 
-run_on : (around : Files → Surroundings) (files : Files) (depth row : ℕ) (lines : List Row) (index end : ℕ) (s t : State) (f : Option Fault) (rs : List Row) (qs : Parts) (k : Outer) → AreParts qs → AreOuter k → drop end lines ≡ lay qs k → RunGives s (run_tokens rs) (record { state = t; fault = f }) → AdvancesFrom around files depth row lines s t (run_result end f) (Run rs qs) k
+run_on : (around : Files → Surroundings) (files : Files) (depth row : ℕ) (lines : List LogicalLine) (index end : ℕ) (s t : State) (f : Option Fault) (rs : List LogicalLine) (qs : Parts) (k : Outer) → AreParts qs → AreOuter k → drop end lines ≡ lay qs k → RunGives s (run_tokens rs) (record { state = t; fault = f }) → AdvancesFrom around files depth row lines s t (run_result end f) (Run rs qs) k
 run_on around files depth row lines index end s t None rs qs k are outer there gives =
     (qs, k, record { rest = there; parts = are; outer = outer }, λ more grows last rest. ends_front (around more) depth row (going s) (going t) (Run rs qs) qs k last (λ o g. Group.run gives g) rest)
 run_on around files depth row lines index end s t (Some f) rs qs k are outer there gives =
     λ more grows. ends_stop (around more) depth row (going s) t f (Run rs qs) k (Group.run gives Group.stays)
 
-pub run_advances : (around : Files → Surroundings) (files : Files) (depth row : ℕ) (lines : List Row) (index end : ℕ) (s t : State) (f : Option Fault) → index < length lines → directive_of (line_at lines index).tokens ≡ None → RunOf lines index end → RunGives s (run_tokens (take (end - index) (drop index lines))) (record { state = t; fault = f }) → Advances around files depth row lines index s t (run_result end f)
+pub run_advances : (around : Files → Surroundings) (files : Files) (depth row : ℕ) (lines : List LogicalLine) (index end : ℕ) (s t : State)
+    (f : Option Fault)
+    → index < length lines
+    → (line_at lines index).directive ≡ None
+    → RunOf lines index end
+    → RunGives s (run_tokens (take (end - index) (drop index lines))) (record { state = t; fault = f })
+    → Advances around files depth row lines index s t (run_result end f)
 run_advances around files depth row lines index end s t f within is run gives =
     advances around files depth row lines index s t (run_result end f) (λ ps k stands.
     let b = run_by around files depth row lines index end s t f ps k (ap role_by is) (first_at lines index ps k within stands) stands run gives in
@@ -501,7 +555,7 @@ run_advances around files depth row lines index end s t f within is run gives =
 
 -- ---- an if-section
 
-record SectionAt (lines : List Row) (index : ℕ) (ps : Parts) (k : Outer) : Type 0 where
+record SectionAt (lines : List LogicalLine) (index : ℕ) (ps : Parts) (k : Outer) : Type 0 where
   first : Parts
   behind : Parts
   branches : Branches
@@ -509,16 +563,16 @@ record SectionAt (lines : List Row) (index : ℕ) (ps : Parts) (k : Outer) : Typ
   at : BranchesAt lines index first branches behind k
   stands : StandsAt lines (index + 1) first ((branches, behind) ∷ k)
 
-section_by : (lines : List Row) (index : ℕ) (ps : Parts) (k : Outer) → role (line_at lines index) ≡ role_by (Some If) → First (line_at lines index) ps k → StandsAt lines index ps k → SectionAt lines index ps k
+section_by : (lines : List LogicalLine) (index : ℕ) (ps : Parts) (k : Outer) → role (line_at lines index) ≡ role_by (Some If) → First (line_at lines index) ps k → StandsAt lines index ps k → SectionAt lines index ps k
 section_by lines index (Section x ps bs qs) k is (opening same other) stands =
     let r = line_at lines index in
-    let there : drop index lines ≡ r ∷ lay ps ((bs, qs) ∷ k) = stands.rest ∙ lay_section x ps qs bs k ∙ ap (λ (z : Row). z ∷ lay ps ((bs, qs) ∷ k)) same in
+    let there : drop index lines ≡ r ∷ lay ps ((bs, qs) ∷ k) = stands.rest ∙ lay_section x ps qs bs k ∙ ap (λ (z : LogicalLine). z ∷ lay ps ((bs, qs) ∷ k)) same in
     let are = stands.parts in
     record {
       first = ps;
       behind = qs;
       branches = bs;
-      whole = ap (λ (z : Row). Section z ps bs qs) same;
+      whole = ap (λ (z : LogicalLine). Section z ps bs qs) same;
       at = record { line = r; rest = there; next = next_of_opening r is; parts = are.1; outer = ((false, are.2), are.3, stands.outer) };
       stands = stands_behind lines index r ps ((bs, qs) ∷ k) there are.1 ((false, are.2), are.3, stands.outer);
     }
@@ -526,35 +580,62 @@ section_by lines index ps k is (text same) stands = absurd (cc)
 section_by lines index ps k is (control same other) stands = absurd (cc)
 section_by lines index ps k is (ending differs) stands = absurd (differs.not_opening is)
 
-section_at : (lines : List Row) (index : ℕ) (d : Directive) (ps : Parts) (k : Outer) → index < length lines → directive_of (line_at lines index).tokens ≡ Some d → opens_section d ≡ true → StandsAt lines index ps k → SectionAt lines index ps k
+section_at : (lines : List LogicalLine) (index : ℕ) (d : Directive) (ps : Parts) (k : Outer)
+    → index < length lines
+    → (line_at lines index).directive ≡ Some d
+    → opens_section d ≡ true
+    → StandsAt lines index ps k
+    → SectionAt lines index ps k
 section_at lines index d ps k within is opens stands =
     section_by lines index ps k (ap role_by is ∙ opening_role d opens) (first_at lines index ps k within stands) stands
 
-pub enter_taken : (around : Files → Surroundings) (files : Files) (depth row : ℕ) (lines : List Row) (index : ℕ) (s : State) (d : Directive) → index < length lines → directive_of (line_at lines index).tokens ≡ Some d → opens_section d ≡ true → Decides s (line_at lines index).tokens (Ok true) → Advances around files depth row lines index s s (Ok (index + 1))
+pub enter_taken : (around : Files → Surroundings) (files : Files) (depth row : ℕ) (lines : List LogicalLine) (index : ℕ) (s : State) (d : Directive)
+    → index < length lines
+    → (line_at lines index).directive ≡ Some d
+    → opens_section d ≡ true
+    → Decides s (line_at lines index) (Ok true)
+    → Advances around files depth row lines index s s (Ok (index + 1))
 enter_taken around files depth row lines index s d within is opens decides ps k stands =
     let a = section_at lines index d ps k within is opens stands in
     subst (λ (z : Parts). AdvancesFrom around files depth row lines s s (Ok (index + 1)) z k) (sym a.whole) (a.first, (a.branches, a.behind) ∷ k, a.stands, λ more grows end rest. ends_front (around more) depth row (going s) rest.0 (Section (line_at lines index) a.first a.branches a.behind) a.behind k end (λ o g. Group.taken decides rest.1 g) rest.2)
 
-skipped_to : (around : Files → Surroundings) (files : Files) (depth row : ℕ) (lines : List Row) (index : ℕ) (s : State) (r : Row) (ps qs : Parts) (bs : Branches) (k : Outer) (found : Result ℕ Fault) → Decides s r.tokens (Ok false) → FindsBranch lines s bs qs k found → AdvancesFrom around files depth row lines s s found (Section r ps bs qs) k
+skipped_to : (around : Files → Surroundings) (files : Files) (depth row : ℕ) (lines : List LogicalLine) (index : ℕ) (s : State) (r : LogicalLine)
+    (ps qs : Parts) (bs : Branches) (k : Outer) (found : Result ℕ Fault)
+    → Decides s r (Ok false)
+    → FindsBranch lines s bs qs k found
+    → AdvancesFrom around files depth row lines s s found (Section r ps bs qs) k
 skipped_to around files depth row lines index s r ps qs bs k (Ok next) decides finds =
     (finds.0, finds.1, finds.2, λ more grows end rest. let f = finds.3 (around more) depth row end rest in ends_front (around more) depth row (going s) f.0 (Section r ps bs qs) qs k end (λ o g. Group.skipped decides f.1 g) f.2)
 skipped_to around files depth row lines index s r ps qs bs k (Err f) decides finds =
     λ more grows. ends_stop (around more) depth row (going s) s f (Section r ps bs qs) k (Group.skipped decides (finds (around more) depth row) Group.stays)
 
-pub enter_skipped : (around : Files → Surroundings) (files : Files) (depth row : ℕ) (lines : List Row) (index : ℕ) (s : State) (d : Directive) (found : Result ℕ Fault) → index < length lines → directive_of (line_at lines index).tokens ≡ Some d → opens_section d ≡ true → Decides s (line_at lines index).tokens (Ok false) → ((ps : Parts) (bs : Branches) (qs : Parts) (k : Outer) → BranchesAt lines index ps bs qs k → FindsBranch lines s bs qs k found) → Advances around files depth row lines index s s found
+pub enter_skipped : (around : Files → Surroundings) (files : Files) (depth row : ℕ) (lines : List LogicalLine) (index : ℕ) (s : State) (d : Directive)
+    (found : Result ℕ Fault)
+    → index < length lines
+    → (line_at lines index).directive ≡ Some d
+    → opens_section d ≡ true
+    → Decides s (line_at lines index) (Ok false)
+    → ((ps : Parts) (bs : Branches) (qs : Parts) (k : Outer) → BranchesAt lines index ps bs qs k → FindsBranch lines s bs qs k found)
+    → Advances around files depth row lines index s s found
 enter_skipped around files depth row lines index s d found within is opens decides finds =
     advances around files depth row lines index s s found (λ ps k stands.
     let a = section_at lines index d ps k within is opens stands in
     subst (λ (z : Parts). AdvancesFrom around files depth row lines s s found z k) (sym a.whole) (skipped_to around files depth row lines index s (line_at lines index) a.first a.behind a.branches k found decides (finds a.first a.branches a.behind k a.at)))
 
-pub enter_refused : (around : Files → Surroundings) (files : Files) (depth row : ℕ) (lines : List Row) (index : ℕ) (s : State) (d : Directive) (f : Fault) → index < length lines → directive_of (line_at lines index).tokens ≡ Some d → opens_section d ≡ true → Decides s (line_at lines index).tokens (Err f) → Advances around files depth row lines index s s (Err f)
+pub enter_refused : (around : Files → Surroundings) (files : Files) (depth row : ℕ) (lines : List LogicalLine) (index : ℕ) (s : State) (d : Directive)
+    (f : Fault)
+    → index < length lines
+    → (line_at lines index).directive ≡ Some d
+    → opens_section d ≡ true
+    → Decides s (line_at lines index) (Err f)
+    → Advances around files depth row lines index s s (Err f)
 enter_refused around files depth row lines index s d f within is opens decides ps k stands =
     let a = section_at lines index d ps k within is opens stands in
     subst (λ (z : Parts). AdvancesFrom around files depth row lines s s (Err f) z k) (sym a.whole) (λ more grows. ends_stop (around more) depth row (going s) s f (Section (line_at lines index) a.first a.branches a.behind) k (Group.refused decides))
 
 -- ---- the end of a group
 
-end_by : (around : Files → Surroundings) (files : Files) (depth row : ℕ) (lines : List Row) (index next : ℕ) (s : State) (ps : Parts) (k : Outer) → Differs (line_at lines index) → First (line_at lines index) ps k → StandsAt lines index ps k → ((last : Bool) (bs : Branches) (rest : List Row) → drop index lines ≡ branch_lines bs ++ rest → AreBranches last bs → drop next lines ≡ rest) → AdvancesFrom around files depth row lines s s (Ok next) ps k
+end_by : (around : Files → Surroundings) (files : Files) (depth row : ℕ) (lines : List LogicalLine) (index next : ℕ) (s : State) (ps : Parts) (k : Outer) → Differs (line_at lines index) → First (line_at lines index) ps k → StandsAt lines index ps k → ((last : Bool) (bs : Branches) (rest : List LogicalLine) → drop index lines ≡ branch_lines bs ++ rest → AreBranches last bs → drop next lines ≡ rest) → AdvancesFrom around files depth row lines s s (Ok next) ps k
 end_by around files depth row lines index next s Done ((bs, qs) ∷ k) differs (ending other) stands over =
     let outer = stands.outer in
     (qs, k, record { rest = over outer.0.0 bs (lay qs k) stands.rest outer.0.1; parts = outer.1; outer = outer.2 }, λ more grows end rest. (going s, Group.done, rest))
@@ -562,66 +643,84 @@ end_by around files depth row lines index next s ps k differs (text same) stands
 end_by around files depth row lines index next s ps k differs (control same other) stands over = absurd (differs.not_control other)
 end_by around files depth row lines index next s ps k differs (opening same other) stands over = absurd (differs.not_opening other)
 
-pub end_advances : (around : Files → Surroundings) (files : Files) (depth row : ℕ) (lines : List Row) (index next : ℕ) (s : State) (d : Directive) → index < length lines → directive_of (line_at lines index).tokens ≡ Some d → ends_group d ≡ true → ((last : Bool) (bs : Branches) (rest : List Row) → drop index lines ≡ branch_lines bs ++ rest → AreBranches last bs → drop next lines ≡ rest) → Advances around files depth row lines index s s (Ok next)
+pub end_advances : (around : Files → Surroundings) (files : Files) (depth row : ℕ) (lines : List LogicalLine) (index next : ℕ) (s : State)
+    (d : Directive)
+    → index < length lines
+    → (line_at lines index).directive ≡ Some d
+    → ends_group d ≡ true
+    → ((last : Bool) (bs : Branches) (rest : List LogicalLine) → drop index lines ≡ branch_lines bs ++ rest → AreBranches last bs → drop next lines ≡ rest)
+    → Advances around files depth row lines index s s (Ok next)
 end_advances around files depth row lines index next s d within is ends over ps k stands =
     end_by around files depth row lines index next s ps k (ending_role d (line_at lines index) ends (ap role_by is)) (first_at lines index ps k within stands) stands over
 
 -- ---- a control line
 
-control_on : (around : Files → Surroundings) (files : Files) (depth row : ℕ) (lines : List Row) (index : ℕ) (s t : State) (f : Option Fault) (r : Row) (qs : Parts) (k : Outer) → drop index lines ≡ r ∷ lay qs k → AreParts qs → AreOuter k → ((more : Files) → Extends more files → Controls (around more) depth row s r (record { state = t; fault = f })) → AdvancesFrom around files depth row lines s t (run_result (index + 1) f) (Control r qs) k
+control_on : (around : Files → Surroundings) (files : Files) (depth row : ℕ) (lines : List LogicalLine) (index : ℕ) (s t : State) (f : Option Fault) (r : LogicalLine) (qs : Parts) (k : Outer) → drop index lines ≡ r ∷ lay qs k → AreParts qs → AreOuter k → ((more : Files) → Extends more files → Controls (around more) depth row s r (record { state = t; fault = f })) → AdvancesFrom around files depth row lines s t (run_result (index + 1) f) (Control r qs) k
 control_on around files depth row lines index s t None r qs k there are outer controls =
     (qs, k, stands_behind lines index r qs k there are outer, λ more grows end rest. ends_front (around more) depth row (going s) (going t) (Control r qs) qs k end (λ o g. Group.control (controls more grows) g) rest)
 control_on around files depth row lines index s t (Some f) r qs k there are outer controls =
     λ more grows. ends_stop (around more) depth row (going s) t f (Control r qs) k (Group.control (controls more grows) Group.stays)
 
-control_by : (around : Files → Surroundings) (files : Files) (depth row : ℕ) (lines : List Row) (index : ℕ) (s t : State) (f : Option Fault) (ps : Parts) (k : Outer) → role (line_at lines index) ≡ role_by (Some Null) → First (line_at lines index) ps k → StandsAt lines index ps k → ((more : Files) → Extends more files → Controls (around more) depth row s (line_at lines index) (record { state = t; fault = f })) → AdvancesFrom around files depth row lines s t (run_result (index + 1) f) ps k
+control_by : (around : Files → Surroundings) (files : Files) (depth row : ℕ) (lines : List LogicalLine) (index : ℕ) (s t : State) (f : Option Fault) (ps : Parts) (k : Outer) → role (line_at lines index) ≡ role_by (Some Null) → First (line_at lines index) ps k → StandsAt lines index ps k → ((more : Files) → Extends more files → Controls (around more) depth row s (line_at lines index) (record { state = t; fault = f })) → AdvancesFrom around files depth row lines s t (run_result (index + 1) f) ps k
 control_by around files depth row lines index s t f (Control x qs) k is (control same other) stands controls =
     let r = line_at lines index in
-    let there : drop index lines ≡ r ∷ lay qs k = stands.rest ∙ lay_control x qs k ∙ ap (λ (z : Row). z ∷ lay qs k) same in
-    subst (λ (z : Row). AdvancesFrom around files depth row lines s t (run_result (index + 1) f) (Control z qs) k) (sym same) (control_on around files depth row lines index s t f r qs k there stands.parts.1 stands.outer controls)
+    let there : drop index lines ≡ r ∷ lay qs k = stands.rest ∙ lay_control x qs k ∙ ap (λ (z : LogicalLine). z ∷ lay qs k) same in
+    subst (λ (z : LogicalLine). AdvancesFrom around files depth row lines s t (run_result (index + 1) f) (Control z qs) k) (sym same) (control_on around files depth row lines index s t f r qs k there stands.parts.1 stands.outer controls)
 control_by around files depth row lines index s t f ps k is (text same) stands controls = absurd (cc)
 control_by around files depth row lines index s t f ps k is (opening same other) stands controls = absurd (cc)
 control_by around files depth row lines index s t f ps k is (ending differs) stands controls = absurd (differs.not_control is)
 
-pub control_advances : (around : Files → Surroundings) (files : Files) (depth row : ℕ) (lines : List Row) (index : ℕ) (s t : State) (f : Option Fault) (d : Directive) → index < length lines → directive_of (line_at lines index).tokens ≡ Some d → opens_section d ≡ false → ends_group d ≡ false → ((more : Files) → Extends more files → Controls (around more) depth row s (line_at lines index) (record { state = t; fault = f })) → Advances around files depth row lines index s t (run_result (index + 1) f)
+pub control_advances : (around : Files → Surroundings) (files : Files) (depth row : ℕ) (lines : List LogicalLine) (index : ℕ) (s t : State)
+    (f : Option Fault) (d : Directive)
+    → index < length lines
+    → (line_at lines index).directive ≡ Some d
+    → opens_section d ≡ false
+    → ends_group d ≡ false
+    → ((more : Files) → Extends more files → Controls (around more) depth row s (line_at lines index) (record { state = t; fault = f }))
+    → Advances around files depth row lines index s t (run_result (index + 1) f)
 control_advances around files depth row lines index s t f d within is opens ends controls =
     advances around files depth row lines index s t (run_result (index + 1) f) (λ ps k stands. control_by around files depth row lines index s t f ps k (ap role_by is ∙ control_role d opens ends) (first_at lines index ps k within stands) stands controls)
 
-passes_by : (depth row : ℕ) (lines : List Row) (index : ℕ) (s : State) (ps : Parts) (k : Outer) → role (line_at lines index) ≡ role_by (Some Null) → First (line_at lines index) ps k → StandsAt lines index ps k → PassesFrom depth row lines index s (index + 1) ps k
+passes_by : (depth row : ℕ) (lines : List LogicalLine) (index : ℕ) (s : State) (ps : Parts) (k : Outer) → role (line_at lines index) ≡ role_by (Some Null) → First (line_at lines index) ps k → StandsAt lines index ps k → PassesFrom depth row lines index s (index + 1) ps k
 passes_by depth row lines index s (Control x qs) k is (control same other) stands =
     let r = line_at lines index in
-    let there : drop index lines ≡ r ∷ lay qs k = stands.rest ∙ lay_control x qs k ∙ ap (λ (z : Row). z ∷ lay qs k) same in
-    (qs, k, stands_behind lines index r qs k there stands.parts.1 stands.outer, λ around m end controls rest. subst (λ (z : Row). Ends around depth row (going s) (Control z qs) k end) (sym same) (ends_front around depth row (going s) m (Control r qs) qs k end (λ o g. Group.control controls g) rest))
+    let there : drop index lines ≡ r ∷ lay qs k = stands.rest ∙ lay_control x qs k ∙ ap (λ (z : LogicalLine). z ∷ lay qs k) same in
+    (qs, k, stands_behind lines index r qs k there stands.parts.1 stands.outer, λ around m end controls rest. subst (λ (z : LogicalLine). Ends around depth row (going s) (Control z qs) k end) (sym same) (ends_front around depth row (going s) m (Control r qs) qs k end (λ o g. Group.control controls g) rest))
 passes_by depth row lines index s ps k is (text same) stands = absurd (cc)
 passes_by depth row lines index s ps k is (opening same other) stands = absurd (cc)
 passes_by depth row lines index s ps k is (ending differs) stands = absurd (differs.not_control is)
 
-pub passes : (depth row : ℕ) (lines : List Row) (index : ℕ) (s : State) (d : Directive) → index < length lines → directive_of (line_at lines index).tokens ≡ Some d → opens_section d ≡ false → ends_group d ≡ false → Passes depth row lines index s (index + 1)
+pub passes : (depth row : ℕ) (lines : List LogicalLine) (index : ℕ) (s : State) (d : Directive)
+    → index < length lines
+    → (line_at lines index).directive ≡ Some d
+    → opens_section d ≡ false
+    → ends_group d ≡ false
+    → Passes depth row lines index s (index + 1)
 passes depth row lines index s d within is opens ends ps k stands =
     passes_by depth row lines index s ps k (ap role_by is ∙ control_role d opens ends) (first_at lines index ps k within stands) stands
 
 -- ---- the whole file
 
 -- as far as the lines of a file go that have been passed: its end leads to what is to be reached
-pub record FileSoFar (around : Files → Surroundings) (files : Files) (whole : Files → Reached → Type 0) (depth row : ℕ) (lines : List Row) (index : ℕ) (t : State) : Type 0 where
+pub record FileSoFar (around : Files → Surroundings) (files : Files) (whole : Files → Reached → Type 0) (depth row : ℕ) (lines : List LogicalLine) (index : ℕ) (t : State) : Type 0 where
   pub parts : Parts
   pub outer : Outer
   pub stands : StandsAt lines index parts outer
   pub ends : (more : Files) → Extends more files → (end : Reached) → Ends (around more) depth row (going t) parts outer end → whole more end
 
-pub file_start : (around : Files → Surroundings) (files : Files) (whole : Files → Reached → Type 0) (depth row : ℕ) (lines : List Row) (index : ℕ) (t : State) (parts : Parts) → index ≡ 0 → Tree lines parts → ((more : Files) → Extends more files → (end : Reached) → Group (around more) depth row (going t) parts end → whole more end) → FileSoFar around files whole depth row lines index t
+pub file_start : (around : Files → Surroundings) (files : Files) (whole : Files → Reached → Type 0) (depth row : ℕ) (lines : List LogicalLine) (index : ℕ) (t : State) (parts : Parts) → index ≡ 0 → Tree lines parts → ((more : Files) → Extends more files → (end : Reached) → Group (around more) depth row (going t) parts end → whole more end) → FileSoFar around files whole depth row lines index t
 file_start around files whole depth row lines index t parts begins tree ends =
     subst (λ (z : ℕ). FileSoFar around files whole depth row lines z t) (sym begins) (record { parts = parts; outer = []; stands = record { rest = sym tree.whole; parts = tree.each; outer = tt }; ends = ends })
 
 pub extends_trans : (a b c : Files) → Extends a b → Extends b c → Extends a c
 extends_trans a b c ab bc row content at = ab row content (bc row content at)
 
-pub file_more : (around : Files → Surroundings) (old new : Files) (whole : Files → Reached → Type 0) (depth row : ℕ) (lines : List Row) (index next : ℕ) (t u : State) → FileSoFar around old whole depth row lines index t → Extends new old → Advances around new depth row lines index t u (Ok next) → FileSoFar around new whole depth row lines next u
+pub file_more : (around : Files → Surroundings) (old new : Files) (whole : Files → Reached → Type 0) (depth row : ℕ) (lines : List LogicalLine) (index next : ℕ) (t u : State) → FileSoFar around old whole depth row lines index t → Extends new old → Advances around new depth row lines index t u (Ok next) → FileSoFar around new whole depth row lines next u
 file_more around old new whole depth row lines index next t u sofar wider step =
     let g = step sofar.parts sofar.outer sofar.stands in
     record { parts = g.0; outer = g.1; stands = g.2; ends = λ more grows end rest. sofar.ends more (extends_trans more new old grows wider) end (g.3 more grows end rest) }
 
-pub file_stop : (around : Files → Surroundings) (old new : Files) (whole : Files → Reached → Type 0) (depth row : ℕ) (lines : List Row) (index : ℕ) (t u : State) (fault : Fault) → FileSoFar around old whole depth row lines index t → Extends new old → Advances around new depth row lines index t u (Err fault) → (more : Files) → Extends more new → whole more (stopped u fault)
+pub file_stop : (around : Files → Surroundings) (old new : Files) (whole : Files → Reached → Type 0) (depth row : ℕ) (lines : List LogicalLine) (index : ℕ) (t u : State) (fault : Fault) → FileSoFar around old whole depth row lines index t → Extends new old → Advances around new depth row lines index t u (Err fault) → (more : Files) → Extends more new → whole more (stopped u fault)
 file_stop around old new whole depth row lines index t u fault sofar wider step more grows =
     sofar.ends more (extends_trans more new old grows wider) (stopped u fault) (step sofar.parts sofar.outer sofar.stands more grows)
 
@@ -634,7 +733,7 @@ nothing_laid around depth row t (Run (r ∷ rs) ps) k e are = let whole = sym (l
 nothing_laid around depth row t (Control r ps) k e are = let whole = sym (lay_control r ps k) ∙ e in absurd (cc)
 nothing_laid around depth row t (Section r ps bs qs) k e are = let whole = sym (lay_section r ps qs bs k) ∙ e in absurd (cc)
 
-pub file_done : (around : Files → Surroundings) (files : Files) (whole : Files → Reached → Type 0) (depth row : ℕ) (lines : List Row) (index : ℕ) (t : State) → FileSoFar around files whole depth row lines index t → length lines ≤ index → (more : Files) → Extends more files → whole more (going t)
+pub file_done : (around : Files → Surroundings) (files : Files) (whole : Files → Reached → Type 0) (depth row : ℕ) (lines : List LogicalLine) (index : ℕ) (t : State) → FileSoFar around files whole depth row lines index t → length lines ≤ index → (more : Files) → Extends more files → whole more (going t)
 file_done around files whole depth row lines index t sofar over more grows =
     sofar.ends more grows (going t) (nothing_laid (around more) depth row t sofar.parts sofar.outer (sym sofar.stands.rest ∙ drop_all index lines over) sofar.stands.parts)
 
@@ -650,6 +749,63 @@ pub some_not : {A : Type 0} (o : Option A) → is_some o ≡ true → o ≡ None
 some_not None is none = absurd (cc)
 some_not (Some x) is none = cc
 
-pub enter_found : {E : Type 0} (around : Files → Surroundings) (files : Files) (depth row : ℕ) (lines : List Row) (index : ℕ) (s : State) (d : Directive) (found : Result (Result ℕ Fault) E) → index < length lines → directive_of (line_at lines index).tokens ≡ Some d → opens_section d ≡ true → Decides s (line_at lines index).tokens (Ok false) → IfOk found (λ next. (ps : Parts) (bs : Branches) (qs : Parts) (k : Outer) → BranchesAt lines index ps bs qs k → FindsBranch lines s bs qs k next) → IfOk found (λ next. Advances around files depth row lines index s s next)
+pub enter_found : {E : Type 0} (around : Files → Surroundings) (files : Files) (depth row : ℕ) (lines : List LogicalLine) (index : ℕ) (s : State)
+    (d : Directive) (found : Result (Result ℕ Fault) E)
+    → index < length lines
+    → (line_at lines index).directive ≡ Some d
+    → opens_section d ≡ true
+    → Decides s (line_at lines index) (Ok false)
+    → IfOk found (λ next. (ps : Parts) (bs : Branches) (qs : Parts) (k : Outer) → BranchesAt lines index ps bs qs k → FindsBranch lines s bs qs k next)
+    → IfOk found (λ next. Advances around files depth row lines index s s next)
 enter_found around files depth row lines index s d (Ok next) within is opens decides finds = enter_skipped around files depth row lines index s d next within is opens decides finds
 enter_found around files depth row lines index s d (Err e) within is opens decides finds = tt
+
+-- ---- what the code decides by tokens and a directive
+
+pub decides_at : (s : State) (r : LogicalLine) (d : Directive) (tokens : List Token) (taken : Result Bool Fault)
+    → r.directive ≡ Some d
+    → tokens ≡ r.tokens
+    → ((number : ℕ) → Decides s (directed d tokens number) taken)
+    → Decides s r taken
+decides_at s r d tokens taken is same decides =
+    subst (λ (z : Option Directive). DecidesUnless (lone_quote r.tokens) z s r.tokens taken) (sym is)
+    (subst (λ (ts : List Token). DecidesUnless (lone_quote ts) (Some d) s ts taken) same (decides 0))
+
+-- a line of this directive that has no condition is entered
+enters_by_directive : (d : Directive) (s : State) (r : LogicalLine) → has_condition d ≡ false → EntersBy (Some d) s r (Ok true)
+enters_by_directive Elif s r e = absurd (cc)
+enters_by_directive Elifdef s r e = absurd (cc)
+enters_by_directive Elifndef s r e = absurd (cc)
+enters_by_directive d s r e = refl
+
+pub enters_no_directive : (s : State) (r : LogicalLine) → r.directive ≡ None → Enters s r (Ok true)
+enters_no_directive s r is = subst (λ (z : Option Directive). EntersBy z s r (Ok true)) (sym is) refl
+
+pub enters_unasked : (s : State) (r : LogicalLine) (d : Directive) → r.directive ≡ Some d → has_condition d ≡ false → Enters s r (Ok true)
+enters_unasked s r d is e = subst (λ (z : Option Directive). EntersBy z s r (Ok true)) (sym is) (enters_by_directive d s r e)
+
+enters_by_condition : (d : Directive) (s : State) (r : LogicalLine) (taken : Result Bool Fault)
+    → has_condition d ≡ true
+    → Decides s r taken
+    → EntersBy (Some d) s r taken
+enters_by_condition Elif s r taken e decides = decides
+enters_by_condition Elifdef s r taken e decides = decides
+enters_by_condition Elifndef s r taken e decides = decides
+enters_by_condition d s r taken e decides = absurd (cc)
+
+pub enters_asked : {E : Type 0} (s : State) (r : LogicalLine) (d : Directive) (tokens : List Token) (found : Result (Result Bool Fault) E)
+    → r.directive ≡ Some d
+    → tokens ≡ r.tokens
+    → has_condition d ≡ true
+    → IfOk found (λ taken. (number : ℕ) → Decides s (directed d tokens number) taken)
+    → IfOk found (λ taken. Enters s r taken)
+enters_asked s r d tokens (Ok taken) is same e decides =
+    subst (λ (z : Option Directive). EntersBy z s r taken) (sym is)
+    (enters_by_condition d s r taken e (decides_at s r d tokens taken is same decides))
+enters_asked s r d tokens (Err f) is same e decides = tt
+
+pub conditional : (d : Directive) → has_condition d ≡ true → IsConditional d
+conditional Elif e = tt
+conditional Elifdef e = tt
+conditional Elifndef e = tt
+conditional d e = absurd (cc)

@@ -1,7 +1,7 @@
 -- How much work is left on the files that are open: a line of a file counts more than all lines of a file one deeper.
 use Rattle.std.proofs.Common.{◌≡◌, ℕ, zero, suc, ◌+◌, ◌-◌, ◌*◌, ◌^◌, ◌<◌, ◌≤◌, List, [], ◌∷◌, length, ap, Option, None, Some, arith}
 use Rattle.std.proofs.Math.Nat.{mul-lt-mul_of_pos_right, mul-le-mul_right}
-use Rattle.pptext.specs.Lines.{Row}
+use Rattle.pptext.specs.Lines.{LogicalLine}
 use Rattle.ppshelf.specs.Files.{Files}
 use Rattle.ppunit.specs.declared.opening.Entered.{Entered}
 use Rattle.ppunit.specs.declared.opening.OpenFile.{OpenFile}
@@ -71,7 +71,7 @@ unfolding work waiting_work
 work_entering f next e ws within further few deep =
     deeper (lines_left e.file) (lines_left (record f { index = next })) (lines_left f) (room (200 - suc (length ws))) (room (200 - length ws)) (waiting_work ws) (room_more (length ws) deep) (room_pos (200 - suc (length ws))) (lines_few e.file few) (lines_fewer f next within further)
 
-pub work_next : (around : Files → Surroundings) (files : Files) (row : ℕ) (lines : List Row) (index next : ℕ) (s t : State) (f : OpenFile) (entered : Option Entered) (ws : List Waiting) → f.index < length f.source.now → f.index < next → StepsTo around files (length ws) row lines index s t next entered → work (next_file (record f { index = next }) entered) (next_waiting (record f { index = next }) entered ws) < work f ws
+pub work_next : (around : Files → Surroundings) (files : Files) (row : ℕ) (lines : List LogicalLine) (index next : ℕ) (s t : State) (f : OpenFile) (entered : Option Entered) (ws : List Waiting) → f.index < length f.source.now → f.index < next → StepsTo around files (length ws) row lines index s t next entered → work (next_file (record f { index = next }) entered) (next_waiting (record f { index = next }) entered ws) < work f ws
 work_next around files row lines index next s t f None ws within further step = work_on f next ws within further
 work_next around files row lines index next s t f (Some e) ws within further step = work_entering f next e ws within further step.1.few step.1.fits
 

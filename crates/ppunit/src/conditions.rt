@@ -1,6 +1,6 @@
-// Whether a line of an if-section takes the group behind it (6.10.1).
-ghost use Rattle.std.specs.Prelude.{◌≡◌, IfOk, Some, Bool, true, false};
-ghost use Rattle.pptext.specs.Lines.{directive_of};
+// Whether a line of an if-section takes the group behind it (6.10.1, and for `#elifdef` and `#elifndef` 6.10.2 of
+// ISO/IEC 9899:2024).
+ghost use Rattle.std.specs.Prelude.{◌≡◌, ℕ, IfOk, Bool, true, false};
 ghost use Rattle.ppunit.specs.Conditions as spec;
 ghost use Rattle.ppunit.specs.Lines as spec_lines;
 
@@ -18,16 +18,15 @@ pub(crate) fn decide(
     directive: Directive,
     line: &[Token],
 ) -> Result<Result<bool, Fault>, Memory>
-    requires line { directive_of line.now ≡ Some directive }
-    requires branch { spec.IsConditional directive }
-    ensures { IfOk result (λ taken. spec.Decides state.now line.now taken) }
+    requires { spec.IsConditional directive }
+    ensures { IfOk result (λ taken. (number : ℕ) → spec.Decides state.now (spec_lines.directed directive line.now number) taken) }
 {
     if let Some(fault) = lone_quote(line)? {
         return Ok(Err(fault));
     }
     match directive {
-        Directive::Ifdef => Ok(by_name(alloc, true, &state.macros, line)?),
-        Directive::Ifndef => Ok(by_name(alloc, false, &state.macros, line)?),
+        Directive::Ifdef | Directive::Elifdef => Ok(by_name(alloc, true, &state.macros, line)?),
+        Directive::Ifndef | Directive::Elifndef => Ok(by_name(alloc, false, &state.macros, line)?),
         _ => evaluate(alloc, &state.macros, &state.env, sign(line), operands(line)),
     }
 }

@@ -6,7 +6,7 @@ ghost use Rattle.ppunit.specs.Unit.{command_file, command_text, command_line};
 
 use crate::lists::Texts;
 use ppshelf::MOST_ROWS;
-use pptext::{Fault, Memory, Source, SourceFault, read_source};
+use pptext::{Fault, Memory, Profile, Source, SourceFault, read_source};
 use std::alloc::{AllocError, Global};
 use std::fmt;
 use std::marker::Model;
@@ -15,23 +15,23 @@ use std::marker::Model;
 pub(crate) const COMMAND_FILE: u32 = MOST_ROWS as u32;
 
 /// The definitions of a unit with the lines of the file that holds them, or that file's fault. Contracts see the list of
-/// their texts.
+/// their texts, and the profile that the file was read by.
 #[derive(Drop)]
 pub struct Definitions {
     texts: Texts,
+    profile: Profile,
     lines: Result<Source, Fault>,
 }
 
 impl Model for Definitions {
-    ghost use Rattle.std.specs.Prelude.{ℕ, List};
     ghost use Rattle.pptext.specs.Sources.{Reads};
-    ghost use Rattle.ppunit.specs.Commands.{command_file, command_text};
+    ghost use Rattle.ppunit.specs.Commands.{Commands, command_file, command_text};
 
-    ghost Value = { List (List ℕ) };
+    ghost Value = { Commands };
 
-    ghost view = { λ d. d.texts };
+    ghost view = { λ d. record { texts = d.texts; profile = d.profile } };
 
-    ghost invariant = { λ d. Reads command_file (command_text d.texts) d.lines };
+    ghost invariant = { λ d. Reads d.profile command_file (command_text d.texts) d.lines };
 }
 
 impl fmt::Debug for Definitions {
@@ -41,26 +41,38 @@ impl fmt::Debug for Definitions {
 }
 
 impl Definitions {
-    /// These definitions, each the text behind `#define `, with the file that holds a line for each read once.
-    pub fn read(alloc: Global, texts: Texts) -> Result<Definitions, Memory>
+    /// These definitions, each the text behind `#define `, with the file that holds a line for each read once, by this
+    /// profile.
+    pub fn read(alloc: Global, texts: Texts, profile: Profile) -> Result<Definitions, Memory>
         requires { length (command_text texts) ≤ longest }
-        ensures { IfOk result (λ d. d ≡ texts) }
+        ensures { IfOk result (λ d. d ≡ record { texts = texts; profile = profile }) }
     {
         let text = command_text(alloc, &texts)?;
-        let lines = read_commands(alloc, text.as_slice())?;
-        Ok(Definitions { texts, lines })
+        let lines = read_commands(alloc, text.as_slice(), profile)?;
+        Ok(Definitions {
+            texts,
+            profile,
+            lines,
+        })
     }
 
     /// Their texts.
     pub fn texts(&self) -> &Texts
-        ensures { result.now ≡ self.now }
+        ensures { result.now ≡ self.now.texts }
     {
         &self.texts
     }
 
+    /// The profile by which they are read.
+    pub fn profile(&self) -> Profile
+        ensures { result ≡ self.now.profile }
+    {
+        self.profile
+    }
+
     /// The lines of the file that holds them, or its fault.
     pub(crate) fn lines(&self) -> &Result<Source, Fault>
-        ensures { Reads command_file (command_text self.now) result.now }
+        ensures { Reads self.now.profile command_file (command_text self.now.texts) result.now }
     {
         &self.lines
     }
@@ -88,11 +100,15 @@ fn command_text(alloc: Global, defines: &Texts) -> Result<Vec<u8>, AllocError>
 }
 
 // The lines of the file of the definitions, or its fault.
-fn read_commands(alloc: Global, text: &[u8]) -> Result<Result<Source, Fault>, Memory>
+fn read_commands(
+    alloc: Global,
+    text: &[u8],
+    profile: Profile,
+) -> Result<Result<Source, Fault>, Memory>
     requires { length text.now ≤ longest }
-    ensures { IfOk result (λ lines. Reads command_file text.now lines) }
+    ensures { IfOk result (λ lines. Reads profile command_file text.now lines) }
 {
-    match read_source(alloc, text, COMMAND_FILE) {
+    match read_source(alloc, text, COMMAND_FILE, profile) {
         Ok(source) => Ok(Ok(source)),
         Err(SourceFault::Bad(fault)) => Ok(Err(fault)),
         Err(SourceFault::Memory) => Err(Memory),

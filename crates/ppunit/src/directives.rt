@@ -1,18 +1,15 @@
 // Control lines that open no file (6.10.3 to 6.10.7), and text runs.
-ghost use Rattle.std.specs.Prelude.{◌≡◌, IfOk, OnOk, Some, true, [], ◌∷◌};
-ghost use Rattle.pptext.specs.Lines.{directive_of};
-ghost use Rattle.pptext.specs.Tree.{sign_place};
-ghost use Rattle.ppunit.specs.declared.units.Item.TheVariants as item;
+ghost use Rattle.std.specs.Prelude.{◌≡◌, IfOk, OnOk, Some, true};
 ghost use Rattle.ppunit.specs.Directives as spec;
 ghost use Rattle.ppunit.specs.Lines as spec_lines;
-ghost use Rattle.ppunit.specs.States.{Reached, passed};
+ghost use Rattle.ppunit.specs.States.{Reached};
 
 use crate::line_control::renumber;
 use crate::lines::{line_fault, name, operands, sign};
 use crate::states::State;
 use ppexpand::expand;
 use ppmacro::{define, undef};
-use pptext::{Directive, Fault, Memory, Token};
+use pptext::{Directive, Fault, Memory, Profile, Token};
 use std::alloc::{AllocError, Global};
 
 /// Passes on what a text run expands to, up to its first fault (6.10.3).
@@ -52,24 +49,46 @@ pub(crate) fn error(alloc: Global, line: &[Token]) -> Result<Fault, AllocError>
     line_fault(alloc, 34, line, text.as_slice())
 }
 
-// A pragma with its tokens is passed on (6.10.6).
-fn pragma<'x>(state: &mut State<'x>, line: &'x [Token]) -> Result<(), AllocError>
-    ensures { OnOk result (state.new ≡ passed state.old (item.Pragma (sign_place line.now) (spec_lines.operands line.now) ∷ [])) }
+// Whether the tokens behind `#pragma` say that the file is read once, in a profile that has this: it is a pragma that
+// implementations define (6.10.6).
+fn is_once(profile: Profile, tokens: &[Token]) -> bool
+    ensures { result ≡ spec.is_once profile tokens.now }
 {
-    state.pass_pragma(sign(line), operands(line))
+    match tokens {
+        [only] => profile == Profile::Later && only.text.as_bytes() == b"once".as_slice(),
+        _ => false,
+    }
 }
 
-/// What a control line without lone quotes does, where it opens no file; its fault, if it has one.
+// A pragma with its tokens is passed on (6.10.6). The file of this row may be one that is not read again.
+fn pragma<'x>(
+    state: &mut State<'x>,
+    profile: Profile,
+    row: usize,
+    line: &'x [Token],
+) -> Result<(), AllocError>
+    ensures { OnOk result (state.new ≡ spec.pragma_passed profile row state.old line.now) }
+{
+    let tokens = operands(line);
+    state.pass_pragma(sign(line), tokens)?;
+    if is_once(profile, tokens) {
+        state.read_once(row)?;
+    }
+    Ok(())
+}
+
+/// What a control line without lone quotes does in the file of a row, where it opens no file; its fault, if it has one.
 pub(crate) fn control<'x>(
     alloc: Global,
     state: &mut State<'x>,
+    profile: Profile,
+    row: usize,
     directive: Directive,
     line: &'x [Token],
     physical: u32,
 ) -> Result<Option<Fault>, Memory>
-    requires line { directive_of line.now ≡ Some directive }
-    requires control { spec.IsControl directive }
-    ensures { IfOk result (λ f. spec.ControlBy (Some directive) state.old (record { tokens = line.now; number = physical }) (record { state = state.new; fault = f })) }
+    requires { spec.IsControl directive }
+    ensures { IfOk result (λ f. spec.ControlBy profile row (Some directive) state.old (spec_lines.directed directive line.now physical) (record { state = state.new; fault = f })) }
 {
     match directive {
         Directive::Define => Ok(define(
@@ -81,7 +100,7 @@ pub(crate) fn control<'x>(
         Directive::Undef => Ok(undef(alloc, &mut state.macros, sign(line), operands(line))?.err()),
         Directive::Line => renumber(alloc, state, line, physical),
         Directive::Pragma => {
-            pragma(state, line)?;
+            pragma(state, profile, row, line)?;
             Ok(None)
         }
         Directive::Unknown => Ok(Some(line_fault(alloc, 8, line, name(line))?)),

@@ -8,6 +8,7 @@ ghost use Rattle.ppunit.specs.Unit.{command_text};
 
 use crate::units::{Setting, Unit};
 use ppshelf::{Disk, LONGEST, Shelf};
+use pptext::Profile;
 
 #[cfg(test)]
 mod tests;
@@ -116,6 +117,12 @@ pub fn setting_ok(setting: &Setting) -> bool
     is_date(setting.date.as_str().as_bytes()) && is_time(setting.time.as_str().as_bytes())
 }
 
+fn is_same(one: Profile, other: Profile) -> bool
+    ensures { result ≡ spec.is_same one other }
+{
+    one == other
+}
+
 fn are_lines(texts: &[String]) -> bool
     ensures { result ≡ list_all spec.is_one_line (map string_bytes texts.now) }
 {
@@ -127,11 +134,14 @@ fn are_lines(texts: &[String]) -> bool
     true
 }
 
-/// Whether the unit's file is one of the shelf's, each of its definitions is one line, and the file of its definitions has at
-/// most `LONGEST` bytes.
+/// Whether the unit's file is one of the shelf's, its definitions are read by the shelf's profile, each of them is one line,
+/// and the file of its definitions has at most `LONGEST` bytes.
 pub fn unit_ok<D: Disk>(shelf: &Shelf<D>, unit: &Unit) -> bool
-    ensures { result ≡ spec.is_unit (length shelf.now.names) unit.now }
+    ensures { result ≡ spec.is_unit (length shelf.now.names) shelf.now.profile unit.now }
 {
     let defines = unit.defines.texts().as_slice();
-    unit.file < shelf.len() && are_lines(defines) && fits_command(defines)
+    unit.file < shelf.len()
+        && is_same(unit.defines.profile(), shelf.profile())
+        && are_lines(defines)
+        && fits_command(defines)
 }

@@ -1,7 +1,9 @@
 // `#line` (6.10.4).
 ghost use Rattle.std.specs.Prelude.{◌≡◌, IfOk, Option};
 ghost use Rattle.pptext.specs.Spellings.{is_digit};
+ghost use Rattle.pptext.specs.declared.sources.Directive.TheVariants.{Line};
 ghost use Rattle.ppunit.specs.LineControl as spec;
+ghost use Rattle.ppunit.specs.Lines.{directed};
 ghost use Rattle.ppunit.specs.Directives.{LineGives};
 
 use crate::lines::{line_fault, operands};
@@ -84,7 +86,7 @@ pub(crate) fn renumber<'x>(
     line: &'x [Token],
     physical: u32,
 ) -> Result<Option<Fault>, Memory>
-    ensures { IfOk result (λ f. LineGives state.old (record { tokens = line.now; number = physical }) (record { state = state.new; fault = f })) }
+    ensures { IfOk result (λ f. LineGives state.old (directed Line line.now physical) (record { state = state.new; fault = f })) }
 {
     let Expanded { tokens, fault } = expand(alloc, &state.macros, &state.env, operands(line))?;
     if let Some(fault) = fault {

@@ -2,7 +2,7 @@
 ghost use Rattle.ppunit.specs.Parts.{part_items};
 ghost use Rattle.std.specs.Prelude.{flat_map, ◌≡◌, map, string_bytes, IfOk, OnOk, ◌++◌, ◌∷◌, []};
 ghost use Rattle.ppunit.specs.declared.units.Item.TheVariants as item;
-ghost use Rattle.ppunit.specs.Dependencies.{among};
+ghost use Rattle.ppunit.specs.Dependencies.{is_among, among};
 
 use crate::units::Item;
 use indexmap::IndexSet;
@@ -100,6 +100,13 @@ impl Rows {
         Rows {
             rows: IndexSet::new(alloc),
         }
+    }
+
+    /// Whether the row is one of them.
+    pub(crate) fn contains(&self, row: usize) -> bool
+        ensures { result ≡ is_among row self.now }
+    {
+        self.rows.contains(&row)
     }
 
     /// The row joins the others, unless it is one of them.

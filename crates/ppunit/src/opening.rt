@@ -13,7 +13,7 @@ use crate::rows::count;
 use crate::states::{State, literal};
 use ppexpand::Env;
 use ppshelf::{Disk, Folders, Form, Pass, Shelf, resolve};
-use pptext::{Fault, Memory, Place, Source, Spelling};
+use pptext::{Fault, Memory, Place, Profile, Source, Spelling};
 use std::alloc::{AllocError, Global};
 use std::marker::Model;
 use std::mem::replace;
@@ -74,6 +74,13 @@ impl<'a, 'b, D: Disk> Around<'a, 'b, D> {
         ensures { result.now ≡ self.now.shelf }
     {
         self.shelf
+    }
+
+    /// The profile by which the files are read.
+    pub(crate) fn profile(&self) -> Profile
+        ensures { result ≡ self.now.shelf.profile }
+    {
+        self.shelf.profile()
     }
 
     // The folders that are searched.
@@ -161,7 +168,8 @@ pub(crate) fn resolve_in<D: Disk>(
     resolve(around.alloc, shelf, 0, Form::Angle, name, folders)
 }
 
-/// Opens the file of a row for the line at this place, or leaves it out for its guard. Faults 32 and 6, or the file's own.
+/// Opens the file of a row for the line at this place, or leaves it out: one that is read once and was read, or one with a
+/// guard that is a macro's name. Faults 32 and 6, or the file's own.
 pub(crate) fn open<'a, D: Disk>(
     around: &Around<'a, '_, D>,
     pass: &mut Pass<'a, D>,
@@ -182,6 +190,9 @@ pub(crate) fn open<'a, D: Disk>(
         return Ok(Err(file_fault(around.alloc, 32, at, name)?));
     }
     state.depend(row)?;
+    if state.once.contains(row) {
+        return Ok(Ok(None));
+    }
     let Ok(loaded) = shelf.look(pass, row, around.disk) else {
         return Err(Memory);
     };

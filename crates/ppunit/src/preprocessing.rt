@@ -24,9 +24,10 @@ fn define_all<'x, 'a: 'x, D: Disk>(
 ) -> Result<Option<Fault>, Memory>
     requires shelf { pass.old.shelf ≡ around.now.shelf }
     requires rows { 0 < length around.now.shelf.names }
+    requires profile { defines.now.profile ≡ around.now.shelf.profile }
     ensures shelf { pass.new.shelf ≡ around.now.shelf }
     ensures grows { Extends pass.new.files pass.old.files }
-    ensures defined { IfOk result (λ f. DefinesOver (surroundings_of around.now) pass.new.files defines.now state.old (record { state = state.new; fault = f })) }
+    ensures defined { IfOk result (λ f. DefinesOver (surroundings_of around.now) pass.new.files defines.now.texts state.old (record { state = state.new; fault = f })) }
 {
     let source = match defines.lines() {
         Ok(source) => source,
@@ -77,9 +78,10 @@ fn translate<'x, 'a: 'x, D: Disk>(
 ) -> Result<Option<Fault>, Memory>
     requires shelf { pass.old.shelf ≡ around.now.shelf }
     requires row { row < length around.now.shelf.names }
+    requires profile { defines.now.profile ≡ around.now.shelf.profile }
     ensures shelf { pass.new.shelf ≡ around.now.shelf }
     ensures grows { Extends pass.new.files pass.old.files }
-    ensures translated { IfOk result (λ f. Translates (surroundings_of around.now pass.new.files) defines.now row state.old (record { state = state.new; fault = f })) }
+    ensures translated { IfOk result (λ f. Translates (surroundings_of around.now pass.new.files) defines.now.texts row state.old (record { state = state.new; fault = f })) }
 {
     let fault = define_all(around, pass, state, defines)?;
     if fault.is_some() {
@@ -101,7 +103,8 @@ pub fn preprocess<'x, 'a: 'x, D: Disk>(
     unit: &'x Unit,
 ) -> Result<UnitOut<'x>, Memory>
     requires shelf { pass.old.shelf ≡ shelf.now }
-    requires unit { IsUnitOf (length shelf.now.names) unit.now }
+    requires profile { shelf.now.profile ≡ setting.now.profile }
+    requires unit { IsUnitOf (length shelf.now.names) setting.now.profile unit.now }
     ensures shelf { pass.new.shelf ≡ shelf.now }
     ensures grows { Extends pass.new.files pass.old.files }
     ensures deps { IfOk result (λ out. All (λ row. row < length shelf.now.names) out.deps) }
@@ -116,6 +119,7 @@ pub fn preprocess<'x, 'a: 'x, D: Disk>(
     let fault = translate(&around, pass, &mut state, &unit.defines, unit.file)?;
     let State {
         macros: _,
+        once: _,
         items,
         deps,
         env: _,

@@ -1,6 +1,5 @@
 // The lines of a file by their index, from 0.
 ghost use Rattle.std.specs.Prelude.{◌≡◌, ◌<◌, ◌≤◌, ◌+◌, ◌-◌, ◌^◌, suc, length, drop, take};
-ghost use Rattle.pptext.specs.Lines.{directive_of};
 ghost use Rattle.pptext.specs.Sources.{next_branch, tokens_of};
 ghost use Rattle.pptext.specs.Tree.{role};
 ghost use Rattle.ppunit.specs.Walk.{line_at};
@@ -21,7 +20,7 @@ pub(crate) fn line(source: &Source, index: usize) -> &Line
     ensures start { result.now.start ≡ length (tokens_of (take index source.now)) }
     ensures end { result.now.end ≡ result.now.start + length (line_at source.now index).tokens }
     ensures number { result.now.number ≡ (line_at source.now index).number }
-    ensures directive { result.now.directive ≡ directive_of (line_at source.now index).tokens }
+    ensures directive { result.now.directive ≡ (line_at source.now index).directive }
     ensures next { result.now.next_branch ≡ next_branch index (role (line_at source.now index)) (drop (suc index) source.now) }
 {
     &source.lines()[index]

@@ -1,6 +1,6 @@
 // Where phase 4 stands in a unit.
 ghost use Rattle.std.specs.Prelude.{◌≡◌, IfOk, OnOk, [], ◌∷◌, ◌++◌};
-ghost use Rattle.ppunit.specs.States.{passed, depending, literal};
+ghost use Rattle.ppunit.specs.States.{passed, depending, reading_once, literal};
 ghost use Rattle.ppunit.specs.Unit.{beginning};
 ghost use Rattle.ppunit.specs.declared.units.Item.TheVariants as item;
 
@@ -12,12 +12,13 @@ use pptext::{Memory, Place, Spelling, Token};
 use std::alloc::{AllocError, Global};
 
 /// Where phase 4 stands: the macros, what was passed on, the files that were opened in the order of their first
-/// opening, and what the predefined names stand for.
+/// opening, those of them that are not read again, and what the predefined names stand for.
 #[derive(Drop)]
 pub(crate) struct State<'x> {
     pub macros: Table<'x>,
     pub items: Items<'x>,
     pub deps: Rows,
+    pub once: Rows,
     pub env: Env,
 }
 
@@ -36,6 +37,7 @@ impl<'x> State<'x> {
             macros: Table::new(alloc)?,
             items: Items::new(alloc),
             deps: Rows::new(alloc),
+            once: Rows::new(alloc),
             env,
         })
     }
@@ -52,6 +54,13 @@ impl<'x> State<'x> {
         ensures { OnOk result (self.new ≡ depending self.old row) }
     {
         self.deps.join(row)
+    }
+
+    /// The file of this row is not read again.
+    pub(crate) fn read_once(&mut self, row: usize) -> Result<(), AllocError>
+        ensures { OnOk result (self.new ≡ reading_once self.old row) }
+    {
+        self.once.join(row)
     }
 }
 

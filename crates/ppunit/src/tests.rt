@@ -3,11 +3,11 @@ ghost use Rattle.std.specs.Prelude.{◌≡◌, ◌≤◌, IfOk, length};
 ghost use Rattle.std.specs.Vec.{vec_len};
 
 use crate::{
-    Definitions, Item, Setting, Text, Texts, Unit, UnitOut, fits_command, preprocess, setting_ok,
-    unit_ok,
+    Definitions, Item, Items, Setting, Text, Texts, Unit, UnitOut, fits_command, preprocess,
+    setting_ok, unit_ok,
 };
 use ppshelf::{File, MemoryDisk, Pass, Shelf};
-use pptext::{Fault, Place, Token};
+use pptext::{Fault, Place, Profile, Token};
 use std::alloc::{AllocError, Global};
 use std::process::Abort;
 use std::test::Fail;
@@ -26,12 +26,16 @@ fn names_of(alloc: Global, files: &[(&str, &str)]) -> Result<Vec<String>, AllocE
 }
 
 /// The shelf of these files and `GONE`.
-fn shelf_of(alloc: Global, files: &[(&str, &str)]) -> Result<Shelf<MemoryDisk>, Fail> {
+fn shelf_of(
+    alloc: Global,
+    profile: Profile,
+    files: &[(&str, &str)],
+) -> Result<Shelf<MemoryDisk>, Fail> {
     let names = names_of(alloc, files)?;
     if names.len() > 65_535 {
         return Err(Fail::new("too many files"));
     }
-    Ok(Shelf::new(alloc, names)?)
+    Ok(Shelf::new(alloc, names, profile)?)
 }
 
 fn disk_of(alloc: Global, files: &[(&str, &str)]) -> Result<MemoryDisk, AllocError> {
@@ -59,8 +63,14 @@ fn text_of(alloc: Global, text: &str) -> Result<Text, AllocError> {
     Ok(Text::new(String::from_str(alloc, text)?))
 }
 
-fn setting_of(alloc: Global, date: &str, time: &str) -> Result<Setting, AllocError> {
+fn setting_of(
+    alloc: Global,
+    profile: Profile,
+    date: &str,
+    time: &str,
+) -> Result<Setting, AllocError> {
     Ok(Setting {
+        profile,
         date: text_of(alloc, date)?,
         time: text_of(alloc, time)?,
         search: texts_of(alloc, &["inc"])?,
@@ -68,14 +78,14 @@ fn setting_of(alloc: Global, date: &str, time: &str) -> Result<Setting, AllocErr
 }
 
 /// A unit of the file in this row, with these definitions.
-fn unit_of(alloc: Global, file: usize, defines: &[&str]) -> Result<Unit, Fail> {
+fn unit_of(alloc: Global, profile: Profile, file: usize, defines: &[&str]) -> Result<Unit, Fail> {
     let defines = texts_of(alloc, defines)?;
     if !fits_command(defines.as_slice()) {
         return Err(Fail::new("too long definitions"));
     }
     Ok(Unit {
         file,
-        defines: Definitions::read(alloc, defines)?,
+        defines: Definitions::read(alloc, defines, profile)?,
         search: texts_of(alloc, &[])?,
     })
 }
@@ -116,6 +126,24 @@ fn push_fault(alloc: Global, text: &mut Vec<u8>, fault: Option<&Fault>) -> Resul
     text.extend_from_slice(fault.text.as_bytes())
 }
 
+/// The text of items, one by one.
+fn spelled(alloc: Global, items: &Items) -> Result<Vec<u8>, AllocError> {
+    let mut text = Vec::new(alloc);
+    for item in items.iter() {
+        push_item(alloc, &mut text, &item.to_item(alloc)?)?;
+    }
+    Ok(text)
+}
+
+/// Whether the items one by one are those of the list.
+fn yields_all(alloc: Global, items: &Items) -> Result<bool, AllocError> {
+    let mut listed = Vec::new(alloc);
+    for item in &items.to_vec(alloc)? {
+        push_item(alloc, &mut listed, item)?;
+    }
+    Ok(listed.as_slice() == spelled(alloc, items)?.as_slice())
+}
+
 /// A unit's items, the rows that it depends on, and its fault: `1 x | 0 2 | 31 0:4:1 y.h`.
 fn shown(alloc: Global, out: &UnitOut) -> Result<Vec<u8>, AllocError> {
     let mut text = Vec::new(alloc);
@@ -143,10 +171,16 @@ fn given<'a>(
     requires { pass.old.shelf ≡ shelf.now }
     ensures { pass.new.shelf ≡ shelf.now }
 {
+    if shelf.profile() != setting.profile {
+        return Err(Fail::new("another profile"));
+    }
     if !unit_ok(shelf, unit) {
         return Err(Fail::new("no such unit"));
     }
     let out = preprocess(alloc, shelf, pass, disk, setting, unit)?;
+    if !yields_all(alloc, &out.items)? {
+        return Err(Fail::new("other items one by one"));
+    }
     Ok(shown(alloc, &out)?)
 }
 
@@ -166,19 +200,20 @@ fn all_given<'a>(
     Ok(texts)
 }
 
-/// That units of these files, one after the other over one pass, give texts.
+/// That units of these files, one after the other over one pass, give texts in a profile.
 fn assert_units(
     rt: &impl Abort,
     alloc: Global,
+    profile: Profile,
     files: &[(&str, &str)],
     cases: &[(usize, &[&str], &str)],
 ) -> Result<(), Fail> {
-    let shelf = shelf_of(alloc, files)?;
+    let shelf = shelf_of(alloc, profile, files)?;
     let disk = disk_of(alloc, files)?;
-    let setting = setting_of(alloc, "Feb  9 2024", "08:05:03")?;
+    let setting = setting_of(alloc, profile, "Feb  9 2024", "08:05:03")?;
     let mut units = Vec::new(alloc);
     for (file, defines, _wanted) in cases {
-        units.push(unit_of(alloc, *file, defines)?)?;
+        units.push(unit_of(alloc, profile, *file, defines)?)?;
     }
     let texts = all_given(alloc, &shelf, &disk, &setting, units.as_slice())?;
     for (text, (_file, _defines, wanted)) in texts.iter().zip(cases) {
@@ -192,10 +227,15 @@ fn assert_units(
     Ok(())
 }
 
-/// That a unit of the one file `a.c` gives a text, for each of these contents.
-fn assert_contents(rt: &impl Abort, alloc: Global, cases: &[(&str, &str)]) -> Result<(), Fail> {
+/// That a unit of the one file `a.c` gives a text in a profile, for each of these contents.
+fn assert_contents(
+    rt: &impl Abort,
+    alloc: Global,
+    profile: Profile,
+    cases: &[(&str, &str)],
+) -> Result<(), Fail> {
     for (text, wanted) in cases {
-        assert_units(rt, alloc, &[("a.c", text)], &[(0, &[], wanted)])?;
+        assert_units(rt, alloc, profile, &[("a.c", text)], &[(0, &[], wanted)])?;
     }
     Ok(())
 }
@@ -209,19 +249,25 @@ fn judges_settings_and_units(rt: HostRuntime) -> Result<(), Fail> {
         ("Feb  9 2024", "24:00:00", false),
     ] {
         assert_eq!(rt;
-            setting_ok(&setting_of(alloc, date, time)?),
+            setting_ok(&setting_of(alloc, Profile::C11, date, time)?),
             good,
             "{date} {time}"
         );
     }
-    let unit = unit_of(alloc, 0, &["A", "B 1"])?;
+    let unit = unit_of(alloc, Profile::C11, 0, &["A", "B 1"])?;
     assert!(rt;
         matches!(unit.defines.texts().as_slice(), [a, b] if a.as_str() == "A" && b.as_str() == "B 1")
     );
-    let shelf = shelf_of(alloc, &[("a.c", "")])?;
-    for (file, define, good) in [(1, "A", true), (2, "A", false), (0, "A\nB", false)] {
-        let unit = unit_of(alloc, file, &[define])?;
-        assert_eq!(rt; unit_ok(&shelf, &unit), good, "{file} {define}");
+    let shelf = shelf_of(alloc, Profile::C11, &[("a.c", "")])?;
+    for (profile, file, define, good) in [
+        (Profile::C11, 1, "A", true),
+        (Profile::C11, 2, "A", false),
+        (Profile::C11, 0, "A\nB", false),
+        (Profile::Later, 1, "A", false),
+    ] {
+        let unit = unit_of(alloc, profile, file, &[define])?;
+        assert_eq!(rt; unit_ok(&shelf, &unit), good, "{profile:?} {file} {define}");
+        assert!(rt; unit.defines.profile() == profile);
     }
     Ok(())
 }
@@ -243,7 +289,14 @@ fn processes_directive_lines(rt: HostRuntime) -> Result<(), Fail> {
             "pragma@0:1:1[ a b ] x pragma@0:3:1[ ] | 0 | ok",
         ),
     ];
-    assert_contents(&rt, rt.alloc(), &cases)
+    assert_contents(&rt, rt.alloc(), Profile::C11, &cases)
+}
+
+#[test]
+fn yields_items_one_by_one(rt: HostRuntime) -> Result<(), Fail> {
+    let text = "#define X 1 + 2\n#define J(a,b) a##b\na b X c\n#pragma p q\nJ(d,e) X\n#pragma\nf\n";
+    let wanted = "a b 1 + 2 c pragma@0:4:1[ p q ] de 1 + 2 pragma@0:6:1[ ] f | 0 | ok";
+    assert_contents(&rt, rt.alloc(), &[(text, wanted)])
 }
 
 #[test]
@@ -275,7 +328,7 @@ fn takes_one_group_of_a_section(rt: HostRuntime) -> Result<(), Fail> {
         ),
         ("#if 1\ndon't\n#endif\nx\n", "don | 0 | 7 0:2:4 '"),
     ];
-    assert_contents(&rt, rt.alloc(), &cases)
+    assert_contents(&rt, rt.alloc(), Profile::C11, &cases)
 }
 
 #[test]
@@ -294,7 +347,7 @@ fn numbers_lines(rt: HostRuntime) -> Result<(), Fail> {
         ("#line 0\n", "| 0 | 33 0:1:1 "),
         ("#line 1 L\"a\"\n", "| 0 | 33 0:1:1 "),
     ];
-    assert_contents(&rt, alloc, &cases)?;
+    assert_contents(&rt, alloc, Profile::C11, &cases)?;
     // an included file has its own name and lines, and the includer its own again
     let files = [
         (
@@ -306,6 +359,7 @@ fn numbers_lines(rt: HostRuntime) -> Result<(), Fail> {
     assert_units(
         &rt,
         alloc,
+        Profile::C11,
         &files,
         &[(0, &[], "1 \"h.h\" 10 \"q\" | 0 1 | ok")],
     )
@@ -326,7 +380,7 @@ fn keeps_units_apart(rt: HostRuntime) -> Result<(), Fail> {
         (2, ["X 'a"].as_slice(), "| | 7 65535:1:11 '"),
         (1, [].as_slice(), "int a ; | 1 | ok"),
     ];
-    assert_units(&rt, rt.alloc(), &files, &cases)
+    assert_units(&rt, rt.alloc(), Profile::C11, &files, &cases)
 }
 
 #[test]
@@ -362,7 +416,7 @@ fn includes_files(rt: HostRuntime) -> Result<(), Fail> {
         (8, [].as_slice(), "| 8 | 32 8:1:1 s.c"),
         (9, [].as_slice(), "| 9 | 6 9:1:1 gone.h"),
     ];
-    assert_units(&rt, rt.alloc(), &files, &cases)
+    assert_units(&rt, rt.alloc(), Profile::C11, &files, &cases)
 }
 
 #[test]
@@ -371,5 +425,113 @@ fn opens_files_down_to_depth_200(rt: HostRuntime) -> Result<(), Fail> {
     let mut wanted = "t ".repeat(alloc, 201)?;
     wanted.push_str("| 0 | 32 0:2:1 s.c")?;
     let files = [("s.c", "t\n#include \"s.c\"\n")];
-    assert_units(&rt, alloc, &files, &[(0, &[], wanted.as_str())])
+    assert_units(
+        &rt,
+        alloc,
+        Profile::C11,
+        &files,
+        &[(0, &[], wanted.as_str())],
+    )
+}
+
+#[test]
+fn has_the_later_branches(rt: HostRuntime) -> Result<(), Fail> {
+    let alloc = rt.alloc();
+    for (text, c11, later) in [
+        (
+            "#if 0\n#elifdef __STDC__\n1\n#endif\n",
+            "| 0 | ok",
+            "1 | 0 | ok",
+        ),
+        (
+            "#if 0\n#elifndef __STDC__\n1\n#endif\n",
+            "| 0 | ok",
+            "| 0 | ok",
+        ),
+        (
+            "#if 0\n#elifndef Q\n1\n#else\n2\n#endif\n",
+            "2 | 0 | ok",
+            "1 | 0 | ok",
+        ),
+        // a branch behind a taken group is not looked at
+        (
+            "#if 1\n#elifdef\n#endif\n",
+            "| 0 | 8 0:2:1 elifdef",
+            "| 0 | ok",
+        ),
+        (
+            "#if 0\n#elifdef\n#endif\n",
+            "| 0 | ok",
+            "| 0 | 9 0:2:1 elifdef",
+        ),
+        (
+            "#if 0\n#elifdef 'a\n#endif\n",
+            "| 0 | ok",
+            "| 0 | 7 0:2:10 '",
+        ),
+        (
+            "#elifndef Q\n",
+            "| 0 | 8 0:1:1 elifndef",
+            "| 0 | 3 0:1:1 elifndef",
+        ),
+        (
+            "#if 0\n#else\n#elifdef Q\n#endif\n",
+            "| 0 | 8 0:3:1 elifdef",
+            "| 0 | 4 0:3:1 elifdef",
+        ),
+    ] {
+        assert_contents(&rt, alloc, Profile::C11, &[(text, c11)])?;
+        assert_contents(&rt, alloc, Profile::Later, &[(text, later)])?;
+    }
+    Ok(())
+}
+
+#[test]
+fn reads_files_once(rt: HostRuntime) -> Result<(), Fail> {
+    let alloc = rt.alloc();
+    let files = [
+        ("s.c", "#pragma once\nt\n#include \"s.c\"\n"),
+        ("a.c", "#include \"h.h\"\n#include \"h.h\"\n"),
+        ("h.h", "#if 0\n#pragma once\n#endif\nt\n"),
+        (
+            "b.c",
+            "#include \"k.h\"\n#include \"./k.h\"\n#include <../inc/k.h>\n",
+        ),
+        ("inc/k.h", "t\n#pragma once\n#pragma once x\n"),
+    ];
+    let own = "pragma@0:1:1[ once ] t | 0 | ok";
+    let header = "t pragma@4:2:1[ once ] pragma@4:3:1[ once x ] | 3 4 | ok";
+    let cases = [
+        (0, [].as_slice(), own),
+        // what one unit reads once the next one reads again
+        (0, [].as_slice(), own),
+        // a pragma in a skipped group says nothing
+        (1, [].as_slice(), "t t | 1 2 | ok"),
+        (3, [].as_slice(), header),
+    ];
+    assert_units(&rt, alloc, Profile::Later, &files, &cases)?;
+    let mut wanted = "pragma@0:1:1[ once ] t ".repeat(alloc, 201)?;
+    wanted.push_str("| 0 | 32 0:3:1 s.c")?;
+    assert_units(
+        &rt,
+        alloc,
+        Profile::C11,
+        &files,
+        &[(0, &[], wanted.as_str())],
+    )
+}
+
+#[test]
+fn asks_for_the_depth_first(rt: HostRuntime) -> Result<(), Fail> {
+    let files = [
+        ("a.c", "#include \"o.h\"\n#include \"d.h\"\n"),
+        ("o.h", "#pragma once\n"),
+        ("d.h", "#include \"o.h\"\n#include \"d.h\"\n"),
+    ];
+    let cases = [(
+        0,
+        [].as_slice(),
+        "pragma@1:1:1[ once ] | 0 1 2 | 32 2:1:1 o.h",
+    )];
+    assert_units(&rt, rt.alloc(), Profile::Later, &files, &cases)
 }

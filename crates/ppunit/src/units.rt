@@ -1,7 +1,7 @@
 // What a unit is, and what its preprocessing gives.
 use crate::definitions::Definitions;
 use crate::lists::{Items, Rows, Text, Texts};
-use pptext::{Fault, Place, Token, Tokens};
+use pptext::{Fault, Place, Profile, Token, Tokens};
 
 /// What preprocessing passes on to translation phase 5 (5.1.1.2): a token, or a pragma with its tokens.
 #[derive(Drop, Debug)]
@@ -18,9 +18,11 @@ pub struct UnitOut<'a> {
     pub fault: Option<Fault>,
 }
 
-/// What all units of a list share: the date and the time of their translation (6.10.8.1), and folders that are searched for headers.
+/// What all units of a list share: their profile, the date and the time of their translation (6.10.8.1), and folders that are
+/// searched for headers.
 #[derive(Drop, Debug)]
 pub struct Setting {
+    pub profile: Profile,
     pub date: Text,
     pub time: Text,
     pub search: Texts,

@@ -2,15 +2,16 @@
 // file come before the line behind its include line.
 ghost use Rattle.std.specs.Prelude.{◌≡◌, ◌≢◌, ◌<◌, ◌≤◌, ◌+◌, ℕ, suc, List, ◌++◌, map, drop, length, string_bytes, IfOk, MatchResult, Bool, true, false, None, Some, Ok, Err};
 ghost use Rattle.std.specs.List.{AllByRecursion};
-ghost use Rattle.pptext.specs.Lines.{Row, directive_of};
+ghost use Rattle.pptext.specs.Lines.{LogicalLine};
 ghost use Rattle.pptext.specs.Tree.{Parts, Branches, branch_lines, AreBranches};
 ghost use Rattle.ppshelf.specs.Files.{Files, Extends};
 ghost use Rattle.ppunit.specs.Directives.{Asks};
 ghost use Rattle.pptext.specs.declared.sources.Directive.TheVariants.{Include};
 ghost use Rattle.ppunit.specs.Group.{Controls};
 ghost use Rattle.ppunit.specs.States.{Surroundings, Reached, surroundings_of};
+ghost use Rattle.ppunit.specs.Lines.{directed};
 ghost use Rattle.ppunit.specs.Quotes as quotes;
-ghost use Rattle.ppunit.specs.Walk.{line_at, opens_section, ends_group, IsTextRow, IsRest, Outer, BranchesAt, Enters, FindsBranch, Advances, Leads, Steps, Walks};
+ghost use Rattle.ppunit.specs.Walk.{line_at, opens_section, ends_group, has_condition, IsTextLine, IsRest, Outer, BranchesAt, Enters, FindsBranch, Advances, Leads, Steps, Walks};
 
 use crate::conditions::decide;
 use crate::directives::{control, error, run_text};
@@ -27,10 +28,10 @@ use std::alloc::Global;
 // Where the text run ends that begins at this line.
 fn run_end(source: &Source, start: usize) -> usize
     requires index { start < length source.now }
-    requires text { IsTextRow (line_at source.now start) }
+    requires text { IsTextLine (line_at source.now start) }
     ensures within { result ≤ length source.now }
     ensures further { start < result }
-    ensures run { (rows rest : List Row) → drop start source.now ≡ rows ++ rest → AllByRecursion IsTextRow rows → IsRest rest → (result ≡ start + length rows) × (drop result source.now ≡ rest) }
+    ensures run { (rows rest : List LogicalLine) → drop start source.now ≡ rows ++ rest → AllByRecursion IsTextLine rows → IsRest rest → (result ≡ start + length rows) × (drop result source.now ≡ rest) }
 {
     let lines = count(source);
     let mut end = start + 1;
@@ -38,6 +39,16 @@ fn run_end(source: &Source, start: usize) -> usize
         end += 1;
     }
     end
+}
+
+// Whether it is a branch with a condition.
+fn has_condition(directive: Directive) -> bool
+    ensures { result ≡ has_condition directive }
+{
+    matches!(
+        directive,
+        Directive::Elif | Directive::Elifdef | Directive::Elifndef
+    )
 }
 
 // Whether the work goes on behind a branch line.
@@ -48,15 +59,18 @@ fn enters(
     index: usize,
 ) -> Result<Result<bool, Fault>, Memory>
     requires { index < length source.now }
-    ensures { IfOk result (λ taken. Enters (directive_of (line_at source.now index).tokens) state.now (line_at source.now index).tokens taken) }
+    ensures { IfOk result (λ taken. Enters state.now (line_at source.now index) taken) }
 {
-    match line(source, index).directive {
-        Some(Directive::Elif) => { decide(alloc, state, Directive::Elif, tokens_at(source, index)) }
-        _ => Ok(Ok(true)),
+    let Some(directive) = line(source, index).directive else {
+        return Ok(Ok(true));
+    };
+    if !has_condition(directive) {
+        return Ok(Ok(true));
     }
+    decide(alloc, state, directive, tokens_at(source, index))
 }
 
-// Behind an opening line or an `#elif` that takes no group: the line that the work goes on with, within the branch
+// Behind an opening line or a branch that takes no group: the line that the work goes on with, within the branch
 // that is taken or behind `#endif`.
 fn find_branch(
     alloc: Global,
@@ -83,7 +97,7 @@ fn find_branch(
 fn section_end(source: &Source, branch: usize) -> usize
     requires { branch < length source.now }
     ensures further { branch < result }
-    ensures end { (last : Bool) (bs : Branches) (rest : List Row) → drop branch source.now ≡ branch_lines bs ++ rest → AreBranches last bs → drop result source.now ≡ rest }
+    ensures end { (last : Bool) (bs : Branches) (rest : List LogicalLine) → drop branch source.now ≡ branch_lines bs ++ rest → AreBranches last bs → drop result source.now ≡ rest }
 {
     let mut index = branch;
     while let Some(next) = line(source, index).next_branch {
@@ -106,10 +120,7 @@ fn opens_section(directive: Directive) -> bool
 fn ends_group(directive: Directive) -> bool
     ensures { result ≡ ends_group directive }
 {
-    matches!(
-        directive,
-        Directive::Elif | Directive::Else | Directive::Endif
-    )
+    has_condition(directive) || matches!(directive, Directive::Else | Directive::Endif)
 }
 
 // An opening line: the line that the work goes on with.
@@ -121,7 +132,7 @@ fn enter_section(
     index: usize,
 ) -> Result<Result<usize, Fault>, Memory>
     requires index { index < length source.now }
-    requires line { directive_of (line_at source.now index).tokens ≡ Some directive }
+    requires line { (line_at source.now index).directive ≡ Some directive }
     requires opens { opens_section directive ≡ true }
     ensures further { IfOk result (λ found. IfOk found (λ next. index < next)) }
     ensures entered { (around : Files → Surroundings) (files : Files) (depth row : ℕ) → IfOk result (λ next. Advances around files depth row source.now index state.now state.now next) }
@@ -141,7 +152,7 @@ fn do_run<'x>(
     index: usize,
 ) -> Result<Result<usize, Fault>, Memory>
     requires index { index < length source.now }
-    requires text { directive_of (line_at source.now index).tokens ≡ None }
+    requires text { IsTextLine (line_at source.now index) }
     ensures further { IfOk result (λ found. IfOk found (λ next. index < next)) }
     ensures run { (around : Files → Surroundings) (files : Files) (depth row : ℕ) → IfOk result (λ next. Advances around files depth row source.now index state.old state.new next) }
 {
@@ -164,11 +175,10 @@ fn include<'x, 'a: 'x, D: Disk>(
     requires shelf { pass.old.shelf ≡ around.now.shelf }
     requires rows { 0 < length around.now.shelf.names }
     requires depth { depth ≤ 200 }
-    requires line { directive_of line.now ≡ Some Include }
     requires quotes { quotes.lone_quote line.now ≡ None }
     ensures shelf { pass.new.shelf ≡ around.now.shelf }
     ensures grows { Extends pass.new.files pass.old.files }
-    ensures control { IfOk result (λ leads. (number : ℕ) → Leads (surroundings_of around.now) pass.new.files (suc depth) (λ (more : Files) (m : Reached). Controls (surroundings_of around.now more) depth row state.old (record { tokens = line.now; number = number }) m) state.new leads) }
+    ensures control { IfOk result (λ leads. (number : ℕ) → Leads (surroundings_of around.now) pass.new.files (suc depth) (λ (more : Files) (m : Reached). Controls (surroundings_of around.now more) depth row state.old (directed Include line.now number) m) state.new leads) }
 {
     let asked = match ask(around.alloc, state, line)? {
         Ok(asked) => asked,
@@ -194,12 +204,11 @@ fn do_line<'x, 'a: 'x, D: Disk>(
     requires shelf { pass.old.shelf ≡ around.now.shelf }
     requires rows { 0 < length around.now.shelf.names }
     requires depth { depth ≤ 200 }
-    requires line { directive_of line.now ≡ Some directive }
     requires opens { opens_section directive ≡ false }
     requires ends { ends_group directive ≡ false }
     ensures shelf { pass.new.shelf ≡ around.now.shelf }
     ensures grows { Extends pass.new.files pass.old.files }
-    ensures control { IfOk result (λ leads. Leads (surroundings_of around.now) pass.new.files (suc depth) (λ (more : Files) (m : Reached). Controls (surroundings_of around.now more) depth row state.old (record { tokens = line.now; number = physical }) m) state.new leads) }
+    ensures control { IfOk result (λ leads. Leads (surroundings_of around.now) pass.new.files (suc depth) (λ (more : Files) (m : Reached). Controls (surroundings_of around.now more) depth row state.old (directed directive line.now physical) m) state.new leads) }
 {
     if directive == Directive::Error {
         return Ok(Err(error(around.alloc, line)?));
@@ -210,7 +219,8 @@ fn do_line<'x, 'a: 'x, D: Disk>(
     if directive == Directive::Include {
         return include(around, pass, state, depth, row, line);
     }
-    match control(around.alloc, state, directive, line, physical)? {
+    let profile = around.profile();
+    match control(around.alloc, state, profile, row, directive, line, physical)? {
         None => Ok(Ok(None)),
         Some(fault) => Ok(Err(fault)),
     }

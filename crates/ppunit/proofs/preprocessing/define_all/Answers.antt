@@ -1,4 +1,4 @@
-use Rattle.std.proofs.Common.{◌≡◌, refl, rules}
+use Rattle.std.proofs.Common.{◌≡◌, rules}
 use Rattle.ppunit.specs.States.{surroundings_of}
 use Rattle.ppunit.proofs.Preprocessed.{defines_walked, defines_unread, on_ok}
 use Rattle.ppunit.proofs.preprocessing.define_all.Goals as goal
@@ -6,9 +6,14 @@ use Rattle.ppunit.proofs.preprocessing.define_all.Goals as goal
 pub returns-clause-defined : goal.returns-clause-defined
 returns-clause-defined g c =
     let walked = rw (c.new-file.ensures.row, c.new-file.ensures.source) at c.walk.ensures.walk in
-    on_ok c.walk.result (λ f walks. defines_walked c.tree_unless_fault.ensures (surroundings_of c.args.around.now) c.walk.new.pass.files c.args.defines.now _ _ _ c.args.state.now (record { state = c.walk.new.state; fault = f }) refl c.in-Ok.is c.lines.ensures walks) walked
+    on_ok c.walk.result
+    (λ f walks. defines_walked c.tree_unless_fault.ensures (surroundings_of c.args.around.now) c.walk.new.pass.files c.args.defines.now.profile
+    c.args.defines.now.texts _ _ c.args.state.now (record { state = c.walk.new.state; fault = f }) (λ more. c.requires.profile) c.in-Ok.is
+    c.lines.ensures
+    walks)
+    walked
 
 pub returns-in-Err-clause-defined : goal.returns-in-Err-clause-defined
 returns-in-Err-clause-defined g c =
     let same : c.in_ok-clone-in-Err.field-0 ≡ c.in-Err.fault = search rules in
-    rw same (defines_unread _ c.args.pass.now.files _ _ _ _ _ refl c.in-Err.is c.lines.ensures)
+    rw same (defines_unread _ c.args.pass.now.files c.args.defines.now.profile _ _ _ _ (λ more. c.requires.profile) c.in-Err.is c.lines.ensures)

@@ -1,5 +1,5 @@
 use Rattle.std.proofs.Common.{subst}
-use Rattle.ppunit.specs.States.{Library, surroundings_of}
+use Rattle.ppunit.specs.States.{Library, Reached, surroundings_of}
 use Rattle.ppunit.specs.Unit.{Translates}
 use Rattle.ppunit.proofs.Preprocessed.{whole_unit}
 use Rattle.ppunit.proofs.Dependent.{unit_within}
@@ -7,8 +7,14 @@ use Rattle.ppunit.proofs.preprocessing.preprocess.Goals as goal
 
 pub returns-clause-is : goal.returns-clause-is
 returns-clause-is g c =
-    let P : Library → Type 0 = λ l. Translates (surroundings_of l c.translate.new.pass.files) c.args.unit.now.defines c.args.unit.now.file c.in_ok-state.state (record { state = c.translate.new.state; fault = c.in_ok-fault.fault }) in
-    whole_unit c.args.shelf.now.names c.translate.new.pass.files c.args.setting.now c.args.unit.now _ _ c.in_ok-state.state (record { state = c.translate.new.state; fault = c.in_ok-fault.fault }) c.as_slice.ensures c.as_slice-2.ensures c.in_ok-state.ensures (subst P c.new-around.ensures c.in_ok-fault.ensures.translated)
+    let reached : Reached = record { state = c.translate.new.state; fault = c.in_ok-fault.fault } in
+    let Of : Library → Type 0 = λ l.
+    Translates (surroundings_of l c.translate.new.pass.files) c.args.unit.now.defines.texts c.args.unit.now.file c.in_ok-state.state reached in
+    whole_unit c.args.shelf.now.names c.args.shelf.now.profile c.translate.new.pass.files c.args.setting.now c.args.unit.now _ _ c.in_ok-state.state
+    reached
+    c.requires.profile c.as_slice.ensures c.as_slice-2.ensures c.in_ok-state.ensures
+    (subst Of c.new-around.ensures c.in_ok-fault.ensures.translated)
 
 pub returns-clause-deps : goal.returns-clause-deps
-returns-clause-deps g c = unit_within c.args.shelf.now.names c.translate.new.pass.files c.args.setting.now c.args.unit.now _ (returns-clause-is g c) c.requires.unit
+returns-clause-deps g c =
+    unit_within c.args.shelf.now.names c.translate.new.pass.files c.args.setting.now c.args.unit.now _ (returns-clause-is g c) c.requires.unit.0

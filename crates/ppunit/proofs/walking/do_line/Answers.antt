@@ -1,9 +1,9 @@
-use Rattle.std.proofs.Common.{rules, ◌≡◌, ◌≢◌, None, Some, sym, ap, ◌∙◌, subst}
+use Rattle.std.proofs.Common.{rules, ◌≡◌, ◌≢◌, None, Some, refl, sym, ap, ◌∙◌, subst}
 use Rattle.pptext.specs.declared.sources.Directive.{Directive}
-use Rattle.pptext.specs.declared.sources.Directive.TheVariants.{Error}
+use Rattle.pptext.specs.declared.sources.Directive.TheVariants.{Error, Include}
 use Rattle.pptext.specs.declared.tokens.Fault.{Fault}
-use Rattle.pptext.specs.Lines.{directive_of}
 use Rattle.ppunit.specs.States.{surroundings_of}
+use Rattle.ppunit.specs.Lines.{directed}
 use Rattle.ppunit.specs.Group.{Controls}
 use Rattle.ppunit.proofs.Walk.{none_of}
 use Rattle.ppunit.proofs.Opens.{other_control}
@@ -14,22 +14,32 @@ pub returns-then-eq-clause-control : goal.returns-then-eq-clause-control
 returns-then-eq-clause-control g c more grows =
     let is : c.args.directive ≡ Error = search rules in
     let fault = c.in_ok-error.ensures in
-    subst (λ (z : Fault). Controls (surroundings_of c.args.around.now more) c.args.depth c.args.row c.args.state.now (record { tokens = c.args.line.now; number = c.args.physical }) (record { state = c.args.state.now; fault = Some z })) (sym fault) (Controls.error (c.requires.line ∙ ap (λ (z : Directive). Some z) is))
+    let line = directed c.args.directive c.args.line.now c.args.physical in
+    subst (λ (z : Fault). Controls (surroundings_of c.args.around.now more) c.args.depth c.args.row c.args.state.now line
+    (record { state = c.args.state.now; fault = Some z }))
+    (sym fault) (Controls.error (ap (λ (z : Directive). Some z) is))
 
 pub returns-in-Some-clause-control : goal.returns-in-Some-clause-control
 returns-in-Some-clause-control g c more grows =
-    let other : directive_of c.args.line.now ≢ Some Error = λ h. let is : c.args.directive ≡ Error = cc in search rules in
+    let other : Some c.args.directive ≢ Some Error = λ h. let is : c.args.directive ≡ Error = cc in search rules in
     Controls.quote other (sym c.in_ok-fault.ensures ∙ c.in-Some.is)
 
 pub returns-then-eq-2-clause-control : goal.returns-then-eq-2-clause-control
-returns-then-eq-2-clause-control g c = on_ok c.include.result (λ r leads. leads c.args.physical) c.include.ensures.control
+returns-then-eq-2-clause-control g c =
+    let is : c.args.directive ≡ Include = search rules in
+    rw is (on_ok c.include.result (λ r leads. leads c.args.physical) c.include.ensures.control)
 
 pub returns-in-None-clause-control : goal.returns-in-None-clause-control
 returns-in-None-clause-control g c more grows =
     let alone = sym c.in_ok-fault.ensures ∙ none_of c.in_ok-fault.field-0 c.in_default.not-Some in
-    other_control (surroundings_of c.args.around.now more) c.args.depth c.args.row c.args.state.now c.control.new.state c.args.directive (record { tokens = c.args.line.now; number = c.args.physical }) c.in_ok-control.field-0 None c.requires.line alone c.in-None.is c.in_ok-control.ensures
+    let line = directed c.args.directive c.args.line.now c.args.physical in
+    other_control (surroundings_of c.args.around.now more) c.args.depth c.args.row c.profile-profile.result c.args.state.now c.control.new.state
+    c.args.directive line c.in_ok-control.field-0 None c.profile-profile.ensures refl alone c.in-None.is c.in_ok-control.ensures
 
 pub returns-in-Some-2-clause-control : goal.returns-in-Some-2-clause-control
 returns-in-Some-2-clause-control g c more grows =
     let alone = sym c.in_ok-fault.ensures ∙ none_of c.in_ok-fault.field-0 c.in_default.not-Some in
-    other_control (surroundings_of c.args.around.now more) c.args.depth c.args.row c.args.state.now c.control.new.state c.args.directive (record { tokens = c.args.line.now; number = c.args.physical }) c.in_ok-control.field-0 (Some c.in-Some-2.fault) c.requires.line alone c.in-Some-2.is c.in_ok-control.ensures
+    let line = directed c.args.directive c.args.line.now c.args.physical in
+    other_control (surroundings_of c.args.around.now more) c.args.depth c.args.row c.profile-profile.result c.args.state.now c.control.new.state
+    c.args.directive line c.in_ok-control.field-0 (Some c.in-Some-2.fault) c.profile-profile.ensures refl alone c.in-Some-2.is
+    c.in_ok-control.ensures

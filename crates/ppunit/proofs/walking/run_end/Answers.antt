@@ -1,5 +1,5 @@
 use Rattle.std.proofs.Common.{◌∙◌, sym, arith}
-use Rattle.ppunit.specs.Walk.{line_at, IsTextRow}
+use Rattle.ppunit.specs.Walk.{line_at, IsTextLine}
 use Rattle.ppunit.proofs.Walk.{run_start, run_more, run_done, none_by, some_not}
 use Rattle.ppunit.proofs.walking.run_end.Goals as goal
 
@@ -8,7 +8,7 @@ loop-end-init c = run_more c.args.source.now c.args.start c.args.start c.require
 
 pub loop-end-preserved : goal.loop-end-preserved
 loop-end-preserved c =
-    let text : IsTextRow (line_at c.args.source.now c.loop-end.end) = sym c.line.ensures.directive ∙ none_by c.line.result.now.directive c.if-is_none.ensures in
+    let text : IsTextLine (line_at c.args.source.now c.loop-end.end) = sym c.line.ensures.directive ∙ none_by c.line.result.now.directive c.if-is_none.ensures in
     run_more c.args.source.now c.args.start c.loop-end.end (omega arith) text c.loop-end.invariant
 
 pub returns-else-is_none-clause-run : goal.returns-else-is_none-clause-run

@@ -1,0 +1,24 @@
+-- Items, one by one.
+use Rattle.std.specs.Prelude.{List, [], map, Option, Some, None}
+use Rattle.ppexpand.specs.Pieces.{ref_token}
+use Rattle.ppexpand.specs.declared.run_iter.RunIter.{RunIter}
+use Rattle.ppunit.specs.declared.units.Item.{Item}
+use Rattle.ppunit.specs.declared.units.Item.TheVariants as item
+use Rattle.ppunit.specs.declared.lists.Part.{Part}
+use Rattle.ppunit.specs.declared.items.ItemRef.{ItemRef}
+use Rattle.ppunit.specs.declared.items.ItemRef.TheVariants as ref
+use Rattle.ppunit.specs.declared.items.PartsLeft.{PartsLeft}
+
+-- the item that a borrowed one shows
+abbrev pub ref_item : ItemRef → Item
+ref_item (ref.Token t) = item.Token (ref_token t)
+ref_item (ref.Pragma at ts) = item.Pragma at ts.now
+
+-- what is left of the run that is being read
+abbrev pub run_items : Option RunIter → List Item
+run_items (Some r) = map item.Token r
+run_items None = []
+
+-- the parts that are still to be read
+abbrev pub parts_left : PartsLeft → List Part
+parts_left l = l.parts.now

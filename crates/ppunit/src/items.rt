@@ -1,0 +1,108 @@
+// Items, one by one.
+ghost use Rattle.std.specs.Prelude.{◌≡◌, IfOk};
+ghost use Rattle.std.specs.Iterator.{YieldsFirstBy, YieldsFirstRef, item_count};
+ghost use Rattle.ppunit.specs.Yielding.{ref_item, parts_left};
+
+use crate::lists::{Items, Part};
+use crate::units::Item;
+use ppexpand::{RunIter, TokenRef};
+use pptext::{Place, Token, Tokens};
+use std::alloc::{AllocError, Global};
+use std::marker::Model;
+
+/// An item, borrowed: a token, or a pragma's place and tokens (6.10.6).
+#[derive(Clone, Copy)]
+pub enum ItemRef<'r, 'a> {
+    Token(TokenRef<'r, 'a>),
+    Pragma(Place, &'a [Token]),
+}
+
+impl<'r, 'a> ItemRef<'r, 'a> {
+    /// A copy of the item. Fails only where memory runs out.
+    pub fn to_item(&self, alloc: Global) -> Result<Item, AllocError>
+        ensures { IfOk result (λ i. i ≡ ref_item self.now) }
+    {
+        match self {
+            ItemRef::Token(token) => Ok(Item::Token(token.to_token()?)),
+            ItemRef::Pragma(at, tokens) => {
+                let tokens = Tokens::new(Vec::from_clones(alloc, tokens)?);
+                Ok(Item::Pragma(*at, tokens))
+            }
+        }
+    }
+}
+
+/// The parts that are still to be read.
+#[derive(Clone, Copy)]
+pub(crate) struct PartsLeft<'r, 'a> {
+    parts: &'r [Part<'a>],
+}
+
+impl<'r, 'a> PartsLeft<'r, 'a> {
+    /// The first of them, taken out.
+    fn next(&mut self) -> Option<&'r Part<'a>>
+        ensures { YieldsFirstRef parts_left self.old result self.new }
+    {
+        let (first, parts) = self.parts.split_first()?;
+        *self = PartsLeft { parts };
+        Some(first)
+    }
+}
+
+/// Items in order, borrowed from their list. No memory is asked for. Contracts see the list of those that are left.
+#[derive(Drop)]
+pub struct ItemsIter<'r, 'a> {
+    run: Option<RunIter<'r, 'a>>,
+    left: PartsLeft<'r, 'a>,
+}
+
+impl<'r, 'a> Model for ItemsIter<'r, 'a> {
+    ghost use Rattle.std.specs.Prelude.{List, ◌++◌, flat_map};
+    ghost use Rattle.ppunit.specs.declared.units.Item.{Item};
+
+    ghost Value = { List Item };
+
+    ghost use Rattle.ppunit.specs.Parts.{part_items};
+    ghost use Rattle.ppunit.specs.Yielding.{run_items, parts_left};
+
+    ghost view = { λ i. run_items i.run ++ flat_map part_items (parts_left i.left) };
+}
+
+impl<'r, 'a> Iterator for ItemsIter<'r, 'a> {
+    type Item = ItemRef<'r, 'a>;
+
+    ghost next_gives = { YieldsFirstBy ref_item (λ rest. rest) };
+
+    ghost remaining = { item_count (λ rest. rest) };
+
+    fn next(&mut self) -> Option<ItemRef<'r, 'a>> {
+        loop {
+            if let Some(run) = &mut self.run {
+                if let Some(token) = run.next() {
+                    return Some(ItemRef::Token(token));
+                }
+            }
+            match self.left.next()? {
+                Part::Run(run) => self.run = Some(run.iter()),
+                Part::Pragma(at, tokens) => {
+                    self.run = None;
+                    return Some(ItemRef::Pragma(*at, tokens));
+                }
+            }
+        }
+    }
+}
+
+impl<'a> Items<'a> {
+    /// The items one by one, in order, each borrowed.
+    pub fn iter(&self) -> ItemsIter<'_, 'a>
+        ensures { result ≡ self.now }
+    {
+        ItemsIter {
+            run: None,
+            left: PartsLeft {
+                parts: self.parts(),
+            },
+        }
+    }
+}
