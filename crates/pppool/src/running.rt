@@ -17,7 +17,8 @@ use std::alloc::Global;
 use std::thread;
 use std::thread::Threads;
 
-/// Preprocesses the units of a list, at most 65,535, by so many workers, 1 to 64, in blocks of 1 to 1024 units.
+/// Preprocesses the units of a list, at most 65,535, by so many workers, 1 to 64, in blocks of 1 to 1024 units. The shelf and the
+/// units' definitions are read by the setting's profile.
 ///
 /// Each worker has a seat at a desk and a pass of its own, and claims blocks until none is left. Before each unit it enters the
 /// gate. Where no thread can be made the workers run in turn. In the end the pass has met all workers' passes, and the answers are
@@ -40,7 +41,8 @@ pub fn run<'a, R: Threads + Sync, D: Disk + Send + Sync, G: Gate + Sync>(
     requires workers { (1 ≤ workers) × (workers ≤ 64) }
     requires block { (1 ≤ block) × (block ≤ 1024) }
     requires count { length units.now ≤ 65_535 }
-    requires rows { All (IsUnitOf (length shelf.now.names)) units.now }
+    requires profile { shelf.now.profile ≡ setting.now.profile }
+    requires rows { All (IsUnitOf (length shelf.now.names) setting.now.profile) units.now }
     ensures shelf { pass.new.shelf ≡ shelf.now }
     ensures grows { Extends pass.new.files pass.old.files }
     ensures value { IfOk result (λ outs. AreUnits shelf.now.names pass.new.files setting.now units.now outs.items) }
@@ -94,7 +96,8 @@ fn gather<'a, R: Threads + Sync, D: Disk + Send + Sync, G: Gate + Sync>(
     requires shelf { pass.old.shelf ≡ job.now.shelf.now }
     requires block { (1 ≤ job.now.block) × (job.now.block ≤ 1024) }
     requires blocks { job.now.desk.now.plan.blocks ≤ 65_535 }
-    requires rows { All (IsUnitOf (length job.now.shelf.now.names)) job.now.units.now }
+    requires profile { job.now.shelf.now.profile ≡ job.now.setting.now.profile }
+    requires rows { All (IsUnitOf (length job.now.shelf.now.names) job.now.setting.now.profile) job.now.units.now }
     ensures shelf { pass.new.shelf ≡ job.now.shelf.now }
     ensures grows { Extends pass.new.files pass.old.files }
     ensures seats { IfOk result (λ r. All (λ s. s.desk ≡ job.now.desk.now) r.0.items) }
@@ -102,7 +105,7 @@ fn gather<'a, R: Threads + Sync, D: Disk + Send + Sync, G: Gate + Sync>(
     ensures full { IfOk result (λ r. AllFilled (length job.now.units.now) job.now.block (claims_of r.0.items) r.1.items) }
 {
     let task = |seat: DeskSeat| -> Result<Worker<D>, Memory>
-        requires { (seat ≡ new_seat job.now.desk.now) × (1 ≤ job.now.block) × (job.now.block ≤ 1024) × (job.now.desk.now.plan.blocks ≤ 65_535) × All (IsUnitOf (length job.now.shelf.now.names)) job.now.units.now }
+        requires { (seat ≡ new_seat job.now.desk.now) × (1 ≤ job.now.block) × (job.now.block ≤ 1024) × (job.now.desk.now.plan.blocks ≤ 65_535) × (job.now.shelf.now.profile ≡ job.now.setting.now.profile) × All (IsUnitOf (length job.now.shelf.now.names) job.now.setting.now.profile) job.now.units.now }
         ensures { IfOk result (λ w. IsDone job.entry.now.desk.now job.entry.now.shelf.now job.entry.now.setting.now job.entry.now.units.now job.entry.now.block w.seat w.pass w.answers.items) }
     { Worker::in_seat(job, seat) };
     let done = thread::map_vec(threads, seats, &task)?;

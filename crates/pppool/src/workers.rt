@@ -68,7 +68,8 @@ impl<'a, D: Disk> Worker<'a, D> {
     fn work_unit<G: Gate>(&mut self, job: &Job<'a, '_, D, G>, unit: usize) -> Result<(), Memory>
         requires shelf { self.old.pass.shelf ≡ job.now.shelf.now }
         requires unit { unit < length job.now.units.now }
-        requires rows { All (IsUnitOf (length job.now.shelf.now.names)) job.now.units.now }
+        requires profile { job.now.shelf.now.profile ≡ job.now.setting.now.profile }
+        requires rows { All (IsUnitOf (length job.now.shelf.now.names) job.now.setting.now.profile) job.now.units.now }
         requires answers { AreAnswers job.now.shelf.now self.old.pass.files job.now.setting.now job.now.units.now self.old.answers.items }
         ensures seat { self.new.seat ≡ self.old.seat }
         ensures shelf { self.new.pass.shelf ≡ job.now.shelf.now }
@@ -95,7 +96,8 @@ impl<'a, D: Disk> Worker<'a, D> {
         requires shelf { self.old.pass.shelf ≡ job.now.shelf.now }
         requires block { (1 ≤ job.now.block) × (job.now.block ≤ 1024) }
         requires number { number < 65_535 }
-        requires rows { All (IsUnitOf (length job.now.shelf.now.names)) job.now.units.now }
+        requires profile { job.now.shelf.now.profile ≡ job.now.setting.now.profile }
+        requires rows { All (IsUnitOf (length job.now.shelf.now.names) job.now.setting.now.profile) job.now.units.now }
         requires answers { AreAnswers job.now.shelf.now self.old.pass.files job.now.setting.now job.now.units.now self.old.answers.items }
         ensures seat { self.new.seat ≡ self.old.seat }
         ensures shelf { self.new.pass.shelf ≡ job.now.shelf.now }
@@ -117,7 +119,8 @@ impl<'a, D: Disk> Worker<'a, D> {
         requires shelf { self.old.pass.shelf ≡ job.now.shelf.now }
         requires block { (1 ≤ job.now.block) × (job.now.block ≤ 1024) }
         requires blocks { job.now.desk.now.plan.blocks ≤ 65_535 }
-        requires rows { All (IsUnitOf (length job.now.shelf.now.names)) job.now.units.now }
+        requires profile { job.now.shelf.now.profile ≡ job.now.setting.now.profile }
+        requires rows { All (IsUnitOf (length job.now.shelf.now.names) job.now.setting.now.profile) job.now.units.now }
         requires answers { self.old.answers.items ≡ [] }
         ensures { OnOk result (IsDone job.now.desk.now job.now.shelf.now job.now.setting.now job.now.units.now job.now.block self.new.seat self.new.pass self.new.answers.items) }
     {
@@ -132,7 +135,8 @@ impl<'a, D: Disk> Worker<'a, D> {
         requires seat { seat ≡ new_seat job.now.desk.now }
         requires block { (1 ≤ job.now.block) × (job.now.block ≤ 1024) }
         requires blocks { job.now.desk.now.plan.blocks ≤ 65_535 }
-        requires rows { All (IsUnitOf (length job.now.shelf.now.names)) job.now.units.now }
+        requires profile { job.now.shelf.now.profile ≡ job.now.setting.now.profile }
+        requires rows { All (IsUnitOf (length job.now.shelf.now.names) job.now.setting.now.profile) job.now.units.now }
         ensures { IfOk result (λ w. IsDone job.now.desk.now job.now.shelf.now job.now.setting.now job.now.units.now job.now.block w.seat w.pass w.answers.items) }
     {
         let mut worker = Worker {

@@ -21,7 +21,8 @@ fn by_one<'a>(
     setting: &Setting,
     units: &'a [Unit],
 ) -> Result<Found<'a>, Memory>
-    requires { All (IsUnitOf (length shelf.now.names)) units.now }
+    requires profile { shelf.now.profile ≡ setting.now.profile }
+    requires rows { All (IsUnitOf (length shelf.now.names) setting.now.profile) units.now }
     ensures { IfOk result (λ f. f.0.shelf ≡ shelf.now) }
 {
     let mut pass = shelf.pass()?;
@@ -52,15 +53,16 @@ fn by_two<'a, R: Threads>(
     setting: &Setting,
     units: &'a [Unit],
 ) -> Result<Found<'a>, Memory>
-    requires { All (IsUnitOf (length shelf.now.names)) units.now }
+    requires profile { shelf.now.profile ≡ setting.now.profile }
+    requires rows { All (IsUnitOf (length shelf.now.names) setting.now.profile) units.now }
     ensures { IfOk result (λ f. f.0.shelf ≡ shelf.now) }
 {
     let one = || -> Result<Found, Memory>
-        requires { All (IsUnitOf (length shelf.now.names)) units.now }
+        requires { (shelf.now.profile ≡ setting.now.profile) × All (IsUnitOf (length shelf.now.names) setting.now.profile) units.now }
         ensures { IfOk result (λ f. f.0.shelf ≡ shelf.entry.now) }
     { by_one(alloc, shelf, disk, setting, units) };
     let two = || -> Result<Found, Memory>
-        requires { All (IsUnitOf (length shelf.now.names)) units.now }
+        requires { (shelf.now.profile ≡ setting.now.profile) × All (IsUnitOf (length shelf.now.names) setting.now.profile) units.now }
         ensures { IfOk result (λ f. f.0.shelf ≡ shelf.entry.now) }
     { by_one(alloc, shelf, disk, setting, units) };
     let (one, two) = thread::join(rt, one, two);
@@ -75,15 +77,16 @@ fn by_four<'a, R: Threads + Sync>(
     setting: &Setting,
     units: &'a [Unit],
 ) -> Result<Found<'a>, Memory>
-    requires { All (IsUnitOf (length shelf.now.names)) units.now }
+    requires profile { shelf.now.profile ≡ setting.now.profile }
+    requires rows { All (IsUnitOf (length shelf.now.names) setting.now.profile) units.now }
     ensures { IfOk result (λ f. f.0.shelf ≡ shelf.now) }
 {
     let one = || -> Result<Found, Memory>
-        requires { All (IsUnitOf (length shelf.now.names)) units.now }
+        requires { (shelf.now.profile ≡ setting.now.profile) × All (IsUnitOf (length shelf.now.names) setting.now.profile) units.now }
         ensures { IfOk result (λ f. f.0.shelf ≡ shelf.entry.now) }
     { by_two(rt, alloc, shelf, disk, setting, units) };
     let two = || -> Result<Found, Memory>
-        requires { All (IsUnitOf (length shelf.now.names)) units.now }
+        requires { (shelf.now.profile ≡ setting.now.profile) × All (IsUnitOf (length shelf.now.names) setting.now.profile) units.now }
         ensures { IfOk result (λ f. f.0.shelf ≡ shelf.entry.now) }
     { by_two(rt, alloc, shelf, disk, setting, units) };
     let (one, two) = thread::join(rt, one, two);

@@ -1,9 +1,11 @@
 // Units of small files, what they give as texts, and a disk whose files change.
 ghost use Rattle.std.specs.Prelude.{◌≡◌, ◌<◌, ◌≤◌, IfOk, All, length};
 ghost use Rattle.std.specs.Vec.{vec_len};
+ghost use Rattle.pptext.specs.declared.sources.Profile.TheVariants.{C11};
 ghost use Rattle.ppunit.specs.Unit.{IsUnitOf};
 
 use ppshelf::{Disk, ReadFault, Shelf};
+use pptext::Profile;
 use ppunit::{Definitions, Item, Setting, Text, Texts, Unit, UnitOut, fits_command};
 use std::alloc::{AllocError, Global};
 use std::sync::atomic::AtomicU64;
@@ -54,7 +56,9 @@ impl Changing {
 }
 
 /// A shelf of these names.
-pub(crate) fn shelf_of<D: Disk>(alloc: Global, names: &[&str]) -> Result<Shelf<D>, Fail> {
+pub(crate) fn shelf_of<D: Disk>(alloc: Global, names: &[&str]) -> Result<Shelf<D>, Fail>
+    ensures { IfOk result (λ s. s.profile ≡ C11) }
+{
     let mut texts = Vec::new(alloc);
     for name in names {
         texts.push(String::from_str(alloc, name)?)?;
@@ -62,11 +66,14 @@ pub(crate) fn shelf_of<D: Disk>(alloc: Global, names: &[&str]) -> Result<Shelf<D
     if texts.len() > 65_535 {
         return Err(Fail::new("too many names"));
     }
-    Ok(Shelf::new(alloc, texts)?)
+    Ok(Shelf::new(alloc, texts, Profile::C11)?)
 }
 
-pub(crate) fn setting_of(alloc: Global) -> Result<Setting, AllocError> {
+pub(crate) fn setting_of(alloc: Global) -> Result<Setting, AllocError>
+    ensures { IfOk result (λ s. s.profile ≡ C11) }
+{
     Ok(Setting {
+        profile: Profile::C11,
         date: Text::new(String::from_str(alloc, "Feb  9 2024")?),
         time: Text::new(String::from_str(alloc, "08:05:03")?),
         search: Texts::new(Vec::new(alloc)),
@@ -75,7 +82,7 @@ pub(crate) fn setting_of(alloc: Global) -> Result<Setting, AllocError> {
 
 // A unit of the file in this row.
 fn unit_of(alloc: Global, file: usize) -> Result<Unit, Fail>
-    ensures { IfOk result (λ u. u.file ≡ file) }
+    ensures { IfOk result (λ u. (u.file ≡ file) × (u.defines.profile ≡ C11)) }
 {
     let defines = Texts::new(Vec::new(alloc));
     if !fits_command(defines.as_slice()) {
@@ -83,7 +90,7 @@ fn unit_of(alloc: Global, file: usize) -> Result<Unit, Fail>
     }
     Ok(Unit {
         file,
-        defines: Definitions::read(alloc, defines)?,
+        defines: Definitions::read(alloc, defines, Profile::C11)?,
         search: Texts::new(Vec::new(alloc)),
     })
 }
@@ -94,7 +101,7 @@ pub(crate) fn first_units<D: Disk>(
     shelf: &Shelf<D>,
     count: usize,
 ) -> Result<Vec<Unit>, Fail>
-    ensures rows { IfOk result (λ us. All (IsUnitOf (length shelf.now.names)) us.items) }
+    ensures rows { IfOk result (λ us. All (IsUnitOf (length shelf.now.names) C11) us.items) }
     ensures few { IfOk result (λ us. length us.items ≤ 65_535) }
 {
     let mut units = Vec::new(alloc);

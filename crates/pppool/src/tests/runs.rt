@@ -1,5 +1,6 @@
 // Lists of units, run by several workers.
 ghost use Rattle.std.specs.Prelude.{◌≡◌, ◌<◌, ◌≤◌, All, length};
+ghost use Rattle.pptext.specs.declared.sources.Profile.TheVariants.{C11};
 ghost use Rattle.ppunit.specs.Unit.{IsUnitOf};
 
 use super::lists::{Changing, first_units, push_tokens, setting_of, shelf_of};
@@ -122,7 +123,8 @@ fn given<'a, R: Threads + Sync, D: Disk + Send + Sync, G: Gate + Sync>(
     requires workers { (1 ≤ workers) × (workers ≤ 64) }
     requires block { (1 ≤ block) × (block ≤ 1024) }
     requires count { length units.now ≤ 65_535 }
-    requires rows { All (IsUnitOf (length shelf.now.names)) units.now }
+    requires profile { shelf.now.profile ≡ C11 }
+    requires rows { All (IsUnitOf (length shelf.now.names) C11) units.now }
 {
     let setting = setting_of(alloc)?;
     let mut pass = shelf.pass()?;
