@@ -86,10 +86,10 @@ gives_from may list shelf units outs named same gives =
     subst R same (subst P named gives)
 
 -- the units of a list that can be run are units of its shelf
-pub can_run : (list : CompilationList) (names : List (List ℕ)) (units : List UnitOfList) → IsRunnable list → names ≡ list.names → units ≡ list.units → All (IsUnitOf (length names)) units
+pub can_run : (list : CompilationList) (names : List (List ℕ)) (units : List UnitOfList) → IsRunnable list → names ≡ list.names → units ≡ list.units → All (IsUnitOf (length names) list.setting.profile) units
 can_run list names units runs named same =
-    let P : List UnitOfList → Type 0 = λ us. All (IsUnitOf (length list.names)) us in
-    let Q : List (List ℕ) → Type 0 = λ ns. All (IsUnitOf (length ns)) units in
+    let P : List UnitOfList → Type 0 = λ us. All (IsUnitOf (length list.names) list.setting.profile) us in
+    let Q : List (List ℕ) → Type 0 = λ ns. All (IsUnitOf (length ns) list.setting.profile) units in
     subst Q (sym named) (subst P (sym same) runs.units)
 
 -- they aren't too many

@@ -11,12 +11,12 @@ use Rattle.std.proofs.lemmas.List.Quantifiers.{position-Some}
 use Rattle.std.proofs.lemmas.List.Sums.{AllPass-from_list_all}
 use Rattle.serde_json.specs.Data.{Data}
 use Rattle.ppunit.specs.Forms.{is_one_line}
-use Rattle.ppunit.specs.Unit.{command_text}
+use Rattle.ppunit.specs.Unit.{IsUnitOf, command_text}
 use Rattle.ppunit.specs.declared.units.Unit.{Unit as UnitOfList}
 use Rattle.cppunits.specs.Shape.{draft}
 use Rattle.ppshelf.specs.Content.{longest}
 use Rattle.ppshelf.specs.Files.{most_rows}
-use Rattle.cppunits.specs.Listing.{accepted, refused, json_value, outcome_of, judged, listed, listed_unit, place_of, names_of, contents_of, names_hold, sizes_hold, are_known, times_hold, lines_hold, folders_hold, most_input, IsRunnable}
+use Rattle.cppunits.specs.Listing.{accepted, refused, json_value, outcome_of, judged, listed, listed_unit, place_of, names_of, contents_of, names_hold, sizes_hold, are_known, times_hold, lines_hold, folders_hold, profile_holds, profile_of, most_input, IsRunnable}
 use Rattle.cppunits.specs.declared.list.List.{List as CompilationList}
 use Rattle.cppunits.specs.declared.list.drafts.Draft.{Draft}
 use Rattle.cppunits.specs.declared.list.drafts.DraftFile.{DraftFile}
@@ -41,20 +41,21 @@ record Passed (x : CompilationList) (names sizes files times lines : Bool) (l : 
   pub times_pass : times ≡ true
   pub lines_pass : lines ≡ true
 
-passed : (x : CompilationList) (names sizes files times lines folders : Bool) (l : CompilationList)
-    → (if not names then refused 3 else (if not sizes then refused 4 else (if not files then refused 5 else (if not times then refused 6 else (if not lines then refused 7 else (if not folders then refused 8 else accepted x)))))) ≡ accepted l
+passed : (x : CompilationList) (names sizes files times lines folders profile : Bool) (l : CompilationList)
+    → (if not names then refused 3 else (if not sizes then refused 4 else (if not files then refused 5 else (if not times then refused 6 else (if not lines then refused 7 else (if not folders then refused 8 else (if not profile then refused 9 else accepted x))))))) ≡ accepted l
     → Passed x names sizes files times lines l
-passed x false sizes files times lines folders l e = absurd (cc)
-passed x true false files times lines folders l e = absurd (cc)
-passed x true true false times lines folders l e = absurd (cc)
-passed x true true true false lines folders l e = absurd (cc)
-passed x true true true true false folders l e = absurd (cc)
-passed x true true true true true false l e = absurd (cc)
-passed x true true true true true true l e = record { is_list = cc; names_pass = refl; sizes_pass = refl; files_pass = refl; times_pass = refl; lines_pass = refl }
+passed x false sizes files times lines folders profile l e = absurd (cc)
+passed x true false files times lines folders profile l e = absurd (cc)
+passed x true true false times lines folders profile l e = absurd (cc)
+passed x true true true false lines folders profile l e = absurd (cc)
+passed x true true true true false folders profile l e = absurd (cc)
+passed x true true true true true false profile l e = absurd (cc)
+passed x true true true true true true false l e = absurd (cc)
+passed x true true true true true true true l e = record { is_list = cc; names_pass = refl; sizes_pass = refl; files_pass = refl; times_pass = refl; lines_pass = refl }
 
 judged-passed : (inline : Bool) (d : Draft) (l : CompilationList) → judged inline d ≡ accepted l
     → Passed (listed inline d) (names_hold d.files) (sizes_hold d) (are_known (names_of d.files) d.units) (times_hold d.setting) (lines_hold d.units) l
-judged-passed inline d l e = passed (listed inline d) (names_hold d.files) (sizes_hold d) (are_known (names_of d.files) d.units) (times_hold d.setting) (lines_hold d.units) (folders_hold d) l e
+judged-passed inline d l e = passed (listed inline d) (names_hold d.files) (sizes_hold d) (are_known (names_of d.files) d.units) (times_hold d.setting) (lines_hold d.units) (folders_hold d) (profile_holds d.setting) l e
 
 pub both : (a b : Bool) → (a && b) ≡ true → (a ≡ true) × (b ≡ true)
 both true b h = (refl, h)
@@ -77,20 +78,24 @@ pub judged-runnable : (inline : Bool) (d : Draft) (l : CompilationList) → judg
 judged-runnable inline d l e =
     let p = judged-passed inline d l e in
     let names = names_of d.files in
+    let listing = listed_unit (profile_of d.setting) names in
     let commands_pass = (both _ _ p.sizes_pass).1 in
     let contents_pass = (both _ _ (both _ _ p.sizes_pass).0).1 in
     let files_pass = (both _ _ (both _ _ (both _ _ p.sizes_pass).0).0).0 in
     let count : length d.files ≤ most_rows = leb-true (length d.files) most_rows files_pass in
     let units_pass = (both _ _ (both _ _ (both _ _ p.sizes_pass).0).0).1 in
     let unit_count : length d.units ≤ most_rows = leb-true (length d.units) most_rows units_pass in
-    let same_units : length (map (listed_unit names) d.units) ≡ length d.units = length-map d.units (listed_unit names) in
+    let same_units : length (map listing d.units) ≡ length d.units = length-map d.units listing in
     let same : length names ≡ length d.files = length-map d.files (λ (f : DraftFile). f.name) in
     let short : All (λ (f : DraftFile). length f.content ≤ longest) d.files = All-weaker _ _ (λ f h. leb-true (length f.content) longest h) d.files (AllPass-from_list_all (λ (f : DraftFile). nat_le (length f.content) longest) d.files contents_pass) in
     let known : All (λ (u : DraftUnit). unwrap_or (place_of u.file names) 0 < length names) d.units = All-weaker _ _ (λ u h. place_below u.file names h) d.units (AllPass-from_list_all (λ (u : DraftUnit). is_some (place_of u.file names)) d.units p.files_pass) in
     let fit : All (λ (u : DraftUnit). length (command_text u.defines) ≤ longest) d.units = All-weaker _ _ (λ u h. leb-true (length (command_text u.defines)) longest h) d.units (AllPass-from_list_all (λ (u : DraftUnit). nat_le (length (command_text u.defines)) longest) d.units commands_pass) in
-    let files : All (λ (u : UnitOfList). u.file < length names) (map (listed_unit names) d.units) = All-map (λ (u : UnitOfList). u.file < length names) (listed_unit names) d.units known in
-    let commands : All (λ (u : UnitOfList). length (command_text u.defines) ≤ longest) (map (listed_unit names) d.units) = All-map (λ (u : UnitOfList). length (command_text u.defines) ≤ longest) (listed_unit names) d.units fit in
-    let lines : All (λ (u : UnitOfList). list_all is_one_line u.defines ≡ true) (map (listed_unit names) d.units) = All-map (λ (u : UnitOfList). list_all is_one_line u.defines ≡ true) (listed_unit names) d.units (AllPass-from_list_all (λ (u : DraftUnit). list_all is_one_line u.defines) d.units p.lines_pass) in
+    let IsKnown = λ (u : DraftUnit). unwrap_or (place_of u.file names) 0 < length names in
+    let IsGood = IsUnitOf (length names) (profile_of d.setting) in
+    let placed : All (λ (u : DraftUnit). IsGood (listing u)) d.units = All-weaker IsKnown (λ (u : DraftUnit). IsGood (listing u)) (λ u h. (h, refl)) d.units known in
+    let files : All IsGood (map listing d.units) = All-map IsGood listing d.units placed in
+    let commands : All (λ (u : UnitOfList). length (command_text u.defines.texts) ≤ longest) (map listing d.units) = All-map (λ (u : UnitOfList). length (command_text u.defines.texts) ≤ longest) listing d.units fit in
+    let lines : All (λ (u : UnitOfList). list_all is_one_line u.defines.texts ≡ true) (map listing d.units) = All-map (λ (u : UnitOfList). list_all is_one_line u.defines.texts ≡ true) listing d.units (AllPass-from_list_all (λ (u : DraftUnit). list_all is_one_line u.defines) d.units p.lines_pass) in
     subst IsRunnable p.is_list (record {
       names = p.names_pass;
       few = rw same count;

@@ -9,7 +9,7 @@ ghost use Rattle.cppunits.specs.Contents.{files_of, GiveOverSome};
 use crate::list::Contents;
 use pppool::{Gate, list_growth, run};
 use ppshelf::{Disk, MemoryDisk, Shelf};
-use pptext::Memory;
+use pptext::{Memory, Profile};
 use ppunit::{Setting, Texts, Unit, UnitOut};
 use std::alloc::Global;
 use std::thread::Threads;
@@ -39,33 +39,40 @@ pub(crate) fn no_disk(alloc: Global) -> MemoryDisk
     }
 }
 
-/// A shelf of these names, to whose rows nothing was moved.
-pub(crate) fn empty_shelf<D: Disk>(alloc: Global, names: &Texts) -> Result<Shelf<D>, Memory>
+/// A shelf of these names that reads by this profile, to whose rows nothing was moved.
+pub(crate) fn empty_shelf<D: Disk>(
+    alloc: Global,
+    names: &Texts,
+    profile: Profile,
+) -> Result<Shelf<D>, Memory>
     requires few { length names.now ≤ most_rows }
     ensures names { IfOk result (λ s. s.names ≡ names.now) }
+    ensures profile { IfOk result (λ s. s.profile ≡ profile) }
     ensures empty { IfOk result (λ s. s.base ≡ replicate (length names.now) None) }
 {
     let copies = Vec::from_clones(alloc, names.as_slice())?;
-    let Ok(shelf) = Shelf::new(alloc, copies) else {
+    let Ok(shelf) = Shelf::new(alloc, copies, profile) else {
         return Err(Memory);
     };
     Ok(shelf)
 }
 
-/// A shelf of these names, to whose rows the contents are moved.
+/// A shelf of these names, to whose rows the contents are moved, which it reads by this profile.
 pub(crate) fn filled_shelf(
     alloc: Global,
     names: &Texts,
+    profile: Profile,
     contents: Contents,
 ) -> Result<Shelf<MemoryDisk>, Memory>
     requires few { length names.now ≤ most_rows }
     requires count { length contents ≡ length names.now }
     requires small { All (λ bytes. length bytes ≤ longest) contents }
     ensures names { IfOk result (λ s. s.names ≡ names.now) }
+    ensures profile { IfOk result (λ s. s.profile ≡ profile) }
     ensures files { IfOk result (λ s. s.base ≡ files_of contents) }
     ensures full { IfOk result (λ s. IsFull s) }
 {
-    let mut shelf = empty_shelf(alloc, names)?;
+    let mut shelf = empty_shelf(alloc, names, profile)?;
     shelf.fill_with(contents.into_vec())?;
     Ok(shelf)
 }
@@ -81,7 +88,8 @@ pub(crate) fn over_contents<'a, R: Threads + Sync>(
 ) -> Result<Vec<UnitOut<'a>>, Memory>
     requires full { IsFull shelf.now }
     requires count { length units.now ≤ most_rows }
-    requires units { All (IsUnitOf (length shelf.now.names)) units.now }
+    requires profile { shelf.now.profile ≡ setting.now.profile }
+    requires units { All (IsUnitOf (length shelf.now.names) setting.now.profile) units.now }
     requires workers { (1 ≤ crew.workers) × (crew.workers ≤ 64) }
     requires block { (1 ≤ crew.block) × (crew.block ≤ 1024) }
     ensures { IfOk result (λ outs. AreUnits shelf.now.names shelf.now.base setting.now units.now outs.items) }
@@ -116,7 +124,8 @@ pub(crate) fn over_disk<'a, R: Threads + Sync, D: Disk + Send + Sync>(
     crew: Crew,
 ) -> Result<Vec<UnitOut<'a>>, Memory>
     requires count { length units.now ≤ most_rows }
-    requires units { All (IsUnitOf (length shelf.now.names)) units.now }
+    requires profile { shelf.now.profile ≡ setting.now.profile }
+    requires units { All (IsUnitOf (length shelf.now.names) setting.now.profile) units.now }
     requires workers { (1 ≤ crew.workers) × (crew.workers ≤ 64) }
     requires block { (1 ≤ crew.block) × (crew.block ≤ 1024) }
     ensures { IfOk result (λ outs. GiveOverSome D.may shelf.now.names setting.now units.now outs.items) }

@@ -94,7 +94,7 @@ pub fn serve<T: Threads + Sync, R: Feed, W: Sink>(
         contents,
         units,
     } = list;
-    let shelf = filled_shelf(alloc, &names, contents)?;
+    let shelf = filled_shelf(alloc, &names, setting.profile, contents)?;
     let units = units.as_slice();
     let crew = Crew { workers, block };
     let outs = over_contents(threads, alloc, &shelf, &setting, units, crew)?;
@@ -125,7 +125,7 @@ pub fn serve_from<T: Threads + Sync, R: Feed, W: Sink, D: Disk + Send + Sync>(
     ensures untouched { IfErr result (λ fault. fault ≢ WriteFailed → writer.new ≡ writer.old) }
 {
     let list = receive(alloc, reader, false)?;
-    let shelf = empty_shelf(alloc, &list.names)?;
+    let shelf = empty_shelf(alloc, &list.names, list.setting.profile)?;
     let units = list.units.as_slice();
     let crew = Crew { workers, block };
     let outs = over_disk(threads, alloc, &shelf, disk, &list.setting, units, crew)?;

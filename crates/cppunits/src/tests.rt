@@ -280,6 +280,10 @@ fn refuses_by_the_least_number(rt: HostRuntime) -> Result<(), Fail> {
             r#"{"date":"Feb  9 2024","time":"24:00:00","files":[{"name":"a.c","text":""}],"units":[{"file":"a.c"}]}"#,
             6,
         ),
+        (
+            r#"{"profile":"c23","date":"Feb  9 2024","time":"08:05:03","files":[{"name":"a.c","text":""}],"units":[{"file":"a.c"}]}"#,
+            9,
+        ),
         (arrays.as_str(), 2),
         (more_arrays.as_str(), 1),
         (long_name.as_str(), 3),
@@ -296,6 +300,40 @@ fn refuses_by_the_least_number(rt: HostRuntime) -> Result<(), Fail> {
         assert!(rt; writer.bytes().is_empty());
     }
     Ok(())
+}
+
+/// What a list of this profile prints of one file with this text.
+fn printed_by<R: Threads + AllocGlobal + Abort + Sync>(
+    rt: &R,
+    profile: &str,
+    text: &str,
+    want: &str,
+) -> Result<(), Fail> {
+    let list = format!(in rt.alloc();
+        "{{\"profile\":\"{profile}\",\"date\":\"Feb  9 2024\",\"time\":\"08:05:03\",\"files\":[{{\"name\":\"s.c\",\"text\":\"{text}\"}}],\"units\":[{{\"file\":\"s.c\"}}]}}"
+    )?;
+    let mut reader = SliceFeed::new(list.as_bytes());
+    let mut writer = VecSink::new(rt.alloc());
+    let _outcome = serve(rt, rt.alloc(), &mut reader, &mut writer, Mode::Dump, 4, 8);
+    assert!(rt; writer.bytes() == want.as_bytes(), "at {profile} {text}");
+    Ok(())
+}
+
+#[test]
+fn prints_by_the_profile(rt: HostRuntime) -> Result<(), Fail> {
+    let branch = "#if 0\\n#elifdef __STDC__\\n1\\n#endif\\n";
+    let dep = "dep 0 s.c\n";
+    let one = format!(in rt.alloc(); "unit 0 s.c\ntok 0:3:1 0:3:1 n+ 1\n{dep}ok\n")?;
+    printed_by(&rt, "later", branch, one.as_str())?;
+    let none = format!(in rt.alloc(); "unit 0 s.c\n{dep}ok\n")?;
+    printed_by(&rt, "c11", branch, none.as_str())?;
+    let once = "#pragma once\\nt\\n#include \\\"s.c\\\"\\n";
+    let item = "prag 0:1:1\nptok 0:1:9 0:1:9 i+ once\ntok 0:2:1 0:2:1 i+ t\n";
+    let read_once = format!(in rt.alloc(); "unit 0 s.c\n{item}{dep}ok\n")?;
+    printed_by(&rt, "later", once, read_once.as_str())?;
+    let many = item.repeat(rt.alloc(), 201)?;
+    let too_deep = format!(in rt.alloc(); "unit 0 s.c\n{many}{dep}fault 32 0:3:1 s.c\n")?;
+    printed_by(&rt, "c11", once, too_deep.as_str())
 }
 
 #[test]
@@ -425,7 +463,7 @@ fn serves_over_a_reader_and_a_writer(rt: HostRuntime) -> Result<(), Fail> {
 
 #[test]
 fn says_what_failed(rt: HostRuntime) {
-    for number in 1..=8 {
+    for number in 1..=9 {
         assert_eq!(rt; words(&RunFault::List(number)).len(), 25);
     }
     assert!(rt; words(&RunFault::List(3)) == "cppunits: list refused L3");

@@ -6,7 +6,7 @@ ghost use Rattle.cppunits.specs.Listing.{RefusedFor};
 ghost use Rattle.cppunits.specs.Shape as shape;
 
 use crate::list::ListFault;
-use ppunit::{Setting, Text, Texts};
+use ppunit::{Text, Texts};
 use serde_json::{Map, Value};
 use std::alloc::Global;
 use std::marker::Model;
@@ -139,10 +139,19 @@ impl DraftUnits {
     }
 }
 
+/// What all units share as it stands, with the text of the profile.
+#[derive(Drop, Debug)]
+pub(super) struct DraftSetting {
+    pub(super) profile: Text,
+    pub(super) date: Text,
+    pub(super) time: Text,
+    pub(super) search: Texts,
+}
+
 /// A list as it stands.
 #[derive(Drop, Debug)]
 pub(super) struct Draft {
-    pub(super) setting: Setting,
+    pub(super) setting: DraftSetting,
     pub(super) files: DraftFiles,
     pub(super) units: DraftUnits,
 }
@@ -156,7 +165,10 @@ pub(super) fn draft_of(alloc: Global, value: &Value, inline: bool) -> Result<Dra
     ensures ok { IfOk result (λ d. shape.draft inline (view value.now) ≡ Some d) }
     ensures err { IfErr result (RefusedFor 2 (shape.draft inline (view value.now) ≡ None)) }
 {
-    if !is_object_of(value, &["date", "time", "search", "files", "units"]) {
+    if !is_object_of(
+        value,
+        &["profile", "date", "time", "search", "files", "units"],
+    ) {
         return Err(ListFault::Bad(2));
     }
     let setting = setting_of(alloc, value)?;
@@ -169,14 +181,42 @@ pub(super) fn draft_of(alloc: Global, value: &Value, inline: bool) -> Result<Dra
     })
 }
 
-fn setting_of(alloc: Global, value: &Value) -> Result<Setting, ListFault>
+fn setting_of(alloc: Global, value: &Value) -> Result<DraftSetting, ListFault>
     ensures ok { IfOk result (λ s. shape.draft_setting (view value.now) ≡ Some s) }
     ensures err { IfErr result (RefusedFor 2 (shape.draft_setting (view value.now) ≡ None)) }
 {
+    let profile = profile_at(alloc, value)?;
     let date = text_at(alloc, value, "date")?;
     let time = text_at(alloc, value, "time")?;
     let search = texts_at(alloc, value, "search")?;
-    Ok(Setting { date, time, search })
+    Ok(DraftSetting {
+        profile,
+        date,
+        time,
+        search,
+    })
+}
+
+/// The text of the profile, which is `c11` where it is missing.
+fn profile_at(alloc: Global, value: &Value) -> Result<Text, ListFault>
+    ensures ok { IfOk result (λ t. shape.profile_at (view value.now) ≡ Some t) }
+    ensures err { IfErr result (RefusedFor 2 (shape.profile_at (view value.now) ≡ None)) }
+{
+    let text = match value.get("profile") {
+        Some(member) => text_of(member)?,
+        None => "c11",
+    };
+    Ok(Text::new(String::from_str(alloc, text)?))
+}
+
+fn text_of(value: &Value) -> Result<&str, ListFault>
+    ensures ok { IfOk result (λ t. as_str (view value.now) ≡ Some t.now) }
+    ensures err { IfErr result (RefusedFor 2 (as_str (view value.now) ≡ None)) }
+{
+    match value.as_str() {
+        Some(text) => Ok(text),
+        None => Err(ListFault::Bad(2)),
+    }
 }
 
 fn files_of(alloc: Global, value: &Value, inline: bool) -> Result<DraftFiles, ListFault>

@@ -9,11 +9,11 @@ ghost use Rattle.cppunits.specs.Listing as spec;
 ghost use Rattle.cppunits.specs.Listing.{RefusedFor, judged, accepted, refused};
 ghost use Rattle.cppunits.specs.declared.list.ListFault.TheVariants.{Bad};
 
-use crate::list::drafts::{Draft, DraftFile, DraftFiles, DraftUnit, DraftUnits};
+use crate::list::drafts::{Draft, DraftFile, DraftFiles, DraftSetting, DraftUnit, DraftUnits};
 use crate::list::index::Index;
 use crate::list::{Contents, List, ListFault, Units};
 use ppshelf::{LONGEST, MOST_ROWS, is_folder, is_name};
-use pptext::Memory;
+use pptext::{Memory, Profile};
 use ppunit::{Definitions, Setting, Texts, Unit, fits_command, is_date, is_one_line, is_time};
 use std::alloc::{AllocError, Global};
 
@@ -22,7 +22,7 @@ use std::alloc::{AllocError, Global};
 /// # Errors
 ///
 /// `Bad` with the least number that applies: 3 for a name, 4 for a number or a size, 5 for the file of a unit, 6
-/// for the date or the time, 7 for a definition and 8 for a folder; and `Memory`.
+/// for the date or the time, 7 for a definition, 8 for a folder and 9 for the profile; and `Memory`.
 pub(super) fn judge(alloc: Global, draft: Draft, inline: bool) -> Result<List, ListFault>
     ensures ok { IfOk result (λ l. judged inline draft ≡ accepted l) }
     ensures bad { (n : ℕ) → IsErrOf result (Bad n) → judged inline draft ≡ refused n }
@@ -43,7 +43,10 @@ pub(super) fn judge(alloc: Global, draft: Draft, inline: bool) -> Result<List, L
     if !folders_hold(&draft) {
         return Err(ListFault::Bad(8));
     }
-    Ok(listed(alloc, draft, &index, inline)?)
+    let Some(profile) = profile_named(draft.setting.profile.as_str()) else {
+        return Err(ListFault::Bad(9));
+    };
+    Ok(listed(alloc, draft, &index, profile, inline)?)
 }
 
 /// The places of the files' names.
@@ -99,9 +102,27 @@ fn command_fits(defines: &Texts) -> bool
     fits_command(defines.as_slice())
 }
 
-/// The list of a draft, whose names have these places. The definitions of its units are read.
-fn listed(alloc: Global, draft: Draft, index: &Index, inline: bool) -> Result<List, Memory>
+/// The profile that a text names.
+fn profile_named(text: &str) -> Option<Profile>
+    ensures { result ≡ spec.profile_named text.now }
+{
+    match text {
+        "c11" => Some(Profile::C11),
+        "later" => Some(Profile::Later),
+        _ => None,
+    }
+}
+
+/// The list of a draft, whose names have these places. The definitions of its units are read by the profile.
+fn listed(
+    alloc: Global,
+    draft: Draft,
+    index: &Index,
+    profile: Profile,
+    inline: bool,
+) -> Result<List, Memory>
     requires names { index.now ≡ spec.names_of draft.files }
+    requires profile { profile ≡ spec.profile_of draft.setting }
     requires fits { spec.commands_fit draft.units ≡ true }
     ensures { IfOk result (λ l. l ≡ spec.listed inline draft) }
 {
@@ -110,23 +131,46 @@ fn listed(alloc: Global, draft: Draft, index: &Index, inline: bool) -> Result<Li
         files,
         units,
     } = draft;
-    let units = listed_units(alloc, index, units)?;
+    let units = listed_units(alloc, index, profile, units)?;
     let (names, contents) = split_files(alloc, files, inline)?;
     Ok(List {
-        setting,
+        setting: listed_setting(setting, profile),
         names,
         contents,
         units,
     })
 }
 
-fn listed_units(alloc: Global, index: &Index, units: DraftUnits) -> Result<Units, Memory>
+fn listed_setting(draft: DraftSetting, profile: Profile) -> Setting
+    requires { profile ≡ spec.profile_of draft }
+    ensures { result ≡ spec.listed_setting draft }
+{
+    let DraftSetting {
+        profile: _,
+        date,
+        time,
+        search,
+    } = draft;
+    Setting {
+        profile,
+        date,
+        time,
+        search,
+    }
+}
+
+fn listed_units(
+    alloc: Global,
+    index: &Index,
+    profile: Profile,
+    units: DraftUnits,
+) -> Result<Units, Memory>
     requires { spec.commands_fit units ≡ true }
-    ensures { IfOk result (λ us. us ≡ map (spec.listed_unit index.now) units) }
+    ensures { IfOk result (λ us. us ≡ map (spec.listed_unit profile index.now) units) }
 {
     let mut listed = Vec::new(alloc);
     for unit in units.into_vec() {
-        let unit = listed_unit(alloc, index, unit)?;
+        let unit = listed_unit(alloc, index, profile, unit)?;
         let Ok(()) = listed.push(unit) else {
             return Err(Memory);
         };
@@ -140,9 +184,14 @@ fn files_are_known(index: &Index, units: &[DraftUnit]) -> bool
     units.iter().all(|unit| index.place_of(unit.file.as_str().as_bytes()).is_some())
 }
 
-fn listed_unit(alloc: Global, index: &Index, unit: DraftUnit) -> Result<Unit, Memory>
+fn listed_unit(
+    alloc: Global,
+    index: &Index,
+    profile: Profile,
+    unit: DraftUnit,
+) -> Result<Unit, Memory>
     requires { length (command_text unit.defines) ≤ longest }
-    ensures { IfOk result (λ u. u ≡ spec.listed_unit index.now unit) }
+    ensures { IfOk result (λ u. u ≡ spec.listed_unit profile index.now unit) }
 {
     let DraftUnit {
         file,
@@ -151,7 +200,7 @@ fn listed_unit(alloc: Global, index: &Index, unit: DraftUnit) -> Result<Unit, Me
     } = unit;
     Ok(Unit {
         file: index.place_of(file.as_str().as_bytes()).unwrap_or(0),
-        defines: Definitions::read(alloc, defines)?,
+        defines: Definitions::read(alloc, defines, profile)?,
         search,
     })
 }
@@ -177,7 +226,7 @@ fn split_files(
     Ok((Texts::new(names), Contents::new(contents)))
 }
 
-fn times_hold(setting: &Setting) -> bool
+fn times_hold(setting: &DraftSetting) -> bool
     ensures { result ≡ spec.times_hold setting.now }
 {
     is_date(setting.date.as_str().as_bytes()) && is_time(setting.time.as_str().as_bytes())

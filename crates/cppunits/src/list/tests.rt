@@ -1,4 +1,5 @@
 use crate::list::{ListFault, read_list};
+use pptext::Profile;
 use std::alloc::{AllocError, Global};
 use std::test::Fail;
 
@@ -117,6 +118,7 @@ fn refuses_shapes(rt: HostRuntime) -> Result<(), Fail> {
         r#"{"date":"Feb  9 2024","time":"08:05:03","files":[{"name":"a.c","text":""}],"units":[{"file":"a.c"}],"folders":[]}"#,
         r#"{"date":"Feb  9 2024","time":"08:05:03","files":[{"name":"a.c","text":""}],"units":[{"file":"a.c"}],"search":null}"#,
         r#"{"date":"Feb  9 2024","time":"08:05:03","files":[{"name":"a.c","text":""}],"units":[{"file":"a.c"}],"search":[7]}"#,
+        r#"{"profile":1,"date":"Feb  9 2024","time":"08:05:03","files":[{"name":"a.c","text":""}],"units":[{"file":"a.c"}]}"#,
     ] {
         assert_eq!(rt; refusal(rt.alloc(), text)?, 2, "at {text}");
     }
@@ -352,6 +354,43 @@ fn tells_the_least_number(rt: HostRuntime) -> Result<(), Fail> {
         ),
     ] {
         let text = list_of(rt.alloc(), date, "08:05:03", file, unit)?;
+        assert_eq!(rt; refusal(rt.alloc(), &text)?, number, "at {text}");
+    }
+    Ok(())
+}
+
+/// A list of one file with a text, one unit that searches this folder, and the member `profile` of this value.
+fn profiled(alloc: Global, profile: &str, folder: &str) -> Result<String, AllocError> {
+    format!(in alloc;
+        "{{\"profile\":{profile},\"date\":\"Feb  9 2024\",\"time\":\"08:05:03\",\"files\":[{{\"name\":\"a.c\",\"text\":\"\"}}],\"units\":[{{\"file\":\"a.c\",\"search\":[\"{folder}\"]}}]}}"
+    )
+}
+
+#[test]
+fn reads_profiles(rt: HostRuntime) -> Result<(), Fail> {
+    let alloc = rt.alloc();
+    let plain = read_list(alloc, PLAIN.as_bytes(), true)?;
+    assert_eq!(rt; plain.setting.profile, Profile::C11);
+    for (text, profile) in [("\"c11\"", Profile::C11), ("\"later\"", Profile::Later)] {
+        let list = read_list(alloc, profiled(alloc, text, ".")?.as_bytes(), true)?;
+        assert_eq!(rt; list.setting.profile, profile, "at {text}");
+        let unit = list.units.as_slice().first().ok_or("a unit")?;
+        assert_eq!(rt; unit.defines.profile(), profile, "at {text}");
+    }
+    Ok(())
+}
+
+#[test]
+fn refuses_other_profiles(rt: HostRuntime) -> Result<(), Fail> {
+    for (profile, folder, number) in [
+        ("\"c23\"", ".", 9),
+        ("\"C11\"", ".", 9),
+        ("\"\"", ".", 9),
+        ("\"c23\"", "/", 8),
+        ("null", "/", 2),
+        ("[\"c11\"]", ".", 2),
+    ] {
+        let text = profiled(rt.alloc(), profile, folder)?;
         assert_eq!(rt; refusal(rt.alloc(), &text)?, number, "at {text}");
     }
     Ok(())

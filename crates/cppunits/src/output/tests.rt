@@ -5,7 +5,7 @@ use super::{Mode, deps, dump, print};
 use crate::list::{Contents, List, Units};
 use crate::page::Page;
 use crate::streams::{Failed, Sink, VecSink};
-use pptext::{Fault, Place, Spelling};
+use pptext::{Fault, Place, Profile, Spelling};
 use ppunit::{Definitions, Items, Rows, Setting, Text, Texts, Unit, UnitOut, fits_command};
 use std::alloc::{AllocError, Global};
 use std::process::Abort;
@@ -79,7 +79,7 @@ fn unit_of(alloc: Global) -> Result<Unit, Fail> {
     }
     Ok(Unit {
         file: 1,
-        defines: Definitions::read(alloc, none)?,
+        defines: Definitions::read(alloc, none, Profile::C11)?,
         search: texts_of(alloc, &[])?,
     })
 }
@@ -92,6 +92,7 @@ fn list_of(alloc: Global, names: &[&str], count: usize) -> Result<List, Fail> {
     }
     Ok(List {
         setting: Setting {
+            profile: Profile::C11,
             date: text_of(alloc, "Feb  9 2024")?,
             time: text_of(alloc, "08:05:03")?,
             search: texts_of(alloc, &[])?,
