@@ -1,0 +1,3 @@
+#include "low.h"
+
+int low(void) { return LOW; }

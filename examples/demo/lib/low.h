@@ -1,0 +1,5 @@
+#ifndef LOW_H
+#define LOW_H
+#define LOW 3
+int low(void);
+#endif

@@ -1,0 +1,209 @@
+"""What the scripts share: how they end, files written whole or not at all, and the lines that cppunits prints."""
+import argparse
+import contextlib
+import json
+import os
+import re
+import sys
+import tempfile
+
+DONE, PARTLY, USAGE, REFUSED, STREAM = 0, 1, 2, 3, 5
+# files that list_from_build.py makes stand in this folder of a list, and on no disk unless it was asked to write them
+GENERATED = "cppunits-generated"
+
+STATUSES = """\
+status:
+  0  done
+  1  %s
+  2  the command line is refused
+  3  an input is refused: one line on standard error says why
+  5  a file can't be read or written
+  130  interrupted
+"""
+
+
+class Refused(Exception):
+    """An input that isn't what it has to be."""
+
+
+class Parser(argparse.ArgumentParser):
+    """A parser of the command line that says in one line what is wrong with it."""
+
+    def error(self, message):
+        say("%s (--help says more)" % message)
+        sys.exit(USAGE)
+
+
+def parser(text, partly):
+    """A parser whose help ends in the statuses; `partly` says when status 1 comes."""
+    form = argparse.RawDescriptionHelpFormatter
+    return Parser(description=text, epilog=STATUSES % partly, formatter_class=form)
+
+
+def say(text):
+    """One line on standard error, with the script's name in front; a byte that is no text stands as %XX."""
+    line = "%s: %s" % (os.path.basename(sys.argv[0]), text)
+    print("".join(shown(c) for c in line), file=sys.stderr)
+
+
+def shown(character):
+    if character.isprintable():
+        return character
+    errors = "surrogateescape" if "\udc80" <= character <= "\udcff" else "surrogatepass"
+    return "".join("%%%02X" % byte for byte in character.encode("utf-8", errors))
+
+
+def run(main):
+    """Runs a script, and ends it with its status and at most one line for what went wrong."""
+    try:
+        status = main()
+        sys.stdout.flush()
+    except Refused as refusal:
+        say(refusal)
+        status = REFUSED
+    except OSError as error:
+        say("%s: %s" % (error.filename, error.strerror) if error.filename else error.strerror or error)
+        status = STREAM
+        with contextlib.suppress(OSError):
+            os.dup2(os.open(os.devnull, os.O_WRONLY), 1)
+    except KeyboardInterrupt:
+        status = 130
+    sys.exit(status)
+
+
+@contextlib.contextmanager
+def written(path):
+    """A binary file that stands under its name once all is written; `-` is standard output."""
+    if path == "-":
+        yield sys.stdout.buffer
+        return
+    folder = os.path.dirname(path) or "."
+    os.makedirs(folder, exist_ok=True)
+    number, beside = tempfile.mkstemp(prefix=".", suffix=".part", dir=folder)
+    try:
+        with os.fdopen(number, "wb") as file:
+            yield file
+        os.chmod(beside, 0o666 & ~mask())
+        os.replace(beside, path)
+    except BaseException:
+        with contextlib.suppress(OSError):
+            os.unlink(beside)
+        raise
+
+
+def mask():
+    """The bits that new files don't get; there is no way to read them but to set them."""
+    bits = os.umask(0)
+    os.umask(bits)
+    return bits
+
+
+@contextlib.contextmanager
+def opened(path):
+    """A binary file to read; `-` is standard input."""
+    if path == "-":
+        yield sys.stdin.buffer
+        return
+    with open(path, "rb") as file:
+        yield file
+
+
+def read_list(path):
+    """A list's JSON object, of which no more is judged than that it has files and units."""
+    with opened(path) as file:
+        value = read_json(path, file.read())
+    if not isinstance(value, dict) or not all(isinstance(value.get(k), list) for k in ("files", "units")):
+        raise Refused("%s is no list: it is to be an object with the arrays `files` and `units`" % path)
+    return value
+
+
+def read_json(path, data):
+    try:
+        return json.loads(data.decode("utf-8"))
+    except (ValueError, RecursionError) as error:
+        raise Refused("%s is no JSON: %s" % (path, error)) from None
+
+
+def compact(value):
+    """A list's bytes: JSON on one line. Half a pair of surrogates, which no UTF-8 has, stays as it was written."""
+    text = json.dumps(value, ensure_ascii=False, separators=(",", ":")) + "\n"
+    return text.encode("utf-8", "backslashreplace")
+
+
+def plain(word):
+    """The bytes that a printed name or spelling stands for."""
+    return re.sub(rb"%([0-9A-F]{2})", lambda pair: bytes([int(pair[1], 16)]), word)
+
+
+class Unit:
+    """A unit of the output: its number, its name as it is printed, the lines behind that, and its last line."""
+
+    def __init__(self, number, printed):
+        self.number, self.printed, self.lines, self.last = number, printed, [], None
+
+    @property
+    def name(self):
+        """Its file's name, as bytes."""
+        return plain(self.printed)
+
+    @property
+    def source(self):
+        """The name of the file that is compiled, also where the unit's file was made for it."""
+        name = self.name
+        return name.split(b"/", 2)[2] if name.startswith(GENERATED.encode() + b"/") else name
+
+    @property
+    def fault(self):
+        """The words of its fault behind `fault`, or None."""
+        return None if self.last == b"ok" else self.last[6:].decode("ascii", "replace")
+
+    def dependencies(self):
+        """The names of its dependencies, as bytes."""
+        return [plain(line.split(b" ", 2)[2]) for line in self.lines if line.startswith(b"dep ")]
+
+
+INSIDE = (b"tok ", b"prag ", b"ptok ", b"dep ")
+
+
+def units(path):
+    """The units of an output, one after the other; refused where it isn't an output from its first line to its end."""
+    with opened(path) as file:
+        unit, count = None, 0
+        for number, line in enumerate(file, 1):
+            where = "%s, line %d" % (path, number)
+            if not line.endswith(b"\n"):
+                raise Refused(where + ": the output is cut off")
+            line = line[:-1]
+            if unit is None:
+                unit = begun(where, line, count)
+                count += 1
+            elif line == b"ok" or line.startswith(b"fault "):
+                unit.last = line
+                yield unit
+                unit = None
+            elif line.startswith(INSIDE):
+                unit.lines.append(line)
+            else:
+                raise Refused(where + ": no line that cppunits prints within a unit")
+        if unit is not None:
+            raise Refused("%s: the output is cut off within unit %d" % (path, unit.number))
+
+
+def begun(where, line, number):
+    words = line.split(b" ", 2)
+    if len(words) != 3 or words[:2] != [b"unit", b"%d" % number]:
+        raise Refused("%s: `unit %d` and a name are wanted" % (where, number))
+    return Unit(number, words[2])
+
+
+def own_names(all_units, end):
+    """Each unit with a name of its own for a file: its source and the ending, its number between where that is taken."""
+    taken = set()
+    for unit in all_units:
+        name = os.fsdecode(unit.source)
+        own = name + end
+        while own in taken:
+            name += ".%d" % unit.number
+            own = name + end
+        taken.add(own)
+        yield unit, own

@@ -1,0 +1,81 @@
+#!/usr/bin/env python3
+"""Turns what `cppunits deps` prints into dependency files for make and ninja, one a unit."""
+import os
+import re
+
+from common import DONE, GENERATED, PARTLY, Refused, opened, own_names, parser, run, say, units, written
+
+TEXT = """\
+Turns what `cppunits deps` (or `dump`) prints into dependency files, one a unit: DIR/NAME.d for the unit of the file
+NAME, and DIR/NAME.I.d where unit I is a further unit of that file.  Each holds one rule, escaped as ninja and GNU make
+read it (as gcc -MD writes it): the target, a colon, and the unit's dependencies.
+
+The target is NAME with its last suffix replaced by `.o`; --targets names a file with a target for each unit, one a
+line, as list_from_build.py --targets writes it.  Names are relative to the list's root: --prefix puts the way from the
+build's folder to the root in front.  Files that list_from_build.py made are left out.
+
+A unit with a fault has dependencies up to the fault alone: its file isn't written, unless --partial asks for it."""
+# what stands for itself in no way that both ninja and make read
+UNWRITABLE = re.compile(rb"[\x00-\x1f\x7f*;<>|^`]|\\$|\\ ")
+
+
+def escaped(name):
+    """A name as it stands in a rule. Other backslashes stand for themselves."""
+    if UNWRITABLE.search(name):
+        raise Refused("the name %s can't be written so that ninja and make read it" % os.fsdecode(name))
+    return name.replace(b"$", b"$$").replace(b"#", b"\\#").replace(b" ", b"\\ ").replace(b":", b"\\:")
+
+
+def rule(target, names, phony):
+    """The rule's text; with `phony` a rule of its own for each header, so that make goes on where one is gone."""
+    words = [escaped(name) for name in names]
+    text = escaped(target) + b":" + b"".join(b" \\\n  " + word for word in words) + b"\n"
+    return text + b"".join(word + b":\n" for word in words[1:] if phony)
+
+
+def object_of(name):
+    return os.path.splitext(name)[0] + b".o"
+
+
+def targets_of(path):
+    """The targets of a file, or None without one."""
+    if path is None:
+        return None
+    with opened(path) as file:
+        return file.read().split(b"\n")[:-1]
+
+
+def target_of(unit, targets):
+    if targets is None:
+        return object_of(unit.source)
+    if unit.number >= len(targets):
+        raise Refused("there is no target for unit %d" % unit.number)
+    return targets[unit.number] or object_of(unit.source)
+
+
+def main():
+    asked = parser(TEXT, "some unit has a fault and no file, one line on standard error each")
+    asked.add_argument("output", metavar="OUTPUT", nargs="?", default="-",
+                       help="what cppunits printed (default: standard input)")
+    asked.add_argument("--into", metavar="DIR", default=".", help="the folder of the files (default: this one)")
+    asked.add_argument("--prefix", metavar="TEXT", default="", help="stands before each dependency, as ../ does")
+    asked.add_argument("--targets", metavar="FILE", help="a line for each unit: its target; an empty one is NAME.o")
+    asked.add_argument("--phony", action="store_true", help="a rule without prerequisites for each header, for make")
+    asked.add_argument("--partial", action="store_true", help="write the file of a unit with a fault, too")
+    asked = asked.parse_args()
+    targets, prefix, made = targets_of(asked.targets), os.fsencode(asked.prefix), GENERATED.encode() + b"/"
+    status = DONE
+    for unit, own in own_names(units(asked.output), ".d"):
+        if unit.fault is not None:
+            say("unit %d, %s: fault %s" % (unit.number, os.fsdecode(unit.name), unit.fault))
+            status = PARTLY
+        if unit.fault is None or asked.partial:
+            names = [prefix + name for name in unit.dependencies() if not name.startswith(made)]
+            text = rule(target_of(unit, targets), names, asked.phony)
+            with written(os.path.join(asked.into, own)) as file:
+                file.write(text)
+    return status
+
+
+if __name__ == "__main__":
+    run(main)

@@ -1,0 +1,143 @@
+#!/usr/bin/env python3
+"""Turns what `cppunits dump` prints into text that a compiler takes."""
+import os
+import re
+
+from common import DONE, PARTLY, Refused, own_names, parser, plain, run, say, units, written
+
+TEXT = """\
+Turns what `cppunits dump` prints into C text, in the manner of `gcc -E -P`: tokens and pragmas, a space where a token
+has a mark or where two tokens would join, and a line break where the line of use changes.  A compiler takes it as text
+that is preprocessed: `gcc -x cpp-output -c`, or under a name that ends in `.i`.  The operator _Pragma with a string
+literal becomes a #pragma line.
+
+Without --into it writes one unit's text to standard output: that of --unit, or the first.  With --into it writes
+DIR/NAME.i for each unit, and DIR/NAME.I.i where unit I is a further unit of that file.
+
+A unit with a fault has tokens up to the fault alone: its text isn't written, unless --partial asks for it."""
+PUNCTUATORS = [word.encode() for word in (
+    "-> ++ -- << >> <= >= == != && || ... *= /= %= += -= <<= >>= &= ^= |= ## <: :> <% %> %: %:%: // /* ??").split()]
+BEGINNINGS = {word[:count] for word in PUNCTUATORS for count in range(2, len(word) + 1)}
+HASHES = (b"#", b"%:")
+
+
+class Token:
+    """A token line's kind, whether a mark stands before it, where it is used, and its spelling."""
+
+    __slots__ = ("kind", "space", "text", "used")
+
+    def __init__(self, line):
+        words = line.split(b" ", 4)
+        if len(words) != 5 or len(words[3]) != 2:
+            raise Refused("a token line of another form: %s" % line.decode("latin-1"))
+        self.used = words[2].rsplit(b":", 1)[0]
+        self.kind, self.space = words[3][:1], words[3][1:] == b"+"
+        self.text = plain(words[4]) if b"%" in words[4] else words[4]
+
+
+def joins(left, right):
+    """Whether two tokens without a space between them could be read as others than these two."""
+    if left.kind == b"o" or right.kind == b"o":
+        return True
+    if left.kind == b"p":
+        return left.text + right.text[:1] in BEGINNINGS or (left.text == b"." and right.kind == b"n")
+    if right.kind == b"p":
+        return left.kind == b"n" and right.text[:1] in b".+-"
+    return True
+
+
+def destringized(spelling):
+    """The text of a string literal behind _Pragma (6.10.9)."""
+    inner = spelling[spelling.index(b'"') + 1:-1]
+    return re.sub(rb'\\(["\\])', rb"\1", inner)
+
+
+def is_operator(tokens, at):
+    """Whether _Pragma and a literal in parentheses stand here."""
+    found = tokens[at:at + 4]
+    return [token.kind for token in found] == [b"i", b"p", b"s", b"p"] and (
+        (found[0].text, found[1].text, found[3].text) == (b"_Pragma", b"(", b")"))
+
+
+def line_of(tokens):
+    """Tokens on one line, which doesn't begin with `#` and doesn't end in a backslash: both would have a meaning there."""
+    text, before = [], None
+    for token in tokens:
+        if before is not None and (token.space or joins(before, token)):
+            text.append(b" ")
+        text.append(token.text)
+        before = token
+    if tokens and tokens[0].text in HASHES:
+        text.insert(0, b" ")
+    if tokens and tokens[-1].text == b"\\":
+        text.append(b" ")
+    return b"".join(text)
+
+
+def text_lines(tokens):
+    """The lines of a run of tokens."""
+    line, at = [], 0
+    while at < len(tokens):
+        token = tokens[at]
+        operator = token.text == b"_Pragma" and is_operator(tokens, at)
+        if line and (operator or token.used != line[-1].used and token.text not in HASHES):
+            yield line_of(line)
+            line = []
+        if operator:
+            yield b"#pragma " + destringized(tokens[at + 2].text)
+            at += 4
+            continue
+        line.append(token)
+        at += 1
+    if line:
+        yield line_of(line)
+
+
+def runs(lines):
+    """Whether they are a pragma's, and its tokens, for each run of token lines."""
+    pragma, tokens = False, []
+    for line in lines:
+        if line.startswith((b"tok ", b"prag ")) and (pragma or line.startswith(b"prag ")):
+            yield pragma, tokens
+            pragma, tokens = line.startswith(b"prag "), []
+        if line.startswith((b"tok ", b"ptok ")):
+            tokens.append(Token(line))
+    yield pragma, tokens
+
+
+def text_of(unit):
+    """A unit's text."""
+    for pragma, tokens in runs(unit.lines):
+        if pragma:
+            yield b"#pragma " + line_of(tokens) + b"\n"
+            continue
+        for line in text_lines(tokens):
+            yield line + b"\n"
+
+
+def main():
+    asked = parser(TEXT, "a unit has a fault and no text, one line on standard error each")
+    asked.add_argument("dump", metavar="DUMP", nargs="?", default="-",
+                       help="what cppunits printed (default: standard input)")
+    asked.add_argument("--unit", metavar="I", type=int, default=0, help="the unit's number (default: 0)")
+    asked.add_argument("--into", metavar="DIR", help="the folder of a file for each unit")
+    asked.add_argument("--partial", action="store_true", help="write the text of a unit with a fault, too")
+    asked = asked.parse_args()
+    status, found = DONE, False
+    for unit, own in own_names(units(asked.dump), ".i"):
+        if asked.into is None and unit.number != asked.unit:
+            continue
+        found = True
+        if unit.fault is not None:
+            say("unit %d, %s: fault %s" % (unit.number, os.fsdecode(unit.name), unit.fault))
+            status = PARTLY
+        if unit.fault is None or asked.partial:
+            with written("-" if asked.into is None else os.path.join(asked.into, own)) as file:
+                file.writelines(text_of(unit))
+    if asked.into is None and not found:
+        raise Refused("there is no unit %d" % asked.unit)
+    return status
+
+
+if __name__ == "__main__":
+    run(main)

@@ -1,0 +1,86 @@
+"""Runs of the program and the scripts, and a count of tests, for those that don't stand in the crates.
+
+The program is the first argument, or the environment variable CPPUNITS, or crates/cppunits/out/cppunits, which `rt ci` and
+`rt run` leave behind.  A test that needs a program which isn't there is missed: it counts as neither passed nor failed,
+and the missing program is named with the Debian package that has it.
+"""
+import os
+import shutil
+import subprocess
+import sys
+import unittest
+
+HERE = os.path.dirname(os.path.abspath(__file__))
+TOP = os.path.dirname(HERE)
+BUILT = os.path.join(TOP, "crates", "cppunits", "out", "cppunits")
+PACKAGES = {"gcc": "gcc", "clang": "clang", "cmake": "cmake", "meson": "meson", "ninja": "ninja-build", "make": "make",
+            "bear": "bear", "parallel": "parallel", "man": "man-db", "groff": "groff-base", "mandoc": "mandoc"}
+LIST = {"date": "Feb  9 2024", "time": "08:05:03"}
+
+
+def program():
+    return os.path.abspath(os.environ.get("CPPUNITS") or BUILT)
+
+
+def missed(*names):
+    """Ends a test as missed where one of these programs isn't there."""
+    for name in names:
+        if shutil.which(name) is None:
+            raise unittest.SkipTest("%s is missing (Debian package %s)" % (name, PACKAGES[name]))
+
+
+def run(command, **more):
+    return subprocess.run(command, stdout=subprocess.PIPE, stderr=subprocess.PIPE, **more)
+
+
+def well(command, **more):
+    """What a command prints, which is to end with status 0."""
+    done = run(command, **more)
+    if done.returncode:
+        raise AssertionError("%s: status %d\n%s" % (command, done.returncode, (done.stdout + done.stderr).decode()))
+    return done.stdout
+
+
+def script(name, *words, **more):
+    return run([sys.executable, os.path.join(TOP, "scripts", name), *words], **more)
+
+
+def cppunits(*words, **more):
+    return run([program(), *words], **more)
+
+
+class Results(unittest.TextTestResult):
+    """Results that name each test in a line."""
+
+    def __init__(self, *words):
+        super().__init__(*words)
+        self.passed, self.missing = 0, []
+
+    def addSuccess(self, test):
+        super().addSuccess(test)
+        self.passed += 1
+
+    def addSkip(self, test, reason):
+        super().addSkip(test, reason)
+        self.missing.append("%s: %s" % (test.id().split(" ")[0].split(".", 1)[1], reason))
+
+    @property
+    def failed(self):
+        return len(self.failures) + len(self.errors) + len(self.unexpectedSuccesses)
+
+
+def main():
+    """Runs the tests of the file that calls this, and prints what was missed and the counts."""
+    words = sys.argv[1:]
+    if words and os.path.isfile(words[0]):
+        os.environ["CPPUNITS"] = os.path.abspath(words.pop(0))
+    if not os.access(program(), os.X_OK):
+        print("%s isn't there: build it by `rt run` in crates/cppunits, or name another by CPPUNITS" % program())
+        print("0 passed, 1 failed")
+        sys.exit(1)
+    runner = unittest.TextTestRunner(stream=sys.stdout, resultclass=Results)
+    done = unittest.main(argv=[sys.argv[0], *words], testRunner=runner, exit=False, verbosity=0).result
+    for line in done.missing:
+        print("missed: " + line)
+    print("%d passed, %d failed" % (done.passed, done.failed))
+    sys.exit(1 if done.failed or not done.passed + len(done.missing) else 0)

@@ -1,0 +1,235 @@
+#!/usr/bin/env python3
+"""Runs each example of README.md and docs/*.md, and compares what it prints with what stands there.
+
+    tests/docs_examples.py [PROGRAM] [-k NAME]
+
+An example is a block of `json`, which is the list on standard input, or of `sh`, whose output is the list; then, each
+followed by a block, any of
+
+    `cppunits WORDS` prints, with status N,             (without `with status N`: 0; nothing stands on standard error)
+    `cppunits WORDS` ends with status N; on standard error stands
+    `cppunits WORDS < FILE` prints ..                   (FILE of the repository is the list)
+    `FILE` holds                                        (FILE of the repository has exactly this text)
+    - gcc: `WORDS`   or   - clang: `WORDS`              (the first error or warning on the list's file a.c, or: nothing)
+    - gcc gives: `TEXT`   or   - clang gives: `TEXT`      (what stands in their output, each white space as one space)
+
+Blocks of `console` are sessions, run by a shell in a copy of examples/demo, one after the other for each document: lines behind
+`$ ` are commands (a line that ends in a backslash goes on in the next), the others what they print.  cppunits and the scripts
+are on the path.
+
+Words of gcc and clang are compared where the installed one is of the version that docs/FAULTS.md names.
+"""
+import contextlib
+import glob
+import json
+import os
+import re
+import shutil
+import subprocess
+import tempfile
+import unittest
+
+from counted import PACKAGES, TOP, main, missed, program, run, well
+
+SENTENCE = re.compile(r"`(?:\S*/)?cppunits (?P<words>[^`<]+?)(?: < (?P<file>[^`]+))?` (?:"
+                      r"(?P<prints>prints)(?:,? with status (?P<status>\d))?|ends with status (?P<ends>\d); on standard error stands),?$")
+HOLDS = re.compile(r"`(?P<file>[\w./]+)` holds$")
+COMPILER = re.compile(r"- (?P<name>gcc|clang)(?P<gives> gives)?: (?:`(?P<words>.+)`|nothing)$")
+VERSIONS = {"gcc": r"words of gcc are those of (\S+),", "clang": r"words of clang those of (\S+),"}
+DIAGNOSTIC = re.compile(r"(error|warning): ")
+
+
+def parts(text):
+    """The blocks (their language and text) and the other lines of a document, in their order."""
+    language, block = None, []
+    for line in text.split("\n"):
+        if line.startswith("```") and language is None:
+            language, block = line[3:], []
+        elif line == "```":
+            yield language, "".join(one + "\n" for one in block)
+            language = None
+        elif language is not None:
+            block.append(line)
+        else:
+            yield None, line
+
+
+def examples(text):
+    """What is claimed: a match of one of the sentences, the list's block and the block that follows."""
+    listed, claim = None, None
+    for language, part in parts(text):
+        if language is None:
+            if part.startswith(("- gcc", "- clang")):
+                yield COMPILER.match(part), listed, None
+            elif (found := SENTENCE.search(part) or HOLDS.search(part)):
+                claim = found
+            elif part:
+                claim = None
+        else:
+            if claim is not None:
+                yield claim, listed, part
+            if language in ("json", "sh"):
+                listed = language, part
+            claim = None
+
+
+def bytes_of(listed):
+    """The list of a block."""
+    language, text = listed
+    return text.encode() if language == "json" else well(["sh", "-c", text])
+
+
+class Example:
+    def __init__(self, test, document):
+        self.test, self.document = test, document
+
+    def check(self, claim, listed, block):
+        if claim.re is HOLDS:
+            with open(os.path.join(TOP, claim["file"])) as file:
+                self.test.assertEqual(file.read().rstrip("\n"), block.rstrip("\n"), claim["file"])
+        elif claim.re is COMPILER:
+            self.compiler(claim, bytes_of(listed))
+        else:
+            self.program(claim, listed, block)
+
+    def program(self, claim, listed, block):
+        with tempfile.TemporaryDirectory() as folder:
+            os.mkdir(os.path.join(folder, "empty"))
+            if claim["file"]:
+                folder = TOP
+                with open(os.path.join(TOP, claim["file"]), "rb") as file:
+                    data = file.read()
+            else:
+                data = bytes_of(listed)
+            done = run([program(), *claim["words"].split()], input=data, cwd=folder)
+        wanted = (block, "", int(claim["status"] or 0)) if claim["prints"] else ("", block, int(claim["ends"]))
+        self.test.assertEqual((done.stdout.decode(), done.stderr.decode(), done.returncode), wanted, claim[0])
+
+    def compiler(self, claim, data):
+        listed = json.loads(data)
+        with tempfile.TemporaryDirectory() as folder:
+            for file in listed["files"]:
+                if "text" in file:
+                    path = os.path.join(folder, file["name"])
+                    os.makedirs(os.path.dirname(path), exist_ok=True)
+                    with open(path, "w") as target:
+                        target.write(file["text"])
+            command = [claim["name"], "-std=c11", "-pedantic", "-E", "-P", "a.c"]
+            done = run(command, cwd=folder, env=dict(os.environ, LC_ALL="C"))
+        said = [line for line in done.stderr.decode().splitlines() if DIAGNOSTIC.search(line)]
+        found = " ".join(done.stdout.decode().split()) if claim["gives"] else said[0] if said else ""
+        self.test.assertEqual(found, claim["words"] or "", data)
+
+
+def commands(block):
+    """The commands of a session, each with what it prints."""
+    for part in re.split(r"^\$ ", block, flags=re.M)[1:]:
+        command, printed = re.match(r"((?:[^\n]*\\\n)*[^\n]*\n)(.*)", part, re.S).groups()
+        yield command, printed
+
+
+@contextlib.contextmanager
+def demo():
+    """A copy of examples/demo, and an environment whose path has cppunits and the scripts."""
+    with tempfile.TemporaryDirectory() as folder:
+        tools = os.path.join(folder, "tools")
+        os.mkdir(tools)
+        os.symlink(program(), os.path.join(tools, "cppunits"))
+        path = os.pathsep.join((tools, os.path.join(TOP, "scripts"), os.environ["PATH"]))
+        where = shutil.copytree(os.path.join(TOP, "examples", "demo"), os.path.join(folder, "demo"))
+        yield where, dict(os.environ, PATH=path, SOURCE_DATE_EPOCH="1707465903")
+
+
+def documents():
+    return ["README.md", *sorted(os.path.relpath(path, TOP) for path in glob.glob(os.path.join(TOP, "docs", "*.md")))]
+
+
+def text_of(name):
+    with open(os.path.join(TOP, name)) as file:
+        return file.read()
+
+
+def compiler_test(compiler):
+    def test(self):
+        missed(compiler)
+        wanted = re.search(VERSIONS[compiler], text_of("docs/FAULTS.md"))[1]
+        found = well([compiler, "--version"]).decode().split("\n")[0]
+        if wanted not in found.split() and wanted not in re.split(r"[\s-]", found):
+            raise unittest.SkipTest("%s of version %s is missing, here is %s" % (compiler, wanted, found))
+        self.claims(lambda claim: claim.re is COMPILER and claim["name"] == compiler)
+    return test
+
+
+def document_test(name):
+    return lambda self: self.claims(lambda claim: claim.re is not COMPILER, [name])
+
+
+class Documents(unittest.TestCase):
+    def claims(self, wanted, names=None):
+        """Checks the claims that are wanted, all of them, and tells which don't hold."""
+        for name in names or documents():
+            example = Example(self, name)
+            for claim, listed, block in examples(text_of(name)):
+                if wanted(claim):
+                    with self.subTest(document=name, claim=claim[0]):
+                        example.check(claim, listed, block)
+
+    def test_sessions(self):
+        for name in documents():
+            with demo() as (where, environment):
+                for block in [part for language, part in parts(text_of(name)) if language == "console"]:
+                    with self.subTest(document=name, block=block):
+                        self.session(block, where, environment)
+
+    def session(self, block, where, environment):
+        missed(*[name for name in PACKAGES if re.search(r"^\$ (?:.*[|;&] )?%s " % name, block, re.M)])
+        for command, printed in commands(block):
+            done = subprocess.run(["sh", "-c", command], cwd=where, env=environment, stdout=subprocess.PIPE,
+                                  stderr=subprocess.STDOUT)
+            self.assertEqual(done.stdout.decode(), printed, command)
+
+    def test_each_output_is_claimed(self):
+        for name in documents():
+            plain = [part for language, part in parts(text_of(name)) if language == ""]
+            outputs = [part for part in plain if part.startswith(("unit ", "cppunits: "))]
+            self.assertEqual(outputs, [block for _, _, block in examples(text_of(name)) if block in outputs], name)
+
+    def test_the_man_page_shows_without_a_warning(self):
+        page = os.path.join(TOP, "docs", "cppunits.1")
+        checks = {"mandoc": ["mandoc", "-Tlint"], "groff": ["groff", "-ww", "-mandoc", "-Tutf8"]}
+        found = [command for name, command in checks.items() if shutil.which(name)] or missed("groff")
+        for command in found:
+            done = run([*command, page], env=dict(os.environ, LC_ALL="C"))
+            self.assertEqual((done.stderr, done.returncode), (b"", 0), command)
+            self.assertIn(done.stdout.strip() if command[0] == "mandoc" else b"", b"")
+
+    def test_the_documents_tell_all_options_statuses_and_numbers(self):
+        words = well([program(), "--help"]).decode()
+        numbers = re.findall(r"^### (?:Fault )?(L?\d+): ", text_of("docs/FAULTS.md"), re.M)
+        format, page = text_of("docs/FORMAT.md"), text_of("docs/cppunits.1")
+        for option in re.findall(r"--(\w+)", words):
+            self.assertIn("`--%s" % option, format)
+            self.assertRegex(page, r"Fl Fl %s\b" % option)
+        for status in re.findall(r"(\d) [a-z]", words.split("Status: ")[1]):
+            self.assertIn("\n| %s |" % status, format)
+            self.assertIn("\n.It %s\n" % status, page.split(".Sh EXIT STATUS")[1])
+        for number in numbers:
+            self.assertIn("\n.It %s\n" % number, page)
+        self.assertEqual(len(re.findall(r"^\.It L?\d+$", page.split(".Sh EXIT STATUS")[0], re.M)), len(numbers))
+
+    def test_each_number_has_its_example(self):
+        text = text_of("docs/FAULTS.md")
+        numbers = re.findall(r"^### (?:Fault |L)(\d+): ", text, re.M)
+        shown = re.findall(r"^(?:fault (\d+) |cppunits: list refused L(\d+)$)", text, re.M)
+        self.assertEqual(numbers, [one or two for one, two in shown])
+        self.assertEqual(len(numbers), len(set(re.findall(r"^### (?:Fault |L)\d+", text, re.M))))
+
+
+for compiler in VERSIONS:
+    setattr(Documents, "test_words_of_" + compiler, compiler_test(compiler))
+for document in documents():
+    setattr(Documents, "test_" + re.sub(r"\W", "_", document), document_test(document))
+
+
+if __name__ == "__main__":
+    main()

@@ -1,0 +1,305 @@
+#!/usr/bin/env python3
+"""Tests of scripts/list_from_build.py, on what cmake, meson, ninja and bear write for a small project.
+
+    tests/list_tests.py [PROGRAM] [-k NAME]
+
+The project has several folders, two targets and a header that the build makes.  The dependencies that cppunits prints for
+the list are compared with those of `gcc -MM` over the build's own commands.
+"""
+import json
+import os
+import re
+import shlex
+import tempfile
+import unittest
+
+from counted import cppunits, main, missed, script, well
+
+PROJECT = {
+    "app/main.c": """#include "low.h"
+#include "made.h"
+#include "sub/part.h"
+#if LEVEL > 3 && defined APP
+#include <extra.h>
+#endif
+int main(void) { return low() - MADE; }
+""",
+    "app/more.c": '#include "../app/sub/part.h"\nint more(void) { return PART; }\n',
+    "app/sub/part.h": "#ifndef PART\n#define PART 4\n#include \"own.h\"\n#endif\n",
+    "app/sub/own.h": "typedef int own;\n",
+    "lib/low.c": """#include <low.h>
+/* a comment
+*/ # /* and */ include "inner.h"
+int low(void) { return LEVEL; }
+const char *words = WORDS;
+""",
+    "lib/inner.h": "extern int inner;\n",
+    "lib/public/low.h": "#pragma once\nint low(void);\n",
+    "lib/public/extra.h": "#define EXTRA\n",
+    "cfg/made.h.in": "#define MADE @NUMBER@\n",
+    "CMakeLists.txt": """cmake_minimum_required(VERSION 3.10)
+project(demo C)
+set(CMAKE_EXPORT_COMPILE_COMMANDS ON)
+set(NUMBER 7)
+configure_file(cfg/made.h.in ${CMAKE_BINARY_DIR}/made/made.h)
+add_library(low STATIC lib/low.c)
+target_include_directories(low PUBLIC lib/public)
+target_compile_definitions(low PRIVATE LEVEL=3 "WORDS=\\"a b\\"")
+add_executable(app app/main.c app/more.c)
+target_include_directories(app PRIVATE ${CMAKE_BINARY_DIR}/made)
+target_compile_definitions(app PRIVATE APP LEVEL=3)
+target_link_libraries(app low)
+""",
+    "meson.build": """project('demo', 'c', default_options: ['c_std=c11'])
+configure_file(input: 'cfg/made.h.in', output: 'made.h', configuration: {'NUMBER': '7'})
+low = static_library('low', 'lib/low.c', include_directories: 'lib/public', c_args: ['-DLEVEL=3', '-DWORDS="a b"'])
+executable('app', 'app/main.c', 'app/more.c', include_directories: 'lib/public', c_args: ['-DAPP', '-DLEVEL=3'],
+           link_with: low)
+""",
+    "Makefile": """all: made.h
+\tgcc -c -Ilib/public -DLEVEL=3 -DWORDS='"a b"' lib/low.c -o low.o
+\tgcc -c -I. -Ilib/public -DAPP -DLEVEL=3 app/main.c -o main.o
+\tgcc -c -I. -Ilib/public -DAPP -DLEVEL=3 app/more.c -o more.o
+\tgcc low.o main.o more.o -o demo
+made.h: cfg/made.h.in
+\tsed 's/@NUMBER@/7/' $< > $@
+""",
+}
+UNITS = ["app/main.c", "app/more.c", "lib/low.c"]
+
+
+def write(folder, files):
+    for name, text in files.items():
+        path = os.path.join(folder, name)
+        os.makedirs(os.path.dirname(path), exist_ok=True)
+        with open(path, "wb") as file:
+            file.write(text if isinstance(text, bytes) else text.encode())
+
+
+def dependencies(printed):
+    """The sets of names by unit, of what `cppunits deps` printed."""
+    found = {}
+    for line in printed.decode().splitlines():
+        words = line.split(" ", 2)
+        if words[0] == "unit":
+            found[words[2]] = names = set()
+        elif words[0] == "dep":
+            names.add(words[2])
+    return found
+
+
+def by_gcc(commands, root):
+    """The same sets, of `gcc -MM` over a build's commands."""
+    found = {}
+    for entry in commands:
+        words = entry.get("arguments") or shlex.split(entry["command"])
+        words = re.sub(r"\0-((o|MF|MQ|MT)\0[^\0]*|c|MD)(?=\0)", "", "\0".join(words)).split("\0")[1:]
+        rule = well(["gcc", "-MM", *words], cwd=entry["directory"]).decode().replace("\\\n", " ")
+        paths = [os.path.join(entry["directory"], name) for name in rule.split(":", 1)[1].split()]
+        names = [os.path.relpath(path, root) for path in paths]
+        found[names[0]] = set(names)
+    return found
+
+
+class Folder(unittest.TestCase):
+    """Tests in a folder of their own."""
+
+    def setUp(self):
+        folder = tempfile.TemporaryDirectory()
+        self.addCleanup(folder.cleanup)
+        self.top = os.path.realpath(folder.name)
+        self.root = os.path.join(self.top, "demo")
+
+    def listed(self, path, *words, status=0, **more):
+        """The list that the script makes, and its lines on standard error."""
+        done = script("list_from_build.py", path, *words, **more)
+        self.assertEqual(done.returncode, status, done.stderr.decode())
+        return json.loads(done.stdout), done.stderr.decode().splitlines()
+
+
+class Builds(Folder):
+    def setUp(self):
+        super().setUp()
+        missed("gcc")
+        write(self.root, PROJECT)
+
+    def compare(self, path, commands=None, **more):
+        """The dependencies of the list's units are gcc's, over names and over contents."""
+        with open(path) as file:
+            commands = commands or json.load(file)
+        listed, _ = self.listed(path, "--root", self.root, **more)
+        printed = cppunits("--root", self.root, "deps", input=json.dumps(listed).encode())
+        self.assertEqual((printed.stderr, printed.returncode), (b"", 0))
+        inline, _ = self.listed(path, "--root", self.root, "--inline", **more)
+        self.assertEqual(cppunits("deps", input=json.dumps(inline).encode()).stdout, printed.stdout)
+        found = dependencies(printed.stdout)
+        self.assertEqual(sorted(found), UNITS)
+        self.assertEqual(found, by_gcc(commands, self.root))
+        # one header stands in a group that is skipped
+        self.assertEqual({row["name"] for row in listed["files"]}, set().union({"lib/public/extra.h"}, *found.values()))
+
+    def test_cmake(self):
+        missed("cmake", "make")
+        build = os.path.join(self.root, "build")
+        well(["cmake", "-S", self.root, "-B", build, "-G", "Unix Makefiles"])
+        self.compare(os.path.join(build, "compile_commands.json"))
+
+    def test_cmake_with_ninja_and_its_own_commands(self):
+        missed("cmake", "ninja")
+        build = os.path.join(self.root, "build")
+        well(["cmake", "-S", self.root, "-B", build, "-G", "Ninja"])
+        path = os.path.join(build, "compile_commands.json")
+        self.compare(path)
+        with open(path) as file:
+            commands = json.load(file)
+        with open(path, "wb") as file:
+            file.write(well(["ninja", "-C", build, "--quiet", "-t", "compdb"]))
+        # ninja names what is linked, too
+        self.compare(path, commands, status=1)
+
+    def test_meson(self):
+        missed("meson", "ninja")
+        build = os.path.join(self.root, "build")
+        well(["meson", "setup", build, self.root])
+        self.compare(os.path.join(build, "compile_commands.json"))
+
+    def test_bear(self):
+        missed("bear", "make")
+        path = os.path.join(self.root, "compile_commands.json")
+        well(["bear", "--output", path, "--", "make", "-C", self.root])
+        self.compare(path)
+
+    def test_the_root_is_the_deepest_folder_of_all(self):
+        missed("cmake", "make")
+        build = os.path.join(self.top, "elsewhere", "build")
+        well(["cmake", "-S", self.root, "-B", build, "-G", "Unix Makefiles"])
+        listed, said = self.listed(os.path.join(build, "compile_commands.json"))
+        self.assertIn("root %s, 3 units, 9 files, 0 not expressed" % self.top, said[-1])
+        self.assertIn({"name": "elsewhere/build/made/made.h"}, listed["files"])
+        self.assertEqual(cppunits("--root", self.top, "deps", input=json.dumps(listed).encode()).returncode, 0)
+
+
+class Commands(Folder):
+    """Commands by hand."""
+
+    def unit(self, command, files=(), words=(), **more):
+        """The one unit of a command, with the list and what was said before the last line."""
+        write(self.root, {"a.c": "x\n", **dict(files)})
+        path = os.path.join(self.top, "commands.json")
+        entry = {"directory": self.root, "file": "a.c"}
+        entry["arguments" if isinstance(command, list) else "command"] = command
+        with open(path, "w") as file:
+            json.dump([entry], file)
+        listed, said = self.listed(path, "--root", self.root, *words, **more)
+        return listed["units"][0], listed, said[:-1]
+
+    def test_definitions(self):
+        command = r"""cc -DA -DB=2 -D C='x y' '-DF(a,b)=a=b' -DE= -DG=1 -UG -DH=1 -DH=2 -UNEVER "-DT=\"q r\"" -DA=last -c a.c"""
+        unit, _, said = self.unit(command)
+        self.assertEqual(unit["define"], ["B 2", "C x y", "F(a,b) a=b", "E", "H 2", 'T "q r"', "A last"])
+        self.assertEqual(said, [])
+
+    def test_words_that_can_not_be_expressed(self):
+        unit, _, said = self.unit("cc -D__FILE__=1 -Ddefined -U__STDC__ -imacros m.h -include gone.h -c a.c", status=1)
+        self.assertNotIn("define", unit)
+        self.assertEqual(len(said), 5)
+        self.assertTrue(all(line.startswith("list_from_build.py: %s/a.c: " % self.root) for line in said), said)
+
+    def test_words_that_are_no_text(self):
+        unit, _, said = self.unit(["cc", "-DA=\udcff", "-DB=\ud800", "-I\ud800", "-c", "a.c"], status=1)
+        self.assertNotIn("define", unit)
+        found = [line.rsplit("/", 1)[1] for line in said]
+        self.assertEqual(found, ["a.c: -DA=%FF: no UTF-8 text", "a.c: -DB=%ED%A0%80: no UTF-8 text"])
+
+    def test_folders_in_their_order(self):
+        files = {name + "/x": "" for name in "abcdefg"}
+        command = "cc -Ib -isystemc -iquote a -I c -idirafter g -isystem d --include-directory=e -Ib -Inone -c a.c"
+        _, listed, said = self.unit(command, files, ["--system", os.path.join(self.root, "f")])
+        self.assertEqual(listed["search"], ["a", "b", "e", "c", "d", "f", "g"])
+        self.assertEqual(said, [])
+
+    def test_arguments_and_response_files(self):
+        files = {"more.rsp": "-DX='1 2' \"-DY=\\\"z\\\"\" @again.rsp\n-Iinc", "again.rsp": "-DZ", "inc/h.h": ""}
+        unit, listed, _ = self.unit(["cc", "@more.rsp", "-Wp,-DW=3,-MD,a.d", "-DS=a b", "-c", "a.c"], files)
+        self.assertEqual(unit["define"], ["X 1 2", 'Y "z"', "Z 1", "W 3", "S a b"])
+        self.assertEqual(listed["search"], ["inc"])
+
+    def test_a_file_that_is_included_first(self):
+        files = {"cfg/first.h": '#include "second.h"\nfirst\n', "cfg/second.h": "second\n"}
+        command = "cc -include first.h -Icfg -c a.c"
+        unit, listed, _ = self.unit(command, files, ["--inline"])
+        made = next(row for row in listed["files"] if row["name"] == unit["file"])
+        self.assertEqual(made["text"], '#include "../../cfg/first.h"\n#include "../../a.c"\n')
+        dump = cppunits("dump", input=json.dumps(listed).encode())
+        self.assertEqual(re.findall(r"^tok .* (\w+)$", dump.stdout.decode(), re.M), ["second", "first", "x"])
+        _, _, said = self.unit(command, files, status=1)
+        self.assertIn("needs --inline or --generate", said[0])
+        unit, listed, said = self.unit(command, files, ["--generate"])
+        self.assertEqual(said, [])
+        self.assertEqual(cppunits("--root", self.root, "dump", input=json.dumps(listed).encode()).stdout, dump.stdout)
+
+    def test_contents_that_are_no_text(self):
+        _, listed, _ = self.unit("cc -c a.c", {"a.c": b'"\xff\xfe"\n'}, ["--inline"])
+        self.assertEqual(listed["files"], [{"name": "a.c", "hex": "22fffe220a"}])
+
+    def test_a_name_that_a_macro_makes_takes_all_headers(self):
+        files = {"a.c": "#define H <deep/h.h>\n#include H\n", "inc/deep/h.h": '#include "k.h"\n', "inc/deep/k.h": "",
+                 "inc/other.inc": "", "inc/.hidden/x.h": "", "inc/readme": ""}
+        _, listed, _ = self.unit("cc -Iinc -c a.c", files)
+        names = sorted(row["name"] for row in listed["files"])
+        self.assertEqual(names, ["a.c", "inc/deep/h.h", "inc/deep/k.h", "inc/other.inc"])
+
+    def test_include_lines_are_found(self):
+        text = ('??=include "1.h"\n%: include <2.h>\n#inc\\\nlude "3.h"\n /* a\n b */ /**/ # /* c\n */ include/**/"4.h"\n'
+                '#if 0\n#include "5.h"\n#endif\nchar *s = "/*";\n#include "6.h"\n#include_next "7.h"\n')
+        files = {"%d.h" % n: "" for n in range(1, 8)}
+        _, listed, _ = self.unit("cc -I. -c a.c", {**files, "a.c": text})
+        self.assertEqual([row["name"] for row in listed["files"]], ["a.c"] + ["%d.h" % n for n in range(1, 7)])
+
+    def test_a_folder_for_names_in_quotes_alone(self):
+        files = {"a.c": "#include <h.h>\n", "q/h.h": "", "i/h.h": ""}
+        _, _, said = self.unit("cc -iquote q -Ii -c a.c", files, status=1)
+        self.assertIn("is found in an -iquote folder", said[0])
+        self.unit("cc -iquote q -Ii -c a.c", {**files, "a.c": '#include "h.h"\n'})
+
+    def test_what_is_outside_the_root(self):
+        write(self.top, {"out/h.h": ""})
+        _, _, said = self.unit("cc -I../out -c a.c", {"a.c": "#include <h.h>\n"}, status=1)
+        self.assertEqual(["not below the root" in said[0], "no folder below the root" in said[1]], [True, True])
+
+    def test_what_each_unit_is_compiled_to(self):
+        targets = os.path.join(self.top, "targets")
+        self.unit("cc -o out/a.o -c a.c", words=["--targets", targets])
+        with open(targets) as file:
+            self.assertEqual(file.read(), "out/a.o\n")
+
+    def test_the_time_of_a_build_that_can_be_repeated(self):
+        environment = dict(os.environ, SOURCE_DATE_EPOCH="1707465903")
+        _, listed, _ = self.unit("cc -c a.c", env=environment)
+        self.assertEqual((listed["date"], listed["time"]), ("Feb  9 2024", "08:05:03"))
+
+    def test_too_many_names(self):
+        write(self.root, {"a.c": "#include X\n", "inc/0.h": ""})
+        for number in range(1, 65535):
+            os.symlink("0.h", os.path.join(self.root, "inc/%d.h" % number))
+        path, old = os.path.join(self.top, "commands.json"), os.path.join(self.top, "list.json")
+        write(self.top, {"list.json": "as it was", "commands.json": json.dumps(
+            [{"directory": self.root, "file": "a.c", "command": "cc -Iinc -c a.c"}])})
+        done = script("list_from_build.py", path, "--output", old)
+        self.assertEqual((done.stdout, done.returncode), (b"", 3))
+        self.assertEqual(done.stderr, b"list_from_build.py: 65536 names and 1 units: a list has at most 65535 of each\n")
+        with open(old) as file:
+            self.assertEqual(file.read(), "as it was")
+        self.assertEqual(sorted(os.listdir(self.top)), ["commands.json", "demo", "list.json"])
+
+    def test_what_is_no_build(self):
+        for text, status in ("[", 3), ("{}", 3), ('[{"file":"a.c"}]', 3), ("[]", 0):
+            write(self.top, {"commands.json": text})
+            done = script("list_from_build.py", os.path.join(self.top, "commands.json"))
+            self.assertEqual((done.returncode, done.stderr.count(b"\n")), (status, 1), text)
+        self.assertEqual(script("list_from_build.py", os.path.join(self.top, "none.json")).returncode, 5)
+        self.assertEqual(script("list_from_build.py", "--none").returncode, 2)
+
+
+if __name__ == "__main__":
+    main()

@@ -1,0 +1,333 @@
+#!/usr/bin/env python3
+"""Tests of scripts/depfile.py, text.py and shards.py, with what ninja, make, gcc and GNU parallel make of what they write.
+
+    tests/scripts_tests.py [PROGRAM] [-k NAME]
+"""
+import json
+import os
+import shlex
+import shutil
+import subprocess
+import sys
+import tempfile
+import unittest
+import xml.etree.ElementTree
+
+from counted import LIST, TOP, cppunits, main, missed, program, run, script, well
+
+SCRIPTS = ("list_from_build.py", "depfile.py", "text.py", "shards.py")
+
+
+def listed(files, units=None):
+    rows = [{"name": name, "text": text} for name, text in files.items()]
+    return json.dumps(dict(LIST, files=rows, units=units or [{"file": rows[0]["name"]}])).encode()
+
+
+def write(folder, files):
+    for name, text in files.items():
+        path = os.path.join(folder, name)
+        os.makedirs(os.path.dirname(path), exist_ok=True)
+        with open(path, "wb") as file:
+            file.write(text if isinstance(text, bytes) else text.encode())
+
+
+def read(*parts):
+    with open(os.path.join(*parts), "rb") as file:
+        return file.read()
+
+
+def tokens(dump):
+    """Kind and spelling of each token line."""
+    lines = [line.split(b" ", 3)[3] for line in dump.split(b"\n") if line.startswith((b"tok ", b"ptok "))]
+    return [(line[:1], line[3:]) for line in lines]
+
+
+class Folder(unittest.TestCase):
+    def setUp(self):
+        folder = tempfile.TemporaryDirectory()
+        self.addCleanup(folder.cleanup)
+        self.top = os.path.realpath(folder.name)
+
+    def path(self, name):
+        return os.path.join(self.top, name)
+
+
+class All(Folder):
+    def test_help_names_the_statuses(self):
+        for name in SCRIPTS:
+            done = script(name, "--help")
+            self.assertEqual((done.returncode, done.stderr), (0, b""), name)
+            self.assertIn(b"status:\n  0  done\n", done.stdout)
+
+    def test_what_is_wrong_is_said_in_a_line(self):
+        write(self.top, {"cut": "unit 0 a.c\ntok 0:1:1 0:1:1 i+ a\n", "half": "unit 0 a.c\nok",
+                         "other": "unit 0 a.c\nwords\nok\n", "skipped": "unit 1 a.c\nok\n", "list": "{}"})
+        outputs = [(name, word, 3) for name in ("depfile.py", "text.py") for word in ("cut", "half", "other", "skipped")]
+        others = [("shards.py", "join", "cut", 3), ("shards.py", "cut", "2", "list", 3), ("shards.py", "cut", "0", "list", 2),
+                  ("shards.py", 2), ("text.py", "--unit", "x", 2), ("depfile.py", "none", 5), ("text.py", "none", 5),
+                  ("shards.py", "join", "none", 5)]
+        for name, *words, status in outputs + others:
+            done = script(name, *words, cwd=self.top)
+            found = done.returncode, done.stderr.count(b"\n"), done.stdout
+            self.assertEqual(found, (status, 1, b""), (name, words, done.stderr))
+            self.assertTrue(done.stderr.startswith(name.encode() + b": "), done.stderr)
+
+    def test_no_file_is_left_half_written(self):
+        write(self.top, {"whole": "unit 0 a.c\nok\n", "cut": "unit 0 a.c\nok\nunit 1 b.c\n", "joined": "as it was"})
+        done = script("shards.py", "join", "--output", "joined", "whole", "cut", cwd=self.top)
+        self.assertEqual((done.returncode, read(self.top, "joined")), (3, b"as it was"))
+        self.assertEqual(sorted(os.listdir(self.top)), ["cut", "joined", "whole"])
+
+    def test_a_write_that_fails(self):
+        if not os.path.exists("/dev/full"):
+            raise unittest.SkipTest("this system has no /dev/full")
+        write(self.top, {"dump": "unit 0 a.c\ntok 0:1:1 0:1:1 i+ a\nok\n"})
+        for words in (("text.py", "dump"), ("shards.py", "join", "dump")):
+            with open("/dev/full", "wb") as full:
+                command = [sys.executable, os.path.join(TOP, "scripts", words[0]), *words[1:]]
+                done = subprocess.run(command, cwd=self.top, stdout=full, stderr=subprocess.PIPE)
+            self.assertEqual((done.returncode, done.stderr.count(b"\n")), (5, 1), done.stderr)
+
+
+class Dependencies(Folder):
+    FILES = {"src/a b.c": '#include "x#y.h"\n#include "p$q.h"\n#include "c:d.h"\n#include "e\\f.h"\n#include "é.h"\n',
+             "src/x#y.h": "", "src/p$q.h": "", "src/c:d.h": "", "src/e\\f.h": "", "src/é.h": ""}
+
+    def made(self, *words, status=0):
+        write(self.top, {**self.FILES, "deps": cppunits("deps", input=listed(self.FILES)).stdout})
+        done = script("depfile.py", "deps", *words, cwd=self.top)
+        self.assertEqual(done.returncode, status, done.stderr)
+
+    def test_ninja_reads_them(self):
+        missed("ninja")
+        rule = "rule cc\n  command = touch $out\n  depfile = src/a b.c.d\n  deps = gcc\n"
+        write(self.top, {"targets": "out.o\n", "build.ninja": rule + "build out.o: cc src/a$ b.c\n"})
+        self.made("--targets", "targets")
+        well(["ninja", "-d", "keepdepfile"], cwd=self.top)
+        lines = well(["ninja", "-t", "deps"], cwd=self.top).decode().splitlines()
+        self.assertEqual({line.strip() for line in lines[1:] if line}, set(self.FILES))
+
+    def test_make_reads_them(self):
+        missed("make")
+        write(self.top, {"targets": "out.o\n", "Makefile": "out.o:\n\ttouch $@\ninclude src/a\\ b.c.d\n"})
+        self.made("--targets", "targets", "--phony")
+        well(["make"], cwd=self.top)
+        well(["make", "--question"], cwd=self.top)
+        for name in self.FILES:
+            self.assertIn(b"touch out.o", well(["make", "-n", "-W", name], cwd=self.top), name)
+        os.unlink(self.path("src/x#y.h"))
+        self.assertIn(b"touch out.o", well(["make", "-n"], cwd=self.top))
+
+    def test_gcc_writes_the_same_names(self):
+        missed("gcc")
+        self.made()
+        theirs = well(["gcc", "-MM", "-MT", "src/a\\ b.o", "src/a b.c"], cwd=self.top)
+        ours = read(self.top, "src/a b.c.d")
+        # gcc leaves a colon as it is, or writes a backslash before it, by its version
+        self.assertEqual(*(text.replace(b"\\\n", b" ").replace(b"\\:", b":").split() for text in (ours, theirs)))
+
+    def test_two_units_of_a_file_and_the_way_to_the_root(self):
+        files = {"a.c": '#include "h.h"\n', "h.h": ""}
+        deps = cppunits("deps", input=listed(files, [{"file": "a.c"}, {"file": "a.c", "define": ["X"]}])).stdout
+        done = script("depfile.py", "--into", "d", "--prefix", "../", input=deps, cwd=self.top)
+        self.assertEqual((done.returncode, done.stderr), (0, b""))
+        self.assertEqual(sorted(os.listdir(self.path("d"))), ["a.c.1.d", "a.c.d"])
+        self.assertEqual(read(self.top, "d/a.c.d"), b"a.o: \\\n  ../a.c \\\n  ../h.h\n")
+        self.assertEqual(read(self.top, "d/a.c.1.d"), b"a.o: \\\n  ../a.c \\\n  ../h.h\n")
+
+    def test_a_unit_with_a_fault_has_none(self):
+        two = listed({"a.c": "#error no\n", "b.c": ""}, [{"file": "a.c"}, {"file": "b.c"}])
+        deps = cppunits("deps", input=two).stdout
+        done = script("depfile.py", input=deps, cwd=self.top)
+        self.assertEqual((done.returncode, done.stderr), (1, b"depfile.py: unit 0, a.c: fault 34 0:1:1 no\n"))
+        self.assertEqual(os.listdir(self.top), ["b.c.d"])
+        self.assertEqual(script("depfile.py", "--partial", input=deps, cwd=self.top).returncode, 1)
+        self.assertEqual(read(self.top, "a.c.d"), b"a.o: \\\n  a.c\n")
+
+    def test_a_file_that_was_made_for_a_unit(self):
+        files = {"cppunits-generated/0/src/a.c": '#include "../../../src/a.c"\n', "src/a.c": ""}
+        script("depfile.py", input=cppunits("deps", input=listed(files)).stdout, cwd=self.top)
+        self.assertEqual(read(self.top, "src/a.c.d"), b"src/a.o: \\\n  src/a.c\n")
+
+    def test_names_that_no_rule_can_hold(self):
+        for name in ("a*.c", "a|.c", "a\\ b.c", "a\\"):
+            done = script("depfile.py", input=cppunits("deps", input=listed({name: ""})).stdout, cwd=self.top)
+            self.assertEqual((done.returncode, done.stderr.count(b"\n"), os.listdir(self.top)), (3, 1, []), name)
+
+
+PROGRAM = r"""#include "say.h"
+#pragma GCC diagnostic ignored "-Wunused-variable"
+#define SIGN -
+#define GLUE(a, b) a ## b
+#define STAR(x) x
+#define EACH(f) f(1) f(22) f(333)
+#define ROW(n) { n, #n, __LINE__ },
+_Pragma("GCC diagnostic ignored \"-Wparentheses\"")
+static struct { int n; const char *s; int line; } rows[] = {
+EACH(ROW)
+};
+int main(void)
+{
+    int i = 5, *p = &i, unused;
+    say("%d %d\n", - SIGN -i, i-SIGN-i);
+    say("%d\n", GLUE(i, )+ +i);
+    say("%d\n", i/STAR(*)p);
+    say("%s%s\n", u8"\xc3\xa9" GLUE(,) "%", __FILE__);
+    for (i = 0; i < 3; i++) say("%d %s %d\n", rows[i].n, rows[i].s, rows[i].line);
+    say("%d %s\n", __LINE__, STR(a	  "b\n"));
+    return 0;
+}
+"""
+HEADER = """#ifndef SAY
+#define SAY
+int printf(const char *, ...);
+#define say(...) printf(__VA_ARGS__)
+#define STR(x) #x
+#endif
+"""
+# each line's tokens, side by side, would be other tokens
+CLOSE = r"""#define E
+#define I(x) x
++I(+)a -I(-)-I(=)b &I(&) |I(|)|I(=)c <I(<)I(<)= >I(>)I(=) <I(:) %I(:)%I(:) ?I(?)= .I(.). .I(5) 1I(.)2 1I(a)
+aI(b) aI(1) 1eI(+)1 0xpI(-)2 1I('a') uI('a') u8I("s") LI("s") "s"I(x) 'a'I(b) /I(/) /I(*) *I(/) #I(#)
+->I(>) !I(=) ^I(=) =I(=) E# x
+I(#)define X
+%:%: I(%:) y
+@I(@) `I(a) \I(u)1234 $I($)
+"""
+
+
+class Text(Folder):
+    PROGRAM = {"main.c": PROGRAM, "say.h": HEADER}
+
+    def test_a_program_runs_as_before(self):
+        missed("gcc")
+        write(self.top, self.PROGRAM)
+        dump = cppunits("dump", input=listed(self.PROGRAM))
+        self.assertEqual(dump.returncode, 0)
+        done = script("text.py", "--into", "out", input=dump.stdout, cwd=self.top)
+        self.assertEqual((done.returncode, done.stderr), (0, b""))
+        well(["gcc", "-std=c11", "-Wall", "-Werror", "-o", "ours", "-x", "cpp-output", "out/main.c.i"], cwd=self.top)
+        well(["gcc", "-std=c11", "-Wall", "-Werror", "-o", "theirs", "main.c"], cwd=self.top)
+        printed = well(["./ours"], cwd=self.top)
+        self.assertEqual(printed, well(["./theirs"], cwd=self.top))
+        self.assertEqual(printed.count(b"\n"), 8)
+
+    def test_the_text_has_the_same_tokens(self):
+        for text in (CLOSE + "\\ \nx\n#pragma \\ \ny \\ \n", self.PROGRAM["main.c"].replace("_Pragma", "Pragma")):
+            dump = cppunits("dump", input=listed({**self.PROGRAM, "main.c": text}))
+            self.assertEqual(dump.returncode, 0, dump.stdout)
+            made = script("text.py", input=dump.stdout).stdout
+            again = cppunits("dump", input=listed({"a.c": made.decode()}))
+            self.assertEqual(again.returncode, 0, made)
+            self.assertEqual(tokens(again.stdout), tokens(dump.stdout))
+
+    def test_lines_and_spaces(self):
+        text = "#define F(x) x+x\nint   a ;\n\n\nF(b\n) c\n#pragma  once   more\nd\n"
+        made = script("text.py", input=cppunits("dump", input=listed({"a.c": text})).stdout)
+        self.assertEqual(made.stdout, b"int a ;\nb+b\nc\n#pragma once more\nd\n")
+
+    def test_one_unit_of_several(self):
+        three = listed({"a.c": "X\n"}, [{"file": "a.c", "define": ["X %d" % n]} for n in range(3)])
+        dump = cppunits("dump", input=three).stdout
+        self.assertEqual(script("text.py", "--unit", "2", input=dump).stdout, b"2\n")
+        self.assertEqual(script("text.py", "--unit", "3", input=dump).returncode, 3)
+        script("text.py", "--into", ".", input=dump, cwd=self.top)
+        self.assertEqual([read(self.top, name) for name in ("a.c.i", "a.c.1.i", "a.c.2.i")], [b"0\n", b"1\n", b"2\n"])
+
+    def test_a_unit_with_a_fault_has_none(self):
+        dump = cppunits("dump", input=listed({"a.c": "x\n#error no\n"})).stdout
+        done = script("text.py", input=dump)
+        self.assertEqual((done.returncode, done.stdout), (1, b""))
+        self.assertEqual(done.stderr, b"text.py: unit 0, a.c: fault 34 0:2:1 no\n")
+        self.assertEqual(script("text.py", "--partial", input=dump).stdout, b"x\n")
+
+
+class Table(Folder):
+    def test_a_table_and_its_picture(self):
+        files = {"src/a.c": "#include <h.h>\nX F(1)\n", "inc/h.h": "#define X 1\n"}
+        units = [{"file": "src/a.c", "define": ["F(a) a a", "Y"], "search": ["inc"]}]
+        write(self.top, {"list.json": listed(files, units)})
+        done = run([sys.executable, os.path.join(TOP, "bench", "table.py"), "--program", program(), "--runs", "1",
+                    "--svg", "table.svg", "a<b=list.json"], cwd=self.top)
+        self.assertEqual((done.stderr, done.returncode), (b"", 0))
+        lines = [line for line in done.stdout.decode().splitlines() if line.startswith("| a<b (1 units) |")]
+        self.assertEqual([line for line in lines if "error" in line], [])
+        self.assertEqual(sum("| cppunits, " in line for line in lines), 4)
+        picture = xml.etree.ElementTree.fromstring(read(self.top, "table.svg"))
+        self.assertEqual(sum(one.tag.endswith("rect") for one in picture), len(lines) + 1)
+
+
+class Shards(Folder):
+    def make(self, count, parts, fault=False):
+        last = {5: "#error\n"} if fault else {}
+        files = {"u%d.c" % n: '#include "h.h"\nint u%d = X;\n%s' % (n, last.get(n, "")) for n in range(count)}
+        files["h.h"] = "#ifndef H\n#define H\nint h = X;\n#endif\n"
+        units = [{"file": "u%d.c" % n, "define": ["X %d" % n]} for n in range(count)]
+        write(self.top, {"list.json": listed(files, units) if units else json.dumps(dict(LIST, files=[], units=[]))})
+        done = script("shards.py", "cut", str(parts), "list.json", cwd=self.top)
+        self.assertEqual((done.returncode, done.stdout, done.stderr), (0, b"", b""))
+        names = sorted(os.listdir(self.path("shards")))
+        self.assertEqual(len(names), parts)
+        return ["shards/" + name for name in names]
+
+    def compare(self, outputs, status):
+        whole = cppunits("dump", input=read(self.top, "list.json"))
+        for words in ((), ("--list", "list.json")):
+            done = script("shards.py", "join", *words, *outputs, cwd=self.top)
+            self.assertEqual((done.stdout, done.stderr, done.returncode), (whole.stdout, b"", status))
+        self.assertEqual(whole.returncode, status)
+
+    def test_four_jobs_of_gnu_parallel(self):
+        missed("parallel")
+        parts = self.make(23, 4, fault=True)
+        command = "%s --block 1 dump < {} > {.}.out" % shlex.quote(program())
+        done = run(["parallel", "--jobs", "4", command, ":::", *parts], cwd=self.top)
+        # its status is the number of jobs that didn't end with 0
+        self.assertEqual(done.returncode, 1, done.stderr)
+        self.compare([part.replace(".json", ".out") for part in parts], 1)
+
+    def test_four_jobs_at_once(self):
+        parts = self.make(22, 4)
+        jobs = []
+        for part in parts:
+            with open(self.path(part), "rb") as source, open(self.path(part + ".out"), "wb") as target:
+                jobs.append(subprocess.Popen([program(), "dump"], stdin=source, stdout=target))
+        self.assertEqual([job.wait() for job in jobs], [0, 0, 0, 0])
+        self.compare([part + ".out" for part in parts], 0)
+
+    def test_more_parts_than_units(self):
+        for count, parts in ((3, 5), (0, 2), (1, 1)):
+            shutil.rmtree(self.path("shards"), ignore_errors=True)
+            outputs = []
+            for part in self.make(count, parts):
+                write(self.top, {part + ".out": cppunits("dump", input=read(self.top, part)).stdout})
+                outputs.append(part + ".out")
+            self.compare(outputs, 0)
+
+    def test_parts_hold_the_same_files_and_setting(self):
+        for part in self.make(7, 3):
+            whole, one = json.loads(read(self.top, "list.json")), json.loads(read(self.top, part))
+            self.assertEqual({**whole, "units": 0}, {**one, "units": 0})
+
+    def test_parts_of_another_cut(self):
+        self.make(4, 4)
+        before = read(self.top, "shards", "000.json")
+        done = script("shards.py", "cut", "3", "list.json", cwd=self.top)
+        self.assertEqual((done.returncode, done.stderr), (3, b"shards.py: shards/003.json is left of another cut\n"))
+        self.assertEqual(read(self.top, "shards", "000.json"), before)
+        self.assertEqual(script("shards.py", "cut", "4", "list.json", cwd=self.top).returncode, 0)
+
+    def test_a_part_that_is_left_out(self):
+        outputs = []
+        for part in self.make(6, 3):
+            write(self.top, {part + ".out": cppunits("dump", input=read(self.top, part)).stdout})
+            outputs.append(part + ".out")
+        for wrong in (outputs[:2], outputs[1:], outputs[::-1], outputs + outputs[:1]):
+            done = script("shards.py", "join", "--output", "joined", "--list", "list.json", *wrong, cwd=self.top)
+            self.assertEqual((done.returncode, done.stderr.count(b"\n")), (3, 1), done.stderr)
+            self.assertFalse(os.path.exists(self.path("joined")))
+
+
+if __name__ == "__main__":
+    main()
