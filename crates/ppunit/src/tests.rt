@@ -296,7 +296,7 @@ fn processes_directive_lines(rt: HostRuntime) -> Result<(), Fail> {
 fn yields_items_one_by_one(rt: HostRuntime) -> Result<(), Fail> {
     let text = "#define X 1 + 2\n#define J(a,b) a##b\na b X c\n#pragma p q\nJ(d,e) X\n#pragma\nf\n";
     let wanted = "a b 1 + 2 c pragma@0:4:1[ p q ] de 1 + 2 pragma@0:6:1[ ] f | 0 | ok";
-    assert_contents(&rt, rt.alloc(), &[(text, wanted)])
+    assert_contents(&rt, rt.alloc(), Profile::C11, &[(text, wanted)])
 }
 
 #[test]
