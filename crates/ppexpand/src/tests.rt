@@ -458,7 +458,7 @@ fn spelled_one_by_one(alloc: Global, run: &Run) -> Result<Vec<u8>, AllocError> {
 /// That what the lines behind the last directive of a text are expanded to has these spellings, one by one.
 fn assert_yields(rt: &impl Abort, alloc: Global, text: &[u8], wanted: &[u8]) -> Result<(), Fail> {
     assert!(rt; text.len() <= 16_777_216);
-    let source = read_source(alloc, text, 1)?;
+    let source = read_source(alloc, text, 1, Profile::C11)?;
     let mut table = Table::new(alloc)?;
     let tokens = directed(rt, alloc, &mut table, &source)?;
     let expanded = expand(alloc, &table, &env(alloc)?, tokens)?;
