@@ -4,6 +4,7 @@ pub mod OneUnit
 pub mod Preprocessed
 pub mod Commands
 pub mod Walk
+pub mod Deciding
 pub mod OpenFiles
 pub mod Work
 pub mod Found

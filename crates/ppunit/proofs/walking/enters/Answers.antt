@@ -1,6 +1,6 @@
 use Rattle.std.proofs.Common.{sym, ◌∙◌}
 use Rattle.ppunit.specs.Walk.{line_at}
-use Rattle.ppunit.proofs.Walk.{enters_asked}
+use Rattle.ppunit.proofs.Deciding.{enters_asked}
 use Rattle.ppunit.proofs.walking.enters.Goals as goal
 
 pub returns : goal.returns
