@@ -11,6 +11,29 @@ use Rattle.pptext.specs.declared.directives.Role.TheVariants.{Text as IsText, Co
 use Rattle.pptext.specs.Clean.{place}
 use Rattle.pptext.specs.Lines.{LogicalLine}
 
+-- `#if`, `#ifdef`, `#ifndef`
+abbrev pub opens_section : Directive → Bool
+opens_section If = true
+opens_section Ifdef = true
+opens_section Ifndef = true
+opens_section d = false
+
+-- `#elif`, `#elifdef`, `#elifndef`: a branch with a condition
+abbrev pub has_condition : Directive → Bool
+has_condition Elif = true
+has_condition Elifdef = true
+has_condition Elifndef = true
+has_condition d = false
+
+-- a branch or `#endif`: a group ends before the line
+abbrev pub ends_group : Directive → Bool
+ends_group Elif = true
+ends_group Elifdef = true
+ends_group Elifndef = true
+ends_group Else = true
+ends_group Endif = true
+ends_group d = false
+
 -- What a line with this directive does to the groups. `Elses true` is `#else`, `Elses false` a branch with a condition.
 abbrev pub role_named : Directive → Role
 role_named If = Opens

@@ -2,10 +2,36 @@
 ghost use Rattle.std.specs.Prelude.{◌≡◌, codes, ◌||◌};
 ghost use Rattle.std.specs.Str.{bytes_eq};
 ghost use Rattle.pptext.specs.Lines.{directive_names, later_names, named_in, directive_named, directive_of};
-ghost use Rattle.pptext.specs.Tree.{role_named, role_by};
+ghost use Rattle.pptext.specs.Tree.{opens_section, has_condition, ends_group, role_named, role_by};
 
 use crate::sources::{Directive, Profile};
 use crate::tokens::Token;
+
+impl Directive {
+    /// Whether an if-section opens with its line: `#if`, `#ifdef`, `#ifndef` (6.10.1).
+    pub fn opens_section(self) -> bool
+        ensures { result ≡ opens_section self }
+    {
+        matches!(self, Directive::If | Directive::Ifdef | Directive::Ifndef)
+    }
+
+    /// Whether it is a branch that is entered by a condition: `#elif` (6.10.1), `#elifdef`, `#elifndef` (ISO/IEC 9899:2024, 6.10.2).
+    pub fn has_condition(self) -> bool
+        ensures { result ≡ has_condition self }
+    {
+        matches!(
+            self,
+            Directive::Elif | Directive::Elifdef | Directive::Elifndef
+        )
+    }
+
+    /// Whether a group ends before its line: a branch, `#else` among them, or `#endif` (6.10.1).
+    pub fn ends_group(self) -> bool
+        ensures { result ≡ ends_group self }
+    {
+        self.has_condition() || matches!(self, Directive::Else | Directive::Endif)
+    }
+}
 
 /// What a line does to the groups of its file (6.10).
 #[derive(Clone, Copy)]
@@ -133,4 +159,34 @@ pub(crate) fn directive_of(profile: Profile, line: &[Token]) -> Option<Directive
         return Some(Directive::Null);
     }
     Some(directive_named(profile, line[1].text.as_bytes()))
+}
+
+#[cfg(test)]
+mod tests {
+    use super::*;
+
+    #[test]
+    fn tells_what_a_directive_does_to_groups(rt: HostRuntime) {
+        for (directive, opens_section, has_condition, ends_group) in [
+            (Directive::If, true, false, false),
+            (Directive::Ifdef, true, false, false),
+            (Directive::Ifndef, true, false, false),
+            (Directive::Elif, false, true, true),
+            (Directive::Elifdef, false, true, true),
+            (Directive::Elifndef, false, true, true),
+            (Directive::Else, false, false, true),
+            (Directive::Endif, false, false, true),
+            (Directive::Define, false, false, false),
+        ] {
+            assert!(rt;
+                directive.opens_section() == opens_section,
+                "of {directive:?}"
+            );
+            assert!(rt;
+                directive.has_condition() == has_condition,
+                "of {directive:?}"
+            );
+            assert!(rt; directive.ends_group() == ends_group, "of {directive:?}");
+        }
+    }
 }

@@ -49,12 +49,27 @@ pub(crate) fn group_lines(
 
 #[cfg(test)]
 mod tests {
+    use crate::asserting::assert_same;
     use crate::reading::read_source;
-    use crate::sources::{Directive, Profile, SourceFault};
-    use crate::tokens::Place;
+    use crate::sources::{Directive, Line, Profile, SourceFault};
+    use crate::tokens::{Fault, Place};
     use std::alloc::Global;
     use std::process::Abort;
     use std::test::Fail;
+
+    /// That a fault of these bytes has this number, place and text.
+    fn assert_is_fault(
+        rt: &impl Abort,
+        bytes: &[u8],
+        fault: &Fault,
+        number: u8,
+        at: Place,
+        name: &[u8],
+    ) {
+        assert_same(rt, bytes, &fault.number, &number);
+        assert_same(rt, bytes, &fault.at, &at);
+        assert_same(rt, bytes, &fault.text.as_bytes(), &name);
+    }
 
     /// That reading these bytes gives this fault, with this directive's name.
     fn assert_fault(
@@ -69,11 +84,7 @@ mod tests {
         requires { length bytes.now ≤ 16_777_216 }
     {
         match read_source(alloc, bytes, 0, profile) {
-            Err(SourceFault::Bad(fault)) => {
-                assert_eq!(rt; fault.number, number, "of {bytes:?}");
-                assert_eq!(rt; fault.at, at, "of {bytes:?}");
-                assert_eq!(rt; fault.text.as_bytes(), name, "of {bytes:?}");
-            }
+            Err(SourceFault::Bad(fault)) => assert_is_fault(rt, bytes, &fault, number, at, name),
             _ => assert!(rt; false, "no fault of {bytes:?}"),
         }
     }
@@ -89,8 +100,29 @@ mod tests {
         requires { length bytes.now ≤ 16_777_216 }
     {
         match read_source(alloc, bytes, 0, profile) {
-            Ok(source) => assert_eq!(rt; source.guard(), guard, "of {bytes:?}"),
+            Ok(source) => assert_same(rt, bytes, &source.guard(), &guard),
             _ => assert!(rt; false, "a fault of {bytes:?}"),
+        }
+    }
+
+    /// That each of these lines has this directive and next branch line.
+    fn assert_linked(
+        rt: &impl Abort,
+        bytes: &[u8],
+        lines: &[Line],
+        wanted: &[(Option<Directive>, Option<usize>)],
+    ) {
+        assert_same(rt, bytes, &lines.len(), &wanted.len());
+        for (line, link) in lines.iter().zip(wanted) {
+            assert_same(rt, bytes, &(line.directive, line.next_branch), link);
+        }
+    }
+
+    /// That each of these lines has this next branch line.
+    fn assert_next(rt: &impl Abort, bytes: &[u8], lines: &[Line], wanted: &[Option<usize>]) {
+        assert_same(rt, bytes, &lines.len(), &wanted.len());
+        for (line, next_branch) in lines.iter().zip(wanted) {
+            assert_same(rt, bytes, &line.next_branch, next_branch);
         }
     }
 
@@ -99,10 +131,7 @@ mod tests {
         let bytes = b"#if a\n#ifdef B\nx\n#endif\n#elif b\n%:\n#else\n#endif\n";
         let source = read_source(rt.alloc(), bytes, 0, Profile::C11)?;
         let wanted = [Some(4), Some(3), None, None, Some(6), None, Some(7), None];
-        assert_eq!(rt; source.lines().len(), wanted.len());
-        for (line, next_branch) in source.lines().iter().zip(wanted) {
-            assert_eq!(rt; line.next_branch, next_branch);
-        }
+        assert_next(&rt, bytes, source.lines(), &wanted);
         Ok(())
     }
 
@@ -189,12 +218,7 @@ mod tests {
         requires { length bytes.now ≤ 16_777_216 }
     {
         match read_source(alloc, bytes, 0, profile) {
-            Ok(source) => {
-                assert_eq!(rt; source.lines().len(), wanted.len());
-                for (line, link) in source.lines().iter().zip(wanted.iter()) {
-                    assert_eq!(rt; (line.directive, line.next_branch), *link, "of {bytes:?}");
-                }
-            }
+            Ok(source) => assert_linked(rt, bytes, source.lines(), wanted),
             _ => assert!(rt; false, "a fault of {bytes:?}"),
         }
     }

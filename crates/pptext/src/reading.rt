@@ -125,12 +125,27 @@ pub fn relex(text: &[u8]) -> Option<Kind>
 #[cfg(test)]
 mod tests {
     use super::*;
+    use crate::asserting::assert_same;
     use crate::sources::Directive;
     use std::process::Abort;
     use std::test::Fail;
 
     fn place(line: u32, col: u32) -> Place {
         Place { file: 7, line, col }
+    }
+
+    /// That a fault of these bytes has this number, place and text.
+    fn assert_is_fault(
+        rt: &impl Abort,
+        bytes: &[u8],
+        fault: &Fault,
+        number: u8,
+        at: Place,
+        name: &[u8],
+    ) {
+        assert_same(rt, bytes, &fault.number, &number);
+        assert_same(rt, bytes, &fault.at, &at);
+        assert_same(rt, bytes, &fault.text.as_bytes(), &name);
     }
 
     /// That reading these bytes gives this fault, with this directive's name.
@@ -145,33 +160,69 @@ mod tests {
         requires { length bytes.now ≤ 16_777_216 }
     {
         match read_source(alloc, bytes, 7, Profile::C11) {
-            Err(SourceFault::Bad(fault)) => {
-                assert_eq!(rt; fault.number, number, "of {bytes:?}");
-                assert_eq!(rt; fault.at, at, "of {bytes:?}");
-                assert_eq!(rt; fault.text.as_bytes(), name, "of {bytes:?}");
-            }
+            Err(SourceFault::Bad(fault)) => assert_is_fault(rt, bytes, &fault, number, at, name),
             _ => assert!(rt; false, "no fault of {bytes:?}"),
+        }
+    }
+
+    /// What a token is to be: its kind, spelling, space mark and place.
+    type Wanted<'a> = (Kind, &'a [u8], bool, Place);
+
+    /// That a token is as wanted, and used where it stands.
+    fn assert_token(rt: &impl Abort, token: &Token, wanted: &Wanted) {
+        let text = wanted.1;
+        assert_same(rt, text, &token.kind, &wanted.0);
+        assert_same(rt, text, &token.text.as_bytes(), &text);
+        assert_same(rt, text, &token.space, &wanted.2);
+        assert_same(rt, text, &token.at, &wanted.3);
+        assert_same(rt, text, &token.used, &wanted.3);
+    }
+
+    /// That the tokens of a text are as wanted.
+    fn assert_tokens(rt: &impl Abort, text: &[u8], tokens: &[Token], wanted: &[Wanted]) {
+        assert_same(rt, text, &tokens.len(), &wanted.len());
+        for (token, want) in tokens.iter().zip(wanted) {
+            assert_token(rt, token, want);
         }
     }
 
     #[test]
     fn reads_tokens(rt: HostRuntime) -> Result<(), Fail> {
-        let source = read_source(rt.alloc(), b"a+b/**/c", 7, Profile::C11)?;
+        let text = b"a+b/**/c";
+        let source = read_source(rt.alloc(), text, 7, Profile::C11)?;
         let wanted = [
             (Kind::Ident, b"a".as_slice(), true, place(1, 1)),
             (Kind::Punct, b"+".as_slice(), false, place(1, 2)),
             (Kind::Ident, b"b".as_slice(), false, place(1, 3)),
             (Kind::Ident, b"c".as_slice(), true, place(1, 8)),
         ];
-        assert_eq!(rt; source.tokens().len(), wanted.len());
-        for (token, (kind, text, space, at)) in source.tokens().iter().zip(wanted) {
-            assert_eq!(rt; token.kind, kind);
-            assert_eq!(rt; token.text.as_bytes(), text);
-            assert_eq!(rt; token.space, space);
-            assert_eq!(rt; token.at, at);
-            assert_eq!(rt; token.used, at);
-        }
+        assert_tokens(&rt, text, source.tokens(), &wanted);
         Ok(())
+    }
+
+    /// A line of these tokens, with its number, directive and next branch.
+    fn line(
+        start: usize,
+        end: usize,
+        number: u32,
+        directive: Option<Directive>,
+        next_branch: Option<usize>,
+    ) -> Line {
+        Line {
+            start,
+            end,
+            number,
+            directive,
+            next_branch,
+        }
+    }
+
+    /// That the lines of a text are those wanted.
+    fn assert_lines(rt: &impl Abort, text: &[u8], lines: &[Line], wanted: &[Line]) {
+        assert_same(rt, text, &lines.len(), &wanted.len());
+        for (line, want) in lines.iter().zip(wanted) {
+            assert_same(rt, text, line, want);
+        }
     }
 
     #[test]
@@ -179,29 +230,13 @@ mod tests {
         let bytes = b"#ifndef X\n\t/*\n*/ # def\\\nine X\n\n??=endif\n";
         let source = read_source(rt.alloc(), bytes, 7, Profile::C11)?;
         let wanted = [
-            (0, 3, 1, Some(Directive::Ifndef), Some(3)),
-            (3, 6, 4, Some(Directive::Define), None),
-            (6, 6, 5, None, None),
-            (6, 8, 6, Some(Directive::Endif), None),
+            line(0, 3, 1, Some(Directive::Ifndef), Some(3)),
+            line(3, 6, 4, Some(Directive::Define), None),
+            line(6, 6, 5, None, None),
+            line(6, 8, 6, Some(Directive::Endif), None),
         ];
-        assert_eq!(rt; source.lines().len(), wanted.len());
-        for (line, (start, end, number, directive, next_branch)) in source
-            .lines()
-            .iter()
-            .zip(wanted)
-        {
-            assert_eq!(rt;
-                *line,
-                Line {
-                    start,
-                    end,
-                    number,
-                    directive,
-                    next_branch
-                }
-            );
-        }
-        assert_eq!(rt; source.guard().ok_or("no guard")?, b"X".as_slice());
+        assert_lines(&rt, bytes, source.lines(), &wanted);
+        assert_same(&rt, bytes, &source.guard(), &Some(b"X".as_slice()));
         Ok(())
     }
 
@@ -255,7 +290,7 @@ mod tests {
             (b"//".as_slice(), None),
             (b"<x>".as_slice(), None),
         ] {
-            assert_eq!(rt; relex(text), kind, "of {text:?}");
+            assert_same(&rt, text, &relex(text), &kind);
         }
     }
 }

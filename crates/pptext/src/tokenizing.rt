@@ -116,10 +116,22 @@ pub(crate) fn token_at(text: &[u8], line: &[Token], lone: &mut LoneQuotes) -> (K
 #[cfg(test)]
 mod tests {
     use super::*;
+    use crate::asserting::assert_same;
     use crate::scanning::is_blank;
     use crate::tokens::{Place, Spelling};
     use std::alloc::{AllocError, Global};
+    use std::process::Abort;
     use std::test::Fail;
+
+    /// That the token in front of a text is of this kind and length.
+    fn assert_cut(rt: &impl Abort, text: &[u8], kind: Kind, len: usize) {
+        assert!(rt; !text.is_empty());
+        assert!(rt; text[0] != b'\n');
+        assert!(rt; !is_blank(text[0]));
+        let found = plain_token_at(text, &mut LoneQuotes::unknown(text.len()));
+        assert_same(rt, text, &found.0, &kind);
+        assert_same(rt, text, &found.1, &len);
+    }
 
     #[test]
     fn cuts_each_kind(rt: HostRuntime) {
@@ -159,12 +171,7 @@ mod tests {
             (b"\\".as_slice(), Kind::Other, 1),
             (b"\x00".as_slice(), Kind::Other, 1),
         ] {
-            assert!(rt; !text.is_empty());
-            assert!(rt; text[0] != b'\n');
-            assert!(rt; !is_blank(text[0]));
-            let found = plain_token_at(text, &mut LoneQuotes::unknown(text.len()));
-            assert_eq!(rt; found.0, kind, "{text:?}");
-            assert_eq!(rt; found.1, len, "{text:?}");
+            assert_cut(&rt, text, kind, len);
         }
     }
 
@@ -197,7 +204,7 @@ mod tests {
             (b"\"a".as_slice(), 0),
             (b"x<a>".as_slice(), 0),
         ] {
-            assert_eq!(rt; header_at(text, &line), len, "{text:?}");
+            assert_same(&rt, text, &header_at(text, &line), &len);
         }
         line.push(token(rt.alloc(), b"include")?)?;
         assert_eq!(rt; header_at(b"<a>", &line), 0);

@@ -236,45 +236,64 @@ impl Tokens {
 #[cfg(test)]
 mod tests {
     use super::*;
+    use std::process::Abort;
     use std::test::Fail;
+
+    /// That a spelling is of these bytes, and so is a copy of it.
+    fn assert_spells(rt: &impl Abort, spelling: &Spelling, bytes: &[u8]) -> Result<(), AllocError> {
+        assert_eq!(rt; spelling.as_bytes(), bytes);
+        assert!(rt; spelling.clone()? == *spelling);
+        Ok(())
+    }
+
+    /// The token `ab`, at this place.
+    fn token(alloc: Global, at: Place) -> Result<Token, AllocError> {
+        Ok(Token {
+            kind: Kind::Ident,
+            text: Spelling::from_slice(alloc, b"ab")?,
+            space: true,
+            at,
+            used: at,
+        })
+    }
+
+    /// A list of the token `ab`, at this place.
+    fn list(alloc: Global, at: Place) -> Result<Tokens, AllocError> {
+        let mut tokens = Vec::new(alloc);
+        tokens.push(token(alloc, at)?)?;
+        Ok(Tokens::new(tokens))
+    }
 
     #[test]
     fn gives_back_what_it_was_made_of(rt: HostRuntime) -> Result<(), Fail> {
-        let spelling = Spelling::new([b'a', b'b'].to_vec(rt.alloc())?)?;
-        assert_eq!(rt; spelling.as_bytes(), b"ab".as_slice());
-        assert!(rt; spelling.clone()? == spelling);
-        assert!(rt; Spelling::empty().as_bytes().is_empty());
-        assert!(rt; Spelling::from_slice(rt.alloc(), b"ab")? == spelling);
         let at = Place {
             file: 1,
             line: 2,
             col: 3,
         };
-        let mut tokens = Vec::new(rt.alloc());
-        tokens.push(Token {
-            kind: Kind::Ident,
-            text: spelling,
-            space: true,
-            at,
-            used: at,
-        })?;
-        let tokens = Tokens::new(tokens);
-        assert_eq!(rt; tokens.as_slice().len(), 1);
-        let mut tokens = tokens.into_vec();
-        let token = tokens.pop().ok_or("no token")?;
-        assert_eq!(rt; token.at, at);
-        assert_eq!(rt; token.text.as_bytes(), b"ab".as_slice());
+        let tokens = list(rt.alloc(), at)?;
+        assert!(rt; tokens.as_slice().len() == 1);
+        let token = tokens.into_vec().pop().ok_or("no token")?;
+        assert!(rt; token.at == at);
+        assert_spells(&rt, &token.text, b"ab")?;
+        Ok(())
+    }
+
+    /// That both ways to make a spelling of bytes give one of them.
+    fn assert_keeps(rt: &impl Abort, bytes: Vec<u8>, alloc: Global) -> Result<(), AllocError> {
+        let copied = Spelling::from_slice(alloc, bytes.as_slice())?;
+        assert_spells(rt, &copied, bytes.as_slice())?;
+        assert!(rt; Spelling::new(bytes)? == copied);
         Ok(())
     }
 
     #[test]
     fn keeps_long_spellings(rt: HostRuntime) -> Result<(), Fail> {
+        let alloc = rt.alloc();
+        assert_spells(&rt, &Spelling::empty(), b"")?;
+        assert_keeps(&rt, [b'a', b'b'].to_vec(alloc)?, alloc)?;
         for length in [0, 1, 13, 14, 15, 100] {
-            let bytes = vec![in rt.alloc(); b'x'; length]?;
-            let copied = Spelling::from_slice(rt.alloc(), bytes.as_slice())?;
-            assert_eq!(rt; copied.as_bytes(), bytes.as_slice());
-            assert!(rt; copied.clone()? == copied);
-            assert!(rt; Spelling::new(bytes)? == copied);
+            assert_keeps(&rt, vec![in alloc; b'x'; length]?, alloc)?;
         }
         Ok(())
     }
