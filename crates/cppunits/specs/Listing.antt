@@ -1,5 +1,5 @@
 -- The list of translation units that bytes hold, or why they are refused.
-use Rattle.std.specs.Prelude.{◌≡◌, ℕ, ◌^◌, ◌<◌, ◌≤◌, ◌&&◌, ◌⊎◌, not, Bool, true, List, [], ◌∷◌, ◌++◌, All, if◌then◌else◌, nat_lt, nat_le, codes, length, map, Option, Some, None, unwrap_or}
+use Rattle.std.specs.Prelude.{◌≡◌, ℕ, ◌-◌, ◌^◌, ◌<◌, ◌≤◌, ◌&&◌, ◌⊎◌, not, Bool, true, false, List, [], ◌∷◌, ◌++◌, All, if◌then◌else◌, nat_lt, nat_le, codes, length, map, Option, Some, None, unwrap_or}
 use Rattle.std.specs.Option.{is_some}
 use Rattle.std.specs.List.{list_all, position}
 use Rattle.std.specs.Str.{is_utf8, bytes_eq}
@@ -21,6 +21,8 @@ use Rattle.cppunits.specs.declared.list.ListFault.TheVariants.{Bad, Memory}
 use Rattle.cppunits.specs.declared.list.drafts.Draft.{Draft}
 use Rattle.cppunits.specs.declared.list.drafts.DraftFile.{DraftFile}
 use Rattle.cppunits.specs.declared.list.drafts.DraftUnit.{DraftUnit}
+use Rattle.cppunits.specs.declared.list.drafts.DraftBudget.{DraftBudget}
+use Rattle.cppunits.specs.declared.list.drafts.DraftBudget.TheVariants as budget
 use Rattle.cppunits.specs.declared.list.drafts.DraftSetting.{DraftSetting}
 
 -- a list, or the number of its refusal
@@ -92,8 +94,27 @@ profile_holds s = is_some (profile_named s.profile)
 abbrev pub profile_of : DraftSetting → Profile
 profile_of s = unwrap_or (profile_named s.profile) C11
 
+-- the most that a list may allow each unit
+abbrev pub most_budget : ℕ
+most_budget = 2 ^ 32 - 1
+
+-- no budget, or a whole number that isn't too large
+abbrev pub is_budget : DraftBudget → Bool
+is_budget budget.Missing = true
+is_budget (budget.Whole n) = nat_le n most_budget
+is_budget budget.Other = false
+
+abbrev pub budget_holds : DraftSetting → Bool
+budget_holds s = is_budget s.budget
+
+-- what the list allows each unit, if it says so
+abbrev pub budget_of : DraftBudget → Option ℕ
+budget_of budget.Missing = None
+budget_of (budget.Whole n) = Some n
+budget_of budget.Other = None
+
 abbrev pub listed_setting : DraftSetting → Setting
-listed_setting s = record { profile = profile_of s; date = s.date; time = s.time; search = s.search }
+listed_setting s = record { profile = profile_of s; date = s.date; time = s.time; search = s.search; budget = budget_of s.budget }
 
 -- a unit, whose definitions are read by this profile
 abbrev pub listed_unit : Profile → List (List ℕ) → DraftUnit → UnitOfList
@@ -103,9 +124,13 @@ listed_unit profile names u = record { file = unwrap_or (place_of u.file names) 
 abbrev pub listed : Bool → Draft → CompilationList
 listed inline d = record { setting = listed_setting d.setting; names = names_of d.files; contents = if inline then contents_of d.files else []; units = map (listed_unit (profile_of d.setting) (names_of d.files)) d.units }
 
+-- what stands in a draft whose texts are as they are to be
+abbrev pub judged_choices : Bool → Draft → Outcome
+judged_choices inline d = if not (profile_holds d.setting) then refused 9 else (if not (budget_holds d.setting) then refused 10 else accepted (listed inline d))
+
 -- what stands in a draft whose units have their files
 abbrev pub judged_texts : Bool → Draft → Outcome
-judged_texts inline d = if not (times_hold d.setting) then refused 6 else (if not (lines_hold d.units) then refused 7 else (if not (folders_hold d) then refused 8 else (if not (profile_holds d.setting) then refused 9 else accepted (listed inline d))))
+judged_texts inline d = if not (times_hold d.setting) then refused 6 else (if not (lines_hold d.units) then refused 7 else (if not (folders_hold d) then refused 8 else judged_choices inline d))
 
 -- the list, or the least number of a refusal that applies
 abbrev pub judged : Bool → Draft → Outcome

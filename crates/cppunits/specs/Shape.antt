@@ -2,10 +2,12 @@
 use Rattle.std.specs.Prelude.{ℕ, ◌+◌, ◌-◌, ◌*◌, ◌&&◌, Bool, true, false, List, [], ◌∷◌, if◌then◌else◌, nat_le, codes, Option, Some, None, option_map, option_and_then, unwrap_or}
 use Rattle.std.specs.List.{list_any}
 use Rattle.std.specs.Str.{bytes_eq}
-use Rattle.serde_json.specs.Data.{Data, Items, no_items, item, Members, no_members, member}
-use Rattle.serde_json.specs.Find.{get, as_str, as_array, as_object}
+use Rattle.serde_json.specs.Data.{Num, Data, Items, no_items, item, Members, no_members, member}
+use Rattle.serde_json.specs.Find.{get, as_number, as_str, as_array, as_object, as_u64}
 use Rattle.cppunits.specs.declared.list.drafts.DraftFile.{DraftFile}
 use Rattle.cppunits.specs.declared.list.drafts.DraftUnit.{DraftUnit}
+use Rattle.cppunits.specs.declared.list.drafts.DraftBudget.{DraftBudget}
+use Rattle.cppunits.specs.declared.list.drafts.DraftBudget.TheVariants as budget
 use Rattle.cppunits.specs.declared.list.drafts.DraftSetting.{DraftSetting}
 use Rattle.cppunits.specs.declared.list.drafts.Draft.{Draft}
 
@@ -91,11 +93,24 @@ draft_unit d = if is_object_of unit_members d then option_and_then (λ f. option
 abbrev pub profile_at : Data → Option (List ℕ)
 profile_at d = text_or (codes "c11") (get (codes "profile") d)
 
+-- a number as it is written: a whole one of 64 bits without a sign, or another
+abbrev pub written : Option ℕ → DraftBudget
+written (Some n) = budget.Whole n
+written None = budget.Other
+
+-- the budget, a number, or that it is missing
+abbrev pub budget_from : Option Data → Option DraftBudget
+budget_from None = Some budget.Missing
+budget_from (Some d) = option_map (λ (n : Num). written (as_u64 n)) (as_number d)
+
+abbrev pub budget_at : Data → Option DraftBudget
+budget_at d = budget_from (get (codes "budget") d)
+
 abbrev pub draft_setting : Data → Option DraftSetting
-draft_setting d = option_and_then (λ p. option_and_then (λ day. option_and_then (λ hour. option_map (λ ss. record { profile = p; date = day; time = hour; search = ss }) (texts_at (codes "search") d)) (text_at (codes "time") d)) (text_at (codes "date") d)) (profile_at d)
+draft_setting d = option_and_then (λ p. option_and_then (λ b. option_and_then (λ day. option_and_then (λ hour. option_map (λ ss. record { profile = p; budget = b; date = day; time = hour; search = ss }) (texts_at (codes "search") d)) (text_at (codes "time") d)) (text_at (codes "date") d)) (budget_at d)) (profile_at d)
 
 abbrev pub list_members : List (List ℕ)
-list_members = codes "profile" ∷ codes "date" ∷ codes "time" ∷ codes "search" ∷ codes "files" ∷ codes "units" ∷ []
+list_members = codes "profile" ∷ codes "budget" ∷ codes "date" ∷ codes "time" ∷ codes "search" ∷ codes "files" ∷ codes "units" ∷ []
 
 -- the list as it stands, where it has its shape, and no other members
 abbrev pub draft : Bool → Data → Option Draft

@@ -1,5 +1,5 @@
--- The expansion of a list (6.10.3.4).
-use Rattle.std.specs.Prelude.{◌≡◌, ℕ, suc, ◌<◌, ◌≤◌, List, [], ◌∷◌, map, Option, Some, None, Result, Ok, Err}
+-- The expansion of a list (6.10.3.4), within a budget of replacements or without one.
+use Rattle.std.specs.Prelude.{◌≡◌, ℕ, suc, ◌+◌, ◌<◌, ◌≤◌, List, [], ◌∷◌, map, Option, Some, None, Result, Ok, Err}
 use Rattle.pptext.specs.declared.tokens.Token.{Token}
 use Rattle.pptext.specs.declared.tokens.Fault.{Fault}
 use Rattle.ppmacro.specs.Names.{Macros}
@@ -7,12 +7,13 @@ use Rattle.ppmacro.specs.HideSets.{Hiding}
 use Rattle.ppmacro.specs.Substitution.{plain}
 use Rattle.ppexpand.specs.declared.env.Env.{Env}
 use Rattle.ppexpand.specs.declared.expansion.Expanded.{Expanded}
-use Rattle.ppexpand.specs.Turn.{Call, Done, Refused, Passes, Replaced, Called, turn, wanted, finished, fault_at_use}
+use Rattle.ppexpand.specs.Turn.{Call, Turn, Done, Refused, Passes, Failed, Replaced, Called, turn, within, less_one, wanted, finished, fault_at_use}
 
--- the tokens that passed, and the fault that ended it, if one did
+-- the tokens that passed, the fault that ended it, if one did, and what is left of the budget
 pub record Outcome : Type 0 where
   pub tokens : List Hiding
   pub fault : Option Fault
+  pub left : Option ℕ
 
 -- the expansions of arguments, with one place for each parameter
 abbrev pub ExpandedArguments : Type 0
@@ -23,74 +24,106 @@ with_expanded a (Ok as') = Ok (a ∷ as')
 with_expanded a (Err f) = Err f
 
 -- the list ends here, with this fault or none
-abbrev pub ended : Option Fault → Outcome
-ended f = record { tokens = []; fault = f }
+abbrev pub ended : Option ℕ → Option Fault → Outcome
+ended left f = record { tokens = []; fault = f; left = left }
 
 -- a token that passed before the others
 abbrev pub with_passed : Hiding → Outcome → Outcome
-with_passed t out = record { tokens = t ∷ out.tokens; fault = out.fault }
+with_passed t out = record { tokens = t ∷ out.tokens; fault = out.fault; left = out.left }
 
-mutual
-  -- at this level, in so many turns, a list has this outcome
-  pub data Expands (macros : Macros) (env : Env) : ℕ → ℕ → List Hiding → Outcome → Type 0 where
-    done : {level : ℕ} {list : List Hiding}
-        → turn macros env list ≡ Done
-        → Expands macros env level 0 list (ended None)
-    refused : {level : ℕ} {list : List Hiding} {f : Fault}
-        → turn macros env list ≡ Refused f
-        → Expands macros env level 0 list (ended (Some f))
-    passes : {level turns : ℕ} {list : List Hiding} {t : Hiding} {rest : List Hiding} {out : Outcome}
-        → turn macros env list ≡ Passes t rest
-        → Expands macros env level turns rest out
-        → Expands macros env level (suc turns) list (with_passed t out)
-    replaced : {level turns : ℕ} {list next : List Hiding} {out : Outcome}
-        → turn macros env list ≡ Replaced next
-        → Expands macros env level turns next out
-        → Expands macros env level (suc turns) list out
-    argument_refused : {level : ℕ} {list : List Hiding} {call : Call} {f : Fault}
-        → turn macros env list ≡ Called call
-        → ExpandsArguments macros env level call (wanted call) (Err f)
-        → Expands macros env level 0 list (ended (Some f))
-    call_refused : {level : ℕ} {list : List Hiding} {call : Call} {expanded : List (Option (List Hiding))} {f : Fault}
-        → turn macros env list ≡ Called call
-        → ExpandsArguments macros env level call (wanted call) (Ok expanded)
-        → finished call expanded ≡ Refused f
-        → Expands macros env level 0 list (ended (Some f))
-    call_replaced : {level turns : ℕ} {list next : List Hiding} {call : Call} {expanded : List (Option (List Hiding))} {out : Outcome}
-        → turn macros env list ≡ Called call
-        → ExpandsArguments macros env level call (wanted call) (Ok expanded)
-        → finished call expanded ≡ Replaced next
-        → Expands macros env level turns next out
-        → Expands macros env level (suc turns) list out
+module _ (macros : Macros) (env : Env) where
+  -- what the head of a list calls for, where so much is left
+  abbrev pub turn_within : Option ℕ → List Hiding → Turn
+  turn_within left list = within left list (turn macros env list)
 
-  -- the arguments of a call in a list at this level, each expanded as a list of its own one level deeper (6.10.3.1), in
-  -- order, up to the first fault; level 256 is the deepest
-  pub data ExpandsArguments (macros : Macros) (env : Env) : ℕ → Call → List (Option (List Hiding)) → ExpandedArguments → Type 0 where
-    none : {level : ℕ} {call : Call}
-        → ExpandsArguments macros env level call [] (Ok [])
-    unused : {level : ℕ} {call : Call} {rest : List (Option (List Hiding))} {out : ExpandedArguments}
-        → ExpandsArguments macros env level call rest out
-        → ExpandsArguments macros env level call (None ∷ rest) (with_expanded None out)
-    too_deep : {level : ℕ} {call : Call} {list : List Hiding} {rest : List (Option (List Hiding))}
-        → 256 ≤ level
-        → ExpandsArguments macros env level call (Some list ∷ rest) (Err (fault_at_use 21 call.head))
-    used : {level turns : ℕ} {call : Call} {list tokens : List Hiding} {rest : List (Option (List Hiding))} {out : ExpandedArguments}
-        → level < 256
-        → Expands macros env (suc level) turns list (record { tokens = tokens; fault = None })
-        → ExpandsArguments macros env level call rest out
-        → ExpandsArguments macros env level call (Some list ∷ rest) (with_expanded (Some tokens) out)
-    used_refused : {level turns : ℕ} {call : Call} {list tokens : List Hiding} {rest : List (Option (List Hiding))} {f : Fault}
-        → level < 256
-        → Expands macros env (suc level) turns list (record { tokens = tokens; fault = Some f })
-        → ExpandsArguments macros env level call (Some list ∷ rest) (Err f)
+  mutual
+    -- at this level, where so much is left, in so many turns, a list has this outcome; each replacement costs one
+    pub data Expands : ℕ → Option ℕ → ℕ → List Hiding → Outcome → Type 0 where
+      done : {level : ℕ} {left : Option ℕ} {list : List Hiding}
+          → turn_within left list ≡ Done
+          → Expands level left 0 list (ended left None)
+      refused : {level : ℕ} {left : Option ℕ} {list : List Hiding} {f : Fault}
+          → turn_within left list ≡ Refused f
+          → Expands level left 0 list (ended left (Some f))
+      passes : {level turns : ℕ} {left : Option ℕ} {list : List Hiding} {t : Hiding} {rest : List Hiding} {out : Outcome}
+          → turn_within left list ≡ Passes t rest
+          → Expands level left turns rest out
+          → Expands level left (suc turns) list (with_passed t out)
+      failed : {level : ℕ} {left : Option ℕ} {list : List Hiding} {f : Fault}
+          → turn_within left list ≡ Failed f
+          → Expands level left 0 list (ended (less_one left) (Some f))
+      replaced : {level turns : ℕ} {left : Option ℕ} {list next : List Hiding} {out : Outcome}
+          → turn_within left list ≡ Replaced next
+          → Expands level (less_one left) turns next out
+          → Expands level left (suc turns) list out
+      argument_refused : {level : ℕ} {left after : Option ℕ} {list : List Hiding} {call : Call} {f : Fault}
+          → turn_within left list ≡ Called call
+          → ExpandsArguments level call (less_one left) (wanted call) after (Err f)
+          → Expands level left 0 list (ended after (Some f))
+      call_failed : {level : ℕ} {left after : Option ℕ} {list : List Hiding} {call : Call} {expanded : List (Option (List Hiding))} {f : Fault}
+          → turn_within left list ≡ Called call
+          → ExpandsArguments level call (less_one left) (wanted call) after (Ok expanded)
+          → finished call expanded ≡ Failed f
+          → Expands level left 0 list (ended after (Some f))
+      call_replaced : {level turns : ℕ} {left after : Option ℕ} {list next : List Hiding} {call : Call} {expanded : List (Option (List Hiding))} {out : Outcome}
+          → turn_within left list ≡ Called call
+          → ExpandsArguments level call (less_one left) (wanted call) after (Ok expanded)
+          → finished call expanded ≡ Replaced next
+          → Expands level after turns next out
+          → Expands level left (suc turns) list out
 
--- at this level, a list has this outcome
-abbrev pub ExpandsTo : Macros → Env → ℕ → List Hiding → Outcome → Type 0
-ExpandsTo macros env level list out = (turns : ℕ) × Expands macros env level turns list out
+    -- the arguments of a call in a list at this level, each expanded as a list of its own one level deeper (6.10.3.1), in
+    -- order, up to the first fault, from one budget; level 256 is the deepest
+    pub data ExpandsArguments : ℕ → Call → Option ℕ → List (Option (List Hiding)) → Option ℕ → ExpandedArguments → Type 0 where
+      none : {level : ℕ} {call : Call} {left : Option ℕ}
+          → ExpandsArguments level call left [] left (Ok [])
+      unused : {level : ℕ} {call : Call} {left after : Option ℕ} {rest : List (Option (List Hiding))} {out : ExpandedArguments}
+          → ExpandsArguments level call left rest after out
+          → ExpandsArguments level call left (None ∷ rest) after (with_expanded None out)
+      too_deep : {level : ℕ} {call : Call} {left : Option ℕ} {list : List Hiding} {rest : List (Option (List Hiding))}
+          → 256 ≤ level
+          → ExpandsArguments level call left (Some list ∷ rest) left (Err (fault_at_use 21 call.head))
+      used : {level turns : ℕ} {call : Call} {left between after : Option ℕ} {list tokens : List Hiding} {rest : List (Option (List Hiding))} {out : ExpandedArguments}
+          → level < 256
+          → Expands (suc level) left turns list (record { tokens = tokens; fault = None; left = between })
+          → ExpandsArguments level call between rest after out
+          → ExpandsArguments level call left (Some list ∷ rest) after (with_expanded (Some tokens) out)
+      used_refused : {level turns : ℕ} {call : Call} {left after : Option ℕ} {list tokens : List Hiding} {rest : List (Option (List Hiding))} {f : Fault}
+          → level < 256
+          → Expands (suc level) left turns list (record { tokens = tokens; fault = Some f; left = after })
+          → ExpandsArguments level call left (Some list ∷ rest) after (Err f)
 
--- the expansion of a list of tokens, at level 0 and with empty hide sets at first
-pub record IsExpansion (macros : Macros) (env : Env) (tokens : List Token) (e : Expanded) : Type 0 where
+  abbrev mutual
+    -- the number of replacements in an expansion
+    pub count : {level turns : ℕ} {left : Option ℕ} {list : List Hiding} {out : Outcome} → Expands level left turns list out → ℕ
+    count (done e) = 0
+    count (refused e) = 0
+    count (passes e more) = count more
+    count (failed e) = 1
+    count (replaced e more) = suc (count more)
+    count (argument_refused e arguments) = suc (count_arguments arguments)
+    count (call_failed e arguments f) = suc (count_arguments arguments)
+    count (call_replaced e arguments f more) = suc (count_arguments arguments + count more)
+
+    pub count_arguments : {level : ℕ} {call : Call} {left after : Option ℕ} {as' : List (Option (List Hiding))} {out : ExpandedArguments} → ExpandsArguments level call left as' after out → ℕ
+    count_arguments none = 0
+    count_arguments (unused more) = count_arguments more
+    count_arguments (too_deep h) = 0
+    count_arguments (used h one more) = count one + count_arguments more
+    count_arguments (used_refused h one) = count one
+
+-- at this level, where so much is left, a list has this outcome
+abbrev pub ExpandsTo : Macros → Env → ℕ → Option ℕ → List Hiding → Outcome → Type 0
+ExpandsTo macros env level left list out = (turns : ℕ) × Expands macros env level left turns list out
+
+-- the expansion of a list of tokens where so much is left, at level 0 and with empty hide sets at first
+pub record IsExpansion (macros : Macros) (env : Env) (left : Option ℕ) (tokens : List Token) (e : Expanded) : Type 0 where
   pub outcome : Outcome
-  pub expands : ExpandsTo macros env 0 (map plain tokens) outcome
+  pub expands : ExpandsTo macros env 0 left (map plain tokens) outcome
   pub passed : e.tokens ≡ map (λ t. t.token) outcome.tokens
   pub ended : e.fault ≡ outcome.fault
+  pub left_over : e.left ≡ outcome.left
+
+-- the number of replacements in an expansion
+abbrev pub count_expansion : {macros : Macros} {env : Env} {left : Option ℕ} {tokens : List Token} {e : Expanded} → IsExpansion macros env left tokens e → ℕ
+count_expansion {macros} {env} x = count macros env x.expands.1

@@ -1,7 +1,8 @@
 -- What the laws say of expansion.
-use Rattle.std.specs.Prelude.{◌≡◌, ℕ, suc, ◌≤◌, Bool, true, false, not, ◌&&◌, ◌||◌, List, [], ◌∷◌, ◌++◌, Option, Some, None, Ok}
+use Rattle.std.specs.Prelude.{◌≡◌, ◌≢◌, ℕ, suc, ◌+◌, ◌-◌, ◌<◌, ◌≤◌, Bool, true, false, not, ◌&&◌, ◌||◌, List, [], ◌∷◌, ◌++◌, Option, Some, None, Ok}
 use Rattle.std.specs.FinSet as set
 use Rattle.pptext.specs.declared.tokens.Token.{Token}
+use Rattle.pptext.specs.declared.tokens.Fault.{Fault}
 use Rattle.ppmacro.specs.Names.{Macros}
 use Rattle.ppmacro.specs.HideSets.{Hiding}
 use Rattle.ppmacro.specs.Chains.{is_function_like}
@@ -10,43 +11,73 @@ use Rattle.ppexpand.specs.declared.env.Env.{Env}
 use Rattle.ppexpand.specs.declared.spellings.Mark.TheVariants.{Open, Close, Comma, Inner}
 use Rattle.ppexpand.specs.declared.expansion.Expanded.{Expanded}
 use Rattle.ppexpand.specs.Arguments.{is_lone_quote, mark_of, separates, fewer}
-use Rattle.ppexpand.specs.Turn.{Call, Passes, Replaced, Called, macro_of, turn, wanted, finished}
-use Rattle.ppexpand.specs.Expansion.{Outcome, ExpandsTo, ExpandsArguments, IsExpansion}
+use Rattle.ppexpand.specs.Turn.{Call, Passes, Replaced, Called, less_one, macro_of, wanted, finished}
+use Rattle.ppexpand.specs.Expansion.{Outcome, turn_within, ExpandsTo, ExpandsArguments, IsExpansion}
 
--- a list has exactly one outcome
-pub record HasOneOutcome (macros : Macros) (env : Env) (level : ℕ) (list : List Hiding) : Type 0 where
+-- ---- exactly one, and an end
+
+-- where so much is left, a list has exactly one outcome
+pub record HasOneOutcome (macros : Macros) (env : Env) (level : ℕ) (left : Option ℕ) (list : List Hiding) : Type 0 where
   pub outcome : Outcome
-  pub is : ExpandsTo macros env level list outcome
-  pub only : (other : Outcome) → ExpandsTo macros env level list other → other ≡ outcome
+  pub is : ExpandsTo macros env level left list outcome
+  pub only : (other : Outcome) → ExpandsTo macros env level left list other → other ≡ outcome
 
--- a list of tokens has exactly one expansion
-pub record HasOneExpansion (macros : Macros) (env : Env) (tokens : List Token) : Type 0 where
+-- where so much is left, a list of tokens has exactly one expansion
+pub record HasOneExpansion (macros : Macros) (env : Env) (left : Option ℕ) (tokens : List Token) : Type 0 where
   pub expanded : Expanded
-  pub is : IsExpansion macros env tokens expanded
-  pub only : (other : Expanded) → IsExpansion macros env tokens other → other ≡ expanded
+  pub is : IsExpansion macros env left tokens expanded
+  pub only : (other : Expanded) → IsExpansion macros env left tokens other → other ≡ expanded
 
 -- one turn leads from a list to the next
-pub data Leads (macros : Macros) (env : Env) (level : ℕ) (list next : List Hiding) : Type 0 where
-  by_passing : {t : Hiding}
-      → turn macros env list ≡ Passes t next
-      → Leads macros env level list next
-  by_replacing :
-      turn macros env list ≡ Replaced next
-      → Leads macros env level list next
-  by_invoking : {call : Call} {expanded : List (Option (List Hiding))}
-      → turn macros env list ≡ Called call
-      → ExpandsArguments macros env level call (wanted call) (Ok expanded)
+pub data Leads (macros : Macros) (env : Env) (level : ℕ) : Option ℕ → List Hiding → Option ℕ → List Hiding → Type 0 where
+  by_passing : {left : Option ℕ} {list next : List Hiding} {t : Hiding}
+      → turn_within macros env left list ≡ Passes t next
+      → Leads macros env level left list left next
+  by_replacing : {left : Option ℕ} {list next : List Hiding}
+      → turn_within macros env left list ≡ Replaced next
+      → Leads macros env level left list (less_one left) next
+  by_invoking : {left after : Option ℕ} {list next : List Hiding} {call : Call} {expanded : List (Option (List Hiding))}
+      → turn_within macros env left list ≡ Called call
+      → ExpandsArguments macros env level call (less_one left) (wanted call) after (Ok expanded)
       → finished call expanded ≡ Replaced next
-      → Leads macros env level list next
+      → Leads macros env level left list after next
 
 -- so many turns lead from a list to another
-pub data LeadsOn (macros : Macros) (env : Env) (level : ℕ) : ℕ → List Hiding → List Hiding → Type 0 where
-  stays : {list : List Hiding} → LeadsOn macros env level 0 list list
-  turns : {n : ℕ} {list next last : List Hiding} → Leads macros env level list next → LeadsOn macros env level n next last → LeadsOn macros env level (suc n) list last
+pub data LeadsOn (macros : Macros) (env : Env) (level : ℕ) : ℕ → Option ℕ → List Hiding → Option ℕ → List Hiding → Type 0 where
+  stays : {left : Option ℕ} {list : List Hiding} → LeadsOn macros env level 0 left list left list
+  turns : {n : ℕ} {left between after : Option ℕ} {list next last : List Hiding} → Leads macros env level left list between next → LeadsOn macros env level n between next after last → LeadsOn macros env level (suc n) left list after last
 
 -- a list takes no more turns than this
-abbrev pub EndsWithin : Macros → Env → ℕ → ℕ → List Hiding → Type 0
-EndsWithin macros env level most list = (n : ℕ) (last : List Hiding) → LeadsOn macros env level n list last → n ≤ most
+abbrev pub EndsWithin : Macros → Env → ℕ → ℕ → Option ℕ → List Hiding → Type 0
+EndsWithin macros env level most left list = (n : ℕ) (after : Option ℕ) (last : List Hiding) → LeadsOn macros env level n left list after last → n ≤ most
+
+-- ---- the budget
+
+-- so much more
+abbrev pub plus : ℕ → Option ℕ → Option ℕ
+plus n None = None
+plus n (Some left) = Some (n + left)
+
+-- the tokens begin with others
+abbrev pub IsBeginning : {A : Type 0} → List A → List A → Type 0
+IsBeginning {A = A} front all = (more : List A) × (all ≡ front ++ more)
+
+-- the budget was used up, and another replacement refused
+pub record IsOver (out : Outcome) : Type 0 where
+  pub fault : Fault
+  pub is : out.fault ≡ Some fault
+  pub number : fault.number ≡ 35
+  pub left : out.left ≡ Some 0
+
+-- what an expansion with the budget b is, beside one without a budget with so many replacements
+pub record IsCapped (b replacements : ℕ) (whole out : Outcome) : Type 0 where
+  pub tokens : IsBeginning out.tokens whole.tokens
+  pub enough : replacements ≤ b → (out.tokens ≡ whole.tokens) × (out.fault ≡ whole.fault) × (out.left ≡ Some (b - replacements))
+  pub short : b < replacements → IsOver out
+
+-- without a budget no expansion ends in fault 35
+abbrev pub OnlyBudgetsRefuse : Type 0
+OnlyBudgetsRefuse = (macros : Macros) (env : Env) (level : ℕ) (list : List Hiding) (out : Outcome) (f : Fault) → ExpandsTo macros env level None list out → out.fault ≡ Some f → f.number ≢ 35
 
 -- ---- what comes out
 

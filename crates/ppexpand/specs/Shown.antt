@@ -20,7 +20,7 @@ use Rattle.ppexpand.specs.declared.turn.Next.{Next}
 use Rattle.ppexpand.specs.declared.turn.Next.TheVariants as next
 use Rattle.ppexpand.specs.declared.expansion.Ended.{Ended}
 use Rattle.ppexpand.specs.Arguments.{Gathered, Closed, Quoted, Unclosed}
-use Rattle.ppexpand.specs.Turn.{Call, Turn, Done, Refused, Passes, Replaced, Called}
+use Rattle.ppexpand.specs.Turn.{Call, Turn, Done, Refused, Passes, Failed, Replaced, Called}
 use Rattle.ppexpand.specs.Expansion.{Outcome, ExpandedArguments, Expands}
 
 -- ---- arguments
@@ -79,6 +79,7 @@ abbrev pub turn_in : Numbered → List Hidden → Next → Turn
 turn_in sets left next.Done = Done
 turn_in sets left (next.Refused f) = Refused f
 turn_in sets left (next.Passes head) = Passes (hiding sets head) (hidings sets left)
+turn_in sets left (next.Failed f) = Failed f
 turn_in sets left next.Replaced = Replaced (hidings sets left)
 turn_in sets left (next.Called c) = Called (call_in sets c left)
 
@@ -91,35 +92,35 @@ NextKnown sets left _ = Unit {0}
 -- a replacement, where this list is left
 abbrev pub replaced_in : Numbered → List Hidden → Result (Unit {0}) Fault → Turn
 replaced_in sets left (Ok u) = Replaced (hidings sets left)
-replaced_in sets left (Err f) = Refused f
+replaced_in sets left (Err f) = Failed f
 
 -- ---- expansion
 
--- an argument used by an invocation at this level has this expansion, or this fault
-pub data ExpandsArgument (macros : Macros) (env : Env) (level : ℕ) (head : Token) (list : List Hiding) : Result (List Hiding) Fault → Type 0 where
-  expands : {turns : ℕ} {tokens : List Hiding} → level < 256 → Expands macros env (suc level) turns list (record { tokens = tokens; fault = None }) → ExpandsArgument macros env level head list (Ok tokens)
-  raises : {turns : ℕ} {tokens : List Hiding} {f : Fault} → level < 256 → Expands macros env (suc level) turns list (record { tokens = tokens; fault = Some f }) → ExpandsArgument macros env level head list (Err f)
-  deep : 256 ≤ level → ExpandsArgument macros env level head list (Err (fault 21 head.used head.text))
+-- an argument used by an invocation at this level has this expansion, or this fault, and leaves so much
+pub data ExpandsArgument (macros : Macros) (env : Env) (level : ℕ) (head : Token) (left : Option ℕ) (list : List Hiding) : Option ℕ → Result (List Hiding) Fault → Type 0 where
+  expands : {turns : ℕ} {after : Option ℕ} {tokens : List Hiding} → level < 256 → Expands macros env (suc level) left turns list (record { tokens = tokens; fault = None; left = after }) → ExpandsArgument macros env level head left list after (Ok tokens)
+  raises : {turns : ℕ} {after : Option ℕ} {tokens : List Hiding} {f : Fault} → level < 256 → Expands macros env (suc level) left turns list (record { tokens = tokens; fault = Some f; left = after }) → ExpandsArgument macros env level head left list after (Err f)
+  deep : 256 ≤ level → ExpandsArgument macros env level head left list left (Err (fault 21 head.used head.text))
 
 abbrev pub expansions_in : Numbered → Result (Vec (Option (Vec Hidden Global)) Global) Fault → ExpandedArguments
 expansions_in sets (Ok v) = Ok (expanded_in sets v.items)
 expansions_in sets (Err f) = Err f
 
 -- one turn led from the first list to the second, and these tokens passed
-pub record Advances (macros : Macros) (env : Env) (level : ℕ) (list : List Hiding) (next : List Hiding) (tokens : List Hiding) : Type 0 where
-  pub turn : (n : ℕ) (out : Outcome) → Expands macros env level n next out → Expands macros env level (suc n) list (record { tokens = tokens ++ out.tokens; fault = out.fault })
+pub record Advances (macros : Macros) (env : Env) (level : ℕ) (left : Option ℕ) (list : List Hiding) (after : Option ℕ) (next : List Hiding) (tokens : List Hiding) : Type 0 where
+  pub turn : (n : ℕ) (out : Outcome) → Expands macros env level after n next out → Expands macros env level left (suc n) list (record { tokens = tokens ++ out.tokens; fault = out.fault; left = out.left })
 
--- the list ends here, with this fault or none
-abbrev pub EndsWith : Macros → Env → ℕ → List Hiding → Option Fault → Type 0
-EndsWith macros env level list f = Expands macros env level 0 list (record { tokens = []; fault = f })
+-- the list ends here, with this fault or none, and so much is left
+abbrev pub EndsWith : Macros → Env → ℕ → Option ℕ → List Hiding → Option Fault → Option ℕ → Type 0
+EndsWith macros env level left list f after = Expands macros env level left 0 list (record { tokens = []; fault = f; left = after })
 
 -- one turn led from a list, behind these tokens that passed, to another behind more of them
-abbrev pub HasAdvanced : Macros → Env → ℕ → List Hiding → List Hiding → List Hiding → List Hiding → Type 0
-HasAdvanced macros env level list passed next more = (tokens : List Hiding) × (more ≡ passed ++ tokens) × Advances macros env level list next tokens
+abbrev pub HasAdvanced : Macros → Env → ℕ → Option ℕ → List Hiding → List Hiding → Option ℕ → List Hiding → List Hiding → Type 0
+HasAdvanced macros env level left list passed after next more = (tokens : List Hiding) × (more ≡ passed ++ tokens) × Advances macros env level left list after next tokens
 
 -- a list ended behind these tokens that passed, with this fault or none, and they stayed
-abbrev pub HasEnded : Macros → Env → ℕ → List Hiding → List Hiding → Option Fault → List Hiding → Type 0
-HasEnded macros env level list passed f more = EndsWith macros env level list f × (more ≡ passed)
+abbrev pub HasEnded : Macros → Env → ℕ → Option ℕ → List Hiding → List Hiding → Option Fault → Option ℕ → List Hiding → Type 0
+HasEnded macros env level left list passed f after more = EndsWith macros env level left list f after × (more ≡ passed)
 
 abbrev pub outcome_in : Numbered → Ended → Outcome
-outcome_in sets e = record { tokens = hidings sets e.tokens; fault = e.fault }
+outcome_in sets e = record { tokens = hidings sets e.tokens; fault = e.fault; left = e.left }

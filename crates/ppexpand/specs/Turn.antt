@@ -1,6 +1,6 @@
 -- What the head of a list calls for: the rules of macro replacement (6.10.3, 6.10.3.1, 6.10.3.4), by cases on whole
 -- lists whose tokens carry hide sets.
-use Rattle.std.specs.Prelude.{ℕ, suc, ℤ, pos, ◌+ℤ◌, nat_abs, decimal, Bool, true, false, List, [], ◌∷◌, ◌++◌, Option, Some, None, Result, Ok, Err, codes, ◌==◌, if◌then◌else◌}
+use Rattle.std.specs.Prelude.{ℕ, zero, suc, ℤ, pos, ◌+ℤ◌, nat_abs, decimal, Bool, true, false, List, [], ◌∷◌, ◌++◌, Option, Some, None, Result, Ok, Err, codes, ◌==◌, if◌then◌else◌}
 use Rattle.std.specs.List.{list_any}
 use Rattle.std.specs.FinSet as set
 use Rattle.std.specs.FinMap as table
@@ -69,12 +69,13 @@ pub record Call : Type 0 where
   pub gain : HideSet
   pub behind : List Hiding
 
--- the list is empty; or it has a fault; or its head passes, and the rest is left; or this list replaces it; or its
--- head is invoked
+-- the list is empty; or its head is refused; or its head passes, and the rest is left; or its head is a macro's name that
+-- is to be replaced: that fails, or this list replaces it, or it is invoked
 pub data Turn : Type 0 where
   Done : Turn
   Refused : Fault → Turn
   Passes : Hiding → List Hiding → Turn
+  Failed : Fault → Turn
   Replaced : List Hiding → Turn
   Called : Call → Turn
 
@@ -90,7 +91,7 @@ followed_by behind m = m.tokens ++ mark_next m.pending behind
 
 abbrev pub replaced_by : Result Marked Fault → List Hiding → Turn
 replaced_by (Ok m) behind = Replaced (followed_by behind m)
-replaced_by (Err f) behind = Refused f
+replaced_by (Err f) behind = Failed f
 
 -- a fault at a macro's name, where it is used
 abbrev pub fault_at_use : ℕ → Hiding → Fault
@@ -105,12 +106,12 @@ gain_of hide close name = set.insert (set.intersection hide close) name
 
 abbrev pub called : Hiding → Definition → Option (List (List Hiding)) → Hiding → List Hiding → Turn
 called t d (Some as') close behind = Called (record { head = t; macro = d; arguments = as'; gain = gain_of t.hide close.hide t.token.text; behind = behind })
-called t d None close behind = Refused (fault_at_use 18 t)
+called t d None close behind = Failed (fault_at_use 18 t)
 
 abbrev pub invoked : Hiding → Definition → List Name → Bool → Gathered → Turn
 invoked t d names variadic (Closed as' close behind) = called t d (fitted names variadic as') close behind
-invoked t d names variadic (Quoted q) = Refused (quote_fault q)
-invoked t d names variadic Unclosed = Refused (fault_at_use 17 t)
+invoked t d names variadic (Quoted q) = Failed (quote_fault q)
+invoked t d names variadic Unclosed = Failed (fault_at_use 17 t)
 
 -- a function-like macro's name is invoked where `(` is next, and else passes (6.10.3, paragraph 10)
 abbrev pub function_turn : Hiding → Definition → List Name → Bool → List Hiding → Turn
@@ -138,6 +139,31 @@ turn macros env [] = Done
 turn macros env (t ∷ rest) =
     if is_lone_quote t.token then Refused (quote_fault t) else (
     if set.contains t.hide t.token.text then Passes t rest else named_turn env t rest (macro_of macros t.token))
+
+-- ---- turns within a budget
+
+-- nothing is left of a budget
+abbrev pub is_spent : Option ℕ → Bool
+is_spent (Some zero) = true
+is_spent left = false
+
+-- nothing is left for a replacement
+abbrev pub over : List Hiding → Turn
+over [] = Done
+over (t ∷ rest) = Refused (fault 35 t.token.used [])
+
+-- where so much is left of a budget, or there is none: with nothing left, no macro's name is replaced
+abbrev pub within : Option ℕ → List Hiding → Turn → Turn
+within (Some zero) list (Failed f) = over list
+within (Some zero) list (Replaced next) = over list
+within (Some zero) list (Called call) = over list
+within left list other = other
+
+-- what is left once one is spent
+abbrev pub less_one : Option ℕ → Option ℕ
+less_one None = None
+less_one (Some zero) = Some zero
+less_one (Some (suc n)) = Some n
 
 -- ---- the arguments that are expanded (6.10.3.1)
 

@@ -1,5 +1,5 @@
 -- Whether the group behind `#if` or `#elif` is taken (6.10.1), or the one fault. `at` is the place of the directive's `#`.
-use Rattle.std.specs.Prelude.{◌≡◌, Bool, not, List, [], Some, None, Result, Ok, Err, true, false}
+use Rattle.std.specs.Prelude.{◌≡◌, ℕ, Bool, not, List, [], Option, Some, None, Result, Ok, Err, true, false}
 use Rattle.std.specs.List.{list_any}
 use Rattle.pptext.specs.declared.tokens.Place.{Place}
 use Rattle.pptext.specs.declared.tokens.Token.{Token}
@@ -8,7 +8,7 @@ use Rattle.ppmacro.specs.Names.{Macros}
 use Rattle.ppmacro.specs.Define.{fault}
 use Rattle.ppexpand.specs.declared.env.Env.{Env}
 use Rattle.ppexpand.specs.declared.expansion.Expanded.{Expanded}
-use Rattle.ppexpand.specs.Expansion.{IsExpansion}
+use Rattle.ppexpand.specs.Expansion.{IsExpansion, count_expansion}
 use Rattle.ppexpr.specs.declared.symbols.Value.{Value}
 use Rattle.ppexpr.specs.declared.symbols.Symbol.{Symbol}
 use Rattle.ppexpr.specs.declared.symbols.Failure.{Failure}
@@ -54,10 +54,28 @@ pub data Decides (at : Place) (tokens : List Token) : Condition → Type 0 where
   bad_constant : {f : Fault} → list_any is_defined tokens ≡ false → symbols_of at tokens ≡ Err f → Decides at tokens (Err f)
   constants : {symbols : List Symbol} {c : Condition} → list_any is_defined tokens ≡ false → symbols_of at tokens ≡ Ok symbols → Judges at symbols c → Decides at tokens c
 
--- a use of `defined` without a name is 22; a fault of the replacement is the condition's
-pub data IsCondition (macros : Macros) (env : Env) (at : Place) (tokens : List Token) : Condition → Type 0 where
-  ill_formed : ((asked : List Token) → ¬ Asks macros tokens asked) → IsCondition macros env at tokens (Err (fault 22 at []))
-  not_replaced : {asked : List Token} {e : Expanded} {f : Fault} →
-      Asks macros tokens asked → IsExpansion macros env asked e → e.fault ≡ Some f → IsCondition macros env at tokens (Err f)
-  replaced : {asked : List Token} {e : Expanded} {c : Condition} →
-      Asks macros tokens asked → IsExpansion macros env asked e → e.fault ≡ None → Decides at e.tokens c → IsCondition macros env at tokens c
+-- What is left of the budget before, the answer, and what is left behind it. A use of `defined` without a name is 22; a fault of the replacement is
+-- the condition's.
+pub data IsCondition (macros : Macros) (env : Env) (at : Place) (tokens : List Token) : Option ℕ → Condition → Option ℕ → Type 0 where
+  ill_formed : {left : Option ℕ}
+      → ((asked : List Token) → ¬ Asks macros tokens asked)
+      → IsCondition macros env at tokens left (Err (fault 22 at [])) left
+  not_replaced : {left after : Option ℕ} {asked : List Token} {e : Expanded} {f : Fault}
+      → Asks macros tokens asked
+      → IsExpansion macros env left asked e
+      → e.left ≡ after
+      → e.fault ≡ Some f
+      → IsCondition macros env at tokens left (Err f) after
+  replaced : {left after : Option ℕ} {asked : List Token} {e : Expanded} {c : Condition}
+      → Asks macros tokens asked
+      → IsExpansion macros env left asked e
+      → e.left ≡ after
+      → e.fault ≡ None
+      → Decides at e.tokens c
+      → IsCondition macros env at tokens left c after
+
+-- the number of replacements in a condition
+abbrev pub count_condition : {macros : Macros} {env : Env} {at : Place} {tokens : List Token} {left after : Option ℕ} {c : Condition} → IsCondition macros env at tokens left c after → ℕ
+count_condition (ill_formed none) = 0
+count_condition (not_replaced asks expands leaves is) = count_expansion expands
+count_condition (replaced asks expands leaves is decides) = count_expansion expands

@@ -26,23 +26,27 @@ abbrev pub by_name : Bool → Macros → List Token → Option (List ℕ) → Re
 by_name wanted macros line None = Err (named_fault 9 line)
 by_name wanted macros line (Some name) = Ok (same_as wanted (is_defined macros name))
 
+-- the answer costs nothing
+abbrev pub DecidesFreely : State → Result Bool Fault → Option ℕ → Result Bool Fault → Type 0
+DecidesFreely s answer after taken = (after ≡ s.left) × (taken ≡ answer)
+
 -- of a line without lone quotes
-abbrev pub DecidesBy : Option Directive → State → List Token → Result Bool Fault → Type 0
-DecidesBy (Some If) s line taken = IsCondition s.macros s.env (sign_place line) (operands line) taken
-DecidesBy (Some Elif) s line taken = IsCondition s.macros s.env (sign_place line) (operands line) taken
-DecidesBy (Some Ifdef) s line taken = taken ≡ by_name true s.macros line (one_identifier (operands line))
-DecidesBy (Some Ifndef) s line taken = taken ≡ by_name false s.macros line (one_identifier (operands line))
-DecidesBy (Some Elifdef) s line taken = taken ≡ by_name true s.macros line (one_identifier (operands line))
-DecidesBy (Some Elifndef) s line taken = taken ≡ by_name false s.macros line (one_identifier (operands line))
-DecidesBy _ s line taken = ⊥
+abbrev pub DecidesBy : Option Directive → State → List Token → Option ℕ → Result Bool Fault → Type 0
+DecidesBy (Some If) s line after taken = IsCondition s.macros s.env (sign_place line) (operands line) s.left taken after
+DecidesBy (Some Elif) s line after taken = IsCondition s.macros s.env (sign_place line) (operands line) s.left taken after
+DecidesBy (Some Ifdef) s line after taken = DecidesFreely s (by_name true s.macros line (one_identifier (operands line))) after taken
+DecidesBy (Some Ifndef) s line after taken = DecidesFreely s (by_name false s.macros line (one_identifier (operands line))) after taken
+DecidesBy (Some Elifdef) s line after taken = DecidesFreely s (by_name true s.macros line (one_identifier (operands line))) after taken
+DecidesBy (Some Elifndef) s line after taken = DecidesFreely s (by_name false s.macros line (one_identifier (operands line))) after taken
+DecidesBy _ s line after taken = ⊥
 
-abbrev pub DecidesUnless : Option Fault → Option Directive → State → List Token → Result Bool Fault → Type 0
-DecidesUnless (Some f) d s line taken = taken ≡ Err f
-DecidesUnless None d s line taken = DecidesBy d s line taken
+abbrev pub DecidesUnless : Option Fault → Option Directive → State → List Token → Option ℕ → Result Bool Fault → Type 0
+DecidesUnless (Some f) d s line after taken = DecidesFreely s (Err f) after taken
+DecidesUnless None d s line after taken = DecidesBy d s line after taken
 
--- whether the group behind a line is taken, or the line's fault
-abbrev pub Decides : State → LogicalLine → Result Bool Fault → Type 0
-Decides s line taken = DecidesUnless (lone_quote line.tokens) line.directive s line.tokens taken
+-- whether the group behind a line is taken, or the line's fault, and what is left of the budget
+abbrev pub Decides : State → LogicalLine → Option ℕ → Result Bool Fault → Type 0
+Decides s line after taken = DecidesUnless (lone_quote line.tokens) line.directive s line.tokens after taken
 
 -- the lines that have a condition
 abbrev pub IsConditional : Directive → Type 0

@@ -16,7 +16,7 @@ use Rattle.ppexpand.specs.Expansion.{IsExpansion}
 use Rattle.ppshelf.specs.Names.{name_in}
 use Rattle.ppshelf.specs.Search.{candidates, IsFirstRow}
 use Rattle.ppunit.specs.declared.units.Item.TheVariants as item
-use Rattle.ppunit.specs.States.{Surroundings, Reached, going, stopped, passed, reading_once}
+use Rattle.ppunit.specs.States.{Surroundings, Reached, going, stopped, passed, reading_once, with_left}
 use Rattle.ppunit.specs.declared.states.State.{State}
 use Rattle.ppunit.specs.Lines.{operands, line_fault}
 use Rattle.ppunit.specs.declared.including.Asked.{Asked}
@@ -27,8 +27,8 @@ use Rattle.ppunit.specs.Including.{begins_with_header, header_asked, asked_or, a
 -- a text run passes on what it expands to (6.10.3), up to its first fault
 pub record RunGives (s : State) (tokens : List Token) (r : Reached) : Type 0 where
   pub expanded : Expanded
-  pub expands : IsExpansion s.macros s.env tokens expanded
-  pub is : r ≡ record { state = passed s (map item.Token expanded.tokens); fault = expanded.fault }
+  pub expands : IsExpansion s.macros s.env s.left tokens expanded
+  pub is : r ≡ record { state = passed (with_left s expanded.left) (map item.Token expanded.tokens); fault = expanded.fault }
 
 -- ---- `#define`, `#undef`
 
@@ -52,24 +52,25 @@ renumbered_by s r None (Some p) = going (renumbered s r p)
 
 pub record LineGives (s : State) (r : LogicalLine) (reached : Reached) : Type 0 where
   pub expanded : Expanded
-  pub expands : IsExpansion s.macros s.env (operands r.tokens) expanded
-  pub is : reached ≡ renumbered_by s r expanded.fault (presumed expanded.tokens)
+  pub expands : IsExpansion s.macros s.env s.left (operands r.tokens) expanded
+  pub is : reached ≡ renumbered_by (with_left s expanded.left) r expanded.fault (presumed expanded.tokens)
 
 -- ---- `#include` (6.10.2)
 
 -- a header name stands alone, or the operands are replaced
-pub record AsksReplaced (s : State) (line : List Token) (asked : Result Asked Fault) : Type 0 where
+pub record AsksReplaced (s : State) (line : List Token) (after : Option ℕ) (asked : Result Asked Fault) : Type 0 where
   pub expanded : Expanded
-  pub expands : IsExpansion s.macros s.env (operands line) expanded
+  pub expands : IsExpansion s.macros s.env s.left (operands line) expanded
+  pub leaves : after ≡ expanded.left
   pub is : asked ≡ asked_behind (line_fault 30 line []) expanded.fault expanded.tokens
 
--- what an include line asks for, or its fault, whether a header name stands behind `include` or not
-abbrev pub AsksBy : Bool → State → List Token → Result Asked Fault → Type 0
-AsksBy true s line asked = asked ≡ asked_or (line_fault 30 line []) (if_somewhere (header_asked (operands line)))
-AsksBy false s line asked = AsksReplaced s line asked
+-- what an include line asks for, or its fault, whether a header name stands behind `include` or not, and what is left of the budget
+abbrev pub AsksBy : Bool → State → List Token → Option ℕ → Result Asked Fault → Type 0
+AsksBy true s line after asked = (after ≡ s.left) × (asked ≡ asked_or (line_fault 30 line []) (if_somewhere (header_asked (operands line))))
+AsksBy false s line after asked = AsksReplaced s line after asked
 
-abbrev pub Asks : State → List Token → Result Asked Fault → Type 0
-Asks s line asked = AsksBy (begins_with_header (operands line)) s line asked
+abbrev pub Asks : State → List Token → Option ℕ → Result Asked Fault → Type 0
+Asks s line after asked = AsksBy (begins_with_header (operands line)) s line after asked
 
 -- the row of the file that is asked for in the file of this row, if there is one
 abbrev pub Finds : Surroundings → ℕ → Asked → Option ℕ → Type 0

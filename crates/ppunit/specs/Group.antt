@@ -1,5 +1,5 @@
 -- Phase 4 of a group (6.10), by cases on group trees; an included file is a group tree one level deeper (6.10.2).
-use Rattle.std.specs.Prelude.{◌≡◌, ◌≢◌, ℕ, suc, ◌<◌, ◌≤◌, List, true, false, None, Some, Ok, Err}
+use Rattle.std.specs.Prelude.{◌≡◌, ◌≢◌, ℕ, suc, ◌<◌, ◌≤◌, List, [], true, false, Option, None, Some, Ok, Err}
 use Rattle.pptext.specs.declared.tokens.Place.{Place}
 use Rattle.pptext.specs.declared.tokens.Fault.{Fault}
 use Rattle.pptext.specs.declared.sources.Directive.TheVariants.{Include, Error, Else}
@@ -10,7 +10,7 @@ use Rattle.ppshelf.specs.Content.{unreadable, readable}
 use Rattle.ppshelf.specs.Files.{file_at}
 use Rattle.ppshelf.specs.Names.{name_in}
 use Rattle.ppunit.specs.Dependencies.{is_among}
-use Rattle.ppunit.specs.States.{Surroundings, Reached, going, stopped, depending, entering, leaving}
+use Rattle.ppunit.specs.States.{Surroundings, Reached, going, stopped, depending, entering, leaving, is_spent, with_left, paying}
 use Rattle.ppunit.specs.declared.states.State.{State}
 use Rattle.ppunit.specs.Lines.{operands, line_fault, run_tokens}
 use Rattle.ppunit.specs.Quotes.{lone_quote}
@@ -38,19 +38,19 @@ mutual
         → Controls around depth row s line m
         → Group around depth row m ps end
         → Group around depth row (going s) (Control line ps) end
-    taken : {depth row : ℕ} {s : State} {line : LogicalLine} {ps qs : Parts} {bs : Branches} {m end : Reached}
-        → Decides s line (Ok true)
-        → Group around depth row (going s) ps m
+    taken : {depth row : ℕ} {s : State} {line : LogicalLine} {ps qs : Parts} {bs : Branches} {after : Option ℕ} {m end : Reached}
+        → Decides s line after (Ok true)
+        → Group around depth row (going (with_left s after)) ps m
         → Group around depth row m qs end
         → Group around depth row (going s) (Section line ps bs qs) end
-    skipped : {depth row : ℕ} {s : State} {line : LogicalLine} {ps qs : Parts} {bs : Branches} {m end : Reached}
-        → Decides s line (Ok false)
-        → Branched around depth row s bs m
+    skipped : {depth row : ℕ} {s : State} {line : LogicalLine} {ps qs : Parts} {bs : Branches} {after : Option ℕ} {m end : Reached}
+        → Decides s line after (Ok false)
+        → Branched around depth row (with_left s after) bs m
         → Group around depth row m qs end
         → Group around depth row (going s) (Section line ps bs qs) end
-    refused : {depth row : ℕ} {s : State} {line : LogicalLine} {ps qs : Parts} {bs : Branches} {f : Fault}
-        → Decides s line (Err f)
-        → Group around depth row (going s) (Section line ps bs qs) (stopped s f)
+    refused : {depth row : ℕ} {s : State} {line : LogicalLine} {ps qs : Parts} {bs : Branches} {after : Option ℕ} {f : Fault}
+        → Decides s line after (Err f)
+        → Group around depth row (going s) (Section line ps bs qs) (stopped (with_left s after) f)
 
   -- the branches of an if-section, up to the first that is taken (6.10.1)
   pub data Branched (around : Surroundings) : ℕ → ℕ → State → Branches → Reached → Type 0 where
@@ -59,20 +59,20 @@ mutual
         → line.directive ≡ Some Else
         → Group around depth row (going s) ps m
         → Branched around depth row s (Branch line ps bs) m
-    branch_taken : {depth row : ℕ} {s : State} {line : LogicalLine} {ps : Parts} {bs : Branches} {m : Reached}
+    branch_taken : {depth row : ℕ} {s : State} {line : LogicalLine} {ps : Parts} {bs : Branches} {after : Option ℕ} {m : Reached}
         → line.directive ≢ Some Else
-        → Decides s line (Ok true)
-        → Group around depth row (going s) ps m
+        → Decides s line after (Ok true)
+        → Group around depth row (going (with_left s after)) ps m
         → Branched around depth row s (Branch line ps bs) m
-    branch_skipped : {depth row : ℕ} {s : State} {line : LogicalLine} {ps : Parts} {bs : Branches} {m : Reached}
+    branch_skipped : {depth row : ℕ} {s : State} {line : LogicalLine} {ps : Parts} {bs : Branches} {after : Option ℕ} {m : Reached}
         → line.directive ≢ Some Else
-        → Decides s line (Ok false)
-        → Branched around depth row s bs m
+        → Decides s line after (Ok false)
+        → Branched around depth row (with_left s after) bs m
         → Branched around depth row s (Branch line ps bs) m
-    branch_refused : {depth row : ℕ} {s : State} {line : LogicalLine} {ps : Parts} {bs : Branches} {f : Fault}
+    branch_refused : {depth row : ℕ} {s : State} {line : LogicalLine} {ps : Parts} {bs : Branches} {after : Option ℕ} {f : Fault}
         → line.directive ≢ Some Else
-        → Decides s line (Err f)
-        → Branched around depth row s (Branch line ps bs) (stopped s f)
+        → Decides s line after (Err f)
+        → Branched around depth row s (Branch line ps bs) (stopped (with_left s after) f)
 
   -- a control line
   pub data Controls (around : Surroundings) : ℕ → ℕ → State → LogicalLine → Reached → Type 0 where
@@ -87,50 +87,59 @@ mutual
         → lone_quote line.tokens ≡ None
         → ControlBy around.profile row line.directive s line m
         → Controls around depth row s line m
-    misnamed : {depth row : ℕ} {s : State} {line : LogicalLine} {f : Fault}
+    misnamed : {depth row : ℕ} {s : State} {line : LogicalLine} {after : Option ℕ} {f : Fault}
         → line.directive ≡ Some Include
         → lone_quote line.tokens ≡ None
-        → Asks s line.tokens (Err f)
-        → Controls around depth row s line (stopped s f)
-    missing : {depth row : ℕ} {s : State} {line : LogicalLine} (a : Asked)
+        → Asks s line.tokens after (Err f)
+        → Controls around depth row s line (stopped (with_left s after) f)
+    missing : {depth row : ℕ} {s : State} {line : LogicalLine} {after : Option ℕ} (a : Asked)
         → line.directive ≡ Some Include
         → lone_quote line.tokens ≡ None
-        → Asks s line.tokens (Ok a)
+        → Asks s line.tokens after (Ok a)
         → Finds around row a None
-        → Controls around depth row s line (stopped s (line_fault 31 line.tokens a.name))
-    included : {depth row : ℕ} {s : State} {line : LogicalLine} (a : Asked) (found : ℕ) {m : Reached}
+        → Controls around depth row s line (stopped (with_left s after) (line_fault 31 line.tokens a.name))
+    included : {depth row : ℕ} {s : State} {line : LogicalLine} {after : Option ℕ} (a : Asked) (found : ℕ) {m : Reached}
         → line.directive ≡ Some Include
         → lone_quote line.tokens ≡ None
-        → Asks s line.tokens (Ok a)
+        → Asks s line.tokens after (Ok a)
         → Finds around row a (Some found)
-        → Opened around (suc depth) (sign_place line.tokens) s found m
+        → Opened around (suc depth) (sign_place line.tokens) (with_left s after) found m
         → Controls around depth row s line m
 
-  -- the file of a row is opened, for the line at this place; one that is read once and was read changes the dependencies alone
+  -- The file of a row is opened, for the line at this place, where something is left for that. One that is read once and was read changes nothing but the
+  -- dependencies and what is left.
   pub data Opened (around : Surroundings) : ℕ → Place → State → ℕ → Reached → Type 0 where
     too_deep : {depth row : ℕ} {at : Place} {s : State}
         → deepest < depth
         → Opened around depth at s row (stopped s (fault_at 32 at (name_in around.names row)))
+    over : {depth row : ℕ} {at : Place} {s : State}
+        → depth ≤ deepest
+        → is_spent s.left ≡ true
+        → Opened around depth at s row (stopped s (fault_at 35 at []))
     known : {depth row : ℕ} {at : Place} {s : State}
         → depth ≤ deepest
+        → is_spent s.left ≡ false
         → is_among row s.once ≡ true
-        → Opened around depth at s row (going (depending s row))
+        → Opened around depth at s row (going (depending (paying s) row))
     not_readable : {depth row : ℕ} {at : Place} {s : State}
         → depth ≤ deepest
+        → is_spent s.left ≡ false
         → is_among row s.once ≡ false
         → file_at around.files row ≡ Some unreadable
-        → Opened around depth at s row (stopped (depending s row) (fault_at 6 at (name_in around.names row)))
+        → Opened around depth at s row (stopped (depending (paying s) row) (fault_at 6 at (name_in around.names row)))
     faulty : {depth row : ℕ} {at : Place} {s : State} {bytes : List ℕ} {f : Fault}
         → depth ≤ deepest
+        → is_spent s.left ≡ false
         → is_among row s.once ≡ false
         → file_at around.files row ≡ Some (readable bytes)
         → Reads around.profile row bytes (Err f)
-        → Opened around depth at s row (stopped (depending s row) f)
+        → Opened around depth at s row (stopped (depending (paying s) row) f)
     read : {depth row : ℕ} {at : Place} {s : State} {bytes : List ℕ} {lines : List LogicalLine} {parts : Parts} {m : Reached}
         → depth ≤ deepest
+        → is_spent s.left ≡ false
         → is_among row s.once ≡ false
         → file_at around.files row ≡ Some (readable bytes)
         → Reads around.profile row bytes (Ok lines)
         → Tree lines parts
-        → Group around depth row (going (entering around s row)) parts m
+        → Group around depth row (going (entering around (paying s) row)) parts m
         → Opened around depth at s row (leaving s m)

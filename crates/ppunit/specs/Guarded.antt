@@ -1,17 +1,18 @@
 -- Leaving a guarded file out (6.10.1).
-use Rattle.std.specs.Prelude.{◌≡◌, ℕ, ◌≤◌, List, true, Some, Ok}
+use Rattle.std.specs.Prelude.{◌≡◌, ℕ, ◌≤◌, List, true, false, Some, Ok}
 use Rattle.pptext.specs.declared.tokens.Place.{Place}
 use Rattle.pptext.specs.Lines.{LogicalLine}
 use Rattle.pptext.specs.Sources.{Reads}
 use Rattle.pptext.specs.Guard.{GuardedBy}
 use Rattle.ppshelf.specs.Content.{readable}
 use Rattle.ppshelf.specs.Files.{file_at}
-use Rattle.ppunit.specs.States.{Surroundings, going, depending}
+use Rattle.ppunit.specs.States.{Surroundings, going, depending, is_spent, paying}
 use Rattle.ppunit.specs.declared.states.State.{State}
 use Rattle.ppunit.specs.Conditions.{is_defined}
 use Rattle.ppunit.specs.Group.{deepest, Opened}
+use Rattle.ppunit.specs.Counts.{count_opened}
 
--- a file whose guard is a macro's name changes nothing but the dependencies
+-- a file whose guard is a macro's name changes nothing but the dependencies and what is left of the budget, where something is left
 abbrev pub GuardsLeaveOut : Type 0
 GuardsLeaveOut =
     (around : Surroundings) (depth row : ℕ) (at : Place) (s : State) (bytes : List ℕ) (lines : List LogicalLine) (x : List ℕ)
@@ -20,7 +21,8 @@ GuardsLeaveOut =
     → Reads around.profile row bytes (Ok lines)
     → GuardedBy lines x
     → is_defined s.macros x ≡ true
-    → Opened around depth at s row (going (depending s row))
+    → is_spent s.left ≡ false
+    → (d : Opened around depth at s row (going (depending (paying s) row))) × (count_opened d ≡ 1)
 
 -- the lines are one section under a guard that is a macro's name
 abbrev pub IsLeftOut : State → List LogicalLine → Type 0

@@ -5,12 +5,20 @@ use Rattle.ppshelf.specs.Files.{Files, Extends}
 use Rattle.ppunit.specs.declared.units.Unit.{Unit as UnitOfList}
 use Rattle.ppunit.specs.declared.units.Setting.{Setting}
 use Rattle.ppunit.specs.declared.units.UnitOut.{UnitOut}
-use Rattle.ppunit.specs.Unit.{IsUnit}
+use Rattle.ppunit.specs.Unit.{IsUnit, count}
 
--- over the same files a unit gives one thing
+-- over the same files a unit gives one thing, and has one count
 abbrev pub HasOneValue : Type 0
-HasOneValue = (names : List (List ℕ)) (files : Files) (setting : Setting) (unit : UnitOfList) (a b : UnitOut) → AreNames names → IsUnit names files setting unit a → IsUnit names files setting unit b → a ≡ b
+HasOneValue =
+    (names : List (List ℕ)) (files : Files) (setting : Setting) (unit : UnitOfList) (a b : UnitOut)
+    → AreNames names
+    → (p : IsUnit names files setting unit a) (q : IsUnit names files setting unit b)
+    → (a ≡ b) × (count p ≡ count q)
 
--- where a unit gives something over some files, it gives the same over any more
+-- where a unit gives something over some files, it gives the same over any more, with the same count
 abbrev pub Grows : Type 0
-Grows = (names : List (List ℕ)) (files more : Files) (setting : Setting) (unit : UnitOfList) (out : UnitOut) → Extends more files → IsUnit names files setting unit out → IsUnit names more setting unit out
+Grows =
+    (names : List (List ℕ)) (files more : Files) (setting : Setting) (unit : UnitOfList) (out : UnitOut)
+    → Extends more files
+    → (p : IsUnit names files setting unit out)
+    → (q : IsUnit names more setting unit out) × (count q ≡ count p)

@@ -7,10 +7,12 @@ pub mod Including
 pub mod Conditions
 pub mod Directives
 pub mod Group
+pub mod Counts
 pub mod Commands
 pub mod Unit
 pub mod Units
 pub mod Laws
+pub mod Capped
 pub mod Walk
 pub mod Forms
 pub mod Guarded

@@ -1,5 +1,5 @@
 -- The value of a unit: phases 1 to 4 of its definitions and its file.
-use Rattle.std.specs.Prelude.{◌≡◌, ℕ, ◌<◌, pos, List, [], Ok, Err}
+use Rattle.std.specs.Prelude.{◌≡◌, ℕ, ◌+◌, ◌<◌, pos, List, [], Ok, Err}
 use Rattle.pptext.specs.declared.tokens.Place.{Place}
 use Rattle.pptext.specs.declared.tokens.Fault.{Fault}
 use Rattle.pptext.specs.declared.sources.Profile.{Profile}
@@ -15,6 +15,7 @@ use Rattle.ppunit.specs.declared.units.UnitOut.{UnitOut}
 use Rattle.ppunit.specs.States.{Surroundings, Reached, going, stopped, given}
 use Rattle.ppunit.specs.declared.states.State.{State}
 use Rattle.ppunit.specs.Group.{Group, Opened}
+use Rattle.ppunit.specs.Counts.{count_group, count_opened}
 
 -- a unit begins with the predefined names alone (6.10.8.1)
 abbrev pub beginning : Setting → State
@@ -24,6 +25,7 @@ beginning setting =
       items = [];
       deps = [];
       once = [];
+      left = setting.budget;
       env = record
           { name = []; shift = pos 0; date = setting.date; time = setting.time };
     }
@@ -54,8 +56,24 @@ surroundings names files setting unit =
 abbrev pub IsUnitOf : ℕ → Profile → UnitOfList → Type 0
 IsUnitOf rows profile unit = (unit.file < rows) × (unit.defines.profile ≡ profile)
 
+-- ---- the count
+
+abbrev pub count_defines : {around : Surroundings} {defines : List (List ℕ)} {s : State} {m : Reached} → Defines around defines s m → ℕ
+count_defines (unread reads) = 0
+count_defines (processed reads tree here) = count_group here
+
+abbrev pub count_translates : {around : Surroundings} {defines : List (List ℕ)} {row : ℕ} {s : State} {m : Reached} → Translates around defines row s m → ℕ
+count_translates (undefined here) = count_defines here
+count_translates (translated here opens) = count_defines here + count_opened opens
+
+-- ---- the value
+
 -- what a unit gives over these files
 pub record IsUnit (names : List (List ℕ)) (files : Files) (setting : Setting) (unit : UnitOfList) (out : UnitOut) : Type 0 where
   pub reached : Reached
   pub translates : Translates (surroundings names files setting unit) unit.defines.texts unit.file (beginning setting) reached
   pub gives : out ≡ given reached
+
+-- how many replacements a unit makes and how many files it opens, its own among them
+abbrev pub count : {names : List (List ℕ)} {files : Files} {setting : Setting} {unit : UnitOfList} {out : UnitOut} → IsUnit names files setting unit out → ℕ
+count p = count_translates p.translates

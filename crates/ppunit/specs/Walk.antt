@@ -1,12 +1,10 @@
 -- Where a walk over the lines of a file, and of the files that it includes, stands in the tree of its groups.
 use Rattle.std.specs.Prelude.{◌≡◌, ℕ, suc, ◌+◌, ◌<◌, ◌≤◌, ◌^◌, length, List, [], ◌∷◌, ◌++◌, drop, map, Bool, true, false, Option, None, Some, Result, Ok, Err, slice_index_or}
-use Rattle.pptext.specs.declared.tokens.Token.{Token}
 use Rattle.pptext.specs.declared.tokens.Fault.{Fault}
 use Rattle.pptext.specs.declared.sources.Directive.{Directive}
-use Rattle.pptext.specs.declared.sources.Directive.TheVariants.{If, Ifdef, Ifndef, Elif, Elifdef, Elifndef, Else, Endif}
 use Rattle.pptext.specs.Lines.{LogicalLine}
 use Rattle.pptext.specs.Sources.{next_branch}
-use Rattle.pptext.specs.Tree.{Parts, Branches, part_lines, branch_lines, AreParts, AreBranches, Tree, role, branch_behind}
+use Rattle.pptext.specs.Tree.{Parts, Branches, part_lines, branch_lines, AreParts, AreBranches, Tree, role, branch_behind, has_condition}
 use Rattle.ppexpand.specs.declared.env.Env.{Env}
 use Rattle.ppshelf.specs.Files.{Files, Extends}
 use Rattle.ppunit.specs.declared.states.State.{State}
@@ -15,7 +13,7 @@ use Rattle.ppunit.specs.declared.opening.OpenFile.{OpenFile}
 use Rattle.ppunit.specs.declared.stack.Waiting.{Waiting}
 use Rattle.ppunit.specs.declared.walking.Next.{Next}
 use Rattle.ppunit.specs.States.{Surroundings, Reached, going, stopped}
-use Rattle.ppunit.specs.Conditions.{Decides}
+use Rattle.ppunit.specs.Conditions.{DecidesFreely, Decides}
 use Rattle.ppunit.specs.Group.{deepest, Group, Branched, Controls}
 use Rattle.ppunit.specs.Unit.{Defines}
 
@@ -24,29 +22,6 @@ no_line = record { tokens = []; number = 0; directive = None }
 
 abbrev pub line_at : List LogicalLine → ℕ → LogicalLine
 line_at lines index = slice_index_or lines index no_line
-
--- `#if`, `#ifdef`, `#ifndef`
-abbrev pub opens_section : Directive → Bool
-opens_section If = true
-opens_section Ifdef = true
-opens_section Ifndef = true
-opens_section d = false
-
--- `#elif`, `#elifdef`, `#elifndef`: a branch with a condition
-abbrev pub has_condition : Directive → Bool
-has_condition Elif = true
-has_condition Elifdef = true
-has_condition Elifndef = true
-has_condition d = false
-
--- a branch or `#endif`: a group ends before the line
-abbrev pub ends_group : Directive → Bool
-ends_group Elif = true
-ends_group Elifdef = true
-ends_group Elifndef = true
-ends_group Else = true
-ends_group Endif = true
-ends_group d = false
 
 -- The if-sections around a group, the innermost first: the branches behind the group, and the parts behind the section.
 abbrev pub Outer : Type 0
@@ -140,20 +115,22 @@ pub record BranchesAt (lines : List LogicalLine) (index : ℕ) (ps : Parts) (bs 
   pub parts : AreParts ps
   pub outer : AreOuter ((bs, qs) ∷ k)
 
--- whether the work goes on behind a line of this directive, a branch or `#endif`, or its fault
-abbrev pub EntersBy : Option Directive → State → LogicalLine → Result Bool Fault → Type 0
-EntersBy (Some Elif) s line taken = Decides s line taken
-EntersBy (Some Elifdef) s line taken = Decides s line taken
-EntersBy (Some Elifndef) s line taken = Decides s line taken
-EntersBy d s line taken = taken ≡ Ok true
+-- whether the work goes on behind a branch line or `#endif`, or the line's fault, and what is left of the budget; where the line has a condition, that decides
+abbrev pub EntersIf : Bool → State → LogicalLine → Option ℕ → Result Bool Fault → Type 0
+EntersIf true s line after taken = Decides s line after taken
+EntersIf false s line after taken = DecidesFreely s (Ok true) after taken
 
-abbrev pub Enters : State → LogicalLine → Result Bool Fault → Type 0
-Enters s line taken = EntersBy line.directive s line taken
+abbrev pub EntersBy : Option Directive → State → LogicalLine → Option ℕ → Result Bool Fault → Type 0
+EntersBy None s line after taken = EntersIf false s line after taken
+EntersBy (Some d) s line after taken = EntersIf (has_condition d) s line after taken
 
--- the line that the work goes on with, behind a group that is not taken
-abbrev pub FindsBranch : List LogicalLine → State → Branches → Parts → Outer → Result ℕ Fault → Type 0
-FindsBranch lines s bs qs k (Ok next) = (ps : Parts) × (k' : Outer) × StandsAt lines next ps k' × ((around : Surroundings) (depth row : ℕ) (end : Reached) → Ends around depth row (going s) ps k' end → (m : Reached) × Branched around depth row s bs m × Ends around depth row m qs k end)
-FindsBranch lines s bs qs k (Err f) = (around : Surroundings) (depth row : ℕ) → Branched around depth row s bs (stopped s f)
+abbrev pub Enters : State → LogicalLine → Option ℕ → Result Bool Fault → Type 0
+Enters s line after taken = EntersBy line.directive s line after taken
+
+-- the line that the work goes on with, behind a group that is not taken, and the state then
+abbrev pub FindsBranch : List LogicalLine → State → State → Branches → Parts → Outer → Result ℕ Fault → Type 0
+FindsBranch lines s t bs qs k (Ok next) = (ps : Parts) × (k' : Outer) × StandsAt lines next ps k' × ((around : Surroundings) (depth row : ℕ) (end : Reached) → Ends around depth row (going t) ps k' end → (m : Reached) × Branched around depth row s bs m × Ends around depth row m qs k end)
+FindsBranch lines s t bs qs k (Err f) = (around : Surroundings) (depth row : ℕ) → Branched around depth row s bs (stopped t f)
 
 abbrev pub IsTextLine : LogicalLine → Type 0
 IsTextLine r = r.directive ≡ None
