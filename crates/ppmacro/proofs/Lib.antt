@@ -11,3 +11,4 @@ pub mod Remembering
 pub mod Hiding
 pub mod Naming
 pub mod Viewed
+pub mod Numbers

@@ -58,18 +58,34 @@ impl<'a> Table<'a> {
     pub fn new(alloc: Global) -> Result<Table<'a>, Memory>
         ensures { IfOk result (λ t. t ≡ predefined) }
     {
-        let mut table = Table {
+        let mut table = Table::empty(alloc)?;
+        table.predefine_all()?;
+        Ok(table)
+    }
+
+    // No name at all.
+    fn empty(alloc: Global) -> Result<Table<'a>, Memory>
+        ensures { IfOk result (λ t. t ≡ table.empty) }
+    {
+        let table = Table {
             macros: IndexMap::new(alloc),
             marks: Marks::new(alloc)?,
         };
-        table.predefine(b"__STDC_VERSION__", Builtin::StdcVersion)?;
-        table.predefine(b"__STDC_HOSTED__", Builtin::StdcHosted)?;
-        table.predefine(b"__STDC__", Builtin::Stdc)?;
-        table.predefine(b"__TIME__", Builtin::Time)?;
-        table.predefine(b"__DATE__", Builtin::Date)?;
-        table.predefine(b"__LINE__", Builtin::Line)?;
-        table.predefine(b"__FILE__", Builtin::File)?;
         Ok(table)
+    }
+
+    // Puts the predefined names into a table without names.
+    fn predefine_all(&mut self) -> Result<(), AllocError>
+        requires { self.old ≡ table.empty }
+        ensures { OnOk result (self.new ≡ predefined) }
+    {
+        self.predefine(b"__STDC_VERSION__", Builtin::StdcVersion)?;
+        self.predefine(b"__STDC_HOSTED__", Builtin::StdcHosted)?;
+        self.predefine(b"__STDC__", Builtin::Stdc)?;
+        self.predefine(b"__TIME__", Builtin::Time)?;
+        self.predefine(b"__DATE__", Builtin::Date)?;
+        self.predefine(b"__LINE__", Builtin::Line)?;
+        self.predefine(b"__FILE__", Builtin::File)
     }
 
     // Puts a predefined macro under this name.

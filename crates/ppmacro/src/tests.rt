@@ -7,6 +7,7 @@ mod substitution;
 use crate::{HideSets, Set, Shape, Table, define, undef};
 use pptext::{Fault, Memory, Place, Profile, Token, read_source};
 use std::alloc::{AllocError, Global};
+use std::fmt::Debug;
 use std::process::Abort;
 use std::test::Fail;
 
@@ -16,6 +17,11 @@ const HASH: Place = Place {
     line: 1,
     col: 1,
 };
+
+/// Asserts that what was found of a text is what was wanted.
+fn assert_same<T: PartialEq + Debug>(rt: &impl Abort, text: &str, found: &T, wanted: &T) {
+    assert_eq!(rt; found, wanted, "of {text}");
+}
 
 /// The tokens of a line.
 fn lexed(alloc: Global, line: &str) -> Result<Vec<Token>, Fail> {
@@ -60,6 +66,25 @@ fn directed<'a>(
         return define(alloc, table, hash.at, rest);
     }
     undef(alloc, table, hash.at, rest)
+}
+
+/// The table after a line, which raises no fault.
+fn table_of<'a, R: Abort>(rt: &R, alloc: Global, line: &'a [Token]) -> Result<Table<'a>, Memory> {
+    let mut table = Table::new(alloc)?;
+    assert_accepted(rt, alloc, &mut table, line)?;
+    Ok(table)
+}
+
+/// Asserts that a line raises no fault.
+fn assert_accepted<'a, R: Abort>(
+    rt: &R,
+    alloc: Global,
+    table: &mut Table<'a>,
+    line: &'a [Token],
+) -> Result<(), Memory> {
+    let answer = directed(alloc, table, line)?;
+    assert!(rt; answer.is_ok());
+    Ok(())
 }
 
 /// Puts a token's spelling behind a text, and a space before it where it has a mark.

@@ -1,5 +1,5 @@
 // Hide sets.
-use super::{has, more};
+use super::{assert_same, has, more};
 use crate::{HideSets, Set};
 use pptext::Memory;
 use std::process::Abort;
@@ -7,8 +7,25 @@ use std::test::Fail;
 
 /// Asserts whether a set has `a`, and whether it has `b`.
 fn assert_holds<R: Abort>(rt: &R, sets: &HideSets, set: Set, wanted: (bool, bool)) {
-    assert_eq!(rt; has(rt, sets, set, b"a"), wanted.0);
-    assert_eq!(rt; has(rt, sets, set, b"b"), wanted.1);
+    assert_same(rt, "a", &has(rt, sets, set, b"a"), &wanted.0);
+    assert_same(rt, "b", &has(rt, sets, set, b"b"), &wanted.1);
+}
+
+/// The set of one name.
+fn single<R: Abort>(rt: &R, sets: &mut HideSets, name: &[u8]) -> Result<Set, Memory> {
+    let none = sets.empty();
+    more(rt, sets, none, name)
+}
+
+/// The set of two names.
+fn double<R: Abort>(
+    rt: &R,
+    sets: &mut HideSets,
+    first: &[u8],
+    second: &[u8],
+) -> Result<Set, Memory> {
+    let set = single(rt, sets, first)?;
+    more(rt, sets, set, second)
 }
 
 /// The union of two sets.
@@ -23,7 +40,7 @@ fn both<R: Abort>(rt: &R, sets: &mut HideSets, one: Set, two: Set) -> Result<Set
     sets.meet(one, two)
 }
 
-fn names_are_hidden<R: Abort>(rt: &R, sets: &mut HideSets) -> Result<(), Memory> {
+fn names_are_hidden<R: Abort>(rt: &R, sets: &mut HideSets) -> Result<(), Fail> {
     let none = sets.empty();
     let a = more(rt, sets, none, b"a")?;
     let ab = more(rt, sets, a, b"b")?;
@@ -36,14 +53,12 @@ fn names_are_hidden<R: Abort>(rt: &R, sets: &mut HideSets) -> Result<(), Memory>
 #[test]
 fn hides_names(rt: HostRuntime) -> Result<(), Fail> {
     let mut sets = HideSets::new(rt.alloc())?;
-    names_are_hidden(&rt, &mut sets)?;
-    Ok(())
+    names_are_hidden(&rt, &mut sets)
 }
 
-fn sets_are_joined<R: Abort>(rt: &R, sets: &mut HideSets) -> Result<(), Memory> {
-    let none = sets.empty();
-    let a = more(rt, sets, none, b"a")?;
-    let b = more(rt, sets, none, b"b")?;
+fn sets_are_joined<R: Abort>(rt: &R, sets: &mut HideSets) -> Result<(), Fail> {
+    let a = single(rt, sets, b"a")?;
+    let b = single(rt, sets, b"b")?;
     let joined = either(rt, sets, a, b)?;
     assert_holds(rt, sets, joined, (true, true));
     let met = both(rt, sets, joined, b)?;
@@ -54,28 +69,31 @@ fn sets_are_joined<R: Abort>(rt: &R, sets: &mut HideSets) -> Result<(), Memory> 
 #[test]
 fn joins_and_meets(rt: HostRuntime) -> Result<(), Fail> {
     let mut sets = HideSets::new(rt.alloc())?;
-    sets_are_joined(&rt, &mut sets)?;
+    sets_are_joined(&rt, &mut sets)
+}
+
+/// Sets with other names are others.
+fn other_names_tell_sets<R: Abort>(rt: &R, sets: &mut HideSets) -> Result<(), Memory> {
+    let a = single(rt, sets, b"a")?;
+    let b = single(rt, sets, b"b")?;
+    assert!(rt; a != b);
     Ok(())
 }
 
 /// Sets with the same names are the same, whatever made them.
-fn names_tell_sets<R: Abort>(rt: &R, sets: &mut HideSets) -> Result<(), Memory> {
-    let none = sets.empty();
-    let a = more(rt, sets, none, b"a")?;
-    let b = more(rt, sets, none, b"b")?;
-    let ab = more(rt, sets, a, b"b")?;
-    let ba = more(rt, sets, b, b"a")?;
+fn names_tell_sets<R: Abort>(rt: &R, sets: &mut HideSets) -> Result<(), Fail> {
+    other_names_tell_sets(rt, sets)?;
+    let ab = double(rt, sets, b"a", b"b")?;
+    let ba = double(rt, sets, b"b", b"a")?;
     assert!(rt; ab == ba);
-    assert!(rt; a != b);
+    sets.lawful();
     Ok(())
 }
 
 #[test]
 fn tells_sets_by_their_names(rt: HostRuntime) -> Result<(), Fail> {
     let mut sets = HideSets::new(rt.alloc())?;
-    names_tell_sets(&rt, &mut sets)?;
-    sets.lawful();
-    Ok(())
+    names_tell_sets(&rt, &mut sets)
 }
 
 /// The union of two sets. Where memory is refused, both have their members, and the call is made again.
@@ -88,10 +106,9 @@ fn either_again<R: Abort>(rt: &R, sets: &mut HideSets, a: Set, b: Set) -> Result
     Ok(set)
 }
 
-fn sets_are_kept<R: Abort>(rt: &R, sets: &mut HideSets) -> Result<(), Memory> {
-    let none = sets.empty();
-    let a = more(rt, sets, none, b"a")?;
-    let b = more(rt, sets, none, b"b")?;
+fn sets_are_kept<R: Abort>(rt: &R, sets: &mut HideSets) -> Result<(), Fail> {
+    let a = single(rt, sets, b"a")?;
+    let b = single(rt, sets, b"b")?;
     let set = either_again(rt, sets, a, b)?;
     assert_holds(rt, sets, set, (true, true));
     Ok(())
@@ -100,8 +117,7 @@ fn sets_are_kept<R: Abort>(rt: &R, sets: &mut HideSets) -> Result<(), Memory> {
 #[test]
 fn keeps_sets_where_memory_is_refused(rt: HostRuntime) -> Result<(), Fail> {
     let mut sets = HideSets::new(rt.alloc())?;
-    sets_are_kept(&rt, &mut sets)?;
-    Ok(())
+    sets_are_kept(&rt, &mut sets)
 }
 
 /// Asserts that a second call gives what the first gave. It asks for no memory: `rt try --test --fail-alloc N` refuses all
@@ -113,22 +129,37 @@ fn assert_again<R: Abort>(rt: &R, again: Result<Set, Memory>, first: Set) {
     }
 }
 
-fn pairs_are_answered_again<R: Abort>(rt: &R, sets: &mut HideSets) -> Result<(), Memory> {
-    let none = sets.empty();
-    let a = more(rt, sets, none, b"a")?;
-    let ab = more(rt, sets, a, b"b")?;
-    let b = more(rt, sets, none, b"b")?;
-    let bc = more(rt, sets, b, b"c")?;
-    let joined = either(rt, sets, ab, bc)?;
-    assert_again(rt, either(rt, sets, ab, bc), joined);
-    let met = both(rt, sets, ab, bc)?;
-    assert_again(rt, both(rt, sets, ab, bc), met);
+fn union_is_answered_again<R: Abort>(
+    rt: &R,
+    sets: &mut HideSets,
+    one: Set,
+    two: Set,
+) -> Result<(), Memory> {
+    let joined = either(rt, sets, one, two)?;
+    assert_again(rt, either(rt, sets, one, two), joined);
     Ok(())
+}
+
+fn meet_is_answered_again<R: Abort>(
+    rt: &R,
+    sets: &mut HideSets,
+    one: Set,
+    two: Set,
+) -> Result<(), Memory> {
+    let met = both(rt, sets, one, two)?;
+    assert_again(rt, both(rt, sets, one, two), met);
+    Ok(())
+}
+
+fn pairs_are_answered_again<R: Abort>(rt: &R, sets: &mut HideSets) -> Result<(), Fail> {
+    let ab = double(rt, sets, b"a", b"b")?;
+    let bc = double(rt, sets, b"b", b"c")?;
+    union_is_answered_again(rt, sets, ab, bc)?;
+    Ok(meet_is_answered_again(rt, sets, ab, bc)?)
 }
 
 #[test]
 fn answers_again_without_memory(rt: HostRuntime) -> Result<(), Fail> {
     let mut sets = HideSets::new(rt.alloc())?;
-    pairs_are_answered_again(&rt, &mut sets)?;
-    Ok(())
+    pairs_are_answered_again(&rt, &mut sets)
 }

@@ -3,7 +3,7 @@ ghost use Rattle.std.specs.Prelude.{◌≡◌, IfOk, map, Some};
 ghost use Rattle.ppmacro.specs.HideSets.{IsKnown, AllKnown};
 ghost use Rattle.ppmacro.specs.Substituting.{ListsKnown, ArgumentsKnown};
 
-use super::{HASH, all_lexed, directed, has, lexed, more, push_spelled};
+use super::{HASH, all_lexed, assert_same, has, lexed, more, push_spelled, table_of};
 use crate::{
     Chain, Hidden, HideSets, Macro, Set, Table, paste, stringize, substitute, tells_each_kind,
 };
@@ -90,13 +90,6 @@ fn substituted<'x, 'a: 'x, R: Abort>(
     Ok(answer)
 }
 
-/// The table with the macro that a `#define` line defines.
-fn table_of<'a>(alloc: Global, line: &'a [Token]) -> Result<Table<'a>, Memory> {
-    let mut table = Table::new(alloc)?;
-    let _ = directed(alloc, &mut table, line)?;
-    Ok(table)
-}
-
 /// The macro of the name that stands in a `#define` line.
 fn macro_of<'t, 'a>(table: &'t Table<'a>, line: &[Token]) -> Option<&'t Macro<'a>> {
     let name = line.get(2)?;
@@ -120,6 +113,20 @@ fn replaced_by<'x, 'a: 'x, R: Abort>(
     substituted(rt, alloc, chains, given, expanded, base, space, sets)
 }
 
+/// The same for the macro of this table that the `#define` line defines.
+fn replaced_in<'a, R: Abort>(
+    rt: &R,
+    alloc: Global,
+    sets: &mut HideSets,
+    table: &Table<'a>,
+    line: &'a [Token],
+    texts: &'a [Vec<Token>],
+    with: (Set, Set, bool),
+) -> Result<Result<(Vec<Hidden<'a>>, bool), Fault>, Fail> {
+    let chains = macro_of(table, line).ok_or("no macro")?.chains(alloc)?;
+    Ok(replaced_by(rt, alloc, sets, chains.as_slice(), texts, with)?)
+}
+
 /// The same for the macro that a `#define` line defines.
 fn replaced<'a, R: Abort>(
     rt: &R,
@@ -129,9 +136,8 @@ fn replaced<'a, R: Abort>(
     texts: &'a [Vec<Token>],
     with: (Set, Set, bool),
 ) -> Result<Result<(Vec<Hidden<'a>>, bool), Fault>, Fail> {
-    let table = table_of(alloc, line)?;
-    let chains = macro_of(&table, line).ok_or("no macro")?.chains(alloc)?;
-    Ok(replaced_by(rt, alloc, sets, chains.as_slice(), texts, with)?)
+    let table = table_of(rt, alloc, line)?;
+    replaced_in(rt, alloc, sets, &table, line, texts, with)
 }
 
 /// Tokens as a text.
@@ -143,24 +149,57 @@ fn spelled(alloc: Global, tokens: &[Hidden]) -> Result<Vec<u8>, AllocError> {
     Ok(text)
 }
 
+/// Asserts what tokens spell.
+fn assert_spelled<R: Abort>(
+    rt: &R,
+    alloc: Global,
+    tokens: &[Hidden],
+    wanted: &str,
+) -> Result<(), AllocError> {
+    let text = spelled(alloc, tokens)?;
+    assert_same(rt, wanted, &text.as_slice(), &wanted.as_bytes());
+    Ok(())
+}
+
+/// What an invocation is replaced by whose arguments hide no names.
+fn replaced_plainly<'a, R: Abort>(
+    rt: &R,
+    alloc: Global,
+    sets: &mut HideSets,
+    line: &'a [Token],
+    texts: &'a [Vec<Token>],
+    space: bool,
+) -> Result<Result<(Vec<Hidden<'a>>, bool), Fault>, Fail> {
+    let none = sets.empty();
+    let base = more(rt, sets, none, b"b")?;
+    replaced(rt, alloc, sets, line, texts, (none, base, space))
+}
+
+/// The same among hide sets of its own.
+fn replaced_alone<'a, R: Abort>(
+    rt: &R,
+    alloc: Global,
+    line: &'a [Token],
+    texts: &'a [Vec<Token>],
+    space: bool,
+) -> Result<Result<(Vec<Hidden<'a>>, bool), Fault>, Fail> {
+    let mut sets = HideSets::new(alloc)?;
+    replaced_plainly(rt, alloc, &mut sets, line, texts, space)
+}
+
 /// Asserts what an invocation is replaced by: a text, and the mark that is left pending.
 fn assert_gives<R: Abort>(
     rt: &R,
     alloc: Global,
-    sets: &mut HideSets,
     line: &[Token],
     texts: &[Vec<Token>],
     (space, wanted, mark): (bool, &str, bool),
 ) -> Result<(), Fail> {
-    let none = sets.empty();
-    let base = more(rt, sets, none, b"b")?;
-    let Ok((tokens, pending)) = replaced(rt, alloc, sets, line, texts, (none, base, space))? else {
+    let Ok((tokens, pending)) = replaced_alone(rt, alloc, line, texts, space)? else {
         return Err(Fail::new("a fault"));
     };
-    let text = spelled(alloc, tokens.as_slice())?;
-    assert_eq!(rt; text.as_slice(), wanted.as_bytes());
-    assert_eq!(rt; pending, mark);
-    Ok(())
+    assert_same(rt, wanted, &pending, &mark);
+    Ok(assert_spelled(rt, alloc, tokens.as_slice(), wanted)?)
 }
 
 /// Asserts that an invocation, with or without a space mark, is replaced by these tokens and leaves this mark pending.
@@ -171,35 +210,30 @@ fn assert_replaced<R: Abort>(
     texts: &[&str],
     wanted: (bool, &str, bool),
 ) -> Result<(), Fail> {
-    let (line, texts) = (lexed(alloc, line)?, all_lexed(alloc, texts)?);
-    let mut sets = HideSets::new(alloc)?;
-    assert_gives(
-        rt,
-        alloc,
-        &mut sets,
-        line.as_slice(),
-        texts.as_slice(),
-        wanted,
-    )
+    let line = lexed(alloc, line)?;
+    let texts = all_lexed(alloc, texts)?;
+    assert_gives(rt, alloc, line.as_slice(), texts.as_slice(), wanted)
+}
+
+/// Asserts the number and the text of a fault that was found where the macro's name stands.
+fn assert_fault<R: Abort>(rt: &R, fault: &Fault, (number, wanted): (u8, &str)) {
+    assert_same(rt, wanted, &fault.number, &number);
+    assert_same(rt, wanted, &fault.at, &USED);
+    assert_same(rt, wanted, &fault.text.as_bytes(), &wanted.as_bytes());
 }
 
 /// Asserts that an invocation is refused: by the fault's number and text.
 fn assert_refuses<R: Abort>(
     rt: &R,
     alloc: Global,
-    sets: &mut HideSets,
     line: &[Token],
     texts: &[Vec<Token>],
-    (number, wanted): (u8, &str),
+    wanted: (u8, &str),
 ) -> Result<(), Fail> {
-    let none = sets.empty();
-    let base = more(rt, sets, none, b"b")?;
-    let Err(fault) = replaced(rt, alloc, sets, line, texts, (none, base, false))? else {
+    let Err(fault) = replaced_alone(rt, alloc, line, texts, false)? else {
         return Err(Fail::new("no fault"));
     };
-    assert_eq!(rt; fault.number, number);
-    assert_eq!(rt; fault.at, USED);
-    assert_eq!(rt; fault.text.as_bytes(), wanted.as_bytes());
+    assert_fault(rt, &fault, wanted);
     Ok(())
 }
 
@@ -211,165 +245,101 @@ fn assert_refused<R: Abort>(
     texts: &[&str],
     wanted: (u8, &str),
 ) -> Result<(), Fail> {
-    let (line, texts) = (lexed(alloc, line)?, all_lexed(alloc, texts)?);
-    let mut sets = HideSets::new(alloc)?;
-    assert_refuses(
-        rt,
-        alloc,
-        &mut sets,
-        line.as_slice(),
-        texts.as_slice(),
-        wanted,
-    )
+    let line = lexed(alloc, line)?;
+    let texts = all_lexed(alloc, texts)?;
+    assert_refuses(rt, alloc, line.as_slice(), texts.as_slice(), wanted)
 }
+
+/// Macros, the arguments of an invocation, and what it is replaced by.
+const REPLACED: &[(&str, &[&str], &str)] = &[
+    ("#define O (1-1)", &[], "(1-1)"),
+    ("#define u(x,y,z) a x ## y ## z", &["", "", "c"], "a c"),
+    ("#define hash_hash # ## #", &[], "##"),
+    ("#define mkstr(a) # a", &["x ## y"], "\"x ## y\""),
+    ("#define t(x,y,z) x ## y ## z", &["1", "2", "3"], "123"),
+    ("#define t(x,y,z) x ## y ## z", &["", "4", "5"], "45"),
+    ("#define t(x,y,z) x ## y ## z", &["6", "", "7"], "67"),
+    ("#define t(x,y,z) x ## y ## z", &["10", "", ""], "10"),
+    ("#define t(x,y,z) x ## y ## z", &["", "", ""], ""),
+    ("#define p(a,b) a ## b", &["x y", "1 2"], "x y1 2"),
+    ("#define f(a) a %:%: a", &["y"], "yy"),
+    (
+        "#define str(s) # s",
+        &["strncmp(\"abc\\0d\", \"abc\", '\\4') == 0"],
+        "\"strncmp(\\\"abc\\\\0d\\\", \\\"abc\\\", '\\\\4') == 0\"",
+    ),
+    ("#define str(s) # s", &[" : @\\n "], "\": @\\n\""),
+    ("#define str(s) # s", &[""], "\"\""),
+    (
+        "#define showlist(...) puts(#__VA_ARGS__)",
+        &["The first, second, and third items."],
+        "puts(\"The first, second, and third items.\")",
+    ),
+    (
+        "#define g(defined,__LINE__) __LINE__ defined",
+        &["1", "2"],
+        "2 1",
+    ),
+    ("#define f(a) a ## 1 #a", &["x"], "x1 \"x\""),
+];
 
 // Examples of 6.10.3.3p4 and 6.10.3.5p5 to p9, and of this crate's own.
 #[test]
 fn replaces_by_the_replacement_list(rt: HostRuntime) -> Result<(), Fail> {
-    for (line, texts, wanted) in [
-        ("#define O (1-1)", [].as_slice(), "(1-1)"),
-        (
-            "#define u(x,y,z) a x ## y ## z",
-            ["", "", "c"].as_slice(),
-            "a c",
-        ),
-        ("#define hash_hash # ## #", [].as_slice(), "##"),
-        ("#define mkstr(a) # a", ["x ## y"].as_slice(), "\"x ## y\""),
-        (
-            "#define t(x,y,z) x ## y ## z",
-            ["1", "2", "3"].as_slice(),
-            "123",
-        ),
-        (
-            "#define t(x,y,z) x ## y ## z",
-            ["", "4", "5"].as_slice(),
-            "45",
-        ),
-        (
-            "#define t(x,y,z) x ## y ## z",
-            ["6", "", "7"].as_slice(),
-            "67",
-        ),
-        (
-            "#define t(x,y,z) x ## y ## z",
-            ["10", "", ""].as_slice(),
-            "10",
-        ),
-        ("#define t(x,y,z) x ## y ## z", ["", "", ""].as_slice(), ""),
-        ("#define p(a,b) a ## b", ["x y", "1 2"].as_slice(), "x y1 2"),
-        ("#define f(a) a %:%: a", ["y"].as_slice(), "yy"),
-        (
-            "#define str(s) # s",
-            ["strncmp(\"abc\\0d\", \"abc\", '\\4') == 0"].as_slice(),
-            "\"strncmp(\\\"abc\\\\0d\\\", \\\"abc\\\", '\\\\4') == 0\"",
-        ),
-        ("#define str(s) # s", [" : @\\n "].as_slice(), "\": @\\n\""),
-        ("#define str(s) # s", [""].as_slice(), "\"\""),
-        (
-            "#define showlist(...) puts(#__VA_ARGS__)",
-            ["The first, second, and third items."].as_slice(),
-            "puts(\"The first, second, and third items.\")",
-        ),
-        (
-            "#define g(defined,__LINE__) __LINE__ defined",
-            ["1", "2"].as_slice(),
-            "2 1",
-        ),
-        ("#define f(a) a ## 1 #a", ["x"].as_slice(), "x1 \"x\""),
-    ] {
+    for &(line, texts, wanted) in REPLACED {
         assert_replaced(&rt, rt.alloc(), line, texts, (false, wanted, false))?;
     }
     Ok(())
 }
+
+/// Macros, the arguments of an invocation, whether it has a space mark, and what it is replaced by with the mark left.
+const MARKED: &[(&str, &[&str], bool, &str, bool)] = &[
+    ("#define E", &[], false, "", false),
+    ("#define E", &[], true, "", true),
+    ("#define O (1-1)", &[], true, " (1-1)", false),
+    ("#define f(a) <a>", &[" b "], false, "<b>", false),
+    ("#define f(a) a", &[" y"], false, "y", false),
+    ("#define f(a) a", &["y"], true, " y", false),
+    ("#define f(a)   x", &[""], false, "x", false),
+    ("#define f(a) x a", &[""], false, "x", true),
+    ("#define f(a) x a+", &[""], false, "x +", false),
+    ("#define f(a) a a a+", &[""], false, " +", false),
+    ("#define f(a) a", &[""], false, "", false),
+    ("#define f(a) a a", &[""], false, "", true),
+    ("#define f(a) x+a", &[" y z"], false, "x+y z", false),
+    ("#define f(a,b) x a##b", &["", "y"], false, "x y", false),
+    ("#define f(a,b) x+a ## b", &["", " y"], false, "x+y", false),
+    ("#define f(a) x #a", &["1"], false, "x \"1\"", false),
+    ("#define f(a) x# a", &["1"], false, "x\"1\"", false),
+];
 
 // The macro's name hands its mark on. The first token of a chain takes the mark that is pending, which is then cleared; a
 // chain without tokens leaves it to what comes next. A chain's own mark is that of its first token in the definition, which
 // for the first chain does not count.
 #[test]
 fn passes_space_marks_on(rt: HostRuntime) -> Result<(), Fail> {
-    for (line, texts, marked, wanted, mark) in [
-        ("#define E", [].as_slice(), false, "", false),
-        ("#define E", [].as_slice(), true, "", true),
-        ("#define O (1-1)", [].as_slice(), true, " (1-1)", false),
-        ("#define f(a) <a>", [" b "].as_slice(), false, "<b>", false),
-        ("#define f(a) a", [" y"].as_slice(), false, "y", false),
-        ("#define f(a) a", ["y"].as_slice(), true, " y", false),
-        ("#define f(a)   x", [""].as_slice(), false, "x", false),
-        ("#define f(a) x a", [""].as_slice(), false, "x", true),
-        ("#define f(a) x a+", [""].as_slice(), false, "x +", false),
-        ("#define f(a) a a a+", [""].as_slice(), false, " +", false),
-        ("#define f(a) a", [""].as_slice(), false, "", false),
-        ("#define f(a) a a", [""].as_slice(), false, "", true),
-        (
-            "#define f(a) x+a",
-            [" y z"].as_slice(),
-            false,
-            "x+y z",
-            false,
-        ),
-        (
-            "#define f(a,b) x a##b",
-            ["", "y"].as_slice(),
-            false,
-            "x y",
-            false,
-        ),
-        (
-            "#define f(a,b) x+a ## b",
-            ["", " y"].as_slice(),
-            false,
-            "x+y",
-            false,
-        ),
-        (
-            "#define f(a) x #a",
-            ["1"].as_slice(),
-            false,
-            "x \"1\"",
-            false,
-        ),
-        (
-            "#define f(a) x# a",
-            ["1"].as_slice(),
-            false,
-            "x\"1\"",
-            false,
-        ),
-    ] {
+    for &(line, texts, marked, wanted, mark) in MARKED {
         assert_replaced(&rt, rt.alloc(), line, texts, (marked, wanted, mark))?;
     }
     Ok(())
 }
 
+/// Macros, the arguments of an invocation, and the fault's number and text.
+const REFUSED: &[(&str, &[&str], u8, &str)] = &[
+    ("#define C(a,b) a ## b", &["/", "/"], 19, "//"),
+    ("#define S(x) #x", &["\\ "], 20, "\"\\\""),
+    ("#define f(a,b) a ## - ## #b", &["/", "\\ "], 20, "\"\\\""),
+    ("#define f(a,b) a ## - #b", &["/", "\\ "], 19, "/-"),
+    ("#define f(a,b) a ## b ## -", &["/", "/"], 19, "//"),
+    ("#define f(a) a ## a", &["1 -"], 19, "-1"),
+    ("#define f(a) # a ## 1", &["x"], 19, "\"x\"1"),
+];
+
 // Chains come from the left; in each `#` comes first, and then `##` from the left.
 #[test]
 fn refuses_what_is_no_token(rt: HostRuntime) -> Result<(), Fail> {
-    let alloc = rt.alloc();
-    for (line, texts, number, wanted) in [
-        ("#define C(a,b) a ## b", ["/", "/"].as_slice(), 19, "//"),
-        ("#define S(x) #x", ["\\ "].as_slice(), 20, "\"\\\""),
-        (
-            "#define f(a,b) a ## - ## #b",
-            ["/", "\\ "].as_slice(),
-            20,
-            "\"\\\"",
-        ),
-        (
-            "#define f(a,b) a ## - #b",
-            ["/", "\\ "].as_slice(),
-            19,
-            "/-",
-        ),
-        (
-            "#define f(a,b) a ## b ## -",
-            ["/", "/"].as_slice(),
-            19,
-            "//",
-        ),
-        ("#define f(a) a ## a", ["1 -"].as_slice(), 19, "-1"),
-        ("#define f(a) # a ## 1", ["x"].as_slice(), 19, "\"x\"1"),
-    ] {
-        assert_refused(&rt, alloc, line, texts, (number, wanted))?;
+    for &(line, texts, number, wanted) in REFUSED {
+        assert_refused(&rt, rt.alloc(), line, texts, (number, wanted))?;
     }
     Ok(())
 }
@@ -377,37 +347,65 @@ fn refuses_what_is_no_token(rt: HostRuntime) -> Result<(), Fail> {
 /// Asserts that a token has the name `f`, whether it has `g`, and where it stands.
 fn assert_placed<R: Abort>(rt: &R, sets: &HideSets, hidden: &Hidden, (hides, col): (bool, u32)) {
     assert!(rt; has(rt, sets, hidden.hide(), b"f") && has(rt, sets, hidden.hide(), b"b"));
-    assert_eq!(rt; has(rt, sets, hidden.hide(), b"g"), hides);
-    assert_eq!(rt; hidden.at().col, col);
-    assert_eq!(rt; hidden.used(), USED);
+    assert_same(rt, "hide sets", &has(rt, sets, hidden.hide(), b"g"), &hides);
+    assert_same(rt, "columns", &hidden.at().col, &col);
+    assert_same(rt, "places of use", &hidden.used(), &USED);
 }
 
-fn names_and_places_are_given<R: Abort>(
+/// Of each token whether it has the name `g`, and where it stands.
+const PLACED: &[(bool, u32)] = &[
+    (true, 1),
+    (true, 1),
+    (false, 1),
+    (false, 28),
+    (false, 31),
+    (true, 1),
+];
+
+/// Asserts the names and places of all tokens.
+fn assert_all_placed<R: Abort>(rt: &R, sets: &HideSets, tokens: &[Hidden]) {
+    assert_same(rt, "tokens", &tokens.len(), &PLACED.len());
+    for (hidden, wanted) in tokens.iter().zip(PLACED) {
+        assert_placed(rt, sets, hidden, *wanted);
+    }
+}
+
+/// What an invocation is replaced by whose arguments' tokens hide the name `g`.
+fn replaced_hiding<'a, R: Abort>(
+    rt: &R,
+    alloc: Global,
+    sets: &mut HideSets,
+    line: &'a [Token],
+    texts: &'a [Vec<Token>],
+) -> Result<Result<(Vec<Hidden<'a>>, bool), Fault>, Fail> {
+    let none = sets.empty();
+    let hide = more(rt, sets, none, b"g")?;
+    let base = more(rt, sets, none, b"b")?;
+    replaced(rt, alloc, sets, line, texts, (hide, base, false))
+}
+
+fn assert_hides_and_places<R: Abort>(
     rt: &R,
     alloc: Global,
     sets: &mut HideSets,
     line: &[Token],
     texts: &[Vec<Token>],
 ) -> Result<(), Fail> {
-    let none = sets.empty();
-    let hide = more(rt, sets, none, b"g")?;
-    let base = more(rt, sets, none, b"b")?;
-    let Ok((tokens, _)) = replaced(rt, alloc, sets, line, texts, (hide, base, false))? else {
+    let Ok((tokens, _)) = replaced_hiding(rt, alloc, sets, line, texts)? else {
         return Err(Fail::new("a fault"));
     };
-    let text = spelled(alloc, tokens.as_slice())?;
-    assert_eq!(rt; text.as_slice(), b"y yy y1 \"y\" x y".as_slice());
-    for (hidden, wanted) in tokens.iter().zip([
-        (true, 1),
-        (true, 1),
-        (false, 1),
-        (false, 28),
-        (false, 31),
-        (true, 1),
-    ]) {
-        assert_placed(rt, sets, hidden, wanted);
-    }
-    Ok(())
+    assert_all_placed(rt, sets, tokens.as_slice());
+    Ok(assert_spelled(rt, alloc, tokens.as_slice(), "y yy y1 \"y\" x y")?)
+}
+
+fn names_and_places_are_given<R: Abort>(
+    rt: &R,
+    alloc: Global,
+    line: &[Token],
+    texts: &[Vec<Token>],
+) -> Result<(), Fail> {
+    let mut sets = HideSets::new(alloc)?;
+    assert_hides_and_places(rt, alloc, &mut sets, line, texts)
 }
 
 // Every token gains a set and a name. Beside them the argument's tokens keep their sets, a pasted one has what both parts have, and
@@ -418,28 +416,48 @@ fn hides_and_places_what_it_gives(rt: HostRuntime) -> Result<(), Fail> {
     let alloc = rt.alloc();
     let line = lexed(alloc, "#define f(a,b) a a##a a##1 #a x b##a")?;
     let texts = all_lexed(alloc, &["y", ""])?;
-    let mut sets = HideSets::new(alloc)?;
-    names_and_places_are_given(&rt, alloc, &mut sets, line.as_slice(), texts.as_slice())
+    names_and_places_are_given(&rt, alloc, line.as_slice(), texts.as_slice())
 }
 
-fn literal_is_made<R: Abort>(
+/// Asserts that a literal is what is wanted, without the name `a`.
+fn assert_literal<R: Abort>(rt: &R, sets: &HideSets, literal: &Hidden) {
+    assert_same(rt, "texts", &literal.text(), &b"\"x + '\\\"'\"".as_slice());
+    assert_same(rt, "kinds", &literal.kind(), &Kind::Str);
+    assert_same(rt, "places", &literal.at(), &HASH);
+    assert_same(rt, "places of use", &literal.used(), &USED);
+    assert!(rt; !literal.space() && !has(rt, sets, literal.hide(), b"a"));
+}
+
+/// The tokens, each with the name `a`.
+fn hiding_a<'a, R: Abort>(
+    rt: &R,
+    alloc: Global,
+    sets: &mut HideSets,
+    tokens: &'a [Token],
+) -> Result<Vec<Hidden<'a>>, Memory> {
+    let none = sets.empty();
+    let hide = more(rt, sets, none, b"a")?;
+    assert!(rt; sets.knows(hide));
+    Ok(hidden(alloc, sets, hide, tokens)?)
+}
+
+fn assert_stringized<R: Abort>(
     rt: &R,
     alloc: Global,
     sets: &mut HideSets,
     tokens: &[Token],
 ) -> Result<(), Fail> {
-    let none = sets.empty();
-    let hide = more(rt, sets, none, b"a")?;
-    assert!(rt; sets.knows(hide));
-    let argument = hidden(alloc, sets, hide, tokens)?;
+    let argument = hiding_a(rt, alloc, sets, tokens)?;
     let Ok(literal) = stringize(alloc, sets, argument.as_slice(), HASH, USED)? else {
         return Err(Fail::new("no literal"));
     };
-    assert_eq!(rt; literal.text(), b"\"x + '\\\"'\"".as_slice());
-    assert_eq!(rt; literal.kind(), Kind::Str);
-    assert!(rt; !literal.space() && literal.at() == HASH && literal.used() == USED);
-    assert!(rt; !has(rt, sets, literal.hide(), b"a"));
+    assert_literal(rt, sets, &literal);
     Ok(())
+}
+
+fn literal_is_made<R: Abort>(rt: &R, alloc: Global, tokens: &[Token]) -> Result<(), Fail> {
+    let mut sets = HideSets::new(alloc)?;
+    assert_stringized(rt, alloc, &mut sets, tokens)
 }
 
 #[test]
@@ -447,41 +465,65 @@ fn makes_a_literal_of_tokens(rt: HostRuntime) -> Result<(), Fail> {
     let alloc = rt.alloc();
     tells_each_kind();
     let tokens = lexed(alloc, " x  + '\"'")?;
-    let mut sets = HideSets::new(alloc)?;
-    literal_is_made(&rt, alloc, &mut sets, tokens.as_slice())
+    literal_is_made(&rt, alloc, tokens.as_slice())
+}
+
+/// Asserts that a token is what is wanted, with the name `a` alone.
+fn assert_pasted<R: Abort>(rt: &R, sets: &HideSets, pasted: &Hidden, at: Place) {
+    assert_same(rt, "texts", &pasted.text(), &b"x1".as_slice());
+    assert_same(rt, "kinds", &pasted.kind(), &Kind::Ident);
+    assert_same(rt, "places", &pasted.at(), &at);
+    assert_same(rt, "places of use", &pasted.used(), &USED);
+    assert!(rt; pasted.space());
+    assert!(rt; has(rt, sets, pasted.hide(), b"a") && !has(rt, sets, pasted.hide(), b"b"));
 }
 
 /// The paste of two tokens with the hide sets `a`, `b` and `a`.
-fn tokens_are_pasted<R: Abort>(
+fn pasted<'a, R: Abort>(
+    rt: &R,
+    alloc: Global,
+    sets: &mut HideSets,
+    left: &Token,
+    right: &Token,
+) -> Result<Result<Hidden<'a>, Fault>, Memory> {
+    let none = sets.empty();
+    let a = more(rt, sets, none, b"a")?;
+    let ab = more(rt, sets, a, b"b")?;
+    assert!(rt; sets.knows(a) && sets.knows(ab));
+    paste(
+        alloc,
+        sets,
+        &Hidden::new(left, ab),
+        &Hidden::new(right, a),
+        USED,
+    )
+}
+
+fn assert_pastes<R: Abort>(
     rt: &R,
     alloc: Global,
     sets: &mut HideSets,
     left: &Token,
     right: &Token,
 ) -> Result<(), Fail> {
-    let none = sets.empty();
-    let a = more(rt, sets, none, b"a")?;
-    let ab = more(rt, sets, a, b"b")?;
-    assert!(rt; sets.knows(a) && sets.knows(ab));
-    let (left, right) = (Hidden::new(left, ab), Hidden::new(right, a));
-    let Ok(pasted) = paste(alloc, sets, &left, &right, USED)? else {
+    let Ok(token) = pasted(rt, alloc, sets, left, right)? else {
         return Err(Fail::new("no token"));
     };
-    assert_eq!(rt; pasted.text(), b"x1".as_slice());
-    assert_eq!(rt; pasted.kind(), Kind::Ident);
-    assert!(rt; pasted.space() && pasted.at() == left.at() && pasted.used() == USED);
-    assert!(rt; has(rt, sets, pasted.hide(), b"a"));
-    assert!(rt; !has(rt, sets, pasted.hide(), b"b"));
+    assert_pasted(rt, sets, &token, left.at);
     Ok(())
+}
+
+fn tokens_are_pasted<R: Abort>(rt: &R, alloc: Global, tokens: &[Token]) -> Result<(), Fail> {
+    let [_, left, right] = tokens else {
+        return Err(Fail::new("other tokens"));
+    };
+    let mut sets = HideSets::new(alloc)?;
+    assert_pastes(rt, alloc, &mut sets, left, right)
 }
 
 #[test]
 fn pastes_two_tokens(rt: HostRuntime) -> Result<(), Fail> {
     let alloc = rt.alloc();
     let tokens = lexed(alloc, "+ x 1")?;
-    let [_, left, right] = tokens.as_slice() else {
-        return Err(Fail::new("other tokens"));
-    };
-    let mut sets = HideSets::new(alloc)?;
-    tokens_are_pasted(&rt, alloc, &mut sets, left, right)
+    tokens_are_pasted(&rt, alloc, tokens.as_slice())
 }
