@@ -16,9 +16,9 @@ use Rattle.ppexpand.specs.Expansion.{Expands, ExpandsTo}
 use Rattle.ppexpand.specs.Shown.{given_in, ExpandsArgument, expands, raises}
 use Rattle.ppexpand.proofs.Follows.{ArgumentsFollow, arguments_start}
 
-pub arguments_first : (macros : Macros) (env : Env) (level : ℕ) (call : Call) → ArgumentsFollow macros env level call (wanted call) [] (to_expand 0 (chains_of call.macro) call.arguments)
+pub arguments_first : (macros : Macros) (env : Env) (level : ℕ) (call : Call) (left : Option ℕ) → ArgumentsFollow macros env level call left (wanted call) [] left (to_expand 0 (chains_of call.macro) call.arguments)
 unfolding wanted
-arguments_first macros env level call = arguments_start macros env level call (wanted call)
+arguments_first macros env level call left = arguments_start macros env level call left (wanted call)
 
 -- the argument of this parameter is not used alone, or is
 pub to_expand-unused : (i : ℕ) (cs : List Chain) (a : List Hiding) (rest : List (List Hiding)) → uses_alone i cs ≡ false → to_expand i cs (a ∷ rest) ≡ None ∷ to_expand (suc i) cs rest
@@ -28,11 +28,17 @@ pub to_expand-used : (i : ℕ) (cs : List Chain) (a : List Hiding) (rest : List 
 to_expand-used i cs a rest h = rw h refl
 
 -- an argument's expansion, or its fault
-pub argument_expands : (macros : Macros) (env : Env) (level : ℕ) (head : Token) (list tokens : List Hiding) (o : Option Fault) → level < 256 → o ≡ None → ExpandsTo macros env (level + 1) list (record { tokens = tokens; fault = o }) → ExpandsArgument macros env level head list (Ok tokens)
-argument_expands macros env level head list tokens o low e one = expands low (subst (λ n. Expands macros env n one.0 list (record { tokens = tokens; fault = None })) (add-one level) (subst (λ p. Expands macros env (level + 1) one.0 list (record { tokens = tokens; fault = p })) e one.1))
+module _ (macros : Macros) (env : Env) (level : ℕ) (head : Token) (left after : Option ℕ) (list tokens : List Hiding) (o : Option Fault) where
+  at_level : (p : Option Fault) → o ≡ p → (one : ExpandsTo macros env (level + 1) left list (record { tokens = tokens; fault = o; left = after }))
+      → Expands macros env (suc level) left one.0 list (record { tokens = tokens; fault = p; left = after })
+  at_level p e one =
+      subst (λ n. Expands macros env n left one.0 list (record { tokens = tokens; fault = p; left = after })) (add-one level) (subst (λ q. Expands macros env (level + 1) left one.0 list (record { tokens = tokens; fault = q; left = after })) e one.1)
 
-pub argument_raises : (macros : Macros) (env : Env) (level : ℕ) (head : Token) (list tokens : List Hiding) (o : Option Fault) (f : Fault) → level < 256 → o ≡ Some f → ExpandsTo macros env (level + 1) list (record { tokens = tokens; fault = o }) → ExpandsArgument macros env level head list (Err f)
-argument_raises macros env level head list tokens o f low e one = raises low (subst (λ n. Expands macros env n one.0 list (record { tokens = tokens; fault = Some f })) (add-one level) (subst (λ p. Expands macros env (level + 1) one.0 list (record { tokens = tokens; fault = p })) e one.1))
+  pub argument_expands : level < 256 → o ≡ None → ExpandsTo macros env (level + 1) left list (record { tokens = tokens; fault = o; left = after }) → ExpandsArgument macros env level head left list after (Ok tokens)
+  argument_expands low e one = expands low (at_level None e one)
+
+  pub argument_raises : (f : Fault) → level < 256 → o ≡ Some f → ExpandsTo macros env (level + 1) left list (record { tokens = tokens; fault = o; left = after }) → ExpandsArgument macros env level head left list after (Err f)
+  argument_raises f low e one = raises low (at_level (Some f) e one)
 
 -- ---- the argument of a parameter
 

@@ -2,7 +2,7 @@
 use Rattle.std.proofs.Common.{ℕ, suc, ◌≤◌, subst, arith}
 use Rattle.ppmacro.specs.Names.{Macros}
 use Rattle.ppmacro.specs.HideSets.{Hiding}
-use Rattle.std.specs.Prelude.{List, ◌∷◌}
+use Rattle.std.specs.Prelude.{List, ◌∷◌, Option}
 use Rattle.ppexpand.specs.declared.env.Env.{Env}
 use Rattle.ppexpand.specs.Expansion.{Outcome, Expands, passes, replaced, call_replaced}
 use Rattle.ppexpand.specs.Laws.{Leads, by_passing, by_replacing, by_invoking, LeadsOn, stays, turns, EndsWithin}
@@ -11,23 +11,23 @@ use Rattle.ppexpand.proofs.Unique.{same_outcome}
 
 module _ (macros : Macros) (env : Env) (level : ℕ) where
   -- an outcome that takes so many turns at least
-  Takes : ℕ → List Hiding → Type 0
-  Takes n list = (m : ℕ) × (out : Outcome) × (n ≤ m) × Expands macros env level m list out
+  Takes : ℕ → Option ℕ → List Hiding → Type 0
+  Takes n left list = (m : ℕ) × (out : Outcome) × (n ≤ m) × Expands macros env level left m list out
 
-  before_turn : {list next : List Hiding} (n : ℕ) → Leads macros env level list next → Takes n next → Takes (suc n) list
+  before_turn : {left after : Option ℕ} {list next : List Hiding} (n : ℕ) → Leads macros env level left list after next → Takes n after next → Takes (suc n) left list
   unfolding Takes
-  before_turn n (by_passing {t = t} e) h = (suc h.0, record { tokens = t ∷ h.1.tokens; fault = h.1.fault }, omega (arith, h.2), passes e h.3)
+  before_turn n (by_passing {t = t} e) h = (suc h.0, record { tokens = t ∷ h.1.tokens; fault = h.1.fault; left = h.1.left }, omega (arith, h.2), passes e h.3)
   before_turn n (by_replacing e) h = (suc h.0, h.1, omega (arith, h.2), replaced e h.3)
   before_turn n (by_invoking e a f) h = (suc h.0, h.1, omega (arith, h.2), call_replaced e a f h.3)
 
-  before_turns : {n : ℕ} {list last : List Hiding} → LeadsOn macros env level n list last → Takes n list
+  before_turns : {n : ℕ} {left after : Option ℕ} {list last : List Hiding} → LeadsOn macros env level n left list after last → Takes n left list
   unfolding Takes
-  before_turns {list = list} stays = let one : HasOutcome macros env level list = total macros env level list in (one.0, one.1, omega arith, one.2)
+  before_turns {left = left} {list = list} stays = let one : HasOutcome macros env level left list = total macros env level left list in (one.0, one.1, omega arith, one.2)
   before_turns (turns {n = n} step more) = before_turn n step (before_turns more)
 
-  pub ends_within : (list : List Hiding) → EndsWithin macros env level (total macros env level list).0 list
+  pub ends_within : (left : Option ℕ) (list : List Hiding) → EndsWithin macros env level (total macros env level left list).0 left list
   unfolding Takes
-  ends_within list n last on =
-      let one : HasOutcome macros env level list = total macros env level list in
-      let here : Takes n list = before_turns on in
+  ends_within left list n after last on =
+      let one : HasOutcome macros env level left list = total macros env level left list in
+      let here : Takes n left list = before_turns on in
       subst (λ k. n ≤ k) (same_outcome macros env here.3 one.0 one.1 one.2).0 here.2

@@ -12,31 +12,31 @@ use Rattle.ppexpand.proofs.Unique.{same_outcome}
 
 module _ (macros : Macros) (env : Env) (level : ℕ) where
   -- how many turns a list takes
-  abbrev pub turns_left : List Hiding → ℕ
-  turns_left list = (total macros env level list).0
+  abbrev pub turns_left : Option ℕ → List Hiding → ℕ
+  turns_left left list = (total macros env level left list).0
 
-  -- what is left of the list decides the outcome of the whole: these tokens passed before it
-  abbrev pub Follows : List Hiding → List Hiding → List Hiding → Type 0
-  Follows start tokens list = (n : ℕ) (out : Outcome) → Expands macros env level n list out → ExpandsTo macros env level start (record { tokens = tokens ++ out.tokens; fault = out.fault })
+  -- what is left of the list and of the budget decides the outcome of the whole: these tokens passed before it
+  abbrev pub Follows : Option ℕ → List Hiding → List Hiding → Option ℕ → List Hiding → Type 0
+  Follows first start tokens left list = (n : ℕ) (out : Outcome) → Expands macros env level left n list out → ExpandsTo macros env level first start (record { tokens = tokens ++ out.tokens; fault = out.fault; left = out.left })
 
-  pub follows_start : (start : List Hiding) → Follows start [] start
-  follows_start start n out d = (n, d)
+  pub follows_start : (left : Option ℕ) (start : List Hiding) → Follows left start [] left start
+  follows_start left start n out d = (n, d)
 
-  pub advances_falls : (list next tokens : List Hiding) → Advances macros env level list next tokens → turns_left next < turns_left list
-  advances_falls list next tokens step =
-      let here = total macros env level list in
-      let there = total macros env level next in
+  pub advances_falls : (left : Option ℕ) (list : List Hiding) (after : Option ℕ) (next tokens : List Hiding) → Advances macros env level left list after next tokens → turns_left after next < turns_left left list
+  advances_falls left list after next tokens step =
+      let here = total macros env level left list in
+      let there = total macros env level after next in
       let more = step.turn there.0 there.1 there.2 in
       let same = (same_outcome macros env more here.0 here.1 here.2).0 in
       rw (← same) (omega arith)
 
-  pub follows_on : (start passed list next tokens : List Hiding) → Follows start passed list → Advances macros env level list next tokens → Follows start (passed ++ tokens) next
-  follows_on start passed list next tokens so_far step n out d =
+  pub follows_on : (first : Option ℕ) (start passed : List Hiding) (left : Option ℕ) (list : List Hiding) (after : Option ℕ) (next tokens : List Hiding) → Follows first start passed left list → Advances macros env level left list after next tokens → Follows first start (passed ++ tokens) after next
+  follows_on first start passed left list after next tokens so_far step n out d =
       let whole = so_far (suc n) _ (step.turn n out d) in
       (whole.0, rw append_assoc whole.1)
 
-  pub follows_end : (start passed list : List Hiding) (fault : Option Fault) → Follows start passed list → EndsWith macros env level list fault → ExpandsTo macros env level start (record { tokens = passed; fault = fault })
-  follows_end start passed list fault so_far d =
+  pub follows_end : (first : Option ℕ) (start passed : List Hiding) (left : Option ℕ) (list : List Hiding) (fault : Option Fault) (after : Option ℕ) → Follows first start passed left list → EndsWith macros env level left list fault after → ExpandsTo macros env level first start (record { tokens = passed; fault = fault; left = after })
+  follows_end first start passed left list fault after so_far d =
       let whole = so_far 0 _ d in
       (whole.0, rw (append-nil passed) at whole.1)
 
@@ -51,22 +51,22 @@ before_rest-more so_far a (Err fault) = refl
 
 module _ (macros : Macros) (env : Env) (level : ℕ) (call : Call) where
   -- the rest of the arguments decides the whole
-  abbrev pub ArgumentsFollow : List (Option (List Hiding)) → List (Option (List Hiding)) → List (Option (List Hiding)) → Type 0
-  ArgumentsFollow all so_far rest = (r : ExpandedArguments) → ExpandsArguments macros env level call rest r → ExpandsArguments macros env level call all (before_rest so_far r)
+  abbrev pub ArgumentsFollow : Option ℕ → List (Option (List Hiding)) → List (Option (List Hiding)) → Option ℕ → List (Option (List Hiding)) → Type 0
+  ArgumentsFollow first all so_far left rest = (after : Option ℕ) (r : ExpandedArguments) → ExpandsArguments macros env level call left rest after r → ExpandsArguments macros env level call first all after (before_rest so_far r)
 
-  pub arguments_start : (all : List (Option (List Hiding))) → ArgumentsFollow all [] all
-  arguments_start all (Ok as') d = d
-  arguments_start all (Err f) d = d
+  pub arguments_start : (left : Option ℕ) (all : List (Option (List Hiding))) → ArgumentsFollow left all [] left all
+  arguments_start left all after (Ok as') d = d
+  arguments_start left all after (Err f) d = d
 
-  pub arguments_unused : (all so_far rest : List (Option (List Hiding))) → ArgumentsFollow all so_far (None ∷ rest) → ArgumentsFollow all (so_far ++ None ∷ []) rest
-  arguments_unused all so_far rest h r d = subst (ExpandsArguments macros env level call all) (before_rest-more so_far None r) (h (with_expanded None r) (unused d))
+  pub arguments_unused : (first : Option ℕ) (all so_far : List (Option (List Hiding))) (left : Option ℕ) (rest : List (Option (List Hiding))) → ArgumentsFollow first all so_far left (None ∷ rest) → ArgumentsFollow first all (so_far ++ None ∷ []) left rest
+  arguments_unused first all so_far left rest h after r d = subst (ExpandsArguments macros env level call first all after) (before_rest-more so_far None r) (h after (with_expanded None r) (unused d))
 
-  pub arguments_used : (all so_far rest : List (Option (List Hiding))) (list tokens : List Hiding) → ArgumentsFollow all so_far (Some list ∷ rest) → ExpandsArgument macros env level call.head.token list (Ok tokens) → ArgumentsFollow all (so_far ++ Some tokens ∷ []) rest
-  arguments_used all so_far rest list tokens h (expands low one) r d = subst (ExpandsArguments macros env level call all) (before_rest-more so_far (Some tokens) r) (h (with_expanded (Some tokens) r) (used low one d))
+  pub arguments_used : (first : Option ℕ) (all so_far : List (Option (List Hiding))) (left between : Option ℕ) (rest : List (Option (List Hiding))) (list tokens : List Hiding) → ArgumentsFollow first all so_far left (Some list ∷ rest) → ExpandsArgument macros env level call.head.token left list between (Ok tokens) → ArgumentsFollow first all (so_far ++ Some tokens ∷ []) between rest
+  arguments_used first all so_far left between rest list tokens h (expands low one) after r d = subst (ExpandsArguments macros env level call first all after) (before_rest-more so_far (Some tokens) r) (h after (with_expanded (Some tokens) r) (used low one d))
 
-  pub arguments_refused : (all so_far rest : List (Option (List Hiding))) (list : List Hiding) (f : Fault) → ArgumentsFollow all so_far (Some list ∷ rest) → ExpandsArgument macros env level call.head.token list (Err f) → ExpandsArguments macros env level call all (Err f)
-  arguments_refused all so_far rest list f h (raises low one) = h (Err f) (used_refused low one)
-  arguments_refused all so_far rest list f h (deep high) = h (Err f) (too_deep high)
+  pub arguments_refused : (first : Option ℕ) (all so_far : List (Option (List Hiding))) (left after : Option ℕ) (rest : List (Option (List Hiding))) (list : List Hiding) (f : Fault) → ArgumentsFollow first all so_far left (Some list ∷ rest) → ExpandsArgument macros env level call.head.token left list after (Err f) → ExpandsArguments macros env level call first all after (Err f)
+  arguments_refused first all so_far left after rest list f h (raises low one) = h after (Err f) (used_refused low one)
+  arguments_refused first all so_far left after rest list f h (deep high) = h left (Err f) (too_deep high)
 
-  pub arguments_end : (all so_far : List (Option (List Hiding))) → ArgumentsFollow all so_far [] → ExpandsArguments macros env level call all (Ok so_far)
-  arguments_end all so_far h = rw (append-nil so_far) at (h (Ok []) none)
+  pub arguments_end : (first : Option ℕ) (all so_far : List (Option (List Hiding))) (left : Option ℕ) → ArgumentsFollow first all so_far left [] → ExpandsArguments macros env level call first all left (Ok so_far)
+  arguments_end first all so_far left h = rw (append-nil so_far) at (h left (Ok []) none)

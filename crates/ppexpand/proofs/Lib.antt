@@ -2,6 +2,8 @@ pub mod Termination
 pub mod Steps
 pub mod Total
 pub mod Unique
+pub mod Budget
+pub mod Refusing
 pub mod Bounds
 pub mod Follows
 pub mod Settled

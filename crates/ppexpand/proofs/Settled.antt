@@ -1,5 +1,5 @@
 -- A token that passes is settled.
-use Rattle.std.proofs.Common.{◌≡◌, ℕ, Bool, true, false, not, ◌||◌, List, [], ◌∷◌, Option, Some, None, Result, Ok, Err, if◌then◌else◌, refl, ap, ◌∙◌, subst}
+use Rattle.std.proofs.Common.{◌≡◌, ℕ, zero, suc, Bool, true, false, not, ◌||◌, List, [], ◌∷◌, Option, Some, None, Result, Ok, Err, if◌then◌else◌, refl, ap, ◌∙◌, subst}
 use Rattle.std.proofs.lemmas.List.Elements.{All-cons, All-nil}
 use Rattle.std.specs.List.{AllPass}
 use Rattle.std.specs.FinSet as set
@@ -13,8 +13,8 @@ use Rattle.ppmacro.specs.declared.macros.Shape.{Shape}
 use Rattle.ppmacro.specs.declared.macros.Shape.TheVariants.{Predefined, ObjectLike, FunctionLike}
 use Rattle.ppexpand.specs.declared.env.Env.{Env}
 use Rattle.ppexpand.specs.Arguments.{is_lone_quote, is_open, Gathered, Closed, Quoted, Unclosed, gather, separators, fitted}
-use Rattle.ppexpand.specs.Turn.{Turn, Refused, Passes, turn, macro_of, quote_fault, named_turn, macro_turn, function_turn, invoked, called, replaced_by}
-use Rattle.ppexpand.specs.Expansion.{Outcome, Expands, done, refused, passes, replaced, argument_refused, call_refused, call_replaced}
+use Rattle.ppexpand.specs.Turn.{Turn, Done, Refused, Passes, Failed, Replaced, Called, over, within, turn, macro_of, quote_fault, named_turn, macro_turn, function_turn, invoked, called, replaced_by}
+use Rattle.ppexpand.specs.Expansion.{Outcome, Expands, done, refused, passes, failed, replaced, argument_refused, call_failed, call_replaced}
 use Rattle.ppexpand.specs.Laws.{is_settled, is_always_replaced}
 
 or_true : (a : Bool) → (a || true) ≡ true
@@ -73,11 +73,26 @@ module _ (macros : Macros) (env : Env) where
         ] refl
       ] refl
 
-  pub all_settled : {level n : ℕ} {list : List Hiding} {out : Outcome} → Expands macros env level n list out → AllPass (is_settled macros) out.tokens
+  over_settles : (list : List Hiding) → Settles (over list)
+  over_settles [] = tt
+  over_settles (t ∷ rest) = tt
+
+  within_settles : (left : Option ℕ) (list : List Hiding) (t : Turn) → Settles t → Settles (within left list t)
+  within_settles None list t h = h
+  within_settles (Some (suc n)) list t h = h
+  within_settles (Some zero) list Done h = h
+  within_settles (Some zero) list (Refused f) h = h
+  within_settles (Some zero) list (Passes t rest) h = h
+  within_settles (Some zero) list (Failed f) h = over_settles list
+  within_settles (Some zero) list (Replaced next) h = over_settles list
+  within_settles (Some zero) list (Called call) h = over_settles list
+
+  pub all_settled : {level n : ℕ} {left : Option ℕ} {list : List Hiding} {out : Outcome} → Expands macros env level left n list out → AllPass (is_settled macros) out.tokens
   all_settled (done e) = All-nil (λ x. is_settled macros x ≡ true)
   all_settled (refused e) = All-nil (λ x. is_settled macros x ≡ true)
-  all_settled (passes {list = list} {t = t} {rest = rest} {out = out} e d) = All-cons (λ x. is_settled macros x ≡ true) t out.tokens (let settled : Settles (Passes t rest) = subst (λ x. Settles x) e (turn_settles list) in settled) (all_settled d)
+  all_settled (passes {left = left} {list = list} {t = t} {rest = rest} {out = out} e d) = All-cons (λ x. is_settled macros x ≡ true) t out.tokens (let settled : Settles (Passes t rest) = subst (λ x. Settles x) e (within_settles left list (turn macros env list) (turn_settles list)) in settled) (all_settled d)
+  all_settled (failed e) = All-nil (λ x. is_settled macros x ≡ true)
   all_settled (replaced e d) = all_settled d
   all_settled (argument_refused e a) = All-nil (λ x. is_settled macros x ≡ true)
-  all_settled (call_refused e a f) = All-nil (λ x. is_settled macros x ≡ true)
+  all_settled (call_failed e a f) = All-nil (λ x. is_settled macros x ≡ true)
   all_settled (call_replaced e a f d) = all_settled d

@@ -1,5 +1,5 @@
 -- Tokens that pass in a row.
-use Rattle.std.proofs.Common.{◌≡◌, ℕ, suc, ◌≤◌, Bool, true, false, not, ◌&&◌, List, [], ◌∷◌, ◌++◌, map, Option, Some, None, is_some, refl, sym, ap, ◌∙◌, subst, arith, append_assoc, append-nil, true≢false, if◌then◌else◌}
+use Rattle.std.proofs.Common.{◌≡◌, ℕ, zero, suc, ◌≤◌, Bool, true, false, not, ◌&&◌, List, [], ◌∷◌, ◌++◌, map, Option, Some, None, is_some, refl, sym, ap, ◌∙◌, subst, arith, append_assoc, append-nil, true≢false, if◌then◌else◌}
 use Rattle.std.specs.FinSet as set
 use Rattle.std.specs.FinMap as table
 use Rattle.std.specs.List.{AllByRecursion}
@@ -13,15 +13,14 @@ use Rattle.ppmacro.specs.Substitution.{plain}
 use Rattle.ppmacro.specs.Substituting.{tokens_of}
 use Rattle.ppmacro.proofs.KeepLemmas.{known-front, known-behind, known-append}
 use Rattle.ppmacro.specs.declared.flying.Hidden.{Hidden}
-use Rattle.ppmacro.specs.declared.macros.Definition.{Definition}
 use Rattle.ppexpand.specs.declared.env.Env.{Env}
 use Rattle.ppexpand.specs.Arguments.{is_lone_quote}
-use Rattle.ppexpand.specs.Turn.{Passes, named_turn, macro_of, turn}
-use Rattle.ppexpand.specs.Expansion.{Outcome, Expands, ExpandsTo, IsExpansion, passes, done, ended}
+use Rattle.ppexpand.specs.Turn.{Passes, macro_of, turn, within}
+use Rattle.ppexpand.specs.Expansion.{Outcome, turn_within, Expands, ExpandsTo, IsExpansion, passes, done, ended}
 use Rattle.ppexpand.specs.declared.expansion.Expanded.{Expanded}
 use Rattle.ppexpand.specs.Lists.{with_set, is_plain, is_inert, ArePlain}
 use Rattle.ppexpand.specs.Skipping.{HasSkipped}
-use Rattle.ppexpand.proofs.TurnLemmas.{turn-unnamed}
+use Rattle.ppexpand.proofs.TurnLemmas.{turn-unnamed, passes-within}
 use Rattle.ppexpand.proofs.Total.{total}
 use Rattle.ppexpand.proofs.Unique.{same_outcome}
 use Rattle.ppexpand.proofs.Follows.{Follows, turns_left}
@@ -39,17 +38,17 @@ none_of : {A : Type 0} (o : Option A) → is_some o ≡ false → o ≡ None
 none_of None h = refl
 none_of (Some a) h = absurd (true≢false h)
 
-turn-plain : (macros : Macros) (env : Env) (t : Hiding) (rest : List Hiding) → is_plain macros t.token ≡ true → turn macros env (t ∷ rest) ≡ Passes t rest
-turn-plain macros env t rest h =
+turn-plain : (macros : Macros) (env : Env) (left : Option ℕ) (t : Hiding) (rest : List Hiding) → is_plain macros t.token ≡ true → turn_within macros env left (t ∷ rest) ≡ Passes t rest
+turn-plain macros env left t rest h =
     let parts = both_false (is_lone_quote t.token) (is_some (macro_of macros t.token)) h in
     let none : macro_of macros t.token ≡ None = none_of (macro_of macros t.token) parts.1 in
-    turn-unnamed macros env t rest parts.0 none
+    ap (within left (t ∷ rest)) (turn-unnamed macros env t rest parts.0 none) ∙ passes-within left (t ∷ rest) t rest
 
 -- a list has this outcome in no fewer turns
-pub record Takes (macros : Macros) (env : Env) (level n : ℕ) (list : List Hiding) (out : Outcome) : Type 0 where
+pub record Takes (macros : Macros) (env : Env) (level : ℕ) (left : Option ℕ) (n : ℕ) (list : List Hiding) (out : Outcome) : Type 0 where
   pub turns : ℕ
   pub more : n ≤ turns
-  pub is : Expands macros env level turns list out
+  pub is : Expands macros env level left turns list out
 
 -- ---- more tokens in a row
 
@@ -76,31 +75,36 @@ inert-plain macros t h =
 pub skipped-one : (macros : Macros) (h : Hidden) (list next passed : List Hidden) → list ≡ h ∷ next → is_inert h.token ≡ true → HasSkipped macros list passed next (passed ++ h ∷ [])
 skipped-one macros h list next passed is inert = record { skipped = h ∷ []; laid_out = is; passes = refl; plain = record { each = (inert-plain macros h.token inert, tt) } }
 
-module _ (macros : Macros) (env : Env) (level : ℕ) (s : Numbered) where
-  skips : (hs rest : List Hidden) → ArePlain macros hs → (n : ℕ) (out : Outcome) → Expands macros env level n (hidings s rest) out → Takes macros env level n (hidings s (hs ++ rest)) (record { tokens = hidings s hs ++ out.tokens; fault = out.fault })
+module _ (macros : Macros) (env : Env) (level : ℕ) (left : Option ℕ) (s : Numbered) where
+  skips : (hs rest : List Hidden) → ArePlain macros hs → (n : ℕ) (out : Outcome) → Expands macros env level left n (hidings s rest) out
+      → Takes macros env level left n (hidings s (hs ++ rest)) (record { tokens = hidings s hs ++ out.tokens; fault = out.fault; left = out.left })
   skips [] rest h n out d = record { turns = n; more = omega arith; is = d }
   skips (t ∷ ts) rest h n out d =
       let after = skips ts rest (record { each = h.each.1 }) n out d in
       let more = after.more in
-      record { turns = suc after.turns; more = omega arith; is = passes (turn-plain macros env (hiding s t) (hidings s (ts ++ rest)) h.each.0) after.is }
+      record { turns = suc after.turns; more = omega arith; is = passes (turn-plain macros env left (hiding s t) (hidings s (ts ++ rest)) h.each.0) after.is }
 
-  pub skipped_after : (list passed next more : List Hidden) (k : HasSkipped macros list passed next more) → (n : ℕ) (out : Outcome) → Expands macros env level n (hidings s next) out → Takes macros env level n (hidings s list) (record { tokens = hidings s k.skipped ++ out.tokens; fault = out.fault })
-  skipped_after list passed next more k n out d = subst (λ l. Takes macros env level n (hidings s l) (record { tokens = hidings s k.skipped ++ out.tokens; fault = out.fault })) (sym k.laid_out) (skips k.skipped next k.plain n out d)
+  pub skipped_after : (list passed next more : List Hidden) (k : HasSkipped macros list passed next more) → (n : ℕ) (out : Outcome) → Expands macros env level left n (hidings s next) out
+      → Takes macros env level left n (hidings s list) (record { tokens = hidings s k.skipped ++ out.tokens; fault = out.fault; left = out.left })
+  skipped_after list passed next more k n out d =
+      subst (λ l. Takes macros env level left n (hidings s l) (record { tokens = hidings s k.skipped ++ out.tokens; fault = out.fault; left = out.left })) (sym k.laid_out) (skips k.skipped next k.plain n out d)
 
   -- what follows is what is left behind them
-  pub follows_skip : (start : List Hiding) (list passed next more : List Hidden) → HasSkipped macros list passed next more → Follows macros env level start (hidings s passed) (hidings s list) → Follows macros env level start (hidings s more) (hidings s next)
-  follows_skip start list passed next more k so_far n out d =
+  pub follows_skip : (first : Option ℕ) (start : List Hiding) (list passed next more : List Hidden) → HasSkipped macros list passed next more
+      → Follows macros env level first start (hidings s passed) left (hidings s list)
+      → Follows macros env level first start (hidings s more) left (hidings s next)
+  follows_skip first start list passed next more k so_far n out d =
       let after = skipped_after list passed next more k n out d in
       let whole = so_far after.turns _ after.is in
       let tokens : hidings s passed ++ (hidings s k.skipped ++ out.tokens) ≡ hidings s more ++ out.tokens =
       sym (append_assoc (hidings s passed) (hidings s k.skipped) out.tokens) ∙ ap (λ hs. hs ++ out.tokens) (sym (ap (hidings s) k.passes ∙ map-append (hiding s) passed k.skipped)) in
-      (whole.0, subst (λ ts. Expands macros env level whole.0 start (record { tokens = ts; fault = out.fault })) tokens whole.1)
+      (whole.0, subst (λ ts. Expands macros env level first whole.0 start (record { tokens = ts; fault = out.fault; left = out.left })) tokens whole.1)
 
   -- no more turns are left behind them
-  pub skip_falls : (list passed next more : List Hidden) → HasSkipped macros list passed next more → turns_left macros env level (hidings s next) ≤ turns_left macros env level (hidings s list)
+  pub skip_falls : (list passed next more : List Hidden) → HasSkipped macros list passed next more → turns_left macros env level left (hidings s next) ≤ turns_left macros env level left (hidings s list)
   skip_falls list passed next more k =
-      let here = total macros env level (hidings s list) in
-      let there = total macros env level (hidings s next) in
+      let here = total macros env level left (hidings s list) in
+      let there = total macros env level left (hidings s next) in
       let after = skipped_after list passed next more k there.0 there.1 there.2 in
       let same = (same_outcome macros env after.is here.0 here.1 here.2).0 in
       let more = after.more in
@@ -126,44 +130,49 @@ tokens-with_set n [] = refl
 tokens-with_set n (t ∷ ts) = ap (λ us. t ∷ us) (tokens-with_set n ts)
 
 -- tokens that pass, before a list
-pub expands-front : (macros : Macros) (env : Env) (level : ℕ) (front : List Token) (rest : List Hiding) (out : Outcome) → AllByRecursion (λ t. is_plain macros t ≡ true) front → ExpandsTo macros env level rest out → ExpandsTo macros env level (map plain front ++ rest) (record { tokens = map plain front ++ out.tokens; fault = out.fault })
-expands-front macros env level [] rest out h d = d
-expands-front macros env level (t ∷ ts) rest out h d =
-    let after = expands-front macros env level ts rest out h.1 d in
-    (suc after.0, passes (turn-plain macros env (plain t) (map plain ts ++ rest) h.0) after.1)
+pub expands-front : (macros : Macros) (env : Env) (level : ℕ) (left : Option ℕ) (front : List Token) (rest : List Hiding) (out : Outcome) → AllByRecursion (λ t. is_plain macros t ≡ true) front → ExpandsTo macros env level left rest out
+    → ExpandsTo macros env level left (map plain front ++ rest) (record { tokens = map plain front ++ out.tokens; fault = out.fault; left = out.left })
+expands-front macros env level left [] rest out h d = d
+expands-front macros env level left (t ∷ ts) rest out h d =
+    let after = expands-front macros env level left ts rest out h.1 d in
+    (suc after.0, passes (turn-plain macros env left (plain t) (map plain ts ++ rest) h.0) after.1)
 
 -- the empty list
-pub expands-nothing : (macros : Macros) (env : Env) (level : ℕ) → ExpandsTo macros env level [] (ended None)
+pub expands-nothing : (macros : Macros) (env : Env) (level : ℕ) (left : Option ℕ) → ExpandsTo macros env level left [] (ended left None)
 unfolding turn
-expands-nothing macros env level = (0, done refl)
+expands-nothing macros env level None = (0, done refl)
+expands-nothing macros env level (Some zero) = (0, done refl)
+expands-nothing macros env level (Some (suc n)) = (0, done refl)
 
 pub tokens-plain : (ts : List Token) → map (λ t. t.token) (map plain ts) ≡ ts
 tokens-plain [] = refl
 tokens-plain (t ∷ ts) = ap (λ us. t ∷ us) (tokens-plain ts)
 
 -- tokens that pass before what the rest is expanded to
-pub expansion-behind : (macros : Macros) (env : Env) (tokens front rest : List Token) (e : Expanded) (out : Outcome)
+pub expansion-behind : (macros : Macros) (env : Env) (left : Option ℕ) (tokens front rest : List Token) (e : Expanded) (out : Outcome)
     → tokens ≡ front ++ rest
     → AllByRecursion (λ t. is_plain macros t ≡ true) front
-    → ExpandsTo macros env 0 (map plain rest) out
+    → ExpandsTo macros env 0 left (map plain rest) out
     → e.tokens ≡ front ++ map (λ t. t.token) out.tokens
     → e.fault ≡ out.fault
-    → IsExpansion macros env tokens e
-expansion-behind macros env tokens front rest e out laid_out h d is ends =
-    let whole : Outcome = record { tokens = map plain front ++ out.tokens; fault = out.fault } in
+    → e.left ≡ out.left
+    → IsExpansion macros env left tokens e
+expansion-behind macros env left tokens front rest e out laid_out h d is ends leaves =
+    let whole : Outcome = record { tokens = map plain front ++ out.tokens; fault = out.fault; left = out.left } in
     record {
       outcome = whole;
-      expands = subst (λ ts. ExpandsTo macros env 0 ts whole) (sym (ap (map plain) laid_out ∙ map-append plain front rest)) (expands-front macros env 0 front (map plain rest) out h d);
+      expands = subst (λ ts. ExpandsTo macros env 0 left ts whole) (sym (ap (map plain) laid_out ∙ map-append plain front rest)) (expands-front macros env 0 left front (map plain rest) out h d);
       passed = is ∙ (λ i. sym (tokens-plain front) i ++ map (λ t. t.token) out.tokens) ∙ sym (map-append (λ t. t.token) (map plain front) out.tokens);
       ended = ends;
+      left_over = leaves;
     }
 
 -- tokens that all pass are expanded to themselves
-pub plain-expands : (macros : Macros) (env : Env) (level : ℕ) (s : Numbered) (hs : List Hidden) → ArePlain macros hs → ExpandsTo macros env level (hidings s hs) (record { tokens = hidings s hs; fault = None })
-plain-expands macros env level s [] h = expands-nothing macros env level
-plain-expands macros env level s (t ∷ ts) h =
-    let after = plain-expands macros env level s ts (record { each = h.each.1 }) in
-    (suc after.0, passes (turn-plain macros env (hiding s t) (hidings s ts) h.each.0) after.1)
+pub plain-expands : (macros : Macros) (env : Env) (level : ℕ) (left : Option ℕ) (s : Numbered) (hs : List Hidden) → ArePlain macros hs → ExpandsTo macros env level left (hidings s hs) (record { tokens = hidings s hs; fault = None; left = left })
+plain-expands macros env level left s [] h = expands-nothing macros env level left
+plain-expands macros env level left s (t ∷ ts) h =
+    let after = plain-expands macros env level left s ts (record { each = h.each.1 }) in
+    (suc after.0, passes (turn-plain macros env left (hiding s t) (hidings s ts) h.each.0) after.1)
 
 pub plain-more : (macros : Macros) (hs : List Hidden) (h : Hidden) → ArePlain macros hs → is_plain macros h.token ≡ true → ArePlain macros (hs ++ h ∷ [])
 plain-more macros hs h p k = plain-append macros hs (h ∷ []) p (record { each = (k, tt) })

@@ -21,7 +21,8 @@ use Rattle.ppmacro.specs.Substitution.{Arguments, Marked, substituted, after_ok,
 use Rattle.ppexpand.specs.Arguments.{Gathered, Closed, Quoted, Unclosed, mark_of, gather, separators, fitted, separates, fewer, with_token, with_argument, is_open, is_lone_quote}
 use Rattle.ppexpand.specs.declared.env.Env.{Env}
 use Rattle.ppexpand.specs.declared.spellings.Mark.TheVariants.{Quote, Open, Close, Comma, Inner}
-use Rattle.ppexpand.specs.Turn.{Call, Turn, Done, Refused, Passes, Replaced, Called, turn, finished, mark_next, followed_by, replaced_by, gain_of, quote_fault, called, invoked, function_turn, macro_turn, named_turn, macro_of}
+use Rattle.ppexpand.specs.Turn.{Call, Turn, Done, Refused, Passes, Failed, Replaced, Called, turn, over, within, finished, mark_next, followed_by, replaced_by, gain_of, quote_fault, called, invoked, function_turn, macro_turn, named_turn, macro_of}
+use Rattle.ppexpand.specs.Expansion.{turn_within}
 use Rattle.ppexpand.proofs.Termination.{Each, Among, Step, object, function}
 
 -- the hide sets of a list
@@ -145,6 +146,7 @@ module _ (macros : Macros) (env : Env) where
   StepsTo list Done = Unit {0}
   StepsTo list (Refused fault) = Unit {0}
   StepsTo list (Passes t rest) = list ≡ t ∷ rest
+  StepsTo list (Failed fault) = Unit {0}
   StepsTo list (Replaced next) = HideStep (hides list) (hides next)
   StepsTo list (Called call) = Found list call
 
@@ -220,10 +222,27 @@ module _ (macros : Macros) (env : Env) where
         ] refl
       ]
 
+  over_steps : (list : List Hiding) → StepsTo list (over list)
+  over_steps [] = tt
+  over_steps (t ∷ rest) = tt
+
+  within_steps : (left : Option ℕ) (list : List Hiding) (t : Turn) → StepsTo list t → StepsTo list (within left list t)
+  within_steps None list t h = h
+  within_steps (Some (suc n)) list t h = h
+  within_steps (Some zero) list Done h = h
+  within_steps (Some zero) list (Refused f) h = h
+  within_steps (Some zero) list (Passes t rest) h = h
+  within_steps (Some zero) list (Failed f) h = over_steps list
+  within_steps (Some zero) list (Replaced next) h = over_steps list
+  within_steps (Some zero) list (Called call) h = over_steps list
+
+  pub turn_within_steps : (left : Option ℕ) (list : List Hiding) → StepsTo list (turn_within macros env left list)
+  turn_within_steps left list = within_steps left list (turn macros env list) (turn_steps list)
+
   -- the turn once a call's arguments are expanded
   abbrev pub FinishesTo : List Hiding → Turn → Type 0
   FinishesTo list (Replaced next) = HideStep (hides list) (hides next)
-  FinishesTo list (Refused fault) = Unit {0}
+  FinishesTo list (Failed fault) = Unit {0}
   FinishesTo list _ = ⊥
 
   finishes : (list : List Hiding) (call : Call) → Found list call → (r : Result Marked Fault) → ((m : Marked) → r ≡ Ok m → Each (HasGain call.gain) m.tokens) → FinishesTo list (replaced_by r call.behind)

@@ -6,84 +6,85 @@ use Rattle.pptext.specs.declared.tokens.Fault.{Fault}
 use Rattle.ppmacro.specs.Names.{HideSet, Macros}
 use Rattle.ppmacro.specs.HideSets.{Hiding}
 use Rattle.ppexpand.specs.declared.env.Env.{Env}
-use Rattle.ppexpand.specs.Turn.{Call, Turn, Done, Refused, Passes, Replaced, Called, turn, wanted, finished, fault_at_use}
-use Rattle.ppexpand.specs.Expansion.{Outcome, ExpandedArguments, with_expanded, Expands, done, refused, passes, replaced, argument_refused, call_refused, call_replaced, ExpandsArguments, none, unused, too_deep, used, used_refused}
+use Rattle.ppexpand.specs.Turn.{Call, Turn, Done, Refused, Passes, Failed, Replaced, Called, less_one, wanted, finished, fault_at_use}
+use Rattle.ppexpand.specs.Expansion.{Outcome, ExpandedArguments, with_expanded, turn_within, Expands, done, refused, passes, failed, replaced, argument_refused, call_failed, call_replaced, ExpandsArguments, none, unused, too_deep, used, used_refused}
 use Rattle.ppexpand.proofs.Termination as ending
 use Rattle.ppexpand.proofs.Steps as steps
 use native.Mathlib.Decide.{dec_lt}
 
 module _ (macros : Macros) (env : Env) where
   -- a list has some outcome, after some number of steps
-  abbrev pub HasOutcome : ℕ → List Hiding → Type 0
-  HasOutcome level list = (n : ℕ) × (out : Outcome) × Expands macros env level n list out
+  abbrev pub HasOutcome : ℕ → Option ℕ → List Hiding → Type 0
+  HasOutcome level left list = (n : ℕ) × (out : Outcome) × Expands macros env level left n list out
 
-  abbrev pub HasExpanded : ℕ → Call → List (Option (List Hiding)) → Type 0
-  HasExpanded level call as' = (r : ExpandedArguments) × ExpandsArguments macros env level call as' r
+  abbrev pub HasExpanded : ℕ → Call → Option ℕ → List (Option (List Hiding)) → Type 0
+  HasExpanded level call left as' = (after : Option ℕ) × (r : ExpandedArguments) × ExpandsArguments macros env level call left as' after r
 
   abbrev Deeper : ℕ → Type 0
-  Deeper level = level < 256 → (list : List Hiding) → HasOutcome (suc level) list
+  Deeper level = level < 256 → (left : Option ℕ) (list : List Hiding) → HasOutcome (suc level) left list
 
-  by_outcome : (level : ℕ) (call : Call) (list : List Hiding) (rest : List (Option (List Hiding))) → level < 256 → HasExpanded level call rest → (n : ℕ) (tokens : List Hiding) (fault : Option Fault) → Expands macros env (suc level) n list (record { tokens = tokens; fault = fault }) → HasExpanded level call (Some list ∷ rest)
-  by_outcome level call list rest h more n tokens None d = (with_expanded (Some tokens) more.0, used h d more.1)
-  by_outcome level call list rest h more n tokens (Some f) d = (Err f, used_refused h d)
+  by_outcome : (level : ℕ) (call : Call) (left : Option ℕ) (list : List Hiding) (rest : List (Option (List Hiding))) → level < 256 → ((between : Option ℕ) → HasExpanded level call between rest) → (n : ℕ) (tokens : List Hiding) (fault : Option Fault) (between : Option ℕ) → Expands macros env (suc level) left n list (record { tokens = tokens; fault = fault; left = between }) → HasExpanded level call left (Some list ∷ rest)
+  by_outcome level call left list rest h more n tokens None between d = let m = more between in (m.0, with_expanded (Some tokens) m.1, used h d m.2)
+  by_outcome level call left list rest h more n tokens (Some f) between d = (between, Err f, used_refused h d)
 
-  arguments_total : (level : ℕ) → Deeper level → (call : Call) (as' : List (Option (List Hiding))) → HasExpanded level call as'
-  arguments_total level deeper call [] = (Ok [], none)
-  arguments_total level deeper call (None ∷ rest) =
-      let more : HasExpanded level call rest = arguments_total level deeper call rest in
-      (with_expanded None more.0, unused more.1)
-  arguments_total level deeper call (Some list ∷ rest) =
-      let more : HasExpanded level call rest = arguments_total level deeper call rest in
+  arguments_total : (level : ℕ) → Deeper level → (call : Call) (left : Option ℕ) (as' : List (Option (List Hiding))) → HasExpanded level call left as'
+  arguments_total level deeper call left [] = (left, Ok [], none)
+  arguments_total level deeper call left (None ∷ rest) =
+      let more : HasExpanded level call left rest = arguments_total level deeper call left rest in
+      (more.0, with_expanded None more.1, unused more.2)
+  arguments_total level deeper call left (Some list ∷ rest) =
       elim (dec_lt level 256) [
-        | yes h ↦ (let one : HasOutcome (suc level) list = deeper h list in by_outcome level call list rest h more one.0 one.1.tokens one.1.fault one.2)
-        | no h ↦ (Err (fault_at_use 21 call.head), too_deep (omega arith))
+        | yes h ↦ (let one : HasOutcome (suc level) left list = deeper h left list in by_outcome level call left list rest h (λ between. arguments_total level deeper call between rest) one.0 one.1.tokens one.1.fault one.1.left one.2)
+        | no h ↦ (left, Err (fault_at_use 21 call.head), too_deep (omega arith))
       ]
 
   Ends : List HideSet → Type 0
   Ends = ending.Ends set.contains steps.same_name (table.keys macros)
 
   abbrev Later : ℕ → List Hiding → Type 0
-  Later level list = (next : List Hiding) → steps.HideStep macros env (steps.hides list) (steps.hides next) → HasOutcome level next
+  Later level list = (left : Option ℕ) (next : List Hiding) → steps.HideStep macros env (steps.hides list) (steps.hides next) → HasOutcome level left next
 
-  after_call : (level : ℕ) (list : List Hiding) → Later level list → (call : Call) → turn macros env list ≡ Called call → (r : ExpandedArguments) → ExpandsArguments macros env level call (wanted call) r → ((as' : List (Option (List Hiding))) → steps.FinishesTo macros env list (finished call as')) → HasOutcome level list
-  after_call level list later call e (Err fault) a ends = (0, record { tokens = []; fault = Some fault }, argument_refused e a)
-  after_call level list later call e (Ok as') a ends = by_end (finished call as') refl (ends as')
+  after_call : (level : ℕ) (left : Option ℕ) (list : List Hiding) → Later level list → (call : Call) → turn_within macros env left list ≡ Called call → (after : Option ℕ) (r : ExpandedArguments) → ExpandsArguments macros env level call (less_one left) (wanted call) after r → ((as' : List (Option (List Hiding))) → steps.FinishesTo macros env list (finished call as')) → HasOutcome level left list
+  after_call level left list later call e after (Err fault) a ends = (0, record { tokens = []; fault = Some fault; left = after }, argument_refused e a)
+  after_call level left list later call e after (Ok as') a ends = by_end (finished call as') refl (ends as')
     where
-      by_end : (t : Turn) → finished call as' ≡ t → steps.FinishesTo macros env list t → HasOutcome level list
+      by_end : (t : Turn) → finished call as' ≡ t → steps.FinishesTo macros env list t → HasOutcome level left list
       by_end Done f h = absurd h
-      by_end (Refused fault) f h = (0, record { tokens = []; fault = Some fault }, call_refused e a f)
+      by_end (Refused fault) f h = absurd h
+      by_end (Failed fault) f h = (0, record { tokens = []; fault = Some fault; left = after }, call_failed e a f)
       by_end (Passes t rest) f h = absurd h
       by_end (Replaced next) f h =
-          let rest : HasOutcome level next = later next h in
+          let rest : HasOutcome level after next = later after next h in
           (suc rest.0, rest.1, call_replaced e a f rest.2)
       by_end (Called c) f h = absurd h
 
-  by_turn : (level : ℕ) → Deeper level → (list : List Hiding) → Later level list → (t : Turn) → turn macros env list ≡ t → steps.StepsTo macros env list t → HasOutcome level list
-  by_turn level deeper list later Done e h = (0, record { tokens = []; fault = None }, done e)
-  by_turn level deeper list later (Refused fault) e h = (0, record { tokens = []; fault = Some fault }, refused e)
-  by_turn level deeper list later (Passes t rest) e h =
+  by_turn : (level : ℕ) → Deeper level → (left : Option ℕ) (list : List Hiding) → Later level list → (t : Turn) → turn_within macros env left list ≡ t → steps.StepsTo macros env list t → HasOutcome level left list
+  by_turn level deeper left list later Done e h = (0, record { tokens = []; fault = None; left = left }, done e)
+  by_turn level deeper left list later (Refused fault) e h = (0, record { tokens = []; fault = Some fault; left = left }, refused e)
+  by_turn level deeper left list later (Passes t rest) e h =
       let step : steps.HideStep macros env (steps.hides list) (steps.hides rest) = rw h ending.passes in
-      let more : HasOutcome level rest = later rest step in
-      (suc more.0, record { tokens = t ∷ more.1.tokens; fault = more.1.fault }, passes e more.2)
-  by_turn level deeper list later (Replaced next) e h =
-      let more : HasOutcome level next = later next h in
+      let more : HasOutcome level left rest = later left rest step in
+      (suc more.0, record { tokens = t ∷ more.1.tokens; fault = more.1.fault; left = more.1.left }, passes e more.2)
+  by_turn level deeper left list later (Failed fault) e h = (0, record { tokens = []; fault = Some fault; left = less_one left }, failed e)
+  by_turn level deeper left list later (Replaced next) e h =
+      let more : HasOutcome level (less_one left) next = later (less_one left) next h in
       (suc more.0, more.1, replaced e more.2)
-  by_turn level deeper list later (Called call) e h =
-      let as' : HasExpanded level call (wanted call) = arguments_total level deeper call (wanted call) in
-      after_call level list later call e as'.0 as'.1 (λ bs. steps.finished_steps macros env list call bs h)
+  by_turn level deeper left list later (Called call) e h =
+      let as' : HasExpanded level call (less_one left) (wanted call) = arguments_total level deeper call (less_one left) (wanted call) in
+      after_call level left list later call e as'.0 as'.1 as'.2 (λ bs. steps.finished_steps macros env list call bs h)
 
-  list_total : (level : ℕ) → Deeper level → (hs : List HideSet) → Ends hs → (list : List Hiding) → steps.hides list ≡ hs → HasOutcome level list
+  list_total : (level : ℕ) → Deeper level → (hs : List HideSet) → Ends hs → (left : Option ℕ) (list : List Hiding) → steps.hides list ≡ hs → HasOutcome level left list
   unfolding Ends
-  list_total level deeper hs (ending.ends more) list e =
-      by_turn level deeper list (λ next step. list_total level deeper (steps.hides next) (more (steps.hides next) (subst (λ x. steps.HideStep macros env x (steps.hides next)) e step)) next refl) (turn macros env list) refl (steps.turn_steps macros env list)
+  list_total level deeper hs (ending.ends more) left list e =
+      by_turn level deeper left list (λ after next step. list_total level deeper (steps.hides next) (more (steps.hides next) (subst (λ x. steps.HideStep macros env x (steps.hides next)) e step)) after next refl) (turn_within macros env left list) refl (steps.turn_within_steps macros env left list)
 
   all_end : (xs : List Hiding) → Ends (steps.hides xs)
   unfolding Ends
   all_end xs = ending.all_end set.contains steps.same_name (table.keys macros) steps.same_name_is steps.same_name_self (steps.hides xs)
 
-  by_levels : (room level : ℕ) → 256 ≤ level + room → (list : List Hiding) → HasOutcome level list
-  by_levels zero level h list = list_total level (λ low. absurd (omega arith)) (steps.hides list) (all_end list) list refl
-  by_levels (suc room) level h list = list_total level (λ low. by_levels room (suc level) (omega arith)) (steps.hides list) (all_end list) list refl
+  by_levels : (room level : ℕ) → 256 ≤ level + room → (left : Option ℕ) (list : List Hiding) → HasOutcome level left list
+  by_levels zero level h left list = list_total level (λ low. absurd (omega arith)) (steps.hides list) (all_end list) left list refl
+  by_levels (suc room) level h left list = list_total level (λ low. by_levels room (suc level) (omega arith)) (steps.hides list) (all_end list) left list refl
 
-  pub total : (level : ℕ) (list : List Hiding) → HasOutcome level list
-  total level list = by_levels 256 level (omega arith) list
+  pub total : (level : ℕ) (left : Option ℕ) (list : List Hiding) → HasOutcome level left list
+  total level left list = by_levels 256 level (omega arith) left list

@@ -1,11 +1,12 @@
 -- The turn of a list by its next token.
-use Rattle.std.proofs.Common.{◌≡◌, true, false, List, ◌∷◌, None, refl, ap, ◌∙◌}
+use Rattle.std.proofs.Common.{◌≡◌, ℕ, zero, suc, true, false, true≢false, List, ◌∷◌, Option, Some, None, refl, sym, ap, ◌∙◌}
 use Rattle.std.specs.FinSet as set
 use Rattle.ppmacro.specs.Names.{Macros}
 use Rattle.ppmacro.specs.HideSets.{Hiding}
+use Rattle.pptext.specs.declared.tokens.Fault.{Fault}
 use Rattle.ppexpand.specs.declared.env.Env.{Env}
 use Rattle.ppexpand.specs.Arguments.{is_lone_quote}
-use Rattle.ppexpand.specs.Turn.{Refused, Passes, quote_fault, named_turn, macro_of, turn}
+use Rattle.ppexpand.specs.Turn.{Done, Refused, Passes, quote_fault, named_turn, Turn, macro_of, turn, within, is_spent}
 
 pub turn-quote : (macros : Macros) (env : Env) (t : Hiding) (rest : List Hiding) → is_lone_quote t.token ≡ true → turn macros env (t ∷ rest) ≡ Refused (quote_fault t)
 unfolding turn
@@ -25,3 +26,30 @@ turn-unnamed macros env t rest quote none = elim (set.contains t.hide t.token.te
   | true ↦ λ k. turn-hidden macros env t rest quote k
   | false ↦ λ k. turn-named macros env t rest quote k ∙ ap (named_turn env t rest) none
 ] refl
+
+-- ---- what costs nothing is the same whatever is left
+
+pub done-within : (left : Option ℕ) (list : List Hiding) → within left list Done ≡ Done
+done-within None list = refl
+done-within (Some zero) list = refl
+done-within (Some (suc n)) list = refl
+
+pub refused-within : (left : Option ℕ) (list : List Hiding) (f : Fault) → within left list (Refused f) ≡ Refused f
+refused-within None list f = refl
+refused-within (Some zero) list f = refl
+refused-within (Some (suc n)) list f = refl
+
+pub passes-within : (left : Option ℕ) (list : List Hiding) (t : Hiding) (rest : List Hiding) → within left list (Passes t rest) ≡ Passes t rest
+passes-within None list t rest = refl
+passes-within (Some zero) list t rest = refl
+passes-within (Some (suc n)) list t rest = refl
+
+pub free-within : (left : Option ℕ) (list : List Hiding) (t : Turn) → is_spent left ≡ false → within left list t ≡ t
+free-within None list t h = refl
+free-within (Some zero) list t h = absurd (true≢false h)
+free-within (Some (suc n)) list t h = refl
+
+pub nothing_left : (left : Option ℕ) → is_spent left ≡ true → left ≡ Some 0
+nothing_left None h = absurd (true≢false (sym h))
+nothing_left (Some zero) h = refl
+nothing_left (Some (suc n)) h = absurd (true≢false (sym h))

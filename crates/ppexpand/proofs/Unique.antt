@@ -4,188 +4,221 @@ use Rattle.pptext.specs.declared.tokens.Fault.{Fault}
 use Rattle.ppmacro.specs.Names.{Macros}
 use Rattle.ppmacro.specs.HideSets.{Hiding}
 use Rattle.ppexpand.specs.declared.env.Env.{Env}
-use Rattle.ppexpand.specs.Turn.{Call, Done, Refused, Passes, Replaced, Called, turn, wanted, finished, fault_at_use}
-use Rattle.ppexpand.specs.Expansion.{Outcome, ExpandedArguments, with_expanded, Expands, done, refused, passes, replaced, argument_refused, call_refused, call_replaced, ExpandsArguments, none, unused, too_deep, used, used_refused}
+use Rattle.ppexpand.specs.Turn.{Call, Done, Refused, Passes, Failed, Replaced, Called, less_one, wanted, finished, fault_at_use}
+use Rattle.ppexpand.specs.Expansion.{Outcome, ExpandedArguments, with_expanded, turn_within, Expands, done, refused, passes, failed, replaced, argument_refused, call_failed, call_replaced, ExpandsArguments, none, unused, too_deep, used, used_refused}
 
 module _ (macros : Macros) (env : Env) where
   -- what a list's outcome is, by its turn
-  abbrev pub IsDone : ℕ → Outcome → Type 0
-  IsDone turns out = (turns ≡ 0) × (out ≡ record { tokens = []; fault = None })
+  abbrev pub IsDone : Option ℕ → ℕ → Outcome → Type 0
+  IsDone left turns out = (turns ≡ 0) × (out ≡ record { tokens = []; fault = None; left = left })
 
-  abbrev pub IsRefused : Fault → ℕ → Outcome → Type 0
-  IsRefused fault turns out = (turns ≡ 0) × (out ≡ record { tokens = []; fault = Some fault })
+  abbrev pub IsRefused : Fault → Option ℕ → ℕ → Outcome → Type 0
+  IsRefused fault left turns out = (turns ≡ 0) × (out ≡ record { tokens = []; fault = Some fault; left = left })
 
-  abbrev pub IsPassed : ℕ → Hiding → List Hiding → ℕ → Outcome → Type 0
-  IsPassed level t rest turns out = (before : ℕ) × (out' : Outcome) × (turns ≡ suc before) × (out ≡ record { tokens = t ∷ out'.tokens; fault = out'.fault }) × Expands macros env level before rest out'
+  abbrev pub IsPassed : ℕ → Option ℕ → Hiding → List Hiding → ℕ → Outcome → Type 0
+  IsPassed level left t rest turns out = (before : ℕ) × (out' : Outcome) × (turns ≡ suc before) × (out ≡ record { tokens = t ∷ out'.tokens; fault = out'.fault; left = out'.left }) × Expands macros env level left before rest out'
 
-  abbrev pub IsReplaced : ℕ → List Hiding → ℕ → Outcome → Type 0
-  IsReplaced level next turns out = (before : ℕ) × (turns ≡ suc before) × Expands macros env level before next out
+  abbrev pub IsReplaced : ℕ → Option ℕ → List Hiding → ℕ → Outcome → Type 0
+  IsReplaced level left next turns out = (before : ℕ) × (turns ≡ suc before) × Expands macros env level left before next out
 
-  pub at_done : {level turns : ℕ} {list : List Hiding} {out : Outcome} → turn macros env list ≡ Done → Expands macros env level turns list out → IsDone turns out
+  pub at_done : {level turns : ℕ} {left : Option ℕ} {list : List Hiding} {out : Outcome} → turn_within macros env left list ≡ Done → Expands macros env level left turns list out → IsDone left turns out
   at_done e (done e') = (refl, refl)
-  at_done e (refused e') = cc
+  at_done e (refused e') = absurd (cc)
   at_done e (passes e' d) = absurd (cc)
+  at_done e (failed e') = absurd (cc)
   at_done e (replaced e' d) = absurd (cc)
   at_done e (argument_refused e' a) = absurd (cc)
-  at_done e (call_refused e' a f) = absurd (cc)
+  at_done e (call_failed e' a f) = absurd (cc)
   at_done e (call_replaced e' a f d) = absurd (cc)
 
-  pub at_refused : {level turns : ℕ} {list : List Hiding} {out : Outcome} {fault : Fault} → turn macros env list ≡ Refused fault → Expands macros env level turns list out → IsRefused fault turns out
+  pub at_refused : {level turns : ℕ} {left : Option ℕ} {list : List Hiding} {out : Outcome} {fault : Fault} → turn_within macros env left list ≡ Refused fault → Expands macros env level left turns list out → IsRefused fault left turns out
   at_refused e (done e') = absurd (cc)
   at_refused e (refused e') = (refl, cc)
   at_refused e (passes e' d) = absurd (cc)
+  at_refused e (failed e') = absurd (cc)
   at_refused e (replaced e' d) = absurd (cc)
   at_refused e (argument_refused e' a) = absurd (cc)
-  at_refused e (call_refused e' a f) = absurd (cc)
+  at_refused e (call_failed e' a f) = absurd (cc)
   at_refused e (call_replaced e' a f d) = absurd (cc)
 
-  pub at_passes : {level turns : ℕ} {list : List Hiding} {out : Outcome} {t : Hiding} {rest : List Hiding} → turn macros env list ≡ Passes t rest → Expands macros env level turns list out → IsPassed level t rest turns out
+  pub at_failed : {level turns : ℕ} {left : Option ℕ} {list : List Hiding} {out : Outcome} {fault : Fault} → turn_within macros env left list ≡ Failed fault → Expands macros env level left turns list out → IsRefused fault (less_one left) turns out
+  at_failed e (done e') = absurd (cc)
+  at_failed e (refused e') = absurd (cc)
+  at_failed e (passes e' d) = absurd (cc)
+  at_failed e (failed e') = (refl, cc)
+  at_failed e (replaced e' d) = absurd (cc)
+  at_failed e (argument_refused e' a) = absurd (cc)
+  at_failed e (call_failed e' a f) = absurd (cc)
+  at_failed e (call_replaced e' a f d) = absurd (cc)
+
+  pub at_passes : {level turns : ℕ} {left : Option ℕ} {list : List Hiding} {out : Outcome} {t : Hiding} {rest : List Hiding} → turn_within macros env left list ≡ Passes t rest → Expands macros env level left turns list out → IsPassed level left t rest turns out
   at_passes e (done e') = absurd (cc)
   at_passes e (refused e') = absurd (cc)
-  at_passes {level = level} {t = t} {rest = rest} e (passes {turns = n} {t = t'} {rest = rest'} {out = o} e' d) =
+  at_passes {level = level} {left = left} {t = t} {rest = rest} e (passes {turns = n} {t = t'} {rest = rest'} {out = o} e' d) =
       let heads : t' ≡ t = cc in
       let rests : rest' ≡ rest = cc in
-      (n, o, refl, (λ i. record { tokens = heads i ∷ o.tokens; fault = o.fault }), subst (λ r. Expands macros env level n r o) rests d)
+      (n, o, refl, (λ i. record { tokens = heads i ∷ o.tokens; fault = o.fault; left = o.left }), subst (λ r. Expands macros env level left n r o) rests d)
+  at_passes e (failed e') = absurd (cc)
   at_passes e (replaced e' d) = absurd (cc)
   at_passes e (argument_refused e' a) = absurd (cc)
-  at_passes e (call_refused e' a f) = absurd (cc)
+  at_passes e (call_failed e' a f) = absurd (cc)
   at_passes e (call_replaced e' a f d) = absurd (cc)
 
-  pub at_replaced : {level turns : ℕ} {list next : List Hiding} {out : Outcome} → turn macros env list ≡ Replaced next → Expands macros env level turns list out → IsReplaced level next turns out
+  pub at_replaced : {level turns : ℕ} {left : Option ℕ} {list next : List Hiding} {out : Outcome} → turn_within macros env left list ≡ Replaced next → Expands macros env level left turns list out → IsReplaced level (less_one left) next turns out
   at_replaced e (done e') = absurd (cc)
   at_replaced e (refused e') = absurd (cc)
   at_replaced e (passes e' d) = absurd (cc)
-  at_replaced {level = level} {next = next} e (replaced {turns = n} {next = next'} {out = o} e' d) =
+  at_replaced e (failed e') = absurd (cc)
+  at_replaced {level = level} {left = left} {next = next} e (replaced {turns = n} {next = next'} {out = o} e' d) =
       let nexts : next' ≡ next = cc in
-      (n, refl, subst (λ r. Expands macros env level n r o) nexts d)
+      (n, refl, subst (λ r. Expands macros env level (less_one left) n r o) nexts d)
   at_replaced e (argument_refused e' a) = absurd (cc)
-  at_replaced e (call_refused e' a f) = absurd (cc)
+  at_replaced e (call_failed e' a f) = absurd (cc)
   at_replaced e (call_replaced e' a f d) = absurd (cc)
 
   -- what follows once a call's arguments are expanded
-  pub data AfterCall (level : ℕ) (call : Call) : ExpandedArguments → ℕ → Outcome → Type 0 where
-    by_argument : {fault : Fault} {turns : ℕ} {out : Outcome} → IsRefused fault turns out → AfterCall level call (Err fault) turns out
-    by_fault : {as' : List (Option (List Hiding))} {fault : Fault} {turns : ℕ} {out : Outcome} → finished call as' ≡ Refused fault → IsRefused fault turns out → AfterCall level call (Ok as') turns out
-    by_next : {as' : List (Option (List Hiding))} {next : List Hiding} {turns : ℕ} {out : Outcome} → finished call as' ≡ Replaced next → IsReplaced level next turns out → AfterCall level call (Ok as') turns out
+  pub data AfterCall (level : ℕ) (call : Call) : Option ℕ → ExpandedArguments → ℕ → Outcome → Type 0 where
+    by_argument : {after : Option ℕ} {fault : Fault} {turns : ℕ} {out : Outcome} → IsRefused fault after turns out → AfterCall level call after (Err fault) turns out
+    by_fault : {after : Option ℕ} {as' : List (Option (List Hiding))} {fault : Fault} {turns : ℕ} {out : Outcome} → finished call as' ≡ Failed fault → IsRefused fault after turns out → AfterCall level call after (Ok as') turns out
+    by_next : {after : Option ℕ} {as' : List (Option (List Hiding))} {next : List Hiding} {turns : ℕ} {out : Outcome} → finished call as' ≡ Replaced next → IsReplaced level after next turns out → AfterCall level call after (Ok as') turns out
 
-  abbrev pub IsCalled : ℕ → Call → ℕ → Outcome → Type 0
-  IsCalled level call turns out = (expanded : ExpandedArguments) × ExpandsArguments macros env level call (wanted call) expanded × AfterCall level call expanded turns out
+  abbrev pub IsCalled : ℕ → Option ℕ → Call → ℕ → Outcome → Type 0
+  IsCalled level left call turns out = (after : Option ℕ) × (expanded : ExpandedArguments) × ExpandsArguments macros env level call left (wanted call) after expanded × AfterCall level call after expanded turns out
 
-  pub at_called : {level turns : ℕ} {list : List Hiding} {out : Outcome} {call : Call} → turn macros env list ≡ Called call → Expands macros env level turns list out → IsCalled level call turns out
+  pub at_called : {level turns : ℕ} {left : Option ℕ} {list : List Hiding} {out : Outcome} {call : Call} → turn_within macros env left list ≡ Called call → Expands macros env level left turns list out → IsCalled level (less_one left) call turns out
   at_called e (done e') = absurd (cc)
   at_called e (refused e') = absurd (cc)
   at_called e (passes e' d) = absurd (cc)
+  at_called e (failed e') = absurd (cc)
   at_called e (replaced e' d) = absurd (cc)
-  at_called {level = level} {call = call} e (argument_refused {call = call'} {f = fault} e' a) =
+  at_called {level = level} {left = left} {call = call} e (argument_refused {after = after} {call = call'} {f = fault} e' a) =
       let calls : call' ≡ call = cc in
-      subst (λ c. IsCalled level c 0 (record { tokens = []; fault = Some fault })) calls (Err fault, a, by_argument (refl, refl))
-  at_called {level = level} {call = call} e (call_refused {call = call'} {expanded = as'} {f = fault} e' a f) =
+      subst (λ c. IsCalled level (less_one left) c 0 (record { tokens = []; fault = Some fault; left = after })) calls (after, Err fault, a, by_argument (refl, refl))
+  at_called {level = level} {left = left} {call = call} e (call_failed {after = after} {call = call'} {expanded = as'} {f = fault} e' a f) =
       let calls : call' ≡ call = cc in
-      subst (λ c. IsCalled level c 0 (record { tokens = []; fault = Some fault })) calls (Ok as', a, by_fault f (refl, refl))
-  at_called {level = level} {call = call} e (call_replaced {turns = n} {next = next} {call = call'} {expanded = as'} {out = out} e' a f d) =
+      subst (λ c. IsCalled level (less_one left) c 0 (record { tokens = []; fault = Some fault; left = after })) calls (after, Ok as', a, by_fault f (refl, refl))
+  at_called {level = level} {left = left} {call = call} e (call_replaced {turns = n} {after = after} {next = next} {call = call'} {expanded = as'} {out = out} e' a f d) =
       let calls : call' ≡ call = cc in
-      subst (λ c. IsCalled level c (suc n) out) calls (Ok as', a, by_next f (n, refl, d))
+      subst (λ c. IsCalled level (less_one left) c (suc n) out) calls (after, Ok as', a, by_next f (n, refl, d))
 
-  at_unused : {level : ℕ} {call : Call} {rest : List (Option (List Hiding))} {r : ExpandedArguments} → ExpandsArguments macros env level call (None ∷ rest) r → (r' : ExpandedArguments) × (r ≡ with_expanded None r') × ExpandsArguments macros env level call rest r'
+  at_unused : {level : ℕ} {call : Call} {left after : Option ℕ} {rest : List (Option (List Hiding))} {r : ExpandedArguments} → ExpandsArguments macros env level call left (None ∷ rest) after r → (r' : ExpandedArguments) × (r ≡ with_expanded None r') × ExpandsArguments macros env level call left rest after r'
   at_unused (unused {out = out} a) = (out, refl, a)
 
   -- the expansion of an argument that is used
-  data AfterUse (level : ℕ) (call : Call) (list : List Hiding) (rest : List (Option (List Hiding))) : ExpandedArguments → Type 0 where
-    is_deep : 256 ≤ level → AfterUse level call list rest (Err (fault_at_use 21 call.head))
-    is_used : {turns : ℕ} {tokens : List Hiding} {out : ExpandedArguments} → level < 256 → Expands macros env (suc level) turns list (record { tokens = tokens; fault = None }) → ExpandsArguments macros env level call rest out → AfterUse level call list rest (with_expanded (Some tokens) out)
-    is_refused : {turns : ℕ} {tokens : List Hiding} {fault : Fault} → level < 256 → Expands macros env (suc level) turns list (record { tokens = tokens; fault = Some fault }) → AfterUse level call list rest (Err fault)
+  data AfterUse (level : ℕ) (call : Call) (left : Option ℕ) (list : List Hiding) (rest : List (Option (List Hiding))) : Option ℕ → ExpandedArguments → Type 0 where
+    is_deep : 256 ≤ level → AfterUse level call left list rest left (Err (fault_at_use 21 call.head))
+    is_used : {turns : ℕ} {between after : Option ℕ} {tokens : List Hiding} {out : ExpandedArguments} → level < 256 → Expands macros env (suc level) left turns list (record { tokens = tokens; fault = None; left = between }) → ExpandsArguments macros env level call between rest after out → AfterUse level call left list rest after (with_expanded (Some tokens) out)
+    is_refused : {turns : ℕ} {after : Option ℕ} {tokens : List Hiding} {fault : Fault} → level < 256 → Expands macros env (suc level) left turns list (record { tokens = tokens; fault = Some fault; left = after }) → AfterUse level call left list rest after (Err fault)
 
-  at_used : {level : ℕ} {call : Call} {list : List Hiding} {rest : List (Option (List Hiding))} {r : ExpandedArguments} → ExpandsArguments macros env level call (Some list ∷ rest) r → AfterUse level call list rest r
+  at_used : {level : ℕ} {call : Call} {left after : Option ℕ} {list : List Hiding} {rest : List (Option (List Hiding))} {r : ExpandedArguments} → ExpandsArguments macros env level call left (Some list ∷ rest) after r → AfterUse level call left list rest after r
   at_used (too_deep h) = is_deep h
   at_used (used h d a) = is_used h d a
   at_used (used_refused h d) = is_refused h d
 
-  Same : ℕ → ℕ → Outcome → Outcome → Type 0
-  Same m n o p = (m ≡ n) × (o ≡ p)
-
-  refused_same : {fault : Fault} {n : ℕ} {o : Outcome} → IsRefused fault n o → (0 ≡ n) × (◌≡◌ {A = Outcome} (record { tokens = []; fault = Some fault }) o)
+  refused_same : {fault : Fault} {left : Option ℕ} {n : ℕ} {o : Outcome} → IsRefused fault left n o → (0 ≡ n) × (◌≡◌ {A = Outcome} (record { tokens = []; fault = Some fault; left = left }) o)
   refused_same h = (sym h.0, sym h.1)
 
-  after_argument : {level : ℕ} {call : Call} {fault : Fault} {r : ExpandedArguments} {n : ℕ} {p : Outcome} → Err fault ≡ r → AfterCall level call r n p → (0 ≡ n) × (◌≡◌ {A = Outcome} (record { tokens = []; fault = Some fault }) p)
-  after_argument {fault = fault} {n = n} {p = p} e (by_argument {fault = fault'} h) = let same : fault' ≡ fault = cc in subst (λ x. (0 ≡ n) × (◌≡◌ {A = Outcome} (record { tokens = []; fault = Some x }) p)) same (refused_same h)
-  after_argument e (by_fault f h) = absurd (cc)
-  after_argument e (by_next f h) = absurd (cc)
+  -- what arguments give, with what is left
+  abbrev Given : Type 0
+  Given = Option ℕ × ExpandedArguments
 
-  after_fault : {level : ℕ} {call : Call} {as' : List (Option (List Hiding))} {fault : Fault} {r : ExpandedArguments} {n : ℕ} {p : Outcome} → finished call as' ≡ Refused fault → Ok as' ≡ r → AfterCall level call r n p → (0 ≡ n) × (◌≡◌ {A = Outcome} (record { tokens = []; fault = Some fault }) p)
-  after_fault f e (by_argument h) = absurd (cc)
-  after_fault {call = call} {as' = as'} {fault = fault} {n = n} {p = p} f e (by_fault {as' = bs} {fault = fault'} f' h) =
+  after_argument : {level : ℕ} {call : Call} {fault : Fault} {left after : Option ℕ} {r : ExpandedArguments} {n : ℕ} {p : Outcome} → ◌≡◌ {A = Given} (left, Err fault) (after, r) → AfterCall level call after r n p → (0 ≡ n) × (◌≡◌ {A = Outcome} (record { tokens = []; fault = Some fault; left = left }) p)
+  after_argument {fault = fault} {left = left} {n = n} {p = p} e (by_argument {after = after} {fault = fault'} h) =
+      let same : fault' ≡ fault = let rs : Err fault ≡ Err fault' = λ i. (e i).1 in cc in
+      let lefts : left ≡ after = λ i. (e i).0 in
+      let h' = refused_same h in
+      (h'.0, (λ i. record { tokens = []; fault = Some ((sym same) i); left = lefts i }) ∙ h'.1)
+  after_argument {fault = fault} e (by_fault {as' = bs} f h) = let rs : Err fault ≡ Ok bs = λ i. (e i).1 in absurd (cc)
+  after_argument {fault = fault} e (by_next {as' = bs} f h) = let rs : Err fault ≡ Ok bs = λ i. (e i).1 in absurd (cc)
+
+  after_fault : {level : ℕ} {call : Call} {as' : List (Option (List Hiding))} {fault : Fault} {left after : Option ℕ} {r : ExpandedArguments} {n : ℕ} {p : Outcome} → finished call as' ≡ Failed fault → ◌≡◌ {A = Given} (left, Ok as') (after, r) → AfterCall level call after r n p → (0 ≡ n) × (◌≡◌ {A = Outcome} (record { tokens = []; fault = Some fault; left = left }) p)
+  after_fault {as' = as'} f e (by_argument {fault = fault'} h) = let rs : Ok as' ≡ Err fault' = λ i. (e i).1 in absurd (cc)
+  after_fault {call = call} {as' = as'} {fault = fault} {left = left} {n = n} {p = p} f e (by_fault {after = after} {as' = bs} {fault = fault'} f' h) =
+      let rs : Ok as' ≡ Ok bs = λ i. (e i).1 in
       let bodies : as' ≡ bs = cc in
-      let same : fault' ≡ fault = let turns : Refused fault ≡ Refused fault' = sym f ∙ ap (finished call) bodies ∙ f' in cc in
-      subst (λ x. (0 ≡ n) × (◌≡◌ {A = Outcome} (record { tokens = []; fault = Some x }) p)) same (refused_same h)
+      let same : fault ≡ fault' = let turns : Failed fault ≡ Failed fault' = sym f ∙ ap (finished call) bodies ∙ f' in cc in
+      let lefts : left ≡ after = λ i. (e i).0 in
+      let h' = refused_same h in
+      (h'.0, (λ i. record { tokens = []; fault = Some (same i); left = lefts i }) ∙ h'.1)
   after_fault {call = call} {as' = as'} {fault = fault} f e (by_next {as' = bs} {next = next} f' h) =
+      let rs : Ok as' ≡ Ok bs = λ i. (e i).1 in
       let bodies : as' ≡ bs = cc in
-      let turns : Refused fault ≡ Replaced next = sym f ∙ ap (finished call) bodies ∙ f' in absurd (cc)
+      let turns : Failed fault ≡ Replaced next = sym f ∙ ap (finished call) bodies ∙ f' in absurd (cc)
 
-  after_next : {level m : ℕ} {call : Call} {as' : List (Option (List Hiding))} {next : List Hiding} {o : Outcome} {r : ExpandedArguments} {n : ℕ} {p : Outcome} → finished call as' ≡ Replaced next → ((k : ℕ) (q : Outcome) → Expands macros env level k next q → (m ≡ k) × (o ≡ q)) → Ok as' ≡ r → AfterCall level call r n p → (suc m ≡ n) × (o ≡ p)
-  after_next f ih e (by_argument h) = absurd (cc)
+  after_next : {level m : ℕ} {call : Call} {as' : List (Option (List Hiding))} {next : List Hiding} {o : Outcome} {left after : Option ℕ} {r : ExpandedArguments} {n : ℕ} {p : Outcome} → finished call as' ≡ Replaced next → ((k : ℕ) (q : Outcome) → Expands macros env level left k next q → (m ≡ k) × (o ≡ q)) → ◌≡◌ {A = Given} (left, Ok as') (after, r) → AfterCall level call after r n p → (suc m ≡ n) × (o ≡ p)
+  after_next {as' = as'} f ih e (by_argument {fault = fault'} h) = let rs : Ok as' ≡ Err fault' = λ i. (e i).1 in absurd (cc)
   after_next {call = call} {as' = as'} {next = next} f ih e (by_fault {as' = bs} {fault = fault} f' h) =
+      let rs : Ok as' ≡ Ok bs = λ i. (e i).1 in
       let bodies : as' ≡ bs = cc in
-      let turns : Replaced next ≡ Refused fault = sym f ∙ ap (finished call) bodies ∙ f' in absurd (cc)
-  after_next {level = level} {call = call} {as' = as'} {next = next} {p = p} f ih e (by_next {as' = bs} {next = next'} f' h) =
+      let turns : Replaced next ≡ Failed fault = sym f ∙ ap (finished call) bodies ∙ f' in absurd (cc)
+  after_next {level = level} {call = call} {as' = as'} {next = next} {left = left} {p = p} f ih e (by_next {after = after} {as' = bs} {next = next'} f' h) =
+      let rs : Ok as' ≡ Ok bs = λ i. (e i).1 in
       let bodies : as' ≡ bs = cc in
       let turns : Replaced next ≡ Replaced next' = sym f ∙ ap (finished call) bodies ∙ f' in
       let nexts : next' ≡ next = cc in
-      let both = ih h.0 p (subst (λ x. Expands macros env level h.0 x p) nexts h.2) in
+      let lefts : after ≡ left = λ i. (sym e i).0 in
+      let both = ih h.0 p (subst (λ l. Expands macros env level l h.0 next p) lefts (subst (λ x. Expands macros env level after h.0 x p) nexts h.2)) in
       (ap suc both.0 ∙ sym h.1, both.1)
 
-  at_none : {level : ℕ} {call : Call} {s : ExpandedArguments} → ExpandsArguments macros env level call [] s → Ok [] ≡ s
+  at_none : {level : ℕ} {call : Call} {left after : Option ℕ} {s : ExpandedArguments} → ExpandsArguments macros env level call left [] after s → ◌≡◌ {A = Given} (left, Ok []) (after, s)
   at_none none = refl
 
-  deep_same : {level : ℕ} {call : Call} {list : List Hiding} {rest : List (Option (List Hiding))} {s : ExpandedArguments} → 256 ≤ level → AfterUse level call list rest s → Err (fault_at_use 21 call.head) ≡ s
+  deep_same : {level : ℕ} {call : Call} {left after : Option ℕ} {list : List Hiding} {rest : List (Option (List Hiding))} {s : ExpandedArguments} → 256 ≤ level → AfterUse level call left list rest after s → ◌≡◌ {A = Given} (left, Err (fault_at_use 21 call.head)) (after, s)
   deep_same h (is_deep h') = refl
   deep_same h (is_used h' d a) = absurd (omega arith)
   deep_same h (is_refused h' d) = absurd (omega arith)
 
-  used_same : {level m : ℕ} {call : Call} {list tokens : List Hiding} {rest : List (Option (List Hiding))} {out s : ExpandedArguments} → level < 256 → ((n : ℕ) (p : Outcome) → Expands macros env (suc level) n list p → (m ≡ n) × (record { tokens = tokens; fault = None } ≡ p)) → ((s' : ExpandedArguments) → ExpandsArguments macros env level call rest s' → out ≡ s') → AfterUse level call list rest s → with_expanded (Some tokens) out ≡ s
+  used_same : {level m : ℕ} {call : Call} {list tokens : List Hiding} {rest : List (Option (List Hiding))} {left between first after : Option ℕ} {out s : ExpandedArguments} → level < 256 → ((n : ℕ) (p : Outcome) → Expands macros env (suc level) left n list p → (m ≡ n) × (◌≡◌ {A = Outcome} (record { tokens = tokens; fault = None; left = between }) p)) → ((l : Option ℕ) (s' : ExpandedArguments) → ExpandsArguments macros env level call between rest l s' → ◌≡◌ {A = Given} (first, out) (l, s')) → AfterUse level call left list rest after s → ◌≡◌ {A = Given} (first, with_expanded (Some tokens) out) (after, s)
   used_same h ih more (is_deep h') = absurd (omega arith)
-  used_same {tokens = tokens} {out = out} h ih more (is_used {turns = n} {tokens = ts} {out = out'} h' d a) =
-      let both = (ih n (record { tokens = ts; fault = None }) d).1 in
-      λ i. with_expanded (Some (both i).tokens) (more out' a i)
-  used_same {tokens = tokens} h ih more (is_refused {turns = n} {tokens = ts} {fault = fault} h' d) =
-      let both = (ih n (record { tokens = ts; fault = Some fault }) d).1 in
+  used_same {level = level} {call = call} {tokens = tokens} {rest = rest} {between = between} {out = out} h ih more (is_used {turns = n} {between = other} {after = after} {tokens = ts} {out = out'} h' d a) =
+      let both = (ih n (record { tokens = ts; fault = None; left = other }) d).1 in
+      let lefts : other ≡ between = λ i. (sym both i).left in
+      let whole = more after out' (subst (λ l. ExpandsArguments macros env level call l rest after out') lefts a) in
+      λ i. ((whole i).0, with_expanded (Some (both i).tokens) (whole i).1)
+  used_same {tokens = tokens} h ih more (is_refused {turns = n} {after = after} {tokens = ts} {fault = fault} h' d) =
+      let both = (ih n (record { tokens = ts; fault = Some fault; left = after }) d).1 in
       let faults : None ≡ Some fault = λ i. (both i).fault in absurd (cc)
 
-  refused_argument_same : {level m : ℕ} {call : Call} {list tokens : List Hiding} {fault : Fault} {rest : List (Option (List Hiding))} {s : ExpandedArguments} → level < 256 → ((n : ℕ) (p : Outcome) → Expands macros env (suc level) n list p → (m ≡ n) × (record { tokens = tokens; fault = Some fault } ≡ p)) → AfterUse level call list rest s → Err fault ≡ s
+  refused_argument_same : {level m : ℕ} {call : Call} {list tokens : List Hiding} {fault : Fault} {rest : List (Option (List Hiding))} {left first after : Option ℕ} {s : ExpandedArguments} → level < 256 → ((n : ℕ) (p : Outcome) → Expands macros env (suc level) left n list p → (m ≡ n) × (◌≡◌ {A = Outcome} (record { tokens = tokens; fault = Some fault; left = first }) p)) → AfterUse level call left list rest after s → ◌≡◌ {A = Given} (first, Err fault) (after, s)
   refused_argument_same h ih (is_deep h') = absurd (omega arith)
-  refused_argument_same {fault = fault} h ih (is_used {turns = n} {tokens = ts} h' d a) =
-      let both = (ih n (record { tokens = ts; fault = None }) d).1 in
+  refused_argument_same {fault = fault} h ih (is_used {turns = n} {between = other} {tokens = ts} h' d a) =
+      let both = (ih n (record { tokens = ts; fault = None; left = other }) d).1 in
       let faults : Some fault ≡ None = λ i. (both i).fault in absurd (cc)
-  refused_argument_same {fault = fault} h ih (is_refused {turns = n} {tokens = ts} {fault = fault'} h' d) =
-      let both = (ih n (record { tokens = ts; fault = Some fault' }) d).1 in
-      let faults : Some fault ≡ Some fault' = λ i. (both i).fault in cc
+  refused_argument_same {fault = fault} h ih (is_refused {turns = n} {after = after} {tokens = ts} {fault = fault'} h' d) =
+      let both = (ih n (record { tokens = ts; fault = Some fault'; left = after }) d).1 in
+      let faults : Some fault ≡ Some fault' = λ i. (both i).fault in
+      let same : fault ≡ fault' = cc in
+      λ i. ((both i).left, Err (same i))
 
   mutual
-    pub same_outcome : {level m : ℕ} {list : List Hiding} {o : Outcome} → Expands macros env level m list o → (n : ℕ) (p : Outcome) → Expands macros env level n list p → (m ≡ n) × (o ≡ p)
-    same_outcome (done e) n p d = let h : IsDone n p = at_done e d in (sym h.0, sym h.1)
+    pub same_outcome : {level m : ℕ} {left : Option ℕ} {list : List Hiding} {o : Outcome} → Expands macros env level left m list o → (n : ℕ) (p : Outcome) → Expands macros env level left n list p → (m ≡ n) × (o ≡ p)
+    same_outcome {left = left} (done e) n p d = let h : IsDone left n p = at_done e d in (sym h.0, sym h.1)
     same_outcome (refused e) n p d = refused_same (at_refused e d)
-    same_outcome {level = level} (passes {t = t} {rest = rest} e d) n p d' =
-        let h : IsPassed level t rest n p = at_passes e d' in
+    same_outcome (failed e) n p d = refused_same (at_failed e d)
+    same_outcome {level = level} {left = left} (passes {t = t} {rest = rest} e d) n p d' =
+        let h : IsPassed level left t rest n p = at_passes e d' in
         let ih = same_outcome d h.0 h.1 h.4 in
-        (ap suc ih.0 ∙ sym h.2, (λ i. record { tokens = t ∷ (ih.1 i).tokens; fault = (ih.1 i).fault }) ∙ sym h.3)
-    same_outcome {level = level} (replaced {next = next} e d) n p d' =
-        let h : IsReplaced level next n p = at_replaced e d' in
+        (ap suc ih.0 ∙ sym h.2, (λ i. record { tokens = t ∷ (ih.1 i).tokens; fault = (ih.1 i).fault; left = (ih.1 i).left }) ∙ sym h.3)
+    same_outcome {level = level} {left = left} (replaced {next = next} e d) n p d' =
+        let h : IsReplaced level (less_one left) next n p = at_replaced e d' in
         let ih = same_outcome d h.0 p h.2 in
         (ap suc ih.0 ∙ sym h.1, ih.1)
     same_outcome (argument_refused e a) n p d' =
         let h = at_called e d' in
-        after_argument (same_expanded a h.0 h.1) h.2
-    same_outcome (call_refused e a f) n p d' =
+        after_argument (same_expanded a h.0 h.1 h.2) h.3
+    same_outcome (call_failed e a f) n p d' =
         let h = at_called e d' in
-        after_fault f (same_expanded a h.0 h.1) h.2
+        after_fault f (same_expanded a h.0 h.1 h.2) h.3
     same_outcome (call_replaced e a f d) n p d' =
         let h = at_called e d' in
-        after_next f (λ k o. same_outcome d k o) (same_expanded a h.0 h.1) h.2
+        after_next f (λ k o. same_outcome d k o) (same_expanded a h.0 h.1 h.2) h.3
 
-    pub same_expanded : {level : ℕ} {call : Call} {as' : List (Option (List Hiding))} {r : ExpandedArguments} → ExpandsArguments macros env level call as' r → (s : ExpandedArguments) → ExpandsArguments macros env level call as' s → r ≡ s
-    same_expanded none s a = at_none a
-    same_expanded (unused a) s a' =
+    pub same_expanded : {level : ℕ} {call : Call} {left first : Option ℕ} {as' : List (Option (List Hiding))} {r : ExpandedArguments} → ExpandsArguments macros env level call left as' first r → (after : Option ℕ) (s : ExpandedArguments) → ExpandsArguments macros env level call left as' after s → ◌≡◌ {A = Given} (first, r) (after, s)
+    same_expanded none l s a = at_none a
+    same_expanded (unused a) l s a' =
         let h = at_unused a' in
-        ap (with_expanded None) (same_expanded a h.0 h.2) ∙ sym h.1
-    same_expanded (too_deep h) s a' = deep_same h (at_used a')
-    same_expanded (used h d a) s a' = used_same h (λ n o. same_outcome d n o) (λ s'. same_expanded a s') (at_used a')
-    same_expanded (used_refused h d) s a' = refused_argument_same h (λ n o. same_outcome d n o) (at_used a')
+        let same = same_expanded a l h.0 h.2 in
+        (λ i. ((same i).0, with_expanded None (same i).1)) ∙ (λ i. (l, (sym h.1) i))
+    same_expanded (too_deep h) l s a' = deep_same h (at_used a')
+    same_expanded (used h d a) l s a' = used_same h (λ n o. same_outcome d n o) (λ l' s'. same_expanded a l' s') (at_used a')
+    same_expanded (used_refused h d) l s a' = refused_argument_same h (λ n o. same_outcome d n o) (at_used a')

@@ -1,11 +1,11 @@
 // What a token is to macro replacement.
-ghost use Rattle.std.specs.Prelude.{◌≡◌, IfOk};
+ghost use Rattle.std.specs.Prelude.{◌≡◌, IfOk, []};
 ghost use Rattle.ppmacro.specs.Define.{fault};
 ghost use Rattle.ppexpand.specs.Arguments.{is_lone_quote, is_open, mark_of};
 ghost use Rattle.ppexpand.specs.Lists.{is_inert};
 
 use ppmacro::{Hidden, is_identifier, is_punct};
-use pptext::{Fault, Kind, Place, Token};
+use pptext::{Fault, Kind, Place, Spelling, Token};
 use std::alloc::AllocError;
 
 /// Whether a token is `(`.
@@ -101,4 +101,15 @@ pub(crate) fn lone_quote(hidden: &Hidden) -> Result<Fault, AllocError>
     ensures { IfOk result (λ f. f ≡ fault 7 hidden.now.token.at hidden.now.token.text) }
 {
     fault_of(7, hidden.at(), hidden)
+}
+
+/// Fault 35, of a macro's name for whose replacement nothing is left.
+pub(crate) fn over_budget(hidden: &Hidden) -> Fault
+    ensures { result ≡ fault 35 hidden.now.token.used [] }
+{
+    Fault {
+        number: 35,
+        at: hidden.used(),
+        text: Spelling::empty(),
+    }
 }

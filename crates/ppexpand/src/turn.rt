@@ -1,25 +1,29 @@
 // What the next token of a list calls for (6.10.3, 6.10.3.4).
-ghost use Rattle.std.specs.Prelude.{◌≡◌, IfOk, OnOk, ◌∷◌};
+ghost use Rattle.std.specs.Prelude.{◌≡◌, IfOk, OnOk, ◌∷◌, Some};
 ghost use Rattle.std.specs.Option.{option_copied};
 ghost use Rattle.std.specs.FinSet as set;
+ghost use Rattle.ppmacro.specs.Numbered.{Numbered};
 ghost use Rattle.ppmacro.specs.HideSets.{set_at, IsKnown, hiding, hidings, AllKnown, Keeps};
 ghost use Rattle.ppmacro.specs.Substituting.{ArgumentsKnown, arguments_in};
 ghost use Rattle.ppmacro.specs.Chains.{chains_of};
 ghost use Rattle.ppmacro.specs.Substitution.{substituted, substituted_by};
 ghost use Rattle.ppexpand.specs.Arguments.{gather, separators};
-ghost use Rattle.ppexpand.specs.Turn.{Replaced, macro_of, replaced_by, no_arguments, predefined_value, called, invoked, function_turn, macro_turn, turn, finished};
+ghost use Rattle.ppexpand.specs.declared.env.Env.{Env};
+ghost use Rattle.ppexpand.specs.Turn.{Replaced, macro_of, replaced_by, no_arguments, predefined_value, called, invoked, function_turn, macro_turn, within, finished};
+ghost use Rattle.ppexpand.specs.Expansion.{turn_within};
 ghost use Rattle.ppexpand.specs.Shown.{expanded_in, fitting_in, FittingKnown, ExpansionsKnown, call_in, CallKnown, turn_in, NextKnown, replaced_in};
 
 use crate::arguments::{Gathered, fit, gather, separators};
 use crate::cursor::Cursor;
 use crate::env::Env;
 use crate::predefined::predefined_value;
-use crate::spellings::{at_use, is_open, is_quote, lone_quote};
+use crate::spellings::{at_use, is_open, is_quote, lone_quote, over_budget};
+use crate::spending::is_spent;
 use ppmacro::{
     Builtin, Chain, Hidden, HideSets, Macro, Set, Shape, Table, is_identifier, substitute,
 };
 use pptext::{Fault, Memory, Spelling, Token};
-use std::alloc::Global;
+use std::alloc::{AllocError, Global};
 
 /// An invocation of a function-like macro, which is taken out of its list.
 #[derive(Drop)]
@@ -39,6 +43,8 @@ pub(crate) enum Next<'t, 'x, 'a> {
     /// There was none.
     Done,
     Refused(Fault),
+    /// It is a macro's name that is to be replaced, which fails.
+    Failed(Fault),
     /// The token stands for itself.
     Passes(Hidden<'x>),
     /// It is replaced in the list.
@@ -142,7 +148,7 @@ fn object_turn<'t, 'x, 'a: 'x>(
     let base = head.hide();
     match replace(alloc, sets, chains.as_slice(), &[], &[], base, &head, list)? {
         Ok(()) => Ok(Next::Replaced),
-        Err(fault) => Ok(Next::Refused(fault)),
+        Err(fault) => Ok(Next::Failed(fault)),
     }
 }
 
@@ -165,7 +171,7 @@ fn called<'t, 'x, 'a: 'x>(
 {
     let _behind = list;
     let Some(arguments) = arguments else {
-        return Ok(Next::Refused(at_use(18, &head)?));
+        return Ok(Next::Failed(at_use(18, &head)?));
     };
     let both = sets.meet(head.hide(), close.hide())?;
     Ok(Next::Called(Invocation {
@@ -197,8 +203,8 @@ fn invoked<'t, 'x, 'a: 'x>(
             let fitting = fit(alloc, arguments, names, variadic);
             called(sets, head, replaced, fitting, &close, list)
         }
-        Gathered::Quoted(quote) => Ok(Next::Refused(lone_quote(&quote)?)),
-        Gathered::Unclosed => Ok(Next::Refused(at_use(17, &head)?)),
+        Gathered::Quoted(quote) => Ok(Next::Failed(lone_quote(&quote)?)),
+        Gathered::Unclosed => Ok(Next::Failed(at_use(17, &head)?)),
     }
 }
 
@@ -258,16 +264,40 @@ fn macro_turn<'t, 'x, 'a: 'x>(
     }
 }
 
-/// Takes the next token of a list, and what belongs to its invocation; a replacement is put before the rest.
+/// The turn of a macro's name where nothing is left of the budget: a name that is to be replaced is refused, and nothing is done for it.
+fn spent_turn<'t, 'x, 'a: 'x>(
+    head: Hidden<'x>,
+    replaced: &Macro<'a>,
+    list: &mut Cursor<'x>,
+) -> Result<Next<'t, 'x, 'a>, AllocError>
+    ensures is { IfOk result (λ n. (sets : Numbered) (env : Env) → turn_in sets list.new n ≡ within (Some 0) (hiding sets head.entry ∷ hidings sets list.old) (macro_turn env (hiding sets head.entry) (hidings sets list.old) replaced.now replaced.now.shape)) }
+    ensures known { IfOk result (λ n. (sets : Numbered) → IsKnown sets head.entry.hide → AllKnown sets list.old → NextKnown sets list.new n) }
+{
+    if !matches!(replaced.definition().shape, Shape::FunctionLike { .. }) {
+        return Ok(Next::Refused(over_budget(&head)));
+    }
+    let Some(behind) = list.next() else {
+        return Ok(Next::Passes(head));
+    };
+    if is_open(&behind) {
+        return Ok(Next::Refused(over_budget(&head)));
+    }
+    list.push(behind)?;
+    Ok(Next::Passes(head))
+}
+
+/// Takes the next token of a list, and what belongs to its invocation; a replacement is put before the rest. Where nothing is
+/// left of the budget, a name that is to be replaced is refused.
 pub(crate) fn next_turn<'t, 'x, 'a: 'x>(
     alloc: Global,
     table: &'t Table<'a>,
     env: &Env,
+    left: Option<u64>,
     sets: &mut HideSets,
     list: &mut Cursor<'x>,
 ) -> Result<Next<'t, 'x, 'a>, Memory>
     requires { AllKnown sets.old list.old }
-    ensures is { IfOk result (λ n. turn_in sets.new list.new n ≡ turn table.now env.now (hidings sets.old list.old)) }
+    ensures is { IfOk result (λ n. turn_in sets.new list.new n ≡ turn_within table.now env.now left (hidings sets.old list.old)) }
     ensures known { IfOk result (λ n. NextKnown sets.new list.new n) }
     ensures keeps { Keeps sets.old sets.new }
 {
@@ -282,6 +312,9 @@ pub(crate) fn next_turn<'t, 'x, 'a: 'x>(
     };
     if sets.has(head.hide(), head.text()) {
         return Ok(Next::Passes(head));
+    }
+    if is_spent(left) {
+        return Ok(spent_turn(head, replaced, list)?);
     }
     macro_turn(alloc, env, sets, head, replaced, list)
 }

@@ -26,16 +26,16 @@ invariant-expand_list-loop-list l = record {
   list_known : AllKnown l.sets l.list;
   passed_known : AllKnown l.sets l.passed;
   keeps : Keeps l.fn.sets l.sets;
-  follows : Follows l.table l.env l.level (hidings l.fn.sets l.fn.list) (hidings l.sets l.passed) (hidings l.sets l.list);
+  follows : Follows l.table l.env l.level l.fn.left (hidings l.fn.sets l.fn.list) (hidings l.sets l.passed) l.left (hidings l.sets l.list);
 }
 
 abbrev pub decreases-expand_list-loop-list : goal.decreases-expand_list-loop-list
-decreases-expand_list-loop-list l = turns_left l.table l.env l.level (hidings l.sets l.list)
+decreases-expand_list-loop-list l = turns_left l.table l.env l.level l.left (hidings l.sets l.list)
 
 abbrev pub invariant-expand_arguments-loop-parameter : goal.invariant-expand_arguments-loop-parameter
 invariant-expand_arguments-loop-parameter l = record {
   low : l.level ≤ 256;
   known : ExpansionsKnown l.sets l.expanded.items;
   keeps : Keeps l.fn.sets l.sets;
-  follows : (behind : List Hidden) → ArgumentsFollow l.table l.env l.level (call_in l.fn.sets l.call behind) (wanted (call_in l.fn.sets l.call behind)) (expanded_in l.sets l.expanded.items) (to_expand l.parameter (chains_of l.call.replaced.now) (drop l.parameter (given_in l.fn.sets l.call.arguments.items)));
+  follows : (behind : List Hidden) → ArgumentsFollow l.table l.env l.level (call_in l.fn.sets l.call behind) l.fn.left (wanted (call_in l.fn.sets l.call behind)) (expanded_in l.sets l.expanded.items) l.left (to_expand l.parameter (chains_of l.call.replaced.now) (drop l.parameter (given_in l.fn.sets l.call.arguments.items)));
 }

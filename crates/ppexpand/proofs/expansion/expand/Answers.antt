@@ -18,9 +18,10 @@ pub returns-then-is_empty : goal.returns-then-is_empty
 returns-then-is_empty c =
     let rest = c.split_plain.result.1.now in
     let none : rest ≡ [] = nil_from_length rest (search rules) in
-    expansion-behind c.args.table.now c.args.env.now c.args.tokens.now c.split_plain.result.0.now rest _ (ended None) c.split_plain.ensures.laid_out c.split_plain.ensures.plain
-    (subst (λ ts. ExpandsTo c.args.table.now c.args.env.now 0 (map plain ts) (ended None)) (sym none) (expands-nothing c.args.table.now c.args.env.now 0))
+    expansion-behind c.args.table.now c.args.env.now c.args.left c.args.tokens.now c.split_plain.result.0.now rest _ (ended c.args.left None) c.split_plain.ensures.laid_out c.split_plain.ensures.plain
+    (subst (λ ts. ExpandsTo c.args.table.now c.args.env.now 0 c.args.left (map plain ts) (ended c.args.left None)) (sym none) (expands-nothing c.args.table.now c.args.env.now 0 c.args.left))
     (c.new-then-is_empty.ensures ∙ (λ i. c.split_plain.result.0.now ++ tokens_of (c.new.ensures i)))
+    refl
     refl
 
 pub returns : goal.returns
@@ -29,7 +30,8 @@ returns c =
     let t = c.expand_list.new.sets in
     let rest = c.split_plain.result.1.now in
     let start : hidings s c.over-list.result ≡ map plain rest = ap (hidings s) (c.over-list.ensures ∙ c.new-3.ensures) ∙ hidings-with_set s c.empty.result rest c.empty.ensures.set in
-    expansion-behind c.args.table.now c.args.env.now c.args.tokens.now c.split_plain.result.0.now rest _ (outcome_in t c.in_ok-ended.ended) c.split_plain.ensures.laid_out c.split_plain.ensures.plain
-    (subst (λ l. ExpandsTo c.args.table.now c.args.env.now 0 l (outcome_in t c.in_ok-ended.ended)) start c.in_ok-ended.ensures.outcome)
+    expansion-behind c.args.table.now c.args.env.now c.args.left c.args.tokens.now c.split_plain.result.0.now rest _ (outcome_in t c.in_ok-ended.ended) c.split_plain.ensures.laid_out c.split_plain.ensures.plain
+    (subst (λ l. ExpandsTo c.args.table.now c.args.env.now 0 c.args.left l (outcome_in t c.in_ok-ended.ended)) start c.in_ok-ended.ensures.outcome)
     (c.new-4.ensures ∙ (λ i. c.split_plain.result.0.now ++ tokens-in t c.in_ok-ended.ended.tokens i))
+    refl
     refl

@@ -1,5 +1,4 @@
 use Rattle.std.proofs.Common.{◌≡◌, ◌++◌, take}
-use Rattle.ppmacro.specs.Substituting.{tokens_of}
 use Rattle.ppexpand.proofs.passed.copy_shared.Given as goal
 
 abbrev pub invariant-loop-token : goal.invariant-loop-token

@@ -1,4 +1,4 @@
-use Rattle.std.proofs.Common.{◌≡◌, ◌≤◌, length, take, true}
+use Rattle.std.proofs.Common.{◌≡◌, take, true}
 use Rattle.std.specs.List.{AllByRecursion}
 use Rattle.ppexpand.specs.Lists.{is_plain}
 use Rattle.ppexpand.proofs.stretch.plain_len.Given as goal

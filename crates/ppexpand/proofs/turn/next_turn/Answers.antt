@@ -1,50 +1,74 @@
-use Rattle.std.proofs.Common.{◌≡◌, ◌∙◌, true, false, Some, None, IfOk, sym, ap, subst}
+use Rattle.std.proofs.Common.{◌≡◌, ◌∙◌, ℕ, true, false, List, [], ◌∷◌, Option, Some, None, IfOk, sym, ap, subst}
 use Rattle.std.specs.FinSet as set
 use Rattle.std.specs.Option.{option_copied}
-use Rattle.ppmacro.specs.HideSets.{set_at, hiding, hidings}
+use Rattle.ppmacro.specs.Names.{Macros}
+use Rattle.ppmacro.specs.HideSets.{set_at, Hiding, hiding, hidings}
+use Rattle.ppmacro.specs.declared.macros.Definition.{Definition}
+use Rattle.ppexpand.specs.declared.env.Env.{Env}
 use Rattle.ppexpand.specs.Arguments.{is_lone_quote}
-use Rattle.ppexpand.specs.Turn.{Refused, named_turn, macro_of, turn}
+use Rattle.ppexpand.specs.Turn.{Refused, named_turn, macro_turn, macro_of, turn, within, quote_fault}
+use Rattle.ppexpand.specs.Expansion.{turn_within}
 use Rattle.ppexpand.specs.Shown.{turn_in}
-use Rattle.ppexpand.proofs.TurnLemmas.{turn-quote, turn-hidden, turn-named, turn-unnamed}
+use Rattle.ppexpand.proofs.TurnLemmas.{turn-quote, turn-hidden, turn-named, turn-unnamed, done-within, refused-within, passes-within, free-within, nothing_left}
 use Rattle.ppexpand.proofs.turn.next_turn.Goals as goal
+
+-- the turn of a macro's name that isn't hidden
+named : (macros : Macros) (env : Env) (left : Option ℕ) (t : Hiding) (rest : List Hiding) (d : Definition) → is_lone_quote t.token ≡ false → set.contains t.hide t.token.text ≡ false → macro_of macros t.token ≡ Some d
+    → turn_within macros env left (t ∷ rest) ≡ within left (t ∷ rest) (macro_turn env t rest d d.shape)
+named macros env left t rest d quote free found = ap (within left (t ∷ rest)) (turn-named macros env t rest quote free ∙ ap (named_turn env t rest) found)
 
 pub returns-in_default-clause-is : goal.returns-in_default-clause-is
 unfolding turn
-returns-in_default-clause-is c = ap (λ l. turn c.args.table.now c.args.env.now (hidings c.args.sets.now l)) (sym c.in_default.ensures.0)
+returns-in_default-clause-is c =
+    sym (done-within c.args.left []) ∙ ap (λ l. turn_within c.args.table.now c.args.env.now c.args.left (hidings c.args.sets.now l)) (sym c.in_default.ensures.0)
 
 pub returns-then-is_quote-clause-is : goal.returns-then-is_quote-clause-is
 returns-then-is_quote-clause-is c =
     let s = c.args.sets.now in
+    let t = hiding s c.in-Some.head in
+    let rest = hidings s c.next.new.self in
     let quote : is_lone_quote c.in-Some.head.token ≡ true = sym c.is_quote.ensures ∙ c.if-is_quote.true in
     ap Refused c.in_ok-lone_quote.ensures
-    ∙ sym (turn-quote c.args.table.now c.args.env.now (hiding s c.in-Some.head) (hidings s c.next.new.self) quote)
-    ∙ ap (λ l. turn c.args.table.now c.args.env.now (hidings s l)) (sym c.in-Some.ensures)
+    ∙ sym (ap (within c.args.left (t ∷ rest)) (turn-quote c.args.table.now c.args.env.now t rest quote) ∙ refused-within c.args.left (t ∷ rest) (quote_fault t))
+    ∙ ap (λ l. turn_within c.args.table.now c.args.env.now c.args.left (hidings s l)) (sym c.in-Some.ensures)
 
 pub returns-then-has-clause-is : goal.returns-then-has-clause-is
 returns-then-has-clause-is c =
     let s = c.args.sets.now in
+    let t = hiding s c.in-Some.head in
+    let rest = hidings s c.next.new.self in
     let quote : is_lone_quote c.in-Some.head.token ≡ false = sym c.is_quote.ensures ∙ c.if-is_quote.false in
     let hidden : set.contains (set_at s c.in-Some.head.hide) c.in-Some.head.token.text ≡ true = (λ i. set.contains (set_at s (sym c.hide.ensures i)) (sym c.text.ensures i)) ∙ sym c.has.ensures ∙ c.if-has.true in
-    sym (turn-hidden c.args.table.now c.args.env.now (hiding s c.in-Some.head) (hidings s c.next.new.self) quote hidden)
-    ∙ ap (λ l. turn c.args.table.now c.args.env.now (hidings s l)) (sym c.in-Some.ensures)
+    sym (ap (within c.args.left (t ∷ rest)) (turn-hidden c.args.table.now c.args.env.now t rest quote hidden) ∙ passes-within c.args.left (t ∷ rest) t rest)
+    ∙ ap (λ l. turn_within c.args.table.now c.args.env.now c.args.left (hidings s l)) (sym c.in-Some.ensures)
 
 pub returns-in_default-macro_of-clause-is : goal.returns-in_default-macro_of-clause-is
 returns-in_default-macro_of-clause-is c =
     let s = c.args.sets.now in
+    let t = hiding s c.in-Some.head in
+    let rest = hidings s c.next.new.self in
     let quote : is_lone_quote c.in-Some.head.token ≡ false = sym c.is_quote.ensures ∙ c.if-is_quote.false in
     let none : macro_of c.args.table.now c.in-Some.head.token ≡ None = sym c.macro_of.ensures ∙ ap option_copied c.in_default-macro_of.is in
-    sym (turn-unnamed c.args.table.now c.args.env.now (hiding s c.in-Some.head) (hidings s c.next.new.self) quote none)
-    ∙ ap (λ l. turn c.args.table.now c.args.env.now (hidings s l)) (sym c.in-Some.ensures)
+    sym (ap (within c.args.left (t ∷ rest)) (turn-unnamed c.args.table.now c.args.env.now t rest quote none) ∙ passes-within c.args.left (t ∷ rest) t rest)
+    ∙ ap (λ l. turn_within c.args.table.now c.args.env.now c.args.left (hidings s l)) (sym c.in-Some.ensures)
+
+pub returns-then-is_spent-clause-is : goal.returns-then-is_spent-clause-is
+returns-then-is_spent-clause-is c =
+    let s = c.args.sets.now in
+    let t = hiding s c.in-Some.head in
+    let rest = hidings s c.next.new.self in
+    let none : c.args.left ≡ Some 0 = nothing_left c.args.left (sym c.is_spent.ensures ∙ c.if-is_spent.true) in
+    c.in_ok-spent_turn.ensures.is s c.args.env.now
+    ∙ sym (named c.args.table.now c.args.env.now (Some 0) t rest _ (sym c.is_quote.ensures ∙ c.if-is_quote.false) ((λ i. set.contains (set_at s (sym c.hide.ensures i)) (sym c.text.ensures i)) ∙ sym c.has.ensures ∙ c.if-has.false) (sym c.macro_of.ensures ∙ ap option_copied c.in-Some-macro_of.is))
+    ∙ (λ i. turn_within c.args.table.now c.args.env.now (sym none i) (hidings s (sym c.in-Some.ensures i)))
 
 pub returns-clause-is : goal.returns-clause-is
 returns-clause-is c =
     let s = c.args.sets.now in
     let t = hiding s c.in-Some.head in
     let rest = hidings s c.next.new.self in
-    let quote : is_lone_quote c.in-Some.head.token ≡ false = sym c.is_quote.ensures ∙ c.if-is_quote.false in
-    let free : set.contains (set_at s c.in-Some.head.hide) c.in-Some.head.token.text ≡ false = (λ i. set.contains (set_at s (sym c.hide.ensures i)) (sym c.text.ensures i)) ∙ sym c.has.ensures ∙ c.if-has.false in
-    let found : macro_of c.args.table.now c.in-Some.head.token ≡ Some c.in-Some-macro_of.replaced.now = sym c.macro_of.ensures ∙ ap option_copied c.in-Some-macro_of.is in
-    let whole = sym (ap (named_turn c.args.env.now t rest) found)
-    ∙ sym (turn-named c.args.table.now c.args.env.now t rest quote free)
-    ∙ ap (λ l. turn c.args.table.now c.args.env.now (hidings s l)) (sym c.in-Some.ensures) in
+    let some = sym c.is_spent.ensures ∙ c.if-is_spent.false in
+    let whole = sym (free-within c.args.left (t ∷ rest) _ some)
+    ∙ sym (named c.args.table.now c.args.env.now c.args.left t rest _ (sym c.is_quote.ensures ∙ c.if-is_quote.false) ((λ i. set.contains (set_at s (sym c.hide.ensures i)) (sym c.text.ensures i)) ∙ sym c.has.ensures ∙ c.if-has.false) (sym c.macro_of.ensures ∙ ap option_copied c.in-Some-macro_of.is))
+    ∙ ap (λ l. turn_within c.args.table.now c.args.env.now c.args.left (hidings s l)) (sym c.in-Some.ensures) in
     subst (λ u. IfOk c.macro_turn.result (λ n. turn_in c.macro_turn.new.sets c.macro_turn.new.list n ≡ u)) whole c.macro_turn.ensures.is

@@ -1,4 +1,4 @@
-use Rattle.std.proofs.Common.{◌≡◌, ◌∙◌, ◌-◌, ◌<◌, ◌≤◌, suc, length, true, vec_len, ap, sym, arith}
+use Rattle.std.proofs.Common.{◌∙◌, ◌-◌, ◌<◌, ◌≤◌, suc, length, true, vec_len, ap, sym, arith}
 use Rattle.ppexpand.proofs.Marks.{marked-top, with_mark}
 use Rattle.ppexpand.specs.Lists.{marked}
 use Rattle.ppexpand.proofs.cursor.Cursor.mark_next.Goals as goal

@@ -1,4 +1,4 @@
-use Rattle.std.proofs.Common.{◌≡◌, ◌∙◌, ap, sym}
+use Rattle.std.proofs.Common.{◌∙◌, ap, sym}
 use Rattle.ppmacro.specs.Substituting.{tokens_of}
 use Rattle.ppexpand.proofs.Skipping.{tokens-with_set}
 use Rattle.ppexpand.proofs.stretch.Stretch.tokens.Goals as goal

@@ -1,0 +1,306 @@
+-- Expansion within a budget beside expansion without one.
+use Rattle.std.proofs.Common.{◌≡◌, ℕ, zero, suc, ◌+◌, ◌-◌, ◌<◌, List, [], ◌∷◌, Option, Some, None, Ok, Err, refl, sym, ap, ◌∙◌, subst, arith, append-nil, map}
+use Rattle.std.proofs.lemmas.List.{map-append}
+use Rattle.pptext.specs.declared.tokens.Token.{Token}
+use Rattle.ppexpand.specs.declared.expansion.Expanded.{Expanded}
+use Rattle.pptext.specs.declared.tokens.Fault.{Fault}
+use Rattle.ppmacro.specs.Names.{Macros}
+use Rattle.ppmacro.specs.HideSets.{Hiding}
+use Rattle.ppexpand.specs.declared.env.Env.{Env}
+use Rattle.ppexpand.specs.Turn.{Call, Turn, Done, Refused, Passes, Failed, Replaced, Called, turn, within, over, less_one, wanted, fault_at_use}
+use Rattle.ppexpand.specs.Expansion.{Outcome, ExpandedArguments, turn_within, Expands, done, refused, passes, failed, replaced, argument_refused, call_failed, call_replaced, ExpandsArguments, none, unused, too_deep, used, used_refused, count, count_arguments, IsExpansion, count_expansion}
+use Rattle.ppexpand.specs.Laws.{plus, IsBeginning, IsOver, IsCapped}
+use Rattle.ppexpand.proofs.Unique.{same_outcome}
+use native.Mathlib.Decide.{dec_lt}
+
+-- a turn that is a replacement
+abbrev pub Costs : Turn → Type 0
+Costs (Failed f) = Unit {0}
+Costs (Replaced next) = Unit {0}
+Costs (Called call) = Unit {0}
+Costs _ = ⊥
+
+-- a turn that costs nothing
+abbrev pub IsFree : Turn → Type 0
+IsFree Done = Unit {0}
+IsFree (Refused f) = Unit {0}
+IsFree (Passes t rest) = Unit {0}
+IsFree _ = ⊥
+
+over_is_free : (list : List Hiding) → IsFree (over list)
+over_is_free [] = tt
+over_is_free (t ∷ rest) = tt
+
+never_both : (t : Turn) → IsFree t → Costs t → ⊥
+never_both Done f c = c
+never_both (Refused g) f c = c
+never_both (Passes t rest) f c = c
+never_both (Failed g) f c = f
+never_both (Replaced next) f c = f
+never_both (Called call) f c = f
+
+nothing_is_free : (list : List Hiding) (t : Turn) → IsFree (within (Some zero) list t)
+nothing_is_free list Done = tt
+nothing_is_free list (Refused f) = tt
+nothing_is_free list (Passes t rest) = tt
+nothing_is_free list (Failed f) = over_is_free list
+nothing_is_free list (Replaced next) = over_is_free list
+nothing_is_free list (Called call) = over_is_free list
+
+-- a free turn is the same with any budget
+free_within : (left : Option ℕ) (list : List Hiding) (t : Turn) → IsFree t → within left list t ≡ t
+free_within None list t h = refl
+free_within (Some (suc n)) list t h = refl
+free_within (Some zero) list Done h = refl
+free_within (Some zero) list (Refused f) h = refl
+free_within (Some zero) list (Passes t rest) h = refl
+free_within (Some zero) list (Failed f) h = absurd h
+free_within (Some zero) list (Replaced next) h = absurd h
+free_within (Some zero) list (Called call) h = absurd h
+
+over_within : (list : List Hiding) (t : Turn) → Costs t → within (Some zero) list t ≡ over list
+over_within list Done h = absurd h
+over_within list (Refused f) h = absurd h
+over_within list (Passes t rest) h = absurd h
+over_within list (Failed f) h = refl
+over_within list (Replaced next) h = refl
+over_within list (Called call) h = refl
+
+-- so much was spent
+plus-plus : (m n : ℕ) (left : Option ℕ) → plus m (plus n left) ≡ plus (m + n) left
+plus-plus m n None = refl
+plus-plus m n (Some k) = ap Some (omega arith)
+
+plus-nothing : (left : Option ℕ) → left ≡ plus 0 left
+plus-nothing None = refl
+plus-nothing (Some n) = ap Some (omega arith)
+
+plus-none : (n : ℕ) (left : Option ℕ) → None ≡ plus n left → left ≡ None
+plus-none n None e = refl
+plus-none n (Some k) e = absurd (cc)
+
+module _ (macros : Macros) (env : Env) where
+  -- a replacement is paid
+  pays : (left : Option ℕ) (list : List Hiding) (t : Turn) → Costs t → turn_within macros env left list ≡ t → left ≡ plus 1 (less_one left)
+  pays None list t c e = refl
+  pays (Some (suc n)) list t c e = ap Some (omega arith)
+  pays (Some zero) list t c e = absurd (never_both t (subst IsFree e (nothing_is_free list (turn macros env list))) c)
+
+  paid_then : (left : Option ℕ) (list : List Hiding) (t : Turn) → Costs t → turn_within macros env left list ≡ t → (n : ℕ) (after : Option ℕ) → less_one left ≡ plus n after → left ≡ plus (suc n) after
+  paid_then left list t c e n after more = pays left list t c e ∙ ap (plus 1) more ∙ plus-plus 1 n after ∙ ap (λ k. plus k after) (omega arith)
+
+  mutual
+    -- what is spent and what is left are the budget
+    pub spends : {level turns : ℕ} {left : Option ℕ} {list : List Hiding} {out : Outcome} (d : Expands macros env level left turns list out) → left ≡ plus (count macros env d) out.left
+    spends {left = left} (done e) = plus-nothing left
+    spends {left = left} (refused e) = plus-nothing left
+    spends (passes e more) = spends more
+    spends {left = left} {list = list} (failed {f = f} e) = pays left list (Failed f) tt e
+    spends {left = left} {list = list} {out = out} (replaced {next = next} e more) = paid_then left list (Replaced next) tt e (count macros env more) out.left (spends more)
+    spends {left = left} {list = list} (argument_refused {after = after} {call = call} e a) = paid_then left list (Called call) tt e (count_arguments macros env a) after (spends_arguments a)
+    spends {left = left} {list = list} (call_failed {after = after} {call = call} e a f) = paid_then left list (Called call) tt e (count_arguments macros env a) after (spends_arguments a)
+    spends {left = left} {list = list} {out = out} (call_replaced {call = call} e a f more) =
+        paid_then left list (Called call) tt e (count_arguments macros env a + count macros env more) out.left
+        (spends_arguments a ∙ ap (plus (count_arguments macros env a)) (spends more) ∙ plus-plus (count_arguments macros env a) (count macros env more) out.left)
+
+    pub spends_arguments : {level : ℕ} {call : Call} {left after : Option ℕ} {as' : List (Option (List Hiding))} {r : ExpandedArguments} (a : ExpandsArguments macros env level call left as' after r) → left ≡ plus (count_arguments macros env a) after
+    spends_arguments {left = left} none = plus-nothing left
+    spends_arguments (unused more) = spends_arguments more
+    spends_arguments {left = left} (too_deep h) = plus-nothing left
+    spends_arguments {after = after} (used h one more) = spends one ∙ ap (plus (count macros env one)) (spends_arguments more) ∙ plus-plus (count macros env one) (count_arguments macros env more) after
+    spends_arguments (used_refused h one) = spends one
+
+  -- ---- with enough
+
+  free : {left : Option ℕ} (list : List Hiding) {t : Turn} → left ≡ None → turn_within macros env left list ≡ t → turn macros env list ≡ t
+  free list {t = t} is e = subst (λ l. turn_within macros env l list ≡ t) is e
+
+  free_turn : {left : Option ℕ} (list : List Hiding) {t : Turn} → left ≡ None → turn_within macros env left list ≡ t → IsFree t → (n : ℕ) → turn_within macros env (Some n) list ≡ t
+  free_turn list {t = t} is e h n =
+      let here : turn macros env list ≡ t = free list is e in
+      free_within (Some n) list (turn macros env list) (subst IsFree (sym here) h) ∙ here
+
+  pub left_none : {level turns : ℕ} {left after : Option ℕ} {list tokens : List Hiding} {fault : Option Fault} → left ≡ None → Expands macros env level left turns list (record { tokens = tokens; fault = fault; left = after }) → after ≡ None
+  left_none {after = after} is d = plus-none (count macros env d) after (sym is ∙ spends d)
+
+  arguments_none : {level : ℕ} {call : Call} {left after : Option ℕ} {as' : List (Option (List Hiding))} {r : ExpandedArguments} → left ≡ None → ExpandsArguments macros env level call left as' after r → after ≡ None
+  arguments_none {after = after} is a = plus-none (count_arguments macros env a) after (sym is ∙ spends_arguments a)
+
+  abbrev leaving : ℕ → Outcome → Outcome
+  leaving n out = record { tokens = out.tokens; fault = out.fault; left = Some n }
+
+  mutual
+    -- with as much as an expansion without a budget costs, and more, it is the same, and the rest is left
+    pub enough : {level turns : ℕ} {left : Option ℕ} {list : List Hiding} {out : Outcome} → left ≡ None → (d : Expands macros env level left turns list out) (b n : ℕ) → b ≡ count macros env d + n → Expands macros env level (Some b) turns list (leaving n out)
+    enough {level = level} {list = list} is (done e) b n sum =
+        let same : b ≡ n = omega arith in
+        subst (λ x. Expands macros env level (Some b) 0 list (record { tokens = []; fault = None; left = Some x })) same (done (free_turn list is e tt b))
+    enough {level = level} {list = list} is (refused {f = f} e) b n sum =
+        let same : b ≡ n = omega arith in
+        subst (λ x. Expands macros env level (Some b) 0 list (record { tokens = []; fault = Some f; left = Some x })) same (refused (free_turn list is e tt b))
+    enough {list = list} is (passes e more) b n sum = passes (free_turn list is e tt b) (enough is more b n sum)
+    enough is (failed e) zero n sum = absurd (omega arith)
+    enough {level = level} {list = list} is (failed {f = f} e) (suc b) n sum =
+        let same : b ≡ n = omega arith in
+        subst (λ x. Expands macros env level (Some (suc b)) 0 list (record { tokens = []; fault = Some f; left = Some x })) same (failed (free list is e))
+    enough is (replaced e more) zero n sum = absurd (omega arith)
+    enough {list = list} is (replaced e more) (suc b) n sum = replaced (free list is e) (enough (ap less_one is) more b n (omega arith))
+    enough is (argument_refused e a) zero n sum = absurd (omega arith)
+    enough {list = list} is (argument_refused e a) (suc b) n sum = argument_refused (free list is e) (enough_arguments (ap less_one is) a b n (omega arith))
+    enough is (call_failed e a f) zero n sum = absurd (omega arith)
+    enough {list = list} is (call_failed e a f) (suc b) n sum = call_failed (free list is e) (enough_arguments (ap less_one is) a b n (omega arith)) f
+    enough is (call_replaced e a f more) zero n sum = absurd (omega arith)
+    enough {list = list} is (call_replaced e a f more) (suc b) n sum =
+        let k = count macros env more in
+        call_replaced (free list is e) (enough_arguments (ap less_one is) a b (k + n) (omega arith)) f (enough (arguments_none (ap less_one is) a) more (k + n) n refl)
+
+    pub enough_arguments : {level : ℕ} {call : Call} {left after : Option ℕ} {as' : List (Option (List Hiding))} {r : ExpandedArguments} → left ≡ None → (a : ExpandsArguments macros env level call left as' after r) (b n : ℕ) → b ≡ count_arguments macros env a + n → ExpandsArguments macros env level call (Some b) as' (Some n) r
+    enough_arguments {level = level} {call = call} is none b n sum =
+        let same : b ≡ n = omega arith in
+        subst (λ x. ExpandsArguments macros env level call (Some b) [] (Some x) (Ok [])) same none
+    enough_arguments is (unused more) b n sum = unused (enough_arguments is more b n sum)
+    enough_arguments {level = level} {call = call} {as' = as'} is (too_deep h) b n sum =
+        let same : b ≡ n = omega arith in
+        subst (λ x. ExpandsArguments macros env level call (Some b) as' (Some x) (Err (fault_at_use 21 call.head))) same (too_deep h)
+    enough_arguments is (used h one more) b n sum =
+        let k = count_arguments macros env more in
+        used h (enough is one b (k + n) (omega arith)) (enough_arguments (left_none is one) more (k + n) n refl)
+    enough_arguments is (used_refused h one) b n sum = used_refused h (enough is one b n sum)
+
+  -- ---- with less
+
+  abbrev pub Stops : ℕ → ℕ → List Hiding → Outcome → Type 0
+  Stops level b list whole = (turns : ℕ) × (out : Outcome) × Expands macros env level (Some b) turns list out × IsBeginning out.tokens whole.tokens × IsOver out
+
+  abbrev pub ArgumentsStop : ℕ → Call → ℕ → List (Option (List Hiding)) → Type 0
+  ArgumentsStop level call b as' = (f : Fault) × (f.number ≡ 35) × ExpandsArguments macros env level call (Some b) as' (Some 0) (Err f)
+
+  stops_here : {level : ℕ} (list : List Hiding) (whole : Outcome) (t : Turn) → turn macros env list ≡ t → Costs t → Stops level 0 list whole
+  unfolding turn
+  stops_here [] whole t e c = absurd (never_both t (subst IsFree e tt) c)
+  stops_here (x ∷ rest) whole t e c = (
+    0,
+    record { tokens = []; fault = Some (record { number = 35; at = x.token.used; text = [] }); left = Some 0 },
+    refused (over_within (x ∷ rest) (turn macros env (x ∷ rest)) (subst Costs (sym e) c)),
+    (whole.tokens, refl),
+    record { fault = record { number = 35; at = x.token.used; text = [] }; is = refl; number = refl; left = refl },
+  )
+
+  stops_passed : {level b : ℕ} {list rest : List Hiding} {t : Hiding} (whole : Outcome) → turn_within macros env (Some b) list ≡ Passes t rest → Stops level b rest whole → Stops level b list (record { tokens = t ∷ whole.tokens; fault = whole.fault; left = whole.left })
+  stops_passed {t = t} whole e s =
+      (suc s.0, record { tokens = t ∷ s.1.tokens; fault = s.1.fault; left = s.1.left }, passes e s.2, (s.3.0, ap (λ xs. t ∷ xs) s.3.1), record { fault = s.4.fault; is = s.4.is; number = s.4.number; left = s.4.left })
+
+  stops_argument : {level b : ℕ} {list : List Hiding} {call : Call} (whole : Outcome) → turn macros env list ≡ Called call → ArgumentsStop level call b (wanted call) → Stops level (suc b) list whole
+  stops_argument whole e s =
+      (0, record { tokens = []; fault = Some s.0; left = Some 0 }, argument_refused e s.2, (whole.tokens, refl), record { fault = s.0; is = refl; number = s.1; left = refl })
+
+  stops_used : {level b : ℕ} {call : Call} {list : List Hiding} {rest : List (Option (List Hiding))} (whole : Outcome) → level < 256 → Stops (suc level) b list whole → ArgumentsStop level call b (Some list ∷ rest)
+  stops_used {level = level} {b = b} {list = list} whole h s =
+      let o = s.4 in
+      (o.fault, o.number, used_refused h (subst (λ x. Expands macros env (suc level) (Some b) s.0 list x) (λ i. record { tokens = s.1.tokens; fault = o.is i; left = o.left i }) s.2))
+
+  mutual
+    pub short : {level turns : ℕ} {left : Option ℕ} {list : List Hiding} {out : Outcome} → left ≡ None → (d : Expands macros env level left turns list out) (b : ℕ) → b < count macros env d → Stops level b list out
+    short is (done e) b h = absurd (omega arith)
+    short is (refused e) b h = absurd (omega arith)
+    short {list = list} is (passes {out = out} e more) b h = stops_passed out (free_turn list is e tt b) (short is more b h)
+    short {list = list} {out = out} is (failed {f = f} e) zero h = stops_here list out (Failed f) (free list is e) tt
+    short is (failed e) (suc b) h = absurd (omega arith)
+    short {list = list} {out = out} is (replaced {next = next} e more) zero h = stops_here list out (Replaced next) (free list is e) tt
+    short {list = list} is (replaced e more) (suc b) h =
+        let s = short (ap less_one is) more b (omega arith) in
+        (suc s.0, s.1, replaced (free list is e) s.2, s.3, s.4)
+    short {list = list} {out = out} is (argument_refused {call = call} e a) zero h = stops_here list out (Called call) (free list is e) tt
+    short {list = list} {out = out} is (argument_refused e a) (suc b) h = stops_argument out (free list is e) (short_arguments (ap less_one is) a b (omega arith))
+    short {list = list} {out = out} is (call_failed {call = call} e a f) zero h = stops_here list out (Called call) (free list is e) tt
+    short {list = list} {out = out} is (call_failed e a f) (suc b) h = stops_argument out (free list is e) (short_arguments (ap less_one is) a b (omega arith))
+    short {list = list} {out = out} is (call_replaced {call = call} e a f more) zero h = stops_here list out (Called call) (free list is e) tt
+    short {level = level} {list = list} {out = out} is (call_replaced e a f more) (suc b) h =
+        elim (dec_lt b (count_arguments macros env a)) [
+          | yes less ↦ stops_argument out (free list is e) (short_arguments (ap less_one is) a b less)
+          | no not_less ↦
+              (let m = count_arguments macros env a in
+              let n = b - m in
+              let sum : m + n ≡ b = omega arith in
+              let s = short (arguments_none (ap less_one is) a) more n (omega arith) in
+              (suc s.0, s.1, call_replaced (free list is e) (enough_arguments (ap less_one is) a b n (sym sum)) f s.2, s.3, s.4))
+        ]
+
+    pub short_arguments : {level : ℕ} {call : Call} {left after : Option ℕ} {as' : List (Option (List Hiding))} {r : ExpandedArguments} → left ≡ None → (a : ExpandsArguments macros env level call left as' after r) (b : ℕ) → b < count_arguments macros env a → ArgumentsStop level call b as'
+    short_arguments is none b h = absurd (omega arith)
+    short_arguments is (unused more) b h =
+        let s = short_arguments is more b h in
+        (s.0, s.1, unused s.2)
+    short_arguments is (too_deep deep) b h = absurd (omega arith)
+    short_arguments {level = level} {call = call} {as' = as'} is (used {between = between} {tokens = tokens} low one more) b h =
+        elim (dec_lt b (count macros env one)) [
+          | yes less ↦ stops_used (record { tokens = tokens; fault = None; left = between }) low (short is one b less)
+          | no not_less ↦
+              (let m = count macros env one in
+              let n = b - m in
+              let sum : m + n ≡ b = omega arith in
+              let s = short_arguments (left_none is one) more n (omega arith) in
+              (s.0, s.1, used low (enough is one b n (sym sum)) s.2))
+        ]
+    short_arguments is (used_refused {after = after} {tokens = tokens} {f = f} low one) b h = stops_used (record { tokens = tokens; fault = Some f; left = after }) low (short is one b h)
+
+  -- an expansion within a budget, beside the one without
+  pub capped : {level turns : ℕ} {list : List Hiding} {whole : Outcome} (d : Expands macros env level None turns list whole) (b n : ℕ) (out : Outcome) → Expands macros env level (Some b) n list out → IsCapped b (count macros env d) whole out
+  capped {level = level} {turns = turns} {list = list} {whole = whole} d b n out o =
+      let c = count macros env d in
+      elim (dec_lt b c) [
+        | yes less ↦
+            (let s = short refl d b less in
+            let same : s.1 ≡ out = (same_outcome macros env s.2 n out o).1 in
+            subst (IsCapped b c whole) same
+            (record { tokens = s.3; enough = λ h. absurd (omega arith); short = λ h. s.4 }))
+        | no not_less ↦
+            (let k = b - c in
+            let sum : c + k ≡ b = omega arith in
+            let there : Expands macros env level (Some b) turns list (leaving k whole) = enough refl d b k (sym sum) in
+            let same : leaving k whole ≡ out = (same_outcome macros env there n out o).1 in
+            subst (IsCapped b c whole) same
+            (record { tokens = ([], sym (append-nil whole.tokens)); enough = λ h. (refl, refl, refl); short = λ h. absurd (omega arith) }))
+      ]
+
+  -- ---- expansions of tokens
+
+  pub expansion_spends : {left : Option ℕ} {tokens : List Token} {e : Expanded} (x : IsExpansion macros env left tokens e) → left ≡ plus (count_expansion x) e.left
+  expansion_spends x = spends x.expands.1 ∙ ap (plus (count_expansion x)) (sym x.left_over)
+
+  pub expansion_enough : {left : Option ℕ} {tokens : List Token} {e : Expanded} → left ≡ None → (x : IsExpansion macros env left tokens e) (b n : ℕ) → b ≡ count_expansion x + n → IsExpansion macros env (Some b) tokens (record e { left = Some n })
+  expansion_enough is x b n sum = record { outcome = leaving n x.outcome; expands = (x.expands.0, enough is x.expands.1 b n sum); passed = x.passed; ended = x.ended; left_over = refl }
+
+  -- a list of tokens that stops by fault 35
+  pub record StopsEarly (b : ℕ) (tokens : List Token) (whole : Expanded) : Type 0 where
+    pub expanded : Expanded
+    pub is : IsExpansion macros env (Some b) tokens expanded
+    pub begins : IsBeginning expanded.tokens whole.tokens
+    pub fault : Fault
+    pub stopped : expanded.fault ≡ Some fault
+    pub number : fault.number ≡ 35
+    pub nothing : expanded.left ≡ Some 0
+
+  pub expansion_short : {left : Option ℕ} {tokens : List Token} {e : Expanded} → left ≡ None → (x : IsExpansion macros env left tokens e) (b : ℕ) → b < count_expansion x → StopsEarly b tokens e
+  expansion_short {e = e} is x b less =
+      let s = short is x.expands.1 b less in
+      let text : Hiding → Token = λ t. t.token in
+      record {
+        expanded = record { tokens = map text s.1.tokens; fault = s.1.fault; left = s.1.left };
+        is = record { outcome = s.1; expands = (s.0, s.2); passed = refl; ended = refl; left_over = refl };
+        begins = (map text s.3.0, x.passed ∙ ap (map text) s.3.1 ∙ map-append text s.1.tokens s.3.0);
+        fault = s.4.fault;
+        stopped = s.4.is;
+        number = s.4.number;
+        nothing = s.4.left;
+      }
+
+  -- a list without a budget has one count
+  pub one_count : {level m n : ℕ} {list : List Hiding} {o p : Outcome} (d : Expands macros env level None m list o) (e : Expands macros env level None n list p) → count macros env d ≡ count macros env e
+  one_count {m = m} {n = n} {o = o} {p = p} d e =
+      let j = count macros env d in
+      let k = count macros env e in
+      let same : leaving k o ≡ leaving j p = (same_outcome macros env (enough refl d (j + k) k refl) n (leaving j p) (enough refl e (j + k) j (omega arith))).1 in
+      let lefts : Some k ≡ Some j = ap (λ x. x.left) same in
+      let counts : k ≡ j = cc in
+      sym counts

@@ -1,0 +1,178 @@
+-- Without a budget no expansion ends in fault 35: the numbers of the other faults are smaller.
+use Rattle.std.proofs.Common.{◌≡◌, ◌≢◌, ℕ, ◌<◌, Bool, true, false, List, [], ◌∷◌, ◌++◌, Option, Some, None, Result, Ok, Err, refl, sym, ap, ◌∙◌, subst, map, arith, if◌then◌else◌}
+use Rattle.std.specs.FinSet as set
+use Rattle.pptext.specs.declared.tokens.Place.{Place}
+use Rattle.pptext.specs.declared.tokens.Token.{Token}
+use Rattle.pptext.specs.declared.tokens.Fault.{Fault}
+use Rattle.pptext.specs.declared.tokens.Kind.{Kind}
+use Rattle.ppmacro.specs.Names.{Name, HideSet, Macros}
+use Rattle.ppmacro.specs.HideSets.{Hiding}
+use Rattle.ppmacro.specs.Define.{fault}
+use Rattle.ppmacro.specs.Chains.{chains_of}
+use Rattle.ppmacro.specs.Lexing.{kind_of}
+use Rattle.ppmacro.specs.declared.macros.Shape.{Shape}
+use Rattle.ppmacro.specs.declared.macros.Shape.TheVariants.{Predefined, ObjectLike, FunctionLike}
+use Rattle.ppmacro.specs.declared.macros.Definition.{Definition}
+use Rattle.ppmacro.specs.declared.macros.Chain.{Chain}
+use Rattle.ppmacro.specs.declared.macros.Operand.{Operand}
+use Rattle.ppmacro.specs.declared.macros.Operand.TheVariants.{Tok, Param, Str}
+use Rattle.ppmacro.specs.Substitution.{string_text, string_token, is_string_literal, stringized, pasted_as, pasted, after_ok, join, join_all, Arguments, argument_at, operand_tokens, operands_tokens, is_joined, chain_tokens, Marked, chains_tokens, substituted}
+use Rattle.ppexpand.specs.declared.env.Env.{Env}
+use Rattle.ppexpand.specs.declared.expansion.Expanded.{Expanded}
+use Rattle.ppexpand.specs.Arguments.{is_lone_quote, is_open, Gathered, Closed, Quoted, Unclosed, gather, separators, fitted}
+use Rattle.ppexpand.specs.Turn.{Call, Turn, Refused, Passes, Failed, replaced_by, quote_fault, called, invoked, function_turn, no_arguments, macro_turn, named_turn, macro_of, turn, less_one, finished}
+use Rattle.ppexpand.specs.Expansion.{Outcome, ExpandedArguments, with_expanded, turn_within, Expands, done, refused, passes, failed, replaced, argument_refused, call_failed, call_replaced, ExpandsArguments, none, unused, too_deep, used as was_used, used_refused, count, count_arguments, ExpandsTo, IsExpansion}
+use Rattle.ppexpand.specs.Laws.{plus}
+use Rattle.ppexpand.proofs.Budget.{spends, spends_arguments}
+
+-- the fault of a result, if it is one, has a smaller number
+abbrev IsBelow : {A : Type 0} → Result A Fault → Type 0
+IsBelow (Ok x) = Unit {0}
+IsBelow (Err f) = f.number < 35
+
+below_either : {A : Type 0} (b : Bool) (r s : Result A Fault) → IsBelow r → IsBelow s → IsBelow (if b then r else s)
+below_either true r s h k = h
+below_either false r s h k = k
+
+below_after : {A B : Type 0} (r : Result A Fault) (g : A → Result B Fault) → IsBelow r → ((a : A) → IsBelow (g a)) → IsBelow (after_ok r g)
+below_after (Ok a) g h k = k a
+below_after (Err f) g h k = h
+
+-- ---- substitution: 19 and 20
+
+below_stringized : (argument : List Token) (at used : Place) → IsBelow (stringized argument at used)
+below_stringized argument at used =
+    below_either (is_string_literal (kind_of (string_text argument))) (Ok (string_token (string_text argument) at used)) (Err (fault 20 used (string_text argument))) tt (omega arith)
+
+below_pasted_as : (k : Option Kind) (left right : Hiding) (used : Place) → IsBelow (pasted_as k left right used)
+below_pasted_as None left right used = omega arith
+below_pasted_as (Some k) left right used = tt
+
+below_join : (left right : List Hiding) (used : Place) → IsBelow (join left right used)
+below_join [] right used = tt
+below_join (l ∷ ls) [] used = tt
+below_join (l ∷ []) (r ∷ rs) used = below_after (pasted l r used) _ (below_pasted_as (kind_of (l.token.text ++ r.token.text)) l r used) (λ t. tt)
+below_join (l ∷ (m ∷ ls)) (r ∷ rs) used = below_after (join (m ∷ ls) (r ∷ rs) used) _ (below_join (m ∷ ls) (r ∷ rs) used) (λ ts. tt)
+
+below_join_all : (left : List Hiding) (lists : List (List Hiding)) (used : Place) → IsBelow (join_all left lists used)
+below_join_all left [] used = tt
+below_join_all left (right ∷ rest) used = below_after (join left right used) _ (below_join left right used) (λ ts. below_join_all ts rest used)
+
+below_operand : (beside : Bool) (args : Arguments) (used : Place) (o : Operand) → IsBelow (operand_tokens beside args used o)
+below_operand beside args used (Tok t) = tt
+below_operand true args used (Param i) = tt
+below_operand false args used (Param i) = tt
+below_operand beside args used (Str i at) =
+    let argument : List Token = map (λ t. t.token) (argument_at args.given i) in
+    below_after {B = List Hiding} (stringized argument at used) (λ t. Ok (t ∷ [])) (below_stringized argument at used) (λ t. tt)
+
+below_operands : (beside : Bool) (args : Arguments) (used : Place) (os : List Operand) → IsBelow (operands_tokens beside args used os)
+below_operands beside args used [] = tt
+below_operands beside args used (o ∷ os) =
+    below_after (operand_tokens beside args used o) _ (below_operand beside args used o) (λ ts. below_after (operands_tokens beside args used os) _ (below_operands beside args used os) (λ rest. tt))
+
+below_chain : (args : Arguments) (used : Place) (c : Chain) → IsBelow (chain_tokens args used c)
+below_chain args used c = below_after (operands_tokens (is_joined c.operands) args used c.operands) _ (below_operands (is_joined c.operands) args used c.operands) (λ lists. below_join_all [] lists used)
+
+below_chains : (args : Arguments) (used : Place) (pending first : Bool) (cs : List Chain) → IsBelow (chains_tokens args used pending first cs)
+below_chains args used pending first [] = tt
+below_chains args used pending first (c ∷ cs) =
+    below_after (chain_tokens args used c) _ (below_chain args used c) (λ ts. below_after (chains_tokens args used _ false cs) _ (below_chains args used _ false cs) (λ rest. tt))
+
+below_substituted : (d : Definition) (args : Arguments) (gain : HideSet) (used : Place) (space : Bool) → IsBelow (substituted d args gain used space)
+below_substituted d args gain used space = below_after (chains_tokens args used space true (chains_of d)) _ (below_chains args used space true (chains_of d)) (λ m. tt)
+
+-- ---- turns: 7, 17, 18 and those
+
+abbrev IsTurnBelow : Turn → Type 0
+IsTurnBelow (Refused f) = f.number < 35
+IsTurnBelow (Failed f) = f.number < 35
+IsTurnBelow _ = Unit {0}
+
+turn_either : (b : Bool) (t u : Turn) → IsTurnBelow t → IsTurnBelow u → IsTurnBelow (if b then t else u)
+turn_either true t u h k = h
+turn_either false t u h k = k
+
+below_replaced : (r : Result Marked Fault) (behind : List Hiding) → IsBelow r → IsTurnBelow (replaced_by r behind)
+below_replaced (Ok m) behind h = tt
+below_replaced (Err f) behind h = h
+
+below_called : (t : Hiding) (d : Definition) (as' : Option (List (List Hiding))) (close : Hiding) (behind : List Hiding) → IsTurnBelow (called t d as' close behind)
+below_called t d (Some as') close behind = tt
+below_called t d None close behind = omega arith
+
+below_invoked : (t : Hiding) (d : Definition) (names : List Name) (variadic : Bool) (g : Gathered) → IsTurnBelow (invoked t d names variadic g)
+below_invoked t d names variadic (Closed as' close behind) = below_called t d (fitted names variadic as') close behind
+below_invoked t d names variadic (Quoted q) = omega arith
+below_invoked t d names variadic Unclosed = omega arith
+
+below_function : (t : Hiding) (d : Definition) (names : List Name) (variadic : Bool) (list : List Hiding) → IsTurnBelow (function_turn t d names variadic list)
+below_function t d names variadic [] = tt
+below_function t d names variadic (p ∷ rest) =
+    turn_either (is_open p.token) (invoked t d names variadic (gather 0 (separators names variadic) rest)) (Passes t (p ∷ rest)) (below_invoked t d names variadic (gather 0 (separators names variadic) rest)) tt
+
+below_macro : (env : Env) (t : Hiding) (rest : List Hiding) (d : Definition) (shape : Shape) → IsTurnBelow (macro_turn env t rest d shape)
+below_macro env t rest d (Predefined b) = tt
+below_macro env t rest d ObjectLike = below_replaced (substituted d no_arguments _ t.token.used t.token.space) rest (below_substituted d no_arguments _ t.token.used t.token.space)
+below_macro env t rest d (FunctionLike names variadic) = below_function t d names variadic rest
+
+below_named : (env : Env) (t : Hiding) (rest : List Hiding) (d : Option Definition) → IsTurnBelow (named_turn env t rest d)
+below_named env t rest (Some d) = below_macro env t rest d d.shape
+below_named env t rest None = tt
+
+below_turn : (macros : Macros) (env : Env) (list : List Hiding) → IsTurnBelow (turn macros env list)
+unfolding turn
+below_turn macros env [] = tt
+below_turn macros env (t ∷ rest) =
+    turn_either (is_lone_quote t.token) (Refused (quote_fault t)) (if set.contains t.hide t.token.text then Passes t rest else named_turn env t rest (macro_of macros t.token)) (omega arith)
+    (turn_either (set.contains t.hide t.token.text) (Passes t rest) (named_turn env t rest (macro_of macros t.token)) tt (below_named env t rest (macro_of macros t.token)))
+
+below_finished : (call : Call) (expanded : List (Option (List Hiding))) → IsTurnBelow (finished call expanded)
+unfolding finished
+below_finished call expanded = below_replaced _ call.behind (below_substituted call.macro (record { given = call.arguments; expanded = expanded }) call.gain call.head.token.used call.head.token.space)
+
+-- ---- expansions: 21 and those
+
+plus-none : (n : ℕ) (left : Option ℕ) → None ≡ plus n left → left ≡ None
+plus-none n None e = refl
+plus-none n (Some k) e = absurd (cc)
+
+abbrev IsFaultBelow : Option Fault → Type 0
+IsFaultBelow None = Unit {0}
+IsFaultBelow (Some f) = f.number < 35
+
+below_expanded : (a : Option (List Hiding)) (r : ExpandedArguments) → IsBelow r → IsBelow (with_expanded a r)
+below_expanded a (Ok as') h = tt
+below_expanded a (Err f) h = h
+
+module _ (macros : Macros) (env : Env) where
+  of_turn : {left : Option ℕ} (list : List Hiding) {t : Turn} → left ≡ None → turn_within macros env left list ≡ t → IsTurnBelow t
+  of_turn list {t = t} is e = subst IsTurnBelow (subst (λ l. turn_within macros env l list ≡ t) is e) (below_turn macros env list)
+
+  mutual
+    below : {level turns : ℕ} {left : Option ℕ} {list : List Hiding} {out : Outcome} → left ≡ None → Expands macros env level left turns list out → IsFaultBelow out.fault
+    below is (done e) = tt
+    below {list = list} is (refused e) = of_turn list is e
+    below is (passes e more) = below is more
+    below {list = list} is (failed e) = of_turn list is e
+    below is (replaced e more) = below (ap less_one is) more
+    below is (argument_refused e a) = below_arguments (ap less_one is) a
+    below is (call_failed {call = call} {expanded = expanded} e a f) = subst IsTurnBelow f (below_finished call expanded)
+    below is (call_replaced {after = after} e a f more) = below (plus-none (count_arguments macros env a) after (sym (ap less_one is) ∙ spends_arguments macros env a)) more
+
+    below_arguments : {level : ℕ} {call : Call} {left after : Option ℕ} {as' : List (Option (List Hiding))} {r : ExpandedArguments} → left ≡ None → ExpandsArguments macros env level call left as' after r → IsBelow r
+    below_arguments is none = tt
+    below_arguments is (unused {out = out} more) = below_expanded None out (below_arguments is more)
+    below_arguments is (too_deep h) = omega arith
+    below_arguments is (was_used {between = between} {tokens = tokens} {out = out} h one more) =
+        below_expanded (Some tokens) out (below_arguments (plus-none (count macros env one) between (sym is ∙ spends macros env one)) more)
+    below_arguments is (used_refused h one) = below is one
+
+  never : (o : Option Fault) (f : Fault) → o ≡ Some f → IsFaultBelow o → f.number ≢ 35
+  never o f is h e = let less : f.number < 35 = subst IsFaultBelow is h in absurd (omega arith)
+
+  pub never_refused : {level : ℕ} {list : List Hiding} {out : Outcome} {f : Fault} → ExpandsTo macros env level None list out → out.fault ≡ Some f → f.number ≢ 35
+  never_refused {out = out} {f = f} d is = never out.fault f is (below refl d.1)
+
+  pub expansion_never_refused : {tokens : List Token} {e : Expanded} {f : Fault} → IsExpansion macros env None tokens e → e.fault ≡ Some f → f.number ≢ 35
+  expansion_never_refused x is = never_refused x.expands (sym x.ended ∙ is)

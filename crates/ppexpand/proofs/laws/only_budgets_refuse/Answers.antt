@@ -1,0 +1,5 @@
+use Rattle.ppexpand.proofs.Refusing.{never_refused}
+use Rattle.ppexpand.proofs.laws.only_budgets_refuse.Goals as goal
+
+pub returns : goal.returns
+returns c = λ macros env level list out f d is. never_refused macros env d is
