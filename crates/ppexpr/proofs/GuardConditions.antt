@@ -1,17 +1,13 @@
 -- The condition of a guard (6.10.1) whose name is a macro's.
-use Rattle.std.proofs.Common.{◌≡◌, ℕ, pos, Bool, true, false, List, [], ◌∷◌, None, Ok, refl, ap, subst, codes, if◌then◌else◌, is_some, arith}
-use Rattle.std.specs.Ordering.{nat_cmp}
-use Rattle.std.specs.Cmp.Lexicographic.{slice_cmp}
-use Rattle.std.specs.FinSet as set
+use Rattle.std.proofs.Common.{◌≡◌, ℕ, pos, Bool, true, false, List, [], ◌∷◌, Option, None, Ok, refl, ap, subst, codes, if◌then◌else◌, is_some, arith}
 use Rattle.std.specs.FinMap as table
 use Rattle.pptext.specs.declared.tokens.Place.{Place}
 use Rattle.pptext.specs.declared.tokens.Token.{Token}
 use Rattle.pptext.specs.declared.tokens.Kind.TheVariants.{Ident, Number, Punct}
 use Rattle.ppmacro.specs.Names.{Macros}
-use Rattle.ppmacro.specs.Substitution.{plain}
 use Rattle.ppexpand.specs.declared.env.Env.{Env}
-use Rattle.ppexpand.specs.Turn.{turn}
-use Rattle.ppexpand.specs.Expansion.{IsExpansion, done, passes}
+use Rattle.ppexpand.specs.Expansion.{IsExpansion, ended}
+use Rattle.ppexpand.proofs.Skipping.{expansion-behind, expands-nothing}
 use Rattle.ppexpr.specs.declared.symbols.Value.TheVariants.{Signed}
 use Rattle.ppexpr.specs.declared.symbols.Operator.TheVariants.{Bang}
 use Rattle.ppexpr.specs.declared.symbols.Symbol.{Symbol}
@@ -62,26 +58,17 @@ as_one t = record t { kind = Number; text = codes "1" }
 abbrev not_one : Token → Token → List Token
 not_one n f = punctuator (codes "!") n ∷ as_one f ∷ []
 
-unhidden : {A : Type 0} (text : List ℕ) (a b : A) → (if set.contains {R = slice_cmp nat_cmp} set.empty text then a else b) ≡ b
-unhidden text a b = ap (λ (h : Bool). if h then a else b) (set.contains-empty (slice_cmp nat_cmp) text)
+not_one_expands : (macros : Macros) (env : Env) (left : Option ℕ) (n f : Token) → IsExpansion macros env left (not_one n f) (record { tokens = not_one n f; fault = None; left = left })
+not_one_expands macros env left n f = expansion-behind macros env left (not_one n f) (not_one n f) [] (record { tokens = not_one n f; fault = None; left = left }) (ended left None) refl (refl, (refl, tt)) (expands-nothing macros env 0 left) refl refl refl
 
-not_one_expands : (macros : Macros) (env : Env) (n f : Token) → IsExpansion macros env (not_one n f) (record { tokens = not_one n f; fault = None })
-unfolding turn
-not_one_expands macros env n f = record {
-  outcome = record { tokens = plain (punctuator (codes "!") n) ∷ plain (as_one f) ∷ []; fault = None };
-  expands = (2, passes (unhidden (codes "!") _ _) (passes (unhidden (codes "1") _ _) (done refl)));
-  passed = refl;
-  ended = refl;
-}
-
-asked_false : (macros : Macros) (env : Env) (at : Place) (tokens : List Token) (n f x : Token) → is_some (table.get macros x.text) ≡ true → Asks macros tokens (punctuator (codes "!") n ∷ answer macros (as_defined f) (as_name x) ∷ []) → IsCondition macros env at tokens (Ok false)
-asked_false macros env at tokens n f x known asks =
-    replaced (subst (Asks macros tokens) (ap (λ (b : Bool). punctuator (codes "!") n ∷ record f { kind = Number; text = if b then codes "1" else codes "0" } ∷ []) known) asks) (not_one_expands macros env n f) refl (constants refl refl (not_nested shallow (is_false at)))
+asked_false : (macros : Macros) (env : Env) (at : Place) (tokens : List Token) (left : Option ℕ) (n f x : Token) → is_some (table.get macros x.text) ≡ true → Asks macros tokens (punctuator (codes "!") n ∷ answer macros (as_defined f) (as_name x) ∷ []) → IsCondition macros env at tokens left (Ok false) left
+asked_false macros env at tokens left n f x known asks =
+    replaced (subst (Asks macros tokens) (ap (λ (b : Bool). punctuator (codes "!") n ∷ record f { kind = Number; text = if b then codes "1" else codes "0" } ∷ []) known) asks) (not_one_expands macros env left n f) refl refl (constants refl refl (not_nested shallow (is_false at)))
 
 -- ---- `! defined X` and `! defined ( X )`
 
-pub bare_false : (macros : Macros) (env : Env) (at : Place) (n f x : Token) → is_some (table.get macros x.text) ≡ true → IsCondition macros env at (punctuator (codes "!") n ∷ as_defined f ∷ as_name x ∷ []) (Ok false)
-bare_false macros env at n f x known = asked_false macros env at _ n f x known (other refl (question refl refl nothing))
+pub bare_false : (macros : Macros) (env : Env) (at : Place) (left : Option ℕ) (n f x : Token) → is_some (table.get macros x.text) ≡ true → IsCondition macros env at (punctuator (codes "!") n ∷ as_defined f ∷ as_name x ∷ []) left (Ok false) left
+bare_false macros env at left n f x known = asked_false macros env at _ left n f x known (other refl (question refl refl nothing))
 
-pub parenthesized_false : (macros : Macros) (env : Env) (at : Place) (n f l x r : Token) → is_some (table.get macros x.text) ≡ true → IsCondition macros env at (punctuator (codes "!") n ∷ as_defined f ∷ punctuator (codes "(") l ∷ as_name x ∷ punctuator (codes ")") r ∷ []) (Ok false)
-parenthesized_false macros env at n f l x r known = asked_false macros env at _ n f x known (other refl (question refl refl nothing))
+pub parenthesized_false : (macros : Macros) (env : Env) (at : Place) (left : Option ℕ) (n f l x r : Token) → is_some (table.get macros x.text) ≡ true → IsCondition macros env at (punctuator (codes "!") n ∷ as_defined f ∷ punctuator (codes "(") l ∷ as_name x ∷ punctuator (codes ")") r ∷ []) left (Ok false) left
+parenthesized_false macros env at left n f l x r known = asked_false macros env at _ left n f x known (other refl (question refl refl nothing))

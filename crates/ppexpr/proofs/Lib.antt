@@ -15,3 +15,4 @@ pub mod OneCondition
 pub mod SomeCondition
 pub mod Types
 pub mod GuardConditions
+pub mod Capped

@@ -1,5 +1,5 @@
 -- A condition has at most one answer.
-use Rattle.std.proofs.Common.{◌≡◌, List, [], ◌∷◌, Some, None, Ok, Err, refl, sym, ◌∙◌, ap, map, subst}
+use Rattle.std.proofs.Common.{◌≡◌, ℕ, List, [], ◌∷◌, Option, Some, None, Ok, Err, refl, sym, ◌∙◌, ap, map, subst}
 use Rattle.pptext.specs.declared.tokens.Place.{Place}
 use Rattle.pptext.specs.declared.tokens.Token.{Token}
 use Rattle.pptext.specs.declared.tokens.Fault.{Fault}
@@ -30,12 +30,13 @@ same_asks macros ts us vs (question {d = d} {ts = ss} {us = xs} {o = o} e g a) h
     let b : Begins macros (answer macros d o.name) o.rest vs = begins_question macros d ss vs o e g h in
     ap (λ x. answer macros d o.name ∷ x) (same_asks macros o.rest xs b.us a b.asks) ∙ sym b.is
 
-same_expansion : (macros : Macros) (env : Env) (ts : List Token) (d e : Expanded) → IsExpansion macros env ts d → IsExpansion macros env ts e → d ≡ e
-same_expansion macros env ts d e g h =
+same_expansion : (macros : Macros) (env : Env) (left : Option ℕ) (ts : List Token) (d e : Expanded) → IsExpansion macros env left ts d → IsExpansion macros env left ts e → d ≡ e
+same_expansion macros env left ts d e g h =
     let same : g.outcome ≡ h.outcome = (same_outcome macros env g.expands.1 h.expands.0 h.outcome h.expands.1).1 in
     let passed : d.tokens ≡ e.tokens = g.passed ∙ (ap (λ o. map (λ t. t.token) o.tokens) same ∙ sym h.passed) in
     let ended : d.fault ≡ e.fault = g.ended ∙ (ap (λ o. o.fault) same ∙ sym h.ended) in
-    λ i. record { tokens = passed i; fault = ended i }
+    let lefts : d.left ≡ e.left = g.left_over ∙ (ap (λ o. o.left) same ∙ sym h.left_over) in
+    λ i. record { tokens = passed i; fault = ended i; left = lefts i }
 
 same_outcomes : (s : List Symbol) (o p : Outcome) → Denotes s o → Denotes s p → o ≡ p
 same_outcomes s o p h k = sym h.2 ∙ (ap outcome_of (same_tree s h.0 k.0 h.1 k.1) ∙ k.2)
@@ -68,8 +69,8 @@ same_decision at ts c d (constants {symbols = s} e f j) (constants {symbols = r}
     same_judgement at r c d (subst (λ (x : List Symbol). Judges at x c) (same_symbols at ts s r f h) j) k
 
 -- what the tokens with numbers in place of `defined` are expanded to
-same_replacement : (macros : Macros) (env : Env) (ts us vs : List Token) (d e : Expanded) → Asks macros ts us → Asks macros ts vs → IsExpansion macros env us d → IsExpansion macros env vs e → d ≡ e
-same_replacement macros env ts us vs d e a b g h = same_expansion macros env vs d e (subst (λ (x : List Token). IsExpansion macros env x d) (same_asks macros ts us vs a b) g) h
+same_replacement : (macros : Macros) (env : Env) (left : Option ℕ) (ts us vs : List Token) (d e : Expanded) → Asks macros ts us → Asks macros ts vs → IsExpansion macros env left us d → IsExpansion macros env left vs e → d ≡ e
+same_replacement macros env left ts us vs d e a b g h = same_expansion macros env left vs d e (subst (λ (x : List Token). IsExpansion macros env left x d) (same_asks macros ts us vs a b) g) h
 
 same_fault : (d e : Expanded) (f q : Fault) → d ≡ e → d.fault ≡ Some f → e.fault ≡ Some q → f ≡ q
 same_fault d e f q s g h = let k : d.fault ≡ e.fault = ap (λ (x : Expanded). x.fault) s in cc
@@ -77,17 +78,22 @@ same_fault d e f q s g h = let k : d.fault ≡ e.fault = ap (λ (x : Expanded). 
 no_fault : (d e : Expanded) (f : Fault) → d ≡ e → d.fault ≡ Some f → e.fault ≡ None → ⊥
 no_fault d e f s g h = let k : d.fault ≡ e.fault = ap (λ (x : Expanded). x.fault) s in cc
 
-pub same_condition : (macros : Macros) (env : Env) (at : Place) (ts : List Token) (c d : Condition) → IsCondition macros env at ts c → IsCondition macros env at ts d → c ≡ d
-same_condition macros env at ts c d (ill_formed n) (ill_formed m) = refl
-same_condition macros env at ts c d (ill_formed n) (not_replaced a g h) = absurd (n _ a)
-same_condition macros env at ts c d (ill_formed n) (replaced a g h j) = absurd (n _ a)
-same_condition macros env at ts c d (not_replaced a g h) (ill_formed n) = absurd (n _ a)
-same_condition macros env at ts c d (replaced a g h j) (ill_formed n) = absurd (n _ a)
-same_condition macros env at ts c d (not_replaced {asked = us} {e = x} {f = f} a g h) (not_replaced {asked = vs} {e = y} {f = q} b k l) =
-    ap (λ (z : Fault). Err z) (same_fault x y f q (same_replacement macros env ts us vs x y a b g k) h l)
-same_condition macros env at ts c d (not_replaced {asked = us} {e = x} {f = f} a g h) (replaced {asked = vs} {e = y} b k l j) =
-    absurd (no_fault x y f (same_replacement macros env ts us vs x y a b g k) h l)
-same_condition macros env at ts c d (replaced {asked = vs} {e = y} b k l j) (not_replaced {asked = us} {e = x} {f = f} a g h) =
-    absurd (no_fault x y f (same_replacement macros env ts us vs x y a b g k) h l)
-same_condition macros env at ts c d (replaced {asked = us} {e = x} a g h i) (replaced {asked = vs} {e = y} b k l j) =
-    same_decision at y.tokens c d (subst (λ (z : Expanded). Decides at z.tokens c) (same_replacement macros env ts us vs x y a b g k) i) j
+same_left : (d e : Expanded) (after behind : Option ℕ) → d ≡ e → d.left ≡ after → e.left ≡ behind → after ≡ behind
+same_left d e after behind s g h = sym g ∙ (ap (λ (x : Expanded). x.left) s ∙ h)
+
+pub same_condition : (macros : Macros) (env : Env) (at : Place) (ts : List Token) (left after behind : Option ℕ) (c d : Condition) → IsCondition macros env at ts left c after → IsCondition macros env at ts left d behind → (c ≡ d) × (after ≡ behind)
+same_condition macros env at ts left after behind c d (ill_formed n) (ill_formed m) = (refl, refl)
+same_condition macros env at ts left after behind c d (ill_formed n) (not_replaced a g l h) = absurd (n _ a)
+same_condition macros env at ts left after behind c d (ill_formed n) (replaced a g l h j) = absurd (n _ a)
+same_condition macros env at ts left after behind c d (not_replaced a g l h) (ill_formed n) = absurd (n _ a)
+same_condition macros env at ts left after behind c d (replaced a g l h j) (ill_formed n) = absurd (n _ a)
+same_condition macros env at ts left after behind c d (not_replaced {asked = us} {e = x} {f = f} a g l h) (not_replaced {asked = vs} {e = y} {f = q} b k m i) =
+    let same : x ≡ y = same_replacement macros env left ts us vs x y a b g k in
+    (ap (λ (z : Fault). Err z) (same_fault x y f q same h i), same_left x y after behind same l m)
+same_condition macros env at ts left after behind c d (not_replaced {asked = us} {e = x} {f = f} a g l h) (replaced {asked = vs} {e = y} b k m i j) =
+    absurd (no_fault x y f (same_replacement macros env left ts us vs x y a b g k) h i)
+same_condition macros env at ts left after behind c d (replaced {asked = vs} {e = y} b k m i j) (not_replaced {asked = us} {e = x} {f = f} a g l h) =
+    absurd (no_fault x y f (same_replacement macros env left ts us vs x y a b g k) h i)
+same_condition macros env at ts left after behind c d (replaced {asked = us} {e = x} a g l h i) (replaced {asked = vs} {e = y} b k m n j) =
+    let same : x ≡ y = same_replacement macros env left ts us vs x y a b g k in
+    (same_decision at y.tokens c d (subst (λ (z : Expanded). Decides at z.tokens c) same i) j, same_left x y after behind same l m)

@@ -116,17 +116,17 @@ some_decision : (at : Place) (ts : List Token) (b : Bool) → list_any is_define
 some_decision at ts true e = (Err (fault 22 at []), made_defined e)
 some_decision at ts false e = some_constants at ts (symbols_of at ts) e refl
 
-some_replacement : (macros : Macros) (env : Env) (at : Place) (ts us : List Token) (e : Expanded) (f : Option Fault) → Asks macros ts us → IsExpansion macros env us e → e.fault ≡ f → (c : Condition) × IsCondition macros env at ts c
-some_replacement macros env at ts us e (Some f) a x h = (Err f, not_replaced a x h)
-some_replacement macros env at ts us e None a x h = let d = some_decision at e.tokens (list_any is_defined e.tokens) refl in (d.0, replaced a x h d.1)
+some_replacement : (macros : Macros) (env : Env) (at : Place) (ts us : List Token) (left : Option ℕ) (e : Expanded) (f : Option Fault) → Asks macros ts us → IsExpansion macros env left us e → e.fault ≡ f → (c : Condition) × (after : Option ℕ) × IsCondition macros env at ts left c after
+some_replacement macros env at ts us left e (Some f) a x h = (Err f, e.left, not_replaced a x refl h)
+some_replacement macros env at ts us left e None a x h = let d = some_decision at e.tokens (list_any is_defined e.tokens) refl in (d.0, e.left, replaced a x refl h d.1)
 
-some_expansion : (macros : Macros) (env : Env) (ts : List Token) → (e : Expanded) × IsExpansion macros env ts e
-some_expansion macros env ts =
-    let one = total macros env 0 (map plain ts) in
-    (record { tokens = map (λ t. t.token) one.1.tokens; fault = one.1.fault }, record { outcome = one.1; expands = (one.0, one.2); passed = refl; ended = refl })
+some_expansion : (macros : Macros) (env : Env) (left : Option ℕ) (ts : List Token) → (e : Expanded) × IsExpansion macros env left ts e
+some_expansion macros env left ts =
+    let one = total macros env 0 left (map plain ts) in
+    (record { tokens = map (λ t. t.token) one.1.tokens; fault = one.1.fault; left = one.1.left }, record { outcome = one.1; expands = (one.0, one.2); passed = refl; ended = refl; left_over = refl })
 
-pub some_condition : (macros : Macros) (env : Env) (at : Place) (ts : List Token) → (c : Condition) × IsCondition macros env at ts c
-some_condition macros env at ts = elim (answered (length ts) macros ts (omega arith)) [
-  | inl h ↦ let e = some_expansion macros env h.0 in some_replacement macros env at ts h.0 e.0 e.0.fault h.1 e.1 refl
-  | inr none ↦ (Err (fault 22 at []), ill_formed none)
+pub some_condition : (macros : Macros) (env : Env) (at : Place) (ts : List Token) (left : Option ℕ) → (c : Condition) × (after : Option ℕ) × IsCondition macros env at ts left c after
+some_condition macros env at ts left = elim (answered (length ts) macros ts (omega arith)) [
+  | inl h ↦ let e = some_expansion macros env left h.0 in some_replacement macros env at ts h.0 left e.0 e.0.fault h.1 e.1 refl
+  | inr none ↦ (Err (fault 22 at []), left, ill_formed none)
 ]

@@ -1,5 +1,5 @@
 -- A condition in which nothing is replaced is the condition of the symbols that its tokens stand for.
-use Rattle.std.proofs.Common.{◌≡◌, suc, ◌<◌, ◌⊎◌, inl, inr, ◌&&◌, Bool, true, false, List, [], ◌∷◌, ◌++◌, length, Option, Some, None, Ok, refl, sym, subst, append-nil, append_assoc, arith, is_some, codes, if◌then◌else◌}
+use Rattle.std.proofs.Common.{◌≡◌, ℕ, suc, ◌<◌, ◌⊎◌, inl, inr, ◌&&◌, Bool, true, false, List, [], ◌∷◌, ◌++◌, length, Option, Some, None, Ok, refl, sym, subst, append-nil, append_assoc, arith, is_some, codes, if◌then◌else◌}
 use Rattle.std.specs.FinMap as table
 use Rattle.std.specs.List.{list_any, AllByRecursion}
 use Rattle.pptext.specs.declared.tokens.Place.{Place}
@@ -51,14 +51,14 @@ unreplaced : (macros : Macros) (ts : List Token) (ss : List Symbol) → StandFor
 unreplaced macros ts ss nothing = record { asked = []; asks = asks_nothing; plain = tt; undefined = refl; symbols = λ at. refl }
 unreplaced macros ts ss (more {rest = rest} {s = s} {ss = qs} b h) = unreplaced_more macros ts rest s qs b (unreplaced macros rest qs h)
 
-expands_as_is : (macros : Macros) (env : Env) (ts : List Token) → AllByRecursion (λ t. is_plain macros t ≡ true) ts → IsExpansion macros env ts (record { tokens = ts; fault = None })
-expands_as_is macros env ts h = expansion-behind macros env ts ts [] (record { tokens = ts; fault = None }) (ended None) (sym (append-nil ts)) h (expands-nothing macros env 0) (sym (append-nil ts)) refl
+expands_as_is : (macros : Macros) (env : Env) (left : Option ℕ) (ts : List Token) → AllByRecursion (λ t. is_plain macros t ≡ true) ts → IsExpansion macros env left ts (record { tokens = ts; fault = None; left = left })
+expands_as_is macros env left ts h = expansion-behind macros env left ts ts [] (record { tokens = ts; fault = None; left = left }) (ended left None) (sym (append-nil ts)) h (expands-nothing macros env 0 left) (sym (append-nil ts)) refl refl
 
--- the condition of the symbols is the condition of the tokens
-pub direct_condition : (macros : Macros) (env : Env) (at : Place) (ts : List Token) (ss : List Symbol) (c : Condition) → StandFor macros ts ss → Judges at ss c → IsCondition macros env at ts c
-direct_condition macros env at ts ss c h j =
+-- the condition of the symbols is the condition of the tokens, and nothing is spent
+pub direct_condition : (macros : Macros) (env : Env) (at : Place) (ts : List Token) (left : Option ℕ) (ss : List Symbol) (c : Condition) → StandFor macros ts ss → Judges at ss c → IsCondition macros env at ts left c left
+direct_condition macros env at ts left ss c h j =
     let u : Unreplaced macros ts ss = unreplaced macros ts ss h in
-    replaced u.asks (expands_as_is macros env u.asked u.plain) refl (constants u.undefined (u.symbols at) j)
+    replaced u.asks (expands_as_is macros env left u.asked u.plain) refl refl (constants u.undefined (u.symbols at) j)
 
 -- ---- the loop over the tokens
 

@@ -95,44 +95,53 @@ fn decide_run(alloc: Global, at: Place, run: &Run) -> Result<Result<bool, Fault>
     decide(alloc, at, tokens.as_slice())
 }
 
-// The same for tokens in which macros may be replaced.
+// The same for tokens in which macros may be replaced, and what is left of the budget.
 fn evaluate_replaced(
     alloc: Global,
     table: &Table,
     env: &Env,
+    left: Option<u64>,
     at: Place,
     tokens: &[Token],
-) -> Result<Result<bool, Fault>, Memory>
-    ensures { IfOk result (λ c. IsCondition table.now env.now at tokens.now c) }
+) -> Result<(Result<bool, Fault>, Option<u64>), Memory>
+    ensures { IfOk result (λ r. IsCondition table.now env.now at tokens.now left r.0 r.1) }
 {
     let Some(asked) = asked(alloc, table, tokens)? else {
-        return Ok(Err(fault(alloc, 22, at, b"")?));
+        return Ok((Err(fault(alloc, 22, at, b"")?), left));
     };
     let asked = asked.as_slice();
-    let Expanded { tokens, fault } = expand(alloc, table, env, asked)?;
+    let Expanded {
+        tokens,
+        fault,
+        left,
+    } = expand(alloc, table, env, left, asked)?;
     if let Some(fault) = fault {
-        return Ok(Err(fault));
+        return Ok((Err(fault), left));
     }
-    Ok(decide_run(alloc, at, &tokens)?)
+    Ok((decide_run(alloc, at, &tokens)?, left))
 }
 
 /// Whether the group behind `#if` or `#elif` is taken (6.10.1), or the one fault: 22 of a use of `defined` that is ill
 /// formed or made by a replacement, the faults of the replacement, 24 and 25 of the first constant without a value, 29 of
 /// too deep an expression, 23 of a list that is no expression, 26 to 28 of a division, an overflow or a shift.
 ///
+/// At most `left` names are replaced, where that is some number, and the next one is fault 35 where it is used; what is
+/// left then is given back beside the answer.
+///
 /// `at` is the place of the directive's `#`, and `tokens` are those behind the directive's name.
 pub fn evaluate(
     alloc: Global,
     table: &Table,
     env: &Env,
+    left: Option<u64>,
     at: Place,
     tokens: &[Token],
-) -> Result<Result<bool, Fault>, Memory>
-    ensures { IfOk result (λ c. IsCondition table.now env.now at tokens.now c) }
+) -> Result<(Result<bool, Fault>, Option<u64>), Memory>
+    ensures { IfOk result (λ r. IsCondition table.now env.now at tokens.now left r.0 r.1) }
 {
     // In most conditions nothing is replaced.
     match direct_symbols(alloc, table, tokens)? {
-        Some(symbols) => Ok(judge(alloc, at, symbols.as_slice())?),
-        None => evaluate_replaced(alloc, table, env, at, tokens),
+        Some(symbols) => Ok((judge(alloc, at, symbols.as_slice())?, left)),
+        None => evaluate_replaced(alloc, table, env, left, at, tokens),
     }
 }

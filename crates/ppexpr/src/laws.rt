@@ -1,5 +1,5 @@
 // Laws of the definitions: functions that do nothing, whose contracts are the laws.
-ghost use Rattle.std.specs.Prelude.{◌≡◌, List, Ok};
+ghost use Rattle.std.specs.Prelude.{◌≡◌, ℕ, List, Option, Ok};
 ghost use Rattle.pptext.specs.declared.tokens.Place.{Place};
 ghost use Rattle.pptext.specs.declared.tokens.Token.{Token};
 ghost use Rattle.ppmacro.specs.Names.{Macros};
@@ -21,12 +21,12 @@ pub fn value_has_its_type()
     ensures { (t : Tree) (v : Value) → (outcome_of t).value ≡ Ok v → has_unsigned_type v ≡ (outcome_of t).unsigned }
 {}
 
-/// A condition is taken, not taken or has one fault, and no two of these.
+/// A condition is taken, not taken or has one fault, and no two of these; and it leaves one thing of a budget.
 pub fn one_condition()
-    ensures { (macros : Macros) (env : Env) (at : Place) (tokens : List Token) (c d : Condition) → IsCondition macros env at tokens c → IsCondition macros env at tokens d → c ≡ d }
+    ensures { (macros : Macros) (env : Env) (at : Place) (tokens : List Token) (left after behind : Option ℕ) (c d : Condition) → IsCondition macros env at tokens left c after → IsCondition macros env at tokens left d behind → (c ≡ d) × (after ≡ behind) }
 {}
 
-/// Each list of tokens has a condition, whatever the macros are.
+/// Each list of tokens has a condition, whatever the macros are and whatever is left of a budget.
 pub fn some_condition()
-    ensures { (macros : Macros) (env : Env) (at : Place) (tokens : List Token) → (c : Condition) × IsCondition macros env at tokens c }
+    ensures { (macros : Macros) (env : Env) (at : Place) (tokens : List Token) (left : Option ℕ) → (c : Condition) × (after : Option ℕ) × IsCondition macros env at tokens left c after }
 {}

@@ -1,3 +1,4 @@
+use Rattle.std.proofs.Common.{refl}
 use Rattle.ppexpr.specs.Conditions.{ill_formed, not_replaced, replaced}
 use Rattle.ppexpr.proofs.conditions.evaluate_replaced.Goals as goal
 
@@ -9,9 +10,9 @@ returns-in_default c =
 pub returns-in-Some-fault : goal.returns-in-Some-fault
 returns-in-Some-fault c =
     let asks = rw c.in-Some.is at c.in_ok-asked.ensures in
-    not_replaced asks (rw c.as_slice-asked.ensures.value at c.in_ok-tokens.ensures) c.in-Some-fault.is
+    not_replaced asks (rw c.as_slice-asked.ensures.value at c.in_ok-tokens.ensures) refl c.in-Some-fault.is
 
 pub returns : goal.returns
 returns c =
     let asks = rw c.in-Some.is at c.in_ok-asked.ensures in
-    replaced asks (rw c.as_slice-asked.ensures.value at c.in_ok-tokens.ensures) c.in_default-fault.is c.in_ok-decide_run.ensures
+    replaced asks (rw c.as_slice-asked.ensures.value at c.in_ok-tokens.ensures) refl c.in_default-fault.is c.in_ok-decide_run.ensures

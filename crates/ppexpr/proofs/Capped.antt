@@ -1,0 +1,138 @@
+-- Conditions within a budget beside conditions without one.
+use Rattle.std.proofs.Common.{◌≡◌, ◌≢◌, ℕ, ◌+◌, ◌<◌, List, [], ◌∷◌, Option, Some, None, Result, Ok, Err, refl, ap, ◌∙◌, subst, arith}
+use Rattle.pptext.specs.declared.tokens.Place.{Place}
+use Rattle.pptext.specs.declared.tokens.Token.{Token}
+use Rattle.pptext.specs.declared.tokens.Kind.{Kind}
+use Rattle.pptext.specs.declared.tokens.Kind.TheVariants.{Ident, Number, CharConst, Str, Punct, Header, Other}
+use Rattle.pptext.specs.declared.tokens.Fault.{Fault}
+use Rattle.ppmacro.specs.Names.{Macros}
+use Rattle.ppmacro.specs.Define.{fault}
+use Rattle.ppexpand.specs.declared.env.Env.{Env}
+use Rattle.ppexpand.specs.Expansion.{IsExpansion, count_expansion}
+use Rattle.ppexpand.specs.Laws.{plus}
+use Rattle.ppexpand.proofs.Budget.{StopsEarly, expansion_spends, expansion_enough, expansion_short}
+use Rattle.ppexpand.proofs.Refusing.{expansion_never_refused}
+use Rattle.ppexpr.specs.declared.symbols.Value.{Value}
+use Rattle.ppexpr.specs.declared.symbols.Symbol.{Symbol}
+use Rattle.ppexpr.specs.declared.symbols.Failure.{Failure}
+use Rattle.ppexpr.specs.declared.symbols.Failure.TheVariants.{ZeroDivisor, Overflow, Shift}
+use Rattle.ppexpr.specs.Tokens.{symbol_by, symbol_of, before, symbols_of, constant_or}
+use Rattle.ppexpr.specs.Conditions.{Condition, taken, Evaluates, no_expression, has_value, Judges, too_nested, not_nested, Decides, made_defined, bad_constant, constants, IsCondition, ill_formed, not_replaced, replaced, count_condition}
+
+-- ---- the budget
+
+plus-nothing : (left : Option ℕ) → left ≡ plus 0 left
+plus-nothing None = refl
+plus-nothing (Some n) = ap Some (omega arith)
+
+-- what a condition spends and what it leaves are the budget
+pub condition_spends : {macros : Macros} {env : Env} {at : Place} {tokens : List Token} {left after : Option ℕ} {c : Condition} (d : IsCondition macros env at tokens left c after) → left ≡ plus (count_condition d) after
+condition_spends {left = left} (ill_formed none) = plus-nothing left
+condition_spends {macros} {env} (not_replaced asks x leaves faulty) = expansion_spends macros env x ∙ ap (plus (count_expansion x)) leaves
+condition_spends {macros} {env} (replaced asks x leaves whole decides) = expansion_spends macros env x ∙ ap (plus (count_expansion x)) leaves
+
+-- where so much is left behind a budget, so much was spent
+spent : (count m b n : ℕ) → Some b ≡ plus count (Some n) → b ≡ m + n → count ≡ m
+spent count m b n e sum = let same : b ≡ count + n = cc in omega arith
+
+within_enough : {macros : Macros} {env : Env} {at : Place} {tokens : List Token} {left after : Option ℕ} {c : Condition}
+    → left ≡ None
+    → (d : IsCondition macros env at tokens left c after) (b n : ℕ)
+    → b ≡ count_condition d + n
+    → IsCondition macros env at tokens (Some b) c (Some n)
+within_enough {macros} {env} {at} {tokens} is (ill_formed none) b n sum =
+    let same : b ≡ n = omega arith in
+    subst (λ x. IsCondition macros env at tokens (Some b) (Err (fault 22 at [])) (Some x)) same (ill_formed none)
+within_enough {macros} {env} is (not_replaced asks x leaves faulty) b n sum = not_replaced asks (expansion_enough macros env is x b n sum) refl faulty
+within_enough {macros} {env} is (replaced asks x leaves whole decides) b n sum = replaced asks (expansion_enough macros env is x b n sum) refl whole decides
+
+-- a budget that suffices changes nothing, and the rest of it is left
+pub condition_enough : {macros : Macros} {env : Env} {at : Place} {tokens : List Token} {left after : Option ℕ} {c : Condition}
+    → left ≡ None
+    → (d : IsCondition macros env at tokens left c after) (b n : ℕ)
+    → b ≡ count_condition d + n
+    → (e : IsCondition macros env at tokens (Some b) c (Some n)) × (count_condition e ≡ count_condition d)
+condition_enough is d b n sum =
+    let e = within_enough is d b n sum in
+    (e, spent (count_condition e) (count_condition d) b n (condition_spends e) sum)
+
+-- a smaller budget is used up, and the condition is fault 35
+pub condition_short : {macros : Macros} {env : Env} {at : Place} {tokens : List Token} {left after : Option ℕ} {c : Condition}
+    → left ≡ None
+    → (d : IsCondition macros env at tokens left c after) (b : ℕ)
+    → b < count_condition d
+    → (f : Fault) × (f.number ≡ 35) × IsCondition macros env at tokens (Some b) (Err f) (Some 0)
+condition_short is (ill_formed none) b less = absurd (omega arith)
+condition_short {macros} {env} is (not_replaced {asked = asked} {e = e} asks x leaves faulty) b less =
+    let s : StopsEarly macros env b asked e = expansion_short macros env is x b less in
+    (s.fault, s.number, not_replaced asks s.is s.nothing s.stopped)
+condition_short {macros} {env} is (replaced {asked = asked} {e = e} asks x leaves whole decides) b less =
+    let s : StopsEarly macros env b asked e = expansion_short macros env is x b less in
+    (s.fault, s.number, not_replaced asks s.is s.nothing s.stopped)
+
+-- a condition without a budget leaves none
+pub condition_leaves_none : {macros : Macros} {env : Env} {at : Place} {tokens : List Token} {after : Option ℕ} {c : Condition} → IsCondition macros env at tokens None c after → after ≡ None
+condition_leaves_none {after = None} d = refl
+condition_leaves_none {after = Some n} d = let e = condition_spends d in absurd (cc)
+
+-- ---- without a budget no fault is 35
+
+-- the fault of an answer is another one
+abbrev IsOther : {A : Type 0} → Result A Fault → Type 0
+IsOther (Ok x) = Unit {0}
+IsOther (Err f) = f.number ≢ 35
+
+constant_other : (at : Place) (n : ℕ) (s : List ℕ) (v : Option Value) → n < 35 → IsOther (constant_or (fault n at s) v)
+constant_other at n s None less = λ e. absurd (omega arith)
+constant_other at n s (Some v) less = tt
+
+symbol_other : (at : Place) (k : Kind) (s : List ℕ) → IsOther (symbol_by at k s)
+symbol_other at Ident s = tt
+symbol_other at Number s = constant_other at 24 s _ (omega arith)
+symbol_other at CharConst s = constant_other at 25 s _ (omega arith)
+symbol_other at Str s = tt
+symbol_other at Punct s = tt
+symbol_other at Header s = tt
+symbol_other at Other s = tt
+
+before_other : (s : Result Symbol Fault) (ss : Result (List Symbol) Fault) → IsOther s → IsOther ss → IsOther (before s ss)
+before_other (Ok s) (Ok ss) h k = tt
+before_other (Ok s) (Err f) h k = k
+before_other (Err f) ss h k = h
+
+symbols_other : (at : Place) (ts : List Token) → IsOther (symbols_of at ts)
+symbols_other at [] = tt
+symbols_other at (t ∷ ts) = before_other (symbol_of at t) (symbols_of at ts) (symbol_other at t.kind t.text) (symbols_other at ts)
+
+taken_other : (at : Place) (v : Result Value Failure) → IsOther (taken at v)
+taken_other at (Ok v) = tt
+taken_other at (Err (ZeroDivisor o)) = λ e. absurd (omega arith)
+taken_other at (Err (Overflow o)) = λ e. absurd (omega arith)
+taken_other at (Err (Shift o)) = λ e. absurd (omega arith)
+
+evaluates_other : (at : Place) (s : List Symbol) (c : Condition) → Evaluates at s c → IsOther c
+evaluates_other at s c (no_expression none) = λ e. absurd (omega arith)
+evaluates_other at s c (has_value {o = o} h) = taken_other at o.value
+
+judges_other : (at : Place) (s : List Symbol) (c : Condition) → Judges at s c → IsOther c
+judges_other at s c (too_nested deep) = λ e. absurd (omega arith)
+judges_other at s c (not_nested shallow h) = evaluates_other at s c h
+
+decides_other : (at : Place) (ts : List Token) (c : Condition) → Decides at ts c → IsOther c
+decides_other at ts c (made_defined e) = λ e. absurd (omega arith)
+decides_other at ts c (bad_constant e g) = subst IsOther g (symbols_other at ts)
+decides_other at ts c (constants {symbols = s} e g h) = judges_other at s c h
+
+condition_other : {macros : Macros} {env : Env} {at : Place} {tokens : List Token} {left after : Option ℕ} {c : Condition}
+    → left ≡ None
+    → IsCondition macros env at tokens left c after
+    → IsOther c
+condition_other is (ill_formed none) = λ e. absurd (omega arith)
+condition_other {macros} {env} is (not_replaced {asked = asked} {e = e} asks x leaves faulty) = expansion_never_refused macros env (subst (λ l. IsExpansion macros env l asked e) is x) faulty
+condition_other {at = at} {c = c} is (replaced {e = e} asks x leaves whole decides) = decides_other at e.tokens c decides
+
+pub condition_never_refused : {macros : Macros} {env : Env} {at : Place} {tokens : List Token} {left after : Option ℕ} {f : Fault}
+    → left ≡ None
+    → IsCondition macros env at tokens left (Err f) after
+    → f.number ≢ 35
+condition_never_refused is d = condition_other is d
