@@ -66,6 +66,23 @@ fn texts(alloc: Global, names: &[&str]) -> Result<Vec<String>, AllocError>
     Ok(texts)
 }
 
+// A shelf of these names, of which none is filled.
+fn named<D: Disk>(alloc: Global, names: &[&str]) -> Result<Shelf<D>, Fail>
+    requires { length names.now ≤ most_rows }
+{
+    Ok(Shelf::new(alloc, texts(alloc, names)?, Profile::C11)?)
+}
+
+// A disk of one file `a`.
+fn disk_of(alloc: Global, text: &[u8]) -> Result<MemoryDisk, AllocError> {
+    let mut files = Vec::new(alloc);
+    files.push(File {
+        name: String::from_str(alloc, "a")?,
+        bytes: Vec::from_slice(alloc, text)?,
+    })?;
+    Ok(MemoryDisk { files })
+}
+
 // What a pass is shown of a row.
 fn bytes_of<'a, D: Disk>(
     shelf: &'a Shelf<D>,
@@ -104,6 +121,23 @@ fn lines_of<'a, D: Disk>(
     Ok(loaded.lines())
 }
 
+// That a pass is shown these bytes of a row.
+fn assert_shown<'a, D: Disk>(
+    rt: &impl Abort,
+    shelf: &'a Shelf<D>,
+    pass: &mut Pass<'a, D>,
+    row: usize,
+    disk: &D,
+    wanted: Option<&[u8]>,
+) -> Result<(), Memory>
+    requires { pass.old.shelf ≡ shelf.now }
+    ensures { pass.new.shelf ≡ shelf.now }
+{
+    let found = bytes_of(shelf, pass, row, disk)?;
+    assert!(rt; found == wanted, "{row}");
+    Ok(())
+}
+
 // The directive of the second line of the first row.
 fn second_directive<'a>(
     shelf: &'a Shelf<MemoryDisk>,
@@ -119,17 +153,38 @@ fn second_directive<'a>(
     }
 }
 
+// That a pass is shown the first numbers.
+fn assert_both_shown<'a>(
+    rt: &impl Abort,
+    shelf: &'a Shelf<Counting>,
+    pass: &mut Pass<'a, Counting>,
+    disk: &Counting,
+) -> Result<(), Memory>
+    requires { pass.old.shelf ≡ shelf.now }
+    ensures { pass.new.shelf ≡ shelf.now }
+{
+    assert_shown(rt, shelf, pass, 0, disk, Some(b"0\n".as_slice()))?;
+    assert_shown(rt, shelf, pass, 1, disk, Some(b"1\n".as_slice()))
+}
+
+// That two passes are shown the same, and that one knows what the other knew once they have met.
+fn assert_passes_meet(
+    rt: &impl Abort,
+    shelf: &Shelf<Counting>,
+    disk: &Counting,
+) -> Result<(), Memory> {
+    let (mut one, mut two) = (shelf.pass()?, shelf.pass()?);
+    assert_shown(rt, shelf, &mut one, 0, disk, Some(b"0\n".as_slice()))?;
+    assert_both_shown(rt, shelf, &mut two, disk)?;
+    shelf.meet(&mut one, two);
+    assert_shown(rt, shelf, &mut one, 1, disk, Some(b"1\n".as_slice()))
+}
+
 #[test]
 fn passes_find_the_same(rt: HostRuntime) -> Result<(), Fail> {
-    let alloc = rt.alloc();
-    let shelf: Shelf<Counting> = Shelf::new(alloc, texts(alloc, &["h.h", "a.c"])?, Profile::C11)?;
+    let shelf = named(rt.alloc(), &["h.h", "a.c"])?;
     let disk = refusing(99);
-    let (mut one, mut two) = (shelf.pass()?, shelf.pass()?);
-    assert!(rt; bytes_of(&shelf, &mut one, 0, &disk)? == Some(b"0\n".as_slice()));
-    assert!(rt; bytes_of(&shelf, &mut two, 0, &disk)? == Some(b"0\n".as_slice()));
-    assert!(rt; bytes_of(&shelf, &mut two, 1, &disk)? == Some(b"1\n".as_slice()));
-    shelf.meet(&mut one, two);
-    assert!(rt; bytes_of(&shelf, &mut one, 1, &disk)? == Some(b"1\n".as_slice()));
+    assert_passes_meet(&rt, &shelf, &disk)?;
     assert!(rt; disk.reads.load(SeqCst) == 2);
     Ok(())
 }
@@ -210,86 +265,159 @@ fn all_open<'a>(
     Ok(open)
 }
 
-#[test]
-fn contents_outlive_later_looks(rt: HostRuntime) -> Result<(), Fail> {
-    let alloc = rt.alloc();
-    let shelf: Shelf<Counting> = Shelf::new(alloc, texts(alloc, &["a", "b", "c"])?, Profile::C11)?;
-    let disk = refusing(99);
-    let mut pass = shelf.pass()?;
-    let open = all_open(alloc, &shelf, &mut pass, &disk)?;
+// That a content has these bytes, a number and its new-line.
+fn assert_is_number(rt: &impl Abort, loaded: &Loaded<Counting>, text: &[u8]) -> Result<(), Fail> {
+    let Some(Ok(source)) = loaded.lines() else {
+        return Err(Fail::new("a number and its new-line have no fault"));
+    };
+    assert!(rt; source.lines().len() == 1 && source.tokens().len() == 1);
+    assert!(rt; loaded.bytes() == Some(text));
+    Ok(())
+}
+
+// That three contents are the first numbers.
+fn assert_are_numbers(rt: &impl Abort, open: &[&Loaded<Counting>]) -> Result<(), Fail> {
     for (loaded, text) in open.iter().zip(&[b"0\n", b"1\n", b"2\n"]) {
-        let Some(Ok(source)) = loaded.lines() else {
-            return Err(Fail::new("a number and its new-line have no fault"));
-        };
-        assert!(rt; source.lines().len() == 1 && source.tokens().len() == 1);
-        assert!(rt; loaded.bytes() == Some(text.as_slice()));
+        assert_is_number(rt, loaded, text.as_slice())?;
     }
     assert!(rt; open.len() == 3);
     Ok(())
 }
 
+// That contents stay as they are while later rows are looked at.
+fn assert_outlive(rt: &impl Abort, alloc: Global, shelf: &Shelf<Counting>) -> Result<(), Fail> {
+    let mut pass = shelf.pass()?;
+    let open = all_open(alloc, shelf, &mut pass, &refusing(99))?;
+    assert_are_numbers(rt, open.as_slice())
+}
+
+#[test]
+fn contents_outlive_later_looks(rt: HostRuntime) -> Result<(), Fail> {
+    let alloc = rt.alloc();
+    let shelf = named(alloc, &["a", "b", "c"])?;
+    assert_outlive(&rt, alloc, &shelf)
+}
+
+// That a pass is shown what four threads have been shown.
+fn assert_same_by_threads<R: Abort + Threads + Sync>(
+    rt: &R,
+    shelf: &Shelf<Counting>,
+    disk: &Counting,
+) -> Result<(), Memory> {
+    let mut pass = by_four_threads(rt, shelf, disk)?;
+    let first = bytes_of(shelf, &mut pass, 0, disk)?;
+    assert!(rt; first.is_some());
+    let mut other = shelf.pass()?;
+    assert_shown(rt, shelf, &mut other, 0, disk, first)
+}
+
 #[test]
 fn threads_find_the_same(rt: HostRuntime) -> Result<(), Fail> {
-    let alloc = rt.alloc();
-    let shelf: Shelf<Counting> = Shelf::new(alloc, texts(alloc, &["h.h", "a.c"])?, Profile::C11)?;
-    let disk = refusing(99);
-    let mut pass = by_four_threads(&rt, &shelf, &disk)?;
-    let first = bytes_of(&shelf, &mut pass, 0, &disk)?;
-    let mut other = shelf.pass()?;
-    assert!(rt; first.is_some() && first == bytes_of(&shelf, &mut other, 0, &disk)?);
+    let shelf = named(rt.alloc(), &["h.h", "a.c"])?;
+    assert_same_by_threads(&rt, &shelf, &refusing(99))?;
     Ok(())
+}
+
+// That a shelf shows the numbers of its fills without a read.
+fn assert_numbers_are_kept(rt: &impl Abort, shelf: &Shelf<Counting>) -> Result<(), Memory> {
+    let none = refusing(0);
+    let mut pass = shelf.pass()?;
+    assert_shown(rt, shelf, &mut pass, 0, &none, Some(b"0\n".as_slice()))?;
+    assert_shown(rt, shelf, &mut pass, 2, &none, Some(b"3\n".as_slice()))
 }
 
 #[test]
 fn a_fill_goes_on_after_want_of_memory(rt: HostRuntime) -> Result<(), Fail> {
-    let alloc = rt.alloc();
-    let mut shelf: Shelf<Counting> = Shelf::new(
-        alloc,
-        texts(alloc, &["a", "b", "c"])?,
-        Profile::C11,
-    )?;
+    let mut shelf = named(rt.alloc(), &["a", "b", "c"])?;
     let disk = refusing(1);
     assert!(rt; shelf.fill(&disk) == Err(Memory));
     assert!(rt; shelf.fill(&disk) == Ok(()));
     assert!(rt; disk.reads.load(SeqCst) == 4);
-    let none = refusing(0);
-    let mut pass = shelf.pass()?;
-    assert!(rt; bytes_of(&shelf, &mut pass, 0, &none)? == Some(b"0\n".as_slice()));
-    assert!(rt; bytes_of(&shelf, &mut pass, 2, &none)? == Some(b"3\n".as_slice()));
+    assert_numbers_are_kept(&rt, &shelf)?;
     Ok(())
+}
+
+// That a new pass is shown these bytes of the first row.
+fn assert_first<D: Disk>(
+    rt: &impl Abort,
+    shelf: &Shelf<D>,
+    disk: &D,
+    wanted: &[u8],
+) -> Result<(), Memory> {
+    let mut pass = shelf.pass()?;
+    assert_shown(rt, shelf, &mut pass, 0, disk, Some(wanted))
 }
 
 #[test]
 fn a_fill_reads_what_a_look_has_kept(rt: HostRuntime) -> Result<(), Fail> {
-    let alloc = rt.alloc();
-    let mut shelf: Shelf<Counting> = Shelf::new(alloc, texts(alloc, &["a"])?, Profile::C11)?;
+    let mut shelf = named(rt.alloc(), &["a"])?;
     let disk = refusing(99);
-    let mut pass = shelf.pass()?;
-    assert!(rt; bytes_of(&shelf, &mut pass, 0, &disk)? == Some(b"0\n".as_slice()));
-    drop(pass);
+    assert_first(&rt, &shelf, &disk, b"0\n".as_slice())?;
     assert!(rt; shelf.fill(&disk) == Ok(()));
-    let mut pass = shelf.pass()?;
-    assert!(rt; bytes_of(&shelf, &mut pass, 0, &disk)? == Some(b"1\n".as_slice()));
+    assert_first(&rt, &shelf, &disk, b"1\n".as_slice())?;
     Ok(())
+}
+
+// That a look at the first row, with a new disk, answers so.
+fn assert_first_row<'a>(
+    rt: &impl Abort,
+    shelf: &'a Shelf<Counting>,
+    pass: &mut Pass<'a, Counting>,
+    refused: u64,
+    wanted: Result<Option<&[u8]>, Memory>,
+)
+    requires { pass.old.shelf ≡ shelf.now }
+    ensures { pass.new.shelf ≡ shelf.now }
+{
+    let found = bytes_of(shelf, pass, 0, &refusing(refused));
+    assert!(rt; found == wanted, "{refused}");
+}
+
+// That a pass is shown a row once there is memory for it, and that then it and another are shown it without a read.
+fn assert_read_once(rt: &impl Abort, shelf: &Shelf<Counting>) -> Result<(), Memory> {
+    let mut pass = shelf.pass()?;
+    assert_first_row(rt, shelf, &mut pass, 0, Err(Memory));
+    assert_first_row(rt, shelf, &mut pass, 1, Ok(Some(b"0\n".as_slice())));
+    assert_first_row(rt, shelf, &mut pass, 0, Ok(Some(b"0\n".as_slice())));
+    assert_first(rt, shelf, &refusing(0), b"0\n".as_slice())
 }
 
 #[test]
 fn a_kept_row_is_not_read_again(rt: HostRuntime) -> Result<(), Fail> {
-    let alloc = rt.alloc();
-    let shelf: Shelf<Counting> = Shelf::new(alloc, texts(alloc, &["h.h"])?, Profile::C11)?;
-    let mut pass = shelf.pass()?;
-    assert!(rt; bytes_of(&shelf, &mut pass, 0, &refusing(0)) == Err(Memory));
-    assert!(rt; bytes_of(&shelf, &mut pass, 0, &refusing(1))? == Some(b"0\n".as_slice()));
-    assert!(rt; bytes_of(&shelf, &mut pass, 0, &refusing(0))? == Some(b"0\n".as_slice()));
-    let mut other = shelf.pass()?;
-    assert!(rt; bytes_of(&shelf, &mut other, 0, &refusing(0))? == Some(b"0\n".as_slice()));
+    let shelf = named(rt.alloc(), &["h.h"])?;
+    assert_read_once(&rt, &shelf)?;
     Ok(())
 }
 
-fn named(alloc: Global, names: &[&str]) -> Result<Shelf<MemoryDisk>, Fail>
-    requires { length names.now ≤ most_rows }
-{
-    Ok(Shelf::new(alloc, texts(alloc, names)?, Profile::C11)?)
+// That the name of an include line in a row leads to this row.
+fn assert_leads(
+    rt: &impl Abort,
+    alloc: Global,
+    shelf: &Shelf<MemoryDisk>,
+    folders: Folders,
+    case: &(usize, Form, &str, Option<usize>),
+) -> Result<(), Fail> {
+    let (from, form, name, row) = case;
+    if *from >= shelf.len() {
+        return Err(Fail::new("no such row"));
+    }
+    let found = resolve(alloc, shelf, *from, *form, name.as_bytes(), folders)?;
+    assert!(rt; found == *row, "{name}");
+    Ok(())
+}
+
+// That the cases lead to their rows where these folders are searched.
+fn assert_all_lead(
+    rt: &impl Abort,
+    alloc: Global,
+    shelf: &Shelf<MemoryDisk>,
+    folders: Folders,
+    cases: &[(usize, Form, &str, Option<usize>)],
+) -> Result<(), Fail> {
+    for case in cases {
+        assert_leads(rt, alloc, shelf, folders, case)?;
+    }
+    Ok(())
 }
 
 fn searched<R: Abort + AllocGlobal>(
@@ -308,14 +436,7 @@ fn searched<R: Abort + AllocGlobal>(
         unit: unit.as_slice(),
         setting: setting.as_slice(),
     };
-    for (from, form, name, row) in cases {
-        if *from >= shelf.len() {
-            return Err(Fail::new("no such row"));
-        }
-        let found = resolve(alloc, &shelf, *from, *form, name.as_bytes(), folders)?;
-        assert!(rt; found == *row, "{name}");
-    }
-    Ok(())
+    assert_all_lead(rt, alloc, &shelf, folders, cases)
 }
 
 #[test]
@@ -344,43 +465,57 @@ fn folders_are_searched_in_order(rt: HostRuntime) -> Result<(), Fail> {
 }
 
 // What the name of an include line leads to, by its segments.
+const WALKED: &[(usize, Form, &str, Option<usize>)] = &[
+    (0, Form::Angle, "h.h/", Some(2)),
+    (0, Form::Angle, "./x/../h.h", Some(2)),
+    (0, Form::Angle, "inc//x.h", Some(1)),
+    (0, Form::Angle, "inc/./x.h", Some(1)),
+    (0, Form::Angle, "h.h ", None),
+    (0, Form::Angle, "inc", None),
+    (0, Form::Angle, ".", None),
+    (0, Form::Quote, "..", None),
+    (0, Form::Quote, "../h.h", Some(2)),
+    (0, Form::Quote, "../../h.h", None),
+    (0, Form::Angle, "../h.h", None),
+    (0, Form::Angle, "x/../../h.h", None),
+    (2, Form::Quote, "../h.h", None),
+];
+
 #[test]
 fn names_are_walked_by_segments(rt: HostRuntime) -> Result<(), Fail> {
     let names = ["src/a.c", "inc/x.h", "h.h"];
-    let cases = [
-        (0, Form::Angle, "h.h/", Some(2)),
-        (0, Form::Angle, "./x/../h.h", Some(2)),
-        (0, Form::Angle, "inc//x.h", Some(1)),
-        (0, Form::Angle, "inc/./x.h", Some(1)),
-        (0, Form::Angle, "h.h ", None),
-        (0, Form::Angle, "inc", None),
-        (0, Form::Angle, ".", None),
-        (0, Form::Quote, "..", None),
-        (0, Form::Quote, "../h.h", Some(2)),
-        (0, Form::Quote, "../../h.h", None),
-        (0, Form::Angle, "../h.h", None),
-        (0, Form::Angle, "x/../../h.h", None),
-        (2, Form::Quote, "../h.h", None),
-    ];
-    searched(&rt, &names, &["."], &[], &cases)
+    searched(&rt, &names, &["."], &[], WALKED)
 }
 
-#[test]
-fn names_have_one_form(rt: HostRuntime) -> Result<(), Fail> {
-    for name in &["a", "a/b.h", "...", ".a", "a b", "\u{e9}"] {
+// That these are in normal form.
+fn assert_names(rt: &impl Abort, names: &[&str]) {
+    for name in names {
         assert!(rt;
             is_name(name.as_bytes()) && is_folder(name.as_bytes()),
             "{name}"
         );
     }
-    for name in &[
-        "", "/a", "a/", "a//b", "..", "a/../b", "a/.", "a\n", "a\u{7f}",
-    ] {
+}
+
+// That none of these is in normal form.
+fn assert_no_names(rt: &impl Abort, names: &[&str]) {
+    for name in names {
         assert!(rt;
             !is_name(name.as_bytes()) && !is_folder(name.as_bytes()),
             "{name}"
         );
     }
+}
+
+#[test]
+fn names_have_one_form(rt: HostRuntime) -> Result<(), Fail> {
+    assert_names(&rt, &["a", "a/b.h", "...", ".a", "a b", "\u{e9}"]);
+    assert_no_names(
+        &rt,
+        &[
+            "", "/a", "a/", "a//b", "..", "a/../b", "a/.", "a\n", "a\u{7f}",
+        ],
+    );
     assert!(rt; is_folder(b".".as_slice()) && !is_name(b".".as_slice()));
     let longest = Vec::from_elem(rt.alloc(), b'a', 1024)?;
     let longer = Vec::from_elem(rt.alloc(), b'a', 1025)?;
@@ -406,17 +541,26 @@ fn a_shelf_refuses_the_first_bad_name(rt: HostRuntime) -> Result<(), Fail> {
     Ok(())
 }
 
-#[test]
-fn a_shelf_holds_65535_names(rt: HostRuntime) -> Result<(), Fail> {
-    let alloc = rt.alloc();
+// As many names as a shelf holds, in order.
+fn numbered(alloc: Global) -> Result<Vec<String>, AllocError> {
     let mut names = Vec::with_capacity(alloc, 65535)?;
     for i in 0..65535u32 {
         names.push(format!(in alloc; "f{i:05}.h")?)?;
     }
+    Ok(names)
+}
+
+// A shelf of them.
+fn largest(alloc: Global) -> Result<Shelf<MemoryDisk>, Fail> {
+    let names = numbered(alloc)?;
     if names.len() != 65535 {
-        return Ok(());
+        return Err(Fail::new("not all names"));
     }
-    let shelf: Shelf<MemoryDisk> = Shelf::new(alloc, names, Profile::C11)?;
+    Ok(Shelf::new(alloc, names, Profile::C11)?)
+}
+
+// That it has each name in its row.
+fn assert_is_largest(rt: &impl Abort, shelf: &Shelf<MemoryDisk>) -> Result<(), Fail> {
     if shelf.len() != 65535 {
         return Err(Fail::new("not all names"));
     }
@@ -424,42 +568,86 @@ fn a_shelf_holds_65535_names(rt: HostRuntime) -> Result<(), Fail> {
     assert!(rt; shelf.row_of(b"f00000.h".as_slice()) == Some(0));
     assert!(rt; shelf.row_of(b"f65534.h".as_slice()) == Some(65534));
     assert!(rt; shelf.row_of(b"f65535.h".as_slice()) == None);
-    let empty = named(alloc, &[])?;
+    Ok(())
+}
+
+#[test]
+fn a_shelf_holds_65535_names(rt: HostRuntime) -> Result<(), Fail> {
+    let alloc = rt.alloc();
+    assert_is_largest(&rt, &largest(alloc)?)?;
+    let empty: Shelf<MemoryDisk> = named(alloc, &[])?;
     assert!(rt; empty.len() == 0 && empty.row_of(b"f00000.h".as_slice()) == None);
     Ok(())
+}
+
+// That the first row has a content, and the second none.
+fn assert_answered(
+    rt: &impl Abort,
+    shelf: &Shelf<MemoryDisk>,
+    disk: &MemoryDisk,
+) -> Result<(), Memory> {
+    let mut pass = shelf.pass()?;
+    assert_shown(rt, shelf, &mut pass, 0, disk, Some(b"x\n".as_slice()))?;
+    assert_shown(rt, shelf, &mut pass, 1, disk, None)
 }
 
 #[test]
 fn a_memory_disk_answers_its_files(rt: HostRuntime) -> Result<(), Fail> {
     let alloc = rt.alloc();
-    let mut files = Vec::new(alloc);
-    files.push(File {
-        name: String::from_str(alloc, "a")?,
-        bytes: Vec::from_slice(alloc, b"x\n".as_slice())?,
-    })?;
-    let disk = MemoryDisk { files };
+    let disk = disk_of(alloc, b"x\n".as_slice())?;
     let mut shelf = named(alloc, &["a", "b"])?;
     assert!(rt; shelf.fill(&disk) == Ok(()));
+    assert_answered(&rt, &shelf, &disk)?;
+    Ok(())
+}
+
+// That the first row has the fault of a comment without an end, and the second none.
+fn assert_has_fault(
+    rt: &impl Abort,
+    shelf: &Shelf<MemoryDisk>,
+    disk: &MemoryDisk,
+) -> Result<(), Memory> {
     let mut pass = shelf.pass()?;
-    assert!(rt; bytes_of(&shelf, &mut pass, 0, &disk)? == Some(b"x\n".as_slice()));
-    assert!(rt; bytes_of(&shelf, &mut pass, 1, &disk)? == None);
+    let contents = lines_of(shelf, &mut pass, 0, disk)?;
+    assert!(rt; contents.is_some_and(|lines| lines.is_err_and(|fault| fault.number == 1)));
+    assert!(rt; lines_of(shelf, &mut pass, 1, disk)?.is_none());
     Ok(())
 }
 
 #[test]
 fn a_file_is_kept_with_its_fault(rt: HostRuntime) -> Result<(), Fail> {
     let alloc = rt.alloc();
-    let mut files = Vec::new(alloc);
-    files.push(File {
-        name: String::from_str(alloc, "a")?,
-        bytes: Vec::from_slice(alloc, b"x /*".as_slice())?,
-    })?;
     let shelf = named(alloc, &["a", "b"])?;
+    assert_has_fault(&rt, &shelf, &disk_of(alloc, b"x /*".as_slice())?)?;
+    Ok(())
+}
+
+// That a new pass finds this directive.
+fn assert_directive(
+    rt: &impl Abort,
+    shelf: &Shelf<MemoryDisk>,
+    disk: &MemoryDisk,
+    directive: Directive,
+) -> Result<(), Memory> {
     let mut pass = shelf.pass()?;
-    let disk = MemoryDisk { files };
-    let contents = lines_of(&shelf, &mut pass, 0, &disk)?;
-    assert!(rt; contents.is_some_and(|lines| lines.is_err_and(|fault| fault.number == 1)));
-    assert!(rt; lines_of(&shelf, &mut pass, 1, &disk)?.is_none());
+    assert!(rt; second_directive(shelf, &mut pass, disk)? == Some(directive));
+    Ok(())
+}
+
+// That a shelf of this profile finds this directive by a look, and by a fill.
+fn assert_reads_by(
+    rt: &impl Abort,
+    alloc: Global,
+    disk: &MemoryDisk,
+    profile: Profile,
+    directive: Directive,
+) -> Result<(), Fail> {
+    let names = texts(alloc, &["a"])?;
+    let mut shelf: Shelf<MemoryDisk> = Shelf::new(alloc, names, profile)?;
+    assert!(rt; shelf.profile() == profile);
+    assert_directive(rt, &shelf, disk, directive)?;
+    assert!(rt; shelf.fill(disk) == Ok(()));
+    assert_directive(rt, &shelf, disk, directive)?;
     Ok(())
 }
 
@@ -467,27 +655,20 @@ fn a_file_is_kept_with_its_fault(rt: HostRuntime) -> Result<(), Fail> {
 #[test]
 fn a_shelf_reads_by_its_profile(rt: HostRuntime) -> Result<(), Fail> {
     let alloc = rt.alloc();
-    for (profile, directive) in [
-        (Profile::C11, Directive::Unknown),
-        (Profile::Later, Directive::Elifdef),
-    ] {
-        let names = texts(alloc, &["a"])?;
-        let mut shelf: Shelf<MemoryDisk> = Shelf::new(alloc, names, profile)?;
-        assert!(rt; shelf.profile() == profile);
-        let mut files = Vec::new(alloc);
-        files.push(File {
-            name: String::from_str(alloc, "a")?,
-            bytes: Vec::from_slice(alloc, b"#if 0\n#elifdef X\n#endif\n".as_slice())?,
-        })?;
-        let disk = MemoryDisk { files };
-        let mut looking = shelf.pass()?;
-        let looked = second_directive(&shelf, &mut looking, &disk)?;
-        assert!(rt; looked == Some(directive));
-        drop(looking);
-        assert!(rt; shelf.fill(&disk) == Ok(()));
-        let mut filled = shelf.pass()?;
-        assert!(rt; second_directive(&shelf, &mut filled, &disk)? == Some(directive));
-    }
+    let disk = disk_of(alloc, b"#if 0\n#elifdef X\n#endif\n".as_slice())?;
+    assert_reads_by(&rt, alloc, &disk, Profile::C11, Directive::Unknown)?;
+    assert_reads_by(&rt, alloc, &disk, Profile::Later, Directive::Elifdef)
+}
+
+// The path of a file of a folder.
+fn path_of(alloc: Global, folder: &str, name: &str) -> Result<String, AllocError> {
+    format!(in alloc; "{folder}/{name}")
+}
+
+// Makes the file that is longer than what is read of a file.
+fn make_long<R: Files + AllocGlobal>(rt: &R, folder: &str) -> Result<(), Fail> {
+    let long = fs::create(rt, path_of(rt.alloc(), folder, "long")?)?;
+    long.set_len(20_000_000)?;
     Ok(())
 }
 
@@ -495,34 +676,53 @@ fn a_shelf_reads_by_its_profile(rt: HostRuntime) -> Result<(), Fail> {
 fn make_files<R: Files + AllocGlobal>(rt: &R, folder: &str) -> Result<(), Fail> {
     let alloc = rt.alloc();
     fs::create_dir(rt, folder)?;
-    fs::create_dir(rt, format!(in alloc; "{folder}/inc")?)?;
-    fs::write(rt, format!(in alloc; "{folder}/inc/x.h")?, "x\n")?;
-    let long = fs::create(rt, format!(in alloc; "{folder}/long")?)?;
-    long.set_len(20_000_000)?;
-    Ok(())
+    fs::create_dir(rt, path_of(alloc, folder, "inc")?)?;
+    fs::write(rt, path_of(alloc, folder, "inc/x.h")?, "x\n")?;
+    make_long(rt, folder)
 }
 
-fn read_files<R: Abort + Files + AllocGlobal>(rt: &R, folder: &str) -> Result<(), Fail> {
-    let alloc = rt.alloc();
-    let disk = FolderDisk { files: rt, folder };
-    let long = disk.read(alloc, "long");
+// That a read of the long file stops above the longest content.
+fn assert_long_is_cut<R: Abort + Files + AllocGlobal>(rt: &R, disk: &FolderDisk<R>) {
+    let long = disk.read(rt.alloc(), "long");
     assert!(rt; long.is_ok_and(|bytes| bytes.len() == 16_777_217));
-    let names = texts(alloc, &["inc/x.h", "inc", "x.h", "long"])?;
-    let shelf: Shelf<FolderDisk<R>> = Shelf::new(alloc, names, Profile::C11)?;
+}
+
+// That the shelf shows the short file alone.
+fn assert_short_is_shown<'a, R: Abort + Files>(
+    rt: &R,
+    shelf: &Shelf<FolderDisk<'a, R>>,
+    disk: &FolderDisk<'a, R>,
+) -> Result<(), Memory> {
     let mut pass = shelf.pass()?;
-    assert!(rt; bytes_of(&shelf, &mut pass, 0, &disk)? == Some(b"x\n".as_slice()));
-    for row in 1..4 {
-        assert!(rt; bytes_of(&shelf, &mut pass, row, &disk)? == None, "{row}");
+    for row in 0..4 {
+        let wanted = if row == 0 {
+            Some(b"x\n".as_slice())
+        } else {
+            None
+        };
+        assert_shown(rt, shelf, &mut pass, row, disk, wanted)?;
     }
     Ok(())
 }
 
+fn read_files<R: Abort + Files + AllocGlobal>(rt: &R, folder: &str) -> Result<(), Fail> {
+    let disk = FolderDisk { files: rt, folder };
+    assert_long_is_cut(rt, &disk);
+    let shelf = named(rt.alloc(), &["inc/x.h", "inc", "x.h", "long"])?;
+    assert_short_is_shown(rt, &shelf, &disk)?;
+    Ok(())
+}
+
+// A folder that no other run of the tests has.
+fn own_folder(rt: &HostRuntime) -> Result<String, Fail> {
+    let temporary = env::temp_dir(rt)?;
+    let number = process::id(rt.process());
+    Ok(format!(in rt.alloc(); "{}/ppshelf-{number}", temporary.as_str())?)
+}
+
 #[test]
 fn a_folder_disk_reads_real_files(rt: HostRuntime) -> Result<(), Fail> {
-    let alloc = rt.alloc();
-    let temporary = env::temp_dir(&rt)?;
-    let number = process::id(rt.process());
-    let folder = format!(in alloc; "{}/ppshelf-{number}", temporary.as_str())?;
+    let folder = own_folder(&rt)?;
     make_files(&rt, folder.as_str())?;
     let read = read_files(&rt, folder.as_str());
     let removed = fs::remove_dir_all(&rt, folder.as_str());
@@ -555,25 +755,39 @@ fn fill_with_texts(alloc: Global, shelf: &mut Shelf<Counting>, texts: &[&str]) -
     Ok(shelf.fill_with(contents)?)
 }
 
+// That the first row has one line, and the second a fault.
+fn assert_moved_lines<'a>(
+    rt: &impl Abort,
+    shelf: &'a Shelf<Counting>,
+    pass: &mut Pass<'a, Counting>,
+    disk: &Counting,
+) -> Result<(), Memory>
+    requires { pass.old.shelf ≡ shelf.now }
+{
+    let lines = lines_of(shelf, pass, 0, disk)?;
+    assert!(rt; matches!(lines, Some(Ok(source)) if source.lines().len() == 1));
+    assert!(rt; matches!(lines_of(shelf, pass, 1, disk)?, Some(Err(_))));
+    Ok(())
+}
+
+// That the rows have the texts of the first fill.
+fn assert_moved(rt: &impl Abort, shelf: &Shelf<Counting>, disk: &Counting) -> Result<(), Memory> {
+    let mut pass = shelf.pass()?;
+    assert_shown(rt, shelf, &mut pass, 0, disk, Some(b"x\n".as_slice()))?;
+    assert_shown(rt, shelf, &mut pass, 1, disk, Some(b"/*".as_slice()))?;
+    assert_moved_lines(rt, shelf, &mut pass, disk)
+}
+
 #[test]
 fn contents_are_moved_to_rows(rt: HostRuntime) -> Result<(), Fail> {
     let alloc = rt.alloc();
-    let mut shelf: Shelf<Counting> = Shelf::new(
-        alloc,
-        texts(alloc, &["a.c", "h.h"])?,
-        Profile::C11,
-    )?;
+    let mut shelf = named(alloc, &["a.c", "h.h"])?;
     let disk = refusing(0);
     fill_with_texts(alloc, &mut shelf, &["x\n", "/*"])?;
     // rows that are filled stay
     fill_with_texts(alloc, &mut shelf, &["y\n", "z\n"])?;
     assert!(rt; shelf.fill(&disk) == Ok(()));
-    let mut pass = shelf.pass()?;
-    assert!(rt; bytes_of(&shelf, &mut pass, 0, &disk)? == Some(b"x\n".as_slice()));
-    assert!(rt; bytes_of(&shelf, &mut pass, 1, &disk)? == Some(b"/*".as_slice()));
-    let lines = lines_of(&shelf, &mut pass, 0, &disk)?;
-    assert!(rt; matches!(lines, Some(Ok(source)) if source.lines().len() == 1));
-    assert!(rt; matches!(lines_of(&shelf, &mut pass, 1, &disk)?, Some(Err(_))));
+    assert_moved(&rt, &shelf, &disk)?;
     assert!(rt; disk.reads.load(SeqCst) == 0);
     Ok(())
 }
