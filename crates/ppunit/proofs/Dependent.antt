@@ -21,7 +21,7 @@ use Rattle.ppunit.specs.declared.units.Setting.{Setting}
 use Rattle.ppunit.specs.declared.units.UnitOut.{UnitOut}
 use Rattle.ppunit.specs.declared.units.Item.TheVariants as item
 use Rattle.ppunit.specs.Dependencies.{among}
-use Rattle.ppunit.specs.States.{Surroundings, Reached, passed, reading_once}
+use Rattle.ppunit.specs.States.{Surroundings, Reached, passed, reading_once, with_left}
 use Rattle.ppunit.specs.Lines.{operands, run_tokens}
 use Rattle.ppunit.specs.LineControl.{presumed}
 use Rattle.ppunit.specs.Directives.{RunGives, renumbered_by, with_macros, is_once, ControlBy}
@@ -64,7 +64,7 @@ control_keeps profile row (Some Define) s r m does =
 control_keeps profile row (Some Undef) s r m does =
     ap (λ (z : Reached). z.state.deps) does ∙ macros_keep s (after_undef s.macros (sign_place r.tokens) (operands r.tokens))
 control_keeps profile row (Some Line) s r m does =
-    ap (λ (z : Reached). z.state.deps) does.is ∙ renumbered_keeps s r does.expanded.fault (presumed does.expanded.tokens)
+    ap (λ (z : Reached). z.state.deps) does.is ∙ renumbered_keeps (with_left s does.expanded.left) r does.expanded.fault (presumed does.expanded.tokens)
 control_keeps profile row (Some Error) s r m does = absurd does
 control_keeps profile row (Some Pragma) s r m does =
     let t = passed s (item.Pragma (sign_place r.tokens) (operands r.tokens) ∷ []) in
@@ -118,10 +118,11 @@ module _ (around : Surroundings) where
 
     opened_within : {depth row : ℕ} {at : Place} {s : State} {m : Reached} → Opened around depth at s row m → row < length around.names → Within s.deps → Within m.state.deps
     opened_within (Opened.too_deep deep) within all = all
-    opened_within {row = row} {s = s} (Opened.known fits known) within all = among_within row s.deps within all
-    opened_within {row = row} {s = s} (Opened.not_readable fits new is) within all = among_within row s.deps within all
-    opened_within {row = row} {s = s} (Opened.faulty fits new is reads) within all = among_within row s.deps within all
-    opened_within {row = row} {s = s} (Opened.read fits new is reads tree here) within all = group_within here (among_within row s.deps within all)
+    opened_within (Opened.over fits spent) within all = all
+    opened_within {row = row} {s = s} (Opened.known fits some known) within all = among_within row s.deps within all
+    opened_within {row = row} {s = s} (Opened.not_readable fits some new is) within all = among_within row s.deps within all
+    opened_within {row = row} {s = s} (Opened.faulty fits some new is reads) within all = among_within row s.deps within all
+    opened_within {row = row} {s = s} (Opened.read fits some new is reads tree here) within all = group_within here (among_within row s.deps within all)
 
   defines_within : {defines : List (List ℕ)} {s : State} {m : Reached} → Defines around defines s m → Within s.deps → Within m.state.deps
   defines_within (unread reads) all = all

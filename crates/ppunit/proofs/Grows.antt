@@ -1,61 +1,90 @@
--- Where a unit gives something over some files, it gives the same over any more.
-use Rattle.std.proofs.Common.{ℕ, List}
+-- Where a unit gives something over some files, it gives the same over any more, with the same count.
+use Rattle.std.proofs.Common.{◌≡◌, ℕ, suc, ◌+◌, List, true, false, Ok, refl, ap}
 use Rattle.pptext.specs.declared.tokens.Place.{Place}
 use Rattle.pptext.specs.Lines.{LogicalLine}
 use Rattle.pptext.specs.Tree.{Parts, Branches}
+use Rattle.ppexpand.specs.Expansion.{count_expansion}
 use Rattle.ppshelf.specs.Content.{unreadable}
 use Rattle.ppshelf.specs.Files.{Files, Extends}
 use Rattle.ppunit.specs.declared.states.State.{State}
-use Rattle.ppunit.specs.declared.units.Unit.{Unit as UnitOfList}
-use Rattle.ppunit.specs.declared.units.Setting.{Setting}
-use Rattle.ppunit.specs.declared.units.UnitOut.{UnitOut}
 use Rattle.ppunit.specs.States.{Surroundings, Reached}
 use Rattle.ppunit.specs.Group.{Group, Branched, Controls, Opened}
-use Rattle.ppunit.specs.Unit.{IsUnit, Defines, unread, processed, Translates, undefined, translated, surroundings}
+use Rattle.ppunit.specs.Counts.{count_decides, count_asks, count_group, count_branched, count_control, count_opened}
+use Rattle.ppunit.specs.Unit.{Defines, unread, processed, Translates, undefined, translated, surroundings, count_defines, count_translates}
+use Rattle.ppunit.specs.Laws.{Grows}
 
 module _ (around : Surroundings) (more : Files) (grows : Extends more around.files) where
   abbrev pub wider : Surroundings
   wider = record around { files = more }
 
+  -- two that follow one another, each with the same count
+  both : {a b c d : ℕ} → a ≡ b → c ≡ d → a + c ≡ b + d
+  both p q = λ i. p i + q i
+
   mutual
-    pub group_grows : {depth row : ℕ} {r : Reached} {ps : Parts} {end : Reached} → Group around depth row r ps end → Group wider depth row r ps end
-    group_grows Group.stays = Group.stays
-    group_grows Group.done = Group.done
-    group_grows (Group.run gives rest) = Group.run gives (group_grows rest)
-    group_grows (Group.control here rest) = Group.control (control_grows here) (group_grows rest)
-    group_grows (Group.taken decides here rest) = Group.taken decides (group_grows here) (group_grows rest)
-    group_grows (Group.skipped decides here rest) = Group.skipped decides (branches_grow here) (group_grows rest)
-    group_grows (Group.refused decides) = Group.refused decides
+    pub group_grows : {depth row : ℕ} {r : Reached} {ps : Parts} {end : Reached} (d : Group around depth row r ps end) → (e : Group wider depth row r ps end) × (count_group e ≡ count_group d)
+    group_grows Group.stays = (Group.stays, refl)
+    group_grows Group.done = (Group.done, refl)
+    group_grows (Group.run gives rest) =
+        let r = group_grows rest in
+        (Group.run gives r.0, ap (λ n. count_expansion gives.expands + n) r.1)
+    group_grows (Group.control here rest) =
+        let h = control_grows here in
+        let r = group_grows rest in
+        (Group.control h.0 r.0, both h.1 r.1)
+    group_grows (Group.taken {s = s} {line = line} {after = after} decides here rest) =
+        let h = group_grows here in
+        let r = group_grows rest in
+        (Group.taken decides h.0 r.0, ap (λ n. count_decides s line after (Ok true) decides + n) (both h.1 r.1))
+    group_grows (Group.skipped {s = s} {line = line} {after = after} decides here rest) =
+        let h = branches_grow here in
+        let r = group_grows rest in
+        (Group.skipped decides h.0 r.0, ap (λ n. count_decides s line after (Ok false) decides + n) (both h.1 r.1))
+    group_grows (Group.refused decides) = (Group.refused decides, refl)
 
-    branches_grow : {depth row : ℕ} {s : State} {bs : Branches} {m : Reached} → Branched around depth row s bs m → Branched wider depth row s bs m
-    branches_grow Branched.ended = Branched.ended
-    branches_grow (Branched.otherwise is here) = Branched.otherwise is (group_grows here)
-    branches_grow (Branched.branch_taken is decides here) = Branched.branch_taken is decides (group_grows here)
-    branches_grow (Branched.branch_skipped is decides rest) = Branched.branch_skipped is decides (branches_grow rest)
-    branches_grow (Branched.branch_refused is decides) = Branched.branch_refused is decides
+    branches_grow : {depth row : ℕ} {s : State} {bs : Branches} {m : Reached} (d : Branched around depth row s bs m) → (e : Branched wider depth row s bs m) × (count_branched e ≡ count_branched d)
+    branches_grow Branched.ended = (Branched.ended, refl)
+    branches_grow (Branched.otherwise is here) = let h = group_grows here in (Branched.otherwise is h.0, h.1)
+    branches_grow (Branched.branch_taken {s = s} {line = line} {after = after} is decides here) =
+        let h = group_grows here in
+        (Branched.branch_taken is decides h.0, ap (λ n. count_decides s line after (Ok true) decides + n) h.1)
+    branches_grow (Branched.branch_skipped {s = s} {line = line} {after = after} is decides rest) =
+        let r = branches_grow rest in
+        (Branched.branch_skipped is decides r.0, ap (λ n. count_decides s line after (Ok false) decides + n) r.1)
+    branches_grow (Branched.branch_refused is decides) = (Branched.branch_refused is decides, refl)
 
-    control_grows : {depth row : ℕ} {s : State} {line : LogicalLine} {m : Reached} → Controls around depth row s line m → Controls wider depth row s line m
-    control_grows (Controls.error is) = Controls.error is
-    control_grows (Controls.quote is q) = Controls.quote is q
-    control_grows (Controls.other q does) = Controls.other q does
-    control_grows (Controls.misnamed is q asks) = Controls.misnamed is q asks
-    control_grows (Controls.missing a is q asks finds) = Controls.missing a is q asks finds
-    control_grows (Controls.included a found is q asks finds opens) = Controls.included a found is q asks finds (opened_grows opens)
+    control_grows : {depth row : ℕ} {s : State} {line : LogicalLine} {m : Reached} (d : Controls around depth row s line m) → (e : Controls wider depth row s line m) × (count_control e ≡ count_control d)
+    control_grows (Controls.error is) = (Controls.error is, refl)
+    control_grows (Controls.quote is q) = (Controls.quote is q, refl)
+    control_grows (Controls.other q does) = (Controls.other q does, refl)
+    control_grows (Controls.misnamed is q asks) = (Controls.misnamed is q asks, refl)
+    control_grows (Controls.missing a is q asks finds) = (Controls.missing a is q asks finds, refl)
+    control_grows (Controls.included {s = s} {line = line} {after = after} a found is q asks finds opens) =
+        let o = opened_grows opens in
+        (Controls.included a found is q asks finds o.0, ap (λ n. count_asks s line.tokens after (Ok a) asks + n) o.1)
 
-    pub opened_grows : {depth row : ℕ} {at : Place} {s : State} {m : Reached} → Opened around depth at s row m → Opened wider depth at s row m
-    opened_grows (Opened.too_deep deep) = Opened.too_deep deep
-    opened_grows (Opened.known fits known) = Opened.known fits known
-    opened_grows {depth} {row} (Opened.not_readable fits new is) = Opened.not_readable fits new (grows row unreadable is)
-    opened_grows {depth} {row} (Opened.faulty fits new is reads) = Opened.faulty fits new (grows row _ is) reads
-    opened_grows {depth} {row} (Opened.read fits new is reads tree here) = Opened.read fits new (grows row _ is) reads tree (group_grows here)
+    pub opened_grows : {depth row : ℕ} {at : Place} {s : State} {m : Reached} (d : Opened around depth at s row m) → (e : Opened wider depth at s row m) × (count_opened e ≡ count_opened d)
+    opened_grows (Opened.too_deep deep) = (Opened.too_deep deep, refl)
+    opened_grows (Opened.over fits spent) = (Opened.over fits spent, refl)
+    opened_grows (Opened.known fits some known) = (Opened.known fits some known, refl)
+    opened_grows {depth} {row} (Opened.not_readable fits some new is) = (Opened.not_readable fits some new (grows row unreadable is), refl)
+    opened_grows {depth} {row} (Opened.faulty fits some new is reads) = (Opened.faulty fits some new (grows row _ is) reads, refl)
+    opened_grows {depth} {row} (Opened.read fits some new is reads tree here) =
+        let h = group_grows here in
+        (Opened.read fits some new (grows row _ is) reads tree h.0, ap suc h.1)
 
-  defines_grow : {defines : List (List ℕ)} {s : State} {m : Reached} → Defines around defines s m → Defines wider defines s m
-  defines_grow (unread reads) = unread reads
-  defines_grow (processed reads tree here) = processed reads tree (group_grows here)
+  defines_grow : {defines : List (List ℕ)} {s : State} {m : Reached} (d : Defines around defines s m) → (e : Defines wider defines s m) × (count_defines e ≡ count_defines d)
+  defines_grow (unread reads) = (unread reads, refl)
+  defines_grow (processed reads tree here) = let h = group_grows here in (processed reads tree h.0, h.1)
 
-  pub translates_grows : {defines : List (List ℕ)} {row : ℕ} {s : State} {m : Reached} → Translates around defines row s m → Translates wider defines row s m
-  translates_grows (undefined here) = undefined (defines_grow here)
-  translates_grows (translated here opens) = translated (defines_grow here) (opened_grows opens)
+  pub translates_grows : {defines : List (List ℕ)} {row : ℕ} {s : State} {m : Reached} (d : Translates around defines row s m) → (e : Translates wider defines row s m) × (count_translates e ≡ count_translates d)
+  translates_grows (undefined here) = let h = defines_grow here in (undefined h.0, h.1)
+  translates_grows (translated here opens) =
+      let h = defines_grow here in
+      let o = opened_grows opens in
+      (translated h.0 o.0, both h.1 o.1)
 
-pub unit_grows : (names : List (List ℕ)) (files more : Files) (setting : Setting) (unit : UnitOfList) (out : UnitOut) → Extends more files → IsUnit names files setting unit out → IsUnit names more setting unit out
-unit_grows names files more setting unit out grows is = record { reached = is.reached; translates = translates_grows (surroundings names files setting unit) more grows is.translates; gives = is.gives }
+pub unit_grows : Grows
+unit_grows names files more setting unit out grows is =
+    let t = translates_grows (surroundings names files setting unit) more grows is.translates in
+    (record { reached = is.reached; translates = t.0; gives = is.gives }, t.1)

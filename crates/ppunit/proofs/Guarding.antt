@@ -1,5 +1,5 @@
--- A guarded file changes nothing where its guard is a macro's name (6.10.1).
-use Rattle.std.proofs.Common.{◌≡◌, ℕ, ◌≤◌, Bool, true, false, ◌&&◌, ◌||◌, List, [], ◌∷◌, ◌++◌, Option, Some, None, Ok, refl, sym, ap, ◌∙◌, subst, codes, if◌then◌else◌, is_some, IsTrue, ◌↔◌}
+-- A guarded file changes nothing where its guard is a macro's name, and costs no more than its opening (6.10.1).
+use Rattle.std.proofs.Common.{◌≡◌, ℕ, zero, suc, ◌+◌, ◌≤◌, Bool, true, false, ◌&&◌, ◌||◌, List, [], ◌∷◌, ◌++◌, Option, Some, None, Ok, refl, sym, ap, ◌∙◌, subst, codes, if◌then◌else◌, is_some, IsTrue, ◌↔◌, arith}
 use Rattle.std.specs.FinMap as table
 use Rattle.std.specs.Str.{bytes_eq}
 use Rattle.std.specs.List.{AllByRecursion}
@@ -23,22 +23,27 @@ use Rattle.pptext.specs.Guard.{IsBlankLine, AreBlank, is_ident, named, is_not_de
 use Rattle.pptext.proofs.OneKind.{begins}
 use Rattle.pptext.proofs.Trees.{at_most_one}
 use Rattle.ppmacro.specs.Spellings.{is_identifier_kind}
+use Rattle.ppexpand.specs.Turn as turns
 use Rattle.ppexpand.specs.Turn.{turn}
-use Rattle.ppexpand.specs.Expansion.{done}
+use Rattle.ppexpand.specs.Laws.{plus}
+use Rattle.ppexpand.specs.Expansion.{ended, done, turn_within, count_expansion}
 use Rattle.ppexpand.specs.Arguments.{is_lone_quote, is_other_kind}
 use Rattle.ppshelf.specs.Content.{Content, unreadable, readable, IsRead}
 use Rattle.ppshelf.specs.Files.{file_at}
-use Rattle.ppexpr.specs.Conditions.{IsCondition}
+use Rattle.ppexpr.specs.Conditions.{IsCondition, count_condition}
+use Rattle.ppexpr.proofs.OneCondition.{same_condition}
+use Rattle.ppexpr.proofs.Capped.{condition_spends, condition_enough}
 use Rattle.ppexpr.proofs.GuardConditions.{punctuator, as_defined, as_name, bare_false, parenthesized_false}
 use Rattle.ppunit.specs.declared.units.Item.{Item}
 use Rattle.ppunit.specs.declared.states.State.{State}
-use Rattle.ppunit.specs.States.{Surroundings, going, depending, entering}
+use Rattle.ppunit.specs.States.{Surroundings, going, depending, entering, is_spent, paying}
 use Rattle.ppunit.specs.Dependencies.{is_among}
 use Rattle.ppunit.specs.Lines.{run_tokens}
 use Rattle.ppunit.specs.Quotes.{quote_fault, lone_quote}
 use Rattle.ppunit.specs.Conditions.{same_as, is_defined, by_name, Decides, DecidesBy, DecidesUnless}
 use Rattle.ppunit.specs.Directives.{RunGives}
 use Rattle.ppunit.specs.Group.{deepest, Group, Branched, Opened}
+use Rattle.ppunit.specs.Counts.{count_decides_by, count_decides_unless, count_decides, count_group, count_opened}
 use Rattle.ppunit.specs.Guarded.{GuardsLeaveOut, IsLeftOut}
 use Rattle.ppunit.proofs.FileTokens.{IsSpelled, AreSpelled, IsSpelledLine, source_spelled, opens_header, kind_is, defined_spelled}
 
@@ -97,9 +102,16 @@ no_quote (t ∷ ts) all = ap (λ (b : Bool). if b then Some (quote_fault t) else
 named_unquoted : (t : Token) (text : List ℕ) → named t text ≡ true → is_quote text ≡ false → is_lone_quote t ≡ false
 named_unquoted t text e f = text_unquoted t text (named_is t text e) f
 
--- the group behind a line of these tokens is not taken
+-- the group behind a line is not taken, and that costs nothing
+abbrev SkipsBy : Option Directive → State → List Token → Type 0
+SkipsBy d s tokens = (h : DecidesBy d s tokens s.left (Ok false)) × (count_decides_by d s tokens s.left (Ok false) h ≡ 0)
+
+abbrev SkipsUnless : Option Fault → Option Directive → State → List Token → Type 0
+SkipsUnless quote d s tokens = (h : DecidesUnless quote d s tokens s.left (Ok false)) × (count_decides_unless quote d s tokens s.left (Ok false) h ≡ 0)
+
+-- of a line of these tokens
 abbrev Skips : State → Option Directive → List Token → Type 0
-Skips s d tokens = DecidesUnless (lone_quote tokens) d s tokens (Ok false)
+Skips s d tokens = SkipsUnless (lone_quote tokens) d s tokens
 
 -- of a line without lone quotes whose directive is spelled so
 decided : (s : State) (profile : Profile) (h d : Token) (ts : List Token) (name : List ℕ) (is_called : Directive)
@@ -108,15 +120,15 @@ decided : (s : State) (profile : Profile) (h d : Token) (ts : List Token) (name 
     → directive_named profile name ≡ is_called
     → is_quote name ≡ false
     → AreUnquoted ts
-    → DecidesBy (Some is_called) s (h ∷ d ∷ ts) (Ok false)
+    → SkipsBy (Some is_called) s (h ∷ d ∷ ts)
     → Skips s (directive_of profile (h ∷ d ∷ ts)) (h ∷ d ∷ ts)
 decided s profile h d ts name is_called hash is called plain rest decides =
     let quotes : lone_quote (h ∷ d ∷ ts) ≡ None = no_quote (h ∷ d ∷ ts) (hash_unquoted h hash, (named_unquoted d name is plain, rest)) in
     let directive : directive_of profile (h ∷ d ∷ ts) ≡ Some is_called =
     ap (λ (b : Bool). if b then Some (directive_named profile d.text) else None) hash
     ∙ ap (λ (z : List ℕ). Some (directive_named profile z)) (named_is d name is) ∙ ap (λ (z : Directive). Some z) called in
-    subst (λ (q : Option Fault). DecidesUnless q (directive_of profile (h ∷ d ∷ ts)) s (h ∷ d ∷ ts) (Ok false)) (sym quotes)
-    (subst (λ (z : Option Directive). DecidesBy z s (h ∷ d ∷ ts) (Ok false)) (sym directive) decides)
+    subst (λ (q : Option Fault). SkipsUnless q (directive_of profile (h ∷ d ∷ ts)) s (h ∷ d ∷ ts)) (sym quotes)
+    (subst (λ (z : Option Directive). SkipsBy z s (h ∷ d ∷ ts)) (sym directive) decides)
 
 -- each profile has the names of C11
 if_called : (profile : Profile) → directive_named profile (codes "if") ≡ If
@@ -162,6 +174,23 @@ defined_is t spelled is =
 name_is : (t : Token) → t.kind ≡ Ident → as_name t ≡ t
 name_is t e = let k : Ident ≡ t.kind = sym e in λ i. record t { kind = k i }
 
+-- the condition is false, whatever is left of a budget, and leaves it as it is
+abbrev IsFalseFreely : State → Place → List Token → Type 0
+IsFalseFreely s at tokens = (left : Option ℕ) → IsCondition s.macros s.env at tokens left (Ok false) left
+
+nothing_spent : (n count : ℕ) → Some n ≡ plus count (Some n) → count ≡ 0
+nothing_spent n count e = let same : n ≡ count + n = cc in omega arith
+
+-- so it costs nothing
+costs_nothing : (s : State) (at : Place) (tokens : List Token) (condition : IsFalseFreely s at tokens) (left : Option ℕ) → count_condition (condition left) ≡ 0
+costs_nothing s at tokens condition (Some n) = nothing_spent n (count_condition (condition (Some n))) (condition_spends (condition (Some n)))
+costs_nothing s at tokens condition None =
+    let k = count_condition (condition None) in
+    let sufficed : IsCondition s.macros s.env at tokens (Some k) (Ok false) (Some 0) = (condition_enough refl (condition None) k 0 (omega arith)).0 in
+    let lefts : Some k ≡ Some 0 = (same_condition s.macros s.env at tokens (Some k) (Some k) (Some 0) (Ok false) (Ok false) (condition (Some k)) sufficed).1 in
+    let counts : k ≡ 0 = cc in
+    counts
+
 by_ifndef : (s : State) (profile : Profile) (h d t : Token) (x : List ℕ)
     → is_hash h.text ≡ true
     → IsGuard (named d (codes "ifndef")) t x
@@ -169,9 +198,14 @@ by_ifndef : (s : State) (profile : Profile) (h d t : Token) (x : List ℕ)
     → Skips s (directive_of profile (h ∷ d ∷ t ∷ [])) (h ∷ d ∷ t ∷ [])
 by_ifndef s profile h d t x hash g known =
     let line = h ∷ d ∷ t ∷ [] in
-    decided s profile h d (t ∷ []) (codes "ifndef") Ifndef hash g.form (ifndef_called profile) refl (ident_unquoted t g.kind, tt)
-    (sym (ap (λ (k : Kind). by_name false s.macros line (if is_identifier_kind k then Some t.text else None)) g.kind ∙ ap
-    (λ (b : Bool). Ok (same_as false b)) (known_name s x t g.name known)))
+    decided s profile h d (t ∷ []) (codes "ifndef") Ifndef hash g.form (ifndef_called profile) refl (ident_unquoted t g.kind, tt) (
+      (
+        refl,
+        sym (ap (λ (k : Kind). by_name false s.macros line (if is_identifier_kind k then Some t.text else None)) g.kind ∙ ap
+            (λ (b : Bool). Ok (same_as false b)) (known_name s x t g.name known)),
+      ),
+      refl,
+    )
 
 by_bare : (s : State) (profile : Profile) (h d n f t : Token) (x : List ℕ)
     → IsSpelled n
@@ -187,9 +221,10 @@ by_bare s profile h d n f t x sn sf hash g known =
     let asks = defined_is f sf q.1 in
     let name = name_is t g.kind in
     let same : (punctuator (codes "!") n ∷ as_defined f ∷ as_name t ∷ []) ≡ (n ∷ f ∷ t ∷ []) = λ i. bang i ∷ asks i ∷ name i ∷ [] in
-    let condition : IsCondition s.macros s.env h.at (n ∷ f ∷ t ∷ []) (Ok false) = subst (λ (z : List Token). IsCondition s.macros s.env h.at z (Ok false)) same (bare_false s.macros s.env h.at n f t (known_name s x t g.name known)) in
+    let condition : IsFalseFreely s h.at (n ∷ f ∷ t ∷ []) = subst (λ (z : List Token). IsFalseFreely s h.at z) same (λ left. bare_false s.macros s.env h.at left n f t (known_name s x t g.name known)) in
     decided s profile h d (n ∷ f ∷ t ∷ []) (codes "if") If hash p.0 (if_called profile) refl
-    (named_unquoted n (codes "!") q.0 refl, (named_unquoted f (codes "defined") q.1 refl, (ident_unquoted t g.kind, tt))) condition
+    (named_unquoted n (codes "!") q.0 refl, (named_unquoted f (codes "defined") q.1 refl, (ident_unquoted t g.kind, tt)))
+    (condition s.left, costs_nothing s h.at (n ∷ f ∷ t ∷ []) condition s.left)
 
 by_parenthesized : (s : State) (profile : Profile) (h d n f l t r : Token) (x : List ℕ)
     → IsSpelled n
@@ -211,14 +246,14 @@ by_parenthesized s profile h d n f l t r x sn sf sl sr hash g known =
     let name = name_is t g.kind in
     let closes = punctuator_is r (codes ")") sr around.1 refl refl in
     let same : (punctuator (codes "!") n ∷ as_defined f ∷ punctuator (codes "(") l ∷ as_name t ∷ punctuator (codes ")") r ∷ []) ≡ (n ∷ f ∷ l ∷ t ∷ r ∷ []) = λ i. bang i ∷ asks i ∷ opens i ∷ name i ∷ closes i ∷ [] in
-    let condition : IsCondition s.macros s.env h.at (n ∷ f ∷ l ∷ t ∷ r ∷ []) (Ok false) = subst (λ (z : List Token). IsCondition s.macros s.env h.at z (Ok false)) same (parenthesized_false s.macros s.env h.at n f l t r (known_name s x t g.name known)) in
+    let condition : IsFalseFreely s h.at (n ∷ f ∷ l ∷ t ∷ r ∷ []) = subst (λ (z : List Token). IsFalseFreely s h.at z) same (λ left. parenthesized_false s.macros s.env h.at left n f l t r (known_name s x t g.name known)) in
     decided s profile h d (n ∷ f ∷ l ∷ t ∷ r ∷ []) (codes "if") If hash p.0 (if_called profile) refl (
       named_unquoted n (codes "!") q.0 refl,
       (
         named_unquoted f (codes "defined") q.1 refl,
         (named_unquoted l (codes "(") around.0 refl, (ident_unquoted t g.kind, (named_unquoted r (codes ")") around.1 refl, tt))),
       ),
-    ) condition
+    ) (condition s.left, costs_nothing s h.at (n ∷ f ∷ l ∷ t ∷ r ∷ []) condition s.left)
 
 guard_decides : (s : State) (profile : Profile) (tokens : List Token) (x : List ℕ)
     → AreSpelled tokens
@@ -246,7 +281,7 @@ guard_line : (s : State) (profile : Profile) (r : LogicalLine) (x : List ℕ)
     → role r ≡ role_named If
     → guard_name r.tokens ≡ Some x
     → is_defined s.macros x ≡ true
-    → Decides s r (Ok false)
+    → (h : Decides s r s.left (Ok false)) × (count_decides s r s.left (Ok false) h ≡ 0)
 guard_line s profile r x (spelled, directed) opens is known =
     subst (λ (z : Option Directive). Skips s z r.tokens) (sym directed)
     (guard_decides s profile r.tokens x spelled (ap role_by (sym directed) ∙ opens) is known)
@@ -257,25 +292,48 @@ blank_tokens : (rows : List LogicalLine) → AllByRecursion IsBlankLine rows →
 blank_tokens [] all = refl
 blank_tokens (r ∷ rs) all = ap (λ (z : List Token). z ++ run_tokens rs) all.0 ∙ blank_tokens rs all.1
 
-nothing_gives : (s : State) → RunGives s [] (going s)
-unfolding turn
-nothing_gives s = record {
-  expanded = record { tokens = []; fault = None };
-  expands = record { outcome = record { tokens = []; fault = None }; expands = (0, done refl); passed = refl; ended = refl };
-  is = ap (λ (items : List Item). going (record s { items = items })) (sym (append-nil s.items));
-}
+-- the tokens give nothing, at no cost
+abbrev GivesNothing : State → List Token → Type 0
+GivesNothing s tokens = (g : RunGives s tokens (going s)) × (count_expansion g.expands ≡ 0)
 
-blank_gives : (s : State) (rows : List LogicalLine) → AllByRecursion IsBlankLine rows → RunGives s (run_tokens rows) (going s)
-blank_gives s rows blank = subst (λ (z : List Token). RunGives s z (going s)) (sym (blank_tokens rows blank)) (nothing_gives s)
+nothing_gives : (s : State) → GivesNothing s []
+unfolding turn
+nothing_gives s = (
+  record {
+    expanded = record { tokens = []; fault = None; left = s.left };
+    expands = record { outcome = ended s.left None; expands = (0, done (unspent s.left)); passed = refl; ended = refl; left_over = refl };
+    is = ap (λ (items : List Item). going (record s { items = items })) (sym (append-nil s.items));
+  },
+  refl,
+)
+  where
+    unspent : (left : Option ℕ) → turn_within s.macros s.env left [] ≡ turns.Done
+    unspent None = refl
+    unspent (Some zero) = refl
+    unspent (Some (suc n)) = refl
+
+blank_gives : (s : State) (rows : List LogicalLine) → AllByRecursion IsBlankLine rows → GivesNothing s (run_tokens rows)
+blank_gives s rows blank = subst (λ (z : List Token). GivesNothing s z) (sym (blank_tokens rows blank)) (nothing_gives s)
 
 behind : {A : Type 0} (P : A → Type 0) (xs ys : List A) → AllByRecursion P (xs ++ ys) → AllByRecursion P ys
 behind P [] ys all = all
 behind P (x ∷ xs) ys all = behind P xs ys all.1
 
+-- two that cost nothing, one behind the other
+both_free : {m n : ℕ} → m ≡ 0 → n ≡ 0 → m + n ≡ 0
+both_free p q = λ i. p i + q i
+
 module _ (around : Surroundings) (depth row : ℕ) (s : State) where
-  blank_group : (ps : Parts) → AreBlank ps → Group around depth row (going s) ps (going s)
-  blank_group Done blank = Group.done
-  blank_group (Run rs ps) blank = Group.run (blank_gives s rs blank.0) (blank_group ps blank.1)
+  -- the parts change nothing, at no cost
+  abbrev Passes : Parts → Type 0
+  Passes ps = (d : Group around depth row (going s) ps (going s)) × (count_group d ≡ 0)
+
+  run_passes : (rs : List LogicalLine) (ps : Parts) → GivesNothing s (run_tokens rs) → Passes ps → Passes (Run rs ps)
+  run_passes rs ps (gives, free) (rest, more) = (Group.run gives rest, both_free free more)
+
+  blank_group : (ps : Parts) → AreBlank ps → Passes ps
+  blank_group Done blank = (Group.done, refl)
+  blank_group (Run rs ps) blank = run_passes rs ps (blank_gives s rs blank.0) (blank_group ps blank.1)
   blank_group (Control r ps) blank = absurd blank
   blank_group (Section r ps bs qs) blank = absurd blank
 
@@ -284,25 +342,28 @@ module _ (around : Surroundings) (depth row : ℕ) (s : State) where
       → AreParts ps
       → GuardedParts ps x
       → is_defined s.macros x ≡ true
-      → Group around depth row (going s) ps (going s)
+      → Passes ps
   guarded_group Done x all are g known = absurd g
   guarded_group (Run rs ps) x all are g known =
-      Group.run (blank_gives s rs g.0) (guarded_group ps x (behind (IsSpelledLine around.profile) rs (part_lines ps) all) are.3 g.1 known)
+      run_passes rs ps (blank_gives s rs g.0) (guarded_group ps x (behind (IsSpelledLine around.profile) rs (part_lines ps) all) are.3 g.1 known)
   guarded_group (Control r ps) x all are g known = absurd g
   guarded_group (Section r ps (End e) qs) x all are g known =
-      Group.skipped (guard_line s around.profile r x all.0 are.0 g.0 known) Branched.ended (blank_group qs g.1)
+      let skips = guard_line s around.profile r x all.0 are.0 g.0 known in
+      let rest = blank_group qs g.1 in
+      (Group.skipped skips.0 Branched.ended rest.0, both_free skips.1 (both_free refl rest.1))
   guarded_group (Section r ps (Branch e ps' bs) qs) x all are g known = absurd g
 
 pub guards_leave_out : GuardsLeaveOut
-guards_leave_out around depth row at s bytes lines x fits is reads (parts, tree, guarded) known = cases (is_among row s.once) refl
+guards_leave_out around depth row at s bytes lines x fits is reads (parts, tree, guarded) known some = cases (is_among row s.once) refl
   where
     spelled : AllByRecursion (IsSpelledLine around.profile) (part_lines parts)
     spelled = subst (AllByRecursion (IsSpelledLine around.profile)) (sym tree.whole) (source_spelled around.profile row bytes lines reads)
 
-    cases : (b : Bool) → is_among row s.once ≡ b → Opened around depth at s row (going (depending s row))
-    cases true once = Opened.known fits once
+    cases : (b : Bool) → is_among row s.once ≡ b → (d : Opened around depth at s row (going (depending (paying s) row))) × (count_opened d ≡ 1)
+    cases true once = (Opened.known fits some once, refl)
     cases false new =
-        Opened.read fits new is reads tree (guarded_group around depth row (entering around s row) parts x spelled tree.each guarded known)
+        let inside = guarded_group around depth row (entering around (paying s) row) parts x spelled tree.each guarded known in
+        (Opened.read fits some new is reads tree inside.0, ap suc inside.1)
 
 -- ---- where a file is left out
 
@@ -321,18 +382,19 @@ one_guard lines x y (parts, tree, guarded) (parts', tree', guarded') =
 pub opens_left_out : (around : Surroundings) (depth row from : ℕ) (by : Profile) (at : Place) (s a : State) (content : Content)
     (lines : List LogicalLine)
     → depth ≤ deepest
+    → is_spent s.left ≡ false
     → file_at around.files row ≡ Some content
     → by ≡ around.profile
     → from ≡ row
     → IsRead by from content (Ok lines)
-    → a ≡ depending s row
+    → a ≡ depending (paying s) row
     → IsLeftOut a lines
     → Opened around depth at s row (record { state = a; fault = None })
-opens_left_out around depth row from by at s a unreadable lines fits known one same reads is left = absurd reads
-opens_left_out around depth row from by at s a (readable bytes) lines fits known one same reads is (x, guarded, defined) =
+opens_left_out around depth row from by at s a unreadable lines fits some known one same reads is left = absurd reads
+opens_left_out around depth row from by at s a (readable bytes) lines fits some known one same reads is (x, guarded, defined) =
     let read = subst (λ (z : ℕ). Reads around.profile z bytes (Ok lines)) same (subst (λ (z : Profile). Reads z from bytes (Ok lines)) one reads) in
     subst (λ (z : State). Opened around depth at s row (going z)) (sym is)
-    (guards_leave_out around depth row at s bytes lines x fits known read guarded (subst (λ (z : State). is_defined z.macros x ≡ true) is defined))
+    (guards_leave_out around depth row at s bytes lines x fits known read guarded (subst (λ (z : State). is_defined z.macros x ≡ true) is defined) some).0
 
 pub left_out_by : (s : State) (lines : List LogicalLine) (name : List ℕ) (b : Bool) → GuardedBy lines name → b ≡ is_defined s.macros name → IsTrue b ↔ IsLeftOut s lines
 left_out_by s lines name b guarded is = (λ e. (name, guarded, sym is ∙ e), λ l. is ∙ ap (λ (z : List ℕ). is_defined s.macros z) (one_guard lines name l.0 guarded l.1) ∙ l.2)

@@ -1,7 +1,9 @@
 pub mod Digits
 pub mod Grows
 pub mod OneUnit
+pub mod OneCount
 pub mod Preprocessed
+pub mod IndexedLines
 pub mod Commands
 pub mod Walk
 pub mod Deciding
@@ -13,3 +15,8 @@ pub mod Dependent
 pub mod FileTokens
 pub mod Guarding
 pub mod Tested
+pub mod Spends
+pub mod Larger
+pub mod Enough
+pub mod Capped
+pub mod Refusing

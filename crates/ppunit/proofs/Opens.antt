@@ -8,7 +8,7 @@ use Rattle.pptext.specs.declared.sources.Directive.TheVariants.{Include}
 use Rattle.pptext.specs.declared.sources.Profile.{Profile}
 use Rattle.pptext.specs.Lines.{LogicalLine}
 use Rattle.pptext.specs.Sources.{Reads, IsSource}
-use Rattle.pptext.specs.Tree.{sign_place, Parts, Tree, group_fault}
+use Rattle.pptext.specs.Tree.{sign_place, Parts, Tree, group_fault, opens_section, ends_group}
 use Rattle.pptext.proofs.Trees.{a_tree}
 use Rattle.ppexpand.specs.declared.env.Env.{Env}
 use Rattle.ppshelf.specs.Content.{Content, unreadable, readable, IsRead}
@@ -19,12 +19,12 @@ use Rattle.ppunit.specs.declared.including.Asked.{Asked}
 use Rattle.ppunit.specs.declared.opening.Entered.{Entered}
 use Rattle.ppunit.specs.declared.walking.Next.{Next}
 use Rattle.ppunit.specs.Directives.{Asks, Finds, ControlBy}
-use Rattle.ppunit.specs.States.{Surroundings, Reached, going, stopped, depending, entering, literal}
+use Rattle.ppunit.specs.States.{Surroundings, Reached, going, stopped, depending, entering, is_spent, with_left, paying, literal}
 use Rattle.ppunit.specs.Lines.{directed}
 use Rattle.ppunit.specs.Dependencies.{is_among}
 use Rattle.ppunit.specs.Quotes.{lone_quote}
 use Rattle.ppunit.specs.Group.{fault_at, deepest, Group, Controls, Opened}
-use Rattle.ppunit.specs.Walk.{line_at, opens_section, ends_group, Advances, EntersFile, Leads, StepsTo, Steps, back}
+use Rattle.ppunit.specs.Walk.{line_at, Advances, EntersFile, Leads, StepsTo, Steps, back}
 use Rattle.ppunit.proofs.Walk.{control_advances, passes}
 
 -- ---- a control line
@@ -58,34 +58,48 @@ pub opens_deep : (around : Surroundings) (depth row : ℕ) (at : Place) (s : Sta
 opens_deep around depth row at s name f deep named is =
     subst (λ (z : Fault). Opened around depth at s row (stopped s z)) (ap (fault_at 32 at) named ∙ sym is) (Opened.too_deep deep)
 
+-- nothing is left for one more opening
+pub opens_over : (around : Surroundings) (depth row : ℕ) (at : Place) (s : State) (f : Fault)
+    → depth ≤ deepest
+    → is_spent s.left ≡ true
+    → f ≡ fault_at 35 at []
+    → Opened around depth at s row (stopped s f)
+opens_over around depth row at s f fits spent is = subst (λ (z : Fault). Opened around depth at s row (stopped s z)) (sym is) (Opened.over fits spent)
+
+-- an opening is paid for, and then it is a dependency
+pub paid : (row : ℕ) (s p t : State) → p ≡ paying s → t ≡ depending p row → t ≡ depending (paying s) row
+paid row s p t pays is = is ∙ ap (λ (z : State). depending z row) pays
+
 -- a file that is read once and was read
 pub opens_known : (around : Surroundings) (depth row : ℕ) (at : Place) (s t : State)
     → depth ≤ deepest
-    → t ≡ depending s row
+    → is_spent s.left ≡ false
+    → t ≡ depending (paying s) row
     → is_among row t.once ≡ true
     → Opened around depth at s row (going t)
-opens_known around depth row at s t fits is known =
-    let here = Opened.known {depth = depth} {at = at} {s = s} fits (ap (λ (z : State). is_among row z.once) (sym is) ∙ known) in
+opens_known around depth row at s t fits more is known =
+    let here = Opened.known {depth = depth} {at = at} {s = s} fits more (ap (λ (z : State). is_among row z.once) (sym is) ∙ known) in
     subst (λ (z : State). Opened around depth at s row (going z)) (sym is) here
 
 -- the dependency changes nothing of what is read once
-pub still_new : (row : ℕ) (s t : State) → t ≡ depending s row → is_among row t.once ≡ false → is_among row s.once ≡ false
+pub still_new : (row : ℕ) (s t : State) → t ≡ depending (paying s) row → is_among row t.once ≡ false → is_among row s.once ≡ false
 still_new row s t is new = ap (λ (z : State). is_among row z.once) (sym is) ∙ new
 
 pub opens_unreadable : (around : Surroundings) (depth row : ℕ) (at : Place) (s t : State) (name : List ℕ) (f : Fault) (content : Content)
     → depth ≤ deepest
+    → is_spent s.left ≡ false
     → is_among row t.once ≡ false
     → file_at around.files row ≡ Some content
     → content ≡ unreadable
     → name_in around.names row ≡ name
     → f ≡ fault_at 6 at name
-    → t ≡ depending s row
+    → t ≡ depending (paying s) row
     → Opened around depth at s row (stopped t f)
-opens_unreadable around depth row at s t name f content fits new known is named fault same =
+opens_unreadable around depth row at s t name f content fits more new known is named fault same =
     let first = still_new row s t same new in
-    let here = Opened.not_readable {depth = depth} {at = at} {s = s} fits first (known ∙ ap (λ (z : Content). Some z) is) in
+    let here = Opened.not_readable {depth = depth} {at = at} {s = s} fits more first (known ∙ ap (λ (z : Content). Some z) is) in
     subst (λ (z : State). Opened around depth at s row (stopped z f)) (sym same)
-    (subst (λ (z : Fault). Opened around depth at s row (stopped (depending s row) z)) (ap (fault_at 6 at) named ∙ sym fault) here)
+    (subst (λ (z : Fault). Opened around depth at s row (stopped (depending (paying s) row) z)) (ap (fault_at 6 at) named ∙ sym fault) here)
 
 -- what was read is the file of this row, by this profile
 reads_at : (profile by : Profile) (row from : ℕ) (bytes : List ℕ) (lines : Result (List LogicalLine) Fault)
@@ -98,33 +112,40 @@ reads_at profile by row from bytes lines one same reads =
 
 pub opens_faulty : (around : Surroundings) (depth row from : ℕ) (by : Profile) (at : Place) (s t : State) (f g : Fault) (content : Content)
     → depth ≤ deepest
+    → is_spent s.left ≡ false
     → is_among row t.once ≡ false
     → file_at around.files row ≡ Some content
     → by ≡ around.profile
     → from ≡ row
     → IsRead by from content (Err g)
     → f ≡ g
-    → t ≡ depending s row
+    → t ≡ depending (paying s) row
     → Opened around depth at s row (stopped t f)
-opens_faulty around depth row from by at s t f g unreadable fits new known one same reads copied is = absurd reads
-opens_faulty around depth row from by at s t f g (readable bytes) fits new known one same reads copied is =
+opens_faulty around depth row from by at s t f g unreadable fits more new known one same reads copied is = absurd reads
+opens_faulty around depth row from by at s t f g (readable bytes) fits more new known one same reads copied is =
     let read = reads_at around.profile by row from bytes (Err g) one same reads in
-    let here = Opened.faulty {depth = depth} {at = at} {s = s} fits (still_new row s t is new) known read in
+    let here = Opened.faulty {depth = depth} {at = at} {s = s} fits more (still_new row s t is new) known read in
     subst (λ (z : State). Opened around depth at s row (stopped z f)) (sym is)
-    (subst (λ (z : Fault). Opened around depth at s row (stopped (depending s row) z)) (sym copied) here)
+    (subst (λ (z : Fault). Opened around depth at s row (stopped (depending (paying s) row) z)) (sym copied) here)
 
 tree_of : (profile : Profile) (row : ℕ) (bytes : List ℕ) (lines : List LogicalLine)
     → IsSource profile row bytes lines
     → (parts : Parts) × Tree lines parts
 tree_of profile row bytes lines source = a_tree lines (ap (group_fault []) source.same ∙ source.grouped)
 
-pub entering_is : (around : Surroundings) (row : ℕ) (s a : State) (inside inner : Env) (name : List ℕ) → a ≡ depending s row → inside ≡ inner → inner ≡ record a.env { name = literal name; shift = pos 0 } → name_in around.names row ≡ name → record a { env = inside } ≡ entering around s row
+pub entering_is : (around : Surroundings) (row : ℕ) (s a : State) (inside inner : Env) (name : List ℕ)
+    → a ≡ depending s row
+    → inside ≡ inner
+    → inner ≡ record a.env { name = literal name; shift = pos 0 }
+    → name_in around.names row ≡ name
+    → record a { env = inside } ≡ entering around s row
 entering_is around row s a inside inner name depends same is named =
     ap (λ (z : Env). record a { env = z }) (same ∙ is) ∙ ap (λ (z : List ℕ). record a { env = record a.env { name = literal z; shift = pos 0 } }) (sym named) ∙ ap (λ (z : State). record z { env = record z.env { name = literal (name_in around.names row); shift = pos 0 } }) depends
 
 pub opens_read : (around : Files → Surroundings) (files : Files) (depth row from : ℕ) (by : Profile) (at : Place) (s t : State) (e : Entered)
     (content : Content)
     → depth ≤ deepest
+    → is_spent s.left ≡ false
     → is_among row s.once ≡ false
     → ((more : Files) → Extends more files → file_at (around more).files row ≡ Some content)
     → e.file.row ≡ row
@@ -133,11 +154,11 @@ pub opens_read : (around : Files → Surroundings) (files : Files) (depth row fr
     → ((more : Files) → by ≡ (around more).profile)
     → from ≡ row
     → IsRead by from content (Ok e.file.source.now)
-    → ((more : Files) → t ≡ entering (around more) s row)
+    → ((more : Files) → t ≡ entering (around more) (paying s) row)
     → e.outer ≡ s.env
     → EntersFile around files depth (λ more m. Opened (around more) depth at s row m) t e
-opens_read around files depth row from by at s t e unreadable fits new known named begins few one same reads entered left = absurd reads
-opens_read around files depth row from by at s t e (readable bytes) fits new known named begins few one same reads entered left =
+opens_read around files depth row from by at s t e unreadable fits unspent new known named begins few one same reads entered left = absurd reads
+opens_read around files depth row from by at s t e (readable bytes) fits unspent new known named begins few one same reads entered left =
     let source : IsSource by row bytes e.file.source.now = subst (λ (z : ℕ). IsSource by z bytes e.file.source.now) same reads in
     let tree = tree_of by row bytes e.file.source.now source in
     record {
@@ -151,7 +172,7 @@ opens_read around files depth row from by at s t e (readable bytes) fits new kno
           (subst (λ (z : ℕ). Group (around more) depth z (going t) tree.0 m) named group) in
           let read = reads_at (around more).profile by row from bytes (Ok e.file.source.now) (one more) same reads in
           subst (λ (z : Env). Opened (around more) depth at s row (back z m)) (sym left)
-          (Opened.read {depth = depth} {at = at} {s = s} fits new (known more grows) read tree.1 inside);
+          (Opened.read {depth = depth} {at = at} {s = s} fits unspent new (known more grows) read tree.1 inside);
     }
 
 -- ---- where a line leads
@@ -169,18 +190,22 @@ leads_on around files depth one other t (Ok (Some e)) turn leads = record {
 leads_on around files depth one other t (Err f) turn leads = λ more grows. turn more (stopped t f) (leads more grows)
 
 pub leads_included : (around : Files → Surroundings) (files : Files) (depth deeper row found : ℕ) (at : Place) (line : LogicalLine) (s t : State)
-    (a : Asked) (r : Result (Option Entered) Fault)
+    (after : Option ℕ) (a : Asked) (r : Result (Option Entered) Fault)
     → deeper ≡ suc depth
     → at ≡ sign_place line.tokens
     → line.directive ≡ Some Include
     → lone_quote line.tokens ≡ None
-    → Asks s line.tokens (Ok a)
+    → Asks s line.tokens after (Ok a)
     → ((more : Files) → Finds (around more) row a (Some found))
-    → Leads around files deeper (λ more m. Opened (around more) deeper at s found m) t r
+    → Leads around files deeper (λ more m. Opened (around more) deeper at (with_left s after) found m) t r
     → Leads around files (suc depth) (λ more m. Controls (around more) depth row s line m) t r
-leads_included around files depth deeper row found at line s t a r one place is alone asks finds leads =
-    let here : Leads around files (suc depth) (λ more m. Opened (around more) (suc depth) (sign_place line.tokens) s found m) t r = subst (λ (z : Place). Leads around files (suc depth) (λ more m. Opened (around more) (suc depth) z s found m) t r) place (subst (λ (z : ℕ). Leads around files z (λ more m. Opened (around more) z at s found m) t r) one leads) in
-    leads_on around files (suc depth) (λ more m. Opened (around more) (suc depth) (sign_place line.tokens) s found m) (λ more m. Controls (around more) depth row s line m) t r (λ more m opened. Controls.included a found is alone asks (finds more) opened) here
+leads_included around files depth deeper row found at line s t after a r one place is alone asks finds leads =
+    let u = with_left s after in
+    let here : Leads around files (suc depth) (λ more m. Opened (around more) (suc depth) (sign_place line.tokens) u found m) t r =
+    subst (λ (z : Place). Leads around files (suc depth) (λ more m. Opened (around more) (suc depth) z u found m) t r) place
+    (subst (λ (z : ℕ). Leads around files z (λ more m. Opened (around more) z at u found m) t r) one leads) in
+    leads_on around files (suc depth) (λ more m. Opened (around more) (suc depth) (sign_place line.tokens) u found m)
+    (λ more m. Controls (around more) depth row s line m) t r (λ more m opened. Controls.included a found is alone asks (finds more) opened) here
 
 pub steps_line : (around : Files → Surroundings) (files : Files) (depth row : ℕ) (lines : List LogicalLine) (index : ℕ) (s t : State) (found : Result ℕ Fault) (r : Result Next Fault) → MatchResult r (λ next. (found ≡ Ok next.line) × (next.entered ≡ None)) (λ fault. found ≡ Err fault) → Advances around files depth row lines index s t found → Steps around files depth row lines index s t r
 steps_line around files depth row lines index s t found (Ok next) (is, none) advances =

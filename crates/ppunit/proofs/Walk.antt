@@ -1,117 +1,26 @@
 -- A walk over the lines of a file, step by step, in the tree of its groups.
-use Rattle.std.proofs.Common.{◌≡◌, ◌≢◌, ℕ, zero, suc, ◌+◌, ◌-◌, ◌<◌, ◌≤◌, Bool, true, false, List, [], ◌∷◌, ◌++◌, map, length, take, drop, get_or, refl, sym, ap, ◌∙◌, subst, arith, add-one, append_assoc, Option, None, Some, Result, Ok, Err}
-use Rattle.std.proofs.lemmas.List.{drop_more, drop-drop, drop_at, take_at, take_more, take-take, drop-take, take-append-drop, drop_all, append-nil, length-append, length-drop}
+use Rattle.std.proofs.Common.{◌≡◌, ◌≢◌, ℕ, suc, ◌+◌, ◌-◌, ◌<◌, ◌≤◌, Bool, true, false, List, [], ◌∷◌, ◌++◌, map, length, take, drop, refl, sym, ap, ◌∙◌, subst, arith, add-one, append_assoc, Option, None, Some, Result, Ok, Err}
+use Rattle.std.proofs.lemmas.List.{take_at, drop_all, length-drop}
 use Rattle.std.specs.List.{AllByRecursion}
 use Rattle.std.specs.Option.{is_some}
 use Rattle.std.specs.Prelude.{IfOk}
-use Rattle.pptext.specs.declared.tokens.Token.{Token}
 use Rattle.pptext.specs.declared.tokens.Fault.{Fault}
-use Rattle.pptext.specs.declared.sources.Line.{Line}
 use Rattle.pptext.specs.declared.sources.Directive.{Directive}
 use Rattle.pptext.specs.declared.sources.Directive.TheVariants.{If, Ifdef, Ifndef, Elif, Elifdef, Elifndef, Else, Endif, Include, Define, Undef, Line as LineOf, Error, Pragma, Null, Unknown}
 use Rattle.pptext.specs.Lines.{LogicalLine}
-use Rattle.pptext.specs.Sources.{next_branch, spans, tokens_of}
-use Rattle.pptext.specs.Tree.{Parts, Done, Run, Control, Section, Branches, End, Branch, part_lines, branch_lines, BeginsRun, AreParts, AreBranches, Tree, role, role_by, branch_behind}
-use Rattle.pptext.proofs.Spans.{span, span_at}
+use Rattle.pptext.specs.Sources.{next_branch}
+use Rattle.pptext.specs.Tree.{Parts, Done, Run, Control, Section, Branches, End, Branch, part_lines, branch_lines, BeginsRun, AreParts, AreBranches, Tree, role, role_by, branch_behind, opens_section, ends_group}
 use Rattle.pptext.proofs.Walks.{next_within, next_of_opening, next_of_branch, next_of_end, next_behind}
 use Rattle.ppunit.specs.declared.states.State.{State}
-use Rattle.ppunit.specs.States.{Surroundings, Reached, going, stopped}
+use Rattle.ppunit.specs.States.{Surroundings, Reached, going, stopped, with_left}
 use Rattle.ppunit.specs.Group.{Group, Branched}
-use Rattle.ppunit.specs.Conditions.{Decides}
+use Rattle.ppunit.specs.Conditions.{DecidesFreely, Decides}
 use Rattle.ppunit.specs.Directives.{RunGives}
 use Rattle.ppunit.specs.Lines.{run_tokens}
 use Rattle.ppunit.specs.Group.{Controls}
 use Rattle.ppshelf.specs.Files.{Files, Extends}
-use Rattle.ppunit.specs.Walk.{no_line, line_at, opens_section, ends_group, Outer, lay, AreOuter, StandsAt, Ends, Advances, BranchesAt, EntersBy, Enters, FindsBranch, IsTextLine, IsRest, Passes, PassesFrom}
-
--- ---- lines by index
-
-pub spans_length : (k start : ℕ) (rows : List LogicalLine) → length (spans k start rows) ≡ length rows
-spans_length k start [] = refl
-spans_length k start (r ∷ rows) = ap suc (spans_length (k + 1) (start + length r.tokens) rows)
-
-pub line_is : (lines : List LogicalLine) (index : ℕ) (d : Line) → index < length lines → get_or (spans 0 0 lines) index d ≡ span index (length (tokens_of (take index lines))) (line_at lines index) (drop (suc index) lines)
-line_is lines index d l =
-    span_at 0 0 lines index d no_line l ∙ ap (λ (z : ℕ). span z (0 + length (tokens_of (take index lines))) (line_at lines index) (drop (suc index) lines)) (omega arith) ∙ ap (λ (z : ℕ). span index z (line_at lines index) (drop (suc index) lines)) (omega arith)
-
--- what stands at an index
-pub record At (lines : List LogicalLine) (index : ℕ) (r : LogicalLine) (rows : List LogicalLine) : Type 0 where
-  pub within : index < length lines
-  pub here : line_at lines index ≡ r
-  pub behind : drop (suc index) lines ≡ rows
-
-pub at_index : (lines : List LogicalLine) (index : ℕ) (r : LogicalLine) (rows : List LogicalLine) → drop index lines ≡ r ∷ rows → At lines index r rows
-at_index [] zero r rows e = absurd (cc)
-at_index [] (suc index) r rows e = absurd (cc)
-at_index (x ∷ lines) zero r rows e = record { within = omega arith; here = cc; behind = cc }
-at_index (x ∷ lines) (suc index) r rows e = let h = at_index lines index r rows e in record { within = omega (arith, h.within); here = h.here; behind = h.behind }
-
-pub from_index : (lines : List LogicalLine) (index : ℕ) → index < length lines → drop index lines ≡ line_at lines index ∷ drop (suc index) lines
-from_index lines index l =
-    let more : index + 1 ≡ suc index = omega arith in
-    drop_more lines index no_line l ∙ ap (λ (z : ℕ). line_at lines index ∷ drop z lines) more
-
-pub drop_further : (lines front rest : List LogicalLine) (index : ℕ) → drop index lines ≡ front ++ rest → drop (index + length front) lines ≡ rest
-drop_further lines front rest index e = sym (drop-drop (length front) index lines) ∙ ap (drop (length front)) e ∙ drop_at front rest (length front) refl
-
--- ---- tokens of lines
-
-tokens_split : (a b : List LogicalLine) → tokens_of (a ++ b) ≡ tokens_of a ++ tokens_of b
-tokens_split [] b = refl
-tokens_split (r ∷ a) b = ap (λ (z : List Token). r.tokens ++ z) (tokens_split a b) ∙ sym (append_assoc r.tokens (tokens_of a) (tokens_of b))
-
-take_parted : (lines : List LogicalLine) (i j : ℕ) → i ≤ j → take j lines ≡ take i lines ++ take (j - i) (drop i lines)
-take_parted lines i j l =
-    let sum : j ≡ i + (j - i) = omega arith in
-    sym (take-append-drop i (take j lines)) ∙ ap (λ (z : List LogicalLine). z ++ drop i (take j lines)) (take-take i j lines l) ∙ ap (λ (z : ℕ). take i lines ++ drop i (take z lines)) sum ∙ ap (λ (z : List LogicalLine). take i lines ++ z) (drop-take i (j - i) lines)
-
--- the tokens of the lines from i up to j, among those of the file
-pub record Between (lines : List LogicalLine) (i j p q : ℕ) : Type 0 where
-  pub begins : p ≤ q
-  pub ends : q ≤ length (tokens_of lines)
-  pub tokens : take (q - p) (drop p (tokens_of lines)) ≡ tokens_of (take (j - i) (drop i lines))
-
-pub tokens_between : (lines : List LogicalLine) (i j : ℕ) → i ≤ j → Between lines i j (length (tokens_of (take i lines))) (length (tokens_of (take j lines)))
-tokens_between lines i j l =
-    let a = tokens_of (take i lines) in
-    let b = tokens_of (take (j - i) (drop i lines)) in
-    let c = tokens_of (drop j lines) in
-    let q = length (tokens_of (take j lines)) in
-    let front : tokens_of (take j lines) ≡ a ++ b = ap tokens_of (take_parted lines i j l) ∙ tokens_split (take i lines) (take (j - i) (drop i lines)) in
-    let whole : tokens_of lines ≡ a ++ (b ++ c) = ap tokens_of (sym (take-append-drop j lines)) ∙ tokens_split (take j lines) (drop j lines) ∙ ap (λ (z : List Token). z ++ c) front ∙ append_assoc a b c in
-    let sum : q ≡ length a + length b = ap length front ∙ length-append a b in
-    let all : length (tokens_of lines) ≡ length a + (length b + length c) = ap length whole ∙ length-append a (b ++ c) ∙ ap (λ (z : ℕ). length a + z) (length-append b c) in
-    let count : length b ≡ q - length a = omega arith in
-    record {
-      begins = omega arith;
-      ends = omega arith;
-      tokens = ap (λ (z : List Token). take (q - length a) (drop (length a) z)) whole ∙ ap (take (q - length a)) (drop_at a (b ++ c) (length a) refl) ∙ take_at b c (q - length a) count;
-    }
-
-pub line_end : (lines : List LogicalLine) (index : ℕ) → index < length lines → length (tokens_of (take (index + 1) lines)) ≡ length (tokens_of (take index lines)) + length (line_at lines index).tokens
-line_end lines index l =
-    let r = line_at lines index in
-    ap (λ (z : List LogicalLine). length (tokens_of z)) (take_more lines index no_line l) ∙ ap length (tokens_split (take index lines) (r ∷ [])) ∙ length-append (tokens_of (take index lines)) (r.tokens ++ []) ∙ ap (λ (z : List Token). length (tokens_of (take index lines)) + length z) (append-nil r.tokens)
-
-pub between_line : (lines : List LogicalLine) (i start end : ℕ) → i < length lines → start ≡ length (tokens_of (take i lines)) → end ≡ start + length (line_at lines i).tokens → Between lines i (i + 1) start end
-between_line lines i start end l from to =
-    let b = tokens_between lines i (i + 1) (omega arith) in
-    let over : length (tokens_of (take (i + 1) lines)) ≡ end = omega (arith, line_end lines i l) in
-    let begin : length (tokens_of (take i lines)) ≡ start = sym from in
-    subst (λ (z : ℕ). Between lines i (i + 1) z end) begin (subst (λ (z : ℕ). Between lines i (i + 1) (length (tokens_of (take i lines))) z) over b)
-
-pub between_lines : (lines : List LogicalLine) (i j start last end : ℕ) → i < j → j ≤ length lines → start ≡ length (tokens_of (take i lines)) → last ≡ length (tokens_of (take (j - 1) lines)) → end ≡ last + length (line_at lines (j - 1)).tokens → Between lines i j start end
-between_lines lines i j start last end some within from before to =
-    let b = tokens_between lines i j (omega arith) in
-    let one : j - 1 + 1 ≡ j = omega arith in
-    let over : length (tokens_of (take j lines)) ≡ end = ap (λ (z : ℕ). length (tokens_of (take z lines))) (sym one) ∙ line_end lines (j - 1) (omega arith) ∙ ap (λ (z : ℕ). z + length (line_at lines (j - 1)).tokens) (sym before) ∙ sym to in
-    let begin : length (tokens_of (take i lines)) ≡ start = sym from in
-    subst (λ (z : ℕ). Between lines i j z end) begin (subst (λ (z : ℕ). Between lines i j (length (tokens_of (take i lines))) z) over b)
-
-pub one_line : (lines : List LogicalLine) (index : ℕ) → index < length lines → tokens_of (take (index + 1 - index) (drop index lines)) ≡ (line_at lines index).tokens
-one_line lines index l =
-    let one : index + 1 - index ≡ 1 = omega arith in
-    ap (λ (z : ℕ). tokens_of (take z (drop index lines))) one ∙ ap (λ (z : List LogicalLine). tokens_of (take 1 z)) (from_index lines index l) ∙ append-nil (line_at lines index).tokens
+use Rattle.ppunit.specs.Walk.{line_at, Outer, lay, AreOuter, StandsAt, Ends, Advances, BranchesAt, EntersBy, Enters, FindsBranch, IsTextLine, IsRest, Passes, PassesFrom}
+use Rattle.ppunit.proofs.IndexedLines.{at_index, from_index, drop_further}
 
 -- ---- what is laid
 
@@ -156,14 +65,14 @@ else_directive d e = cc
 not_else : (d : Option Directive) → role_by d ≡ role_by (Some Elif) → d ≢ Some Else
 not_else d e h = let differs : role_by (Some Elif) ≡ role_by (Some Else) = sym e ∙ ap role_by h in cc
 
-condition_decides : (d : Option Directive) (s : State) (r : LogicalLine) (taken : Result Bool Fault)
+condition_decides : (d : Option Directive) (s : State) (r : LogicalLine) (after : Option ℕ) (taken : Result Bool Fault)
     → role_by d ≡ role_by (Some Elif)
-    → EntersBy d s r taken
-    → Decides s r taken
-condition_decides (Some Elif) s r taken e entered = entered
-condition_decides (Some Elifdef) s r taken e entered = entered
-condition_decides (Some Elifndef) s r taken e entered = entered
-condition_decides d s r taken e entered = absurd (cc)
+    → EntersBy d s r after taken
+    → Decides s r after taken
+condition_decides (Some Elif) s r after taken e entered = entered
+condition_decides (Some Elifdef) s r after taken e entered = entered
+condition_decides (Some Elifndef) s r after taken e entered = entered
+condition_decides d s r after taken e entered = absurd (cc)
 
 control_role : (d : Directive) → opens_section d ≡ false → ends_group d ≡ false → role_by (Some d) ≡ role_by (Some Null)
 control_role Define o e = refl
@@ -368,125 +277,177 @@ found_at lines index next ps bs qs k b found =
     let same : index + 1 + length (part_lines ps) ≡ next = cc in
     ap (λ (z : ℕ). drop z lines) (sym same) ∙ known.1
 
-abbrev pub EntersAt : List LogicalLine → ℕ → State → Result Bool Fault → Type 0
-EntersAt lines index s taken = Enters s (line_at lines index) taken
+abbrev pub EntersAt : List LogicalLine → ℕ → State → Option ℕ → Result Bool Fault → Type 0
+EntersAt lines index s after taken = Enters s (line_at lines index) after taken
 
-enters_by : (lines : List LogicalLine) (index : ℕ) (s : State) (taken : Result Bool Fault) (r : LogicalLine) (d : Option Directive)
+enters_by : (lines : List LogicalLine) (index : ℕ) (s : State) (after : Option ℕ) (taken : Result Bool Fault) (r : LogicalLine) (d : Option Directive)
     → line_at lines index ≡ r
     → r.directive ≡ d
-    → EntersAt lines index s taken
-    → EntersBy d s r taken
-enters_by lines index s taken r d here is e =
-    subst (λ (z : Option Directive). EntersBy z s r taken) is (subst (λ (z : LogicalLine). Enters s z taken) here e)
+    → EntersAt lines index s after taken
+    → EntersBy d s r after taken
+enters_by lines index s after taken r d here is e =
+    subst (λ (z : Option Directive). EntersBy z s r after taken) is (subst (λ (z : LogicalLine). Enters s z after taken) here e)
 
 -- a branch that is no `#else` decides
-branch_decides : (lines : List LogicalLine) (index : ℕ) (s : State) (taken : Result Bool Fault) (r : LogicalLine) (rows : List LogicalLine)
+branch_decides : (lines : List LogicalLine) (index : ℕ) (s : State) (after : Option ℕ) (taken : Result Bool Fault) (r : LogicalLine)
+    (rows : List LogicalLine)
     → drop index lines ≡ r ∷ rows
     → role r ≡ role_by (Some Elif)
-    → EntersAt lines index s taken
-    → Decides s r taken
-branch_decides lines index s taken r rows there is e =
-    condition_decides r.directive s r taken is (enters_by lines index s taken r r.directive (at_index lines index r rows there).here refl e)
+    → EntersAt lines index s after taken
+    → Decides s r after taken
+branch_decides lines index s after taken r rows there is e =
+    condition_decides r.directive s r after taken is (enters_by lines index s after taken r r.directive (at_index lines index r rows there).here refl e)
+
+-- `#else` and `#endif` are entered freely
+else_enters : (lines : List LogicalLine) (next : ℕ) (s : State) (after : Option ℕ) (taken : Result Bool Fault) (r : LogicalLine)
+    (rows : List LogicalLine)
+    → drop next lines ≡ r ∷ rows
+    → role r ≡ role_by (Some Else)
+    → EntersAt lines next s after taken
+    → DecidesFreely s (Ok true) after taken
+else_enters lines next s after taken r rows there is e =
+    enters_by lines next s after taken r (Some Else) (at_index lines next r rows there).here (else_directive r.directive is) e
+
+endif_enters : (lines : List LogicalLine) (next : ℕ) (s : State) (after : Option ℕ) (taken : Result Bool Fault) (r : LogicalLine)
+    (rows : List LogicalLine)
+    → drop next lines ≡ r ∷ rows
+    → role r ≡ role_by (Some Endif)
+    → EntersAt lines next s after taken
+    → DecidesFreely s (Ok true) after taken
+endif_enters lines next s after taken r rows there is e =
+    enters_by lines next s after taken r (Some Endif) (at_index lines next r rows there).here (endif_directive r.directive is) e
 
 stands_behind : (lines : List LogicalLine) (index : ℕ) (r : LogicalLine) (ps : Parts) (k : Outer) → drop index lines ≡ r ∷ lay ps k → AreParts ps → AreOuter k → StandsAt lines (index + 1) ps k
 stands_behind lines index r ps k e are outer = record { rest = rw add-one (at_index lines index r (lay ps k) e).behind; parts = are; outer = outer }
 
-pub enter_branch : (lines : List LogicalLine) (next : ℕ) (s : State) (bs : Branches) (qs : Parts) (k : Outer) → drop next lines ≡ branch_lines bs ++ lay qs k → AreOuter ((bs, qs) ∷ k) → EntersAt lines next s (Ok true) → FindsBranch lines s bs qs k (Ok (next + 1))
-enter_branch lines next s (End r) qs k e outer entered =
-    (qs, k, stands_behind lines next r qs k e outer.1 outer.2, λ around depth row end rest. (going s, Branched.ended, rest))
-enter_branch lines next s (Branch r ps bs) qs k e ((last, (before, true, is, parts, more)), behind, around) entered =
-    let there = e ∙ lay_branch r ps qs bs k in (
+pub enter_branch : (lines : List LogicalLine) (next : ℕ) (s : State) (after : Option ℕ) (bs : Branches) (qs : Parts) (k : Outer)
+    → drop next lines ≡ branch_lines bs ++ lay qs k
+    → AreOuter ((bs, qs) ∷ k)
+    → EntersAt lines next s after (Ok true)
+    → FindsBranch lines s (with_left s after) bs qs k (Ok (next + 1))
+enter_branch lines next s after (End r) qs k e outer entered =
+    let same : after ≡ s.left = (endif_enters lines next s after (Ok true) r (lay qs k) e outer.0.1 entered).0 in (
+      qs,
+      k,
+      stands_behind lines next r qs k e outer.1 outer.2,
+      λ around depth row end rest.
+          (going s, Branched.ended, subst (λ (z : Option ℕ). Ends around depth row (going (with_left s z)) qs k end) same rest),
+    )
+enter_branch lines next s after (Branch r ps bs) qs k e ((last, (before, true, is, parts, more)), behind, around) entered =
+    let there = e ∙ lay_branch r ps qs bs k in
+    let same : after ≡ s.left = (else_enters lines next s after (Ok true) r (lay ps ((bs, qs) ∷ k)) there is entered).0 in (
       ps,
       (bs, qs) ∷ k,
       stands_behind lines next r ps ((bs, qs) ∷ k) there parts ((true, more), behind, around),
-      λ around depth row end rest. (rest.0, Branched.otherwise (else_directive r.directive is) rest.1, rest.2),
+      λ around depth row end rest.
+          let here = subst (λ (z : Option ℕ). Group around depth row (going (with_left s z)) ps rest.0) same rest.1 in
+          (rest.0, Branched.otherwise (else_directive r.directive is) here, rest.2),
     )
-enter_branch lines next s (Branch r ps bs) qs k e ((last, (before, false, is, parts, more)), behind, around) entered =
+enter_branch lines next s after (Branch r ps bs) qs k e ((last, (before, false, is, parts, more)), behind, around) entered =
     let there = e ∙ lay_branch r ps qs bs k in
     let other = not_else r.directive is in
-    let decides = branch_decides lines next s (Ok true) r (lay ps ((bs, qs) ∷ k)) there is entered in (
+    let decides = branch_decides lines next s after (Ok true) r (lay ps ((bs, qs) ∷ k)) there is entered in (
       ps,
       (bs, qs) ∷ k,
       stands_behind lines next r ps ((bs, qs) ∷ k) there parts ((false, more), behind, around),
       λ around depth row end rest. (rest.0, Branched.branch_taken other decides rest.1, rest.2),
     )
 
-pub refuse_branch : (lines : List LogicalLine) (next : ℕ) (s : State) (f : Fault) (bs : Branches) (qs : Parts) (k : Outer) → drop next lines ≡ branch_lines bs ++ lay qs k → AreOuter ((bs, qs) ∷ k) → EntersAt lines next s (Err f) → FindsBranch lines s bs qs k (Err f)
-refuse_branch lines next s f (End r) qs k e ((last, is), behind, around) entered =
-    let not : Err f ≡ Ok true =
-    enters_by lines next s (Err f) r (Some Endif) (at_index lines next r (lay qs k) e).here (endif_directive r.directive is) entered in
+pub refuse_branch : (lines : List LogicalLine) (next : ℕ) (s : State) (after : Option ℕ) (f : Fault) (bs : Branches) (qs : Parts) (k : Outer)
+    → drop next lines ≡ branch_lines bs ++ lay qs k
+    → AreOuter ((bs, qs) ∷ k)
+    → EntersAt lines next s after (Err f)
+    → FindsBranch lines s (with_left s after) bs qs k (Err f)
+refuse_branch lines next s after f (End r) qs k e ((last, is), behind, around) entered =
+    let not : Err f ≡ Ok true = (endif_enters lines next s after (Err f) r (lay qs k) e is entered).1 in
     absurd (cc)
-refuse_branch lines next s f (Branch r ps bs) qs k e ((last, (before, true, is, parts, more)), behind, around) entered =
+refuse_branch lines next s after f (Branch r ps bs) qs k e ((last, (before, true, is, parts, more)), behind, around) entered =
     let there = e ∙ lay_branch r ps qs bs k in
-    let not : Err f ≡ Ok true =
-    enters_by lines next s (Err f) r (Some Else) (at_index lines next r (lay ps ((bs, qs) ∷ k)) there).here (else_directive r.directive is)
-    entered in
+    let not : Err f ≡ Ok true = (else_enters lines next s after (Err f) r (lay ps ((bs, qs) ∷ k)) there is entered).1 in
     absurd (cc)
-refuse_branch lines next s f (Branch r ps bs) qs k e ((last, (before, false, is, parts, more)), behind, around) entered =
-    let there = e ∙ lay_branch r ps qs bs k in
-    let other = not_else r.directive is in
-    λ around depth row. Branched.branch_refused other (branch_decides lines next s (Err f) r (lay ps ((bs, qs) ∷ k)) there is entered)
-
-abbrev pub Later : List LogicalLine → ℕ → State → Branches → Parts → Outer → Type 0
-Later lines index s bs qs k = (ps : Parts) × (cs : Branches) × BranchesAt lines index ps cs qs k × ((around : Surroundings) (depth row : ℕ) (m : Reached) → Branched around depth row s cs m → Branched around depth row s bs m)
-
-pass_branch : (lines : List LogicalLine) (next : ℕ) (s : State) (bs : Branches) (qs : Parts) (k : Outer) → drop next lines ≡ branch_lines bs ++ lay qs k → AreOuter ((bs, qs) ∷ k) → EntersAt lines next s (Ok false) → Later lines next s bs qs k
-pass_branch lines next s (End r) qs k e ((last, is), behind, around) entered =
-    let not : Ok false ≡ Ok true =
-    enters_by lines next s (Ok false) r (Some Endif) (at_index lines next r (lay qs k) e).here (endif_directive r.directive is) entered in
-    absurd (cc)
-pass_branch lines next s (Branch r ps bs) qs k e ((last, (before, true, is, parts, more)), behind, around) entered =
-    let there = e ∙ lay_branch r ps qs bs k in
-    let not : Ok false ≡ Ok true =
-    enters_by lines next s (Ok false) r (Some Else) (at_index lines next r (lay ps ((bs, qs) ∷ k)) there).here (else_directive r.directive is)
-    entered in
-    absurd (cc)
-pass_branch lines next s (Branch r ps bs) qs k e ((last, (before, false, is, parts, more)), behind, around) entered =
+refuse_branch lines next s after f (Branch r ps bs) qs k e ((last, (before, false, is, parts, more)), behind, around) entered =
     let there = e ∙ lay_branch r ps qs bs k in
     let other = not_else r.directive is in
-    let decides = branch_decides lines next s (Ok false) r (lay ps ((bs, qs) ∷ k)) there is entered in (
+    λ around depth row. Branched.branch_refused other (branch_decides lines next s after (Err f) r (lay ps ((bs, qs) ∷ k)) there is entered)
+
+-- the branches that are left, and the state in which they come: what they reach the branches reach from the state before
+abbrev pub Later : List LogicalLine → ℕ → State → State → Branches → Parts → Outer → Type 0
+Later lines index s t bs qs k = (ps : Parts) × (cs : Branches) × BranchesAt lines index ps cs qs k × ((around : Surroundings) (depth row : ℕ) (m : Reached) → Branched around depth row t cs m → Branched around depth row s bs m)
+
+pass_branch : (lines : List LogicalLine) (next : ℕ) (s : State) (after : Option ℕ) (bs : Branches) (qs : Parts) (k : Outer)
+    → drop next lines ≡ branch_lines bs ++ lay qs k
+    → AreOuter ((bs, qs) ∷ k)
+    → EntersAt lines next s after (Ok false)
+    → Later lines next s (with_left s after) bs qs k
+pass_branch lines next s after (End r) qs k e ((last, is), behind, around) entered =
+    let not : Ok false ≡ Ok true = (endif_enters lines next s after (Ok false) r (lay qs k) e is entered).1 in
+    absurd (cc)
+pass_branch lines next s after (Branch r ps bs) qs k e ((last, (before, true, is, parts, more)), behind, around) entered =
+    let there = e ∙ lay_branch r ps qs bs k in
+    let not : Ok false ≡ Ok true = (else_enters lines next s after (Ok false) r (lay ps ((bs, qs) ∷ k)) there is entered).1 in
+    absurd (cc)
+pass_branch lines next s after (Branch r ps bs) qs k e ((last, (before, false, is, parts, more)), behind, around) entered =
+    let there = e ∙ lay_branch r ps qs bs k in
+    let other = not_else r.directive is in
+    let decides = branch_decides lines next s after (Ok false) r (lay ps ((bs, qs) ∷ k)) there is entered in (
       ps,
       bs,
       record { line = r; rest = there; next = next_of_branch r false is; parts = parts; outer = ((false, more), behind, around) },
       λ around depth row m rest. Branched.branch_skipped other decides rest,
     )
 
--- as far as the branches go that have been passed
-pub record BranchSoFar (lines : List LogicalLine) (start : ℕ) (s : State) (index : ℕ) : Type 0 where
+-- as far as the branches go that have been passed, and the state then
+pub record BranchSoFar (lines : List LogicalLine) (start : ℕ) (s t : State) (index : ℕ) : Type 0 where
   pub within : index < length lines
   pub from : start ≤ index
-  pub so_far : (ps : Parts) (bs : Branches) (qs : Parts) (k : Outer) → BranchesAt lines start ps bs qs k → Later lines index s bs qs k
+  pub so_far : (ps : Parts) (bs : Branches) (qs : Parts) (k : Outer) → BranchesAt lines start ps bs qs k → Later lines index s t bs qs k
 
-pub branch_start : (lines : List LogicalLine) (start : ℕ) (s : State) → start < length lines → BranchSoFar lines start s start
+pub branch_start : (lines : List LogicalLine) (start : ℕ) (s : State) → start < length lines → BranchSoFar lines start s s start
 branch_start lines start s within = record { within = within; from = omega arith; so_far = λ ps bs qs k b. (ps, bs, b, λ around depth row m here. here) }
 
-pub branch_more : (lines : List LogicalLine) (start next index : ℕ) (s : State) → BranchSoFar lines start s index → next_branch index (role (line_at lines index)) (drop (suc index) lines) ≡ Some next → EntersAt lines next s (Ok false) → BranchSoFar lines start s next
-branch_more lines start next index s sofar found entered =
+pub branch_more : (lines : List LogicalLine) (start next index : ℕ) (s t : State) (after : Option ℕ)
+    → BranchSoFar lines start s t index
+    → next_branch index (role (line_at lines index)) (drop (suc index) lines) ≡ Some next
+    → EntersAt lines next t after (Ok false)
+    → BranchSoFar lines start s (with_left t after) next
+branch_more lines start next index s t after sofar found entered =
     let inside = next_inside lines index next sofar.within found in
     record {
       within = inside.1;
       from = omega (arith, sofar.from, inside.0);
       so_far = λ ps bs qs k b.
           let f = sofar.so_far ps bs qs k b in
-          let g = pass_branch lines next s f.1 qs k (found_at lines index next f.0 f.1 qs k f.2 found) f.2.outer entered in
+          let g = pass_branch lines next t after f.1 qs k (found_at lines index next f.0 f.1 qs k f.2 found) f.2.outer entered in
           (g.0, g.1, g.2, λ around depth row m here. f.3 around depth row m (g.3 around depth row m here));
     }
 
-pub branch_taken : (lines : List LogicalLine) (start next index : ℕ) (s : State) → BranchSoFar lines start s index → next_branch index (role (line_at lines index)) (drop (suc index) lines) ≡ Some next → EntersAt lines next s (Ok true) → (ps : Parts) (bs : Branches) (qs : Parts) (k : Outer) → BranchesAt lines start ps bs qs k → FindsBranch lines s bs qs k (Ok (next + 1))
-branch_taken lines start next index s sofar found entered ps bs qs k b =
+pub branch_taken : (lines : List LogicalLine) (start next index : ℕ) (s t : State) (after : Option ℕ)
+    → BranchSoFar lines start s t index
+    → next_branch index (role (line_at lines index)) (drop (suc index) lines) ≡ Some next
+    → EntersAt lines next t after (Ok true)
+    → (ps : Parts) (bs : Branches) (qs : Parts) (k : Outer)
+    → BranchesAt lines start ps bs qs k
+    → FindsBranch lines s (with_left t after) bs qs k (Ok (next + 1))
+branch_taken lines start next index s t after sofar found entered ps bs qs k b =
     let f = sofar.so_far ps bs qs k b in
-    let g = enter_branch lines next s f.1 qs k (found_at lines index next f.0 f.1 qs k f.2 found) f.2.outer entered in
+    let g = enter_branch lines next t after f.1 qs k (found_at lines index next f.0 f.1 qs k f.2 found) f.2.outer entered in
     (g.0, g.1, g.2, λ around depth row end rest. let h = g.3 around depth row end rest in (h.0, f.3 around depth row h.0 h.1, h.2))
 
-pub branch_refused : (lines : List LogicalLine) (start next index : ℕ) (s : State) (fault : Fault) → BranchSoFar lines start s index → next_branch index (role (line_at lines index)) (drop (suc index) lines) ≡ Some next → EntersAt lines next s (Err fault) → (ps : Parts) (bs : Branches) (qs : Parts) (k : Outer) → BranchesAt lines start ps bs qs k → FindsBranch lines s bs qs k (Err fault)
-branch_refused lines start next index s fault sofar found entered ps bs qs k b =
+pub branch_refused : (lines : List LogicalLine) (start next index : ℕ) (s t : State) (after : Option ℕ) (fault : Fault)
+    → BranchSoFar lines start s t index
+    → next_branch index (role (line_at lines index)) (drop (suc index) lines) ≡ Some next
+    → EntersAt lines next t after (Err fault)
+    → (ps : Parts) (bs : Branches) (qs : Parts) (k : Outer)
+    → BranchesAt lines start ps bs qs k
+    → FindsBranch lines s (with_left t after) bs qs k (Err fault)
+branch_refused lines start next index s t after fault sofar found entered ps bs qs k b =
     let f = sofar.so_far ps bs qs k b in
-    let g = refuse_branch lines next s fault f.1 qs k (found_at lines index next f.0 f.1 qs k f.2 found) f.2.outer entered in
-    λ around depth row. f.3 around depth row (stopped s fault) (g around depth row)
+    let g = refuse_branch lines next t after fault f.1 qs k (found_at lines index next f.0 f.1 qs k f.2 found) f.2.outer entered in
+    λ around depth row. f.3 around depth row (stopped (with_left t after) fault) (g around depth row)
 
 -- behind an opening line or a branch there is a branch line
-pub branch_found : (lines : List LogicalLine) (start index : ℕ) (s : State) → BranchSoFar lines start s index → next_branch index (role (line_at lines index)) (drop (suc index) lines) ≡ None → (ps : Parts) (bs : Branches) (qs : Parts) (k : Outer) → BranchesAt lines start ps bs qs k → ⊥
-branch_found lines start index s sofar none ps bs qs k b =
+pub branch_found : (lines : List LogicalLine) (start index : ℕ) (s t : State) → BranchSoFar lines start s t index → next_branch index (role (line_at lines index)) (drop (suc index) lines) ≡ None → (ps : Parts) (bs : Branches) (qs : Parts) (k : Outer) → BranchesAt lines start ps bs qs k → ⊥
+branch_found lines start index s t sofar none ps bs qs k b =
     let f = sofar.so_far ps bs qs k b in
     let known = (at_branches lines index f.0 f.1 qs k f.2).0 in
     cc
@@ -588,49 +549,50 @@ section_at : (lines : List LogicalLine) (index : ℕ) (d : Directive) (ps : Part
 section_at lines index d ps k within is opens stands =
     section_by lines index ps k (ap role_by is ∙ opening_role d opens) (first_at lines index ps k within stands) stands
 
-pub enter_taken : (around : Files → Surroundings) (files : Files) (depth row : ℕ) (lines : List LogicalLine) (index : ℕ) (s : State) (d : Directive)
+pub enter_taken : (around : Files → Surroundings) (files : Files) (depth row : ℕ) (lines : List LogicalLine) (index : ℕ) (s : State)
+    (after : Option ℕ) (d : Directive)
     → index < length lines
     → (line_at lines index).directive ≡ Some d
     → opens_section d ≡ true
-    → Decides s (line_at lines index) (Ok true)
-    → Advances around files depth row lines index s s (Ok (index + 1))
-enter_taken around files depth row lines index s d within is opens decides ps k stands =
+    → Decides s (line_at lines index) after (Ok true)
+    → Advances around files depth row lines index s (with_left s after) (Ok (index + 1))
+enter_taken around files depth row lines index s after d within is opens decides ps k stands =
     let a = section_at lines index d ps k within is opens stands in
-    subst (λ (z : Parts). AdvancesFrom around files depth row lines s s (Ok (index + 1)) z k) (sym a.whole) (a.first, (a.branches, a.behind) ∷ k, a.stands, λ more grows end rest. ends_front (around more) depth row (going s) rest.0 (Section (line_at lines index) a.first a.branches a.behind) a.behind k end (λ o g. Group.taken decides rest.1 g) rest.2)
+    subst (λ (z : Parts). AdvancesFrom around files depth row lines s (with_left s after) (Ok (index + 1)) z k) (sym a.whole) (a.first, (a.branches, a.behind) ∷ k, a.stands, λ more grows end rest. ends_front (around more) depth row (going s) rest.0 (Section (line_at lines index) a.first a.branches a.behind) a.behind k end (λ o g. Group.taken decides rest.1 g) rest.2)
 
-skipped_to : (around : Files → Surroundings) (files : Files) (depth row : ℕ) (lines : List LogicalLine) (index : ℕ) (s : State) (r : LogicalLine)
-    (ps qs : Parts) (bs : Branches) (k : Outer) (found : Result ℕ Fault)
-    → Decides s r (Ok false)
-    → FindsBranch lines s bs qs k found
-    → AdvancesFrom around files depth row lines s s found (Section r ps bs qs) k
-skipped_to around files depth row lines index s r ps qs bs k (Ok next) decides finds =
+skipped_to : (around : Files → Surroundings) (files : Files) (depth row : ℕ) (lines : List LogicalLine) (index : ℕ) (s t : State)
+    (after : Option ℕ) (r : LogicalLine) (ps qs : Parts) (bs : Branches) (k : Outer) (found : Result ℕ Fault)
+    → Decides s r after (Ok false)
+    → FindsBranch lines (with_left s after) t bs qs k found
+    → AdvancesFrom around files depth row lines s t found (Section r ps bs qs) k
+skipped_to around files depth row lines index s t after r ps qs bs k (Ok next) decides finds =
     (finds.0, finds.1, finds.2, λ more grows end rest. let f = finds.3 (around more) depth row end rest in ends_front (around more) depth row (going s) f.0 (Section r ps bs qs) qs k end (λ o g. Group.skipped decides f.1 g) f.2)
-skipped_to around files depth row lines index s r ps qs bs k (Err f) decides finds =
-    λ more grows. ends_stop (around more) depth row (going s) s f (Section r ps bs qs) k (Group.skipped decides (finds (around more) depth row) Group.stays)
+skipped_to around files depth row lines index s t after r ps qs bs k (Err f) decides finds =
+    λ more grows. ends_stop (around more) depth row (going s) t f (Section r ps bs qs) k (Group.skipped decides (finds (around more) depth row) Group.stays)
 
-pub enter_skipped : (around : Files → Surroundings) (files : Files) (depth row : ℕ) (lines : List LogicalLine) (index : ℕ) (s : State) (d : Directive)
-    (found : Result ℕ Fault)
+pub enter_skipped : (around : Files → Surroundings) (files : Files) (depth row : ℕ) (lines : List LogicalLine) (index : ℕ) (s t : State)
+    (after : Option ℕ) (d : Directive) (found : Result ℕ Fault)
     → index < length lines
     → (line_at lines index).directive ≡ Some d
     → opens_section d ≡ true
-    → Decides s (line_at lines index) (Ok false)
-    → ((ps : Parts) (bs : Branches) (qs : Parts) (k : Outer) → BranchesAt lines index ps bs qs k → FindsBranch lines s bs qs k found)
-    → Advances around files depth row lines index s s found
-enter_skipped around files depth row lines index s d found within is opens decides finds =
-    advances around files depth row lines index s s found (λ ps k stands.
+    → Decides s (line_at lines index) after (Ok false)
+    → ((ps : Parts) (bs : Branches) (qs : Parts) (k : Outer) → BranchesAt lines index ps bs qs k → FindsBranch lines (with_left s after) t bs qs k found)
+    → Advances around files depth row lines index s t found
+enter_skipped around files depth row lines index s t after d found within is opens decides finds =
+    advances around files depth row lines index s t found (λ ps k stands.
     let a = section_at lines index d ps k within is opens stands in
-    subst (λ (z : Parts). AdvancesFrom around files depth row lines s s found z k) (sym a.whole) (skipped_to around files depth row lines index s (line_at lines index) a.first a.behind a.branches k found decides (finds a.first a.branches a.behind k a.at)))
+    subst (λ (z : Parts). AdvancesFrom around files depth row lines s t found z k) (sym a.whole) (skipped_to around files depth row lines index s t after (line_at lines index) a.first a.behind a.branches k found decides (finds a.first a.branches a.behind k a.at)))
 
-pub enter_refused : (around : Files → Surroundings) (files : Files) (depth row : ℕ) (lines : List LogicalLine) (index : ℕ) (s : State) (d : Directive)
-    (f : Fault)
+pub enter_refused : (around : Files → Surroundings) (files : Files) (depth row : ℕ) (lines : List LogicalLine) (index : ℕ) (s : State)
+    (after : Option ℕ) (d : Directive) (f : Fault)
     → index < length lines
     → (line_at lines index).directive ≡ Some d
     → opens_section d ≡ true
-    → Decides s (line_at lines index) (Err f)
-    → Advances around files depth row lines index s s (Err f)
-enter_refused around files depth row lines index s d f within is opens decides ps k stands =
+    → Decides s (line_at lines index) after (Err f)
+    → Advances around files depth row lines index s (with_left s after) (Err f)
+enter_refused around files depth row lines index s after d f within is opens decides ps k stands =
     let a = section_at lines index d ps k within is opens stands in
-    subst (λ (z : Parts). AdvancesFrom around files depth row lines s s (Err f) z k) (sym a.whole) (λ more grows. ends_stop (around more) depth row (going s) s f (Section (line_at lines index) a.first a.branches a.behind) k (Group.refused decides))
+    subst (λ (z : Parts). AdvancesFrom around files depth row lines s (with_left s after) (Err f) z k) (sym a.whole) (λ more grows. ends_stop (around more) depth row (going s) (with_left s after) f (Section (line_at lines index) a.first a.branches a.behind) k (Group.refused decides))
 
 -- ---- the end of a group
 
@@ -748,13 +710,14 @@ pub some_not : {A : Type 0} (o : Option A) → is_some o ≡ true → o ≡ None
 some_not None is none = absurd (cc)
 some_not (Some x) is none = cc
 
-pub enter_found : {E : Type 0} (around : Files → Surroundings) (files : Files) (depth row : ℕ) (lines : List LogicalLine) (index : ℕ) (s : State)
-    (d : Directive) (found : Result (Result ℕ Fault) E)
+pub enter_found : {E : Type 0} (around : Files → Surroundings) (files : Files) (depth row : ℕ) (lines : List LogicalLine) (index : ℕ) (s t : State)
+    (after : Option ℕ) (d : Directive) (found : Result (Result ℕ Fault) E)
     → index < length lines
     → (line_at lines index).directive ≡ Some d
     → opens_section d ≡ true
-    → Decides s (line_at lines index) (Ok false)
-    → IfOk found (λ next. (ps : Parts) (bs : Branches) (qs : Parts) (k : Outer) → BranchesAt lines index ps bs qs k → FindsBranch lines s bs qs k next)
-    → IfOk found (λ next. Advances around files depth row lines index s s next)
-enter_found around files depth row lines index s d (Ok next) within is opens decides finds = enter_skipped around files depth row lines index s d next within is opens decides finds
-enter_found around files depth row lines index s d (Err e) within is opens decides finds = tt
+    → Decides s (line_at lines index) after (Ok false)
+    → IfOk found (λ next. (ps : Parts) (bs : Branches) (qs : Parts) (k : Outer) → BranchesAt lines index ps bs qs k → FindsBranch lines (with_left s after) t bs qs k next)
+    → IfOk found (λ next. Advances around files depth row lines index s t next)
+enter_found around files depth row lines index s t after d (Ok next) within is opens decides finds =
+    enter_skipped around files depth row lines index s t after d next within is opens decides finds
+enter_found around files depth row lines index s t after d (Err e) within is opens decides finds = tt

@@ -11,24 +11,33 @@ use ppmacro::Table;
 use pptext::{Directive, Fault, Memory, Token};
 use std::alloc::{AllocError, Global};
 
-/// Whether the group behind a line is taken, or the line's fault: 7, 9, or one of its condition.
+/// Whether the group behind a line is taken, or the line's fault: 7, 9, or one of its condition; and what is left of the budget.
 pub(crate) fn decide(
     alloc: Global,
     state: &State,
     directive: Directive,
     line: &[Token],
-) -> Result<Result<bool, Fault>, Memory>
+) -> Result<(Result<bool, Fault>, Option<u64>), Memory>
     requires { spec.IsConditional directive }
-    ensures { IfOk result (λ taken. (number : ℕ) → spec.Decides state.now (spec_lines.directed directive line.now number) taken) }
+    ensures { IfOk result (λ r. (number : ℕ) → spec.Decides state.now (spec_lines.directed directive line.now number) r.1 r.0) }
 {
     if let Some(fault) = lone_quote(line)? {
-        return Ok(Err(fault));
+        return Ok((Err(fault), state.left));
     }
-    match directive {
-        Directive::Ifdef | Directive::Elifdef => Ok(by_name(alloc, true, &state.macros, line)?),
-        Directive::Ifndef | Directive::Elifndef => Ok(by_name(alloc, false, &state.macros, line)?),
-        _ => evaluate(alloc, &state.macros, &state.env, sign(line), operands(line)),
-    }
+    let macros = &state.macros;
+    let taken = match directive {
+        Directive::Ifdef | Directive::Elifdef => by_name(alloc, true, macros, line)?,
+        Directive::Ifndef | Directive::Elifndef => by_name(alloc, false, macros, line)?,
+        _ => return evaluate(
+            alloc,
+            macros,
+            &state.env,
+            state.left,
+            sign(line),
+            operands(line),
+        ),
+    };
+    Ok((taken, state.left))
 }
 
 // Whether the line's name is defined, or isn't, as wanted.

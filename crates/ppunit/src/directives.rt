@@ -20,7 +20,8 @@ pub(crate) fn run_text<'x>(
 ) -> Result<Option<Fault>, Memory>
     ensures { IfOk result (λ f. spec.RunGives state.old tokens.now (record { state = state.new; fault = f })) }
 {
-    let expanded = expand(alloc, &state.macros, &state.env, tokens)?;
+    let expanded = expand(alloc, &state.macros, &state.env, state.left, tokens)?;
+    state.left = expanded.left;
     state.items.extend(expanded.tokens)?;
     Ok(expanded.fault)
 }

@@ -28,18 +28,21 @@ pub fn is_date(text: &[u8]) -> bool
 fn is_month(text: &[u8]) -> bool
     ensures { result ≡ spec.is_month text.now }
 {
-    text == b"Jan".as_slice()
-        || text == b"Feb".as_slice()
-        || text == b"Mar".as_slice()
-        || text == b"Apr".as_slice()
-        || text == b"May".as_slice()
-        || text == b"Jun".as_slice()
-        || text == b"Jul".as_slice()
-        || text == b"Aug".as_slice()
-        || text == b"Sep".as_slice()
-        || text == b"Oct".as_slice()
-        || text == b"Nov".as_slice()
-        || text == b"Dec".as_slice()
+    matches!(
+        text,
+        b"Jan"
+            | b"Feb"
+            | b"Mar"
+            | b"Apr"
+            | b"May"
+            | b"Jun"
+            | b"Jul"
+            | b"Aug"
+            | b"Sep"
+            | b"Oct"
+            | b"Nov"
+            | b"Dec"
+    )
 }
 
 fn is_day(first: u8, second: u8) -> bool

@@ -119,36 +119,40 @@ fn is_nowhere(name: &[u8]) -> bool
     name.is_empty() || name[0] == b'/'
 }
 
-// What an include line that names no header asks for once its macros are replaced.
+// What an include line that names no header asks for once its macros are replaced, and what is left of the budget.
 fn ask_replaced<'x>(
     alloc: Global,
     state: &State<'x>,
     line: &'x [Token],
-) -> Result<Result<Asked, Fault>, Memory>
-    ensures { IfOk result (λ a. AsksReplaced state.now line.now a) }
+) -> Result<(Result<Asked, Fault>, Option<u64>), Memory>
+    ensures { IfOk result (λ r. AsksReplaced state.now line.now r.1 r.0) }
 {
-    let Expanded { tokens, fault } = expand(alloc, &state.macros, &state.env, operands(line))?;
+    let Expanded {
+        tokens,
+        fault,
+        left,
+    } = expand(alloc, &state.macros, &state.env, state.left, operands(line))?;
     if let Some(fault) = fault {
-        return Ok(Err(fault));
+        return Ok((Err(fault), left));
     }
     let tokens = tokens.to_vec(alloc)?;
     let asked = expanded_asked(alloc, tokens.as_slice())?;
-    Ok(asked_or_fault(alloc, line, asked)?)
+    Ok((asked_or_fault(alloc, line, asked)?, left))
 }
 
-/// What an include line without lone quotes asks for, or its fault: one of replacement, or 30.
+/// What an include line without lone quotes asks for, or its fault: one of replacement, or 30; and what is left of the budget.
 pub(crate) fn ask<'x>(
     alloc: Global,
     state: &State<'x>,
     line: &'x [Token],
-) -> Result<Result<Asked, Fault>, Memory>
-    ensures { IfOk result (λ a. Asks state.now line.now a) }
+) -> Result<(Result<Asked, Fault>, Option<u64>), Memory>
+    ensures { IfOk result (λ r. Asks state.now line.now r.1 r.0) }
 {
     let rest = operands(line);
     if let Some(first) = rest.first() {
         if first.kind == Kind::Header {
             let asked = header_asked(alloc, rest)?;
-            return Ok(asked_or_fault(alloc, line, asked)?);
+            return Ok((asked_or_fault(alloc, line, asked)?, state.left));
         }
     }
     ask_replaced(alloc, state, line)

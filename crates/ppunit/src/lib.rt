@@ -26,7 +26,10 @@ pub use definitions::Definitions;
 pub use forms::{fits_command, is_date, is_one_line, is_time, setting_ok, unit_ok};
 pub use guards::guard_changes_nothing;
 pub use items::{ItemRef, ItemsIter};
-pub use laws::{growth, one_value};
+pub use laws::{
+    budget_caps_units, growth, larger_budgets_give_no_less, one_value, only_budgets_refuse,
+    stays_within,
+};
 pub use lists::{Items, Part, Rows, Text, Texts};
 pub use preprocessing::preprocess;
 pub use units::{Item, Setting, Unit, UnitOut};

@@ -88,7 +88,12 @@ pub(crate) fn renumber<'x>(
 ) -> Result<Option<Fault>, Memory>
     ensures { IfOk result (λ f. LineGives state.old (directed Line line.now physical) (record { state = state.new; fault = f })) }
 {
-    let Expanded { tokens, fault } = expand(alloc, &state.macros, &state.env, operands(line))?;
+    let Expanded {
+        tokens,
+        fault,
+        left,
+    } = expand(alloc, &state.macros, &state.env, state.left, operands(line))?;
+    state.left = left;
     if let Some(fault) = fault {
         return Ok(Some(fault));
     }

@@ -169,7 +169,7 @@ pub(crate) fn resolve_in<D: Disk>(
 }
 
 /// Opens the file of a row for the line at this place, or leaves it out: one that is read once and was read, or one with a
-/// guard that is a macro's name. Faults 32 and 6, or the file's own.
+/// guard that is a macro's name. That takes one of the budget. Faults 32, 35 where nothing is left, and 6, or the file's own.
 pub(crate) fn open<'a, D: Disk>(
     around: &Around<'a, '_, D>,
     pass: &mut Pass<'a, D>,
@@ -189,6 +189,10 @@ pub(crate) fn open<'a, D: Disk>(
     if depth > DEEPEST {
         return Ok(Err(file_fault(around.alloc, 32, at, name)?));
     }
+    if state.is_spent() {
+        return Ok(Err(file_fault(around.alloc, 35, at, "")?));
+    }
+    state.pay();
     state.depend(row)?;
     if state.once.contains(row) {
         return Ok(Ok(None));

@@ -4,9 +4,11 @@ ghost use Rattle.ppshelf.specs.Files.{Files, Extends};
 ghost use Rattle.ppunit.specs.States.{surroundings_of};
 ghost use Rattle.ppunit.specs.Group.{Opened};
 ghost use Rattle.ppunit.specs.Unit.{IsUnit, IsUnitOf, Translates, first_place};
+ghost use Rattle.ppunit.specs.Capped.{IsWithin, IsCappedOver};
 ghost use Rattle.ppunit.specs.Walk.{DefinesOver};
 
 use crate::definitions::{COMMAND_FILE, Definitions};
+use crate::laws::{budget_caps_units, stays_within};
 use crate::opening::{Around, OpenFile, open};
 use crate::states::State;
 use crate::units::{Setting, Unit, UnitOut};
@@ -92,8 +94,9 @@ fn translate<'x, 'a: 'x, D: Disk>(
 
 /// Translation phases 1 to 4 of a unit: its definitions, and then its file with all that it includes (5.1.1.2, 6.10).
 ///
-/// The unit's value is that over the files that the pass knows afterwards. Fails only for want of memory, and then the pass
-/// knows what it knew.
+/// The unit's value is that over the files that the pass knows afterwards. With a budget the unit makes no more replacements and
+/// openings than that, and its value is a beginning of the one without: the whole of it exactly where the budget suffices, and
+/// otherwise with fault 35. Fails only for want of memory, and then the pass knows what it knew.
 pub fn preprocess<'x, 'a: 'x, D: Disk>(
     alloc: Global,
     shelf: &'a Shelf<D>,
@@ -109,17 +112,24 @@ pub fn preprocess<'x, 'a: 'x, D: Disk>(
     ensures grows { Extends pass.new.files pass.old.files }
     ensures deps { IfOk result (λ out. All (λ row. row < length shelf.now.names) out.deps) }
     ensures is { IfOk result (λ out. IsUnit shelf.now.names pass.new.files setting.now unit.now out) }
+    ensures within { IfOk result (λ out. IsWithin shelf.now.names pass.new.files setting.now unit.now out) }
+    ensures capped { IfOk result (λ out. IsCappedOver shelf.now.names pass.new.files setting.now unit.now out) }
 {
     let folders = Folders {
         unit: unit.search.as_slice(),
         setting: setting.search.as_slice(),
     };
     let around = Around::new(alloc, shelf, disk, folders);
+    // For proofs: no name stands twice, and what a budget does.
+    shelf.lawful();
+    stays_within();
+    budget_caps_units();
     let mut state = State::new(alloc, setting)?;
     let fault = translate(&around, pass, &mut state, &unit.defines, unit.file)?;
     let State {
         macros: _,
         once: _,
+        left: _,
         items,
         deps,
         env: _,

@@ -1,6 +1,6 @@
 // Where phase 4 stands in a unit.
 ghost use Rattle.std.specs.Prelude.{◌≡◌, IfOk, OnOk, [], ◌∷◌, ◌++◌};
-ghost use Rattle.ppunit.specs.States.{passed, depending, reading_once, literal};
+ghost use Rattle.ppunit.specs.States.{passed, depending, reading_once, is_spent, paying, literal};
 ghost use Rattle.ppunit.specs.Unit.{beginning};
 ghost use Rattle.ppunit.specs.declared.units.Item.TheVariants as item;
 
@@ -12,13 +12,14 @@ use pptext::{Memory, Place, Spelling, Token};
 use std::alloc::{AllocError, Global};
 
 /// Where phase 4 stands: the macros, what was passed on, the files that were opened in the order of their first
-/// opening, those of them that are not read again, and what the predefined names stand for.
+/// opening, those of them that are not read again, what is left of the budget, and what the predefined names stand for.
 #[derive(Drop)]
 pub(crate) struct State<'x> {
     pub macros: Table<'x>,
     pub items: Items<'x>,
     pub deps: Rows,
     pub once: Rows,
+    pub left: Option<u64>,
     pub env: Env,
 }
 
@@ -38,6 +39,7 @@ impl<'x> State<'x> {
             items: Items::new(alloc),
             deps: Rows::new(alloc),
             once: Rows::new(alloc),
+            left: setting.budget,
             env,
         })
     }
@@ -47,6 +49,23 @@ impl<'x> State<'x> {
         ensures { OnOk result (self.new ≡ passed self.old (item.Pragma at tokens.now ∷ [])) }
     {
         self.items.push_pragma(at, tokens)
+    }
+
+    /// Whether there is a budget, and nothing is left of it.
+    pub(crate) fn is_spent(&self) -> bool
+        ensures { result ≡ is_spent self.now.left }
+    {
+        self.left == Some(0)
+    }
+
+    /// One file more is opened.
+    pub(crate) fn pay(&mut self)
+        ensures { self.new ≡ paying self.old }
+    {
+        self.left = match self.left {
+            Some(left) if left > 0 => Some(left - 1),
+            left => left,
+        };
     }
 
     /// The file of this row joins the dependencies, once.

@@ -74,6 +74,7 @@ fn setting_of(
         date: text_of(alloc, date)?,
         time: text_of(alloc, time)?,
         search: texts_of(alloc, &["inc"])?,
+        budget: None,
     })
 }
 
@@ -101,6 +102,13 @@ fn push_token(text: &mut Vec<u8>, token: &Token) -> Result<(), AllocError> {
     Ok(())
 }
 
+fn push_tokens(text: &mut Vec<u8>, tokens: &[Token]) -> Result<(), AllocError> {
+    for token in tokens {
+        push_token(text, token)?;
+    }
+    Ok(())
+}
+
 fn push_item(alloc: Global, text: &mut Vec<u8>, item: &Item) -> Result<(), AllocError> {
     match item {
         Item::Token(token) => push_token(text, token),
@@ -108,9 +116,7 @@ fn push_item(alloc: Global, text: &mut Vec<u8>, item: &Item) -> Result<(), Alloc
             text.extend_from_slice(b"pragma@")?;
             push_place(alloc, text, *at)?;
             text.extend_from_slice(b"[ ")?;
-            for token in tokens.as_slice() {
-                push_token(text, token)?;
-            }
+            push_tokens(text, tokens.as_slice())?;
             text.extend_from_slice(b"] ")
         }
     }
@@ -135,28 +141,44 @@ fn spelled(alloc: Global, items: &Items) -> Result<Vec<u8>, AllocError> {
     Ok(text)
 }
 
+/// The text of items, from their list.
+fn listed(alloc: Global, items: &Items) -> Result<Vec<u8>, AllocError> {
+    let mut text = Vec::new(alloc);
+    for item in &items.to_vec(alloc)? {
+        push_item(alloc, &mut text, item)?;
+    }
+    Ok(text)
+}
+
 /// Whether the items one by one are those of the list.
 fn yields_all(alloc: Global, items: &Items) -> Result<bool, AllocError> {
-    let mut listed = Vec::new(alloc);
-    for item in &items.to_vec(alloc)? {
-        push_item(alloc, &mut listed, item)?;
+    Ok(listed(alloc, items)?.as_slice() == spelled(alloc, items)?.as_slice())
+}
+
+/// Puts rows behind a text, each with a space after it.
+fn push_rows(alloc: Global, text: &mut Vec<u8>, rows: &[usize]) -> Result<(), AllocError> {
+    for row in rows {
+        text.extend_from_slice(format!(in alloc; "{row} ")?.as_bytes())?;
     }
-    Ok(listed.as_slice() == spelled(alloc, items)?.as_slice())
+    Ok(())
 }
 
 /// A unit's items, the rows that it depends on, and its fault: `1 x | 0 2 | 31 0:4:1 y.h`.
 fn shown(alloc: Global, out: &UnitOut) -> Result<Vec<u8>, AllocError> {
-    let mut text = Vec::new(alloc);
-    for item in &out.items.to_vec(alloc)? {
-        push_item(alloc, &mut text, item)?;
-    }
+    let mut text = listed(alloc, &out.items)?;
     text.extend_from_slice(b"| ")?;
-    for row in out.deps.as_slice() {
-        text.extend_from_slice(format!(in alloc; "{row} ")?.as_bytes())?;
-    }
+    push_rows(alloc, &mut text, out.deps.as_slice())?;
     text.extend_from_slice(b"| ")?;
     push_fault(alloc, &mut text, out.fault.as_ref())?;
     Ok(text)
+}
+
+/// What a unit gave, as a text, where its items one by one are those of the list.
+fn told(alloc: Global, out: &UnitOut) -> Result<Vec<u8>, Fail> {
+    if !yields_all(alloc, &out.items)? {
+        return Err(Fail::new("other items one by one"));
+    }
+    Ok(shown(alloc, out)?)
 }
 
 /// What a unit gives, as a text.
@@ -178,10 +200,7 @@ fn given<'a>(
         return Err(Fail::new("no such unit"));
     }
     let out = preprocess(alloc, shelf, pass, disk, setting, unit)?;
-    if !yields_all(alloc, &out.items)? {
-        return Err(Fail::new("other items one by one"));
-    }
-    Ok(shown(alloc, &out)?)
+    told(alloc, &out)
 }
 
 /// What units give, one after the other over one pass, as texts.
@@ -208,14 +227,49 @@ fn assert_units(
     files: &[(&str, &str)],
     cases: &[(usize, &[&str], &str)],
 ) -> Result<(), Fail> {
-    let shelf = shelf_of(alloc, profile, files)?;
-    let disk = disk_of(alloc, files)?;
-    let setting = setting_of(alloc, profile, "Feb  9 2024", "08:05:03")?;
+    assert_units_within(rt, alloc, profile, None, files, cases)
+}
+
+/// The units of these cases.
+fn units_of(
+    alloc: Global,
+    profile: Profile,
+    cases: &[(usize, &[&str], &str)],
+) -> Result<Vec<Unit>, Fail> {
     let mut units = Vec::new(alloc);
     for (file, defines, _wanted) in cases {
         units.push(unit_of(alloc, profile, *file, defines)?)?;
     }
-    let texts = all_given(alloc, &shelf, &disk, &setting, units.as_slice())?;
+    Ok(units)
+}
+
+/// What the units of these cases give over these files, within a budget for each unit.
+fn given_within(
+    alloc: Global,
+    profile: Profile,
+    budget: Option<u64>,
+    files: &[(&str, &str)],
+    cases: &[(usize, &[&str], &str)],
+) -> Result<Vec<Vec<u8>>, Fail> {
+    let mut setting = setting_of(alloc, profile, "Feb  9 2024", "08:05:03")?;
+    setting.budget = budget;
+    let units = units_of(alloc, profile, cases)?;
+    let disk = disk_of(alloc, files)?;
+    let shelf = shelf_of(alloc, profile, files)?;
+    all_given(alloc, &shelf, &disk, &setting, units.as_slice())
+}
+
+/// That units of these files give texts in a profile, each within a budget.
+fn assert_units_within(
+    rt: &impl Abort,
+    alloc: Global,
+    profile: Profile,
+    budget: Option<u64>,
+    files: &[(&str, &str)],
+    cases: &[(usize, &[&str], &str)],
+) -> Result<(), Fail> {
+    let texts = given_within(alloc, profile, budget, files, cases)?;
+    assert!(rt; texts.len() == cases.len());
     for (text, (_file, _defines, wanted)) in texts.iter().zip(cases) {
         assert!(rt;
             text.as_slice() == wanted.as_bytes(),
@@ -223,7 +277,6 @@ fn assert_units(
             text.as_slice()
         );
     }
-    assert!(rt; texts.len() == cases.len());
     Ok(())
 }
 
@@ -240,36 +293,126 @@ fn assert_contents(
     Ok(())
 }
 
-#[test]
-fn judges_settings_and_units(rt: HostRuntime) -> Result<(), Fail> {
-    let alloc = rt.alloc();
-    for (date, time, good) in [
-        ("Feb  9 2024", "08:05:03", true),
-        ("Feb 09 2024", "08:05:03", false),
-        ("Feb  9 2024", "24:00:00", false),
-    ] {
-        assert_eq!(rt;
-            setting_ok(&setting_of(alloc, Profile::C11, date, time)?),
-            good,
-            "{date} {time}"
-        );
+/// That a unit of the one file `a.c` gives a text in C11 and another in the later profile, for each of these contents.
+fn assert_branches(
+    rt: &impl Abort,
+    alloc: Global,
+    cases: &[(&str, &str, &str)],
+) -> Result<(), Fail> {
+    for (text, c11, later) in cases {
+        assert_contents(rt, alloc, Profile::C11, &[(text, c11)])?;
+        assert_contents(rt, alloc, Profile::Later, &[(text, later)])?;
     }
+    Ok(())
+}
+
+/// A text that stands so many times, and an end.
+fn repeated(alloc: Global, text: &str, times: usize, end: &str) -> Result<String, AllocError> {
+    let mut all = text.repeat(alloc, times)?;
+    all.push_str(end)?;
+    Ok(all)
+}
+
+/// Definitions of `a0` to `a64`, each but the first of two of the one before it, and an invocation of the last.
+fn doubling(alloc: Global) -> Result<String, AllocError> {
+    let mut text = String::from_str(alloc, "#define a0 0\n")?;
+    for i in 0..64 {
+        text.push_str(format!(in alloc; "#define a{} a{i} a{i}\n", i + 1)?.as_str())?;
+    }
+    text.push_str("a64\n")?;
+    Ok(text)
+}
+
+/// That a unit of the first of these files, in the later profile, gives a text within each of these budgets.
+fn assert_budgets(
+    rt: &impl Abort,
+    alloc: Global,
+    files: &[(&str, &str)],
+    cases: &[(u64, &str)],
+) -> Result<(), Fail> {
+    for (budget, wanted) in cases {
+        let units = [(0, [].as_slice(), *wanted)];
+        assert_units_within(rt, alloc, Profile::Later, Some(*budget), files, &units)?;
+    }
+    Ok(())
+}
+
+/// Whether a setting with this date and time is good.
+fn is_good_setting(alloc: Global, date: &str, time: &str) -> Result<bool, AllocError> {
+    Ok(setting_ok(&setting_of(alloc, Profile::C11, date, time)?))
+}
+
+/// Whether a unit of the file in this row is good over a shelf, and has the profile and the definitions that it was made of.
+fn is_good_unit(
+    alloc: Global,
+    shelf: &Shelf<MemoryDisk>,
+    profile: Profile,
+    file: usize,
+    define: &str,
+) -> Result<bool, Fail> {
+    let unit = unit_of(alloc, profile, file, &[define])?;
+    if unit.defines.profile() != profile {
+        return Err(Fail::new("another profile"));
+    }
+    Ok(unit_ok(shelf, &unit))
+}
+
+/// That a unit's definitions are those that it was made of.
+fn assert_defines(rt: &impl Abort, alloc: Global) -> Result<(), Fail> {
     let unit = unit_of(alloc, Profile::C11, 0, &["A", "B 1"])?;
     assert!(rt;
         matches!(unit.defines.texts().as_slice(), [a, b] if a.as_str() == "A" && b.as_str() == "B 1")
     );
-    let shelf = shelf_of(alloc, Profile::C11, &[("a.c", "")])?;
-    for (profile, file, define, good) in [
+    Ok(())
+}
+
+/// That settings with these dates and times are good or not.
+fn assert_settings(
+    rt: &impl Abort,
+    alloc: Global,
+    cases: &[(&str, &str, bool)],
+) -> Result<(), AllocError> {
+    for (date, time, good) in cases {
+        assert!(rt;
+            is_good_setting(alloc, date, time)? == *good,
+            "{date} {time}"
+        );
+    }
+    Ok(())
+}
+
+/// That units of these profiles, files and definitions are good or not over a shelf.
+fn assert_judged(
+    rt: &impl Abort,
+    alloc: Global,
+    shelf: &Shelf<MemoryDisk>,
+    cases: &[(Profile, usize, &str, bool)],
+) -> Result<(), Fail> {
+    for (profile, file, define, good) in cases {
+        let found = is_good_unit(alloc, shelf, *profile, *file, define)?;
+        assert!(rt; found == *good, "{profile:?} {file} {define}");
+    }
+    Ok(())
+}
+
+#[test]
+fn judges_settings_and_units(rt: HostRuntime) -> Result<(), Fail> {
+    let alloc = rt.alloc();
+    let settings = [
+        ("Feb  9 2024", "08:05:03", true),
+        ("Feb 09 2024", "08:05:03", false),
+        ("Feb  9 2024", "24:00:00", false),
+    ];
+    assert_settings(&rt, alloc, &settings)?;
+    assert_defines(&rt, alloc)?;
+    let units = [
         (Profile::C11, 1, "A", true),
         (Profile::C11, 2, "A", false),
         (Profile::C11, 0, "A\nB", false),
         (Profile::Later, 1, "A", false),
-    ] {
-        let unit = unit_of(alloc, profile, file, &[define])?;
-        assert_eq!(rt; unit_ok(&shelf, &unit), good, "{profile:?} {file} {define}");
-        assert!(rt; unit.defines.profile() == profile);
-    }
-    Ok(())
+    ];
+    let shelf = shelf_of(alloc, Profile::C11, &[("a.c", "")])?;
+    assert_judged(&rt, alloc, &shelf, &units)
 }
 
 #[test]
@@ -383,47 +526,50 @@ fn keeps_units_apart(rt: HostRuntime) -> Result<(), Fail> {
     assert_units(&rt, rt.alloc(), Profile::C11, &files, &cases)
 }
 
+/// Files that include one another.
+const INCLUDING: &[(&str, &str)] = &[
+    (
+        "src/a.c",
+        "#include \"x.h\"\n#include <x.h>\n#include \"../inc/x.h\"\n#include <y.h>\n",
+    ),
+    ("src/x.h", "1\n"),
+    ("inc/x.h", "2\n"),
+    (
+        "b.c",
+        "#define N <inc/x.h>\n#include N\nx\n#include \"h.h\"\ny\n",
+    ),
+    ("h.h", "int\n /* x"),
+    ("c.c", "x\n#include \"gone.h\"\ny\n"),
+    ("d.c", "#include N\n"),
+    ("e.c", "#include \"src/x.h\"\n#include \"src/x.h\"\n"),
+    ("s.c", "#include \"s.c\"\n"),
+];
+
+/// What units of these files give.
+const INCLUDED: &[(usize, &[&str], &str)] = &[
+    (0, &[], "1 2 2 | 0 1 2 | 31 0:4:1 y.h"),
+    (3, &[], "| 3 | 31 3:2:1 inc/x.h"),
+    (3, &["inc x"], "| 3 | 31 3:2:1 x/x.h"),
+    (5, &[], "x | 5 9 | 6 5:2:1 gone.h"),
+    (6, &[], "| 6 | 30 6:1:1 "),
+    (6, &["N \"h.h\""], "| 6 4 | 1 4:2:2 "),
+    (6, &["N < x.h>"], "2 | 6 2 | ok"),
+    (6, &["N < x  .h>"], "| 6 | 31 6:1:1 x .h"),
+    (6, &["N </x.h>"], "| 6 | 30 6:1:1 "),
+    (7, &[], "1 1 | 7 1 | ok"),
+    (8, &[], "| 8 | 32 8:1:1 s.c"),
+    (9, &[], "| 9 | 6 9:1:1 gone.h"),
+];
+
 #[test]
 fn includes_files(rt: HostRuntime) -> Result<(), Fail> {
-    let files = [
-        (
-            "src/a.c",
-            "#include \"x.h\"\n#include <x.h>\n#include \"../inc/x.h\"\n#include <y.h>\n",
-        ),
-        ("src/x.h", "1\n"),
-        ("inc/x.h", "2\n"),
-        (
-            "b.c",
-            "#define N <inc/x.h>\n#include N\nx\n#include \"h.h\"\ny\n",
-        ),
-        ("h.h", "int\n /* x"),
-        ("c.c", "x\n#include \"gone.h\"\ny\n"),
-        ("d.c", "#include N\n"),
-        ("e.c", "#include \"src/x.h\"\n#include \"src/x.h\"\n"),
-        ("s.c", "#include \"s.c\"\n"),
-    ];
-    let cases = [
-        (0, [].as_slice(), "1 2 2 | 0 1 2 | 31 0:4:1 y.h"),
-        (3, [].as_slice(), "| 3 | 31 3:2:1 inc/x.h"),
-        (3, ["inc x"].as_slice(), "| 3 | 31 3:2:1 x/x.h"),
-        (5, [].as_slice(), "x | 5 9 | 6 5:2:1 gone.h"),
-        (6, [].as_slice(), "| 6 | 30 6:1:1 "),
-        (6, ["N \"h.h\""].as_slice(), "| 6 4 | 1 4:2:2 "),
-        (6, ["N < x.h>"].as_slice(), "2 | 6 2 | ok"),
-        (6, ["N < x  .h>"].as_slice(), "| 6 | 31 6:1:1 x .h"),
-        (6, ["N </x.h>"].as_slice(), "| 6 | 30 6:1:1 "),
-        (7, [].as_slice(), "1 1 | 7 1 | ok"),
-        (8, [].as_slice(), "| 8 | 32 8:1:1 s.c"),
-        (9, [].as_slice(), "| 9 | 6 9:1:1 gone.h"),
-    ];
-    assert_units(&rt, rt.alloc(), Profile::C11, &files, &cases)
+    assert_units(&rt, rt.alloc(), Profile::C11, INCLUDING, INCLUDED)
 }
 
 #[test]
 fn opens_files_down_to_depth_200(rt: HostRuntime) -> Result<(), Fail> {
     let alloc = rt.alloc();
-    let mut wanted = "t ".repeat(alloc, 201)?;
-    wanted.push_str("| 0 | 32 0:2:1 s.c")?;
+    let wanted = repeated(alloc, "t ", 201, "| 0 | 32 0:2:1 s.c")?;
     let files = [("s.c", "t\n#include \"s.c\"\n")];
     assert_units(
         &rt,
@@ -436,8 +582,7 @@ fn opens_files_down_to_depth_200(rt: HostRuntime) -> Result<(), Fail> {
 
 #[test]
 fn has_the_later_branches(rt: HostRuntime) -> Result<(), Fail> {
-    let alloc = rt.alloc();
-    for (text, c11, later) in [
+    let cases = [
         (
             "#if 0\n#elifdef __STDC__\n1\n#endif\n",
             "| 0 | ok",
@@ -479,11 +624,8 @@ fn has_the_later_branches(rt: HostRuntime) -> Result<(), Fail> {
             "| 0 | 8 0:3:1 elifdef",
             "| 0 | 4 0:3:1 elifdef",
         ),
-    ] {
-        assert_contents(&rt, alloc, Profile::C11, &[(text, c11)])?;
-        assert_contents(&rt, alloc, Profile::Later, &[(text, later)])?;
-    }
-    Ok(())
+    ];
+    assert_branches(&rt, rt.alloc(), &cases)
 }
 
 #[test]
@@ -510,8 +652,7 @@ fn reads_files_once(rt: HostRuntime) -> Result<(), Fail> {
         (3, [].as_slice(), header),
     ];
     assert_units(&rt, alloc, Profile::Later, &files, &cases)?;
-    let mut wanted = "pragma@0:1:1[ once ] t ".repeat(alloc, 201)?;
-    wanted.push_str("| 0 | 32 0:3:1 s.c")?;
+    let wanted = repeated(alloc, "pragma@0:1:1[ once ] t ", 201, "| 0 | 32 0:3:1 s.c")?;
     assert_units(
         &rt,
         alloc,
@@ -534,4 +675,93 @@ fn asks_for_the_depth_first(rt: HostRuntime) -> Result<(), Fail> {
         "pragma@1:1:1[ once ] | 0 1 2 | 32 2:1:1 o.h",
     )];
     assert_units(&rt, rt.alloc(), Profile::Later, &files, &cases)
+}
+
+#[test]
+fn stops_where_nothing_is_left_of_the_budget(rt: HostRuntime) -> Result<(), Fail> {
+    let alloc = rt.alloc();
+    let text = "#define f(a) a*g\n#define g(a) f(a)\nf(2)(9)\n";
+    let cases = [
+        (u64::MAX, "2 * 9 * g | 0 | ok"),
+        (4, "2 * 9 * g | 0 | ok"),
+        (3, "2 * | 0 | 35 0:3:1 "),
+        (0, "| | 35 0:1:1 "),
+    ];
+    assert_budgets(&rt, alloc, &[("a.c", text)], &cases)?;
+    // a condition spends, also where its group is not taken
+    let text = "#define A 0\n#if 0\n#elif A\n#endif\n#if A\n#endif\nA\n";
+    let cases = [
+        (4, "0 | 0 | ok"),
+        (3, "| 0 | 35 0:7:1 "),
+        (2, "| 0 | 35 0:5:5 "),
+        (1, "| 0 | 35 0:3:7 "),
+    ];
+    assert_budgets(&rt, alloc, &[("a.c", text)], &cases)?;
+    let text = "#define N 7\n#line N\n__LINE__\n";
+    let cases = [
+        (3, "7 | 0 | ok"),
+        (2, "| 0 | 35 0:3:1 "),
+        (1, "| 0 | 35 0:2:7 "),
+    ];
+    assert_budgets(&rt, alloc, &[("a.c", text)], &cases)
+}
+
+#[test]
+fn counts_openings(rt: HostRuntime) -> Result<(), Fail> {
+    let alloc = rt.alloc();
+    // the dependency comes behind what is left
+    let files = [("a.c", "#define N \"h.h\"\n#include N\n"), ("h.h", "t\n")];
+    let cases = [
+        (3, "t | 0 1 | ok"),
+        (2, "| 0 | 35 0:2:1 "),
+        (1, "| 0 | 35 0:2:10 "),
+    ];
+    assert_budgets(&rt, alloc, &files, &cases)?;
+    let files = [
+        ("a.c", "#include \"o.h\"\n#include \"o.h\"\n"),
+        ("o.h", "#pragma once\nt\n"),
+    ];
+    let cases = [
+        (3, "pragma@1:1:1[ once ] t | 0 1 | ok"),
+        (2, "pragma@1:1:1[ once ] t | 0 1 | 35 0:2:1 "),
+    ];
+    assert_budgets(&rt, alloc, &files, &cases)?;
+    // the depth comes before what is left
+    let cases = [(201, "| 0 | 32 0:1:1 s.c"), (200, "| 0 | 35 0:1:1 ")];
+    assert_budgets(&rt, alloc, &[("s.c", "#include \"s.c\"\n")], &cases)
+}
+
+#[test]
+fn has_a_budget_for_each_unit(rt: HostRuntime) -> Result<(), Fail> {
+    let alloc = rt.alloc();
+    let files = [
+        ("a.c", "#include \"h.h\"\n#include \"h.h\"\n"),
+        ("h.h", "#ifndef H\n#define H\nint a;\n#endif\n"),
+    ];
+    let enough = [
+        (0, [].as_slice(), "int a ; | 0 1 | ok"),
+        (0, ["H"].as_slice(), "| 0 1 | ok"),
+    ];
+    assert_units_within(&rt, alloc, Profile::C11, Some(3), &files, &enough)?;
+    let short = [
+        (0, [].as_slice(), "int a ; | 0 1 | 35 0:2:1 "),
+        (0, ["H"].as_slice(), "| 0 1 | 35 0:2:1 "),
+    ];
+    assert_units_within(&rt, alloc, Profile::C11, Some(2), &files, &short)?;
+    // a fault before anything is counted
+    let twice = [(0, ["X 1", "X 2"].as_slice(), "| | 16 65535:2:1 X")];
+    assert_units_within(&rt, alloc, Profile::C11, Some(0), &files, &twice)
+}
+
+#[test]
+fn stops_amid_two_to_the_64th_replacements(rt: HostRuntime) -> Result<(), Fail> {
+    let alloc = rt.alloc();
+    let text = doubling(alloc)?;
+    let wanted = repeated(alloc, "0 ", 471, "| 0 | 35 0:66:1 ")?;
+    assert_budgets(
+        &rt,
+        alloc,
+        &[("a.c", text.as_str())],
+        &[(1000, wanted.as_str())],
+    )
 }

@@ -18,14 +18,16 @@ pub struct UnitOut<'a> {
     pub fault: Option<Fault>,
 }
 
-/// What all units of a list share: their profile, the date and the time of their translation (6.10.8.1), and folders that are
-/// searched for headers.
+/// What all units of a list share: their profile, the date and the time of their translation (6.10.8.1), folders that are
+/// searched for headers, and a budget for each of them: the most macro names that are replaced (6.10.3) and files that are
+/// opened (6.10.2), taken together. Without one there is no bound.
 #[derive(Drop, Debug)]
 pub struct Setting {
     pub profile: Profile,
     pub date: Text,
     pub time: Text,
     pub search: Texts,
+    pub budget: Option<u64>,
 }
 
 /// A unit of a list: the row of its file, its definitions, and folders that are searched before the setting's.

@@ -3,7 +3,7 @@
 ghost use Rattle.std.specs.Prelude.{◌≡◌, ◌≢◌, ◌<◌, ◌≤◌, ◌+◌, ℕ, suc, List, ◌++◌, map, drop, length, string_bytes, IfOk, MatchResult, Bool, true, false, None, Some, Ok, Err};
 ghost use Rattle.std.specs.List.{AllByRecursion};
 ghost use Rattle.pptext.specs.Lines.{LogicalLine};
-ghost use Rattle.pptext.specs.Tree.{Parts, Branches, branch_lines, AreBranches};
+ghost use Rattle.pptext.specs.Tree.{Parts, Branches, branch_lines, AreBranches, opens_section, ends_group};
 ghost use Rattle.ppshelf.specs.Files.{Files, Extends};
 ghost use Rattle.ppunit.specs.Directives.{Asks};
 ghost use Rattle.pptext.specs.declared.sources.Directive.TheVariants.{Include};
@@ -11,7 +11,7 @@ ghost use Rattle.ppunit.specs.Group.{Controls};
 ghost use Rattle.ppunit.specs.States.{Surroundings, Reached, surroundings_of};
 ghost use Rattle.ppunit.specs.Lines.{directed};
 ghost use Rattle.ppunit.specs.Quotes as quotes;
-ghost use Rattle.ppunit.specs.Walk.{line_at, opens_section, ends_group, has_condition, IsTextLine, IsRest, Outer, BranchesAt, Enters, FindsBranch, Advances, Leads, Steps, Walks};
+ghost use Rattle.ppunit.specs.Walk.{line_at, IsTextLine, IsRest, Outer, BranchesAt, Enters, FindsBranch, Advances, Leads, Steps, Walks};
 
 use crate::conditions::decide;
 use crate::directives::{control, error, run_text};
@@ -41,31 +41,21 @@ fn run_end(source: &Source, start: usize) -> usize
     end
 }
 
-// Whether it is a branch with a condition.
-fn has_condition(directive: Directive) -> bool
-    ensures { result ≡ has_condition directive }
-{
-    matches!(
-        directive,
-        Directive::Elif | Directive::Elifdef | Directive::Elifndef
-    )
-}
-
-// Whether the work goes on behind a branch line.
+// Whether the work goes on behind a branch line, and what is left of the budget.
 fn enters(
     alloc: Global,
     state: &State,
     source: &Source,
     index: usize,
-) -> Result<Result<bool, Fault>, Memory>
+) -> Result<(Result<bool, Fault>, Option<u64>), Memory>
     requires { index < length source.now }
-    ensures { IfOk result (λ taken. Enters state.now (line_at source.now index) taken) }
+    ensures { IfOk result (λ r. Enters state.now (line_at source.now index) r.1 r.0) }
 {
     let Some(directive) = line(source, index).directive else {
-        return Ok(Ok(true));
+        return Ok((Ok(true), state.left));
     };
-    if !has_condition(directive) {
-        return Ok(Ok(true));
+    if !directive.has_condition() {
+        return Ok((Ok(true), state.left));
     }
     decide(alloc, state, directive, tokens_at(source, index))
 }
@@ -74,17 +64,19 @@ fn enters(
 // that is taken or behind `#endif`.
 fn find_branch(
     alloc: Global,
-    state: &State,
+    state: &mut State,
     source: &Source,
     start: usize,
 ) -> Result<Result<usize, Fault>, Memory>
     requires { start < length source.now }
     ensures further { IfOk result (λ found. IfOk found (λ next. start < next)) }
-    ensures found { IfOk result (λ next. (ps : Parts) (bs : Branches) (qs : Parts) (k : Outer) → BranchesAt source.now start ps bs qs k → FindsBranch source.now state.now bs qs k next) }
+    ensures found { IfOk result (λ next. (ps : Parts) (bs : Branches) (qs : Parts) (k : Outer) → BranchesAt source.now start ps bs qs k → FindsBranch source.now state.old state.new bs qs k next) }
 {
     let mut index = start;
     while let Some(next) = line(source, index).next_branch {
-        match enters(alloc, state, source, next)? {
+        let (taken, left) = enters(alloc, state, source, next)?;
+        state.left = left;
+        match taken {
             Ok(true) => return Ok(Ok(next + 1)),
             Ok(false) => index = next,
             Err(fault) => return Ok(Err(fault)),
@@ -106,27 +98,10 @@ fn section_end(source: &Source, branch: usize) -> usize
     index + 1
 }
 
-// Whether a section opens at the line.
-fn opens_section(directive: Directive) -> bool
-    ensures { result ≡ opens_section directive }
-{
-    matches!(
-        directive,
-        Directive::If | Directive::Ifdef | Directive::Ifndef
-    )
-}
-
-// Whether a group ends before the line.
-fn ends_group(directive: Directive) -> bool
-    ensures { result ≡ ends_group directive }
-{
-    has_condition(directive) || matches!(directive, Directive::Else | Directive::Endif)
-}
-
 // An opening line: the line that the work goes on with.
 fn enter_section(
     alloc: Global,
-    state: &State,
+    state: &mut State,
     source: &Source,
     directive: Directive,
     index: usize,
@@ -135,9 +110,11 @@ fn enter_section(
     requires line { (line_at source.now index).directive ≡ Some directive }
     requires opens { opens_section directive ≡ true }
     ensures further { IfOk result (λ found. IfOk found (λ next. index < next)) }
-    ensures entered { (around : Files → Surroundings) (files : Files) (depth row : ℕ) → IfOk result (λ next. Advances around files depth row source.now index state.now state.now next) }
+    ensures entered { (around : Files → Surroundings) (files : Files) (depth row : ℕ) → IfOk result (λ next. Advances around files depth row source.now index state.old state.new next) }
 {
-    match decide(alloc, state, directive, tokens_at(source, index))? {
+    let (taken, left) = decide(alloc, state, directive, tokens_at(source, index))?;
+    state.left = left;
+    match taken {
         Ok(true) => Ok(Ok(index + 1)),
         Ok(false) => find_branch(alloc, state, source, index),
         Err(fault) => Ok(Err(fault)),
@@ -180,7 +157,9 @@ fn include<'x, 'a: 'x, D: Disk>(
     ensures grows { Extends pass.new.files pass.old.files }
     ensures control { IfOk result (λ leads. (number : ℕ) → Leads (surroundings_of around.now) pass.new.files (suc depth) (λ (more : Files) (m : Reached). Controls (surroundings_of around.now more) depth row state.old (directed Include line.now number) m) state.new leads) }
 {
-    let asked = match ask(around.alloc, state, line)? {
+    let (asked, left) = ask(around.alloc, state, line)?;
+    state.left = left;
+    let asked = match asked {
         Ok(asked) => asked,
         Err(fault) => return Ok(Err(fault)),
     };
@@ -265,10 +244,10 @@ fn step<'x, 'a: 'x, D: Disk>(
     let Some(directive) = line(source, index).directive else {
         return Ok(to_line(do_run(around.alloc, state, source, index)?));
     };
-    if opens_section(directive) {
+    if directive.opens_section() {
         return Ok(to_line(enter_section(around.alloc, state, source, directive, index)?));
     }
-    if ends_group(directive) {
+    if directive.ends_group() {
         return Ok(to_line(Ok(section_end(source, index))));
     }
     let tokens = tokens_at(source, index);

@@ -1,9 +1,9 @@
 use crate::forms::{fits_command, is_date, is_one_line, is_time};
-use std::test::Fail;
+use std::alloc::{AllocError, Global};
 
 #[test]
 fn judges_dates(rt: HostRuntime) {
-    for (date, good) in [
+    for (date, good) in &[
         ("Jan  1 0000", true),
         ("May 10 2024", true),
         ("Oct 31 9999", true),
@@ -15,13 +15,13 @@ fn judges_dates(rt: HostRuntime) {
         ("Feb  9 202x", false),
         ("Feb  9 20240", false),
     ] {
-        assert_eq!(rt; is_date(date.as_bytes()), good, "at {date}");
+        assert!(rt; is_date(date.as_bytes()) == *good, "at {date}");
     }
 }
 
 #[test]
 fn judges_times(rt: HostRuntime) {
-    for (time, good) in [
+    for (time, good) in &[
         ("00:00:00", true),
         ("19:09:60", true),
         ("23:59:59", true),
@@ -31,29 +31,34 @@ fn judges_times(rt: HostRuntime) {
         ("8:05:03", false),
         ("08.05.03", false),
     ] {
-        assert_eq!(rt; is_time(time.as_bytes()), good, "at {time}");
+        assert!(rt; is_time(time.as_bytes()) == *good, "at {time}");
     }
 }
 
 #[test]
 fn judges_lines(rt: HostRuntime) {
-    for (text, good) in [
+    for (text, good) in &[
         ("", true),
         ("F(x) x \\ \u{b}\u{c}", true),
         ("A 1\n", false),
         ("A\r1", false),
     ] {
-        assert_eq!(rt; is_one_line(text.as_bytes()), good, "at {text}");
+        assert!(rt; is_one_line(text.as_bytes()) == *good, "at {text}");
     }
 }
 
+/// Whether the definitions `A 1` and one of this many bytes fit.
+fn fits(alloc: Global, len: usize) -> Result<bool, AllocError> {
+    let mut defines = Vec::new(alloc);
+    defines.push(String::from_str(alloc, "A 1")?)?;
+    defines.push("x".repeat(alloc, len)?)?;
+    Ok(fits_command(defines.as_slice()))
+}
+
 #[test]
-fn judges_the_size_of_definitions(rt: HostRuntime) -> Result<(), Fail> {
-    for (len, good) in [(16_777_200, true), (16_777_201, false)] {
-        let mut defines = Vec::new(rt.alloc());
-        defines.push(String::from_str(rt.alloc(), "A 1")?)?;
-        defines.push("x".repeat(rt.alloc(), len - 5)?)?;
-        assert_eq!(rt; fits_command(defines.as_slice()), good, "at {len}");
+fn judges_the_size_of_definitions(rt: HostRuntime) -> Result<(), AllocError> {
+    for (len, good) in &[(16_777_195, true), (16_777_196, false)] {
+        assert!(rt; fits(rt.alloc(), *len)? == *good, "at {len}");
     }
     Ok(())
 }

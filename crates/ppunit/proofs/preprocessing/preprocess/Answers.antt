@@ -18,3 +18,12 @@ returns-clause-is g c =
 pub returns-clause-deps : goal.returns-clause-deps
 returns-clause-deps g c =
     unit_within c.args.shelf.now.names c.translate.new.pass.files c.args.setting.now c.args.unit.now _ (returns-clause-is g c) c.requires.unit.0
+
+pub returns-clause-capped : goal.returns-clause-capped
+returns-clause-capped g c =
+    c.budget_caps_units.ensures c.args.shelf.now.names c.translate.new.pass.files c.args.setting.now c.args.unit.now _ c.lawful.ensures.names
+    (returns-clause-is g c)
+
+pub returns-clause-within : goal.returns-clause-within
+returns-clause-within g c =
+    c.stays_within.ensures c.args.shelf.now.names c.translate.new.pass.files c.args.setting.now c.args.unit.now _

@@ -1,5 +1,5 @@
 use Rattle.std.proofs.Common.{length, ap, ◌∙◌}
-use Rattle.ppunit.proofs.Walk.{spans_length}
+use Rattle.ppunit.proofs.IndexedLines.{spans_length}
 use Rattle.ppunit.proofs.rows.count.Goals as goal
 
 pub returns : goal.returns

@@ -3,7 +3,7 @@ use Rattle.pptext.specs.declared.sources.Line.{Line}
 use Rattle.pptext.specs.Sources.{tokens_of}
 use Rattle.pptext.proofs.Spans.{no_line, span}
 use Rattle.ppunit.specs.Walk.{line_at}
-use Rattle.ppunit.proofs.Walk.{spans_length, line_is}
+use Rattle.ppunit.proofs.IndexedLines.{spans_length, line_is}
 use Rattle.ppunit.proofs.rows.line.Goals as goal
 
 pub bounds-lines-index : goal.bounds-lines-index

@@ -1,6 +1,6 @@
 use Rattle.std.proofs.Common.{rules, ◌≤◌, ◌-◌, List, length, take, drop, ap, ◌∙◌, arith}
 use Rattle.pptext.specs.declared.tokens.Token.{Token}
-use Rattle.ppunit.proofs.Walk.{between_lines}
+use Rattle.ppunit.proofs.IndexedLines.{between_lines}
 use Rattle.ppunit.proofs.rows.tokens_between.Goals as goal
 
 pub offset_bounds-tokens-line : goal.offset_bounds-tokens-line

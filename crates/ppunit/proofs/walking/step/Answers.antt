@@ -10,7 +10,7 @@ returns-in_default-clause-step g c =
 
 pub returns-then-opens_section-clause-step : goal.returns-then-opens_section-clause-step
 returns-then-opens_section-clause-step g c =
-    steps_line (surroundings_of c.args.around.now) c.args.pass.now.files c.args.depth c.args.file.now.row c.args.file.now.source.now c.args.file.now.index c.args.state.now c.args.state.now c.in_ok-enter_section.field-0 c.to_line-then-opens_section.result c.to_line-then-opens_section.ensures (c.in_ok-enter_section.ensures.entered (surroundings_of c.args.around.now) c.args.pass.now.files c.args.depth c.args.file.now.row)
+    steps_line (surroundings_of c.args.around.now) c.args.pass.now.files c.args.depth c.args.file.now.row c.args.file.now.source.now c.args.file.now.index c.args.state.now c.enter_section.new.state c.in_ok-enter_section.field-0 c.to_line-then-opens_section.result c.to_line-then-opens_section.ensures (c.in_ok-enter_section.ensures.entered (surroundings_of c.args.around.now) c.args.pass.now.files c.args.depth c.args.file.now.row)
 
 pub returns-then-ends_group-clause-step : goal.returns-then-ends_group-clause-step
 returns-then-ends_group-clause-step g c =

@@ -1,0 +1,5 @@
+use Rattle.ppunit.proofs.Capped.{unit_gives_no_less}
+use Rattle.ppunit.proofs.laws.larger_budgets_give_no_less.Goals as goal
+
+pub returns : goal.returns
+returns c = unit_gives_no_less c.one_value.ensures
