@@ -19,7 +19,7 @@ use Rattle.pppool.proofs.Totals.{times-append, times_at}
 pub answers_grow : Grows → (stock : Stock) (old new : Files) (setting : Setting) (units : List UnitOfList) (answers : List Answer) → Extends new old → AreAnswers stock old setting units answers → AreAnswers stock new setting units answers
 answers_grow grows stock old new setting units answers more all k d w =
     let a = all k d w in
-    record { within = a.within; value = λ u. grows stock.names old new setting (get_or units (get_or answers k d).unit u) (get_or answers k d).out more (a.value u) }
+    record { within = a.within; value = λ u. (grows stock.names old new setting (get_or units (get_or answers k d).unit u) (get_or answers k d).out more (a.value u)).0 }
 
 -- one answer more
 pub answers_push : Grows → (stock : Stock) (old new : Files) (setting : Setting) (units : List UnitOfList) (answers : List Answer) (number : ℕ) (unit : UnitOfList) (out : UnitOut)

@@ -4,13 +4,15 @@ use Rattle.std.specs.List.{AllZip}
 use Rattle.std.proofs.lemmas.Bool.{cases_lt, cases_eq}
 use Rattle.std.proofs.lemmas.List.{length-set, get_or-set_same, get_or-set_other, get_or_default, set_past}
 use Rattle.std.proofs.lemmas.Slice.Zip.{AllZip-long}
+use Rattle.ppshelf.specs.Names.{AreNames}
 use Rattle.ppshelf.specs.Files.{Files, Extends, Stock}
 use Rattle.ppunit.specs.declared.units.Unit.{Unit as UnitOfList}
 use Rattle.ppunit.specs.declared.units.Setting.{Setting}
 use Rattle.ppunit.specs.declared.units.UnitOut.{UnitOut}
 use Rattle.ppunit.specs.Laws.{Grows}
 use Rattle.ppunit.specs.Unit.{IsUnit}
-use Rattle.ppunit.specs.Units.{AreUnits}
+use Rattle.ppunit.specs.Capped.{IsWithin, IsCappedOver, StaysWithin, BudgetCaps}
+use Rattle.ppunit.specs.Units.{AreUnits, AreWithin, AreCapped}
 use Rattle.pppool.specs.declared.workers.Answer.{Answer}
 use Rattle.pppool.specs.Desk.{DeskId, SeatView, times, claims_of, once_below}
 use Rattle.pppool.specs.Laws.{ListGrows}
@@ -46,7 +48,7 @@ pub slots_grow : Grows → (stock : Stock) (old new : Files) (setting : Setting)
 slots_grow grows stock old new setting units slots more fit =
     let At : Files → UnitOfList → UnitOut → Type 0 = λ files unit out. IsUnit stock.names files setting unit out in
     zip_map (λ unit slot. IfSome slot (At old unit)) (λ unit slot. IfSome slot (At new unit)) units slots
-    (λ unit slot h. if_some_map (At old unit) (At new unit) slot (λ out is. grows stock.names old new setting unit out more is) h) fit
+    (λ unit slot h. if_some_map (At old unit) (At new unit) slot (λ out is. (grows stock.names old new setting unit out more is).0) h) fit
 
 -- answers that are their units' values go into slots
 pub slots_placed : (stock : Stock) (files : Files) (setting : Setting) (units : List UnitOfList) (slots : List (Option UnitOut)) (answers : List Answer) → FitSlots stock files setting units slots → AreAnswers stock files setting units answers → FitSlots stock files setting units (placed slots answers)
@@ -146,4 +148,20 @@ all_full stock files setting units block blocks claims slots fit full whole belo
 
 pub list_grows : Grows → ListGrows
 list_grows grows names files more setting units answers extends are =
-    zip_map (λ unit out. IsUnit names files setting unit out) (λ unit out. IsUnit names more setting unit out) units answers (λ unit out is. grows names files more setting unit out extends is) are
+    zip_map (λ unit out. IsUnit names files setting unit out) (λ unit out. IsUnit names more setting unit out) units answers (λ unit out is. (grows names files more setting unit out extends is).0) are
+
+-- units replace and open no more than their budget allows
+pub are_within : StaysWithin → (names : List (List ℕ)) (files : Files) (setting : Setting) (units : List UnitOfList) (answers : List UnitOut)
+    → AreUnits names files setting units answers → AreWithin names files setting units answers
+are_within stays names files setting units answers are =
+    let Is : UnitOfList → UnitOut → Type 0 = λ unit out. IsUnit names files setting unit out in
+    let Within : UnitOfList → UnitOut → Type 0 = λ unit out. IsWithin names files setting unit out in
+    zip_map Is Within units answers (λ unit out is. stays names files setting unit out) are
+
+-- what units give over some files is capped by their budget over any more
+pub are_capped : BudgetCaps → (names : List (List ℕ)) (files : Files) (setting : Setting) (units : List UnitOfList) (answers : List UnitOut) → AreNames names
+    → AreUnits names files setting units answers → AreCapped names files setting units answers
+are_capped caps names files setting units answers named are =
+    let Is : UnitOfList → UnitOut → Type 0 = λ unit out. IsUnit names files setting unit out in
+    let IsCapped : UnitOfList → UnitOut → Type 0 = λ unit out. IsCappedOver names files setting unit out in
+    zip_map Is IsCapped units answers (λ unit out is. caps names files setting unit out named is) are

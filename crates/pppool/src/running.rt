@@ -2,7 +2,7 @@
 ghost use Rattle.std.specs.Prelude.{◌≡◌, ℕ, ◌<◌, ◌≤◌, ◌/◌, [], length, All, IfOk, IsSome, Some, None, slice_index_or};
 ghost use Rattle.ppshelf.specs.Files.{Extends, Agree, AllLawful};
 ghost use Rattle.ppunit.specs.Unit.{IsUnitOf};
-ghost use Rattle.ppunit.specs.Units.{AreUnits};
+ghost use Rattle.ppunit.specs.Units.{AreUnits, AreWithin, AreCapped};
 ghost use Rattle.pppool.specs.Desk.{new_seat, times, claims_of};
 ghost use Rattle.pppool.specs.Workers.{AllFilled, FitSlots, IsDone};
 
@@ -12,7 +12,7 @@ use crate::slots::{all_of, empty_slots, place};
 use crate::workers::{Job, Worker};
 use ppshelf::{Disk, Pass, Shelf};
 use pptext::Memory;
-use ppunit::{Setting, Unit, UnitOut, growth};
+use ppunit::{Setting, Unit, UnitOut, budget_caps_units, growth, stays_within};
 use std::alloc::Global;
 use std::thread;
 use std::thread::Threads;
@@ -22,7 +22,9 @@ use std::thread::Threads;
 ///
 /// Each worker has a seat at a desk and a pass of its own, and claims blocks until none is left. Before each unit it enters the
 /// gate. Where no thread can be made the workers run in turn. In the end the pass has met all workers' passes, and the answers are
-/// the units' values over what it knows, in the list's order, each once.
+/// the units' values over what it knows, in the list's order, each once. With a budget each unit makes no more replacements and
+/// openings than that, and its answer is a beginning of what it gives without one, over what the pass knows or more files, and the
+/// whole of it exactly where the budget suffices.
 ///
 /// Fails only for want of memory, and then the pass knows what it knew.
 pub fn run<'a, R: Threads + Sync, D: Disk + Send + Sync, G: Gate + Sync>(
@@ -46,6 +48,8 @@ pub fn run<'a, R: Threads + Sync, D: Disk + Send + Sync, G: Gate + Sync>(
     ensures shelf { pass.new.shelf ≡ shelf.now }
     ensures grows { Extends pass.new.files pass.old.files }
     ensures value { IfOk result (λ outs. AreUnits shelf.now.names pass.new.files setting.now units.now outs.items) }
+    ensures within { IfOk result (λ outs. AreWithin shelf.now.names pass.new.files setting.now units.now outs.items) }
+    ensures capped { IfOk result (λ outs. AreCapped shelf.now.names pass.new.files setting.now units.now outs.items) }
     ensures lawful { AllLawful D.may shelf.now.names pass.new.files }
     ensures filled { Agree shelf.now.base pass.new.files }
 {
@@ -67,6 +71,9 @@ pub fn run<'a, R: Threads + Sync, D: Disk + Send + Sync, G: Gate + Sync>(
         pass,
     );
     pass.lawful();
+    shelf.lawful();
+    stays_within();
+    budget_caps_units();
     let (seats, slots) = gathered?;
     if desk.close(seats) {
         all_of(alloc, slots)

@@ -77,6 +77,7 @@ pub(crate) fn setting_of(alloc: Global) -> Result<Setting, AllocError>
         date: Text::new(String::from_str(alloc, "Feb  9 2024")?),
         time: Text::new(String::from_str(alloc, "08:05:03")?),
         search: Texts::new(Vec::new(alloc)),
+        budget: None,
     })
 }
 

@@ -4,7 +4,7 @@ use Rattle.ppunit.specs.declared.units.UnitOut.{UnitOut}
 use Rattle.pppool.specs.declared.hand.Plan.{Plan}
 use Rattle.pppool.specs.Desk.{claims_of}
 use Rattle.pppool.specs.Workers.{FitSlots}
-use Rattle.pppool.proofs.Placing.{all_full, are_units, if_ok_then}
+use Rattle.pppool.proofs.Placing.{all_full, are_units, are_within, are_capped, if_ok_then}
 use Rattle.pppool.proofs.running.run.Goals as goal
 
 pub all_of-requires : goal.all_of-requires
@@ -20,6 +20,19 @@ returns-then-close-clause-value g c =
     let files = c.gather-gathered.new.pass.files in
     let P : List (Option UnitOut) → Type 0 = FitSlots c.args.shelf.now files c.args.setting.now c.args.units.now in
     if_ok_then c.all_of.result c.all_of.ensures (λ v is. are_units c.args.shelf.now files c.args.setting.now c.args.units.now v.items (subst P is c.in_ok-seats.ensures.slots))
+
+pub returns-then-close-clause-within : goal.returns-then-close-clause-within
+returns-then-close-clause-within g c =
+    if_ok_then c.all_of.result (returns-then-close-clause-value g c)
+    (λ v are. are_within c.stays_within.ensures c.args.shelf.now.names c.gather-gathered.new.pass.files c.args.setting.now c.args.units.now v.items are)
+
+pub returns-then-close-clause-capped : goal.returns-then-close-clause-capped
+returns-then-close-clause-capped g c =
+    let names = c.args.shelf.now.names in
+    let files = c.gather-gathered.new.pass.files in
+    let caps = c.budget_caps_units.ensures in
+    if_ok_then c.all_of.result (returns-then-close-clause-value g c)
+    (λ v are. are_capped caps names files c.args.setting.now c.args.units.now v.items c.lawful-3.ensures.names are)
 
 pub returns-clause-filled : goal.returns-clause-filled
 returns-clause-filled g c =
