@@ -16,7 +16,7 @@ use Rattle.ppunit.specs.declared.units.Unit.{Unit as UnitOfList}
 use Rattle.cppunits.specs.Shape.{draft}
 use Rattle.ppshelf.specs.Content.{longest}
 use Rattle.ppshelf.specs.Files.{most_rows}
-use Rattle.cppunits.specs.Listing.{accepted, refused, json_value, outcome_of, judged, listed, listed_unit, place_of, names_of, contents_of, names_hold, sizes_hold, are_known, times_hold, lines_hold, folders_hold, profile_holds, profile_of, most_input, IsRunnable}
+use Rattle.cppunits.specs.Listing.{accepted, refused, json_value, outcome_of, judged, listed, listed_unit, place_of, names_of, contents_of, names_hold, sizes_hold, are_known, times_hold, lines_hold, folders_hold, profile_holds, profile_of, budget_holds, most_input, IsRunnable}
 use Rattle.cppunits.specs.declared.list.List.{List as CompilationList}
 use Rattle.cppunits.specs.declared.list.drafts.Draft.{Draft}
 use Rattle.cppunits.specs.declared.list.drafts.DraftFile.{DraftFile}
@@ -41,21 +41,24 @@ record Passed (x : CompilationList) (names sizes files times lines : Bool) (l : 
   pub times_pass : times ≡ true
   pub lines_pass : lines ≡ true
 
-passed : (x : CompilationList) (names sizes files times lines folders profile : Bool) (l : CompilationList)
-    → (if not names then refused 3 else (if not sizes then refused 4 else (if not files then refused 5 else (if not times then refused 6 else (if not lines then refused 7 else (if not folders then refused 8 else (if not profile then refused 9 else accepted x))))))) ≡ accepted l
+passed : (x : CompilationList) (names sizes files times lines folders profile budget : Bool) (l : CompilationList)
+    → (if not names then refused 3 else (if not sizes then refused 4 else (if not files then refused 5 else (if not times then refused 6 else (if not lines then refused 7 else (if not folders then refused 8 else (if not profile then refused 9 else (if not budget then refused 10 else accepted x)))))))) ≡ accepted l
     → Passed x names sizes files times lines l
-passed x false sizes files times lines folders profile l e = absurd (cc)
-passed x true false files times lines folders profile l e = absurd (cc)
-passed x true true false times lines folders profile l e = absurd (cc)
-passed x true true true false lines folders profile l e = absurd (cc)
-passed x true true true true false folders profile l e = absurd (cc)
-passed x true true true true true false profile l e = absurd (cc)
-passed x true true true true true true false l e = absurd (cc)
-passed x true true true true true true true l e = record { is_list = cc; names_pass = refl; sizes_pass = refl; files_pass = refl; times_pass = refl; lines_pass = refl }
+passed x false sizes files times lines folders profile budget l e = absurd (cc)
+passed x true false files times lines folders profile budget l e = absurd (cc)
+passed x true true false times lines folders profile budget l e = absurd (cc)
+passed x true true true false lines folders profile budget l e = absurd (cc)
+passed x true true true true false folders profile budget l e = absurd (cc)
+passed x true true true true true false profile budget l e = absurd (cc)
+passed x true true true true true true false budget l e = absurd (cc)
+passed x true true true true true true true false l e = absurd (cc)
+passed x true true true true true true true true l e = record { is_list = cc; names_pass = refl; sizes_pass = refl; files_pass = refl; times_pass = refl; lines_pass = refl }
 
 judged-passed : (inline : Bool) (d : Draft) (l : CompilationList) → judged inline d ≡ accepted l
     → Passed (listed inline d) (names_hold d.files) (sizes_hold d) (are_known (names_of d.files) d.units) (times_hold d.setting) (lines_hold d.units) l
-judged-passed inline d l e = passed (listed inline d) (names_hold d.files) (sizes_hold d) (are_known (names_of d.files) d.units) (times_hold d.setting) (lines_hold d.units) (folders_hold d) (profile_holds d.setting) l e
+judged-passed inline d l e =
+    let s = d.setting in
+    passed (listed inline d) (names_hold d.files) (sizes_hold d) (are_known (names_of d.files) d.units) (times_hold s) (lines_hold d.units) (folders_hold d) (profile_holds s) (budget_holds s) l e
 
 pub both : (a b : Bool) → (a && b) ≡ true → (a ≡ true) × (b ≡ true)
 both true b h = (refl, h)

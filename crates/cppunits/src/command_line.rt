@@ -49,7 +49,8 @@ const ABOUT_DUMP: &str =
 const ABOUT_DEPS: &str = "Prints each unit's dependencies and its first fault";
 
 const MORE: &str = "\
-The list is a JSON object with `date`, `time`, `files` and `units`; the README says what stands in each.
+The list is a JSON object with `date`, `time`, `files` and `units`. docs/FORMAT.md of the sources has its form and that of
+the output, docs/FAULTS.md what each number of a fault or a refusal means.
 Status: 0 no unit has a fault, 1 some unit has one, 2 usage, 3 the list is refused, 4 out of memory, 5 a read or write failed.";
 
 /// Judges the program's words, and prints what there is to say of them.
@@ -72,17 +73,21 @@ fn parse<R: Env + AllocGlobal>(rt: &R) -> Result<Options, Error>
     ensures { IfOk result InRange }
 {
     let mut command = command(rt.alloc())?;
-    let words: Vec<String> = match env::args(rt) {
-        Ok(words) => words.collect(rt.alloc())?,
-        Err(error) if error.kind() == io::ErrorKind::OutOfMemory => {
-            return Err(Error::from(AllocError));
-        }
-        Err(_) => {
-            return Err(command.error(ErrorKind::InvalidValue, "an argument is no UTF-8 text")?);
-        }
-    };
+    let words = given_words(rt, &mut command)?;
     let matches = command.try_get_matches_from(words.as_slice())?;
     Ok(read_options(rt.alloc(), &matches)?)
+}
+
+// The program's words.
+fn given_words<R: Env + AllocGlobal>(
+    rt: &R,
+    command: &mut Command<'_>,
+) -> Result<Vec<String>, Error> {
+    match env::args(rt) {
+        Ok(words) => Ok(words.collect(rt.alloc())?),
+        Err(error) if error.kind() == io::ErrorKind::OutOfMemory => Err(Error::from(AllocError)),
+        Err(_) => Err(command.error(ErrorKind::InvalidValue, "an argument is no UTF-8 text")?),
+    }
 }
 
 fn read_options(alloc: Global, matches: &ArgMatches<'_>) -> Result<Options, AllocError>
@@ -114,31 +119,40 @@ fn number(matches: &ArgMatches<'_>, option: &str, most: usize) -> usize
 }
 
 fn command<'a>(alloc: Global) -> Result<Command<'a>, AllocError> {
-    let workers = Arg::new(alloc, "workers")
-        .long("workers")
-        .value_name("N")
-        .help("How many units are preprocessed at once, 1 to 64")
-        .default_value("4")
-        .value_parser(clap::value_parser!(usize).range(1..=MOST_WORKERS as i64));
-    let block = Arg::new(alloc, "block")
-        .long("block")
-        .value_name("K")
-        .help("How many units a worker takes at a time, 1 to 1024")
-        .default_value("8")
-        .value_parser(clap::value_parser!(usize).range(1..=MOST_BLOCK as i64));
-    let root = Arg::new(alloc, "root").long("root").value_name("DIR").help(
-        "Read each listed file below this folder; the list then holds names alone",
-    );
     Command::new(alloc, "cppunits")
         .about(ABOUT)
         .after_help(MORE)
-        .arg(workers)?
-        .arg(block)?
-        .arg(root)?
+        .arg(workers_option(alloc))?
+        .arg(block_option(alloc))?
+        .arg(root_option(alloc))?
         .subcommand_required(true)
         .disable_help_subcommand(true)
         .subcommand(subcommand(alloc, "dump", ABOUT_DUMP))?
         .subcommand(subcommand(alloc, "deps", ABOUT_DEPS))
+}
+
+fn workers_option<'a>(alloc: Global) -> Arg<'a> {
+    Arg::new(alloc, "workers")
+        .long("workers")
+        .value_name("N")
+        .help("How many units are preprocessed at once, 1 to 64")
+        .default_value("4")
+        .value_parser(clap::value_parser!(usize).range(1..=MOST_WORKERS as i64))
+}
+
+fn block_option<'a>(alloc: Global) -> Arg<'a> {
+    Arg::new(alloc, "block")
+        .long("block")
+        .value_name("K")
+        .help("How many units a worker takes at a time, 1 to 1024")
+        .default_value("8")
+        .value_parser(clap::value_parser!(usize).range(1..=MOST_BLOCK as i64))
+}
+
+fn root_option<'a>(alloc: Global) -> Arg<'a> {
+    Arg::new(alloc, "root").long("root").value_name("DIR").help(
+        "Read each listed file below this folder; the list then holds names alone",
+    )
 }
 
 fn subcommand<'a>(alloc: Global, name: &'a str, about: &'a str) -> Command<'a> {

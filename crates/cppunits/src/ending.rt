@@ -31,6 +31,7 @@ pub fn words(fault: &RunFault) -> &'static str
         RunFault::List(7) => "cppunits: list refused L7",
         RunFault::List(8) => "cppunits: list refused L8",
         RunFault::List(9) => "cppunits: list refused L9",
+        RunFault::List(10) => "cppunits: list refused L10",
         RunFault::List(_) => "cppunits: list refused",
         RunFault::Memory => "cppunits: out of memory",
         RunFault::Read => "cppunits: read failed",

@@ -144,7 +144,8 @@ pub(crate) const MOST_INPUT: usize = 268_435_456;
 /// that is missing, unknown or of another shape, 3 for a name that is out of normal form or stands twice, 4 for more
 /// than 65,535 files or units, or a content or a unit's definitions that are too long, 5 for a unit's file that isn't
 /// among the names, 6 for the date or the time, 7 for a definition of more than one line, 8 for a text to be searched
-/// that is no folder, 9 for another profile than `c11` and `later`; and `Memory`.
+/// that is no folder, 9 for another profile than `c11` and `later`, 10 for a budget that is no whole number from 0 to 4,294,967,295; and
+/// `Memory`.
 pub fn read_list(alloc: Global, bytes: &[u8], inline: bool) -> Result<List, ListFault>
     ensures ok { IfOk result (λ l. outcome_of inline bytes.now ≡ accepted l) }
     ensures runnable { IfOk result (λ l. IsRunnable l) }

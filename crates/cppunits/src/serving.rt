@@ -66,7 +66,8 @@ impl From<ListFault> for RunFault {
 const CHUNK: usize = 65_536;
 
 /// Reads a list that holds its files, preprocesses its units by so many workers, each of which takes so many units at a time, and writes their
-/// output once they are all done. Answers whether some unit has a fault.
+/// output once they are all done. Answers whether some unit has a fault. Where the list has a budget, what a unit gives is what it gives within
+/// it: a beginning of what it gives without, and the whole exactly where the budget suffices.
 pub fn serve<T: Threads + Sync, R: Feed, W: Sink>(
     threads: &T,
     alloc: Global,

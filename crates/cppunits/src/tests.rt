@@ -1,5 +1,5 @@
 // The program's rows: lists with their output, and streams that fail.
-ghost use Rattle.std.specs.Prelude.{None};
+ghost use Rattle.std.specs.Prelude.{◌≡◌, ◌≤◌, None};
 
 use crate::ending::{status, words};
 use crate::output::Mode;
@@ -7,6 +7,7 @@ use crate::serving::{RunFault, serve, serve_from};
 use crate::streams::{Failed, Feed, ReaderFeed, Sink, SliceFeed, VecSink, WriterSink};
 use ppshelf::{File, MemoryDisk};
 use std::alloc::{AllocError, Global};
+use std::fmt::Debug;
 use std::process::Abort;
 use std::test::Fail;
 use std::thread::Threads;
@@ -16,6 +17,94 @@ const EXAMPLE: &str =
 
 const EXAMPLE_OUTPUT: &str =
     "unit 0 a.c\ntok 0:1:1 0:1:1 i+ a\ntok 0:1:2 0:1:2 p- +\ntok 0:1:3 0:1:3 i- b\ntok 0:1:8 0:1:8 i+ c\ndep 0 a.c\nok\n";
+
+/// That two values are the same.
+pub(crate) fn assert_same<T: PartialEq + Debug>(rt: &impl Abort, found: &T, wanted: &T) {
+    assert_eq!(rt; found, wanted);
+}
+
+/// So many arrays, each in the one before.
+pub(crate) fn arrays(alloc: Global, depth: usize) -> Result<String, AllocError> {
+    let opening = "[".repeat(alloc, depth)?;
+    let closing = "]".repeat(alloc, depth)?;
+    format!(in alloc; "{opening}{closing}")
+}
+
+/// A name of so many bytes.
+pub(crate) fn name_of(alloc: Global, len: usize) -> Result<String, AllocError> {
+    "n".repeat(alloc, len)
+}
+
+/// What a run ended with, and where it wrote.
+#[derive(Drop)]
+struct RunEnd {
+    outcome: Result<bool, RunFault>,
+    writer: VecSink,
+}
+
+/// What so many workers make of a list that holds its files, in blocks of so many units.
+fn run_list<R: Threads + AllocGlobal + Sync>(
+    rt: &R,
+    list: &str,
+    mode: Mode,
+    workers: usize,
+    block: usize,
+) -> RunEnd
+    requires workers { (1 ≤ workers) × (workers ≤ 64) }
+    requires block { (1 ≤ block) × (block ≤ 1024) }
+{
+    let mut reader = SliceFeed::new(list.as_bytes());
+    let mut writer = VecSink::new(rt.alloc());
+    let outcome = serve(
+        rt,
+        rt.alloc(),
+        &mut reader,
+        &mut writer,
+        mode,
+        workers,
+        block,
+    );
+    RunEnd { outcome, writer }
+}
+
+/// The same of a list of names, whose files stand on a disk.
+fn run_from<R: Threads + AllocGlobal + Sync>(
+    rt: &R,
+    list: &str,
+    disk: &MemoryDisk,
+    mode: Mode,
+    workers: usize,
+    block: usize,
+) -> RunEnd
+    requires workers { (1 ≤ workers) × (workers ≤ 64) }
+    requires block { (1 ≤ block) × (block ≤ 1024) }
+{
+    let mut reader = SliceFeed::new(list.as_bytes());
+    let mut writer = VecSink::new(rt.alloc());
+    let outcome = serve_from(
+        rt,
+        rt.alloc(),
+        &mut reader,
+        &mut writer,
+        disk,
+        mode,
+        workers,
+        block,
+    );
+    RunEnd { outcome, writer }
+}
+
+/// That a run wrote this, and that its status is 1 where the last line tells a fault, and 0 else.
+fn assert_ended(rt: &impl Abort, run: &RunEnd, want: &str, at: &str) {
+    assert!(rt; run.writer.bytes() == want.as_bytes(), "at {at}");
+    let faulty = !(want.is_empty() || want.ends_with("ok\n"));
+    assert_same(rt, &status(&run.outcome), &u8::from(faulty));
+}
+
+/// That four workers print this of a list that holds its files.
+fn assert_prints<R: Threads + AllocGlobal + Abort + Sync>(rt: &R, list: &str, want: &str) {
+    assert_ended(rt, &run_list(rt, list, Mode::Dump, 4, 8), want, list);
+}
 
 /// The file's `text` or `hex`, what is printed between the unit's name and its dependency, and the last line.
 fn prints<R: Threads + AllocGlobal + Abort + Sync>(
@@ -28,11 +117,7 @@ fn prints<R: Threads + AllocGlobal + Abort + Sync>(
         "{{\"date\":\"Feb  9 2024\",\"time\":\"08:05:03\",\"files\":[{{\"name\":\"a.c\",{content}}}],\"units\":[{{\"file\":\"a.c\"}}]}}"
     )?;
     let want = format!(in rt.alloc(); "unit 0 a.c\n{items}dep 0 a.c\n{last}")?;
-    let mut reader = SliceFeed::new(list.as_bytes());
-    let mut writer = VecSink::new(rt.alloc());
-    let outcome = serve(rt, rt.alloc(), &mut reader, &mut writer, Mode::Dump, 4, 8);
-    assert!(rt; writer.bytes() == want.as_bytes(), "at {content}");
-    assert_eq!(rt; status(&outcome), u8::from(last != "ok\n"), "at {content}");
+    assert_prints(rt, list.as_str(), want.as_str());
     Ok(())
 }
 
@@ -121,13 +206,8 @@ fault 16 65535:2:1 N
 "#;
 
 #[test]
-fn prints_units_over_a_shared_header(rt: HostRuntime) -> Result<(), Fail> {
-    let mut reader = SliceFeed::new(SHARED.as_bytes());
-    let mut writer = VecSink::new(rt.alloc());
-    let outcome = serve(&rt, rt.alloc(), &mut reader, &mut writer, Mode::Dump, 4, 8);
-    assert_eq!(rt; status(&outcome), 1);
-    assert!(rt; writer.bytes() == SHARED_OUTPUT.as_bytes());
-    Ok(())
+fn prints_units_over_a_shared_header(rt: HostRuntime) {
+    assert_prints(&rt, SHARED, SHARED_OUTPUT);
 }
 
 /// The same without the items.
@@ -144,36 +224,28 @@ fault 16 65535:2:1 N
 "#;
 
 #[test]
-fn prints_dependencies_alone(rt: HostRuntime) -> Result<(), Fail> {
-    let mut reader = SliceFeed::new(SHARED.as_bytes());
-    let mut writer = VecSink::new(rt.alloc());
-    let outcome = serve(&rt, rt.alloc(), &mut reader, &mut writer, Mode::Deps, 4, 8);
-    assert_eq!(rt; status(&outcome), 1);
-    assert!(rt; writer.bytes() == SHARED_DEPS.as_bytes());
-    Ok(())
+fn prints_dependencies_alone(rt: HostRuntime) {
+    let run = run_list(&rt, SHARED, Mode::Deps, 4, 8);
+    assert_ended(&rt, &run, SHARED_DEPS, "dependencies alone");
+}
+
+/// That so many workers, in blocks of so many units, print the same of the shared list.
+fn assert_shared<R: Threads + AllocGlobal + Abort + Sync>(rt: &R, workers: usize, block: usize)
+    requires workers { (1 ≤ workers) × (workers ≤ 64) }
+    requires block { (1 ≤ block) × (block ≤ 1024) }
+{
+    let run = run_list(rt, SHARED, Mode::Dump, workers, block);
+    assert_ended(rt, &run, SHARED_OUTPUT, "shared");
 }
 
 #[test]
-fn gives_the_same_by_any_workers_and_blocks(rt: HostRuntime) -> Result<(), Fail> {
-    for (workers, block) in [(1, 1), (1, 1024), (2, 1), (2, 3), (7, 1), (64, 2)] {
-        let mut reader = SliceFeed::new(SHARED.as_bytes());
-        let mut writer = VecSink::new(rt.alloc());
-        let outcome = serve(
-            &rt,
-            rt.alloc(),
-            &mut reader,
-            &mut writer,
-            Mode::Dump,
-            workers,
-            block,
-        );
-        assert_eq!(rt; status(&outcome), 1, "with {workers} workers");
-        assert!(rt;
-            writer.bytes() == SHARED_OUTPUT.as_bytes(),
-            "with {workers} workers"
-        );
-    }
-    Ok(())
+fn gives_the_same_by_any_workers_and_blocks(rt: HostRuntime) {
+    assert_shared(&rt, 1, 1);
+    assert_shared(&rt, 1, 1024);
+    assert_shared(&rt, 2, 1);
+    assert_shared(&rt, 2, 3);
+    assert_shared(&rt, 7, 1);
+    assert_shared(&rt, 64, 2);
 }
 
 /// The same list with names alone.
@@ -187,18 +259,17 @@ fn file_of(alloc: Global, name: &str, text: &str) -> Result<File, AllocError> {
     })
 }
 
-/// The same files, but for the first so many, on a disk.
-fn shared_disk(alloc: Global, without: usize) -> Result<MemoryDisk, AllocError> {
-    let shared = [
+/// The same files on a disk.
+fn shared_disk(alloc: Global) -> Result<MemoryDisk, AllocError> {
+    let mut files = Vec::new(alloc);
+    for (name, text) in &[
         ("a.c", "#include \"h.h\"\nN P(1) __FILE__\n"),
         (
             "inc/h.h",
             "#ifndef H\n#define H\n#define P(x) x+N\n#pragma once n\n#endif\n",
         ),
         ("b.c", "#include <h.h>\nP(2)\n#error no M\nx\n"),
-    ];
-    let mut files = Vec::new(alloc);
-    for (name, text) in shared.iter().skip(without) {
+    ] {
         files.push(file_of(alloc, name, text)?)?;
     }
     Ok(MemoryDisk { files })
@@ -206,148 +277,160 @@ fn shared_disk(alloc: Global, without: usize) -> Result<MemoryDisk, AllocError> 
 
 #[test]
 fn serves_the_files_of_a_disk(rt: HostRuntime) -> Result<(), Fail> {
-    let disk = shared_disk(rt.alloc(), 0)?;
-    for (mode, want) in [(Mode::Dump, SHARED_OUTPUT), (Mode::Deps, SHARED_DEPS)] {
-        let mut reader = SliceFeed::new(SHARED_NAMES.as_bytes());
-        let mut writer = VecSink::new(rt.alloc());
-        let outcome = serve_from(&rt, rt.alloc(), &mut reader, &mut writer, &disk, mode, 2, 1);
-        assert_eq!(rt; status(&outcome), 1);
-        assert!(rt; writer.bytes() == want.as_bytes());
-    }
+    let disk = shared_disk(rt.alloc())?;
+    let dumped = run_from(&rt, SHARED_NAMES, &disk, Mode::Dump, 2, 1);
+    assert_ended(&rt, &dumped, SHARED_OUTPUT, "all that units give");
+    let deps = run_from(&rt, SHARED_NAMES, &disk, Mode::Deps, 2, 1);
+    assert_ended(&rt, &deps, SHARED_DEPS, "dependencies alone");
     Ok(())
 }
 
 #[test]
-fn tells_a_file_that_the_disk_lacks(rt: HostRuntime) -> Result<(), Fail> {
-    let disk = shared_disk(rt.alloc(), 3)?;
+fn tells_a_file_that_the_disk_lacks(rt: HostRuntime) {
+    let disk = MemoryDisk {
+        files: Vec::new(rt.alloc()),
+    };
     let list =
         r#"{"date":"Feb  9 2024","time":"08:05:03","files":[{"name":"a.c"}],"units":[{"file":"a.c"}]}"#;
-    let mut reader = SliceFeed::new(list.as_bytes());
-    let mut writer = VecSink::new(rt.alloc());
-    let outcome = serve_from(
-        &rt,
-        rt.alloc(),
-        &mut reader,
-        &mut writer,
-        &disk,
-        Mode::Dump,
-        4,
-        8,
-    );
-    assert_eq!(rt; status(&outcome), 1);
-    assert!(rt; writer.bytes() == b"unit 0 a.c\ndep 0 a.c\nfault 6 0:1:1 a.c\n".as_slice());
-    Ok(())
+    let run = run_from(&rt, list, &disk, Mode::Dump, 4, 8);
+    let want = "unit 0 a.c\ndep 0 a.c\nfault 6 0:1:1 a.c\n";
+    assert_ended(&rt, &run, want, list);
 }
 
 #[test]
-fn prints_nothing_without_units(rt: HostRuntime) -> Result<(), Fail> {
+fn prints_nothing_without_units(rt: HostRuntime) {
     let list =
         r#"{"date":"Feb  9 2024","time":"08:05:03","files":[{"name":"a.c","text":"/*"}],"units":[]}"#;
-    let mut reader = SliceFeed::new(list.as_bytes());
-    let mut writer = VecSink::new(rt.alloc());
-    let outcome = serve(&rt, rt.alloc(), &mut reader, &mut writer, Mode::Dump, 4, 8);
-    assert_eq!(rt; status(&outcome), 0);
-    assert!(rt; writer.bytes().is_empty());
-    Ok(())
+    assert_prints(&rt, list, "");
 }
+
+/// A list of one file whose name has so many bytes.
+fn long_named(alloc: Global, len: usize) -> Result<String, AllocError> {
+    let name = name_of(alloc, len)?;
+    format!(in alloc;
+        "{{\"date\":\"Feb  9 2024\",\"time\":\"08:05:03\",\"files\":[{{\"name\":\"{name}\",\"text\":\"\"}}],\"units\":[{{\"file\":\"{name}\"}}]}}"
+    )
+}
+
+/// The number by which a list was refused, or 0.
+fn refusal(outcome: &Result<bool, RunFault>) -> u8 {
+    match outcome {
+        Err(RunFault::List(number)) => *number,
+        _ => 0,
+    }
+}
+
+/// That a list is refused by this number, with nothing written.
+fn assert_refused<R: Threads + AllocGlobal + Abort + Sync>(rt: &R, list: &str, number: u8) {
+    let run = run_list(rt, list, Mode::Dump, 4, 8);
+    let found = refusal(&run.outcome);
+    assert!(rt; found == number, "{found} in place of {number} at {list}");
+    assert_same(rt, &status(&run.outcome), &3);
+    assert!(rt; run.writer.bytes().is_empty());
+}
+
+const REFUSED: [(&str, u8); 7] = [
+    (
+        r#"{"date":"Feb  9 2024","time":"08:05:03","files":[{"name":"b/../a.c","text":""}],"units":[{"file":"a.c"}]}"#,
+        3,
+    ),
+    (
+        r#"{"date":"Feb  9 2024","time":"08:05:03","files":[{"name":"a.c","text":""}],"units":[{"file":"a.c"}]"#,
+        1,
+    ),
+    (
+        r#"{"date":"Feb  9 2024","time":"24:00:00","files":[{"name":"a.c","text":""}],"units":[{"file":"a.c"}]}"#,
+        6,
+    ),
+    (
+        r#"{"profile":"c23","date":"Feb  9 2024","time":"08:05:03","files":[{"name":"a.c","text":""}],"units":[{"file":"a.c"}]}"#,
+        9,
+    ),
+    (
+        r#"{"budget":4294967296,"date":"Feb  9 2024","time":"08:05:03","files":[{"name":"a.c","text":""}],"units":[{"file":"a.c"}]}"#,
+        10,
+    ),
+    (
+        r#"{"budget":-1,"date":"Feb  9 2024","time":"24:00:00","files":[{"name":"a.c","text":""}],"units":[{"file":"a.c"}]}"#,
+        6,
+    ),
+    (
+        r#"{"budget":"5","date":"Feb  9 2024","time":"08:05:03","files":[{"name":"a//c","text":""}],"units":[{"file":"a.c"}]}"#,
+        2,
+    ),
+];
 
 #[test]
 fn refuses_by_the_least_number(rt: HostRuntime) -> Result<(), Fail> {
-    let arrays = format!(in rt.alloc();
-        "{}{}",
-        "[".repeat(rt.alloc(), 100)?,
-        "]".repeat(rt.alloc(), 100)?
-    )?;
-    let more_arrays = format!(in rt.alloc();
-        "{}{}",
-        "[".repeat(rt.alloc(), 200)?,
-        "]".repeat(rt.alloc(), 200)?
-    )?;
-    let name = "n".repeat(rt.alloc(), 1025)?;
-    let long_name = format!(in rt.alloc();
-        "{{\"date\":\"Feb  9 2024\",\"time\":\"08:05:03\",\"files\":[{{\"name\":\"{name}\",\"text\":\"\"}}],\"units\":[{{\"file\":\"{name}\"}}]}}"
-    )?;
-    let rows = [
-        (
-            r#"{"date":"Feb  9 2024","time":"08:05:03","files":[{"name":"b/../a.c","text":""}],"units":[{"file":"a.c"}]}"#,
-            3,
-        ),
-        (
-            r#"{"date":"Feb  9 2024","time":"08:05:03","files":[{"name":"a.c","text":""}],"units":[{"file":"a.c"}]"#,
-            1,
-        ),
-        (
-            r#"{"date":"Feb  9 2024","time":"24:00:00","files":[{"name":"a.c","text":""}],"units":[{"file":"a.c"}]}"#,
-            6,
-        ),
-        (
-            r#"{"profile":"c23","date":"Feb  9 2024","time":"08:05:03","files":[{"name":"a.c","text":""}],"units":[{"file":"a.c"}]}"#,
-            9,
-        ),
-        (arrays.as_str(), 2),
-        (more_arrays.as_str(), 1),
-        (long_name.as_str(), 3),
-    ];
-    for (list, want) in rows {
-        let mut reader = SliceFeed::new(list.as_bytes());
-        let mut writer = VecSink::new(rt.alloc());
-        let outcome = serve(&rt, rt.alloc(), &mut reader, &mut writer, Mode::Dump, 4, 8);
-        let Err(RunFault::List(number)) = &outcome else {
-            return Err(Fail::new("a list that was not refused"));
-        };
-        assert_eq!(rt; *number, want, "at {list}");
-        assert_eq!(rt; status(&outcome), 3);
-        assert!(rt; writer.bytes().is_empty());
+    for (list, number) in &REFUSED {
+        assert_refused(&rt, list, *number);
     }
+    let alloc = rt.alloc();
+    assert_refused(&rt, arrays(alloc, 100)?.as_str(), 2);
+    assert_refused(&rt, arrays(alloc, 200)?.as_str(), 1);
+    assert_refused(&rt, long_named(alloc, 1025)?.as_str(), 3);
     Ok(())
 }
 
-/// What a list of this profile prints of one file with this text.
+/// That a list of this profile prints this of one file with this text between the unit's name and its dependency, and then this last line.
 fn printed_by<R: Threads + AllocGlobal + Abort + Sync>(
     rt: &R,
     profile: &str,
     text: &str,
-    want: &str,
+    items: &str,
+    last: &str,
 ) -> Result<(), Fail> {
     let list = format!(in rt.alloc();
         "{{\"profile\":\"{profile}\",\"date\":\"Feb  9 2024\",\"time\":\"08:05:03\",\"files\":[{{\"name\":\"s.c\",\"text\":\"{text}\"}}],\"units\":[{{\"file\":\"s.c\"}}]}}"
     )?;
-    let mut reader = SliceFeed::new(list.as_bytes());
-    let mut writer = VecSink::new(rt.alloc());
-    let _outcome = serve(rt, rt.alloc(), &mut reader, &mut writer, Mode::Dump, 4, 8);
-    assert!(rt; writer.bytes() == want.as_bytes(), "at {profile} {text}");
+    let want = format!(in rt.alloc(); "unit 0 s.c\n{items}dep 0 s.c\n{last}")?;
+    assert_prints(rt, list.as_str(), want.as_str());
     Ok(())
 }
 
 #[test]
 fn prints_by_the_profile(rt: HostRuntime) -> Result<(), Fail> {
     let branch = "#if 0\\n#elifdef __STDC__\\n1\\n#endif\\n";
-    let dep = "dep 0 s.c\n";
-    let one = format!(in rt.alloc(); "unit 0 s.c\ntok 0:3:1 0:3:1 n+ 1\n{dep}ok\n")?;
-    printed_by(&rt, "later", branch, one.as_str())?;
-    let none = format!(in rt.alloc(); "unit 0 s.c\n{dep}ok\n")?;
-    printed_by(&rt, "c11", branch, none.as_str())?;
+    printed_by(&rt, "later", branch, "tok 0:3:1 0:3:1 n+ 1\n", "ok\n")?;
+    printed_by(&rt, "c11", branch, "", "ok\n")?;
     let once = "#pragma once\\nt\\n#include \\\"s.c\\\"\\n";
     let item = "prag 0:1:1\nptok 0:1:9 0:1:9 i+ once\ntok 0:2:1 0:2:1 i+ t\n";
-    let read_once = format!(in rt.alloc(); "unit 0 s.c\n{item}{dep}ok\n")?;
-    printed_by(&rt, "later", once, read_once.as_str())?;
+    printed_by(&rt, "later", once, item, "ok\n")?;
     let many = item.repeat(rt.alloc(), 201)?;
-    let too_deep = format!(in rt.alloc(); "unit 0 s.c\n{many}{dep}fault 32 0:3:1 s.c\n")?;
-    printed_by(&rt, "c11", once, too_deep.as_str())
+    printed_by(&rt, "c11", once, many.as_str(), "fault 32 0:3:1 s.c\n")
+}
+
+/// That a list with this budget prints this of a call within a call.
+fn printed_within<R: Threads + AllocGlobal + Abort + Sync>(
+    rt: &R,
+    budget: u64,
+    want: &str,
+) -> Result<(), Fail> {
+    let list = format!(in rt.alloc();
+        "{{\"budget\":{budget},\"date\":\"Feb  9 2024\",\"time\":\"08:05:03\",\"files\":[{{\"name\":\"a.c\",\"text\":\"#define f(a) a*g\\n#define g(a) f(a)\\nf(2)(9)\\n\"}}],\"units\":[{{\"file\":\"a.c\"}}]}}"
+    )?;
+    assert_prints(rt, list.as_str(), want);
+    Ok(())
+}
+
+#[test]
+fn prints_within_the_budget(rt: HostRuntime) -> Result<(), Fail> {
+    let whole =
+        "unit 0 a.c\ntok 0:3:3 0:3:1 n+ 2\ntok 0:1:15 0:3:1 p- *\ntok 0:3:6 0:3:1 n- 9\ntok 0:1:15 0:3:1 p- *\ntok 0:1:16 0:3:1 i- g\ndep 0 a.c\nok\n";
+    printed_within(&rt, 5, whole)?;
+    printed_within(&rt, 4, whole)?;
+    let short =
+        "unit 0 a.c\ntok 0:3:3 0:3:1 n+ 2\ntok 0:1:15 0:3:1 p- *\ndep 0 a.c\nfault 35 0:3:1\n";
+    printed_within(&rt, 3, short)?;
+    printed_within(&rt, 0, "unit 0 a.c\nfault 35 0:1:1\n")
 }
 
 #[test]
 fn prints_a_name_of_1024_bytes(rt: HostRuntime) -> Result<(), Fail> {
-    let name = "n".repeat(rt.alloc(), 1024)?;
-    let list = format!(in rt.alloc();
-        "{{\"date\":\"Feb  9 2024\",\"time\":\"08:05:03\",\"files\":[{{\"name\":\"{name}\",\"text\":\"\"}}],\"units\":[{{\"file\":\"{name}\"}}]}}"
-    )?;
+    let list = long_named(rt.alloc(), 1024)?;
+    let name = name_of(rt.alloc(), 1024)?;
     let want = format!(in rt.alloc(); "unit 0 {name}\ndep 0 {name}\nok\n")?;
-    let mut reader = SliceFeed::new(list.as_bytes());
-    let mut writer = VecSink::new(rt.alloc());
-    let outcome = serve(&rt, rt.alloc(), &mut reader, &mut writer, Mode::Dump, 4, 8);
-    assert_eq!(rt; status(&outcome), 0);
-    assert!(rt; writer.bytes() == want.as_bytes());
+    assert_prints(&rt, list.as_str(), want.as_str());
     Ok(())
 }
 
@@ -393,7 +476,7 @@ fn writes_nothing_after_a_failed_read(rt: HostRuntime) -> Result<(), Fail> {
     let mut writer = VecSink::new(rt.alloc());
     let outcome = serve(&rt, rt.alloc(), &mut reader, &mut writer, Mode::Dump, 4, 8);
     assert!(rt; matches!(outcome, Err(RunFault::Read)));
-    assert_eq!(rt; status(&outcome), 5);
+    assert_same(&rt, &status(&outcome), &5);
     assert!(rt; reader.failed());
     assert!(rt; !writer.failed());
     assert!(rt; writer.bytes().is_empty());
@@ -442,10 +525,10 @@ fn breaks_off_at_a_failed_write(rt: HostRuntime) -> Result<(), Fail> {
     };
     let outcome = serve(&rt, rt.alloc(), &mut reader, &mut writer, Mode::Dump, 4, 8);
     assert!(rt; matches!(outcome, Err(RunFault::Write)));
-    assert_eq!(rt; status(&outcome), 5);
+    assert_same(&rt, &status(&outcome), &5);
     assert!(rt; writer.failed());
     assert!(rt; !reader.failed());
-    assert_eq!(rt; writer.calls, 3);
+    assert_same(&rt, &writer.calls, &3);
     assert!(rt; writer.bytes.bytes() == b"unit 0 a.c".as_slice());
     Ok(())
 }
@@ -456,18 +539,24 @@ fn serves_over_a_reader_and_a_writer(rt: HostRuntime) -> Result<(), Fail> {
     let mut bytes = Vec::new(rt.alloc());
     let mut writer = WriterSink::new(&mut bytes);
     let outcome = serve(&rt, rt.alloc(), &mut reader, &mut writer, Mode::Dump, 4, 8);
-    assert_eq!(rt; status(&outcome), 0);
+    assert_same(&rt, &status(&outcome), &0);
     assert!(rt; bytes.as_slice() == EXAMPLE_OUTPUT.as_bytes());
     Ok(())
+}
+
+/// That the program says this of a run that failed.
+fn assert_says(rt: &impl Abort, fault: &RunFault, want: &str) {
+    assert_same(rt, &words(fault), &want);
 }
 
 #[test]
 fn says_what_failed(rt: HostRuntime) {
     for number in 1..=9 {
-        assert_eq!(rt; words(&RunFault::List(number)).len(), 25);
+        assert_same(&rt, &words(&RunFault::List(number)).len(), &25);
     }
-    assert!(rt; words(&RunFault::List(3)) == "cppunits: list refused L3");
-    assert!(rt; words(&RunFault::Memory) == "cppunits: out of memory");
-    assert!(rt; words(&RunFault::Read) == "cppunits: read failed");
-    assert!(rt; words(&RunFault::Write) == "cppunits: write failed");
+    assert_says(&rt, &RunFault::List(10), "cppunits: list refused L10");
+    assert_says(&rt, &RunFault::List(3), "cppunits: list refused L3");
+    assert_says(&rt, &RunFault::Memory, "cppunits: out of memory");
+    assert_says(&rt, &RunFault::Read, "cppunits: read failed");
+    assert_says(&rt, &RunFault::Write, "cppunits: write failed");
 }

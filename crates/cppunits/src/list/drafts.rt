@@ -139,10 +139,22 @@ impl DraftUnits {
     }
 }
 
+/// A list's budget as it stands.
+#[derive(Clone, Copy, Drop, Debug)]
+pub(super) enum DraftBudget {
+    /// The list has none.
+    Missing,
+    /// A whole number of 64 bits without a sign.
+    Whole(u64),
+    /// Another number: one below 0, a fraction, or one that is too large.
+    Other,
+}
+
 /// What all units share as it stands, with the text of the profile.
 #[derive(Drop, Debug)]
 pub(super) struct DraftSetting {
     pub(super) profile: Text,
+    pub(super) budget: DraftBudget,
     pub(super) date: Text,
     pub(super) time: Text,
     pub(super) search: Texts,
@@ -167,7 +179,9 @@ pub(super) fn draft_of(alloc: Global, value: &Value, inline: bool) -> Result<Dra
 {
     if !is_object_of(
         value,
-        &["profile", "date", "time", "search", "files", "units"],
+        &[
+            "profile", "budget", "date", "time", "search", "files", "units",
+        ],
     ) {
         return Err(ListFault::Bad(2));
     }
@@ -186,11 +200,13 @@ fn setting_of(alloc: Global, value: &Value) -> Result<DraftSetting, ListFault>
     ensures err { IfErr result (RefusedFor 2 (shape.draft_setting (view value.now) ≡ None)) }
 {
     let profile = profile_at(alloc, value)?;
+    let budget = budget_at(value)?;
     let date = text_at(alloc, value, "date")?;
     let time = text_at(alloc, value, "time")?;
     let search = texts_at(alloc, value, "search")?;
     Ok(DraftSetting {
         profile,
+        budget,
         date,
         time,
         search,
@@ -207,6 +223,23 @@ fn profile_at(alloc: Global, value: &Value) -> Result<Text, ListFault>
         None => "c11",
     };
     Ok(Text::new(String::from_str(alloc, text)?))
+}
+
+/// The budget, a number, or that it is missing.
+fn budget_at(value: &Value) -> Result<DraftBudget, ListFault>
+    ensures ok { IfOk result (λ b. shape.budget_at (view value.now) ≡ Some b) }
+    ensures err { IfErr result (RefusedFor 2 (shape.budget_at (view value.now) ≡ None)) }
+{
+    let Some(member) = value.get("budget") else {
+        return Ok(DraftBudget::Missing);
+    };
+    let Some(number) = member.as_number() else {
+        return Err(ListFault::Bad(2));
+    };
+    Ok(match number.as_u64() {
+        Some(whole) => DraftBudget::Whole(whole),
+        None => DraftBudget::Other,
+    })
 }
 
 fn text_of(value: &Value) -> Result<&str, ListFault>

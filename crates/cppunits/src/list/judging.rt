@@ -6,10 +6,12 @@ ghost use Rattle.ppshelf.specs.Names as shelf_spec;
 ghost use Rattle.ppunit.specs.Forms as form;
 ghost use Rattle.ppunit.specs.Unit.{command_text};
 ghost use Rattle.cppunits.specs.Listing as spec;
-ghost use Rattle.cppunits.specs.Listing.{RefusedFor, judged, accepted, refused};
+ghost use Rattle.cppunits.specs.Listing.{RefusedFor, judged, judged_texts, judged_choices, accepted, refused};
 ghost use Rattle.cppunits.specs.declared.list.ListFault.TheVariants.{Bad};
 
-use crate::list::drafts::{Draft, DraftFile, DraftFiles, DraftSetting, DraftUnit, DraftUnits};
+use crate::list::drafts::{
+    Draft, DraftBudget, DraftFile, DraftFiles, DraftSetting, DraftUnit, DraftUnits,
+};
 use crate::list::index::Index;
 use crate::list::{Contents, List, ListFault, Units};
 use ppshelf::{LONGEST, MOST_ROWS, is_folder, is_name};
@@ -17,12 +19,15 @@ use pptext::{Memory, Profile};
 use ppunit::{Definitions, Setting, Texts, Unit, fits_command, is_date, is_one_line, is_time};
 use std::alloc::{AllocError, Global};
 
+/// The most that a list may allow each unit.
+const MOST_BUDGET: u64 = 4_294_967_295;
+
 /// The list of a draft.
 ///
 /// # Errors
 ///
 /// `Bad` with the least number that applies: 3 for a name, 4 for a number or a size, 5 for the file of a unit, 6
-/// for the date or the time, 7 for a definition, 8 for a folder and 9 for the profile; and `Memory`.
+/// for the date or the time, 7 for a definition, 8 for a folder, 9 for the profile and 10 for the budget; and `Memory`.
 pub(super) fn judge(alloc: Global, draft: Draft, inline: bool) -> Result<List, ListFault>
     ensures ok { IfOk result (λ l. judged inline draft ≡ accepted l) }
     ensures bad { (n : ℕ) → IsErrOf result (Bad n) → judged inline draft ≡ refused n }
@@ -34,6 +39,16 @@ pub(super) fn judge(alloc: Global, draft: Draft, inline: bool) -> Result<List, L
     if !files_are_known(&index, draft.units.as_slice()) {
         return Err(ListFault::Bad(5));
     }
+    judge_texts(alloc, draft, &index, inline)
+}
+
+/// The same of a draft whose names, sizes and units' files hold: its date and time, definitions and folders.
+fn judge_texts(alloc: Global, draft: Draft, index: &Index, inline: bool) -> Result<List, ListFault>
+    requires names { index.now ≡ spec.names_of draft.files }
+    requires fits { spec.commands_fit draft.units ≡ true }
+    ensures ok { IfOk result (λ l. judged_texts inline draft ≡ accepted l) }
+    ensures bad { (n : ℕ) → IsErrOf result (Bad n) → judged_texts inline draft ≡ refused n }
+{
     if !times_hold(&draft.setting) {
         return Err(ListFault::Bad(6));
     }
@@ -43,10 +58,28 @@ pub(super) fn judge(alloc: Global, draft: Draft, inline: bool) -> Result<List, L
     if !folders_hold(&draft) {
         return Err(ListFault::Bad(8));
     }
+    judge_choices(alloc, draft, index, inline)
+}
+
+/// The same of a draft whose texts hold as well: its profile and its budget.
+fn judge_choices(
+    alloc: Global,
+    draft: Draft,
+    index: &Index,
+    inline: bool,
+) -> Result<List, ListFault>
+    requires names { index.now ≡ spec.names_of draft.files }
+    requires fits { spec.commands_fit draft.units ≡ true }
+    ensures ok { IfOk result (λ l. judged_choices inline draft ≡ accepted l) }
+    ensures bad { (n : ℕ) → IsErrOf result (Bad n) → judged_choices inline draft ≡ refused n }
+{
     let Some(profile) = profile_named(draft.setting.profile.as_str()) else {
         return Err(ListFault::Bad(9));
     };
-    Ok(listed(alloc, draft, &index, profile, inline)?)
+    if !is_budget(draft.setting.budget) {
+        return Err(ListFault::Bad(10));
+    }
+    Ok(listed(alloc, draft, index, profile, inline)?)
 }
 
 /// The places of the files' names.
@@ -113,6 +146,27 @@ fn profile_named(text: &str) -> Option<Profile>
     }
 }
 
+/// Whether a list may have this budget: none, or a whole number of at most 32 bits.
+fn is_budget(budget: DraftBudget) -> bool
+    ensures { result ≡ spec.is_budget budget }
+{
+    match budget {
+        DraftBudget::Missing => true,
+        DraftBudget::Whole(number) => number <= MOST_BUDGET,
+        DraftBudget::Other => false,
+    }
+}
+
+/// What the list allows each unit, if it says so.
+fn budget_of(budget: DraftBudget) -> Option<u64>
+    ensures { result ≡ spec.budget_of budget }
+{
+    match budget {
+        DraftBudget::Whole(number) => Some(number),
+        DraftBudget::Missing | DraftBudget::Other => None,
+    }
+}
+
 /// The list of a draft, whose names have these places. The definitions of its units are read by the profile.
 fn listed(
     alloc: Global,
@@ -147,6 +201,7 @@ fn listed_setting(draft: DraftSetting, profile: Profile) -> Setting
 {
     let DraftSetting {
         profile: _,
+        budget,
         date,
         time,
         search,
@@ -156,6 +211,7 @@ fn listed_setting(draft: DraftSetting, profile: Profile) -> Setting
         date,
         time,
         search,
+        budget: budget_of(budget),
     }
 }
 

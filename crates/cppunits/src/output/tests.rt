@@ -5,6 +5,7 @@ use super::{Mode, deps, dump, print};
 use crate::list::{Contents, List, Units};
 use crate::page::Page;
 use crate::streams::{Failed, Sink, VecSink};
+use crate::tests::assert_same;
 use pptext::{Fault, Place, Profile, Spelling};
 use ppunit::{Definitions, Items, Rows, Setting, Text, Texts, Unit, UnitOut, fits_command};
 use std::alloc::{AllocError, Global};
@@ -73,54 +74,79 @@ fn text_of(alloc: Global, text: &str) -> Result<Text, AllocError> {
 
 /// A unit of the second file.
 fn unit_of(alloc: Global) -> Result<Unit, Fail> {
-    let none = texts_of(alloc, &[])?;
+    let none = Texts::new(Vec::new(alloc));
     if !fits_command(none.as_slice()) {
         return Err(Fail::new("too long definitions"));
     }
     Ok(Unit {
         file: 1,
         defines: Definitions::read(alloc, none, Profile::C11)?,
-        search: texts_of(alloc, &[])?,
+        search: Texts::new(Vec::new(alloc)),
     })
 }
 
-/// A list of files with these names, and of so many units of the second file.
-fn list_of(alloc: Global, names: &[&str], count: usize) -> Result<List, Fail> {
+fn setting_of(alloc: Global) -> Result<Setting, AllocError> {
+    let date = text_of(alloc, "Feb  9 2024")?;
+    let time = text_of(alloc, "08:05:03")?;
+    Ok(Setting {
+        profile: Profile::C11,
+        date,
+        time,
+        search: Texts::new(Vec::new(alloc)),
+        budget: None,
+    })
+}
+
+/// So many units of the second file.
+fn units_of(alloc: Global, count: usize) -> Result<Units, Fail> {
     let mut units = Vec::new(alloc);
     for _ in 0..count {
         units.push(unit_of(alloc)?)?;
     }
+    Ok(Units::new(units))
+}
+
+/// A list of files with these names, and of so many units of the second file.
+fn list_of(alloc: Global, names: &[&str], count: usize) -> Result<List, Fail> {
+    let units = units_of(alloc, count)?;
+    let names = texts_of(alloc, names)?;
     Ok(List {
-        setting: Setting {
-            profile: Profile::C11,
-            date: text_of(alloc, "Feb  9 2024")?,
-            time: text_of(alloc, "08:05:03")?,
-            search: texts_of(alloc, &[])?,
-        },
-        names: texts_of(alloc, names)?,
+        setting: setting_of(alloc)?,
+        names,
         contents: Contents::new(Vec::new(alloc)),
-        units: Units::new(units),
+        units,
     })
 }
 
-/// A unit without items that depends on the second file and the first, with a fault.
-fn out_of<'a>(alloc: Global) -> Result<UnitOut<'a>, AllocError> {
-    let mut deps = Rows::new(alloc);
-    deps.join(1)?;
-    deps.join(0)?;
+/// The second row and the first.
+fn rows_of(alloc: Global) -> Result<Rows, AllocError> {
+    let mut rows = Rows::new(alloc);
+    rows.join(1)?;
+    rows.join(0)?;
+    Ok(rows)
+}
+
+fn fault_of(alloc: Global) -> Result<Fault, AllocError> {
     let at = Place {
         file: 1,
         line: 20,
         col: 300,
     };
+    Ok(Fault {
+        number: 9,
+        at,
+        text: Spelling::from_slice(alloc, b"a%")?,
+    })
+}
+
+/// A unit without items that depends on the second file and the first, with a fault.
+fn out_of<'a>(alloc: Global) -> Result<UnitOut<'a>, AllocError> {
+    let fault = fault_of(alloc)?;
+    let deps = rows_of(alloc)?;
     Ok(UnitOut {
         items: Items::new(alloc),
         deps,
-        fault: Some(Fault {
-            number: 9,
-            at,
-            text: Spelling::from_slice(alloc, b"a%")?,
-        }),
+        fault: Some(fault),
     })
 }
 
@@ -132,20 +158,32 @@ fn outs_of<'a>(alloc: Global, count: usize) -> Result<Vec<UnitOut<'a>>, AllocErr
     Ok(outs)
 }
 
+/// What a list of two units gives, as a text.
+fn dumped(alloc: Global, list: &List) -> Result<Vec<u8>, Fail> {
+    let outs = outs_of(alloc, 2)?;
+    if list.units.as_slice().len() != outs.len() {
+        return Err(Fail::new("units without an outcome"));
+    }
+    Ok(dump(alloc, list, outs.as_slice())?)
+}
+
+/// The same without the items.
+fn dependencies(alloc: Global, list: &List) -> Result<Vec<u8>, Fail> {
+    let outs = outs_of(alloc, 2)?;
+    if list.units.as_slice().len() != outs.len() {
+        return Err(Fail::new("units without an outcome"));
+    }
+    Ok(deps(alloc, list, outs.as_slice())?)
+}
+
 #[test]
 fn dumps_units(rt: HostRuntime) -> Result<(), Fail> {
     let list = list_of(rt.alloc(), &["a b.h", "c.c"], 2)?;
-    let outs = outs_of(rt.alloc(), 2)?;
-    let units = list.units.as_slice();
-    if units.len() != outs.len() {
-        return Err(Fail::new("units without an outcome"));
-    }
-    let text = dump(rt.alloc(), &list, outs.as_slice())?;
     let want =
         "unit 0 c.c\ndep 1 c.c\ndep 0 a b.h\nfault 9 1:20:300 a%25\nunit 1 c.c\ndep 1 c.c\ndep 0 a b.h\nfault 9 1:20:300 a%25\n";
-    assert!(rt; text.as_slice() == want.as_bytes());
+    assert!(rt; dumped(rt.alloc(), &list)?.as_slice() == want.as_bytes());
     // they have no items
-    assert!(rt; deps(rt.alloc(), &list, outs.as_slice())?.as_slice() == want.as_bytes());
+    assert!(rt; dependencies(rt.alloc(), &list)?.as_slice() == want.as_bytes());
     Ok(())
 }
 
@@ -155,60 +193,73 @@ fn long_list(alloc: Global) -> Result<List, Fail> {
     list_of(alloc, &["a.h", name.as_str()], 2)
 }
 
-/// Prints the list to a writer that fails, and says whether all went out. What did is a beginning of the whole, and no write comes after one that failed.
-fn prints<R: AllocGlobal + Abort>(
-    rt: &R,
+/// A writer to which a list was printed, and whether all went out.
+#[derive(Drop)]
+struct Sent {
+    writer: Short,
+    all: bool,
+}
+
+fn send(
+    alloc: Global,
     list: &List,
-    whole: &[u8],
+    outs: &[UnitOut],
     most: usize,
     fails_at: usize,
-) -> Result<bool, Fail> {
-    let outs = outs_of(rt.alloc(), 2)?;
+) -> Result<Sent, Fail> {
     let units = list.units.as_slice();
     if units.len() != outs.len() {
         return Err(Fail::new("units without an outcome"));
     }
-    let mut page = Page::new(rt.alloc())?;
-    let mut writer = Short::new(rt.alloc(), most, fails_at);
-    let outcome = print(
-        &mut page,
-        &mut writer,
-        Mode::Dump,
-        &list.names,
-        units,
-        outs.as_slice(),
-    );
+    let mut page = Page::new(alloc)?;
+    let mut writer = Short::new(alloc, most, fails_at);
+    let outcome = print(&mut page, &mut writer, Mode::Dump, &list.names, units, outs);
+    Ok(Sent {
+        writer,
+        all: outcome.is_ok(),
+    })
+}
+
+/// That what went out is a beginning of the whole, and that no write came after one that failed.
+fn assert_beginning(rt: &impl Abort, sent: &Sent, whole: &[u8]) {
+    let (writer, fails_at) = (&sent.writer, sent.writer.fails_at);
     let went = writer.bytes.bytes();
     assert!(rt; whole.starts_with(went), "at call {fails_at}");
-    assert_eq!(rt;
-        outcome.is_ok(),
-        went.len() == whole.len(),
-        "at call {fails_at}"
-    );
-    assert_eq!(rt;
-        outcome.is_ok(),
-        writer.calls < fails_at,
-        "at call {fails_at}"
-    );
+    assert_same(rt, &sent.all, &(went.len() == whole.len()));
+    assert_same(rt, &sent.all, &(writer.calls < fails_at));
     assert!(rt; writer.calls <= fails_at, "at call {fails_at}");
-    Ok(outcome.is_ok())
+}
+
+/// Prints the list to a writer that fails at this call. What went out is a beginning of the whole, and all of it went out or not, as told.
+fn assert_sent(
+    rt: &impl Abort,
+    alloc: Global,
+    list: &List,
+    whole: &[u8],
+    most: usize,
+    fails_at: usize,
+    all: bool,
+) -> Result<(), Fail> {
+    let outs = outs_of(alloc, 2)?;
+    let sent = send(alloc, list, outs.as_slice(), most, fails_at)?;
+    assert_beginning(rt, &sent, whole);
+    assert!(rt; sent.all == all, "at call {fails_at}");
+    Ok(())
 }
 
 #[test]
 fn breaks_off_at_each_write(rt: HostRuntime) -> Result<(), Fail> {
-    let list = long_list(rt.alloc())?;
-    let outs = outs_of(rt.alloc(), 2)?;
-    if list.units.as_slice().len() != outs.len() {
-        return Err(Fail::new("units without an outcome"));
-    }
-    let whole = dump(rt.alloc(), &list, outs.as_slice())?;
-    assert_eq!(rt; whole.len(), 160_094);
+    let alloc = rt.alloc();
+    let list = long_list(alloc)?;
+    let whole = dumped(alloc, &list)?;
+    let bytes = whole.as_slice();
+    assert_same(&rt, &bytes.len(), &160_094);
     for fails_at in 1..=9 {
-        assert!(rt; !prints(&rt, &list, whole.as_slice(), 20_000, fails_at)?);
+        assert_sent(&rt, alloc, &list, bytes, 20_000, fails_at, false)?;
     }
-    assert!(rt; prints(&rt, &list, whole.as_slice(), 20_000, 100)?);
-    assert!(rt; prints(&rt, &list, whole.as_slice(), 1_000_000, 100)?);
-    assert!(rt; prints(&rt, &list, whole.as_slice(), 7, 100_000)?);
+    assert_sent(&rt, alloc, &list, bytes, 20_000, 100, true)?;
+    assert_sent(&rt, alloc, &list, bytes, 1_000_000, 100, true)?;
+    assert_sent(&rt, alloc, &list, bytes, 7, 100_000, true)?;
     Ok(())
 }
 
@@ -218,12 +269,12 @@ fn puts_more_than_a_page_holds(rt: HostRuntime) -> Result<(), Fail> {
     let mut page = Page::new(rt.alloc())?;
     let mut writer = Short::new(rt.alloc(), 1_000_000, 100);
     page.put(&mut writer, b"ab");
-    assert_eq!(rt; writer.calls, 0);
+    assert_same(&rt, &writer.calls, &0);
     page.put(&mut writer, long.as_bytes());
-    assert_eq!(rt; writer.calls, 2);
+    assert_same(&rt, &writer.calls, &2);
     page.put(&mut writer, b"c");
-    assert_eq!(rt; writer.bytes.bytes().len(), 65_539);
+    assert_same(&rt, &writer.bytes.bytes().len(), &65_539);
     page.send(&mut writer);
-    assert_eq!(rt; writer.bytes.bytes().len(), 65_540);
+    assert_same(&rt, &writer.bytes.bytes().len(), &65_540);
     Ok(())
 }
