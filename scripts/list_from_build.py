@@ -1,5 +1,6 @@
 #!/usr/bin/env python3
 """Turns a compile_commands.json, as CMake, Meson, Bear and ninja write it, into a list for cppunits."""
+import argparse
 import os
 import re
 import shlex
@@ -20,7 +21,7 @@ The folders and macros that a compiler has by itself are no part of a build's co
 --define.  Names are relative to the root: --root, or the deepest folder that holds all files and folders.
 
 What can't be expressed is said on standard error, a line each; the last line there counts it."""
-MOST_NAMES, MOST_INPUT, MOST_FILE, MOST_NAME = 65535, 268435456, 16777216, 1024
+MOST_NAMES, MOST_INPUT, MOST_FILE, MOST_NAME, MOST_BUDGET = 65535, 268435456, 16777216, 1024, 4294967295
 PREDEFINED = {"__FILE__", "__LINE__", "__DATE__", "__TIME__", "__STDC__", "__STDC_HOSTED__", "__STDC_VERSION__"}
 NEVER = PREDEFINED | {"defined", "__VA_ARGS__"}
 MONTHS = "Jan Feb Mar Apr May Jun Jul Aug Sep Oct Nov Dec".split()
@@ -425,7 +426,8 @@ def list_of(asked, rows, pairs):
     """The list; folders that all units share stand once."""
     units = [unit for _, unit in pairs]
     date, clock = now()
-    whole = {"date": asked.date or date, "time": asked.time or clock, "search": [], "files": rows, "units": units}
+    budget = {} if asked.budget is None else {"budget": asked.budget}
+    whole = {**budget, "date": asked.date or date, "time": asked.time or clock, "search": [], "files": rows, "units": units}
     if units and all(unit["search"] == units[0]["search"] for unit in units):
         whole["search"] = units[0]["search"]
         whole["units"] = [{k: v for k, v in unit.items() if k != "search"} for unit in units]
@@ -438,6 +440,13 @@ def write_targets(path, pairs):
         for command, _ in pairs:
             target = command.output or ""
             file.write(os.fsencode("" if "\n" in target else target) + b"\n")
+
+
+def budget(word):
+    number = int(word) if word.isdecimal() else -1
+    if not 0 <= number <= MOST_BUDGET:
+        raise argparse.ArgumentTypeError("a number from 0 to %d is wanted" % MOST_BUDGET)
+    return number
 
 
 def options():
@@ -454,6 +463,8 @@ def options():
                        help="a definition for each unit, as it stands behind #define (may be repeated)")
     asked.add_argument("--date", metavar="TEXT", help="as 'Feb  9 2024' (default: SOURCE_DATE_EPOCH, or today)")
     asked.add_argument("--time", metavar="TEXT", help="as 08:05:03 (default: SOURCE_DATE_EPOCH, or now)")
+    asked.add_argument("--budget", metavar="N", type=budget,
+                       help="how many replacements and openings each unit may make (default: any number)")
     asked.add_argument("--targets", metavar="FILE", help="write what each unit is compiled to, a line each, for depfile.py")
     asked.add_argument("--missing", action="store_true", help="print the names of headers that no folder has")
     return asked.parse_args()

@@ -69,9 +69,19 @@ class Results(unittest.TextTestResult):
         return len(self.failures) + len(self.errors) + len(self.unexpectedSuccesses)
 
 
+STATUS = """status:
+  0  each test passed, or was missed
+  1  one failed, or the program isn't there
+  2  the command line isn't right
+"""
+
+
 def main():
     """Runs the tests of the file that calls this, and prints what was missed and the counts."""
     words = sys.argv[1:]
+    if words in (["--help"], ["-h"]):
+        print(sys.modules["__main__"].__doc__.strip() + "\n\n" + STATUS, end="")
+        sys.exit(0)
     if words and os.path.isfile(words[0]):
         os.environ["CPPUNITS"] = os.path.abspath(words.pop(0))
     if not os.access(program(), os.X_OK):

@@ -13,7 +13,7 @@ import shlex
 import tempfile
 import unittest
 
-from counted import cppunits, main, missed, script, well
+from counted import LIST, cppunits, main, missed, script, well
 
 PROJECT = {
     "app/main.c": """#include "low.h"
@@ -278,6 +278,16 @@ class Commands(Folder):
         _, listed, _ = self.unit("cc -c a.c", env=environment)
         self.assertEqual((listed["date"], listed["time"]), ("Feb  9 2024", "08:05:03"))
 
+    def test_a_budget(self):
+        files = {"a.c": "#define F(x) x\nF(1) F(2)\n"}
+        self.assertNotIn("budget", self.unit("cc -c a.c", files, ["--inline"])[1])
+        for budget, status in (2, 1), (3, 0), (4294967295, 0):
+            _, listed, _ = self.unit("cc -c a.c", files, ["--inline", "--budget", str(budget)])
+            self.assertEqual(listed["budget"], budget)
+            self.assertEqual(cppunits("dump", input=json.dumps(listed).encode()).returncode, status)
+        for word in ("-1", "4294967296", "1.0", "x", ""):
+            self.assertEqual(script("list_from_build.py", "--budget", word).returncode, 2)
+
     def test_too_many_names(self):
         write(self.root, {"a.c": "#include X\n", "inc/0.h": ""})
         for number in range(1, 65535):
@@ -299,6 +309,58 @@ class Commands(Folder):
             self.assertEqual((done.returncode, done.stderr.count(b"\n")), (status, 1), text)
         self.assertEqual(script("list_from_build.py", os.path.join(self.top, "none.json")).returncode, 5)
         self.assertEqual(script("list_from_build.py", "--none").returncode, 2)
+
+
+class Budgets(unittest.TestCase):
+    """Lists with a budget."""
+    FILES = [{"name": "a.c", "text": '#include "h.h"\n#include "h.h"\n#if X == 1\nf(2)(9) X\n#endif\n#error f(1)\n'},
+             {"name": "h.h", "text": "#ifndef H\n#define H\n#define f(a) a*g\n#define g(a) f(a)\n#define X 1\n#endif\n"}]
+
+    def printed(self, budget, **more):
+        """What is printed of a list whose budget is this JSON text."""
+        whole = json.dumps({**LIST, "files": self.FILES, "units": [{"file": "a.c"}, {"file": "h.h"}], **more})
+        return cppunits("dump", input=('{"budget":%s,%s' % (budget, whole[1:])).encode())
+
+    def test_refusals(self):
+        for budget, number in [("-1", 10), ("4294967296", 10), ("18446744073709551616", 10), ("1.5", 10), ("1.0", 10), ("1e3", 10),
+                               ("-0", 10), ('"5"', 2), ("null", 2), ("true", 2), ("[5]", 2), ("{}", 2), ("05", 1), ("1e999", 1)]:
+            done = self.printed(budget)
+            said = b"cppunits: list refused L%d\n" % number
+            self.assertEqual((done.stdout, done.stderr, done.returncode), (b"", said, 3), budget)
+
+    def test_the_least_number_is_said(self):
+        for number, more in (9, {"profile": "c23"}), (8, {"search": ["/"]}), (6, {"date": ""}), (3, {"files": self.FILES[:1] * 2}):
+            self.assertEqual(self.printed("-1", **more).stderr, b"cppunits: list refused L%d\n" % number)
+
+    def test_each_budget_gives_a_beginning(self):
+        without = cppunits("dump", input=json.dumps({**LIST, "files": self.FILES, "units": [{"file": "a.c"}, {"file": "h.h"}]}).encode())
+        wholes = parts(without.stdout)
+        # three files are opened for a.c, X is replaced twice, and f, g and f once each
+        for budget in range(10):
+            found = parts(self.printed(str(budget)).stdout)
+            for whole, one, count in zip(wholes, found, (8, 1)):
+                with self.subTest(budget=budget, unit=one[0]):
+                    for lines, front in zip(whole[1:3], one[1:3]):
+                        self.assertEqual(lines[:len(front)], front)
+                    if count <= budget:
+                        self.assertEqual(one, whole)
+                    else:
+                        self.assertTrue(one[3].startswith("fault 35 "), one[3])
+        self.assertEqual(parts(self.printed("4294967295").stdout), wholes)
+
+
+def parts(printed):
+    """Each unit of an output: its first line, its items, its dependencies and its last line."""
+    found = []
+    for line in printed.decode().splitlines():
+        word = line.split(" ", 1)[0]
+        if word == "unit":
+            found.append([line, [], [], None])
+        elif word in ("ok", "fault"):
+            found[-1][3] = line
+        else:
+            found[-1][2 if word == "dep" else 1].append(line)
+    return found
 
 
 if __name__ == "__main__":

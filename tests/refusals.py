@@ -1,4 +1,4 @@
-"""Runs of a program with one request for memory refused, for refused_memory.py and refused_in_tests.py."""
+"""Runs of a program with one request for memory refused, or all from one on, for refused_memory.py and refused_in_tests.py."""
 import contextlib
 import os
 import subprocess
@@ -17,10 +17,12 @@ def refusing_malloc():
         yield library
 
 
-def run(command, malloc, call, data=None):
-    """The run in which this request is refused, and whether it met the refusal."""
+def run(command, malloc, call, data=None, on=False):
+    """The run in which this request is refused, and with `on` all behind it, and whether it met the refusal."""
     told, tells = os.pipe()
     environment = dict(os.environ, LD_PRELOAD=malloc, REFUSED_CALL=str(call), REFUSAL_FD=str(tells))
+    if on:
+        environment["REFUSED_ON"] = "1"
     try:
         done = subprocess.run(command, input=data, capture_output=True, env=environment, pass_fds=(tells,), timeout=60)
     finally:
@@ -30,10 +32,10 @@ def run(command, malloc, call, data=None):
     return done, met
 
 
-def runs(command, malloc, data=None):
+def runs(command, malloc, data=None, on=False):
     """The runs with the 1st, 2nd, 3rd .. request refused, each with its number, up to the first that meets no refusal."""
     for call in range(1, MOST_RUNS):
-        done, met = run(command, malloc, call, data)
+        done, met = run(command, malloc, call, data, on)
         yield call, done, met
         if not met:
             return

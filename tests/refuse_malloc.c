@@ -1,5 +1,6 @@
-/* A preloaded malloc that refuses one request for memory: the one whose number, from 1, is in REFUSED_CALL.
- * When it refuses, it writes one byte to the descriptor REFUSAL_FD, so that the caller knows that this run met it.
+/* A preloaded malloc that refuses one request for memory: the one whose number, from 1, is in REFUSED_CALL; and all behind it
+ * where REFUSED_ON is there.
+ * When it first refuses, it writes one byte to the descriptor REFUSAL_FD, so that the caller knows that this run met it.
  * Built and used by refusals.py alone; it is no part of the program. */
 #include <errno.h>
 #include <stddef.h>
@@ -16,10 +17,12 @@ static _Atomic long calls;
 static int refused(void) {
     const char *wanted = getenv("REFUSED_CALL");
     const char *told = getenv("REFUSAL_FD");
-    if (wanted == NULL || ++calls != atol(wanted)) {
+    long first = wanted == NULL ? 0 : atol(wanted);
+    long call = ++calls;
+    if (first == 0 || call < first || (call > first && getenv("REFUSED_ON") == NULL)) {
         return 0;
     }
-    if (told != NULL && write(atoi(told), "x", 1) != 1) {
+    if (call == first && told != NULL && write(atoi(told), "x", 1) != 1) {
         _exit(99);
     }
     errno = ENOMEM;

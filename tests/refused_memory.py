@@ -1,13 +1,17 @@
 #!/usr/bin/env python3
-"""Refuses each request for memory of the built program in turn.
+"""Refuses each request for memory of the built program in turn, alone and with all behind it.
 
     tests/refused_memory.py [PROGRAM]
 
 PROGRAM is by default crates/cppunits/out/cppunits, which `rt ci` and `rt run` leave behind.  For each list below the
-program runs, with one worker and with four, with its 1st, 2nd, 3rd .. request refused, until a run meets no refusal.
-Each run must end with status 4, nothing on standard output and `cppunits: out of memory` on standard error, or with
-the answer of the run that meets no refusal.  The gate cannot refuse memory to the built program, so this is no part of
-it.
+program runs, with one worker and with four, with its 1st, 2nd, 3rd .. request refused, and with all refused from that
+one on, until a run meets no refusal.  Each run must end with status 4, nothing on standard output and `cppunits: out of
+memory` on standard error, or with the answer of the run that meets no refusal.  The gate cannot refuse memory to the
+built program, so this is no part of it.
+
+status:
+  0  each run ended so
+  1  one didn't
 """
 import os
 import sys
@@ -57,16 +61,21 @@ def outcome(done):
 
 def problems(command, data, malloc):
     answer = outcome(run(command, malloc, 0, data)[0])
-    requests = 0
-    for call, done, met in runs(command, malloc, data):
-        found = outcome(done)
-        if found not in (OUT_OF_MEMORY, answer):
-            yield "request %d refused: status %d, output %r, words %r" % (call, found[2], found[0][:200], found[1][:200])
-        requests += met
-    print("  %d requests" % requests)
+    for on in False, True:
+        requests = 0
+        for call, done, met in runs(command, malloc, data, on):
+            found = outcome(done)
+            if found not in (OUT_OF_MEMORY, answer):
+                which = "all from request %d on" % call if on else "request %d" % call
+                yield "%s refused: status %d, output %r, words %r" % (which, found[2], found[0][:200], found[1][:200])
+            requests += met
+        print("  %d requests, %s" % (requests, "each with all behind it" if on else "each alone"))
 
 
 def main(words):
+    if words in (["--help"], ["-h"]):
+        print(__doc__.strip())
+        return 0
     program = os.path.abspath(words[0] if words else PROGRAM)
     with refusing_malloc() as malloc:
         return tally(

@@ -259,12 +259,13 @@ class Table(Folder):
 
 
 class Shards(Folder):
-    def make(self, count, parts, fault=False):
+    def make(self, count, parts, fault=False, **setting):
         last = {5: "#error\n"} if fault else {}
         files = {"u%d.c" % n: '#include "h.h"\nint u%d = X;\n%s' % (n, last.get(n, "")) for n in range(count)}
         files["h.h"] = "#ifndef H\n#define H\nint h = X;\n#endif\n"
         units = [{"file": "u%d.c" % n, "define": ["X %d" % n]} for n in range(count)]
-        write(self.top, {"list.json": listed(files, units) if units else json.dumps(dict(LIST, files=[], units=[]))})
+        whole = json.loads(listed(files, units)) if units else dict(LIST, files=[], units=[])
+        write(self.top, {"list.json": json.dumps({**whole, **setting})})
         done = script("shards.py", "cut", str(parts), "list.json", cwd=self.top)
         self.assertEqual((done.returncode, done.stdout, done.stderr), (0, b"", b""))
         names = sorted(os.listdir(self.path("shards")))
@@ -305,8 +306,17 @@ class Shards(Folder):
                 outputs.append(part + ".out")
             self.compare(outputs, 0)
 
+    def test_each_unit_has_the_budget_in_every_part(self):
+        for budget, status in (3, 1), (4, 0):
+            shutil.rmtree(self.path("shards"), ignore_errors=True)
+            outputs = []
+            for part in self.make(5, 2, budget=budget):
+                write(self.top, {part + ".out": cppunits("dump", input=read(self.top, part)).stdout})
+                outputs.append(part + ".out")
+            self.compare(outputs, status)
+
     def test_parts_hold_the_same_files_and_setting(self):
-        for part in self.make(7, 3):
+        for part in self.make(7, 3, profile="later", budget=9):
             whole, one = json.loads(read(self.top, "list.json")), json.loads(read(self.top, part))
             self.assertEqual({**whole, "units": 0}, {**one, "units": 0})
 

@@ -1,0 +1,174 @@
+#!/usr/bin/env python3
+"""Shows whether the cost of cppunits grows as its work does.
+
+    bench/growth.py [PROGRAM] [--shapes NAME ..] [--quick] [--runs N]
+
+PROGRAM is by default crates/cppunits/out/cppunits, which `rt ci` and `rt run` leave behind.  Each shape of shapes.py is made
+at three sizes, each twice the one before, and run by `cppunits --workers 1 dump` and, where there is one text,
+`gcc -E -std=c11 -pedantic-errors -x c`, both with their output thrown away.  Printed are the processor seconds and the most
+memory, each with the factor to the size before, for both programs: for cppunits the least of N runs (2 by default), for gcc
+those of one run.  A run is stopped that takes 30 seconds of the processor or 8 GB; gcc's are `-` where it doesn't end by itself.
+
+A shape falls short where time or memory grows more than 2.3 times a doubling, where memory passes 80 bytes a token (a line,
+where there are no tokens) of the shapes that count them, and where the status isn't the one that is due.  Less than 0.05
+seconds and 32 MB count as these.  --shapes runs those whose name begins so; --quick takes smaller sizes, mostly a quarter.
+
+status:
+  0  no shape fell short
+  1  one did, and is named
+  2  the command line, or the program, isn't right
+"""
+import argparse
+import os
+import resource
+import signal
+import subprocess
+import sys
+import tempfile
+from dataclasses import dataclass
+
+from measure import MEGABYTE, PROGRAM, apart
+from shapes import SHAPES
+
+MOST_GROWTH = 2.3
+LEAST_SECONDS, LEAST_MEMORY = 0.05, 32 * MEGABYTE
+BYTES_A_THING = 80
+MOST_SECONDS, MOST_MEMORY = 30, 8_000 * MEGABYTE
+# so long a run needs no second; shorter ones that seem to grow too fast are measured so often again
+LONG_SECONDS, AGAIN = 4, 3
+GCC = ["gcc", "-E", "-std=c11", "-pedantic-errors", "-x", "c", "-"]
+HEADING = ("shape", "size", "seconds", "factor", "MB", "factor", "gcc: seconds", "factor", "MB", "factor")
+NOTHING = ("-", "", "", "")
+FORM = "%-29s %10s %8s %6s %8s %6s  %12s %6s %8s %6s"
+
+
+@dataclass
+class Cost:
+    seconds: float
+    memory: int
+    status: int
+
+    def least(self, other):
+        return Cost(min(self.seconds, other.seconds), min(self.memory, other.memory), self.status)
+
+
+def bounded():
+    resource.setrlimit(resource.RLIMIT_CPU, (MOST_SECONDS, MOST_SECONDS + 1))
+    resource.setrlimit(resource.RLIMIT_AS, (MOST_MEMORY, MOST_MEMORY))
+
+
+def run(command, path):
+    with open(path, "rb") as source:
+        child = subprocess.Popen(command, stdin=source, stdout=subprocess.DEVNULL, stderr=subprocess.DEVNULL, preexec_fn=bounded)
+        _, status, usage = os.wait4(child.pid, 0)
+        child.returncode = os.waitstatus_to_exitcode(status)
+    return Cost(usage.ru_utime + usage.ru_stime, usage.ru_maxrss * 1024, child.returncode)
+
+
+def best(command, path, runs):
+    cost = run(command, path)
+    for _ in range(runs - 1):
+        if cost.seconds < LONG_SECONDS:
+            cost = cost.least(run(command, path))
+    return cost
+
+
+def grown(before, after, least):
+    return max(after, least) / max(before, least)
+
+
+def factors(costs):
+    """How many times the time and the memory of each size's run are those of the size before."""
+    pairs = zip(costs, costs[1:])
+    return [(grown(a.seconds, b.seconds, LEAST_SECONDS), grown(a.memory, b.memory, LEAST_MEMORY)) for a, b in pairs]
+
+
+def write_texts(shape, sizes, folder):
+    for size in sizes:
+        with open(os.path.join(folder, "%d.json" % size), "wb") as file:
+            file.write(shape.list_of(size))
+        if shape.text:
+            with open(os.path.join(folder, "%d.c" % size), "w") as file:
+                file.write(shape.text(size))
+
+
+def seems_fast(costs):
+    """Whether something grew too much in runs so short that other programs may have been in the way."""
+    return costs[-1].seconds < LONG_SECONDS and max(factor for pair in factors(costs) for factor in pair) > MOST_GROWTH
+
+
+def measured(command, paths, runs):
+    """The costs of the sizes, up to one that is stopped."""
+    costs = []
+    for path in paths:
+        costs.append(best(command, path, runs))
+        if costs[-1].status < 0:
+            return costs
+    for _ in range(AGAIN):
+        if seems_fast(costs):
+            costs = [cost.least(best(command, path, runs)) for cost, path in zip(costs, paths)]
+    return costs
+
+
+def cells(costs):
+    """Seconds, factor, memory and factor of each size, as they are printed."""
+    grows = [("", "")] + [("%.2f" % time, "%.2f" % memory) for time, memory in factors(costs)]
+    return [("%.3f" % cost.seconds, time, "%.1f" % (cost.memory / MEGABYTE), memory) for cost, (time, memory) in zip(costs, grows)]
+
+
+def shortfalls(shape, sizes, costs):
+    for size, cost in zip(sizes, costs):
+        if cost.status < 0:
+            yield "stopped at %d, by %s" % (size, signal.Signals(-cost.status).name)
+        elif cost.status != shape.status:
+            yield "status %d in place of %d at %d" % (cost.status, shape.status, size)
+    for size, (time, memory) in zip(sizes[1:], factors(costs)):
+        if time > MOST_GROWTH:
+            yield "%.2f times the time at %d, twice the size before" % (time, size)
+        if memory > MOST_GROWTH:
+            yield "%.2f times the memory at %d, twice the size before" % (memory, size)
+    if shape.things and len(costs) == len(sizes):
+        each = costs[-1].memory / shape.things(sizes[-1])
+        if each > BYTES_A_THING:
+            yield "%.0f bytes of memory a token or line at %d" % (each, sizes[-1])
+
+
+def compared(program, shape, sizes, runs):
+    """Prints a shape's rows, and gives what falls short in it."""
+    with tempfile.TemporaryDirectory() as folder:
+        apart(write_texts, shape, sizes, folder)
+        paths = [os.path.join(folder, "%d" % size) for size in sizes]
+        own = measured([program, "--workers", "1", "dump"], [path + ".json" for path in paths], runs)
+        other = [NOTHING] * len(sizes)
+        if shape.text:
+            found = [run(GCC, path + ".c") for path in paths]
+            other = [cell if cost.status in (0, 1) else NOTHING for cost, cell in zip(found, cells(found))]
+    for size, cell, gcc in zip(sizes, cells(own), other):
+        print(FORM % (shape.name, "{:,}".format(size), *cell, *gcc), flush=True)
+    return ["%s: %s" % (shape.name, problem) for problem in shortfalls(shape, sizes, own)]
+
+
+def main():
+    parser = argparse.ArgumentParser(description=__doc__, formatter_class=argparse.RawDescriptionHelpFormatter)
+    parser.add_argument("program", nargs="?", default=PROGRAM)
+    parser.add_argument("--shapes", nargs="+", default=[""], metavar="NAME")
+    parser.add_argument("--quick", action="store_true")
+    parser.add_argument("--runs", type=int, default=2)
+    asked = parser.parse_args()
+    program = os.path.abspath(asked.program)
+    chosen = [shape for shape in SHAPES if shape.name.startswith(tuple(asked.shapes))]
+    if not os.access(program, os.X_OK) or not chosen or asked.runs < 1:
+        parser.error("%s isn't there, no shape begins so, or no run is asked for" % program)
+    print(FORM % HEADING)
+    short = [compared(program, shape, [size // (shape.quick if asked.quick else 1) for size in shape.sizes], asked.runs)
+             for shape in chosen]
+    for problems in short:
+        for problem in problems:
+            print("falls short: " + problem)
+    failed = sum(map(bool, short))
+    print("%d passed, %d failed" % (len(chosen) - failed, failed))
+    return 1 if failed else 0
+
+
+if __name__ == "__main__":
+    sys.exit(main())

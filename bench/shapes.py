@@ -1,0 +1,146 @@
+"""Texts whose work grows with a size, for growth.py.
+
+A shape makes a text of a size: so many macros, arguments, operands or bytes.  Doubling the size doubles the work that the
+text asks for.  `things` counts what memory is measured by: tokens, and lines where a text has no tokens.
+"""
+import json
+from dataclasses import dataclass
+from typing import Callable, Optional
+
+from colliding import long_names, macro_names
+
+DATE = {"date": "Feb  9 2024", "time": "08:05:03"}
+CONTENT = 16_777_216  # the bytes of the longest content
+
+
+@dataclass(frozen=True)
+class Shape:
+    name: str
+    sizes: tuple
+    text: Optional[Callable] = None  # the text of a size, which gcc reads too
+    listed: Optional[Callable] = None  # or the list of a size, which has nothing for gcc
+    things: Optional[Callable] = None  # how many tokens or lines a size has
+    status: int = 0
+    quick: int = 4  # by how much --quick divides the sizes
+
+    def list_of(self, size):
+        return json.dumps(self.listed(size) if self.listed else list_of_text(self.text(size))).encode()
+
+
+def list_of_text(text):
+    # a zero takes six bytes as JSON text and two in hexadecimal digits
+    content = {"hex": text.encode().hex()} if "\0" in text else {"text": text}
+    return dict(DATE, files=[{"name": "a.c", **content}], units=[{"file": "a.c"}])
+
+
+def lines(*parts):
+    return "\n".join(line for part in parts for line in ([part] if isinstance(part, str) else part)) + "\n"
+
+
+# ---- chains of macros
+
+
+def object_chain(count):
+    return lines("#define a0 x", ("#define a%d a%d" % (i + 1, i) for i in range(count)), "a%d" % count)
+
+
+def function_chain(count):
+    return lines("#define a0(x) x", ("#define a%d(x) a%d(x)" % (i + 1, i) for i in range(count)), "a%d(1)" % count)
+
+
+def doubled(tokens):
+    """A chain whose last macro comes to so many tokens, a power of 2."""
+    depth = tokens.bit_length() - 1
+    return lines("#define d0 x", ("#define d%d d%d d%d" % (i + 1, i, i) for i in range(depth)), "d%d" % depth)
+
+
+def doubled_with_argument(tokens):
+    depth = tokens.bit_length() - 1
+    return lines("#define d0(x) x", ("#define d%d(x) d%d(x) d%d(x)" % (i + 1, i, i) for i in range(depth)), "d%d(1)" % depth)
+
+
+def doubled_within(tokens):
+    depth = tokens.bit_length() - 1
+    return lines("#define d(x) x x", "d(" * depth + "1" + ")" * depth)
+
+
+def chain_in_argument(uses):
+    return lines("#define f(x) x", "#define a0 x", ("#define a%d a%d" % (i + 1, i) for i in range(399)), "f(" + "a399 " * uses + ")")
+
+
+def argument_through(tokens, macros):
+    chain = ("#define f%d(x) f%d(x)" % (i + 1, i) for i in range(macros - 1))
+    return lines("#define f0(x) x", chain, "f%d(%s)" % (macros - 1, "x " * tokens))
+
+
+def undefined_in_order(count):
+    return lines(("#define a%d %d" % (i, i) for i in range(count)), ("#undef a%d" % i for i in range(count)))
+
+
+# ---- long lists
+
+
+def names(count):
+    return ["p%d" % i for i in range(count)]
+
+
+def parameters(count, body=""):
+    return lines("#define f(%s) %s" % (", ".join(names(count)), body), "f(%s)" % ("," * (count - 1)))
+
+
+def parameters_used(count):
+    return parameters(count, " ".join(names(count)))
+
+
+def arguments(count):
+    return lines("#define f(...) __VA_ARGS__", "f(1%s)" % (", 1" * (count - 1)))
+
+
+def pasted(count):
+    return lines("#define p %s" % "##".join(["a"] * count), "p")
+
+
+# ---- names that collide
+
+
+def defined(made):
+    return lines(("#define %s x" % name for name in made), made)
+
+
+def listed_files(made):
+    return dict(DATE, files=[{"name": name, "text": ""} for name in made], units=[{"file": made[-1]}])
+
+
+def repeated(name, text, things, status=0):
+    """So many bytes of one character, or of what makes a line go on."""
+    return Shape("bytes " + name, (CONTENT // 4, CONTENT // 2, CONTENT), lambda size: text * (size // len(text)), things=things, status=status)
+
+
+SHAPES = [
+    Shape("chain, object-like", (15_000, 30_000, 60_000), object_chain, quick=1),
+    Shape("chain, function-like", (15_000, 30_000, 60_000), function_chain, quick=1),
+    Shape("d20", (2**18, 2**19, 2**20), doubled),
+    Shape("d20 with an argument", (2**18, 2**19, 2**20), doubled_with_argument),
+    Shape("d(d(..)) 20 deep", (2**18, 2**19, 2**20), doubled_within),
+    Shape("chain of 400 in an argument", (400, 800, 1_600), chain_in_argument),
+    Shape("argument through 80 macros", (5_000, 10_000, 20_000), lambda size: argument_through(size, 80), quick=1),
+    Shape("1,000 tokens through macros", (500, 1_000, 2_000), lambda size: argument_through(1_000, size), quick=1),
+    Shape("#undef in order", (60_000, 120_000, 240_000), undefined_in_order),
+    Shape("parameters, unused", (5_000, 10_000, 20_000), parameters, quick=1),
+    Shape("parameters, used", (5_000, 10_000, 20_000), parameters_used, quick=2),
+    Shape("arguments", (100_000, 200_000, 400_000), arguments),
+    Shape("operands of ##", (10_000, 20_000, 40_000), pasted, quick=2),
+    repeated("(", "(", lambda size: size),
+    repeated("?", "?", lambda size: size),
+    repeated("'", "'", lambda size: size, status=1),
+    repeated('"', '"', lambda size: size // 2),
+    repeated("#", "#", lambda size: size // 2),
+    repeated("x and a space", "x ", lambda size: size // 2),
+    repeated("NUL", "\0", lambda size: size),
+    repeated("new-line", "\n", lambda size: size),
+    repeated("??/ and new-line", "??/\n", lambda size: size // 4, status=1),
+    repeated("\\ and new-line", "\\\n", lambda size: size // 2, status=1),
+    Shape("flood: macros", (8_000, 16_000, 32_000), lambda size: defined(macro_names(size))),
+    Shape("flood: names in hide sets", (8_000, 16_000, 32_000), lambda size: defined(long_names(size))),
+    Shape("flood: files", (8_000, 16_000, 32_000), listed=lambda size: listed_files(long_names(size))),
+]

@@ -1,0 +1,64 @@
+#!/bin/sh
+# What a service meets that preprocesses text from strangers, as far as the gate can't try it: refused memory, cut texts and
+# lists, limits, streams and files that fail, small stacks, and cost that is to grow as the work does.
+#
+#     tests/hostile.sh [PROGRAM]     PROGRAM is by default crates/cppunits/out/cppunits
+#
+# Each part says what it did; its whole output is shown where it fell short.  It takes some minutes, up to 2 GB of memory and
+# 300 MB of a folder for temporary files, and leaves nothing behind.  It needs Python 3 and gcc.
+#
+# status:
+#   0  nothing fell short
+#   1  something did, and is named at the end
+#   2  the program isn't there
+case ${1:-/} in
+    -h | --help)
+        sed -n '2,/^case/s/^# \{0,1\}//p' "$0"
+        exit 0
+        ;;
+    /*) ;;
+    *) set -- "$PWD/$1" ;;
+esac
+cd "$(dirname "$0")/.." || exit 2
+program=${1:-$PWD/crates/cppunits/out/cppunits}
+if [ ! -x "$program" ]; then
+    echo "hostile.sh: $program isn't there: build it by \`rt run\` in crates/cppunits, or name another" >&2
+    exit 2
+fi
+kept=$(mktemp -d) || exit 2
+trap 'rm -rf "$kept"' EXIT
+trap 'exit 1' HUP INT TERM
+TMPDIR=$kept PYTHONDONTWRITEBYTECODE=1
+export TMPDIR PYTHONDONTWRITEBYTECODE
+: > "$kept/short"
+passed=0
+failed=0
+
+# Runs a part and adds the counts of its last line; one that fails and counts no failure counts as one.
+part() {
+    named=$1
+    shift
+    began=$(date +%s)
+    "$@" > "$kept/log" 2>&1
+    status=$?
+    counts=$(tail -n 1 "$kept/log" | sed -n 's/^\([0-9][0-9]*\) passed, \([0-9][0-9]*\) failed$/\1 \2/p')
+    set -- ${counts:-0 0}
+    [ "$status" -ne 0 ] && [ "$2" -eq 0 ] && set -- "$1" 1
+    passed=$((passed + $1))
+    failed=$((failed + $2))
+    printf '%s: %d passed, %d failed, %d seconds\n' "$named" "$1" "$2" $(($(date +%s) - began))
+    grep '^missed: ' "$kept/log"
+    [ "$2" -eq 0 ] && return
+    cat "$kept/log"
+    printf '%s\n' "$named" >> "$kept/short"
+}
+
+part "refused memory" python3 tests/refused_memory.py "$program"
+part "texts and lists cut to every length" python3 tests/truncated.py "$program"
+part "limits" python3 tests/hostile_limits.py "$program"
+part "streams and files that fail" python3 tests/hostile_devices.py "$program"
+part "small stacks" python3 tests/hostile_stack.py "$program"
+part "growth of cost" python3 bench/growth.py --quick "$program"
+sed 's/^/fell short: /' "$kept/short"
+printf '%d passed, %d failed\n' "$passed" "$failed"
+[ "$failed" -eq 0 ]
