@@ -20,6 +20,8 @@ from counted import LIST, cppunits, main, program
 
 DUMP = [program(), "dump"]
 MOST_SECONDS = 10
+# where the other end is slow, on a machine that has other things to do
+MOST_SECONDS_OF_SLOW_ENDS = 120
 # its answer is longer than a pipe holds
 TEXT = "word " * 20_000
 LONG = json.dumps(dict(LIST, files=[{"name": "a.c", "text": TEXT}], units=[{"file": "a.c"}])).encode()
@@ -59,8 +61,8 @@ class Streams(unittest.TestCase):
         self.addCleanup(child.kill)
         return child
 
-    def outcome(self, child):
-        output, words = child.communicate(timeout=MOST_SECONDS)
+    def outcome(self, child, seconds=MOST_SECONDS):
+        output, words = child.communicate(timeout=seconds)
         return child.returncode, output, words
 
     def is_whole_or(self, failure, found):
@@ -94,7 +96,7 @@ class Inputs(Streams):
             os.close(takes)
             giver = threading.Thread(target=give, args=(gives, LONG, size, pause))
             giver.start()
-            self.is_whole_or(None, self.outcome(child))
+            self.is_whole_or(None, self.outcome(child, MOST_SECONDS_OF_SLOW_ENDS))
             giver.join()
 
     def test_no_data_yet(self):
