@@ -123,7 +123,7 @@ module _ (macros : Macros) (env : Env) where
   pub left_none : {level turns : ℕ} {left after : Option ℕ} {list tokens : List Hiding} {fault : Option Fault} → left ≡ None → Expands macros env level left turns list (record { tokens = tokens; fault = fault; left = after }) → after ≡ None
   left_none {after = after} is d = plus-none (count macros env d) after (sym is ∙ spends d)
 
-  arguments_none : {level : ℕ} {call : Call} {left after : Option ℕ} {as' : List (Option (List Hiding))} {r : ExpandedArguments} → left ≡ None → ExpandsArguments macros env level call left as' after r → after ≡ None
+  pub arguments_none : {level : ℕ} {call : Call} {left after : Option ℕ} {as' : List (Option (List Hiding))} {r : ExpandedArguments} → left ≡ None → ExpandsArguments macros env level call left as' after r → after ≡ None
   arguments_none {after = after} is a = plus-none (count_arguments macros env a) after (sym is ∙ spends_arguments a)
 
   abbrev leaving : ℕ → Outcome → Outcome

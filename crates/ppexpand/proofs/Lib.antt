@@ -11,6 +11,7 @@ pub mod Invocations
 pub mod Gathering
 pub mod Keeping
 pub mod TurnLemmas
+pub mod Standard
 pub mod ArgumentLemmas
 pub mod Marks
 pub mod Skipping

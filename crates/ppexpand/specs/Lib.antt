@@ -1,6 +1,7 @@
 pub mod Arguments
 pub mod Turn
 pub mod Expansion
+pub mod Standard
 pub mod Shown
 pub mod Laws
 pub mod Lists

@@ -7,7 +7,9 @@ ghost use Rattle.ppmacro.specs.HideSets.{Hiding};
 ghost use Rattle.ppexpand.specs.declared.env.Env.{Env};
 ghost use Rattle.ppexpand.specs.Arguments.{Closed, gather};
 ghost use Rattle.ppexpand.specs.Turn.{turn};
-ghost use Rattle.ppexpand.specs.Expansion.{Outcome, turn_within, Expands, ExpandsTo, count};
+ghost use Rattle.ppexpand.specs.declared.expansion.Expanded.{Expanded};
+ghost use Rattle.ppexpand.specs.Expansion.{Outcome, turn_within, Expands, ExpandsTo, IsExpansion, count};
+ghost use Rattle.ppexpand.specs.Standard.{StandardExpands, IsStandardExpansion};
 ghost use Rattle.ppexpand.specs.Laws.{HasOneOutcome, HasOneExpansion, EndsWithin, plus, IsCapped, OnlyBudgetsRefuse, is_settled, IsInvocation};
 
 /// With any macros, each list of tokens with hide sets has exactly one outcome, at each level of arguments.
@@ -35,11 +37,13 @@ pub fn finds_arguments()
     ensures { (commas : Option ℕ) (list : List Hiding) (arguments : List (List Hiding)) (close : Hiding) (behind : List Hiding) → (gather 0 commas list ≡ Closed arguments close behind) ↔ IsInvocation commas list arguments close behind }
 {}
 
-/// Without a budget nothing is refused for it, and nothing is counted: a turn is what the rules of macro replacement call for (6.10.3, 6.10.3.4), and there is no
-/// budget behind an expansion either.
+/// Without a budget nothing is refused for it, and nothing is counted: a turn is what the rules of macro replacement call for (6.10.3, 6.10.3.4), there is no
+/// budget behind an expansion either, and what a list expands to is what it expands to by the standard's rules, which know no budget.
 pub fn without_a_budget()
     ensures turns { (macros : Macros) (env : Env) (list : List Hiding) → turn_within macros env None list ≡ turn macros env list }
     ensures left { (macros : Macros) (env : Env) (level : ℕ) (list : List Hiding) (out : Outcome) → ExpandsTo macros env level None list out → out.left ≡ None }
+    ensures rules { (macros : Macros) (env : Env) (level : ℕ) (list : List Hiding) (out : Outcome) → ExpandsTo macros env level None list out ↔ ((out.left ≡ None) × StandardExpands macros env level list out.tokens out.fault) }
+    ensures expansions { (macros : Macros) (env : Env) (tokens : List Token) (e : Expanded) → IsExpansion macros env None tokens e ↔ ((e.left ≡ None) × IsStandardExpansion macros env tokens e.tokens e.fault) }
 {}
 
 /// What an expansion costs and what is left make up the budget.

@@ -1,5 +1,6 @@
 use Rattle.std.proofs.Common.{refl}
 use Rattle.ppexpand.proofs.Budget.{left_none}
+use Rattle.ppexpand.proofs.Standard.{list_standard, expansion_standard}
 use Rattle.ppexpand.proofs.laws.without_a_budget.Goals as goal
 
 pub returns-clause-turns : goal.returns-clause-turns
@@ -7,3 +8,9 @@ returns-clause-turns c = λ macros env list. refl
 
 pub returns-clause-left : goal.returns-clause-left
 returns-clause-left c = λ macros env level list out d. left_none macros env refl d.1
+
+pub returns-clause-rules : goal.returns-clause-rules
+returns-clause-rules c = list_standard
+
+pub returns-clause-expansions : goal.returns-clause-expansions
+returns-clause-expansions c = λ macros env tokens e. expansion_standard macros env tokens e

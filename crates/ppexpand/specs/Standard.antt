@@ -1,0 +1,151 @@
+-- Expansion as the standard has it, which knows no budget (6.10.3, 6.10.3.1, 6.10.3.4, 6.10.8.1): a rule for each way to go on, and one for each fault.
+use Rattle.std.specs.Prelude.{◌≡◌, ℕ, suc, ◌<◌, ◌≤◌, Bool, true, false, List, [], ◌∷◌, map, Option, Some, None, Result, Ok, Err}
+use Rattle.std.specs.FinSet as set
+use Rattle.pptext.specs.declared.tokens.Token.{Token}
+use Rattle.pptext.specs.declared.tokens.Fault.{Fault}
+use Rattle.ppmacro.specs.Names.{Name, Macros}
+use Rattle.ppmacro.specs.HideSets.{Hiding}
+use Rattle.ppmacro.specs.Substitution.{plain, Marked, substituted}
+use Rattle.ppmacro.specs.declared.macros.Builtin.{Builtin}
+use Rattle.ppmacro.specs.declared.macros.Definition.{Definition}
+use Rattle.ppmacro.specs.declared.macros.Shape.TheVariants.{Predefined, ObjectLike, FunctionLike}
+use Rattle.ppexpand.specs.declared.env.Env.{Env}
+use Rattle.ppexpand.specs.Arguments.{is_lone_quote, is_open, Closed, Quoted, Unclosed, gather, separators, fitted}
+use Rattle.ppexpand.specs.Turn.{predefined_value, Call, followed_by, fault_at_use, quote_fault, gain_of, no_arguments, macro_of, wanted}
+use Rattle.ppexpand.specs.Expansion.{ExpandedArguments, with_expanded}
+
+-- a token names this macro, and is not among the names that it is not replaced by (6.10.3, paragraph 9; 6.10.3.4, paragraph 2)
+pub record NamesMacro (macros : Macros) (t : Hiding) (d : Definition) : Type 0 where
+  pub no_quote : is_lone_quote t.token ≡ false
+  pub not_hidden : set.contains t.hide t.token.text ≡ false
+  pub named : macro_of macros t.token ≡ Some d
+
+-- it names a function-like macro, and this `(` is next (6.10.3, paragraph 10)
+pub record Opens (macros : Macros) (t paren : Hiding) (d : Definition) (names : List Name) (variadic : Bool) : Type 0 where
+  pub names_macro : NamesMacro macros t d
+  pub shape : d.shape ≡ FunctionLike names variadic
+  pub paren_opens : is_open paren.token ≡ true
+
+-- a list begins with this invocation: it has its `)`, and an argument for each parameter (6.10.3, paragraphs 4 and 10 to 12)
+pub record Invokes (macros : Macros) (list : List Hiding) (call : Call) : Type 0 where
+  pub paren : Hiding
+  pub inside : List Hiding
+  pub names : List Name
+  pub variadic : Bool
+  pub arguments : List (List Hiding)
+  pub close : Hiding
+  pub laid_out : list ≡ call.head ∷ paren ∷ inside
+  pub opens : Opens macros call.head paren call.macro names variadic
+  pub closed : gather 0 (separators names variadic) inside ≡ Closed arguments close call.behind
+  pub fits : fitted names variadic arguments ≡ Some call.arguments
+  pub gains : call.gain ≡ gain_of call.head.hide close.hide call.head.token.text
+
+-- whether `(` is next
+abbrev pub opens_next : List Hiding → Bool
+opens_next [] = false
+opens_next (t ∷ ts) = is_open t.token
+
+-- what an object-like macro's name is replaced by (6.10.3, paragraph 9), or the fault
+abbrev pub object_result : Hiding → Definition → Result Marked Fault
+object_result t d = substituted d no_arguments (set.insert t.hide t.token.text) t.token.used t.token.space
+
+-- what an invocation is replaced by once its arguments are expanded (6.10.3.1), or the fault
+abbrev pub invocation_result : Call → List (Option (List Hiding)) → Result Marked Fault
+invocation_result call expanded = substituted call.macro (record { given = call.arguments; expanded = expanded }) call.gain call.head.token.used call.head.token.space
+
+mutual
+  -- at this level a list expands to these tokens, up to its end or to this fault
+  pub data StandardExpands (macros : Macros) (env : Env) : ℕ → List Hiding → List Hiding → Option Fault → Type 0 where
+    nothing_left : {level : ℕ} → StandardExpands macros env level [] [] None
+    lone_quote : {level : ℕ} {t : Hiding} {rest : List Hiding}
+        → is_lone_quote t.token ≡ true
+        → StandardExpands macros env level (t ∷ rest) [] (Some (quote_fault t))
+    no_macro : {level : ℕ} {t : Hiding} {rest tokens : List Hiding} {fault : Option Fault}
+        → is_lone_quote t.token ≡ false
+        → macro_of macros t.token ≡ None
+        → StandardExpands macros env level rest tokens fault
+        → StandardExpands macros env level (t ∷ rest) (t ∷ tokens) fault
+    -- a name is not replaced again in what came of it (6.10.3.4, paragraph 2)
+    hidden : {level : ℕ} {t : Hiding} {rest tokens : List Hiding} {fault : Option Fault}
+        → is_lone_quote t.token ≡ false
+        → set.contains t.hide t.token.text ≡ true
+        → StandardExpands macros env level rest tokens fault
+        → StandardExpands macros env level (t ∷ rest) (t ∷ tokens) fault
+    -- what replaces a name is rescanned with the rest (6.10.3.4, paragraph 1)
+    predefined : {level : ℕ} {t : Hiding} {rest tokens : List Hiding} {fault : Option Fault} {d : Definition} {b : Builtin}
+        → NamesMacro macros t d
+        → d.shape ≡ Predefined b
+        → StandardExpands macros env level (predefined_value b env t (set.insert t.hide t.token.text) ∷ rest) tokens fault
+        → StandardExpands macros env level (t ∷ rest) tokens fault
+    object_like : {level : ℕ} {t : Hiding} {rest tokens : List Hiding} {fault : Option Fault} {d : Definition} {m : Marked}
+        → NamesMacro macros t d
+        → d.shape ≡ ObjectLike
+        → object_result t d ≡ Ok m
+        → StandardExpands macros env level (followed_by rest m) tokens fault
+        → StandardExpands macros env level (t ∷ rest) tokens fault
+    object_refused : {level : ℕ} {t : Hiding} {rest : List Hiding} {f : Fault} {d : Definition}
+        → NamesMacro macros t d
+        → d.shape ≡ ObjectLike
+        → object_result t d ≡ Err f
+        → StandardExpands macros env level (t ∷ rest) [] (Some f)
+    -- a function-like macro's name without `(` next is no invocation (6.10.3, paragraph 10)
+    not_invoked : {level : ℕ} {t : Hiding} {rest tokens : List Hiding} {fault : Option Fault} {d : Definition} {names : List Name} {variadic : Bool}
+        → NamesMacro macros t d
+        → d.shape ≡ FunctionLike names variadic
+        → opens_next rest ≡ false
+        → StandardExpands macros env level rest tokens fault
+        → StandardExpands macros env level (t ∷ rest) (t ∷ tokens) fault
+    quote_inside : {level : ℕ} {t paren quote : Hiding} {inside : List Hiding} {d : Definition} {names : List Name} {variadic : Bool}
+        → Opens macros t paren d names variadic
+        → gather 0 (separators names variadic) inside ≡ Quoted quote
+        → StandardExpands macros env level (t ∷ paren ∷ inside) [] (Some (quote_fault quote))
+    unclosed : {level : ℕ} {t paren : Hiding} {inside : List Hiding} {d : Definition} {names : List Name} {variadic : Bool}
+        → Opens macros t paren d names variadic
+        → gather 0 (separators names variadic) inside ≡ Unclosed
+        → StandardExpands macros env level (t ∷ paren ∷ inside) [] (Some (fault_at_use 17 t))
+    wrong_number : {level : ℕ} {t paren close : Hiding} {inside behind : List Hiding} {d : Definition} {names : List Name} {variadic : Bool} {arguments : List (List Hiding)}
+        → Opens macros t paren d names variadic
+        → gather 0 (separators names variadic) inside ≡ Closed arguments close behind
+        → fitted names variadic arguments ≡ None
+        → StandardExpands macros env level (t ∷ paren ∷ inside) [] (Some (fault_at_use 18 t))
+    argument_refused : {level : ℕ} {list : List Hiding} {call : Call} {f : Fault}
+        → Invokes macros list call
+        → StandardExpandsArguments macros env level call (wanted call) (Err f)
+        → StandardExpands macros env level list [] (Some f)
+    invocation_refused : {level : ℕ} {list : List Hiding} {call : Call} {expanded : List (Option (List Hiding))} {f : Fault}
+        → Invokes macros list call
+        → StandardExpandsArguments macros env level call (wanted call) (Ok expanded)
+        → invocation_result call expanded ≡ Err f
+        → StandardExpands macros env level list [] (Some f)
+    invocation : {level : ℕ} {list tokens : List Hiding} {fault : Option Fault} {call : Call} {expanded : List (Option (List Hiding))} {m : Marked}
+        → Invokes macros list call
+        → StandardExpandsArguments macros env level call (wanted call) (Ok expanded)
+        → invocation_result call expanded ≡ Ok m
+        → StandardExpands macros env level (followed_by call.behind m) tokens fault
+        → StandardExpands macros env level list tokens fault
+
+  -- The arguments of an invocation in a list at this level, each expanded as if it were all of a file, one level deeper (6.10.3.1), in order, up to the
+  -- first fault; level 256 is the deepest.
+  pub data StandardExpandsArguments (macros : Macros) (env : Env) : ℕ → Call → List (Option (List Hiding)) → ExpandedArguments → Type 0 where
+    none : {level : ℕ} {call : Call} → StandardExpandsArguments macros env level call [] (Ok [])
+    unused : {level : ℕ} {call : Call} {rest : List (Option (List Hiding))} {out : ExpandedArguments}
+        → StandardExpandsArguments macros env level call rest out
+        → StandardExpandsArguments macros env level call (None ∷ rest) (with_expanded None out)
+    too_deep : {level : ℕ} {call : Call} {list : List Hiding} {rest : List (Option (List Hiding))}
+        → 256 ≤ level
+        → StandardExpandsArguments macros env level call (Some list ∷ rest) (Err (fault_at_use 21 call.head))
+    used : {level : ℕ} {call : Call} {list tokens : List Hiding} {rest : List (Option (List Hiding))} {out : ExpandedArguments}
+        → level < 256
+        → StandardExpands macros env (suc level) list tokens None
+        → StandardExpandsArguments macros env level call rest out
+        → StandardExpandsArguments macros env level call (Some list ∷ rest) (with_expanded (Some tokens) out)
+    used_refused : {level : ℕ} {call : Call} {list tokens : List Hiding} {rest : List (Option (List Hiding))} {f : Fault}
+        → level < 256
+        → StandardExpands macros env (suc level) list tokens (Some f)
+        → StandardExpandsArguments macros env level call (Some list ∷ rest) (Err f)
+
+-- the expansion of a list of tokens, up to its end or to this fault, at level 0 and with empty hide sets at first
+pub record IsStandardExpansion (macros : Macros) (env : Env) (tokens expanded : List Token) (fault : Option Fault) : Type 0 where
+  pub passed : List Hiding
+  pub expands : StandardExpands macros env 0 (map plain tokens) passed fault
+  pub is : expanded ≡ map (λ t. t.token) passed
