@@ -16,3 +16,4 @@ pub mod SomeCondition
 pub mod Types
 pub mod GuardConditions
 pub mod Capped
+pub mod Standard

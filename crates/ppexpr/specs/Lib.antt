@@ -12,3 +12,4 @@ pub mod Tokens
 pub mod Nesting
 pub mod Direct
 pub mod Conditions
+pub mod Standard

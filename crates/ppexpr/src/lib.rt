@@ -18,4 +18,4 @@ mod tokens;
 mod values;
 
 pub use conditions::evaluate;
-pub use laws::{one_condition, one_tree, some_condition, value_has_its_type};
+pub use laws::{one_condition, one_tree, some_condition, value_has_its_type, without_a_budget};
