@@ -20,3 +20,4 @@ pub mod Larger
 pub mod Enough
 pub mod Capped
 pub mod Refusing
+pub mod Standard

@@ -38,26 +38,26 @@ use Rattle.ppunit.proofs.Spends.{still_none, asks_spends, decides_spends, run_sp
 
 -- ---- where there is no budget there is none behind
 
-asks_none : (s : State) (line : List Token) (after : Option ℕ) (asked : Result Asked Fault) → s.left ≡ None → Asks s line after asked → after ≡ None
+pub asks_none : (s : State) (line : List Token) (after : Option ℕ) (asked : Result Asked Fault) → s.left ≡ None → Asks s line after asked → after ≡ None
 asks_none s line after asked is g = still_none (count_asks s line after asked g) is (asks_spends s line after asked g)
 
-decides_none : (s : State) (line : LogicalLine) (after : Option ℕ) (taken : Result Bool Fault) → s.left ≡ None → Decides s line after taken → after ≡ None
+pub decides_none : (s : State) (line : LogicalLine) (after : Option ℕ) (taken : Result Bool Fault) → s.left ≡ None → Decides s line after taken → after ≡ None
 decides_none s line after taken is g = still_none (count_decides s line after taken g) is (decides_spends s line after taken g)
 
-run_none : (s : State) (tokens : List Token) (m : Reached) → s.left ≡ None → RunGives s tokens m → m.state.left ≡ None
+pub run_none : (s : State) (tokens : List Token) (m : Reached) → s.left ≡ None → RunGives s tokens m → m.state.left ≡ None
 run_none s tokens m is g = still_none (count_expansion g.expands) is (run_spends s tokens m g)
 
 module _ (around : Surroundings) where
-  group_none : {depth row : ℕ} {r : Reached} {ps : Parts} {end : Reached} → r.state.left ≡ None → Group around depth row r ps end → end.state.left ≡ None
+  pub group_none : {depth row : ℕ} {r : Reached} {ps : Parts} {end : Reached} → r.state.left ≡ None → Group around depth row r ps end → end.state.left ≡ None
   group_none is d = still_none (count_group d) is (group_spends around d)
 
-  branches_none : {depth row : ℕ} {s : State} {bs : Branches} {m : Reached} → s.left ≡ None → Branched around depth row s bs m → m.state.left ≡ None
+  pub branches_none : {depth row : ℕ} {s : State} {bs : Branches} {m : Reached} → s.left ≡ None → Branched around depth row s bs m → m.state.left ≡ None
   branches_none is d = still_none (count_branched d) is (branches_spend around d)
 
-  control_none : {depth row : ℕ} {s : State} {line : LogicalLine} {m : Reached} → s.left ≡ None → Controls around depth row s line m → m.state.left ≡ None
+  pub control_none : {depth row : ℕ} {s : State} {line : LogicalLine} {m : Reached} → s.left ≡ None → Controls around depth row s line m → m.state.left ≡ None
   control_none is d = still_none (count_control d) is (control_spends around d)
 
-  defines_none : {defines : List (List ℕ)} {s : State} {m : Reached} → s.left ≡ None → Defines around defines s m → m.state.left ≡ None
+  pub defines_none : {defines : List (List ℕ)} {s : State} {m : Reached} → s.left ≡ None → Defines around defines s m → m.state.left ≡ None
   defines_none is d = still_none (count_defines d) is (defines_spends around d)
 
 -- the fault, if there is one, is another

@@ -10,6 +10,8 @@ pub mod Group
 pub mod Counts
 pub mod Commands
 pub mod Unit
+pub mod StandardLines
+pub mod Standard
 pub mod Units
 pub mod Laws
 pub mod Capped
