@@ -21,3 +21,4 @@ pub mod Enough
 pub mod Capped
 pub mod Refusing
 pub mod Standard
+pub mod AnyBudget

@@ -1,5 +1,5 @@
 -- Laws of units.
-use Rattle.std.specs.Prelude.{◌≡◌, ◌↔◌, ℕ, List, None}
+use Rattle.std.specs.Prelude.{◌≡◌, ◌↔◌, ℕ, List, Option, None}
 use Rattle.ppshelf.specs.Names.{AreNames}
 use Rattle.ppshelf.specs.Files.{Files, Extends}
 use Rattle.ppunit.specs.declared.units.Unit.{Unit as UnitOfList}
@@ -30,3 +30,10 @@ WithoutABudget =
     (names : List (List ℕ)) (files : Files) (setting : Setting) (unit : UnitOfList) (out : UnitOut)
     → setting.budget ≡ None
     → (IsUnit names files setting unit out ↔ IsStandardUnit names files setting unit out)
+
+-- by the standard's rules a unit gives the same whatever its budget is
+abbrev pub KnowsNoBudget : Type 0
+KnowsNoBudget =
+    (names : List (List ℕ)) (files : Files) (setting : Setting) (unit : UnitOfList) (out : UnitOut) (budget : Option ℕ)
+    → IsStandardUnit names files setting unit out
+    → IsStandardUnit names files (record setting { budget = budget }) unit out
