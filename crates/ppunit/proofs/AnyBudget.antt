@@ -25,7 +25,7 @@ use Rattle.ppunit.specs.LineControl.{presumed}
 use Rattle.ppunit.specs.Including.{begins_with_header}
 use Rattle.ppunit.specs.Directives.{with_macros, renumbered_by, is_once, noting_once}
 use Rattle.ppunit.specs.Unit.{surroundings}
-use Rattle.ppunit.specs.StandardLines.{StandardDecidesBy, StandardDecidesUnless, StandardDecides, StandardRunGives, StandardLineGives, StandardControlBy, StandardAsksBy, StandardAsks}
+use Rattle.ppunit.specs.StandardLines.{StandardDecidesBy, StandardDecidesUnless, StandardDecides, StandardRunGives, StandardControlBy, StandardAsksBy, StandardAsks}
 use Rattle.ppunit.specs.Standard.{StandardGroup, StandardBranched, StandardControls, StandardOpened, StandardDefines, StandardTranslates, IsStandardUnit}
 
 -- what was reached, with so much left
