@@ -1,7 +1,7 @@
 #!/bin/sh
-# Every test: the gate `rt ci`, and then, over the program that it leaves behind, the tests of the scripts, the examples of
-# the README and of docs/, cut texts and lists, streams and files that fail, and the runs with refused memory.  The last line
-# is `N passed, N failed` over all of it; before it stands which tests were missed, with the program that is missing and the
+# The gate: `rt ci`, and then, over the program that it leaves behind, the tests of the scripts, the examples of the README
+# and of docs/, cut texts and lists, streams and files that fail, and the runs with refused memory.  The last line is
+# `N passed, N failed` over all of it; before it stands which tests were missed, with the program that is missing and the
 # Debian package that has it.  What takes longer is in tests/hostile.sh.
 #
 #     tests/all.sh [PROGRAM]     with a PROGRAM, no `rt ci`: the other tests, over this one
