@@ -206,13 +206,11 @@ class Files(unittest.TestCase):
         self.is_unreadable("plain", root=self.path("plain"))
 
     def test_devices(self):
-        for name in "zero", "full":
+        for name in "null", "zero", "full":
             if os.path.exists("/dev/" + name):
                 self.link(name, "/dev/" + name)
                 self.is_unreadable(name)
 
-    # Not yet so: the program opens a named pipe and waits for a writer.  docs/LEFT_OUT.md says it; the test says when that ends.
-    @unittest.expectedFailure
     def test_a_pipe_without_a_writer(self):
         os.mkfifo(self.path("pipe"))
         self.is_unreadable("pipe")

@@ -38,10 +38,21 @@ impl<R: Files> Disk for FolderDisk<'_, R> {
         let Ok(path) = path_under(alloc, self.folder, name) else {
             return Err(ReadFault::Memory);
         };
-        match fs::open(self.files, path.as_str()) {
-            Ok(file) => read_start(alloc, file),
-            Err(error) => Err(fault_of(error.kind())),
-        }
+        let file = open_plain(self.files, path.as_str())?;
+        read_start(alloc, file)
+    }
+}
+
+// Opens a plain file, to which a link may lead, and nothing else: to open a named pipe waits until somebody writes to it.
+fn open_plain<R: Files>(files: &R, path: &str) -> Result<R::File, ReadFault> {
+    match fs::metadata(files, path) {
+        Ok(found) if found.is_file() => {}
+        Ok(_) => return Err(ReadFault::Unreadable),
+        Err(error) => return Err(fault_of(error.kind())),
+    }
+    match fs::open(files, path) {
+        Ok(file) => Ok(file),
+        Err(error) => Err(fault_of(error.kind())),
     }
 }
 
