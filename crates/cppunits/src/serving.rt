@@ -14,6 +14,7 @@ use ppshelf::Disk;
 use pptext::Memory;
 use ppunit::{Texts, Unit, UnitOut};
 use std::alloc::{AllocError, Global};
+use std::mem;
 use std::thread::Threads;
 use thiserror::Error;
 
@@ -99,7 +100,11 @@ pub fn serve<T: Threads + Sync, R: Feed, W: Sink>(
     let units = units.as_slice();
     let crew = Crew { workers, block };
     let outs = over_contents(threads, alloc, &shelf, &setting, units, crew)?;
-    hand_out(alloc, writer, mode, &names, units, outs.as_slice())
+    let answer = hand_out(alloc, writer, mode, &names, units, outs.as_slice());
+    // The program ends next: the system takes memory back at once, where token by token it costs a tenth of a run.
+    mem::forget(outs);
+    mem::forget(shelf);
+    answer
 }
 
 /// Reads a list of names, and does with it what `serve` does; workers read a file from the disk when it is asked for, and the content that
@@ -130,7 +135,11 @@ pub fn serve_from<T: Threads + Sync, R: Feed, W: Sink, D: Disk + Send + Sync>(
     let units = list.units.as_slice();
     let crew = Crew { workers, block };
     let outs = over_disk(threads, alloc, &shelf, disk, &list.setting, units, crew)?;
-    hand_out(alloc, writer, mode, &list.names, units, outs.as_slice())
+    let answer = hand_out(alloc, writer, mode, &list.names, units, outs.as_slice());
+    // as in `serve`
+    mem::forget(outs);
+    mem::forget(shelf);
+    answer
 }
 
 /// The list that a reader brings, which holds its files or their names alone. Its bytes are given back once it is read.

@@ -11,8 +11,8 @@ over_contents-requires-clause-count g c κs within = few_units c.in_ok-list.list
 pub over_contents-requires-clause-units : goal.over_contents-requires-clause-units
 over_contents-requires-clause-units g c κs within = can_run c.in_ok-list.list c.in_ok-shelf.shelf.names c.as_slice-units.result.now c.in_ok-list.ensures.runnable c.in_ok-shelf.ensures.names c.as_slice-units.ensures
 
-pub hand_out-requires-clause-counts : goal.hand_out-requires-clause-counts
-hand_out-requires-clause-counts g c =
+pub hand_out-answer-requires-clause-counts : goal.hand_out-answer-requires-clause-counts
+hand_out-answer-requires-clause-counts g c =
     let list = c.in_ok-list.list in
     let outs = c.in_ok-outs.outs.items in
     let gives = gives_all list c.in_ok-shelf.shelf c.as_slice-units.result.now outs c.in_ok-shelf.ensures.names c.in_ok-shelf.ensures.files c.as_slice-units.ensures c.in_ok-outs.ensures in
@@ -23,7 +23,7 @@ returns-clause-ok g c =
     let list = c.in_ok-list.list in
     let outs = c.in_ok-outs.outs.items in
     let gives = gives_all list c.in_ok-shelf.shelf c.as_slice-units.result.now outs c.in_ok-shelf.ensures.names c.in_ok-shelf.ensures.files c.as_slice-units.ensures c.in_ok-outs.ensures in
-    if_ok_then c.hand_out.result c.hand_out.ensures.ok (λ any given. served c.args.mode list c.as_slice-units.result.now c.as_slice.result.now outs _ _ any c.as_slice-units.ensures c.as_slice.ensures.value
+    if_ok_then c.hand_out-answer.result c.hand_out-answer.ensures.ok (λ any given. served c.args.mode list c.as_slice-units.result.now c.as_slice.result.now outs _ _ any c.as_slice-units.ensures c.as_slice.ensures.value
     (record { came = c.in_ok-list.ensures.ok; files = files_of list.contents; such = refl; gives = gives }) given)
 
 pub returns-clause-broken_off : goal.returns-clause-broken_off
@@ -32,4 +32,4 @@ returns-clause-broken_off g c = λ failed.
     let outs = c.in_ok-outs.outs.items in
     let gives = gives_all list c.in_ok-shelf.shelf c.as_slice-units.result.now outs c.in_ok-shelf.ensures.names c.in_ok-shelf.ensures.files c.as_slice-units.ensures c.in_ok-outs.ensures in
     broken_off c.args.mode list c.as_slice-units.result.now c.as_slice.result.now outs _ _ c.as_slice-units.ensures c.as_slice.ensures.value
-    (record { came = c.in_ok-list.ensures.ok; files = files_of list.contents; such = refl; gives = gives }) (c.hand_out.ensures.front failed)
+    (record { came = c.in_ok-list.ensures.ok; files = files_of list.contents; such = refl; gives = gives }) (c.hand_out-answer.ensures.front failed)
