@@ -17,3 +17,4 @@ pub mod Finds
 pub mod Laws
 pub mod Grouping
 pub mod Lexing
+pub mod Hashed

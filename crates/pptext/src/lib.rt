@@ -8,6 +8,7 @@ mod cleaning;
 mod cutting;
 mod directives;
 mod grouping;
+mod hashing;
 mod laws;
 mod punctuators;
 mod reading;
@@ -18,6 +19,7 @@ mod tokenizing;
 mod tokens;
 
 pub use characters::Char;
+pub use hashing::Hashing;
 pub use laws::{
     keeps_every_token, one_cut, one_lexer, one_reading, one_tree, relexes_what_is_cut,
     tree_unless_fault,

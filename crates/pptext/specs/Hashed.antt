@@ -1,0 +1,30 @@
+-- How a name is hashed. Nothing else rests on it but the time that a table takes.
+use Rattle.std.specs.Prelude.{ℕ, zero, suc, ◌-◌, ◌*◌, ◌/◌, List, length, if◌then◌else◌, nat_lt, bit_xor}
+use Rattle.std.specs.List.{fold}
+use Rattle.std.specs.Hash.{u64}
+use Rattle.std.specs.Hash.DefaultHasher as sip
+use Rattle.std.specs.Hash.FoldHasher.{folded_multiply, read_u64, read_short}
+use Rattle.std.specs.RandomState.{initial_hasher}
+use Rattle.std.specs.declared.random_state.RandomState.{RandomState}
+use Rattle.pptext.specs.declared.hashing.NameHasher.{NameHasher}
+
+-- the hash behind one word more, and behind the first n words of eight bytes
+abbrev pub joined : ℕ → ℕ → ℕ → ℕ
+joined factor state word = folded_multiply (bit_xor state word) factor
+
+unfoldable pub words : List ℕ → ℕ → ℕ → ℕ → ℕ
+words bs factor state zero = state
+words bs factor state (suc n) = joined factor (words bs factor state n) (read_u64 bs (8 * n))
+
+-- the hash behind a text, whose last word is its last eight bytes, or all where it has fewer; the factor is the key with the length
+unfoldable pub behind : ℕ → ℕ → List ℕ → ℕ
+behind state factor bs =
+    if nat_lt (length bs) 8 then joined factor state (read_short bs)
+    else joined factor (words bs factor state ((length bs - 1) / 8)) (read_u64 bs (length bs - 8))
+
+abbrev pub write : NameHasher → List ℕ → NameHasher
+write h bs = record { state = behind h.state (bit_xor h.key (length bs)) bs; key = h.key }
+
+-- the number that a drawn key gives in this place
+abbrev pub drawn : RandomState → ℕ → ℕ
+drawn key place = sip.finish (fold sip.write (initial_hasher key) (u64 place))

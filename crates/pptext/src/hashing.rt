@@ -1,0 +1,134 @@
+// How names are hashed.
+ghost use Rattle.std.specs.Prelude.{◌≡◌, ◌+◌, ◌≤◌, ◌<◌, length, bit_xor};
+ghost use Rattle.std.specs.Hash.FoldHasher.{folded_multiply, read_u32, read_u64, read_short};
+ghost use Rattle.pptext.specs.Hashed as hashed;
+ghost use Rattle.pptext.specs.Hashed.{behind, drawn};
+
+#[cfg(test)]
+mod tests;
+
+use std::hash::{BuildHasher, Hasher, RandomState};
+
+/// How the names of a table are hashed: by a key that nobody knows beforehand, or by one that everybody knows. Nothing that a
+/// table answers depends on it, but for the time that it takes: whoever knows the key can choose names that collide.
+///
+/// A name is multiplied by the key eight bytes at a time, and the halves of each product are joined: that is as quick as the
+/// hash of a table without a key, and three times as quick as SipHash. What it resists is names that were chosen before the key was
+/// drawn. It is no cryptographic hash, and nothing is proved of how seldom names collide.
+#[derive(Clone, Copy)]
+pub struct Hashing {
+    first: NameHasher,
+}
+
+impl Hashing {
+    /// By a key that everybody knows.
+    pub fn fixed() -> Hashing
+        ensures { result.first ≡ record { state = 0x243f_6a88_85a3_08d3; key = 0x9e37_79b9_7f4a_7c15 } }
+    {
+        Hashing {
+            first: NameHasher {
+                state: 0x243f_6a88_85a3_08d3,
+                key: 0x9e37_79b9_7f4a_7c15,
+            },
+        }
+    }
+
+    /// By this key.
+    pub fn keyed(key: RandomState) -> Hashing
+        ensures { result.first ≡ record { state = drawn key 0; key = drawn key 1 } }
+    {
+        Hashing {
+            first: NameHasher {
+                state: key.hash_one(0u64),
+                key: key.hash_one(1u64),
+            },
+        }
+    }
+}
+
+impl BuildHasher for Hashing {
+    type Hasher = NameHasher;
+
+    ghost build_hasher = { λ h. h.first };
+
+    fn build_hasher(&self) -> NameHasher {
+        self.first
+    }
+}
+
+/// The hash of what was written so far, and the key.
+#[derive(Clone, Copy)]
+pub struct NameHasher {
+    state: u64,
+    key: u64,
+}
+
+// The product of two words, its halves joined by exclusive or.
+fn product(left: u64, right: u64) -> u64
+    ensures { result ≡ folded_multiply left right }
+{
+    let product = left as u128 * right as u128;
+    (product & 0xFFFF_FFFF_FFFF_FFFF) as u64 ^ (product >> 64) as u64
+}
+
+// The four bytes from here on, the lowest first.
+fn half_word(bytes: &[u8], at: usize) -> u64
+    requires { at + 4 ≤ length bytes.now }
+    ensures { result ≡ read_u32 bytes.now at }
+{
+    u32::from_le_bytes([bytes[at], bytes[at + 1], bytes[at + 2], bytes[at + 3]]) as u64
+}
+
+// The eight bytes from here on, the lowest first.
+fn word(bytes: &[u8], at: usize) -> u64
+    requires { at + 8 ≤ length bytes.now }
+    ensures { result ≡ read_u64 bytes.now at }
+{
+    half_word(bytes, at) | half_word(bytes, at + 4) << 32
+}
+
+// Less than eight bytes as one word, by reads that may overlap.
+fn short_word(bytes: &[u8]) -> u64
+    ensures { result ≡ read_short bytes.now }
+{
+    let len = bytes.len();
+    if len >= 4 {
+        return half_word(bytes, 0) | half_word(bytes, len - 4) << 32;
+    }
+    if len > 0 {
+        return bytes[0] as u64 | (bytes[len / 2] as u64) << 8 | (bytes[len - 1] as u64) << 16;
+    }
+    0
+}
+
+// The hash behind a text.
+fn behind(state: u64, factor: u64, bytes: &[u8]) -> u64
+    ensures { result ≡ behind state factor bytes.now }
+{
+    let len = bytes.len();
+    if len < 8 {
+        return product(state ^ short_word(bytes), factor);
+    }
+    let mut state = state;
+    let mut at = 0;
+    while len - at > 8 {
+        state = product(state ^ word(bytes, at), factor);
+        at += 8;
+    }
+    product(state ^ word(bytes, len - 8), factor)
+}
+
+impl Hasher for NameHasher {
+    ghost write = { hashed.write };
+
+    ghost finish = { λ h. h.state };
+
+    fn finish(&self) -> u64 {
+        self.state
+    }
+
+    fn write(&mut self, bytes: &[u8]) {
+        let factor = self.key ^ bytes.len() as u64;
+        self.state = behind(self.state, factor, bytes);
+    }
+}
