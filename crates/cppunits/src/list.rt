@@ -12,7 +12,7 @@ mod tests;
 
 use crate::list::drafts::{Draft, draft_of};
 use crate::list::judging::judge;
-use pptext::Memory;
+use pptext::{Hashing, Memory};
 use ppunit::{Setting, Texts, Unit};
 use serde_json::{Category, Value};
 use std::alloc::{AllocError, AllocFailed, Global};
@@ -136,7 +136,7 @@ impl<T: Drop> From<AllocFailed<T>> for ListFault {
 /// The most bytes of a list.
 pub(crate) const MOST_INPUT: usize = 268_435_456;
 
-/// The list that bytes hold. Where `inline` is false its files have names alone, and it holds no contents.
+/// The list that bytes hold. Where `inline` is false its files have names alone, and it holds no contents. Names are hashed so.
 ///
 /// # Errors
 ///
@@ -146,7 +146,12 @@ pub(crate) const MOST_INPUT: usize = 268_435_456;
 /// among the names, 6 for the date or the time, 7 for a definition of more than one line, 8 for a text to be searched
 /// that is no folder, 9 for another profile than `c11` and `later`, 10 for a budget that is no whole number from 0 to 4,294,967,295; and
 /// `Memory`.
-pub fn read_list(alloc: Global, bytes: &[u8], inline: bool) -> Result<List, ListFault>
+pub fn read_list(
+    alloc: Global,
+    bytes: &[u8],
+    inline: bool,
+    hashing: Hashing,
+) -> Result<List, ListFault>
     ensures ok { IfOk result (λ l. outcome_of inline bytes.now ≡ accepted l) }
     ensures runnable { IfOk result (λ l. IsRunnable l) }
     ensures contents { inline ≡ true → IfOk result (λ l. length l.contents ≡ length l.names) }
@@ -156,7 +161,7 @@ pub fn read_list(alloc: Global, bytes: &[u8], inline: bool) -> Result<List, List
         return Err(ListFault::Bad(1));
     }
     let draft = draft_from(alloc, bytes, inline)?;
-    judge(alloc, draft, inline)
+    judge(alloc, draft, inline, hashing)
 }
 
 /// The list as it stands in JSON. The JSON value is given back before the list is judged.

@@ -17,9 +17,20 @@ mod writing;
 use command_line::{Asked, Options};
 use ending::{status, words};
 use ppshelf::FolderDisk;
-use serving::{serve, serve_from};
+use pptext::Hashing;
+use serving::{RunFault, serve, serve_from};
+use std::hash::RandomState;
 use std::process::ExitCode;
+use std::random::RandomSource;
 use streams::{ReaderFeed, WriterSink};
+
+/// How this run hashes names: by a key of its own, so that nobody can choose names that collide.
+fn hashing(rt: &impl RandomSource) -> Result<Hashing, RunFault> {
+    match RandomState::new(rt) {
+        Ok(key) => Ok(Hashing::keyed(key)),
+        Err(_) => Err(RunFault::Read),
+    }
+}
 
 fn main(rt: HostRuntime) -> ExitCode {
     let Options {
@@ -36,9 +47,19 @@ fn main(rt: HostRuntime) -> ExitCode {
         ReaderFeed::new(rt.stdin()),
         WriterSink::new(rt.stdout()),
     );
-    let outcome = match &root {
-        None => serve(&rt, alloc, &mut reader, &mut writer, mode, workers, block),
-        Some(folder) => {
+    let outcome = match (hashing(&rt), &root) {
+        (Err(fault), _) => Err(fault),
+        (Ok(hashing), None) => serve(
+            &rt,
+            alloc,
+            &mut reader,
+            &mut writer,
+            mode,
+            workers,
+            block,
+            hashing,
+        ),
+        (Ok(hashing), Some(folder)) => {
             let (files, folder) = (&rt, folder.as_str());
             let disk = FolderDisk { files, folder };
             serve_from(
@@ -50,6 +71,7 @@ fn main(rt: HostRuntime) -> ExitCode {
                 mode,
                 workers,
                 block,
+                hashing,
             )
         }
     };

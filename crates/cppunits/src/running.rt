@@ -9,7 +9,7 @@ ghost use Rattle.cppunits.specs.Contents.{files_of, GiveOverSome};
 use crate::list::Contents;
 use pppool::{Gate, list_growth, run};
 use ppshelf::{Disk, MemoryDisk, Shelf};
-use pptext::{Memory, Profile};
+use pptext::{Hashing, Memory, Profile};
 use ppunit::{Setting, Texts, Unit, UnitOut};
 use std::alloc::Global;
 use std::thread::Threads;
@@ -39,11 +39,12 @@ pub(crate) fn no_disk(alloc: Global) -> MemoryDisk
     }
 }
 
-/// A shelf of these names that reads by this profile, to whose rows nothing was moved.
+/// A shelf of these names, hashed so, that reads by this profile, to whose rows nothing was moved.
 pub(crate) fn empty_shelf<D: Disk>(
     alloc: Global,
     names: &Texts,
     profile: Profile,
+    hashing: Hashing,
 ) -> Result<Shelf<D>, Memory>
     requires few { length names.now ≤ most_rows }
     ensures names { IfOk result (λ s. s.names ≡ names.now) }
@@ -51,18 +52,19 @@ pub(crate) fn empty_shelf<D: Disk>(
     ensures empty { IfOk result (λ s. s.base ≡ replicate (length names.now) None) }
 {
     let copies = Vec::from_clones(alloc, names.as_slice())?;
-    let Ok(shelf) = Shelf::new(alloc, copies, profile) else {
+    let Ok(shelf) = Shelf::with_hasher(alloc, copies, profile, hashing) else {
         return Err(Memory);
     };
     Ok(shelf)
 }
 
-/// A shelf of these names, to whose rows the contents are moved, which it reads by this profile.
+/// A shelf of these names, hashed so, to whose rows the contents are moved, which it reads by this profile.
 pub(crate) fn filled_shelf(
     alloc: Global,
     names: &Texts,
     profile: Profile,
     contents: Contents,
+    hashing: Hashing,
 ) -> Result<Shelf<MemoryDisk>, Memory>
     requires few { length names.now ≤ most_rows }
     requires count { length contents ≡ length names.now }
@@ -72,7 +74,7 @@ pub(crate) fn filled_shelf(
     ensures files { IfOk result (λ s. s.base ≡ files_of contents) }
     ensures full { IfOk result (λ s. IsFull s) }
 {
-    let mut shelf = empty_shelf(alloc, names, profile)?;
+    let mut shelf = empty_shelf(alloc, names, profile, hashing)?;
     shelf.fill_with(contents.into_vec())?;
     Ok(shelf)
 }

@@ -11,7 +11,7 @@ use crate::page::Page;
 use crate::running::{Crew, empty_shelf, filled_shelf, over_contents, over_disk};
 use crate::streams::{Feed, Sink};
 use ppshelf::Disk;
-use pptext::Memory;
+use pptext::{Hashing, Memory};
 use ppunit::{Texts, Unit, UnitOut};
 use std::alloc::{AllocError, Global};
 use std::mem;
@@ -77,6 +77,7 @@ pub fn serve<T: Threads + Sync, R: Feed, W: Sink>(
     mode: Mode,
     workers: usize,
     block: usize,
+    hashing: Hashing,
 ) -> Result<bool, RunFault>
     requires reader { R.has_failed reader.old ≡ false }
     requires writer { W.has_failed writer.old ≡ false }
@@ -89,14 +90,14 @@ pub fn serve<T: Threads + Sync, R: Feed, W: Sink>(
     ensures broken_off { IsErrOf result WriteFailed → BreaksOff true StandIn mode (R.rest reader.old) (R.rest reader.new) (W.written writer.old) (W.written writer.new) }
     ensures untouched { IfErr result (λ fault. fault ≢ WriteFailed → writer.new ≡ writer.old) }
 {
-    let list = receive(alloc, reader, true)?;
+    let list = receive(alloc, reader, true, hashing)?;
     let List {
         setting,
         names,
         contents,
         units,
     } = list;
-    let shelf = filled_shelf(alloc, &names, setting.profile, contents)?;
+    let shelf = filled_shelf(alloc, &names, setting.profile, contents, hashing)?;
     let units = units.as_slice();
     let crew = Crew { workers, block };
     let outs = over_contents(threads, alloc, &shelf, &setting, units, crew)?;
@@ -118,6 +119,7 @@ pub fn serve_from<T: Threads + Sync, R: Feed, W: Sink, D: Disk + Send + Sync>(
     mode: Mode,
     workers: usize,
     block: usize,
+    hashing: Hashing,
 ) -> Result<bool, RunFault>
     requires reader { R.has_failed reader.old ≡ false }
     requires writer { W.has_failed writer.old ≡ false }
@@ -130,8 +132,8 @@ pub fn serve_from<T: Threads + Sync, R: Feed, W: Sink, D: Disk + Send + Sync>(
     ensures broken_off { IsErrOf result WriteFailed → BreaksOff false (MayBe D.may) mode (R.rest reader.old) (R.rest reader.new) (W.written writer.old) (W.written writer.new) }
     ensures untouched { IfErr result (λ fault. fault ≢ WriteFailed → writer.new ≡ writer.old) }
 {
-    let list = receive(alloc, reader, false)?;
-    let shelf = empty_shelf(alloc, &list.names, list.setting.profile)?;
+    let list = receive(alloc, reader, false, hashing)?;
+    let shelf = empty_shelf(alloc, &list.names, list.setting.profile, hashing)?;
     let units = list.units.as_slice();
     let crew = Crew { workers, block };
     let outs = over_disk(threads, alloc, &shelf, disk, &list.setting, units, crew)?;
@@ -143,7 +145,12 @@ pub fn serve_from<T: Threads + Sync, R: Feed, W: Sink, D: Disk + Send + Sync>(
 }
 
 /// The list that a reader brings, which holds its files or their names alone. Its bytes are given back once it is read.
-fn receive<R: Feed>(alloc: Global, reader: &mut R, inline: bool) -> Result<List, RunFault>
+fn receive<R: Feed>(
+    alloc: Global,
+    reader: &mut R,
+    inline: bool,
+    hashing: Hashing,
+) -> Result<List, RunFault>
     ensures ok { IfOk result (λ l. Comes inline (R.rest reader.old) (R.rest reader.new) l) }
     ensures runnable { IfOk result (λ l. IsRunnable l) }
     ensures contents { inline ≡ true → IfOk result (λ l. length l.contents ≡ length l.names) }
@@ -152,7 +159,7 @@ fn receive<R: Feed>(alloc: Global, reader: &mut R, inline: bool) -> Result<List,
     ensures unwritten { IfErr result (λ fault. fault ≢ WriteFailed) }
 {
     let bytes = read_all(alloc, reader)?;
-    Ok(read_list(alloc, bytes.as_slice(), inline)?)
+    Ok(read_list(alloc, bytes.as_slice(), inline, hashing)?)
 }
 
 /// Reads to the end, or until the bytes are too many for a list.

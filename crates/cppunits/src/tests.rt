@@ -6,6 +6,7 @@ use crate::output::Mode;
 use crate::serving::{RunFault, serve, serve_from};
 use crate::streams::{Failed, Feed, ReaderFeed, Sink, SliceFeed, VecSink, WriterSink};
 use ppshelf::{File, MemoryDisk};
+use pptext::Hashing;
 use std::alloc::{AllocError, Global};
 use std::fmt::Debug;
 use std::process::Abort;
@@ -63,6 +64,7 @@ fn run_list<R: Threads + AllocGlobal + Sync>(
         mode,
         workers,
         block,
+        Hashing::fixed(),
     );
     RunEnd { outcome, writer }
 }
@@ -90,6 +92,7 @@ fn run_from<R: Threads + AllocGlobal + Sync>(
         mode,
         workers,
         block,
+        Hashing::fixed(),
     );
     RunEnd { outcome, writer }
 }
@@ -474,7 +477,16 @@ fn writes_nothing_after_a_failed_read(rt: HostRuntime) -> Result<(), Fail> {
         failed: false,
     };
     let mut writer = VecSink::new(rt.alloc());
-    let outcome = serve(&rt, rt.alloc(), &mut reader, &mut writer, Mode::Dump, 4, 8);
+    let outcome = serve(
+        &rt,
+        rt.alloc(),
+        &mut reader,
+        &mut writer,
+        Mode::Dump,
+        4,
+        8,
+        Hashing::fixed(),
+    );
     assert!(rt; matches!(outcome, Err(RunFault::Read)));
     assert_same(&rt, &status(&outcome), &5);
     assert!(rt; reader.failed());
@@ -523,7 +535,16 @@ fn breaks_off_at_a_failed_write(rt: HostRuntime) -> Result<(), Fail> {
         calls: 0,
         failed: false,
     };
-    let outcome = serve(&rt, rt.alloc(), &mut reader, &mut writer, Mode::Dump, 4, 8);
+    let outcome = serve(
+        &rt,
+        rt.alloc(),
+        &mut reader,
+        &mut writer,
+        Mode::Dump,
+        4,
+        8,
+        Hashing::fixed(),
+    );
     assert!(rt; matches!(outcome, Err(RunFault::Write)));
     assert_same(&rt, &status(&outcome), &5);
     assert!(rt; writer.failed());
@@ -538,7 +559,16 @@ fn serves_over_a_reader_and_a_writer(rt: HostRuntime) -> Result<(), Fail> {
     let mut reader = ReaderFeed::new(EXAMPLE.as_bytes());
     let mut bytes = Vec::new(rt.alloc());
     let mut writer = WriterSink::new(&mut bytes);
-    let outcome = serve(&rt, rt.alloc(), &mut reader, &mut writer, Mode::Dump, 4, 8);
+    let outcome = serve(
+        &rt,
+        rt.alloc(),
+        &mut reader,
+        &mut writer,
+        Mode::Dump,
+        4,
+        8,
+        Hashing::fixed(),
+    );
     assert_same(&rt, &status(&outcome), &0);
     assert!(rt; bytes.as_slice() == EXAMPLE_OUTPUT.as_bytes());
     Ok(())

@@ -314,7 +314,7 @@ pub fn expand<'x, 'a: 'x>(
             left,
         });
     }
-    let mut sets = HideSets::new(alloc)?;
+    let mut sets = HideSets::with_hasher(alloc, table.hashing())?;
     let list = Cursor::over(alloc, Stretch::new(rest, sets.empty()));
     let ended = expand_list(alloc, table, env, 0, left, &mut sets, list)?;
     Ok(Expanded {

@@ -12,7 +12,7 @@ use indexmap::IndexSet;
 use names::NameNumbers;
 use nodes::{Node, Operation};
 use pairs::Pairs;
-use pptext::Memory;
+use pptext::{Hashing, Memory};
 use std::alloc::Global;
 use std::marker::Model;
 
@@ -58,13 +58,20 @@ impl Model for HideSets {
 }
 
 impl HideSets {
-    /// The empty set alone.
+    /// The empty set alone. Names are hashed without a key: see `with_hasher`.
     pub fn new(alloc: Global) -> Result<HideSets, Memory>
+        ensures { IfOk result (λ s. s ≡ starting) }
+    {
+        HideSets::with_hasher(alloc, Hashing::fixed())
+    }
+
+    /// The same, with names that are hashed so, as a table's are.
+    pub fn with_hasher(alloc: Global, hashing: Hashing) -> Result<HideSets, Memory>
         ensures { IfOk result (λ s. s ≡ starting) }
     {
         Ok(HideSets {
             alloc,
-            names: NameNumbers::new(alloc),
+            names: NameNumbers::new(alloc, hashing),
             nodes: nodes::start(alloc)?,
             unions: Pairs::new(alloc),
             meets: Pairs::new(alloc),

@@ -10,7 +10,7 @@ use crate::keys::Key;
 use crate::macros::{Builtin, Definition, Macro, Shape};
 use crate::marks::Marks;
 use indexmap::IndexMap;
-use pptext::Memory;
+use pptext::{Hashing, Memory};
 use std::alloc::{AllocError, Global};
 use std::marker::Model;
 
@@ -19,7 +19,7 @@ use std::marker::Model;
 /// Most identifiers are names of no macro, and most of those have a mark that no name in the table ever had.
 #[derive(Drop)]
 pub struct Table<'a> {
-    macros: IndexMap<Key<'a>, Macro<'a>>,
+    macros: IndexMap<Key<'a>, Macro<'a>, Hashing>,
     marks: Marks,
 }
 
@@ -54,21 +54,33 @@ fn is_predefined(found: Option<&Macro>) -> bool
 }
 
 impl<'a> Table<'a> {
-    /// The predefined names alone (6.10.8.1).
+    /// The predefined names alone (6.10.8.1). Names are hashed without a key: see `with_hasher`.
     pub fn new(alloc: Global) -> Result<Table<'a>, Memory>
         ensures { IfOk result (λ t. t ≡ predefined) }
     {
-        let mut table = Table::empty(alloc)?;
+        Table::with_hasher(alloc, Hashing::fixed())
+    }
+
+    /// The same, with names that are hashed so. By a key, names that strangers choose cost no more than others.
+    pub fn with_hasher(alloc: Global, hashing: Hashing) -> Result<Table<'a>, Memory>
+        ensures { IfOk result (λ t. t ≡ predefined) }
+    {
+        let mut table = Table::empty(alloc, hashing)?;
         table.predefine_all()?;
         Ok(table)
     }
 
+    /// How its names are hashed.
+    pub fn hashing(&self) -> Hashing {
+        *self.macros.hasher()
+    }
+
     // No name at all.
-    fn empty(alloc: Global) -> Result<Table<'a>, Memory>
+    fn empty(alloc: Global, hashing: Hashing) -> Result<Table<'a>, Memory>
         ensures { IfOk result (λ t. t ≡ table.empty) }
     {
         let table = Table {
-            macros: IndexMap::new(alloc),
+            macros: IndexMap::with_hasher(alloc, hashing),
             marks: Marks::new(alloc)?,
         };
         Ok(table)

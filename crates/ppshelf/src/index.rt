@@ -7,7 +7,7 @@ ghost use Rattle.ppshelf.specs.Names.{AreNames, IsRowOf};
 use crate::names::is_name;
 use crate::shelf::ShelfFault;
 use indexmap::IndexSet;
-use pptext::Memory;
+use pptext::{Hashing, Memory};
 use std::alloc::Global;
 use std::marker::Model;
 
@@ -15,7 +15,7 @@ use std::marker::Model;
 #[derive(Drop)]
 pub(crate) struct Index {
     alloc: Global,
-    names: IndexSet<Vec<u8>>,
+    names: IndexSet<Vec<u8>, Hashing>,
 }
 
 impl Model for Index {
@@ -28,13 +28,17 @@ impl Model for Index {
 }
 
 impl Index {
-    pub(crate) fn new(alloc: Global, count: usize) -> Result<Index, Memory>
+    pub(crate) fn new(alloc: Global, count: usize, hashing: Hashing) -> Result<Index, Memory>
         ensures { IfOk result (λ i. i ≡ []) }
     {
         Ok(Index {
             alloc,
-            names: IndexSet::with_capacity(alloc, count)?,
+            names: IndexSet::with_capacity_and_hasher(alloc, count, hashing)?,
         })
+    }
+
+    pub(crate) fn hashing(&self) -> Hashing {
+        *self.names.hasher()
     }
 
     pub(crate) fn row_of(&self, name: &[u8]) -> Option<usize>
@@ -55,13 +59,17 @@ impl Index {
     }
 }
 
-/// An index of these names, or the first that is out of form or stands before.
-pub(crate) fn index_names(alloc: Global, names: &[String]) -> Result<Index, ShelfFault>
+/// An index of these names, hashed so, or the first that is out of form or stands before.
+pub(crate) fn index_names(
+    alloc: Global,
+    names: &[String],
+    hashing: Hashing,
+) -> Result<Index, ShelfFault>
     ensures all { IfOk result (λ i. i ≡ map string_bytes names.now) }
     ensures form { IfOk result (λ i. AreNames i) }
     ensures fault { IfErr result (λ e. IsShelfFault e (map string_bytes names.now)) }
 {
-    let Ok(mut index) = Index::new(alloc, names.len()) else {
+    let Ok(mut index) = Index::new(alloc, names.len(), hashing) else {
         return Err(ShelfFault::Memory);
     };
     for (row, name) in names.iter().enumerate() {

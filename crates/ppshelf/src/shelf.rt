@@ -12,7 +12,7 @@ use crate::disk::Disk;
 use crate::index::{Index, index_names};
 use crate::loaded::Loaded;
 use crate::row::{Row, Seen};
-use pptext::{Memory, Profile};
+use pptext::{Hashing, Memory, Profile};
 use std::alloc::Global;
 use std::marker::Model;
 
@@ -92,7 +92,8 @@ pub enum LookFault {
 }
 
 impl<D: Disk> Shelf<D> {
-    /// Rows with these names, at most `MOST_ROWS`, in order, to be read by this profile. None is filled.
+    /// Rows with these names, at most `MOST_ROWS`, in order, to be read by this profile. None is filled. Names are hashed
+    /// without a key: see `with_hasher`.
     ///
     /// Fails at the first name that is not in normal form or that stands before.
     pub fn new(alloc: Global, names: Vec<String>, profile: Profile) -> Result<Shelf<D>, ShelfFault>
@@ -103,7 +104,25 @@ impl<D: Disk> Shelf<D> {
         ensures empty { IfOk result (λ s. s.base ≡ replicate (length names.items) None) }
         ensures fault { IfErr result (λ e. IsShelfFault e (map string_bytes names.items)) }
     {
-        let index = index_names(alloc, names.as_slice())?;
+        Shelf::with_hasher(alloc, names, profile, Hashing::fixed())
+    }
+
+    /// The same, with names that are hashed so: those of its rows, and those of the macros of a unit over its files. By a key,
+    /// names that strangers choose cost no more than others.
+    pub fn with_hasher(
+        alloc: Global,
+        names: Vec<String>,
+        profile: Profile,
+        hashing: Hashing,
+    ) -> Result<Shelf<D>, ShelfFault>
+        requires { vec_len names ≤ most_rows }
+        ensures names { IfOk result (λ s. s.names ≡ map string_bytes names.items) }
+        ensures profile { IfOk result (λ s. s.profile ≡ profile) }
+        ensures form { OnOk result (AreNames (map string_bytes names.items)) }
+        ensures empty { IfOk result (λ s. s.base ≡ replicate (length names.items) None) }
+        ensures fault { IfErr result (λ e. IsShelfFault e (map string_bytes names.items)) }
+    {
+        let index = index_names(alloc, names.as_slice(), hashing)?;
         let Ok(rows) = empty_rows(alloc, names) else {
             return Err(ShelfFault::Memory);
         };
@@ -128,6 +147,11 @@ impl<D: Disk> Shelf<D> {
         ensures { result ≡ self.now.profile }
     {
         self.profile
+    }
+
+    /// How names are hashed. Takes no memory.
+    pub fn hashing(&self) -> Hashing {
+        self.index.hashing()
     }
 
     /// The row of this name. Takes no memory.

@@ -7,9 +7,10 @@ use crate::{
     Disk, File, FolderDisk, Folders, Form, LONGEST, Loaded, MemoryDisk, Pass, ReadFault, Shelf,
     ShelfFault, is_folder, is_name, resolve,
 };
-use pptext::{Directive, Fault, Memory, Profile, Source};
+use pptext::{Directive, Fault, Hashing, Memory, Profile, Source};
 use std::alloc::{AllocError, Global};
 use std::fs::OpenFile;
+use std::hash::RandomState;
 use std::process::Abort;
 use std::rt::Files;
 use std::sync::atomic::AtomicU64;
@@ -538,6 +539,31 @@ fn a_shelf_refuses_the_first_bad_name(rt: HostRuntime) -> Result<(), Fail> {
         Profile::C11,
     );
     assert!(rt; out_of_form.map(|_| ()) == Err(ShelfFault::Name(1)));
+    Ok(())
+}
+
+#[test]
+fn a_shelf_by_a_key_finds_its_rows(rt: HostRuntime) -> Result<(), Fail> {
+    let Ok(key) = RandomState::new(&rt) else {
+        return Err(Fail::new("no key was drawn"));
+    };
+    let names = texts(rt.alloc(), &["a", "b/c"])?;
+    let shelf: Shelf<MemoryDisk> = Shelf::with_hasher(
+        rt.alloc(),
+        names,
+        Profile::C11,
+        Hashing::keyed(key),
+    )?;
+    assert!(rt; shelf.row_of(b"a") == Some(0) && shelf.row_of(b"b/c") == Some(1));
+    assert!(rt; shelf.row_of(b"b") == None);
+    let names = texts(rt.alloc(), &["c"])?;
+    let other: Shelf<MemoryDisk> = Shelf::with_hasher(
+        rt.alloc(),
+        names,
+        Profile::C11,
+        shelf.hashing(),
+    )?;
+    assert!(rt; other.row_of(b"c") == Some(0));
     Ok(())
 }
 

@@ -124,7 +124,7 @@ pub fn preprocess<'x, 'a: 'x, D: Disk>(
     shelf.lawful();
     stays_within();
     budget_caps_units();
-    let mut state = State::new(alloc, setting)?;
+    let mut state = State::new(alloc, setting, shelf.hashing())?;
     let fault = translate(&around, pass, &mut state, &unit.defines, unit.file)?;
     let State {
         macros: _,

@@ -8,7 +8,7 @@ use crate::lists::{Items, Rows};
 use crate::units::Setting;
 use ppexpand::Env;
 use ppmacro::{Table, push_escaped};
-use pptext::{Memory, Place, Spelling, Token};
+use pptext::{Hashing, Memory, Place, Spelling, Token};
 use std::alloc::{AllocError, Global};
 
 /// Where phase 4 stands: the macros, what was passed on, the files that were opened in the order of their first
@@ -24,8 +24,12 @@ pub(crate) struct State<'x> {
 }
 
 impl<'x> State<'x> {
-    /// The predefined names alone, and nothing passed on.
-    pub(crate) fn new(alloc: Global, setting: &Setting) -> Result<State<'x>, Memory>
+    /// The predefined names alone, and nothing passed on. Macros' names are hashed so.
+    pub(crate) fn new(
+        alloc: Global,
+        setting: &Setting,
+        hashing: Hashing,
+    ) -> Result<State<'x>, Memory>
         ensures { IfOk result (λ s. s ≡ beginning setting.now) }
     {
         let env = Env {
@@ -35,7 +39,7 @@ impl<'x> State<'x> {
             time: spelled(alloc, setting.time.as_str())?,
         };
         Ok(State {
-            macros: Table::new(alloc)?,
+            macros: Table::with_hasher(alloc, hashing)?,
             items: Items::new(alloc),
             deps: Rows::new(alloc),
             once: Rows::new(alloc),

@@ -4,6 +4,7 @@ ghost use Rattle.cppunits.specs.Listing.{place_of};
 ghost use Rattle.cppunits.specs.Shape.{has_text};
 
 use indexmap::IndexSet;
+use pptext::Hashing;
 use std::alloc::{AllocError, Global};
 use std::marker::Model;
 
@@ -11,7 +12,7 @@ use std::marker::Model;
 #[derive(Drop)]
 pub(crate) struct Index {
     alloc: Global,
-    names: IndexSet<Vec<u8>>,
+    names: IndexSet<Vec<u8>, Hashing>,
 }
 
 impl Model for Index {
@@ -24,13 +25,13 @@ impl Model for Index {
 }
 
 impl Index {
-    /// An index without names.
-    pub(crate) fn new(alloc: Global) -> Index
+    /// An index without names, which are hashed so.
+    pub(crate) fn new(alloc: Global, hashing: Hashing) -> Index
         ensures { result ≡ [] }
     {
         Index {
             alloc,
-            names: IndexSet::new(alloc),
+            names: IndexSet::with_hasher(alloc, hashing),
         }
     }
 

@@ -15,24 +15,29 @@ use crate::list::drafts::{
 use crate::list::index::Index;
 use crate::list::{Contents, List, ListFault, Units};
 use ppshelf::{LONGEST, MOST_ROWS, is_folder, is_name};
-use pptext::{Memory, Profile};
+use pptext::{Hashing, Memory, Profile};
 use ppunit::{Definitions, Setting, Texts, Unit, fits_command, is_date, is_one_line, is_time};
 use std::alloc::{AllocError, Global};
 
 /// The most that a list may allow each unit.
 const MOST_BUDGET: u64 = 4_294_967_295;
 
-/// The list of a draft.
+/// The list of a draft. Names are hashed so.
 ///
 /// # Errors
 ///
 /// `Bad` with the least number that applies: 3 for a name, 4 for a number or a size, 5 for the file of a unit, 6
 /// for the date or the time, 7 for a definition, 8 for a folder, 9 for the profile and 10 for the budget; and `Memory`.
-pub(super) fn judge(alloc: Global, draft: Draft, inline: bool) -> Result<List, ListFault>
+pub(super) fn judge(
+    alloc: Global,
+    draft: Draft,
+    inline: bool,
+    hashing: Hashing,
+) -> Result<List, ListFault>
     ensures ok { IfOk result (λ l. judged inline draft ≡ accepted l) }
     ensures bad { (n : ℕ) → IsErrOf result (Bad n) → judged inline draft ≡ refused n }
 {
-    let index = index_files(alloc, draft.files.as_slice())?;
+    let index = index_files(alloc, draft.files.as_slice(), hashing)?;
     if !sizes_hold(&draft) {
         return Err(ListFault::Bad(4));
     }
@@ -87,12 +92,12 @@ fn judge_choices(
 /// # Errors
 ///
 /// `Bad(3)` where a name is out of form or stands twice, and `Memory`.
-fn index_files(alloc: Global, files: &[DraftFile]) -> Result<Index, ListFault>
+fn index_files(alloc: Global, files: &[DraftFile], hashing: Hashing) -> Result<Index, ListFault>
     ensures all { IfOk result (λ i. i ≡ spec.names_of files.now) }
     ensures ok { OnOk result (spec.names_hold files.now ≡ true) }
     ensures err { IfErr result (RefusedFor 3 (spec.names_hold files.now ≡ false)) }
 {
-    let mut index = Index::new(alloc);
+    let mut index = Index::new(alloc, hashing);
     for file in files {
         let name = file.name.as_str().as_bytes();
         if !is_name(name) {

@@ -1,6 +1,6 @@
 use crate::list::{Contents, List, ListFault, read_list};
 use crate::tests::{arrays, assert_same, name_of};
-use pptext::Profile;
+use pptext::{Hashing, Profile};
 use ppunit::{Texts, Unit};
 use std::alloc::{AllocError, Global};
 use std::process::Abort;
@@ -15,7 +15,7 @@ const UNIT: &str = r#"{"file":"a.c"}"#;
 
 /// The number of the refusal of a list, or 0.
 fn refusal(alloc: Global, list: &[u8], inline: bool) -> Result<u8, AllocError> {
-    match read_list(alloc, list, inline) {
+    match read_list(alloc, list, inline, Hashing::fixed()) {
         Ok(_) => Ok(0),
         Err(ListFault::Bad(number)) => Ok(number),
         Err(ListFault::Memory) => Err(AllocError),
@@ -99,7 +99,7 @@ fn assert_plain(rt: &impl Abort, list: &List) {
 
 #[test]
 fn reads_a_list(rt: HostRuntime) -> Result<(), Fail> {
-    let list = read_list(rt.alloc(), PLAIN.as_bytes(), true)?;
+    let list = read_list(rt.alloc(), PLAIN.as_bytes(), true, Hashing::fixed())?;
     assert_plain(&rt, &list);
     Ok(())
 }
@@ -113,7 +113,7 @@ fn reads_contents_in_hex(rt: HostRuntime) -> Result<(), Fail> {
         r#"{"hex":"00ff0a6b","name":"d/a.c"}"#,
         r#"{"file":"d/a.c"}"#,
     )?;
-    let list = read_list(rt.alloc(), text.as_bytes(), true)?;
+    let list = read_list(rt.alloc(), text.as_bytes(), true, Hashing::fixed())?;
     assert_contents(&rt, &list.contents, &[[0, 255, 10, 107].as_slice()]);
     Ok(())
 }
@@ -128,7 +128,7 @@ fn reads_names_alone(rt: HostRuntime) -> Result<(), Fail> {
         r#"{"name":"a.c"}"#,
         UNIT,
     )?;
-    let list = read_list(rt.alloc(), text.as_bytes(), false)?;
+    let list = read_list(rt.alloc(), text.as_bytes(), false, Hashing::fixed())?;
     assert_texts(&rt, &list.names, &["a.c"]);
     assert_contents(&rt, &list.contents, &[]);
     Ok(())
@@ -306,7 +306,7 @@ fn assert_three_units(rt: &impl Abort, units: &[Unit]) -> Result<(), Fail> {
 fn reads_many_files_and_units(rt: HostRuntime) -> Result<(), Fail> {
     let text =
         r#"{"search":["inc"],"date":"Feb  9 2024","time":"08:05:03","files":[{"name":"a.c","text":"1"},{"name":"inc/h.h","hex":"320a"},{"name":"b.c","text":"3"}],"units":[{"file":"b.c","define":["A 1","F(x) x"],"search":[".","inc/sub"]},{"file":"a.c"},{"file":"b.c"}]}"#;
-    let list = read_list(rt.alloc(), text.as_bytes(), true)?;
+    let list = read_list(rt.alloc(), text.as_bytes(), true, Hashing::fixed())?;
     let contents = [b"1".as_slice(), b"2\n".as_slice(), b"3".as_slice()];
     assert_texts(&rt, &list.names, &["a.c", "inc/h.h", "b.c"]);
     assert_contents(&rt, &list.contents, &contents);
@@ -317,7 +317,7 @@ fn reads_many_files_and_units(rt: HostRuntime) -> Result<(), Fail> {
 #[test]
 fn takes_a_list_of_nothing(rt: HostRuntime) -> Result<(), Fail> {
     let text = list_of(rt.alloc(), "Feb  9 2024", "08:05:03", "", "")?;
-    let list = read_list(rt.alloc(), text.as_bytes(), true)?;
+    let list = read_list(rt.alloc(), text.as_bytes(), true, Hashing::fixed())?;
     assert_texts(&rt, &list.names, &[]);
     assert!(rt; list.units.as_slice().is_empty());
     Ok(())
@@ -393,7 +393,7 @@ fn assert_profile(
     text: &str,
     profile: Profile,
 ) -> Result<(), ListFault> {
-    let list = read_list(alloc, text.as_bytes(), true)?;
+    let list = read_list(alloc, text.as_bytes(), true, Hashing::fixed())?;
     assert_profiled(rt, &list, profile);
     Ok(())
 }
@@ -442,7 +442,11 @@ fn budgeted(alloc: Global, budget: &str, profile: &str) -> Result<String, AllocE
 
 /// The budget of a list.
 fn budget_of(alloc: Global, text: &str) -> Result<Option<u64>, ListFault> {
-    Ok(read_list(alloc, text.as_bytes(), true)?.setting.budget)
+    Ok(
+        read_list(alloc, text.as_bytes(), true, Hashing::fixed())?
+            .setting
+            .budget,
+    )
 }
 
 #[test]

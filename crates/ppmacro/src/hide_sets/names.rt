@@ -4,13 +4,14 @@ ghost use Rattle.std.specs.List.{AllByRecursion, IsDistinct};
 ghost use Rattle.ppmacro.specs.Members.{same_name};
 
 use indexmap::IndexSet;
+use pptext::Hashing;
 use std::alloc::{AllocError, Global};
 use std::marker::Model;
 
 /// Names by their numbers, which count from 0, each once.
 #[derive(Drop)]
 pub(crate) struct NameNumbers {
-    names: IndexSet<Vec<u8>>,
+    names: IndexSet<Vec<u8>, Hashing>,
 }
 
 impl Model for NameNumbers {
@@ -29,12 +30,12 @@ impl Model for NameNumbers {
 }
 
 impl NameNumbers {
-    /// No name.
-    pub(crate) fn new(alloc: Global) -> NameNumbers
+    /// No name. Names are hashed so.
+    pub(crate) fn new(alloc: Global, hashing: Hashing) -> NameNumbers
         ensures { result ≡ [] }
     {
         NameNumbers {
-            names: IndexSet::new(alloc),
+            names: IndexSet::with_hasher(alloc, hashing),
         }
     }
 

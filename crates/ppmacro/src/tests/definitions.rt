@@ -1,8 +1,9 @@
 // `#define` and `#undef` (6.10.3, 6.10.3.5).
 use super::{HASH, all_lexed, assert_accepted, assert_same, directed, lexed, shown, table_of};
 use crate::{Chain, Table};
-use pptext::{Fault, Memory, Token};
+use pptext::{Fault, Hashing, Memory, Token};
 use std::alloc::{AllocError, Global};
+use std::hash::RandomState;
 use std::process::Abort;
 use std::test::Fail;
 
@@ -293,12 +294,29 @@ const PREDEFINED: &[(&str, &str)] = &[
     ("__STDC", "none"),
 ];
 
+fn assert_predefined<R: Abort>(rt: &R, alloc: Global, table: &Table) -> Result<(), AllocError> {
+    for &(name, definition) in PREDEFINED {
+        assert_shown(rt, alloc, table, (name, name), definition.as_bytes())?;
+    }
+    Ok(())
+}
+
 #[test]
 fn holds_the_predefined_names_alone(rt: HostRuntime) -> Result<(), Fail> {
     let table = Table::new(rt.alloc())?;
-    for &(name, definition) in PREDEFINED {
-        assert_shown(&rt, rt.alloc(), &table, (name, name), definition.as_bytes())?;
-    }
+    assert_predefined(&rt, rt.alloc(), &table)?;
+    Ok(())
+}
+
+#[test]
+fn holds_them_by_a_key(rt: HostRuntime) -> Result<(), Fail> {
+    let Ok(key) = RandomState::new(&rt) else {
+        return Err(Fail::new("no key was drawn"));
+    };
+    let table = Table::with_hasher(rt.alloc(), Hashing::keyed(key))?;
+    assert_predefined(&rt, rt.alloc(), &table)?;
+    let other = Table::with_hasher(rt.alloc(), table.hashing())?;
+    assert_predefined(&rt, rt.alloc(), &other)?;
     Ok(())
 }
 

@@ -1,7 +1,8 @@
 // Hide sets.
 use super::{assert_same, has, more};
 use crate::{HideSets, Set};
-use pptext::Memory;
+use pptext::{Hashing, Memory};
+use std::hash::RandomState;
 use std::process::Abort;
 use std::test::Fail;
 
@@ -53,6 +54,15 @@ fn names_are_hidden<R: Abort>(rt: &R, sets: &mut HideSets) -> Result<(), Fail> {
 #[test]
 fn hides_names(rt: HostRuntime) -> Result<(), Fail> {
     let mut sets = HideSets::new(rt.alloc())?;
+    names_are_hidden(&rt, &mut sets)
+}
+
+#[test]
+fn hides_names_by_a_key(rt: HostRuntime) -> Result<(), Fail> {
+    let Ok(key) = RandomState::new(&rt) else {
+        return Err(Fail::new("no key was drawn"));
+    };
+    let mut sets = HideSets::with_hasher(rt.alloc(), Hashing::keyed(key))?;
     names_are_hidden(&rt, &mut sets)
 }
 

@@ -12,7 +12,7 @@ use Rattle.ppexpand.proofs.expansion.expand.Goals as goal
 pub expand_list-requires-clause-known : goal.expand_list-requires-clause-known
 expand_list-requires-clause-known c =
     let s = c.in_ok-sets.sets in
-    subst (AllKnown s) (sym (c.over-list.ensures ∙ c.new-3.ensures)) (known-with_set s c.empty.result c.split_plain.result.1.now c.empty.ensures.known)
+    subst (AllKnown s) (sym (c.over-list.ensures ∙ c.new-2.ensures)) (known-with_set s c.empty.result c.split_plain.result.1.now c.empty.ensures.known)
 
 pub returns-then-is_empty : goal.returns-then-is_empty
 returns-then-is_empty c =
@@ -29,9 +29,9 @@ returns c =
     let s = c.in_ok-sets.sets in
     let t = c.expand_list.new.sets in
     let rest = c.split_plain.result.1.now in
-    let start : hidings s c.over-list.result ≡ map plain rest = ap (hidings s) (c.over-list.ensures ∙ c.new-3.ensures) ∙ hidings-with_set s c.empty.result rest c.empty.ensures.set in
+    let start : hidings s c.over-list.result ≡ map plain rest = ap (hidings s) (c.over-list.ensures ∙ c.new-2.ensures) ∙ hidings-with_set s c.empty.result rest c.empty.ensures.set in
     expansion-behind c.args.table.now c.args.env.now c.args.left c.args.tokens.now c.split_plain.result.0.now rest _ (outcome_in t c.in_ok-ended.ended) c.split_plain.ensures.laid_out c.split_plain.ensures.plain
     (subst (λ l. ExpandsTo c.args.table.now c.args.env.now 0 c.args.left l (outcome_in t c.in_ok-ended.ended)) start c.in_ok-ended.ensures.outcome)
-    (c.new-4.ensures ∙ (λ i. c.split_plain.result.0.now ++ tokens-in t c.in_ok-ended.ended.tokens i))
+    (c.new-3.ensures ∙ (λ i. c.split_plain.result.0.now ++ tokens-in t c.in_ok-ended.ended.tokens i))
     refl
     refl

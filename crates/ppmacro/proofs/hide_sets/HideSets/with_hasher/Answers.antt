@@ -1,5 +1,5 @@
 use Rattle.ppmacro.specs.Members.{hide_sets}
-use Rattle.ppmacro.proofs.hide_sets.HideSets.new.Goals as goal
+use Rattle.ppmacro.proofs.hide_sets.HideSets.with_hasher.Goals as goal
 
 pub returns : goal.returns
 returns c = λ i. record { sets = hide_sets (c.new.ensures i) (c.in_ok-start.ensures.is i); unions = c.new-2.ensures i; meets = c.new-3.ensures i }

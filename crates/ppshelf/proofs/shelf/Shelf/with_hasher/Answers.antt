@@ -5,7 +5,7 @@ use Rattle.ppshelf.specs.Names.{AreNames}
 use Rattle.ppshelf.specs.Files.{most_rows}
 use Rattle.ppshelf.specs.Shelved.{IsShelf}
 use Rattle.ppshelf.proofs.Finding.{empty_shelf}
-use Rattle.ppshelf.proofs.shelf.Shelf.new.Goals as goal
+use Rattle.ppshelf.proofs.shelf.Shelf.with_hasher.Goals as goal
 
 pub invariant_of-result : goal.invariant_of-result
 invariant_of-result g c =

@@ -5,4 +5,4 @@ use Rattle.ppmacro.proofs.hide_sets.names.NameNumbers.new.Goals as goal
 
 pub invariant_of-result : goal.invariant_of-result
 unfolding IsDistinct
-invariant_of-result c = subst (λ ks. IsDistinct same_name (texts ks)) (sym c.new.ensures.empty) tt
+invariant_of-result c = subst (λ ks. IsDistinct same_name (texts ks)) (sym c.with_hasher.ensures.empty) tt
