@@ -1,0 +1,76 @@
+#!/usr/bin/env python3
+"""Floods the program with names that were chosen to collide, and runs it where no key can be drawn.
+
+    tests/hostile_floods.py [PROGRAM] [-k NAME]
+
+Names of macros, of macros in hide sets and of files that collide under the kit's default hash cost at most ten times what as many
+ordinary names of the same length cost; less than a tenth of a second counts as that.  Where the system gives no random bytes,
+a run ends as where its input can't be read, with nothing printed.
+"""
+import json
+import os
+import resource
+import subprocess
+import sys
+import tempfile
+import unittest
+
+from counted import HERE, LIST, TOP, main, missed, program
+
+sys.path.insert(0, os.path.join(TOP, "bench"))
+from colliding import long_names, macro_names  # noqa: E402
+from shapes import defined, listed_files  # noqa: E402
+
+COUNT = 16_000
+MOST_TIMES, LEAST_SECONDS, MOST_SECONDS = 10, 0.1, 60
+NO_KEY = "int getentropy(void *bytes, unsigned long count) { (void)bytes; (void)count; return -1; }\n"
+READ_FAILED = (5, b"", b"cppunits: read failed\n")
+
+
+def ordinary(length):
+    return ["a%0*d" % (length - 1, number) for number in range(COUNT)]
+
+
+def text_list(names):
+    return dict(LIST, files=[{"name": "a.c", "text": defined(names)}], units=[{"file": "a.c"}])
+
+
+def seconds(asked):
+    """The processor seconds of a run that is to find no fault."""
+    before = resource.getrusage(resource.RUSAGE_CHILDREN)
+    done = subprocess.run([program(), "--workers", "1", "dump"], input=json.dumps(asked).encode(), stdout=subprocess.DEVNULL,
+                          timeout=MOST_SECONDS)
+    after = resource.getrusage(resource.RUSAGE_CHILDREN)
+    if done.returncode:
+        raise AssertionError("status %d" % done.returncode)
+    return after.ru_utime + after.ru_stime - before.ru_utime - before.ru_stime
+
+
+class Floods(unittest.TestCase):
+    def costs_no_more(self, list_of, made):
+        plain = max(seconds(list_of(ordinary(len(made[0])))), LEAST_SECONDS)
+        self.assertLess(seconds(list_of(made)), MOST_TIMES * plain)
+
+    def test_macros(self):
+        self.costs_no_more(text_list, macro_names(COUNT))
+
+    def test_names_in_hide_sets(self):
+        self.costs_no_more(text_list, long_names(COUNT))
+
+    def test_files(self):
+        self.costs_no_more(listed_files, long_names(COUNT))
+
+
+class NoKey(unittest.TestCase):
+    def test_status_5_where_no_key_can_be_drawn(self):
+        missed("gcc")
+        with tempfile.TemporaryDirectory() as folder:
+            library = os.path.join(folder, "no_key.so")
+            subprocess.run(["gcc", "-shared", "-fPIC", "-x", "c", "-", "-o", library], input=NO_KEY.encode(), check=True)
+            done = subprocess.run([program(), "dump"], input=json.dumps(text_list(["a"])).encode(), capture_output=True,
+                                  env=dict(os.environ, LD_PRELOAD=library), timeout=MOST_SECONDS)
+        self.assertEqual((done.returncode, done.stdout, done.stderr), READ_FAILED)
+
+
+if __name__ == "__main__":
+    main()
