@@ -80,6 +80,14 @@ impl<'a> Passed<'a> {
         Ok(())
     }
 
+    // Gives back room for more: what passed is kept until all units are done, and a list that grew holds up to as much room again.
+    fn fit(&mut self)
+        ensures { self.new ≡ self.old }
+    {
+        self.pieces.shrink_to_fit();
+        self.singles.shrink_to_fit();
+    }
+
     /// Whether nothing passed.
     pub(crate) fn is_empty(&self) -> bool
         ensures { result ≡ true → self.now ≡ [] }
@@ -167,6 +175,8 @@ impl<'a> Run<'a> {
     pub(crate) fn new(front: &'a [Token], passed: Passed<'a>) -> Run<'a>
         ensures { result ≡ front.now ++ tokens_of passed.entry }
     {
+        let mut passed = passed;
+        passed.fit();
         Run { front, passed }
     }
 

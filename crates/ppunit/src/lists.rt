@@ -161,6 +161,15 @@ impl<'a> Items<'a> {
         }
     }
 
+    /// The same, without room for more: items are kept until all units are done.
+    pub(crate) fn fitted(self) -> Items<'a>
+        ensures { result ≡ self.entry }
+    {
+        let mut parts = self.parts;
+        parts.shrink_to_fit();
+        Items { parts }
+    }
+
     /// The parts.
     pub fn parts(&self) -> &[Part<'a>]
         ensures { flat_map part_items result.now ≡ self.now }

@@ -134,5 +134,6 @@ pub fn preprocess<'x, 'a: 'x, D: Disk>(
         deps,
         env: _,
     } = state;
+    let items = items.fitted();
     Ok(UnitOut { items, deps, fault })
 }
