@@ -212,7 +212,7 @@ fn advance<'x, 'a: 'x>(
         }
         Next::Called(call) => {
             *left = less_one(*left);
-            let made = call.replaced.chains(alloc)?;
+            let made = call.replaced.chains_with_hasher(alloc, table.hashing())?;
             let chains = made.as_slice();
             match expand_arguments(alloc, table, env, level, left, sets, &call, chains)? {
                 Err(fault) => Ok(Some(Some(fault))),

@@ -12,3 +12,4 @@ pub mod Hiding
 pub mod Naming
 pub mod Viewed
 pub mod Numbers
+pub mod Repeating

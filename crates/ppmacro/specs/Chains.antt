@@ -19,6 +19,11 @@ or_at (Some i) last n = Some i
 or_at None true n = Some n
 or_at None false n = None
 
+-- the names of the parameters
+abbrev pub names_in : Shape → List Name
+names_in (FunctionLike names variadic) = names
+names_in _ = []
+
 -- which parameter a name is: `__VA_ARGS__` comes behind the named ones, where `...` ends them
 abbrev pub parameter_named : Shape → Name → Option ℕ
 parameter_named (FunctionLike names variadic) text = or_at (position (λ p. bytes_eq p text) names) (variadic && bytes_eq (codes "__VA_ARGS__") text) (length names)

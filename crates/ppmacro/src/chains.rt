@@ -1,16 +1,20 @@
 // The chains of a replacement list, whose operands `##` joins (6.10.3.2, 6.10.3.3).
-ghost use Rattle.std.specs.Prelude.{◌≡◌, IfOk, OnOk, List, [], ◌∷◌, ◌++◌, false, position, codes};
+ghost use Rattle.std.specs.Prelude.{◌≡◌, IfOk, OnOk, None, List, [], ◌∷◌, ◌++◌, false, position, codes};
 ghost use Rattle.std.specs.Str.{bytes_eq};
-ghost use Rattle.ppmacro.specs.Chains.{or_at, parameter_named, parameter_of, is_function_like, is_operator_hash, plain_item, stringized_item, items_behind, led_by, resumed, chains_of};
+ghost use Rattle.ppmacro.specs.Chains.{names_in, or_at, parameter_named, parameter_of, is_function_like, is_operator_hash, plain_item, stringized_item, items_behind, led_by, grouped, resumed, chains_of};
 ghost use Rattle.ppmacro.specs.declared.chains.Item.{Item};
 ghost use Rattle.ppmacro.specs.declared.chains.Item.TheVariants.{Operates};
 ghost use Rattle.pptext.specs.declared.tokens.Token.{Token};
 
 use crate::borrowed::Leaf;
+use crate::keys::Key;
 use crate::macros::{Chain, Chains, Definition, Operand, Operands, Shape};
+use crate::places::{FEW, index_of_each};
 use crate::spellings::{is_hash, is_identifier, is_paste};
-use pptext::{Place, Spelling, Token};
+use indexmap::IndexSet;
+use pptext::{Hashing, Place, Spelling, Token};
 use std::alloc::{AllocError, Global};
+use std::marker::Model;
 
 /// A `#`: its space mark, and where it stands.
 #[derive(Clone, Copy)]
@@ -26,11 +30,64 @@ pub(crate) enum Item<'a> {
     Joins,
 }
 
-// The index of a name.
-fn index_of(names: &[Spelling], name: &[u8]) -> Option<usize>
-    ensures { result ≡ position (λ n. bytes_eq n name.now) names.now }
+/// The kind of a macro, with an index of its parameters where they are many. Contracts see the kind.
+#[derive(Drop)]
+pub(crate) struct Parameters<'p> {
+    shape: &'p Shape,
+    index: Option<IndexSet<Key<'p>, Hashing>>,
+}
+
+impl<'p> Model for Parameters<'p> {
+    ghost use Rattle.std.specs.Prelude.{◌≡◌};
+    ghost use Rattle.std.specs.Option.{IfSome};
+    ghost use Rattle.ppmacro.specs.Chains.{names_in};
+    ghost use Rattle.ppmacro.specs.declared.macros.Shape.{Shape};
+
+    ghost Value = { Shape };
+
+    ghost view = { λ p. p.shape.now };
+
+    ghost invariant = { λ p. IfSome p.index (λ s. s.keys ≡ names_in p.shape.now) };
+}
+
+// The names of the parameters.
+fn names_in(shape: &Shape) -> &[Spelling]
+    ensures { result.now ≡ names_in shape.now }
 {
-    names.iter().position(|n| n.as_bytes() == name)
+    match shape {
+        Shape::FunctionLike { parameters, .. } => parameters.as_slice(),
+        _ => &[],
+    }
+}
+
+impl<'p> Parameters<'p> {
+    /// Those of a macro of this kind, which are hashed so where they are many.
+    pub(crate) fn new(
+        alloc: Global,
+        shape: &'p Shape,
+        hashing: Hashing,
+    ) -> Result<Parameters<'p>, AllocError>
+        ensures { IfOk result (λ p. p ≡ shape.now) }
+    {
+        let names = names_in(shape);
+        if names.len() <= FEW {
+            return Ok(Parameters { shape, index: None });
+        }
+        let index = index_of_each(alloc, names, hashing)?;
+        Ok(Parameters { shape, index })
+    }
+
+    // The index of a name.
+    fn index_of(&self, name: &[u8]) -> Option<usize>
+        ensures { result ≡ position (λ n. bytes_eq n name.now) (names_in self.now) }
+    {
+        match &self.index {
+            Some(index) => index.get_index_of(&Key { bytes: name }),
+            None => names_in(self.shape)
+                .iter()
+                .position(|n| n.as_bytes() == name),
+        }
+    }
 }
 
 // Whether it is the name of the arguments that `...` takes.
@@ -51,8 +108,9 @@ fn or_last(found: Option<usize>, last: bool, count: usize) -> Option<usize>
     }
 }
 
-// Which parameter has this name.
-fn parameter_named(shape: &Shape, name: &[u8]) -> Option<usize>
+// Which parameter has this name, which was found so among their names.
+fn parameter_found(shape: &Shape, name: &[u8], found: Option<usize>) -> Option<usize>
+    requires { found ≡ position (λ n. bytes_eq n name.now) (names_in shape.now) }
     ensures { result ≡ parameter_named shape.now name.now }
 {
     let Shape::FunctionLike {
@@ -64,11 +122,18 @@ fn parameter_named(shape: &Shape, name: &[u8]) -> Option<usize>
     };
     let names = parameters.as_slice();
     let last = *variadic && is_variable_arguments(name);
-    or_last(index_of(names, name), last, names.len())
+    or_last(found, last, names.len())
+}
+
+// Which parameter has this name.
+fn parameter_named(shape: &Parameters, name: &[u8]) -> Option<usize>
+    ensures { result ≡ parameter_named shape.now name.now }
+{
+    parameter_found(shape.shape, name, shape.index_of(name))
 }
 
 /// Which parameter a token is.
-pub(crate) fn parameter_of(shape: &Shape, token: &Token) -> Option<usize>
+pub(crate) fn parameter_of(shape: &Parameters, token: &Token) -> Option<usize>
     ensures { result ≡ parameter_of shape.now token.now }
 {
     if is_identifier(token) {
@@ -86,14 +151,14 @@ pub(crate) fn is_function_like(shape: &Shape) -> bool
 }
 
 /// Whether a token is `#` as an operator.
-pub(crate) fn is_operator_hash(shape: &Shape, token: &Token) -> bool
+pub(crate) fn is_operator_hash(shape: &Parameters, token: &Token) -> bool
     ensures { result ≡ is_operator_hash shape.now token.now }
 {
-    is_function_like(shape) && is_hash(token)
+    is_function_like(shape.shape) && is_hash(token)
 }
 
 // A token as an operand.
-fn plain_item<'a>(shape: &Shape, token: &'a Token) -> Item<'a>
+fn plain_item<'a>(shape: &Parameters, token: &'a Token) -> Item<'a>
     ensures { result ≡ plain_item (parameter_of shape.now token.now) token.now }
 {
     let Some(index) = parameter_of(shape, token) else {
@@ -103,7 +168,7 @@ fn plain_item<'a>(shape: &Shape, token: &'a Token) -> Item<'a>
 }
 
 // A token behind `#` as an operand.
-fn stringized_item<'a>(shape: &Shape, hash: HashSign, token: &'a Token) -> Item<'a>
+fn stringized_item<'a>(shape: &Parameters, hash: HashSign, token: &'a Token) -> Item<'a>
     ensures { result ≡ stringized_item (parameter_of shape.now token.now) hash token.now }
 {
     let Some(index) = parameter_of(shape, token) else {
@@ -113,7 +178,7 @@ fn stringized_item<'a>(shape: &Shape, hash: HashSign, token: &'a Token) -> Item<
 }
 
 // The next part, or none at a `#`, which goes with the token behind it.
-fn next_item<'a>(shape: &Shape, hash: Option<HashSign>, token: &'a Token) -> Option<Item<'a>>
+fn next_item<'a>(shape: &Parameters, hash: Option<HashSign>, token: &'a Token) -> Option<Item<'a>>
     ensures { (ts : List Token) → items_behind shape.now hash (token.now ∷ ts) ≡ led_by shape.now token.now result ts }
 {
     if let Some(sign) = hash {
@@ -162,18 +227,18 @@ fn put<'a>(
     Ok(())
 }
 
-/// The chains of a definition's replacement list.
-pub(crate) fn chains_of<'a>(
+// The chains of these tokens.
+fn chains_in<'a>(
     alloc: Global,
-    definition: &Definition<'a>,
+    shape: &Parameters,
+    body: &'a [Token],
 ) -> Result<Chains<'a>, AllocError>
-    ensures { IfOk result (λ c. c ≡ chains_of definition.now) }
+    ensures { IfOk result (λ c. c ≡ grouped (items_behind shape.now None body.now)) }
 {
-    let shape = &definition.shape;
-    let mut chains = Vec::with_capacity(alloc, definition.body.as_slice().len())?;
+    let mut chains = Vec::with_capacity(alloc, body.len())?;
     let mut joined = false;
     let mut hash = None;
-    for token in definition.body.as_slice() {
+    for token in body {
         let Some(item) = next_item(shape, hash, token) else {
             hash = Some(HashSign {
                 mark: token.space,
@@ -190,4 +255,16 @@ pub(crate) fn chains_of<'a>(
         joined = false;
     }
     Ok(Chains::new(chains))
+}
+
+/// The chains of a definition's replacement list. Its parameters are hashed so.
+pub(crate) fn chains_of<'a>(
+    alloc: Global,
+    definition: &Definition<'a>,
+    hashing: Hashing,
+) -> Result<Chains<'a>, AllocError>
+    ensures { IfOk result (λ c. c ≡ chains_of definition.now) }
+{
+    let shape = Parameters::new(alloc, &definition.shape, hashing)?;
+    chains_in(alloc, &shape, definition.body.as_slice())
 }

@@ -16,7 +16,7 @@ use crate::chains::is_function_like;
 use crate::macros::{Definition, Macro, Shape};
 use crate::spellings::{fault, is_identifier, is_punct};
 use crate::tables::Table;
-use pptext::{Fault, Memory, Place, Token};
+use pptext::{Fault, Hashing, Memory, Place, Token};
 use std::alloc::{AllocError, Global};
 
 /// Why a definition is refused, once its name is allowed.
@@ -53,17 +53,18 @@ pub(crate) struct Named<'a> {
     definition: Definition<'a>,
 }
 
-// The macro behind `(`.
+// The macro behind `(`. Its parameters are hashed so.
 fn function_like<'a>(
     alloc: Global,
     line: &'a [Token],
+    hashing: Hashing,
 ) -> Result<Result<Definition<'a>, Refusal>, AllocError>
     ensures { IfOk result (λ r. r ≡ function_like (parameter_list line.now)) }
 {
     let Some(heading) = read_heading(alloc, line)? else {
         return Ok(Err(Refusal::ParameterList));
     };
-    if repeats(heading.names.as_slice()) {
+    if repeats(alloc, heading.names.as_slice(), hashing)? {
         return Ok(Err(Refusal::ParameterList));
     }
     if has_variable_arguments(heading.names.as_slice()) {
@@ -92,6 +93,7 @@ fn object_like<'a>(body: &'a [Token]) -> Definition<'a>
 fn read_definition<'a>(
     alloc: Global,
     line: &'a [Token],
+    hashing: Hashing,
 ) -> Result<Result<Definition<'a>, Refusal>, AllocError>
     ensures { IfOk result (λ r. r ≡ read_definition line.now) }
 {
@@ -104,28 +106,33 @@ fn read_definition<'a>(
     if !is_punct(first, b"(") {
         return Ok(Err(Refusal::Spacing));
     }
-    function_like(alloc, &line[1..])
+    function_like(alloc, &line[1..], hashing)
 }
 
 // Why a definition is refused, if it is.
-fn refusal_of(table: &Table, name: &[u8], definition: &Definition) -> Option<Refusal>
-    ensures { result ≡ refusal_of table.now name.now definition.now }
+fn refusal_of(
+    alloc: Global,
+    table: &Table,
+    name: &[u8],
+    definition: &Definition,
+) -> Result<Option<Refusal>, AllocError>
+    ensures { IfOk result (λ r. r ≡ refusal_of table.now name.now definition.now) }
 {
     let shape = &definition.shape;
     let body = definition.body.as_slice();
     if !is_variadic(shape) && says_variable_arguments(body) {
-        return Some(Refusal::VariableArguments);
+        return Ok(Some(Refusal::VariableArguments));
     }
     if misplaces_paste(body) {
-        return Some(Refusal::Pasting);
+        return Ok(Some(Refusal::Pasting));
     }
-    if is_function_like(shape) && misplaces_hash(shape, body) {
-        return Some(Refusal::Stringizing);
+    if is_function_like(shape) && misplaces_hash(alloc, shape, body, table.hashing())? {
+        return Ok(Some(Refusal::Stringizing));
     }
     if clashes(table, name, definition) {
-        return Some(Refusal::Redefinition);
+        return Ok(Some(Refusal::Redefinition));
     }
-    None
+    Ok(None)
 }
 
 // Whether `...` ends the parameters.
@@ -147,11 +154,11 @@ fn fitting<'a>(
 ) -> Result<Result<Definition<'a>, Refusal>, AllocError>
     ensures { IfOk result (λ r. r ≡ fitting table.now name.now (read_definition line.now)) }
 {
-    let definition = match read_definition(alloc, line)? {
+    let definition = match read_definition(alloc, line, table.hashing())? {
         Ok(definition) => definition,
         Err(refusal) => return Ok(Err(refusal)),
     };
-    match refusal_of(table, name, &definition) {
+    match refusal_of(alloc, table, name, &definition)? {
         Some(refusal) => Ok(Err(refusal)),
         None => Ok(Ok(definition)),
     }

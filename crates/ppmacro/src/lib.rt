@@ -9,6 +9,7 @@ mod hide_sets;
 mod keys;
 mod macros;
 mod marks;
+mod places;
 mod spellings;
 mod substituting;
 mod tables;

@@ -4,7 +4,7 @@ ghost use Rattle.ppmacro.specs.Chains.{chains_of};
 
 use crate::borrowed::{Body, Leaf};
 use crate::chains::chains_of;
-use pptext::{Place, Spelling};
+use pptext::{Hashing, Place, Spelling};
 use std::alloc::{AllocError, Global};
 use std::marker::Model;
 use std::{mem, slice};
@@ -218,10 +218,21 @@ impl<'a> Macro<'a> {
         &self.definition
     }
 
-    /// The chains of its replacement list.
+    /// The chains of its replacement list. Parameters are hashed without a key: see `chains_with_hasher`.
     pub fn chains(&self, alloc: Global) -> Result<Chains<'a>, AllocError>
         ensures { IfOk result (λ c. c ≡ chains_of self.now) }
     {
-        chains_of(alloc, &self.definition)
+        self.chains_with_hasher(alloc, Hashing::fixed())
+    }
+
+    /// The same, with parameters that are hashed so where they are many, as a table's names are.
+    pub fn chains_with_hasher(
+        &self,
+        alloc: Global,
+        hashing: Hashing,
+    ) -> Result<Chains<'a>, AllocError>
+        ensures { IfOk result (λ c. c ≡ chains_of self.now) }
+    {
+        chains_of(alloc, &self.definition, hashing)
     }
 }

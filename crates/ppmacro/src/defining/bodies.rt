@@ -1,13 +1,14 @@
 // What a replacement list is refused for (6.10.3p5, 6.10.3.2p1, 6.10.3.3p1).
-ghost use Rattle.std.specs.Prelude.{◌≡◌, codes, true};
+ghost use Rattle.std.specs.Prelude.{◌≡◌, IfOk, codes, true};
 ghost use Rattle.std.specs.List.{list_any};
 ghost use Rattle.ppmacro.specs.Spellings.{is_name};
 ghost use Rattle.ppmacro.specs.Define.{misplaces_paste, begins_with_parameter, misplaces_hash};
 
-use crate::chains::parameter_of;
+use crate::chains::{Parameters, parameter_of};
 use crate::macros::Shape;
 use crate::spellings::{is_hash, is_name, is_paste};
-use pptext::Token;
+use pptext::{Hashing, Token};
+use std::alloc::{AllocError, Global};
 
 /// Whether `__VA_ARGS__` stands in it.
 pub(crate) fn says_variable_arguments(body: &[Token]) -> bool
@@ -35,7 +36,7 @@ pub(crate) fn misplaces_paste(body: &[Token]) -> bool
 }
 
 // Whether a parameter stands first.
-fn begins_with_parameter(shape: &Shape, body: &[Token]) -> bool
+fn begins_with_parameter(shape: &Parameters, body: &[Token]) -> bool
     ensures { result ≡ begins_with_parameter shape.now body.now }
 {
     match body.first() {
@@ -44,8 +45,8 @@ fn begins_with_parameter(shape: &Shape, body: &[Token]) -> bool
     }
 }
 
-/// Whether a `#` does not stand directly before a parameter.
-pub(crate) fn misplaces_hash(shape: &Shape, body: &[Token]) -> bool
+// Whether a `#` does not stand directly before one of these parameters.
+fn misplaces_hash_before(shape: &Parameters, body: &[Token]) -> bool
     ensures { result ≡ misplaces_hash shape.now body.now }
 {
     for (i, token) in body.iter().enumerate() {
@@ -54,4 +55,17 @@ pub(crate) fn misplaces_hash(shape: &Shape, body: &[Token]) -> bool
         }
     }
     false
+}
+
+/// Whether a `#` does not stand directly before a parameter. These are hashed so where they are many.
+pub(crate) fn misplaces_hash(
+    alloc: Global,
+    shape: &Shape,
+    body: &[Token],
+    hashing: Hashing,
+) -> Result<bool, AllocError>
+    ensures { IfOk result (λ r. r ≡ misplaces_hash shape.now body.now) }
+{
+    let parameters = Parameters::new(alloc, shape, hashing)?;
+    Ok(misplaces_hash_before(&parameters, body))
 }

@@ -8,8 +8,9 @@ ghost use Rattle.ppmacro.specs.Headings.{with_names};
 
 use crate::borrowed::Body;
 use crate::macros::Names;
+use crate::places::{FEW, index_of_each};
 use crate::spellings::{is_identifier, is_punct};
-use pptext::{Spelling, Token};
+use pptext::{Hashing, Spelling, Token};
 use std::alloc::{AllocError, Global};
 
 /// The parameters' names, whether `...` ends them, and what stands behind `)`.
@@ -86,8 +87,8 @@ fn is_among(names: &[Spelling], name: &[u8]) -> bool
     names.iter().any(|n| n.as_bytes() == name)
 }
 
-/// Whether a name stands twice.
-pub(crate) fn repeats(names: &[Spelling]) -> bool
+// Whether one of a few names stands twice.
+fn repeats_few(names: &[Spelling]) -> bool
     ensures { result ≡ repeats names.now }
 {
     for (i, name) in names.iter().enumerate() {
@@ -96,6 +97,20 @@ pub(crate) fn repeats(names: &[Spelling]) -> bool
         }
     }
     false
+}
+
+/// Whether a name stands twice. Where they are many, they are hashed so.
+pub(crate) fn repeats(
+    alloc: Global,
+    names: &[Spelling],
+    hashing: Hashing,
+) -> Result<bool, AllocError>
+    ensures { IfOk result (λ r. r ≡ repeats names.now) }
+{
+    if names.len() <= FEW {
+        return Ok(repeats_few(names));
+    }
+    Ok(index_of_each(alloc, names, hashing)?.is_none())
 }
 
 /// Whether `__VA_ARGS__` is among the names.

@@ -132,6 +132,11 @@ const REFUSED: &[(&str, &str, u8)] = &[
     ("#define defined+", "defined", 10),
     ("#define __VA_ARGS__ 1", "__VA_ARGS__", 10),
     ("#define f(a,a) a", "f", 11),
+    (
+        "#define f(a,b,c,d,e,f,g,h,i,j,k,l,m,n,o,p,q,r,a) a",
+        "f",
+        11,
+    ),
     ("#define f(a,) a", "f", 11),
     ("#define f(,a) a", "f", 11),
     ("#define f(a,...,b) a", "f", 11),
@@ -152,6 +157,11 @@ const REFUSED: &[(&str, &str, u8)] = &[
     ("#define X a ## %:%: b", "X", 13),
     ("#define f(a) # ## a ##", "f", 13),
     ("#define f(a) # b", "f", 14),
+    (
+        "#define f(a,b,c,d,e,f,g,h,i,j,k,l,m,n,o,p,q,r) #r # z",
+        "f",
+        14,
+    ),
     ("#define f(a) a #", "f", 14),
     ("#define f(a) %: 1", "f", 14),
     ("#define X 8", "X", 16),

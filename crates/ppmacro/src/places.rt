@@ -1,0 +1,34 @@
+// Indexes of parameters' names.
+ghost use Rattle.std.specs.Prelude.{◌≡◌, IfOk, is_none};
+ghost use Rattle.std.specs.Option.{IfSome};
+ghost use Rattle.ppmacro.specs.Define.{repeats};
+
+use crate::keys::Key;
+use indexmap::IndexSet;
+use pptext::{Hashing, Spelling};
+use std::alloc::{AllocError, Global};
+
+/// So many names are looked through one by one; more have an index.
+pub(crate) const FEW: usize = 16;
+
+/// An index of names, unless one stands twice.
+pub(crate) fn index_of_each<'p>(
+    alloc: Global,
+    names: &'p [Spelling],
+    hashing: Hashing,
+) -> Result<Option<IndexSet<Key<'p>, Hashing>>, AllocError>
+    ensures keys { IfOk result (λ o. IfSome o (λ s. s.keys ≡ names.now)) }
+    ensures repeats { IfOk result (λ o. is_none o ≡ repeats names.now) }
+{
+    let mut index = IndexSet::with_capacity_and_hasher(alloc, names.len(), hashing)?;
+    for name in names {
+        let bytes = name.as_bytes();
+        let Ok(new) = index.insert(Key { bytes }) else {
+            return Err(AllocError);
+        };
+        if !new {
+            return Ok(None);
+        }
+    }
+    Ok(Some(index))
+}
