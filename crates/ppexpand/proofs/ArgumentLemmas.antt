@@ -1,5 +1,5 @@
 -- How the arguments of an invocation are expanded one after the other.
-use Rattle.std.proofs.Common.{◌≡◌, ℕ, zero, suc, ◌+◌, ◌<◌, ◌≤◌, true, false, List, [], ◌∷◌, drop, Option, Some, None, Ok, Err, Vec, Global, refl, sym, ap, ◌∙◌, subst, get_or, length, add-one, arith}
+use Rattle.std.proofs.Common.{◌≡◌, ℕ, zero, suc, ◌+◌, ◌<◌, ◌≤◌, true, false, List, [], ◌∷◌, drop, Option, Some, None, Ok, Err, Vec, Global, is_some, true≢false, refl, sym, ap, ◌∙◌, subst, get_or, length, add-one, arith}
 use Rattle.pptext.specs.declared.tokens.Token.{Token}
 use Rattle.pptext.specs.declared.tokens.Fault.{Fault}
 use Rattle.ppmacro.specs.Names.{Macros}
@@ -26,6 +26,15 @@ to_expand-unused i cs a rest h = rw h refl
 
 pub to_expand-used : (i : ℕ) (cs : List Chain) (a : List Hiding) (rest : List (List Hiding)) → uses_alone i cs ≡ true → to_expand i cs (a ∷ rest) ≡ Some a ∷ to_expand (suc i) cs rest
 to_expand-used i cs a rest h = rw h refl
+
+-- a fault that was raised, or none
+pub raised_some : (o : Option Fault) → is_some o ≡ true → (f : Fault) × (o ≡ Some f)
+raised_some (Some f) h = (f, refl)
+raised_some None h = absurd (true≢false (sym h))
+
+pub raised_none : (o : Option Fault) → is_some o ≡ false → o ≡ None
+raised_none None h = refl
+raised_none (Some f) h = absurd (true≢false h)
 
 -- an argument's expansion, or its fault
 module _ (macros : Macros) (env : Env) (level : ℕ) (head : Token) (left after : Option ℕ) (list tokens : List Hiding) (o : Option Fault) where

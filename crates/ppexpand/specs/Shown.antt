@@ -1,5 +1,5 @@
 -- What the program's values stand for.
-use Rattle.std.specs.Prelude.{◌≡◌, ℕ, suc, ◌<◌, ◌≤◌, List, [], ◌∷◌, ◌++◌, map, Bool, false, length, ◌==◌, Option, Some, None, Result, Ok, Err, Vec}
+use Rattle.std.specs.Prelude.{◌≡◌, ℕ, suc, ◌<◌, ◌≤◌, List, [], ◌∷◌, ◌++◌, map, Bool, true, false, length, ◌==◌, Option, Some, None, Result, Ok, Err, Vec}
 use Rattle.std.specs.Global.{Global}
 use Rattle.std.specs.FinSet as set
 use Rattle.std.specs.List.{AllByRecursion}
@@ -18,10 +18,9 @@ use Rattle.ppexpand.specs.declared.arguments.Gathered.TheVariants as found
 use Rattle.ppexpand.specs.declared.turn.Invocation.{Invocation}
 use Rattle.ppexpand.specs.declared.turn.Next.{Next}
 use Rattle.ppexpand.specs.declared.turn.Next.TheVariants as next
-use Rattle.ppexpand.specs.declared.expansion.Ended.{Ended}
 use Rattle.ppexpand.specs.Arguments.{Gathered, Closed, Quoted, Unclosed}
-use Rattle.ppexpand.specs.Turn.{Call, Turn, Done, Refused, Passes, Failed, Replaced, Called}
-use Rattle.ppexpand.specs.Expansion.{Outcome, ExpandedArguments, Expands}
+use Rattle.ppexpand.specs.Turn.{Call, Turn, Done, Refused, Passes, Failed, Replaced, Called, less_one, wanted, finished}
+use Rattle.ppexpand.specs.Expansion.{Outcome, turn_within, Expands, ExpandsArguments}
 
 -- ---- arguments
 
@@ -94,7 +93,16 @@ abbrev pub replaced_in : Numbered → List Hidden → Result (Unit {0}) Fault �
 replaced_in sets left (Ok u) = Replaced (hidings sets left)
 replaced_in sets left (Err f) = Failed f
 
+-- an invocation that was replaced, where this list is left; or its fault
+abbrev pub finished_in : Numbered → List Hidden → Option Fault → Turn
+finished_in sets left None = Replaced (hidings sets left)
+finished_in sets left (Some f) = Failed f
+
 -- ---- expansion
+
+-- a fault was raised, and this holds of it
+abbrev pub Raises : Option Fault → (Fault → Type 0) → Type 0
+Raises raised holds = (f : Fault) × (raised ≡ Some f) × holds f
 
 -- an argument used by an invocation at this level has this expansion, or this fault, and leaves so much
 pub data ExpandsArgument (macros : Macros) (env : Env) (level : ℕ) (head : Token) (left : Option ℕ) (list : List Hiding) : Option ℕ → Result (List Hiding) Fault → Type 0 where
@@ -102,9 +110,10 @@ pub data ExpandsArgument (macros : Macros) (env : Env) (level : ℕ) (head : Tok
   raises : {turns : ℕ} {after : Option ℕ} {tokens : List Hiding} {f : Fault} → level < 256 → Expands macros env (suc level) left turns list (record { tokens = tokens; fault = Some f; left = after }) → ExpandsArgument macros env level head left list after (Err f)
   deep : 256 ≤ level → ExpandsArgument macros env level head left list left (Err (fault 21 head.used head.text))
 
-abbrev pub expansions_in : Numbered → Result (Vec (Option (Vec Hidden Global)) Global) Fault → ExpandedArguments
-expansions_in sets (Ok v) = Ok (expanded_in sets v.items)
-expansions_in sets (Err f) = Err f
+-- a call at this level, where so much is left, comes to this turn: its arguments are expanded, and then it is replaced
+pub data Invokes (macros : Macros) (env : Env) (level : ℕ) (call : Call) (left : Option ℕ) : Option ℕ → Turn → Type 0 where
+  refuses : {after : Option ℕ} {f : Fault} → ExpandsArguments macros env level call left (wanted call) after (Err f) → Invokes macros env level call left after (Failed f)
+  finishes : {after : Option ℕ} {expanded : List (Option (List Hiding))} → ExpandsArguments macros env level call left (wanted call) after (Ok expanded) → Invokes macros env level call left after (finished call expanded)
 
 -- one turn led from the first list to the second, and these tokens passed
 pub record Advances (macros : Macros) (env : Env) (level : ℕ) (left : Option ℕ) (list : List Hiding) (after : Option ℕ) (next : List Hiding) (tokens : List Hiding) : Type 0 where
@@ -122,5 +131,11 @@ HasAdvanced macros env level left list passed after next more = (tokens : List H
 abbrev pub HasEnded : Macros → Env → ℕ → Option ℕ → List Hiding → List Hiding → Option Fault → Option ℕ → List Hiding → Type 0
 HasEnded macros env level left list passed f after more = EndsWith macros env level left list f after × (more ≡ passed)
 
-abbrev pub outcome_in : Numbered → Ended → Outcome
-outcome_in sets e = record { tokens = hidings sets e.tokens; fault = e.fault; left = e.left }
+-- a turn was taken from a list behind these tokens that passed: the list goes on, or ended
+abbrev pub HasTaken : Macros → Env → ℕ → Option ℕ → List Hiding → List Hiding → Bool → Option Fault → Option ℕ → List Hiding → List Hiding → Type 0
+HasTaken macros env level left list passed true f after next more = (f ≡ None) × HasAdvanced macros env level left list passed after next more
+HasTaken macros env level left list passed false f after next more = HasEnded macros env level left list passed f after more
+
+-- the head of a list is invoked, which is counted; nothing passed, and there was no fault
+abbrev pub HasCalled : Macros → Env → Option ℕ → List Hiding → List Hiding → Call → Option Fault → Option ℕ → List Hiding → Type 0
+HasCalled macros env left list passed call f after more = (turn_within macros env left list ≡ Called call) × (f ≡ None) × (after ≡ less_one left) × (more ≡ passed)

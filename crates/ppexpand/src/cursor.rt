@@ -45,20 +45,6 @@ impl<'a> Cursor<'a> {
         }
     }
 
-    /// These tokens. `none` has no token.
-    pub(crate) fn new(tokens: Vec<Hidden<'a>>, none: Stretch<'a>) -> Cursor<'a>
-        requires { none ≡ [] }
-        ensures { result ≡ tokens.entry.items }
-    {
-        let mut behind = tokens;
-        behind.reverse();
-        Cursor {
-            behind,
-            below: none,
-            pending: false,
-        }
-    }
-
     /// The next token, taken out.
     pub(crate) fn next(&mut self) -> Option<Hidden<'a>>
         ensures { MatchOption result ((self.old ≡ []) × (self.new ≡ [])) (λ h. self.old ≡ h ∷ self.new) }
@@ -92,6 +78,18 @@ impl<'a> Cursor<'a> {
         tokens.reverse();
         self.behind.append(&mut tokens)?;
         Ok(())
+    }
+
+    /// Puts copies of tokens before the next one.
+    #[inline(never)]
+    pub(crate) fn push_clones(
+        &mut self,
+        alloc: Global,
+        tokens: &[Hidden<'a>],
+    ) -> Result<(), AllocError>
+        ensures { OnOk result (self.new ≡ tokens.now ++ self.old) }
+    {
+        self.push_all(Vec::from_clones(alloc, tokens)?)
     }
 
     /// Gives the next token, if there is one, a space mark that is left pending.

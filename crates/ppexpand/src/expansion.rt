@@ -1,16 +1,16 @@
 // The expansion of a list.
-ghost use Rattle.std.specs.Prelude.{◌≡◌, ◌≤◌, ◌++◌, ◌∷◌, [], List, map, true, IfOk, OnOk, MatchOption, IfNone};
+ghost use Rattle.std.specs.Prelude.{◌≡◌, ℕ, ◌≤◌, ◌++◌, ◌∷◌, [], List, map, true, Some, None, Ok, Err, IfOk, OnOk, MatchOption, IfSome};
 ghost use Rattle.ppmacro.specs.Chains.{chains_of};
 ghost use Rattle.ppmacro.specs.Names.{Macros};
 ghost use Rattle.ppmacro.specs.Numbered.{Numbered};
 ghost use Rattle.ppmacro.specs.HideSets.{hidings, AllKnown, Keeps};
-ghost use Rattle.ppmacro.specs.Substituting.{list_in};
+ghost use Rattle.ppmacro.specs.Define.{fault as fault_at};
 ghost use Rattle.ppmacro.specs.declared.flying.Hidden.{Hidden};
 ghost use Rattle.ppexpand.specs.Turn.{is_alone, uses_alone, wanted};
 ghost use Rattle.ppexpand.specs.Expansion.{ExpandsTo, ExpandsArguments, IsExpansion};
 ghost use Rattle.ppexpand.specs.Lists.{ArePlain};
 ghost use Rattle.ppexpand.specs.Skipping.{HasSkipped};
-ghost use Rattle.ppexpand.specs.Shown.{ExpansionsKnown, call_in, CallKnown, ExpandsArgument, expansions_in, HasAdvanced, HasEnded, outcome_in};
+ghost use Rattle.ppexpand.specs.Shown.{expanded_in, ExpansionsKnown, call_in, CallKnown, finished_in, Raises, ExpandsArgument, Invokes, HasTaken, HasCalled};
 
 use crate::cursor::Cursor;
 use crate::env::Env;
@@ -25,14 +25,6 @@ use std::alloc::{AllocError, Global};
 
 /// The deepest level of lists: a run of text is at level 0, and an argument one level deeper than its invocation.
 const DEEPEST: u32 = 256;
-
-/// The tokens of a list that passed, the fault that ended it, if one did, and what is left of the budget.
-#[derive(Drop)]
-struct Ended<'a> {
-    tokens: Passed<'a>,
-    fault: Option<Fault>,
-    left: Option<u64>,
-}
 
 /// Whether a chain is this parameter alone.
 fn is_alone(parameter: usize, operands: &[Operand]) -> bool
@@ -75,6 +67,7 @@ fn skip_inert<'a>(list: &mut Cursor<'a>, passed: &mut Passed<'a>) -> Result<(), 
 }
 
 /// Passes tokens that name no macro, where they are next.
+#[inline(never)]
 fn skip<'a>(table: &Table, list: &mut Cursor<'a>, passed: &mut Passed<'a>) -> Result<(), AllocError>
     ensures { OnOk result (HasSkipped table.now list.old passed.old list.new passed.new) }
 {
@@ -84,6 +77,7 @@ fn skip<'a>(table: &Table, list: &mut Cursor<'a>, passed: &mut Passed<'a>) -> Re
 }
 
 /// Whether each of these tokens passes, whatever its hide set is.
+#[inline(never)]
 fn all_pass(table: &Table, tokens: &[Hidden]) -> bool
     ensures { result ≡ true → ArePlain table.now tokens.now }
 {
@@ -95,7 +89,71 @@ fn all_pass(table: &Table, tokens: &[Hidden]) -> bool
     true
 }
 
-/// The expansion of an argument, or its fault, or 21 where it is too deep. `left` becomes what it leaves.
+/// Raises fault 21 at a macro's name.
+#[inline(never)]
+fn raise_depth(head: &Hidden, fault: &mut Option<Fault>) -> Result<(), AllocError>
+    ensures { OnOk result (fault.new ≡ Some (fault_at 21 head.now.token.used head.now.token.text)) }
+{
+    *fault = Some(at_use(21, head)?);
+    Ok(())
+}
+
+/// Takes the next turn of a list, up to an invocation of a function-like macro: that becomes `call`, and is still to be followed. What
+/// passes is put behind `passed`, the list becomes what is behind it, and `left` what is left of the budget. Whether the list goes on; where
+/// a fault ended it, `fault` becomes that.
+#[inline(never)]
+fn take_turn<'t, 'x, 'a: 'x>(
+    alloc: Global,
+    table: &'t Table<'a>,
+    env: &Env,
+    left: &mut Option<u64>,
+    sets: &mut HideSets,
+    list: &mut Cursor<'x>,
+    passed: &mut Passed<'x>,
+    fault: &mut Option<Fault>,
+    call: &mut Option<Invocation<'t, 'x, 'a>>,
+) -> Result<bool, Memory>
+    requires no_fault { fault.old ≡ None }
+    requires no_call { call.old ≡ None }
+    requires list_known { AllKnown sets.old list.old }
+    requires passed_known { AllKnown sets.old passed.old }
+    ensures on { IfOk result (λ goes. MatchOption call.new
+        ((level : ℕ) → HasTaken table.now env.now level left.old (hidings sets.old list.old) (hidings sets.old passed.old) goes fault.new left.new (hidings sets.new list.new) (hidings sets.new passed.new))
+        (λ c. HasCalled table.now env.now left.old (hidings sets.old list.old) (hidings sets.old passed.old) (call_in sets.new c list.new) fault.new left.new (hidings sets.new passed.new))) }
+    ensures call_known { OnOk result (IfSome call.new (λ c. CallKnown sets.new c × AllKnown sets.new list.new)) }
+    ensures list_known { IfOk result (λ goes. goes ≡ true → AllKnown sets.new list.new) }
+    ensures passed_known { OnOk result (AllKnown sets.new passed.new) }
+    ensures keeps { Keeps sets.old sets.new }
+{
+    match next_turn(alloc, table, env, *left, sets, list)? {
+        Next::Done => Ok(false),
+        Next::Refused(found) => {
+            *fault = Some(found);
+            Ok(false)
+        }
+        Next::Passes(head) => {
+            passed.push(head)?;
+            Ok(true)
+        }
+        Next::Failed(found) => {
+            *left = less_one(*left);
+            *fault = Some(found);
+            Ok(false)
+        }
+        Next::Replaced => {
+            *left = less_one(*left);
+            Ok(true)
+        }
+        Next::Called(found) => {
+            *left = less_one(*left);
+            *call = Some(found);
+            Ok(true)
+        }
+    }
+}
+
+/// The expansion of an argument; or none where a fault was raised, 21 where it is too deep, which `fault` becomes. `left` becomes what
+/// it leaves.
 #[cycle(expansion)]
 fn expand_argument<'x, 'a: 'x>(
     alloc: Global,
@@ -106,38 +164,47 @@ fn expand_argument<'x, 'a: 'x>(
     sets: &mut HideSets,
     head: &Hidden<'x>,
     argument: &[Hidden<'x>],
-) -> Result<Result<Vec<Hidden<'x>>, Fault>, Memory>
+    fault: &mut Option<Fault>,
+) -> Result<Option<Vec<Hidden<'x>>>, Memory>
     requires level { level ≤ 256 }
     requires known { AllKnown sets.old argument.now }
-    ensures is { IfOk result (λ r. ExpandsArgument table.now env.now level head.now.token left.old (hidings sets.old argument.now) left.new (list_in sets.new r)) }
-    ensures known { IfOk result (λ r. IfOk r (λ v. AllKnown sets.new v.items)) }
+    requires no_fault { fault.old ≡ None }
+    ensures is { IfOk result (λ r. MatchOption r
+        (Raises fault.new (λ f. ExpandsArgument table.now env.now level head.now.token left.old (hidings sets.old argument.now) left.new (Err f)))
+        (λ v. (fault.new ≡ None) × ExpandsArgument table.now env.now level head.now.token left.old (hidings sets.old argument.now) left.new (Ok (hidings sets.new v.items)))) }
+    ensures known { IfOk result (λ r. IfSome r (λ v. AllKnown sets.new v.items)) }
     ensures keeps { Keeps sets.old sets.new }
 {
     if level >= DEEPEST {
-        return Ok(Err(at_use(21, head)?));
+        raise_depth(head, fault)?;
+        return Ok(None);
     }
-    let copy = Vec::from_clones(alloc, argument)?;
     // Most arguments name no macro, and are what they are expanded to.
     if all_pass(table, argument) {
-        return Ok(Ok(copy));
+        return Ok(Some(Vec::from_clones(alloc, argument)?));
     }
-    let none = Stretch::new(Default::default(), sets.empty());
-    let list = Cursor::new(copy, none);
-    let ended = expand_list(alloc, table, env, level + 1, *left, sets, list)?;
-    let Ended {
-        tokens,
+    let mut list = Cursor::over(alloc, Stretch::new(Default::default(), sets.empty()));
+    list.push_clones(alloc, argument)?;
+    let mut passed = Passed::new(alloc);
+    expand_list(
+        alloc,
+        table,
+        env,
+        level + 1,
+        left,
+        sets,
+        &mut list,
+        &mut passed,
         fault,
-        left: after,
-    } = ended;
-    *left = after;
-    match fault {
-        Some(fault) => Ok(Err(fault)),
-        None => Ok(Ok(tokens.into_vec(alloc)?)),
+    )?;
+    if fault.is_some() {
+        return Ok(None);
     }
+    Ok(Some(passed.into_vec(alloc)?))
 }
 
 /// The expansions of the arguments that stand away from `#` and `##` in these chains, which are the macro's, each by its
-/// parameter; or the first one's fault. `left` becomes what they leave.
+/// parameter; or none where one raised a fault, which `fault` becomes. `left` becomes what they leave.
 #[cycle(expansion)]
 fn expand_arguments<'x, 'a: 'x>(
     alloc: Global,
@@ -148,12 +215,16 @@ fn expand_arguments<'x, 'a: 'x>(
     sets: &mut HideSets,
     call: &Invocation<'_, 'x, 'a>,
     chains: &[Chain<'a>],
-) -> Result<Result<Vec<Option<Vec<Hidden<'x>>>>, Fault>, Memory>
+    fault: &mut Option<Fault>,
+) -> Result<Option<Vec<Option<Vec<Hidden<'x>>>>>, Memory>
     requires level { level ≤ 256 }
     requires known { CallKnown sets.old call.now }
     requires chains { chains.now ≡ chains_of call.now.replaced.now }
-    ensures is { IfOk result (λ r. (behind : List Hidden) → ExpandsArguments table.now env.now level (call_in sets.old call.now behind) left.old (wanted (call_in sets.old call.now behind)) left.new (expansions_in sets.new r)) }
-    ensures known { IfOk result (λ r. IfOk r (λ v. ExpansionsKnown sets.new v.items)) }
+    requires no_fault { fault.old ≡ None }
+    ensures is { IfOk result (λ r. MatchOption r
+        (Raises fault.new (λ f. (behind : List Hidden) → ExpandsArguments table.now env.now level (call_in sets.old call.now behind) left.old (wanted (call_in sets.old call.now behind)) left.new (Err f)))
+        (λ v. (fault.new ≡ None) × ((behind : List Hidden) → ExpandsArguments table.now env.now level (call_in sets.old call.now behind) left.old (wanted (call_in sets.old call.now behind)) left.new (Ok (expanded_in sets.new v.items))))) }
+    ensures known { IfOk result (λ r. IfSome r (λ v. ExpansionsKnown sets.new v.items)) }
     ensures keeps { Keeps sets.old sets.new }
 {
     let mut expanded = Vec::new(alloc);
@@ -164,16 +235,49 @@ fn expand_arguments<'x, 'a: 'x>(
         }
         let head = &call.head;
         let tokens = argument.as_slice();
-        match expand_argument(alloc, table, env, level, left, sets, head, tokens)? {
-            Ok(tokens) => push_expansion(&mut expanded, Some(tokens))?,
-            Err(fault) => return Ok(Err(fault)),
+        match expand_argument(alloc, table, env, level, left, sets, head, tokens, fault)? {
+            Some(tokens) => push_expansion(&mut expanded, Some(tokens))?,
+            None => return Ok(None),
         }
     }
-    Ok(Ok(expanded))
+    Ok(Some(expanded))
 }
 
-/// One turn: what passes is put behind `passed`, the list becomes what is behind it, and `left` what is left of the budget. Some
-/// where the list ended, with a fault or none.
+/// Replaces an invocation before the rest of its list, its arguments expanded first; or `fault` becomes the first fault. `left` becomes what
+/// is left of the budget.
+#[cycle(expansion)]
+fn follow<'x, 'a: 'x>(
+    alloc: Global,
+    table: &Table<'a>,
+    env: &Env,
+    level: u32,
+    left: &mut Option<u64>,
+    sets: &mut HideSets,
+    call: &Invocation<'_, 'x, 'a>,
+    list: &mut Cursor<'x>,
+    fault: &mut Option<Fault>,
+) -> Result<(), Memory>
+    requires level { level ≤ 256 }
+    requires call_known { CallKnown sets.old call.now }
+    requires list_known { AllKnown sets.old list.old }
+    requires no_fault { fault.old ≡ None }
+    ensures is { OnOk result (Invokes table.now env.now level (call_in sets.old call.now list.old) left.old left.new (finished_in sets.new list.new fault.new)) }
+    ensures known { OnOk result (fault.new ≡ None → AllKnown sets.new list.new) }
+    ensures keeps { Keeps sets.old sets.new }
+{
+    let made = call.replaced.chains_with_hasher(alloc, table.hashing())?;
+    let chains = made.as_slice();
+    let Some(expanded) = expand_arguments(
+        alloc, table, env, level, left, sets, call, chains, fault,
+    )?
+    else {
+        return Ok(());
+    };
+    finish(alloc, sets, call, chains, expanded.as_slice(), list, fault)
+}
+
+/// One turn: what passes is put behind `passed`, the list becomes what is behind it, and `left` what is left of the budget. Whether the list
+/// goes on; where a fault ended it, `fault` becomes that.
 #[cycle(expansion)]
 fn advance<'x, 'a: 'x>(
     alloc: Global,
@@ -184,89 +288,54 @@ fn advance<'x, 'a: 'x>(
     sets: &mut HideSets,
     list: &mut Cursor<'x>,
     passed: &mut Passed<'x>,
-) -> Result<Option<Option<Fault>>, Memory>
+    fault: &mut Option<Fault>,
+) -> Result<bool, Memory>
     requires level { level ≤ 256 }
     requires list_known { AllKnown sets.old list.old }
     requires passed_known { AllKnown sets.old passed.old }
-    ensures on { IfOk result (λ p. MatchOption p
-        (HasAdvanced table.now env.now level left.old (hidings sets.old list.old) (hidings sets.old passed.old) left.new (hidings sets.new list.new) (hidings sets.new passed.new))
-        (λ fault. HasEnded table.now env.now level left.old (hidings sets.old list.old) (hidings sets.old passed.old) fault left.new (hidings sets.new passed.new))) }
-    ensures list_known { IfOk result (λ p. IfNone p (AllKnown sets.new list.new)) }
+    requires no_fault { fault.old ≡ None }
+    ensures on { IfOk result (λ goes. HasTaken table.now env.now level left.old (hidings sets.old list.old) (hidings sets.old passed.old) goes fault.new left.new (hidings sets.new list.new) (hidings sets.new passed.new)) }
+    ensures list_known { IfOk result (λ goes. goes ≡ true → AllKnown sets.new list.new) }
     ensures passed_known { OnOk result (AllKnown sets.new passed.new) }
     ensures keeps { Keeps sets.old sets.new }
 {
-    match next_turn(alloc, table, env, *left, sets, list)? {
-        Next::Done => Ok(Some(None)),
-        Next::Refused(fault) => Ok(Some(Some(fault))),
-        Next::Passes(head) => {
-            passed.push(head)?;
-            Ok(None)
-        }
-        Next::Failed(fault) => {
-            *left = less_one(*left);
-            Ok(Some(Some(fault)))
-        }
-        Next::Replaced => {
-            *left = less_one(*left);
-            Ok(None)
-        }
-        Next::Called(call) => {
-            *left = less_one(*left);
-            let made = call.replaced.chains_with_hasher(alloc, table.hashing())?;
-            let chains = made.as_slice();
-            match expand_arguments(alloc, table, env, level, left, sets, &call, chains)? {
-                Err(fault) => Ok(Some(Some(fault))),
-                Ok(expanded) => {
-                    match finish(alloc, sets, &call, chains, expanded.as_slice(), list)? {
-                        Err(fault) => Ok(Some(Some(fault))),
-                        Ok(()) => Ok(None),
-                    }
-                }
-            }
-        }
-    }
+    let mut call = None;
+    let goes = take_turn(
+        alloc, table, env, left, sets, list, passed, fault, &mut call,
+    )?;
+    let Some(call) = &call else {
+        return Ok(goes);
+    };
+    follow(alloc, table, env, level, left, sets, call, list, fault)?;
+    Ok(fault.is_none())
 }
 
-/// The outcome of a list.
+/// Expands a list: what passes is put behind `passed`, and `left` becomes what is left of the budget. Where a fault ended it, `fault` becomes
+/// that.
 #[cycle(expansion)]
 fn expand_list<'x, 'a: 'x>(
     alloc: Global,
     table: &Table<'a>,
     env: &Env,
     level: u32,
-    left: Option<u64>,
+    left: &mut Option<u64>,
     sets: &mut HideSets,
-    list: Cursor<'x>,
-) -> Result<Ended<'x>, Memory>
+    list: &mut Cursor<'x>,
+    passed: &mut Passed<'x>,
+    fault: &mut Option<Fault>,
+) -> Result<(), Memory>
     requires level { level ≤ 256 }
-    requires known { AllKnown sets.old list }
-    ensures outcome { IfOk result (λ o. ExpandsTo table.now env.now level left (hidings sets.old list.entry) (outcome_in sets.new o)) }
-    ensures known { IfOk result (λ o. AllKnown sets.new o.tokens) }
+    requires known { AllKnown sets.old list.old }
+    requires none { passed.old ≡ [] }
+    requires no_fault { fault.old ≡ None }
+    ensures outcome { OnOk result (ExpandsTo table.now env.now level left.old (hidings sets.old list.old) (record { tokens = hidings sets.new passed.new; fault = fault.new; left = left.new })) }
+    ensures known { OnOk result (AllKnown sets.new passed.new) }
     ensures keeps { Keeps sets.old sets.new }
 {
-    let mut passed = Passed::new(alloc);
-    let mut list = list;
-    let mut left = left;
     loop {
-        skip(table, &mut list, &mut passed)?;
-        match advance(
-            alloc,
-            table,
-            env,
-            level,
-            &mut left,
-            sets,
-            &mut list,
-            &mut passed,
-        )? {
-            Some(fault) => {
-                return Ok(Ended {
-                    tokens: passed,
-                    fault,
-                    left,
-                });
-            }
-            None => {}
+        skip(table, list, passed)?;
+        if !advance(alloc, table, env, level, left, sets, list, passed, fault)? {
+            return Ok(());
         }
     }
 }
@@ -315,11 +384,24 @@ pub fn expand<'x, 'a: 'x>(
         });
     }
     let mut sets = HideSets::with_hasher(alloc, table.hashing())?;
-    let list = Cursor::over(alloc, Stretch::new(rest, sets.empty()));
-    let ended = expand_list(alloc, table, env, 0, left, &mut sets, list)?;
+    let mut list = Cursor::over(alloc, Stretch::new(rest, sets.empty()));
+    let mut passed = Passed::new(alloc);
+    let mut left = left;
+    let mut fault = None;
+    expand_list(
+        alloc,
+        table,
+        env,
+        0,
+        &mut left,
+        &mut sets,
+        &mut list,
+        &mut passed,
+        &mut fault,
+    )?;
     Ok(Expanded {
-        tokens: Run::new(front, ended.tokens),
-        fault: ended.fault,
-        left: ended.left,
+        tokens: Run::new(front, passed),
+        fault,
+        left,
     })
 }

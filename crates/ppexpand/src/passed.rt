@@ -104,6 +104,7 @@ impl<'a> Passed<'a> {
     }
 
     /// The tokens as one list.
+    #[inline(never)]
     pub(crate) fn into_vec(self, alloc: Global) -> Result<Vec<Hidden<'a>>, AllocError>
         ensures { IfOk result (λ v. v.items ≡ self.entry) }
     {

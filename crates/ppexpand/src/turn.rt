@@ -1,5 +1,5 @@
 // What the next token of a list calls for (6.10.3, 6.10.3.4).
-ghost use Rattle.std.specs.Prelude.{◌≡◌, IfOk, OnOk, ◌∷◌, Some};
+ghost use Rattle.std.specs.Prelude.{◌≡◌, IfOk, OnOk, ◌∷◌, Some, None};
 ghost use Rattle.std.specs.Option.{option_copied};
 ghost use Rattle.std.specs.FinSet as set;
 ghost use Rattle.ppmacro.specs.Numbered.{Numbered};
@@ -11,7 +11,7 @@ ghost use Rattle.ppexpand.specs.Arguments.{gather, separators};
 ghost use Rattle.ppexpand.specs.declared.env.Env.{Env};
 ghost use Rattle.ppexpand.specs.Turn.{Replaced, macro_of, replaced_by, no_arguments, predefined_value, called, invoked, function_turn, macro_turn, within, finished};
 ghost use Rattle.ppexpand.specs.Expansion.{turn_within};
-ghost use Rattle.ppexpand.specs.Shown.{expanded_in, fitting_in, FittingKnown, ExpansionsKnown, call_in, CallKnown, turn_in, NextKnown, replaced_in};
+ghost use Rattle.ppexpand.specs.Shown.{expanded_in, fitting_in, FittingKnown, ExpansionsKnown, call_in, CallKnown, turn_in, NextKnown, replaced_in, finished_in};
 
 use crate::arguments::{Gathered, fit, gather, separators};
 use crate::cursor::Cursor;
@@ -319,7 +319,9 @@ pub(crate) fn next_turn<'t, 'x, 'a: 'x>(
     macro_turn(alloc, env, sets, head, replaced, list)
 }
 
-/// Replaces an invocation whose arguments are expanded, before the rest of the list. The chains are its macro's.
+/// Replaces an invocation whose arguments are expanded, before the rest of the list; or `fault` becomes the fault. The chains are its
+/// macro's.
+#[inline(never)]
 pub(crate) fn finish<'x, 'a: 'x>(
     alloc: Global,
     sets: &mut HideSets,
@@ -327,16 +329,24 @@ pub(crate) fn finish<'x, 'a: 'x>(
     chains: &[Chain<'a>],
     expanded: &[Option<Vec<Hidden<'x>>>],
     list: &mut Cursor<'x>,
-) -> Result<Result<(), Fault>, Memory>
+    fault: &mut Option<Fault>,
+) -> Result<(), Memory>
     requires call { CallKnown sets.old call.now }
     requires chains { chains.now ≡ chains_of call.now.replaced.now }
     requires expanded { ExpansionsKnown sets.old expanded.now }
     requires list { AllKnown sets.old list.old }
-    ensures is { IfOk result (λ r. replaced_in sets.new list.new r ≡ finished (call_in sets.old call.now list.old) (expanded_in sets.old expanded.now)) }
-    ensures known { IfOk result (λ r. OnOk r (AllKnown sets.new list.new)) }
+    requires no_fault { fault.old ≡ None }
+    ensures is { OnOk result (finished_in sets.new list.new fault.new ≡ finished (call_in sets.old call.now list.old) (expanded_in sets.old expanded.now)) }
+    ensures known { OnOk result (fault.new ≡ None → AllKnown sets.new list.new) }
     ensures keeps { Keeps sets.old sets.new }
 {
     let given = call.arguments.as_slice();
     let head = &call.head;
-    replace(alloc, sets, chains, given, expanded, call.both, head, list)
+    match replace(alloc, sets, chains, given, expanded, call.both, head, list)? {
+        Ok(()) => Ok(()),
+        Err(found) => {
+            *fault = Some(found);
+            Ok(())
+        }
+    }
 }

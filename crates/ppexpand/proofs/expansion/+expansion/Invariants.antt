@@ -1,4 +1,4 @@
-use Rattle.std.proofs.Common.{◌≤◌, ◌-◌, ◌+◌, ◌*◌, List, drop}
+use Rattle.std.proofs.Common.{◌≡◌, None, ◌≤◌, ◌-◌, ◌+◌, ◌*◌, List, drop}
 use Rattle.ppmacro.specs.HideSets.{hidings, AllKnown, Keeps}
 use Rattle.ppmacro.specs.Chains.{chains_of}
 use Rattle.ppmacro.specs.declared.flying.Hidden.{Hidden}
@@ -7,35 +7,40 @@ use Rattle.ppexpand.specs.Shown.{given_in, expanded_in, call_in, ExpansionsKnown
 use Rattle.ppexpand.proofs.Follows.{Follows, ArgumentsFollow, turns_left}
 use Rattle.ppexpand.proofs.expansion.+expansion.Given as goal
 
--- levels left, and then the order in which the four call one another
+-- levels left, and then the order in which the five call one another
 abbrev pub decreases-expand_list : goal.decreases-expand_list
-decreases-expand_list l = 4 * (257 - l.level) + 3
+decreases-expand_list l = 5 * (257 - l.level) + 4
 
 abbrev pub decreases-advance : goal.decreases-advance
-decreases-advance l = 4 * (257 - l.level) + 2
+decreases-advance l = 5 * (257 - l.level) + 3
+
+abbrev pub decreases-follow : goal.decreases-follow
+decreases-follow l = 5 * (257 - l.level) + 2
 
 abbrev pub decreases-expand_arguments : goal.decreases-expand_arguments
-decreases-expand_arguments l = 4 * (257 - l.level) + 1
+decreases-expand_arguments l = 5 * (257 - l.level) + 1
 
 abbrev pub decreases-expand_argument : goal.decreases-expand_argument
-decreases-expand_argument l = 4 * (257 - l.level)
+decreases-expand_argument l = 5 * (257 - l.level)
 
-abbrev pub invariant-expand_list-loop-list : goal.invariant-expand_list-loop-list
-invariant-expand_list-loop-list l = record {
+abbrev pub invariant-expand_list-loop-alloc : goal.invariant-expand_list-loop-alloc
+invariant-expand_list-loop-alloc l = record {
   low : l.level ≤ 256;
   list_known : AllKnown l.sets l.list;
   passed_known : AllKnown l.sets l.passed;
+  no_fault : l.fault ≡ None;
   keeps : Keeps l.fn.sets l.sets;
   follows : Follows l.table l.env l.level l.fn.left (hidings l.fn.sets l.fn.list) (hidings l.sets l.passed) l.left (hidings l.sets l.list);
 }
 
-abbrev pub decreases-expand_list-loop-list : goal.decreases-expand_list-loop-list
-decreases-expand_list-loop-list l = turns_left l.table l.env l.level l.left (hidings l.sets l.list)
+abbrev pub decreases-expand_list-loop-alloc : goal.decreases-expand_list-loop-alloc
+decreases-expand_list-loop-alloc l = turns_left l.table l.env l.level l.left (hidings l.sets l.list)
 
 abbrev pub invariant-expand_arguments-loop-parameter : goal.invariant-expand_arguments-loop-parameter
 invariant-expand_arguments-loop-parameter l = record {
   low : l.level ≤ 256;
   known : ExpansionsKnown l.sets l.expanded.items;
+  no_fault : l.fault ≡ None;
   keeps : Keeps l.fn.sets l.sets;
   follows : (behind : List Hidden) → ArgumentsFollow l.table l.env l.level (call_in l.fn.sets l.call behind) l.fn.left (wanted (call_in l.fn.sets l.call behind)) (expanded_in l.sets l.expanded.items) l.left (to_expand l.parameter (chains_of l.call.replaced.now) (drop l.parameter (given_in l.fn.sets l.call.arguments.items)));
 }
