@@ -1,13 +1,15 @@
 -- Arguments and invocations stand for the same while hide sets are added.
-use Rattle.std.proofs.Common.{◌≡◌, ℕ, zero, suc, List, [], ◌∷◌, ◌++◌, Option, Some, None, Vec, Global, refl, ap}
+use Rattle.std.proofs.Common.{◌≡◌, ℕ, zero, suc, List, [], ◌∷◌, ◌++◌, drop, length, unwrap_or, Some, Vec, Global, refl, ap}
 use Rattle.std.specs.Option.{option_map}
 use Rattle.std.specs.FinSet as set
 use Rattle.ppmacro.specs.Names.{HideSet}
 use Rattle.ppmacro.specs.Numbered.{Numbered}
 use Rattle.ppmacro.specs.HideSets.{set_at, IsKnown, hiding, hidings, AllKnown, Keeps}
 use Rattle.ppmacro.specs.Substitution.{argument_at, expanded_at}
-use Rattle.ppmacro.specs.Substituting.{lists_of, options_of, ListsKnown, ArgumentsKnown}
+use Rattle.ppmacro.specs.Substituting.{lists_of, option_of, options_of, ListsKnown, ArgumentsKnown}
 use Rattle.ppmacro.specs.declared.flying.Hidden.{Hidden}
+use Rattle.ppmacro.specs.declared.flying.Expansion.{Expansion}
+use Rattle.ppmacro.specs.declared.flying.Expansion.TheVariants.{Unused, AsGiven, Made}
 use Rattle.ppmacro.proofs.KeepLemmas.{set-keeps, hiding-keeps, hidings-keeps, known-keeps, known-set}
 use Rattle.ppexpand.specs.declared.turn.Invocation.{Invocation}
 use Rattle.ppexpand.specs.Shown.{given_in, expanded_in, held, ExpansionsKnown, call_in, CallKnown}
@@ -22,46 +24,56 @@ given_known-keeps (v ∷ vs) k h =
     let rest = given_known-keeps vs k (record { each = h.each.1 }) in
     record { each = (known-keeps v.items k h.each.0, rest.each) }
 
-option-keeps : {s t : Numbered} (o : Option (Vec Hidden Global)) → Keeps s t → AllKnown s (held o) → option_map (hidings t) (option_map (λ (v : Vec Hidden Global). v.items) o) ≡ option_map (hidings s) (option_map (λ (v : Vec Hidden Global). v.items) o)
-option-keeps None k h = refl
-option-keeps (Some v) k h = ap Some (hidings-keeps v.items k h)
+option-keeps : {s t : Numbered} (given : List Hidden) (e : Expansion) → Keeps s t → AllKnown s given → AllKnown s (held e) → option_map (hidings t) (option_of given e) ≡ option_map (hidings s) (option_of given e)
+option-keeps given Unused k g h = refl
+option-keeps given AsGiven k g h = ap Some (hidings-keeps given k g)
+option-keeps given (Made v) k g h = ap Some (hidings-keeps v.items k h)
 
-pub expanded-keeps : {s t : Numbered} (os : List (Option (Vec Hidden Global))) → Keeps s t → ExpansionsKnown s os → expanded_in t os ≡ expanded_in s os
-expanded-keeps [] k h = refl
-expanded-keeps (o ∷ os) k h = λ i. option-keeps o k h.each.0 i ∷ expanded-keeps os k (record { each = h.each.1 }) i
+pub expanded-keeps : {s t : Numbered} (vs : List (Vec Hidden Global)) (es : List Expansion) → Keeps s t → ListsKnown s vs → ExpansionsKnown s es → expanded_in t vs es ≡ expanded_in s vs es
+expanded-keeps vs [] k g h = refl
+expanded-keeps [] (e ∷ es) k g h = λ i. option-keeps [] e k (record { each = tt }) h.each.0 i ∷ expanded-keeps [] es k g (record { each = h.each.1 }) i
+expanded-keeps (v ∷ vs) (e ∷ es) k g h = λ i. option-keeps v.items e k g.each.0 h.each.0 i ∷ expanded-keeps vs es k (record { each = g.each.1 }) (record { each = h.each.1 }) i
 
-pub expanded_known-keeps : {s t : Numbered} (os : List (Option (Vec Hidden Global))) → Keeps s t → ExpansionsKnown s os → ExpansionsKnown t os
+pub expanded_known-keeps : {s t : Numbered} (es : List Expansion) → Keeps s t → ExpansionsKnown s es → ExpansionsKnown t es
 expanded_known-keeps [] k h = record { each = tt }
-expanded_known-keeps (o ∷ os) k h =
-    let rest = expanded_known-keeps os k (record { each = h.each.1 }) in
-    record { each = (known-keeps (held o) k h.each.0, rest.each) }
+expanded_known-keeps (e ∷ es) k h =
+    let rest = expanded_known-keeps es k (record { each = h.each.1 }) in
+    record { each = (known-keeps (held e) k h.each.0, rest.each) }
 
-pub expanded_known-push : {s : Numbered} (os : List (Option (Vec Hidden Global))) (o : Option (Vec Hidden Global)) → ExpansionsKnown s os → AllKnown s (held o) → ExpansionsKnown s (os ++ o ∷ [])
-expanded_known-push [] o h here = record { each = (here, tt) }
-expanded_known-push (x ∷ os) o h here =
-    let rest = expanded_known-push os o (record { each = h.each.1 }) here in
+pub expanded_known-push : {s : Numbered} (es : List Expansion) (e : Expansion) → ExpansionsKnown s es → AllKnown s (held e) → ExpansionsKnown s (es ++ e ∷ [])
+expanded_known-push [] e h here = record { each = (here, tt) }
+expanded_known-push (x ∷ es) e h here =
+    let rest = expanded_known-push es e (record { each = h.each.1 }) here in
     record { each = (h.each.0, rest.each) }
 
-pub expanded_in-push : (s : Numbered) (os : List (Option (Vec Hidden Global))) (o : Option (Vec Hidden Global)) → expanded_in s (os ++ o ∷ []) ≡ expanded_in s os ++ option_map (hidings s) (option_map (λ (v : Vec Hidden Global). v.items) o) ∷ []
-expanded_in-push s [] o = refl
-expanded_in-push s (x ∷ os) o = ap (λ xs. option_map (hidings s) (option_map (λ (v : Vec Hidden Global). v.items) x) ∷ xs) (expanded_in-push s os o)
+-- one more, of the argument that is next
+pub expanded_in-push : (s : Numbered) (vs : List (Vec Hidden Global)) (es : List Expansion) (e : Expansion) (v : Vec Hidden Global) (rest : List (Vec Hidden Global)) → drop (length es) vs ≡ v ∷ rest → expanded_in s vs (es ++ e ∷ []) ≡ expanded_in s vs es ++ option_map (hidings s) (option_of v.items e) ∷ []
+expanded_in-push s [] [] e v rest h = absurd (cc h)
+expanded_in-push s (w ∷ vs) [] e v rest h =
+    let same : w ≡ v = cc h in
+    ap (λ (x : Vec Hidden Global). option_map (hidings s) (option_of x.items e) ∷ []) same
+expanded_in-push s [] (x ∷ es) e v rest h = absurd (cc h)
+expanded_in-push s (w ∷ vs) (x ∷ es) e v rest h = ap (λ xs. option_map (hidings s) (option_of w.items x) ∷ xs) (expanded_in-push s vs es e v rest h)
 
 given-at : {s : Numbered} (vs : List (Vec Hidden Global)) → ListsKnown s vs → (i : ℕ) → AllKnown s (argument_at (lists_of vs) i)
 given-at [] h i = record { each = tt }
 given-at (v ∷ vs) h zero = h.each.0
 given-at (v ∷ vs) h (suc i) = given-at vs (record { each = h.each.1 }) i
 
-option-at : {s : Numbered} (o : Option (Vec Hidden Global)) (os : List (Option (Vec Hidden Global))) → AllKnown s (held o) → AllKnown s (expanded_at (options_of (o ∷ os)) 0)
-option-at None os h = h
-option-at (Some v) os h = h
+option-at : {s : Numbered} (given : List Hidden) (e : Expansion) → AllKnown s given → AllKnown s (held e) → AllKnown s (unwrap_or (option_of given e) [])
+option-at given Unused g h = h
+option-at given AsGiven g h = g
+option-at given (Made v) g h = h
 
-expanded-at : {s : Numbered} (os : List (Option (Vec Hidden Global))) → ExpansionsKnown s os → (i : ℕ) → AllKnown s (expanded_at (options_of os) i)
-expanded-at [] h i = record { each = tt }
-expanded-at (o ∷ os) h zero = option-at o os h.each.0
-expanded-at (o ∷ os) h (suc i) = expanded-at os (record { each = h.each.1 }) i
+expanded-at : {s : Numbered} (vs : List (Vec Hidden Global)) (es : List Expansion) → ListsKnown s vs → ExpansionsKnown s es → (i : ℕ) → AllKnown s (expanded_at (options_of vs es) i)
+expanded-at vs [] g h i = record { each = tt }
+expanded-at [] (e ∷ es) g h zero = option-at [] e (record { each = tt }) h.each.0
+expanded-at (v ∷ vs) (e ∷ es) g h zero = option-at v.items e g.each.0 h.each.0
+expanded-at [] (e ∷ es) g h (suc i) = expanded-at [] es g (record { each = h.each.1 }) i
+expanded-at (v ∷ vs) (e ∷ es) g h (suc i) = expanded-at vs es (record { each = g.each.1 }) (record { each = h.each.1 }) i
 
-pub arguments_known : {s : Numbered} (vs : List (Vec Hidden Global)) (os : List (Option (Vec Hidden Global))) → ListsKnown s vs → ExpansionsKnown s os → ArgumentsKnown s vs os
-arguments_known vs os h k = record { given_known = given-at vs h; expanded_known = expanded-at os k }
+pub arguments_known : {s : Numbered} (vs : List (Vec Hidden Global)) (es : List Expansion) → ListsKnown s vs → ExpansionsKnown s es → ArgumentsKnown s vs es
+arguments_known vs es h k = record { given_known = given-at vs h; expanded_known = expanded-at vs es h k }
 
 pub no_arguments_known : (s : Numbered) → ArgumentsKnown s [] []
 no_arguments_known s = arguments_known [] [] (record { each = tt }) (record { each = tt })

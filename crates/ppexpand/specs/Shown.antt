@@ -10,8 +10,10 @@ use Rattle.ppmacro.specs.Names.{Macros}
 use Rattle.ppmacro.specs.Numbered.{Numbered}
 use Rattle.ppmacro.specs.HideSets.{set_at, IsKnown, Hiding, hiding, hidings, AllKnown}
 use Rattle.ppmacro.specs.Define.{fault}
-use Rattle.ppmacro.specs.Substituting.{lists_of, options_of, ListsKnown}
+use Rattle.ppmacro.specs.Substituting.{lists_of, option_of, options_of, ListsKnown}
 use Rattle.ppmacro.specs.declared.flying.Hidden.{Hidden}
+use Rattle.ppmacro.specs.declared.flying.Expansion.{Expansion}
+use Rattle.ppmacro.specs.declared.flying.Expansion.TheVariants.{Unused, AsGiven, Made}
 use Rattle.ppexpand.specs.declared.env.Env.{Env}
 use Rattle.ppexpand.specs.declared.arguments.Gathered as gathered
 use Rattle.ppexpand.specs.declared.arguments.Gathered.TheVariants as found
@@ -27,8 +29,8 @@ use Rattle.ppexpand.specs.Expansion.{Outcome, turn_within, Expands, ExpandsArgum
 abbrev pub given_in : Numbered → List (Vec Hidden Global) → List (List Hiding)
 given_in sets given = map (hidings sets) (lists_of given)
 
-abbrev pub expanded_in : Numbered → List (Option (Vec Hidden Global)) → List (Option (List Hiding))
-expanded_in sets expanded = map (λ o. option_map (hidings sets) o) (options_of expanded)
+abbrev pub expanded_in : Numbered → List (Vec Hidden Global) → List Expansion → List (Option (List Hiding))
+expanded_in sets given expanded = map (λ o. option_map (hidings sets) o) (options_of given expanded)
 
 abbrev pub fitting_in : Numbered → Option (Vec (Vec Hidden Global) Global) → Option (List (List Hiding))
 fitting_in sets None = None
@@ -38,13 +40,15 @@ abbrev pub FittingKnown : Numbered → Option (Vec (Vec Hidden Global) Global) �
 FittingKnown sets None = Unit {0}
 FittingKnown sets (Some v) = ListsKnown sets v.items
 
-abbrev pub held : Option (Vec Hidden Global) → List Hidden
-held None = []
-held (Some v) = v.items
+-- the tokens that were made for an expansion
+abbrev pub held : Expansion → List Hidden
+held Unused = []
+held AsGiven = []
+held (Made v) = v.items
 
--- the sets of all expansions' tokens are there
-pub record ExpansionsKnown (sets : Numbered) (os : List (Option (Vec Hidden Global))) : Type 0 where
-  pub each : AllByRecursion (λ o. AllKnown sets (held o)) os
+-- the sets of all these tokens are there
+pub record ExpansionsKnown (sets : Numbered) (es : List Expansion) : Type 0 where
+  pub each : AllByRecursion (λ e. AllKnown sets (held e)) es
 
 -- nothing stands between the parentheses
 abbrev pub is_bare : List (Vec Hidden Global) → Bool
@@ -109,6 +113,10 @@ pub data ExpandsArgument (macros : Macros) (env : Env) (level : ℕ) (head : Tok
   expands : {turns : ℕ} {after : Option ℕ} {tokens : List Hiding} → level < 256 → Expands macros env (suc level) left turns list (record { tokens = tokens; fault = None; left = after }) → ExpandsArgument macros env level head left list after (Ok tokens)
   raises : {turns : ℕ} {after : Option ℕ} {tokens : List Hiding} {f : Fault} → level < 256 → Expands macros env (suc level) left turns list (record { tokens = tokens; fault = Some f; left = after }) → ExpandsArgument macros env level head left list after (Err f)
   deep : 256 ≤ level → ExpandsArgument macros env level head left list left (Err (fault 21 head.used head.text))
+
+-- an argument used by an invocation at this level is expanded to this, which stands for its expansion
+abbrev pub HasExpanded : Macros → Env → ℕ → Token → Option ℕ → Option ℕ → Numbered → Numbered → List Hidden → Expansion → Type 0
+HasExpanded macros env level head left after before sets given e = (tokens : List Hiding) × (option_map (hidings sets) (option_of given e) ≡ Some tokens) × ExpandsArgument macros env level head left (hidings before given) after (Ok tokens)
 
 -- a call at this level, where so much is left, comes to this turn: its arguments are expanded, and then it is replaced
 pub data Invokes (macros : Macros) (env : Env) (level : ℕ) (call : Call) (left : Option ℕ) : Option ℕ → Turn → Type 0 where

@@ -10,7 +10,7 @@ ghost use Rattle.ppexpand.specs.Turn.{is_alone, uses_alone, wanted};
 ghost use Rattle.ppexpand.specs.Expansion.{ExpandsTo, ExpandsArguments, IsExpansion};
 ghost use Rattle.ppexpand.specs.Lists.{ArePlain};
 ghost use Rattle.ppexpand.specs.Skipping.{HasSkipped};
-ghost use Rattle.ppexpand.specs.Shown.{expanded_in, ExpansionsKnown, call_in, CallKnown, finished_in, Raises, ExpandsArgument, Invokes, HasTaken, HasCalled};
+ghost use Rattle.ppexpand.specs.Shown.{expanded_in, ExpansionsKnown, call_in, CallKnown, finished_in, Raises, held, ExpandsArgument, HasExpanded, Invokes, HasTaken, HasCalled};
 
 use crate::cursor::Cursor;
 use crate::env::Env;
@@ -19,7 +19,7 @@ use crate::spellings::at_use;
 use crate::spending::less_one;
 use crate::stretch::{Stretch, is_plain, split_plain};
 use crate::turn::{Invocation, Next, finish, next_turn};
-use ppmacro::{Chain, Hidden, HideSets, Operand, Table};
+use ppmacro::{Chain, Expansion, Hidden, HideSets, Operand, Table};
 use pptext::{Fault, Memory, Token};
 use std::alloc::{AllocError, Global};
 
@@ -47,12 +47,12 @@ fn uses_alone(parameter: usize, chains: &[Chain]) -> bool
 
 /// Puts one more behind the expansions.
 fn push_expansion<'a>(
-    expanded: &mut Vec<Option<Vec<Hidden<'a>>>>,
-    tokens: Option<Vec<Hidden<'a>>>,
+    expanded: &mut Vec<Expansion<'a>>,
+    expansion: Expansion<'a>,
 ) -> Result<(), AllocError>
-    ensures { OnOk result (expanded.new.items ≡ expanded.old.items ++ tokens.entry ∷ []) }
+    ensures { OnOk result (expanded.new.items ≡ expanded.old.items ++ expansion.entry ∷ []) }
 {
-    expanded.push(tokens)?;
+    expanded.push(expansion)?;
     Ok(())
 }
 
@@ -165,14 +165,14 @@ fn expand_argument<'x, 'a: 'x>(
     head: &Hidden<'x>,
     argument: &[Hidden<'x>],
     fault: &mut Option<Fault>,
-) -> Result<Option<Vec<Hidden<'x>>>, Memory>
+) -> Result<Option<Expansion<'x>>, Memory>
     requires level { level ≤ 256 }
     requires known { AllKnown sets.old argument.now }
     requires no_fault { fault.old ≡ None }
     ensures is { IfOk result (λ r. MatchOption r
         (Raises fault.new (λ f. ExpandsArgument table.now env.now level head.now.token left.old (hidings sets.old argument.now) left.new (Err f)))
-        (λ v. (fault.new ≡ None) × ExpandsArgument table.now env.now level head.now.token left.old (hidings sets.old argument.now) left.new (Ok (hidings sets.new v.items)))) }
-    ensures known { IfOk result (λ r. IfSome r (λ v. AllKnown sets.new v.items)) }
+        (λ e. (fault.new ≡ None) × HasExpanded table.now env.now level head.now.token left.old left.new sets.old sets.new argument.now e)) }
+    ensures known { IfOk result (λ r. IfSome r (λ e. AllKnown sets.new (held e))) }
     ensures keeps { Keeps sets.old sets.new }
 {
     if level >= DEEPEST {
@@ -181,7 +181,7 @@ fn expand_argument<'x, 'a: 'x>(
     }
     // Most arguments name no macro, and are what they are expanded to.
     if all_pass(table, argument) {
-        return Ok(Some(Vec::from_clones(alloc, argument)?));
+        return Ok(Some(Expansion::AsGiven));
     }
     let mut list = Cursor::over(alloc, Stretch::new(Default::default(), sets.empty()));
     list.push_clones(alloc, argument)?;
@@ -200,7 +200,7 @@ fn expand_argument<'x, 'a: 'x>(
     if fault.is_some() {
         return Ok(None);
     }
-    Ok(Some(passed.into_vec(alloc)?))
+    Ok(Some(Expansion::Made(passed.into_vec(alloc)?)))
 }
 
 /// The expansions of the arguments that stand away from `#` and `##` in these chains, which are the macro's, each by its
@@ -216,27 +216,27 @@ fn expand_arguments<'x, 'a: 'x>(
     call: &Invocation<'_, 'x, 'a>,
     chains: &[Chain<'a>],
     fault: &mut Option<Fault>,
-) -> Result<Option<Vec<Option<Vec<Hidden<'x>>>>>, Memory>
+) -> Result<Option<Vec<Expansion<'x>>>, Memory>
     requires level { level ≤ 256 }
     requires known { CallKnown sets.old call.now }
     requires chains { chains.now ≡ chains_of call.now.replaced.now }
     requires no_fault { fault.old ≡ None }
     ensures is { IfOk result (λ r. MatchOption r
         (Raises fault.new (λ f. (behind : List Hidden) → ExpandsArguments table.now env.now level (call_in sets.old call.now behind) left.old (wanted (call_in sets.old call.now behind)) left.new (Err f)))
-        (λ v. (fault.new ≡ None) × ((behind : List Hidden) → ExpandsArguments table.now env.now level (call_in sets.old call.now behind) left.old (wanted (call_in sets.old call.now behind)) left.new (Ok (expanded_in sets.new v.items))))) }
+        (λ v. (fault.new ≡ None) × ((behind : List Hidden) → ExpandsArguments table.now env.now level (call_in sets.old call.now behind) left.old (wanted (call_in sets.old call.now behind)) left.new (Ok (expanded_in sets.new call.now.arguments.items v.items))))) }
     ensures known { IfOk result (λ r. IfSome r (λ v. ExpansionsKnown sets.new v.items)) }
     ensures keeps { Keeps sets.old sets.new }
 {
     let mut expanded = Vec::new(alloc);
     for (parameter, argument) in call.arguments.iter().enumerate() {
         if !uses_alone(parameter, chains) {
-            push_expansion(&mut expanded, None)?;
+            push_expansion(&mut expanded, Expansion::Unused)?;
             continue;
         }
         let head = &call.head;
         let tokens = argument.as_slice();
         match expand_argument(alloc, table, env, level, left, sets, head, tokens, fault)? {
-            Some(tokens) => push_expansion(&mut expanded, Some(tokens))?,
+            Some(expansion) => push_expansion(&mut expanded, expansion)?,
             None => return Ok(None),
         }
     }

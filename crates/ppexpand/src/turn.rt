@@ -20,7 +20,8 @@ use crate::predefined::predefined_value;
 use crate::spellings::{at_use, is_open, is_quote, lone_quote, over_budget};
 use crate::spending::is_spent;
 use ppmacro::{
-    Builtin, Chain, Hidden, HideSets, Macro, Set, Shape, Table, is_identifier, substitute,
+    Builtin, Chain, Expansion, Hidden, HideSets, Macro, Set, Shape, Table, is_identifier,
+    substitute,
 };
 use pptext::{Fault, Memory, Spelling, Token};
 use std::alloc::{AllocError, Global};
@@ -78,7 +79,7 @@ fn replace<'x, 'a: 'x>(
     sets: &mut HideSets,
     chains: &[Chain<'a>],
     given: &[Vec<Hidden<'x>>],
-    expanded: &[Option<Vec<Hidden<'x>>>],
+    expanded: &[Expansion<'x>],
     base: Set,
     head: &Hidden,
     list: &mut Cursor<'x>,
@@ -327,7 +328,7 @@ pub(crate) fn finish<'x, 'a: 'x>(
     sets: &mut HideSets,
     call: &Invocation<'_, 'x, 'a>,
     chains: &[Chain<'a>],
-    expanded: &[Option<Vec<Hidden<'x>>>],
+    expanded: &[Expansion<'x>],
     list: &mut Cursor<'x>,
     fault: &mut Option<Fault>,
 ) -> Result<(), Memory>
@@ -336,7 +337,7 @@ pub(crate) fn finish<'x, 'a: 'x>(
     requires expanded { ExpansionsKnown sets.old expanded.now }
     requires list { AllKnown sets.old list.old }
     requires no_fault { fault.old ≡ None }
-    ensures is { OnOk result (finished_in sets.new list.new fault.new ≡ finished (call_in sets.old call.now list.old) (expanded_in sets.old expanded.now)) }
+    ensures is { OnOk result (finished_in sets.new list.new fault.new ≡ finished (call_in sets.old call.now list.old) (expanded_in sets.old call.now.arguments.items expanded.now)) }
     ensures known { OnOk result (fault.new ≡ None → AllKnown sets.new list.new) }
     ensures keeps { Keeps sets.old sets.new }
 {

@@ -1,24 +1,28 @@
 -- Arguments whose tokens' sets are there.
-use Rattle.std.proofs.Common.{◌≡◌, ℕ, zero, suc, List, [], ◌∷◌, map, Option, Some, Vec, Global, sym, subst}
+use Rattle.std.proofs.Common.{◌≡◌, ℕ, zero, suc, List, [], ◌∷◌, map, Vec, Global, sym, subst}
 use Rattle.ppmacro.specs.Numbered.{Numbered}
 use Rattle.ppmacro.specs.HideSets.{AllKnown}
 use Rattle.ppmacro.specs.Substitution.{argument_at, expanded_at}
 use Rattle.ppmacro.specs.Substituting.{lists_of, options_of, ListsKnown, ArgumentsKnown}
 use Rattle.ppmacro.specs.declared.flying.Hidden.{Hidden}
+use Rattle.ppmacro.specs.declared.flying.Expansion.{Expansion}
+use Rattle.ppmacro.specs.declared.flying.Expansion.TheVariants.{Made}
 
 given-known : {s : Numbered} (vs : List (Vec Hidden Global)) → ListsKnown s vs → (i : ℕ) → AllKnown s (argument_at (lists_of vs) i)
 given-known [] k i = record { each = tt }
 given-known (v ∷ vs) k zero = k.each.0
 given-known (v ∷ vs) k (suc i) = given-known vs (record { each = k.each.1 }) i
 
-expanded-known : {s : Numbered} (vs : List (Vec Hidden Global)) → ListsKnown s vs → (i : ℕ) → AllKnown s (expanded_at (options_of (map (λ v. Some v) vs)) i)
-expanded-known [] k i = record { each = tt }
-expanded-known (v ∷ vs) k zero = k.each.0
-expanded-known (v ∷ vs) k (suc i) = expanded-known vs (record { each = k.each.1 }) i
+expanded-known : {s : Numbered} (given vs : List (Vec Hidden Global)) → ListsKnown s vs → (i : ℕ) → AllKnown s (expanded_at (options_of given (map (λ v. Made v) vs)) i)
+expanded-known given [] k i = record { each = tt }
+expanded-known [] (v ∷ vs) k zero = k.each.0
+expanded-known (g ∷ gs) (v ∷ vs) k zero = k.each.0
+expanded-known [] (v ∷ vs) k (suc i) = expanded-known [] vs (record { each = k.each.1 }) i
+expanded-known (g ∷ gs) (v ∷ vs) k (suc i) = expanded-known gs vs (record { each = k.each.1 }) i
 
 -- arguments, and the same or others as their expansions
-pub all-known : {s : Numbered} (given others shown : List (Vec Hidden Global)) (expanded : List (Option (Vec Hidden Global))) → shown ≡ given → expanded ≡ map (λ v. Some v) others → ListsKnown s given → ListsKnown s others → ArgumentsKnown s shown expanded
+pub all-known : {s : Numbered} (given others shown : List (Vec Hidden Global)) (expanded : List Expansion) → shown ≡ given → expanded ≡ map (λ v. Made v) others → ListsKnown s given → ListsKnown s others → ArgumentsKnown s shown expanded
 all-known {s} given others shown expanded p q k l = record {
   given_known = λ i. subst (λ vs. AllKnown s (argument_at (lists_of vs) i)) (sym p) (given-known given k i);
-  expanded_known = λ i. subst (λ os. AllKnown s (expanded_at (options_of os) i)) (sym q) (expanded-known others l i);
+  expanded_known = λ i. subst (λ os. AllKnown s (expanded_at (options_of shown os) i)) (sym q) (expanded-known shown others l i);
 }

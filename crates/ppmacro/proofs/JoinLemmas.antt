@@ -1,5 +1,5 @@
 -- Lists that `##` joins, while hide sets are added.
-use Rattle.std.proofs.Common.{◌≡◌, ℕ, suc, zero, ◌+◌, ◌<◌, List, [], ◌∷◌, ◌++◌, map, drop, length, get_or, Option, Some, None, Vec, Global, Result, Ok, Err, refl, sym, ap, ◌∙◌, slice_get}
+use Rattle.std.proofs.Common.{◌≡◌, ℕ, suc, zero, ◌+◌, ◌<◌, ◌≤◌, List, [], ◌∷◌, ◌++◌, map, drop, length, get_or, Option, Some, None, Vec, Global, Result, Ok, Err, refl, sym, ap, ◌∙◌, slice_get, unwrap_or, arith}
 use Rattle.std.proofs.lemmas.List.{map-append, drop_more}
 use Rattle.std.specs.Option.{option_map}
 use Rattle.pptext.specs.declared.tokens.Place.{Place}
@@ -7,8 +7,9 @@ use Rattle.pptext.specs.declared.tokens.Fault.{Fault}
 use Rattle.ppmacro.specs.Numbered.{Numbered}
 use Rattle.ppmacro.specs.HideSets.{IsKnown, Hiding, hiding, hidings, AllKnown, Keeps}
 use Rattle.ppmacro.specs.Substitution.{after_ok, pasted, join, join_all, argument_at, expanded_at}
-use Rattle.ppmacro.specs.Substituting.{tokens_of, lists_of, options_of}
+use Rattle.ppmacro.specs.Substituting.{tokens_of, lists_of, option_of, options_of}
 use Rattle.ppmacro.specs.declared.flying.Hidden.{Hidden}
+use Rattle.ppmacro.specs.declared.flying.Expansion.{Expansion}
 use Rattle.ppmacro.proofs.KeepLemmas.{hidings-keeps, known-keeps, known-append, known-front, known-behind}
 
 -- ---- arguments
@@ -22,10 +23,24 @@ argument-in s [] i = refl
 argument-in s (v ∷ vs) zero = refl
 argument-in s (v ∷ vs) (suc i) = argument-in s vs i
 
-pub expansion-in : (s : Numbered) (expanded : List (Option (Vec Hidden Global))) (i : ℕ) → hidings s (expanded_at (options_of expanded) i) ≡ expanded_at (map (λ o. option_map (hidings s) o) (options_of expanded)) i
+-- the expansion of a parameter, by what stands at its place
+pub expansion-at : (given : List (Vec Hidden Global)) (es : List Expansion) (i : ℕ) (e : Expansion) → i < length es → e ≡ get_or es i e → unwrap_or (option_of (argument_at (lists_of given) i) e) [] ≡ expanded_at (options_of given es) i
+expansion-at given [] i e h is = absurd (omega arith)
+expansion-at [] (x ∷ es) zero e h is = ap (λ y. unwrap_or (option_of [] y) []) is
+expansion-at (v ∷ vs) (x ∷ es) zero e h is = ap (λ y. unwrap_or (option_of v.items y) []) is
+expansion-at [] (x ∷ es) (suc i) e h is = expansion-at [] es i e (omega arith) is
+expansion-at (v ∷ vs) (x ∷ es) (suc i) e h is = expansion-at vs es i e (omega arith) is
+
+pub expansion-behind : (given : List (Vec Hidden Global)) (es : List Expansion) (i : ℕ) → length es ≤ i → [] ≡ expanded_at (options_of given es) i
+expansion-behind given [] i h = refl
+expansion-behind given (x ∷ es) zero h = absurd (omega arith)
+expansion-behind [] (x ∷ es) (suc i) h = expansion-behind [] es i (omega arith)
+expansion-behind (v ∷ vs) (x ∷ es) (suc i) h = expansion-behind vs es i (omega arith)
+
+pub expansion-in : (s : Numbered) (expanded : List (Option (List Hidden))) (i : ℕ) → hidings s (expanded_at expanded i) ≡ expanded_at (map (λ o. option_map (hidings s) o) expanded) i
 expansion-in s [] i = refl
 expansion-in s (None ∷ os) zero = refl
-expansion-in s (Some v ∷ os) zero = refl
+expansion-in s (Some hs ∷ os) zero = refl
 expansion-in s (o ∷ os) (suc i) = expansion-in s os i
 
 -- ---- two lists

@@ -10,6 +10,7 @@ use Rattle.ppmacro.specs.HideSets.{set_at, IsKnown, Hiding, hiding, hidings, All
 use Rattle.ppmacro.specs.Substitution.{Arguments, Marked, after_ok, argument_at, expanded_at, chain_tokens, mark_first, chains_tokens, gained}
 use Rattle.ppmacro.specs.Substituting.{lists_of, options_of, ArgumentsKnown, arguments_in, marked_behind, pushed, HasGained}
 use Rattle.ppmacro.specs.declared.flying.Hidden.{Hidden}
+use Rattle.ppmacro.specs.declared.flying.Expansion.{Expansion}
 use Rattle.ppmacro.specs.declared.macros.Chain.{Chain}
 use Rattle.ppmacro.proofs.KeepLemmas.{set-keeps, known-set, hiding-keeps, hidings-keeps, known-keeps}
 
@@ -30,18 +31,18 @@ given-keeps : {s t : Numbered} (given : List (Vec Hidden Global)) → Keeps s t 
 given-keeps [] k known = refl
 given-keeps (v ∷ vs) k known = λ i. hidings-keeps v.items k (known 0) i ∷ given-keeps vs k (λ n. known (suc n)) i
 
-option-keeps : {s t : Numbered} (o : Option (Vec Hidden Global)) (os : List (Option (Vec Hidden Global))) → Keeps s t → AllKnown s (expanded_at (options_of (o ∷ os)) 0) → option_map (hidings t) (option_map (λ (v : Vec Hidden Global). v.items) o) ≡ option_map (hidings s) (option_map (λ (v : Vec Hidden Global). v.items) o)
+option-keeps : {s t : Numbered} (o : Option (List Hidden)) (os : List (Option (List Hidden))) → Keeps s t → AllKnown s (expanded_at (o ∷ os) 0) → option_map (hidings t) o ≡ option_map (hidings s) o
 option-keeps None os k known = refl
-option-keeps (Some v) os k known = ap Some (hidings-keeps v.items k known)
+option-keeps (Some hs) os k known = ap Some (hidings-keeps hs k known)
 
-expanded-keeps : {s t : Numbered} (expanded : List (Option (Vec Hidden Global))) → Keeps s t → ((i : ℕ) → AllKnown s (expanded_at (options_of expanded) i)) → map (λ o. option_map (hidings t) o) (options_of expanded) ≡ map (λ o. option_map (hidings s) o) (options_of expanded)
+expanded-keeps : {s t : Numbered} (expanded : List (Option (List Hidden))) → Keeps s t → ((i : ℕ) → AllKnown s (expanded_at expanded i)) → map (λ o. option_map (hidings t) o) expanded ≡ map (λ o. option_map (hidings s) o) expanded
 expanded-keeps [] k known = refl
 expanded-keeps (o ∷ os) k known = λ i. option-keeps o os k (known 0) i ∷ expanded-keeps os k (λ n. known (suc n)) i
 
-pub arguments-keeps : {s t : Numbered} (given : List (Vec Hidden Global)) (expanded : List (Option (Vec Hidden Global))) → Keeps s t → ArgumentsKnown s given expanded → arguments_in t given expanded ≡ arguments_in s given expanded
-arguments-keeps given expanded k known = λ i. record { given = given-keeps given k known.given_known i; expanded = expanded-keeps expanded k known.expanded_known i }
+pub arguments-keeps : {s t : Numbered} (given : List (Vec Hidden Global)) (expanded : List Expansion) → Keeps s t → ArgumentsKnown s given expanded → arguments_in t given expanded ≡ arguments_in s given expanded
+arguments-keeps given expanded k known = λ i. record { given = given-keeps given k known.given_known i; expanded = expanded-keeps (options_of given expanded) k known.expanded_known i }
 
-pub arguments-known : {s t : Numbered} (given : List (Vec Hidden Global)) (expanded : List (Option (Vec Hidden Global))) → Keeps s t → ArgumentsKnown s given expanded → ArgumentsKnown t given expanded
+pub arguments-known : {s t : Numbered} (given : List (Vec Hidden Global)) (expanded : List Expansion) → Keeps s t → ArgumentsKnown s given expanded → ArgumentsKnown t given expanded
 arguments-known given expanded k known = record { given_known = λ i. known-keeps _ k (known.given_known i); expanded_known = λ i. known-keeps _ k (known.expanded_known i) }
 
 -- ---- chains

@@ -1,5 +1,5 @@
 -- What the parts of a substitution answer, in terms of hide sets' members.
-use Rattle.std.specs.Prelude.{◌≡◌, ℕ, List, ◌++◌, map, Option, Vec, Bool, Result, Ok, Err}
+use Rattle.std.specs.Prelude.{◌≡◌, ℕ, List, [], ◌∷◌, ◌++◌, map, Option, Some, None, Vec, Bool, Result, Ok, Err}
 use Rattle.std.specs.Global.{Global}
 use Rattle.std.specs.FinSet as set
 use Rattle.std.specs.List.{AllByRecursion}
@@ -10,6 +10,8 @@ use Rattle.ppmacro.specs.Numbered.{Numbered}
 use Rattle.ppmacro.specs.HideSets.{set_at, IsKnown, Hiding, hiding, hidings, AllKnown}
 use Rattle.ppmacro.specs.Substitution.{Arguments, Marked, argument_at, expanded_at, mark_first}
 use Rattle.ppmacro.specs.declared.flying.Hidden.{Hidden}
+use Rattle.ppmacro.specs.declared.flying.Expansion.{Expansion}
+use Rattle.ppmacro.specs.declared.flying.Expansion.TheVariants.{Unused, AsGiven, Made}
 
 abbrev pub tokens_of : List Hidden → List Token
 tokens_of hs = map (λ h. h.token) hs
@@ -30,20 +32,29 @@ left_in sets hs (Err f) = Err f
 abbrev pub lists_of : List (Vec Hidden Global) → List (List Hidden)
 lists_of vs = map (λ v. v.items) vs
 
-abbrev pub options_of : List (Option (Vec Hidden Global)) → List (Option (List Hidden))
-options_of os = map (λ o. option_map (λ v. v.items) o) os
+-- what this argument is expanded to, where that is asked for
+abbrev pub option_of : List Hidden → Expansion → Option (List Hidden)
+option_of given Unused = None
+option_of given AsGiven = Some given
+option_of given (Made v) = Some v.items
+
+-- the same of each argument
+abbrev pub options_of : List (Vec Hidden Global) → List Expansion → List (Option (List Hidden))
+options_of given [] = []
+options_of [] (e ∷ es) = option_of [] e ∷ options_of [] es
+options_of (v ∷ vs) (e ∷ es) = option_of v.items e ∷ options_of vs es
 
 -- the sets of all lists' tokens are there
 pub record ListsKnown (sets : Numbered) (vs : List (Vec Hidden Global)) : Type 0 where
   pub each : AllByRecursion (λ v. AllKnown sets v.items) vs
 
 -- the sets of all arguments' tokens are there
-pub record ArgumentsKnown (sets : Numbered) (given : List (Vec Hidden Global)) (expanded : List (Option (Vec Hidden Global))) : Type 0 where
+pub record ArgumentsKnown (sets : Numbered) (given : List (Vec Hidden Global)) (expanded : List Expansion) : Type 0 where
   pub given_known : (i : ℕ) → AllKnown sets (argument_at (lists_of given) i)
-  pub expanded_known : (i : ℕ) → AllKnown sets (expanded_at (options_of expanded) i)
+  pub expanded_known : (i : ℕ) → AllKnown sets (expanded_at (options_of given expanded) i)
 
-abbrev pub arguments_in : Numbered → List (Vec Hidden Global) → List (Option (Vec Hidden Global)) → Arguments
-arguments_in sets given expanded = record { given = map (hidings sets) (lists_of given); expanded = map (λ o. option_map (hidings sets) o) (options_of expanded) }
+abbrev pub arguments_in : Numbered → List (Vec Hidden Global) → List Expansion → Arguments
+arguments_in sets given expanded = record { given = map (hidings sets) (lists_of given); expanded = map (λ o. option_map (hidings sets) o) (options_of given expanded) }
 
 abbrev pub lists_in : Numbered → Result (Vec (Vec Hidden Global) Global) Fault → Result (List (List Hiding)) Fault
 lists_in sets (Ok v) = Ok (map (hidings sets) (lists_of v.items))

@@ -26,6 +26,17 @@ pub struct Hidden<'a> {
     hide: Set,
 }
 
+/// What an argument is expanded to.
+#[derive(Drop)]
+pub enum Expansion<'a> {
+    /// It isn't asked for: its parameter isn't used away from `#` and `##`.
+    Unused,
+    /// The argument itself, as it was given.
+    AsGiven,
+    /// These tokens.
+    Made(Vec<Hidden<'a>>),
+}
+
 impl<'a> Model for Hidden<'a> {
     ghost use Rattle.ppmacro.specs.Flying.{InFlight, placed};
 

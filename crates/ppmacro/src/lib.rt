@@ -18,7 +18,7 @@ mod tests;
 
 pub use borrowed::{Body, Leaf};
 pub use defining::{define, undef};
-pub use flying::Hidden;
+pub use flying::{Expansion, Hidden};
 pub use hide_sets::{HideSets, Set};
 pub use macros::{Builtin, Chain, Chains, Definition, Macro, Names, Operand, Operands, Shape};
 pub use spellings::{is_identifier, is_punct};

@@ -17,7 +17,7 @@ pub use self::lexing::tells_each_kind;
 use self::operands::{expansion, operands_tokens};
 pub use self::pasting::paste;
 pub use self::stringizing::{push_escaped, stringize};
-use crate::flying::Hidden;
+use crate::flying::{Expansion, Hidden};
 use crate::hide_sets::{HideSets, Set};
 use crate::macros::{Chain, Operand};
 use pptext::{Fault, Memory, Place, Token};
@@ -35,7 +35,7 @@ fn chain_tokens<'x, 'a: 'x>(
     alloc: Global,
     sets: &mut HideSets,
     given: &[Vec<Hidden<'x>>],
-    expanded: &[Option<Vec<Hidden<'x>>>],
+    expanded: &[Expansion<'x>],
     used: Place,
     chain: &Chain<'a>,
 ) -> Result<Result<Vec<Hidden<'x>>, Fault>, Memory>
@@ -97,7 +97,7 @@ fn push_chain_tokens<'x, 'a: 'x>(
     alloc: Global,
     sets: &mut HideSets,
     given: &[Vec<Hidden<'x>>],
-    expanded: &[Option<Vec<Hidden<'x>>>],
+    expanded: &[Expansion<'x>],
     used: Place,
     mark: bool,
     chain: &Chain<'a>,
@@ -117,7 +117,7 @@ fn push_chain_tokens<'x, 'a: 'x>(
                 return Ok(Ok(false));
             }
             Operand::Param(index) => {
-                let pending = push_chain(tokens, mark, expansion(expanded, *index))?;
+                let pending = push_chain(tokens, mark, expansion(given, expanded, *index))?;
                 return Ok(Ok(pending));
             }
             Operand::Str(_, _) => {}
@@ -144,7 +144,7 @@ fn chains_tokens<'x, 'a: 'x>(
     alloc: Global,
     sets: &mut HideSets,
     given: &[Vec<Hidden<'x>>],
-    expanded: &[Option<Vec<Hidden<'x>>>],
+    expanded: &[Expansion<'x>],
     used: Place,
     space: bool,
     chains: &[Chain<'a>],
@@ -277,7 +277,7 @@ pub fn substitute<'x, 'a: 'x>(
     alloc: Global,
     chains: &[Chain<'a>],
     given: &[Vec<Hidden<'x>>],
-    expanded: &[Option<Vec<Hidden<'x>>>],
+    expanded: &[Expansion<'x>],
     base: Set,
     name: &[u8],
     used: Place,

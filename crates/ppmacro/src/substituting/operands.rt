@@ -1,10 +1,10 @@
 // What an operand stands for (6.10.3.1, 6.10.3.2).
-ghost use Rattle.std.specs.Prelude.{◌≡◌, ◌++◌, IfOk, OnOk, [], ◌∷◌, Ok};
+ghost use Rattle.std.specs.Prelude.{◌≡◌, ◌++◌, IfOk, OnOk, [], ◌∷◌, Ok, unwrap_or};
 ghost use Rattle.ppmacro.specs.HideSets.{hidings, AllKnown};
 ghost use Rattle.ppmacro.specs.Substitution.{argument_at, expanded_at, plain, after_ok, stringized, operand_tokens, operands_tokens};
-ghost use Rattle.ppmacro.specs.Substituting.{lists_of, options_of, ArgumentsKnown, arguments_in, tokens_of, list_in, lists_in, ListsKnown};
+ghost use Rattle.ppmacro.specs.Substituting.{lists_of, option_of, options_of, ArgumentsKnown, arguments_in, tokens_of, list_in, lists_in, ListsKnown};
 
-use crate::flying::Hidden;
+use crate::flying::{Expansion, Hidden};
 use crate::hide_sets::HideSets;
 use crate::macros::Operand;
 use crate::substituting::stringizing::stringize;
@@ -22,18 +22,33 @@ fn argument<'g, 'a>(given: &'g [Vec<Hidden<'a>>], index: usize) -> &'g [Hidden<'
     tokens.as_slice()
 }
 
+// The tokens of this argument's expansion.
+fn shown<'g, 'a>(argument: &'g [Hidden<'a>], expansion: &'g Expansion<'a>) -> &'g [Hidden<'a>]
+    ensures { result.now ≡ unwrap_or (option_of argument.now expansion.now) [] }
+{
+    match expansion {
+        Expansion::Unused => {
+            let none: &'g [Hidden<'a>] = Default::default();
+            none
+        }
+        Expansion::AsGiven => argument,
+        Expansion::Made(tokens) => tokens.as_slice(),
+    }
+}
+
 /// The tokens of an argument's expansion.
 pub(crate) fn expansion<'g, 'a>(
-    expanded: &'g [Option<Vec<Hidden<'a>>>],
+    given: &'g [Vec<Hidden<'a>>],
+    expanded: &'g [Expansion<'a>],
     index: usize,
 ) -> &'g [Hidden<'a>]
-    ensures { result.now ≡ expanded_at (options_of expanded.now) index }
+    ensures { result.now ≡ expanded_at (options_of given.now expanded.now) index }
 {
-    let Some(Some(tokens)) = expanded.get(index) else {
+    let Some(expansion) = expanded.get(index) else {
         let none: &'g [Hidden<'a>] = Default::default();
         return none;
     };
-    tokens.as_slice()
+    shown(argument(given, index), expansion)
 }
 
 // A list of one token.
@@ -80,7 +95,7 @@ pub(crate) fn operand_tokens<'x, 'a: 'x>(
     sets: &HideSets,
     beside: bool,
     given: &[Vec<Hidden<'x>>],
-    expanded: &[Option<Vec<Hidden<'x>>>],
+    expanded: &[Expansion<'x>],
     used: Place,
     operand: &Operand<'a>,
 ) -> Result<Result<Vec<Hidden<'x>>, Fault>, Memory>
@@ -98,7 +113,7 @@ pub(crate) fn operand_tokens<'x, 'a: 'x>(
             if beside {
                 return Ok(Ok(Vec::from_clones(alloc, argument(given, *index))?));
             }
-            Ok(Ok(Vec::from_clones(alloc, expansion(expanded, *index))?))
+            Ok(Ok(Vec::from_clones(alloc, expansion(given, expanded, *index))?))
         }
     }
 }
@@ -120,7 +135,7 @@ pub(crate) fn operands_tokens<'x, 'a: 'x>(
     sets: &HideSets,
     beside: bool,
     given: &[Vec<Hidden<'x>>],
-    expanded: &[Option<Vec<Hidden<'x>>>],
+    expanded: &[Expansion<'x>],
     used: Place,
     operands: &[Operand<'a>],
 ) -> Result<Result<Vec<Vec<Hidden<'x>>>, Fault>, Memory>

@@ -2,10 +2,12 @@
 ghost use Rattle.std.specs.Prelude.{◌≡◌, IfOk, map, Some};
 ghost use Rattle.ppmacro.specs.HideSets.{IsKnown, AllKnown};
 ghost use Rattle.ppmacro.specs.Substituting.{ListsKnown, ArgumentsKnown};
+ghost use Rattle.ppmacro.specs.declared.flying.Expansion.TheVariants.{Made};
 
 use super::{HASH, all_lexed, assert_same, has, lexed, more, push_spelled, table_of};
 use crate::{
-    Chain, Hidden, HideSets, Macro, Set, Table, paste, stringize, substitute, tells_each_kind,
+    Chain, Expansion, Hidden, HideSets, Macro, Set, Table, paste, stringize, substitute,
+    tells_each_kind,
 };
 use pptext::{Fault, Kind, Memory, Place, Token};
 use std::alloc::{AllocError, Global};
@@ -57,10 +59,13 @@ fn arguments<'a>(
 fn as_they_are<'a>(
     alloc: Global,
     lists: Vec<Vec<Hidden<'a>>>,
-) -> Result<Vec<Option<Vec<Hidden<'a>>>>, AllocError>
-    ensures { IfOk result (λ v. v.items ≡ map (λ l. Some l) lists.entry.items) }
+) -> Result<Vec<Expansion<'a>>, AllocError>
+    ensures { IfOk result (λ v. v.items ≡ map (λ l. Made l) lists.entry.items) }
 {
-    lists.into_iter().map(|list| Some(list)).collect(alloc)
+    lists
+        .into_iter()
+        .map(|list| Expansion::Made(list))
+        .collect(alloc)
 }
 
 /// What `substitute` answers, where `f` is the name. Where memory is refused, the set `base` has its member `b`, and the call is
@@ -70,7 +75,7 @@ fn substituted<'x, 'a: 'x, R: Abort>(
     alloc: Global,
     chains: &[Chain<'a>],
     given: &[Vec<Hidden<'x>>],
-    expanded: &[Option<Vec<Hidden<'x>>>],
+    expanded: &[Expansion<'x>],
     base: Set,
     space: bool,
     sets: &mut HideSets,

@@ -1,11 +1,16 @@
 use Rattle.std.proofs.Common.{◌≡◌, ◌∙◌, ◌∷◌, ◌++◌, [], ◌+◌, ◌<◌, drop, length, get_or, Ok, Err, Some, None, true, false, refl, sym, ap, subst, arith, rules}
+use Rattle.std.specs.Option.{option_map}
+use Rattle.std.proofs.lemmas.List.{length-append}
 use Rattle.std.proofs.lemmas.Result.{on_ok_weaker}
 use Rattle.ppmacro.specs.HideSets.{hidings, AllKnown}
 use Rattle.ppmacro.specs.Chains.{chains_of}
+use Rattle.ppmacro.specs.Substituting.{option_of}
+use Rattle.ppmacro.specs.declared.flying.Expansion.TheVariants.{Unused}
+use Rattle.ppmacro.proofs.WalkLemmas.{drop-item}
 use Rattle.ppmacro.proofs.KeepLemmas.{hidings-keeps, known-keeps, keeps-all, keeps-after}
 use Rattle.ppexpand.specs.Turn.{finished, wanted, uses_alone, to_expand}
 use Rattle.ppexpand.specs.Expansion.{ExpandsTo, ExpandsArguments}
-use Rattle.ppexpand.specs.Shown.{finished_in, call_in, expanded_in, given_in, ExpansionsKnown, ExpandsArgument, deep, Invokes, refuses, finishes}
+use Rattle.ppexpand.specs.Shown.{finished_in, call_in, expanded_in, given_in, held, ExpansionsKnown, ExpandsArgument, deep, Invokes, refuses, finishes}
 use Rattle.ppexpand.proofs.Keeping.{call_in-keeps, call_known-keeps, given_known-keeps, expanded-keeps, expanded_known-keeps, expanded_known-push, expanded_in-push}
 use Rattle.ppexpand.proofs.ArgumentLemmas.{arguments_first, raised_some, raised_none, argument_expands, argument_raises, known-item, rest-unused, rest-used, rest-end}
 use Rattle.ppexpand.proofs.Skipping.{plain-expands, next-known, more-known, follows_skip, skip_falls}
@@ -72,10 +77,10 @@ follow-returns-clause-is m c =
     let v = c.finish.new.sets in
     let call = call_in s c.args.call.now list in
     let made = rw c.in-Some.is at c.in_ok-expanded.ensures.is in
-    let args : ExpandsArguments c.args.table.now c.args.env.now c.args.level call c.args.left.now (wanted call) c.expand_arguments.new.left (Ok (expanded_in u c.in-Some.expanded.items)) = made.1 list in
+    let args : ExpandsArguments c.args.table.now c.args.env.now c.args.level call c.args.left.now (wanted call) c.expand_arguments.new.left (Ok (expanded_in u c.args.call.now.arguments.items c.in-Some.expanded.items)) = made.1 list in
     let same = call_in-keeps c.args.call.now list c.in_ok-expanded.ensures.keeps c.requires.call_known c.requires.list_known in
     on_ok_weaker c.finish.result
-    (λ e. subst (Invokes c.args.table.now c.args.env.now c.args.level call c.args.left.now c.expand_arguments.new.left) (sym (e ∙ (λ i. finished (same i) (expanded_in u (c.as_slice.ensures.value i))))) (finishes args))
+    (λ e. subst (Invokes c.args.table.now c.args.env.now c.args.level call c.args.left.now c.expand_arguments.new.left) (sym (e ∙ (λ i. finished (same i) (expanded_in u c.args.call.now.arguments.items (c.as_slice.ensures.value i))))) (finishes args))
     c.finish.ensures.is
 
 pub follow-returns-clause-keeps : goal.follow-returns-clause-keeps
@@ -89,12 +94,14 @@ expand_argument-returns-then-level-ge-DEEPEST-clause-is m c = (_, c.in_ok-raise_
 pub expand_argument-returns-then-all_pass-clause-is : goal.expand_argument-returns-then-all_pass-clause-is
 expand_argument-returns-then-all_pass-clause-is m c =
     let s = c.args.sets.now in
-    let list = c.args.argument.now in
-    let same : c.in_ok-from_clones.field-0.items ≡ list = c.in_ok-from_clones.ensures.items_if_clones_equal (λ x y h. search rules) in (
+    let list = c.args.argument.now in (
       c.requires.no_fault,
-      subst (λ hs. ExpandsArgument c.args.table.now c.args.env.now c.args.level c.args.head.now.token c.args.left.now (hidings s list) c.args.left.now (Ok (hidings s hs))) (sym same)
-          (argument_expands c.args.table.now c.args.env.now c.args.level c.args.head.now.token c.args.left.now c.args.left.now (hidings s list) (hidings s list) None
-          (omega (arith, c.if-level-ge-DEEPEST.false)) refl (plain-expands c.args.table.now c.args.env.now (c.args.level + 1) c.args.left.now s list (c.all_pass.ensures c.if-all_pass.true))),
+      (
+        hidings s list,
+        refl,
+        argument_expands c.args.table.now c.args.env.now c.args.level c.args.head.now.token c.args.left.now c.args.left.now (hidings s list) (hidings s list) None
+            (omega (arith, c.if-level-ge-DEEPEST.false)) refl (plain-expands c.args.table.now c.args.env.now (c.args.level + 1) c.args.left.now s list (c.all_pass.ensures c.if-all_pass.true)),
+      ),
     )
 
 pub expand_argument-expand_list-requires : goal.expand_argument-expand_list-requires
@@ -122,14 +129,19 @@ expand_argument-returns-clause-is m c =
     let none = raised_none c.expand_list.new.fault (sym c.is_some.ensures ∙ c.if-is_some.false) in
     let list : hidings s c.push_clones.new.self ≡ hidings s c.args.argument.now = ap (hidings s) (c.in_ok-push_clones.ensures ∙ search rules) in (
       none,
-      subst (λ l. ExpandsArgument c.args.table.now c.args.env.now c.args.level c.args.head.now.token c.args.left.now l c.expand_list.new.left (Ok (hidings c.expand_list.new.sets c.in_ok-into_vec.field-0.items))) list
-          (subst (λ ts. ExpandsArgument c.args.table.now c.args.env.now c.args.level c.args.head.now.token c.args.left.now (hidings s c.push_clones.new.self) c.expand_list.new.left (Ok (hidings c.expand_list.new.sets ts))) (sym c.in_ok-into_vec.ensures)
-          (argument_expands c.args.table.now c.args.env.now c.args.level c.args.head.now.token c.args.left.now _ _ _ _ (omega (arith, c.if-level-ge-DEEPEST.false)) none c.in_ok-expand_list.ensures.outcome)),
+      (
+        hidings c.expand_list.new.sets c.in_ok-into_vec.field-0.items,
+        refl,
+        subst (λ l. ExpandsArgument c.args.table.now c.args.env.now c.args.level c.args.head.now.token c.args.left.now l c.expand_list.new.left (Ok (hidings c.expand_list.new.sets c.in_ok-into_vec.field-0.items))) list
+            (subst (λ ts. ExpandsArgument c.args.table.now c.args.env.now c.args.level c.args.head.now.token c.args.left.now (hidings s c.push_clones.new.self) c.expand_list.new.left (Ok (hidings c.expand_list.new.sets ts))) (sym c.in_ok-into_vec.ensures)
+            (argument_expands c.args.table.now c.args.env.now c.args.level c.args.head.now.token c.args.left.now _ _ _ _ (omega (arith, c.if-level-ge-DEEPEST.false)) none c.in_ok-expand_list.ensures.outcome)),
+      ),
     )
 
 pub expand_arguments-loop-parameter-init : goal.expand_arguments-loop-parameter-init
 expand_arguments-loop-parameter-init m c = record {
   low = c.requires.level;
+  count = ap length c.new-expanded.ensures.items;
   no_fault = c.requires.no_fault;
   known = rw c.new-expanded.ensures.items (record { each = tt });
   keeps = keeps-all c.args.sets.now;
@@ -148,19 +160,22 @@ expand_arguments-loop-parameter-preserved-then-not-uses_alone m c =
     let unused : uses_alone i cs ≡ false = ap (uses_alone i) (sym c.requires.chains) ∙ sym c.uses_alone.ensures ∙ c.if-not-uses_alone.true in
     let next = rest-unused s vs cs i c.argument-item.result less is unused in
     let made = c.in_ok-push_expansion.ensures in
-    let shown : expanded_in u c.push_expansion.new.expanded.items ≡ expanded_in u c.loop-parameter.expanded.items ++ None ∷ [] = ap (expanded_in u) made ∙ expanded_in-push u c.loop-parameter.expanded.items None in
+    let done = c.loop-parameter.expanded.items in
+    let behind_it : drop (length done) vs ≡ c.argument-item.result ∷ drop (i + 1) vs = subst (λ n. drop n vs ≡ c.argument-item.result ∷ drop (i + 1) vs) (sym c.loop-parameter.invariant.count) (drop-item vs i c.argument-item.result less is) in
+    let shown : expanded_in u vs c.push_expansion.new.expanded.items ≡ expanded_in u vs done ++ None ∷ [] = ap (expanded_in u vs) made ∙ expanded_in-push u vs done Unused c.argument-item.result (drop (i + 1) vs) behind_it in
     record {
       low = c.loop-parameter.invariant.low;
       no_fault = c.loop-parameter.invariant.no_fault;
-      known = subst (ExpansionsKnown u) (sym made) (expanded_known-push c.loop-parameter.expanded.items None c.loop-parameter.invariant.known (record { each = tt }));
+      known = subst (ExpansionsKnown u) (sym made) (expanded_known-push c.loop-parameter.expanded.items Unused c.loop-parameter.invariant.known (record { each = tt }));
+      count = ap length made ∙ length-append done (Unused ∷ []) ∙ ap (λ n. n + 1) c.loop-parameter.invariant.count;
       keeps = c.loop-parameter.invariant.keeps;
       follows = λ behind.
           (let call = call_in s c.args.call.now behind in
           let rest = to_expand (i + 1) cs (drop (i + 1) (given_in s vs)) in
-          let here : ArgumentsFollow c.args.table.now c.args.env.now c.args.level call c.args.left.now (wanted call) (expanded_in u c.loop-parameter.expanded.items) c.loop-parameter.left (None ∷ rest) =
-          subst (ArgumentsFollow c.args.table.now c.args.env.now c.args.level call c.args.left.now (wanted call) (expanded_in u c.loop-parameter.expanded.items) c.loop-parameter.left) next (c.loop-parameter.invariant.follows behind) in
+          let here : ArgumentsFollow c.args.table.now c.args.env.now c.args.level call c.args.left.now (wanted call) (expanded_in u vs c.loop-parameter.expanded.items) c.loop-parameter.left (None ∷ rest) =
+          subst (ArgumentsFollow c.args.table.now c.args.env.now c.args.level call c.args.left.now (wanted call) (expanded_in u vs c.loop-parameter.expanded.items) c.loop-parameter.left) next (c.loop-parameter.invariant.follows behind) in
           subst (λ xs. ArgumentsFollow c.args.table.now c.args.env.now c.args.level call c.args.left.now (wanted call) xs c.loop-parameter.left rest) (sym shown)
-          (arguments_unused c.args.table.now c.args.env.now c.args.level call c.args.left.now (wanted call) (expanded_in u c.loop-parameter.expanded.items) c.loop-parameter.left rest here));
+          (arguments_unused c.args.table.now c.args.env.now c.args.level call c.args.left.now (wanted call) (expanded_in u vs c.loop-parameter.expanded.items) c.loop-parameter.left rest here));
     }
 
 pub expand_arguments-expand_argument-requires : goal.expand_arguments-expand_argument-requires
@@ -191,7 +206,7 @@ expand_arguments-returns-in-None-clause-is m c =
     let is_used : uses_alone i cs ≡ true = ap (uses_alone i) (sym c.requires.chains) ∙ sym c.uses_alone.ensures ∙ c.if-not-uses_alone.false in
     let next = rest-used s vs cs i v less is is_used in
     let argument : hidings u c.as_slice-tokens.result.now ≡ hidings s v.items = ap (hidings u) c.as_slice-tokens.ensures.value ∙ hidings-keeps v.items c.loop-parameter.invariant.keeps (known-item s vs i v less is c.requires.known.arguments) in
-    let raised = rw c.in-None.is at c.in_ok-tokens.ensures.is in
+    let raised = rw c.in-None.is at c.in_ok-expansion.ensures.is in
     let one : ExpandsArgument c.args.table.now c.args.env.now c.args.level c.args.call.now.head.token c.loop-parameter.left (hidings s v.items) c.expand_argument.new.left (Err raised.0) =
     subst (λ l. ExpandsArgument c.args.table.now c.args.env.now c.args.level c.args.call.now.head.token c.loop-parameter.left l c.expand_argument.new.left (Err raised.0)) argument raised.2 in (
       raised.0,
@@ -199,9 +214,9 @@ expand_arguments-returns-in-None-clause-is m c =
       λ behind.
           let call = call_in s c.args.call.now behind in
           let rest = to_expand (i + 1) cs (drop (i + 1) (given_in s vs)) in
-          let here : ArgumentsFollow c.args.table.now c.args.env.now c.args.level call c.args.left.now (wanted call) (expanded_in u c.loop-parameter.expanded.items) c.loop-parameter.left (Some (hidings s v.items) ∷ rest) =
-          subst (ArgumentsFollow c.args.table.now c.args.env.now c.args.level call c.args.left.now (wanted call) (expanded_in u c.loop-parameter.expanded.items) c.loop-parameter.left) next (c.loop-parameter.invariant.follows behind) in
-          arguments_refused c.args.table.now c.args.env.now c.args.level call c.args.left.now (wanted call) (expanded_in u c.loop-parameter.expanded.items) c.loop-parameter.left c.expand_argument.new.left rest (hidings s v.items) raised.0 here one,
+          let here : ArgumentsFollow c.args.table.now c.args.env.now c.args.level call c.args.left.now (wanted call) (expanded_in u vs c.loop-parameter.expanded.items) c.loop-parameter.left (Some (hidings s v.items) ∷ rest) =
+          subst (ArgumentsFollow c.args.table.now c.args.env.now c.args.level call c.args.left.now (wanted call) (expanded_in u vs c.loop-parameter.expanded.items) c.loop-parameter.left) next (c.loop-parameter.invariant.follows behind) in
+          arguments_refused c.args.table.now c.args.env.now c.args.level call c.args.left.now (wanted call) (expanded_in u vs c.loop-parameter.expanded.items) c.loop-parameter.left c.expand_argument.new.left rest (hidings s v.items) raised.0 here one,
     )
 
 pub expand_arguments-loop-parameter-preserved : goal.expand_arguments-loop-parameter-preserved
@@ -214,31 +229,37 @@ expand_arguments-loop-parameter-preserved m c =
     let cs = chains_of c.args.call.now.replaced.now in
     let v = c.argument-item.result in
     let done = c.loop-parameter.expanded.items in
-    let keeps = c.in_ok-tokens.ensures.keeps in
+    let keeps = c.in_ok-expansion.ensures.keeps in
     let less : i < length vs = subst (λ xs. i < length xs) c.deref-argument-items.ensures.value c.loop-parameter-test.true in
     let is : c.argument-item.result ≡ get_or vs i c.argument-item.result = c.argument-item.is ∙ ap (λ xs. get_or xs i c.argument-item.result) c.deref-argument-items.ensures.value in
     let is_used : uses_alone i cs ≡ true = ap (uses_alone i) (sym c.requires.chains) ∙ sym c.uses_alone.ensures ∙ c.if-not-uses_alone.false in
     let next = rest-used s vs cs i v less is is_used in
     let argument : hidings u c.as_slice-tokens.result.now ≡ hidings s v.items = ap (hidings u) c.as_slice-tokens.ensures.value ∙ hidings-keeps v.items c.loop-parameter.invariant.keeps (known-item s vs i v less is c.requires.known.arguments) in
-    let made_is = rw c.in-Some.is at c.in_ok-tokens.ensures.is in
-    let one : ExpandsArgument c.args.table.now c.args.env.now c.args.level c.args.call.now.head.token c.loop-parameter.left (hidings s v.items) c.expand_argument.new.left (Ok (hidings w c.in-Some.tokens.items)) =
-    subst (λ l. ExpandsArgument c.args.table.now c.args.env.now c.args.level c.args.call.now.head.token c.loop-parameter.left l c.expand_argument.new.left (Ok (hidings w c.in-Some.tokens.items))) argument made_is.1 in
-    let tokens_known : AllKnown w c.in-Some.tokens.items = rw c.in-Some.is at c.in_ok-tokens.ensures.known in
+    let made_is = rw c.in-Some.is at c.in_ok-expansion.ensures.is in
+    let e = c.in-Some.expansion in
+    let tokens = made_is.1.0 in
+    let one : ExpandsArgument c.args.table.now c.args.env.now c.args.level c.args.call.now.head.token c.loop-parameter.left (hidings s v.items) c.expand_argument.new.left (Ok tokens) =
+    subst (λ l. ExpandsArgument c.args.table.now c.args.env.now c.args.level c.args.call.now.head.token c.loop-parameter.left l c.expand_argument.new.left (Ok tokens)) argument made_is.1.2 in
+    let here_is : option_map (hidings w) (option_of v.items e) ≡ Some tokens = (λ j. option_map (hidings w) (option_of (sym c.as_slice-tokens.ensures.value j) e)) ∙ made_is.1.1 in
+    let tokens_known : AllKnown w (held e) = rw c.in-Some.is at c.in_ok-expansion.ensures.known in
     let made = c.in_ok-push_expansion-in-Some.ensures in
-    let shown : expanded_in w c.push_expansion-in-Some.new.expanded.items ≡ expanded_in u done ++ Some (hidings w c.in-Some.tokens.items) ∷ [] =
-    ap (expanded_in w) made ∙ expanded_in-push w done (Some c.in-Some.tokens) ∙ ap (λ xs. xs ++ Some (hidings w c.in-Some.tokens.items) ∷ []) (expanded-keeps done keeps c.loop-parameter.invariant.known) in
+    let behind_it : drop (length done) vs ≡ v ∷ drop (i + 1) vs = subst (λ n. drop n vs ≡ v ∷ drop (i + 1) vs) (sym c.loop-parameter.invariant.count) (drop-item vs i v less is) in
+    let given_known = given_known-keeps vs c.loop-parameter.invariant.keeps c.requires.known.arguments in
+    let shown : expanded_in w vs c.push_expansion-in-Some.new.expanded.items ≡ expanded_in u vs done ++ Some tokens ∷ [] =
+    ap (expanded_in w vs) made ∙ expanded_in-push w vs done e v (drop (i + 1) vs) behind_it ∙ (λ j. expanded-keeps vs done keeps given_known c.loop-parameter.invariant.known j ++ here_is j ∷ []) in
     record {
       low = c.loop-parameter.invariant.low;
       no_fault = made_is.0;
-      known = subst (ExpansionsKnown w) (sym made) (expanded_known-push done (Some c.in-Some.tokens) (expanded_known-keeps done keeps c.loop-parameter.invariant.known) tokens_known);
+      known = subst (ExpansionsKnown w) (sym made) (expanded_known-push done e (expanded_known-keeps done keeps c.loop-parameter.invariant.known) tokens_known);
+      count = ap length made ∙ length-append done (e ∷ []) ∙ ap (λ n. n + 1) c.loop-parameter.invariant.count;
       keeps = keeps-after c.loop-parameter.invariant.keeps keeps;
       follows = λ behind.
           (let call = call_in s c.args.call.now behind in
           let rest = to_expand (i + 1) cs (drop (i + 1) (given_in s vs)) in
-          let here : ArgumentsFollow c.args.table.now c.args.env.now c.args.level call c.args.left.now (wanted call) (expanded_in u done) c.loop-parameter.left (Some (hidings s v.items) ∷ rest) =
-          subst (ArgumentsFollow c.args.table.now c.args.env.now c.args.level call c.args.left.now (wanted call) (expanded_in u done) c.loop-parameter.left) next (c.loop-parameter.invariant.follows behind) in
+          let here : ArgumentsFollow c.args.table.now c.args.env.now c.args.level call c.args.left.now (wanted call) (expanded_in u vs done) c.loop-parameter.left (Some (hidings s v.items) ∷ rest) =
+          subst (ArgumentsFollow c.args.table.now c.args.env.now c.args.level call c.args.left.now (wanted call) (expanded_in u vs done) c.loop-parameter.left) next (c.loop-parameter.invariant.follows behind) in
           subst (λ xs. ArgumentsFollow c.args.table.now c.args.env.now c.args.level call c.args.left.now (wanted call) xs c.expand_argument.new.left rest) (sym shown)
-          (arguments_used c.args.table.now c.args.env.now c.args.level call c.args.left.now (wanted call) (expanded_in u done) c.loop-parameter.left c.expand_argument.new.left rest (hidings s v.items) (hidings w c.in-Some.tokens.items) here one));
+          (arguments_used c.args.table.now c.args.env.now c.args.level call c.args.left.now (wanted call) (expanded_in u vs done) c.loop-parameter.left c.expand_argument.new.left rest (hidings s v.items) tokens here one));
     }
 
 pub expand_arguments-returns-clause-is : goal.expand_arguments-returns-clause-is
@@ -251,8 +272,8 @@ expand_arguments-returns-clause-is m c =
       c.loop-parameter.invariant.no_fault,
       λ behind.
           let call = call_in s c.args.call.now behind in
-          arguments_end c.args.table.now c.args.env.now c.args.level call c.args.left.now (wanted call) (expanded_in u c.loop-parameter.expanded.items) c.loop-parameter.left
-          (subst (ArgumentsFollow c.args.table.now c.args.env.now c.args.level call c.args.left.now (wanted call) (expanded_in u c.loop-parameter.expanded.items) c.loop-parameter.left) end (c.loop-parameter.invariant.follows behind)),
+          arguments_end c.args.table.now c.args.env.now c.args.level call c.args.left.now (wanted call) (expanded_in u vs c.loop-parameter.expanded.items) c.loop-parameter.left
+          (subst (ArgumentsFollow c.args.table.now c.args.env.now c.args.level call c.args.left.now (wanted call) (expanded_in u vs c.loop-parameter.expanded.items) c.loop-parameter.left) end (c.loop-parameter.invariant.follows behind)),
     )
 
 -- ---- a list

@@ -1,4 +1,4 @@
-use Rattle.std.proofs.Common.{◌≡◌, None, ◌≤◌, ◌-◌, ◌+◌, ◌*◌, List, drop}
+use Rattle.std.proofs.Common.{◌≡◌, None, ◌≤◌, ◌-◌, ◌+◌, ◌*◌, List, drop, length}
 use Rattle.ppmacro.specs.HideSets.{hidings, AllKnown, Keeps}
 use Rattle.ppmacro.specs.Chains.{chains_of}
 use Rattle.ppmacro.specs.declared.flying.Hidden.{Hidden}
@@ -40,7 +40,8 @@ abbrev pub invariant-expand_arguments-loop-parameter : goal.invariant-expand_arg
 invariant-expand_arguments-loop-parameter l = record {
   low : l.level ≤ 256;
   known : ExpansionsKnown l.sets l.expanded.items;
+  count : length l.expanded.items ≡ l.parameter;
   no_fault : l.fault ≡ None;
   keeps : Keeps l.fn.sets l.sets;
-  follows : (behind : List Hidden) → ArgumentsFollow l.table l.env l.level (call_in l.fn.sets l.call behind) l.fn.left (wanted (call_in l.fn.sets l.call behind)) (expanded_in l.sets l.expanded.items) l.left (to_expand l.parameter (chains_of l.call.replaced.now) (drop l.parameter (given_in l.fn.sets l.call.arguments.items)));
+  follows : (behind : List Hidden) → ArgumentsFollow l.table l.env l.level (call_in l.fn.sets l.call behind) l.fn.left (wanted (call_in l.fn.sets l.call behind)) (expanded_in l.sets l.call.arguments.items l.expanded.items) l.left (to_expand l.parameter (chains_of l.call.replaced.now) (drop l.parameter (given_in l.fn.sets l.call.arguments.items)));
 }
