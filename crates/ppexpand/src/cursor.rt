@@ -76,6 +76,10 @@ impl<'a> Cursor<'a> {
     {
         let mut tokens = tokens;
         tokens.reverse();
+        if self.behind.is_empty() {
+            self.behind = tokens;
+            return Ok(());
+        }
         self.behind.append(&mut tokens)?;
         Ok(())
     }

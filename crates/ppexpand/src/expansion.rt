@@ -227,7 +227,7 @@ fn expand_arguments<'x, 'a: 'x>(
     ensures known { IfOk result (λ r. IfSome r (λ v. ExpansionsKnown sets.new v.items)) }
     ensures keeps { Keeps sets.old sets.new }
 {
-    let mut expanded = Vec::new(alloc);
+    let mut expanded = Vec::with_capacity(alloc, call.arguments.len())?;
     for (parameter, argument) in call.arguments.iter().enumerate() {
         if !uses_alone(parameter, chains) {
             push_expansion(&mut expanded, Expansion::Unused)?;

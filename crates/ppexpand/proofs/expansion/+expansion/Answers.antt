@@ -141,11 +141,11 @@ expand_argument-returns-clause-is m c =
 pub expand_arguments-loop-parameter-init : goal.expand_arguments-loop-parameter-init
 expand_arguments-loop-parameter-init m c = record {
   low = c.requires.level;
-  count = ap length c.new-expanded.ensures.items;
+  count = ap length c.in_ok-expanded.ensures.items;
   no_fault = c.requires.no_fault;
-  known = rw c.new-expanded.ensures.items (record { each = tt });
+  known = rw c.in_ok-expanded.ensures.items (record { each = tt });
   keeps = keeps-all c.args.sets.now;
-  follows = λ behind. rw c.new-expanded.ensures.items (arguments_first c.args.table.now c.args.env.now c.args.level (call_in c.args.sets.now c.args.call.now behind) c.args.left.now);
+  follows = λ behind. rw c.in_ok-expanded.ensures.items (arguments_first c.args.table.now c.args.env.now c.args.level (call_in c.args.sets.now c.args.call.now behind) c.args.left.now);
 }
 
 pub expand_arguments-loop-parameter-preserved-then-not-uses_alone : goal.expand_arguments-loop-parameter-preserved-then-not-uses_alone
