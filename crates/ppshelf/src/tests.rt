@@ -3,6 +3,8 @@ ghost use Rattle.std.specs.Vec.{vec_len};
 ghost use Rattle.ppshelf.specs.Content.{longest};
 ghost use Rattle.ppshelf.specs.Files.{most_rows, bytes_at};
 
+mod again;
+
 use crate::{
     Disk, File, FolderDisk, Folders, Form, LONGEST, Loaded, MemoryDisk, Pass, ReadFault, Shelf,
     ShelfFault, is_folder, is_name, resolve,
