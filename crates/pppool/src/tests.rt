@@ -1,4 +1,5 @@
 mod callers;
 mod desks;
+mod failing;
 mod lists;
 mod runs;

@@ -1,18 +1,60 @@
 // Callers' own threads over one shelf.
 ghost use Rattle.std.specs.Prelude.{◌≡◌, ◌<◌, All, IfOk, length};
+ghost use Rattle.pptext.specs.declared.sources.Profile.TheVariants.{C11};
 ghost use Rattle.ppunit.specs.Unit.{IsUnitOf};
 
-use super::lists::{Changing, first_units, push_tokens, setting_of, shelf_of};
+use super::lists::{Changing, first_units, push_given, setting_of, shelf_of};
 use ppshelf::{Pass, Shelf};
 use pptext::Memory;
 use ppunit::{Setting, Unit, preprocess};
 use std::alloc::Global;
+use std::process::Abort;
 use std::test::Fail;
 use std::thread;
 use std::thread::Threads;
 
 // What a thread found: its pass, what the units gave as a text, and whether all threads that it met found the same.
 type Found<'a> = (Pass<'a, Changing>, Vec<u8>, bool);
+
+// Puts behind a text what a unit gives.
+fn push_one<'a>(
+    alloc: Global,
+    shelf: &'a Shelf<Changing>,
+    pass: &mut Pass<'a, Changing>,
+    disk: &Changing,
+    setting: &Setting,
+    unit: &'a Unit,
+    text: &mut Vec<u8>,
+) -> Result<(), Memory>
+    requires pass { pass.old.shelf ≡ shelf.now }
+    requires profile { shelf.now.profile ≡ setting.now.profile }
+    requires unit { IsUnitOf (length shelf.now.names) setting.now.profile unit.now }
+    ensures { pass.new.shelf ≡ shelf.now }
+{
+    let out = preprocess(alloc, shelf, pass, disk, setting, unit)?;
+    Ok(push_given(alloc, text, &out)?)
+}
+
+// What units give one after the other, as a text.
+fn all_in_turn<'a>(
+    alloc: Global,
+    shelf: &'a Shelf<Changing>,
+    pass: &mut Pass<'a, Changing>,
+    disk: &Changing,
+    setting: &Setting,
+    units: &'a [Unit],
+) -> Result<Vec<u8>, Memory>
+    requires pass { pass.old.shelf ≡ shelf.now }
+    requires profile { shelf.now.profile ≡ setting.now.profile }
+    requires rows { All (IsUnitOf (length shelf.now.names) setting.now.profile) units.now }
+    ensures { pass.new.shelf ≡ shelf.now }
+{
+    let mut text = Vec::new(alloc);
+    for unit in units {
+        push_one(alloc, shelf, pass, disk, setting, unit, &mut text)?;
+    }
+    Ok(text)
+}
 
 fn by_one<'a>(
     alloc: Global,
@@ -26,11 +68,7 @@ fn by_one<'a>(
     ensures { IfOk result (λ f. f.0.shelf ≡ shelf.now) }
 {
     let mut pass = shelf.pass()?;
-    let mut text = Vec::new(alloc);
-    for unit in units {
-        let out = preprocess(alloc, shelf, &mut pass, disk, setting, unit)?;
-        push_tokens(alloc, &mut text, &out)?;
-    }
+    let text = all_in_turn(alloc, shelf, &mut pass, disk, setting, units)?;
     Ok((pass, text, true))
 }
 
@@ -93,14 +131,37 @@ fn by_four<'a, R: Threads + Sync>(
     Ok(together(shelf, one?, two?))
 }
 
-#[test]
-fn callers_threads_find_the_same(rt: HostRuntime) -> Result<(), Fail> {
-    let alloc = rt.alloc();
-    let shelf: Shelf<Changing> = shelf_of(alloc, &["a.c", "b.c", "h.h"])?;
+// That four threads find the same of the shelf's first two units, which both give what the third file reads.
+fn assert_found<R: Threads + Sync + Abort>(
+    rt: &R,
+    alloc: Global,
+    shelf: &Shelf<Changing>,
+    setting: &Setting,
+    units: &[Unit],
+) -> Result<(), Memory>
+    requires profile { shelf.now.profile ≡ setting.now.profile }
+    requires rows { All (IsUnitOf (length shelf.now.names) setting.now.profile) units.now }
+{
     let disk = Changing::new();
-    let setting = setting_of(alloc)?;
-    let units = first_units(alloc, &shelf, 2)?;
-    let (_pass, text, same) = by_four(&rt, alloc, &shelf, &disk, &setting, units.as_slice())?;
+    let (_pass, text, same) = by_four(rt, alloc, shelf, &disk, setting, units)?;
     assert!(rt; same && text.len() == 8 && text[0] == text[4]);
     Ok(())
+}
+
+fn assert_found_over<R: Threads + Sync + Abort>(
+    rt: &R,
+    alloc: Global,
+    shelf: &Shelf<Changing>,
+) -> Result<(), Fail>
+    requires { shelf.now.profile ≡ C11 }
+{
+    let setting = setting_of(alloc)?;
+    let units = first_units(alloc, shelf, 2)?;
+    Ok(assert_found(rt, alloc, shelf, &setting, units.as_slice())?)
+}
+
+#[test]
+fn callers_threads_find_the_same(rt: HostRuntime) -> Result<(), Fail> {
+    let shelf = shelf_of(rt.alloc(), &["a.c", "b.c", "h.h"])?;
+    assert_found_over(&rt, rt.alloc(), &shelf)
 }

@@ -4,22 +4,51 @@ ghost use Rattle.std.specs.Prelude.{◌≡◌, All, IfOk};
 use crate::{Desk, DeskSeat};
 use pptext::Memory;
 use std::alloc::Global;
+use std::process::Abort;
 use std::test::Fail;
 use std::thread;
 use std::thread::Threads;
 
+// What the seat in this place claims, or none where there is no such seat.
+fn claimed(desk: &Desk, seats: &mut Vec<DeskSeat>, place: usize) -> Option<u64>
+    requires { All (λ s. s.desk ≡ desk.now) seats.old.items }
+    ensures { All (λ s. s.desk ≡ desk.now) seats.new.items }
+{
+    if place >= seats.len() {
+        return None;
+    }
+    desk.claim(&mut seats[place])
+}
+
+// That seats claim these blocks in turn.
+fn assert_claims(
+    rt: &impl Abort,
+    desk: &Desk,
+    seats: &mut Vec<DeskSeat>,
+    wanted: &[(usize, Option<u64>)],
+)
+    requires { All (λ s. s.desk ≡ desk.now) seats.old.items }
+    ensures { All (λ s. s.desk ≡ desk.now) seats.new.items }
+{
+    for (place, block) in wanted {
+        assert!(rt; claimed(desk, seats, *place) == *block, "{place}");
+    }
+}
+
+/// What two seats claim in turn of three blocks.
+const IN_TURN: &[(usize, Option<u64>)] = &[
+    (0, Some(0)),
+    (1, Some(1)),
+    (0, Some(2)),
+    (0, None),
+    (0, None),
+    (1, None),
+];
+
 #[test]
 fn blocks_are_claimed_in_order(rt: HostRuntime) -> Result<(), Fail> {
     let (desk, mut seats) = Desk::new(rt.alloc(), 3, 2)?;
-    let mut other = seats.pop().ok_or("a desk has its seats")?;
-    let mut one = seats.pop().ok_or("a desk has its seats")?;
-    assert!(rt; desk.claim(&mut one) == Some(0));
-    assert!(rt; desk.claim(&mut other) == Some(1));
-    assert!(rt; desk.claim(&mut one) == Some(2));
-    assert!(rt; desk.claim(&mut one).is_none() && desk.claim(&mut one).is_none());
-    assert!(rt; desk.claim(&mut other).is_none());
-    seats.push(one)?;
-    seats.push(other)?;
+    assert_claims(&rt, &desk, &mut seats, IN_TURN);
     assert!(rt; desk.close(seats));
     Ok(())
 }
@@ -27,7 +56,7 @@ fn blocks_are_claimed_in_order(rt: HostRuntime) -> Result<(), Fail> {
 #[test]
 fn no_blocks_are_claimed_at_once(rt: HostRuntime) -> Result<(), Fail> {
     let (desk, mut seats) = Desk::new(rt.alloc(), 0, 2)?;
-    assert!(rt; desk.claim(&mut seats[0]).is_none());
+    assert_claims(&rt, &desk, &mut seats, &[(0, None)]);
     assert!(rt; desk.close(seats));
     Ok(())
 }
@@ -35,9 +64,8 @@ fn no_blocks_are_claimed_at_once(rt: HostRuntime) -> Result<(), Fail> {
 #[test]
 fn a_missing_seat_leaves_it_open(rt: HostRuntime) -> Result<(), Fail> {
     let (desk, mut seats) = Desk::new(rt.alloc(), 3, 2)?;
-    let one = seats.pop().ok_or("a desk has its seats")?;
-    assert!(rt; drain(&desk, one).count == 3);
-    assert!(rt; desk.claim(&mut seats[0]).is_none());
+    assert!(rt; drained_last(&desk, &mut seats) == Some(3));
+    assert_claims(&rt, &desk, &mut seats, &[(0, None)]);
     assert!(rt; !desk.close(seats));
     Ok(())
 }
@@ -45,8 +73,7 @@ fn a_missing_seat_leaves_it_open(rt: HostRuntime) -> Result<(), Fail> {
 #[test]
 fn blocks_that_may_be_left_leave_it_open(rt: HostRuntime) -> Result<(), Fail> {
     let (desk, mut seats) = Desk::new(rt.alloc(), 2, 1)?;
-    assert!(rt; desk.claim(&mut seats[0]) == Some(0));
-    assert!(rt; desk.claim(&mut seats[0]) == Some(1));
+    assert_claims(&rt, &desk, &mut seats, &[(0, Some(0)), (0, Some(1))]);
     assert!(rt; !desk.close(seats));
     Ok(())
 }
@@ -67,6 +94,15 @@ fn drain(desk: &Desk, mut seat: DeskSeat) -> Drained
         count = count.saturating_add(1);
     }
     Drained { seat, count }
+}
+
+// How many blocks the last of these seats claims until none is left. It is taken out.
+fn drained_last(desk: &Desk, seats: &mut Vec<DeskSeat>) -> Option<u64>
+    requires { All (λ s. s.desk ≡ desk.now) seats.old.items }
+    ensures { All (λ s. s.desk ≡ desk.now) seats.new.items }
+{
+    let seat = seats.pop()?;
+    Some(drain(desk, seat).count)
 }
 
 // Each seat is drained by a thread.

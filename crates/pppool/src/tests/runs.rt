@@ -3,10 +3,11 @@ ghost use Rattle.std.specs.Prelude.{◌≡◌, ◌<◌, ◌≤◌, All, length};
 ghost use Rattle.pptext.specs.declared.sources.Profile.TheVariants.{C11};
 ghost use Rattle.ppunit.specs.Unit.{IsUnitOf};
 
-use super::lists::{Changing, first_units, push_tokens, setting_of, shelf_of};
+use super::lists::{Changing, Open, disk_of, first_units, given_by, setting_of, shelf_of};
 use crate::{Gate, run};
-use ppshelf::{Disk, File, MemoryDisk, ReadFault, Shelf};
-use ppunit::Unit;
+use ppshelf::{Disk, MemoryDisk, ReadFault, Shelf};
+use pptext::Memory;
+use ppunit::{Setting, Unit, UnitOut};
 use std::alloc::{AllocError, Global};
 use std::process::Abort;
 use std::sync::atomic::AtomicU64;
@@ -17,15 +18,18 @@ use std::thread::Threads;
 /// How often a gate that holds a worker looks for another before it lets it go.
 const MOST_LOADS: u64 = 1_000_000_000;
 
-const SEVEN: [&str; 7] = ["u0.c", "u1.c", "u2.c", "u3.c", "u4.c", "u5.c", "u6.c"];
+const SEVEN: &[&str] = &["u0.c", "u1.c", "u2.c", "u3.c", "u4.c", "u5.c", "u6.c"];
 
-// Holds nobody.
-#[derive(Drop)]
-struct Open;
-
-impl Gate for Open {
-    fn enter(&self, _unit: usize) {}
-}
+/// In each of the seven files its number.
+const SEVEN_TEXTS: &[(&str, &str)] = &[
+    ("u0.c", "0\n"),
+    ("u1.c", "1\n"),
+    ("u2.c", "2\n"),
+    ("u3.c", "3\n"),
+    ("u4.c", "4\n"),
+    ("u5.c", "5\n"),
+    ("u6.c", "6\n"),
+];
 
 // Whether a number gets to a bound in time.
 fn comes_to(number: &AtomicU64, bound: u64) -> bool {
@@ -109,49 +113,117 @@ impl Gate for First {
     }
 }
 
-// What the units give, as a text.
-fn given<'a, R: Threads + Sync, D: Disk + Send + Sync, G: Gate + Sync>(
+// What the units give, by a pass that knows nothing.
+fn run_by_new_pass<'a, R: Threads + Sync, D: Disk + Send + Sync, G: Gate + Sync>(
     rt: &R,
     alloc: Global,
     shelf: &'a Shelf<D>,
     disk: &D,
     gate: &G,
+    setting: &Setting,
     units: &'a [Unit],
+    workers: usize,
+    block: usize,
+) -> Result<Vec<UnitOut<'a>>, Memory>
+    requires workers { (1 ≤ workers) × (workers ≤ 64) }
+    requires block { (1 ≤ block) × (block ≤ 1024) }
+    requires count { length units.now ≤ 65_535 }
+    requires profile { shelf.now.profile ≡ setting.now.profile }
+    requires rows { All (IsUnitOf (length shelf.now.names) setting.now.profile) units.now }
+{
+    let mut pass = shelf.pass()?;
+    run(
+        rt, alloc, shelf, &mut pass, disk, gate, setting, units, workers, block,
+    )
+}
+
+// The same as a text.
+fn given<R: Threads + Sync, D: Disk + Send + Sync, G: Gate + Sync>(
+    rt: &R,
+    alloc: Global,
+    shelf: &Shelf<D>,
+    disk: &D,
+    gate: &G,
+    setting: &Setting,
+    units: &[Unit],
+    workers: usize,
+    block: usize,
+) -> Result<Vec<u8>, Memory>
+    requires workers { (1 ≤ workers) × (workers ≤ 64) }
+    requires block { (1 ≤ block) × (block ≤ 1024) }
+    requires count { length units.now ≤ 65_535 }
+    requires profile { shelf.now.profile ≡ setting.now.profile }
+    requires rows { All (IsUnitOf (length shelf.now.names) setting.now.profile) units.now }
+{
+    let outs = run_by_new_pass(rt, alloc, shelf, disk, gate, setting, units, workers, block)?;
+    Ok(given_by(alloc, outs.as_slice())?)
+}
+
+// What the units of the shelf's first rows give, as a text.
+fn given_by_first<R: Threads + Sync, D: Disk + Send + Sync, G: Gate + Sync>(
+    rt: &R,
+    alloc: Global,
+    shelf: &Shelf<D>,
+    disk: &D,
+    gate: &G,
+    count: usize,
     workers: usize,
     block: usize,
 ) -> Result<Vec<u8>, Fail>
     requires workers { (1 ≤ workers) × (workers ≤ 64) }
     requires block { (1 ≤ block) × (block ≤ 1024) }
-    requires count { length units.now ≤ 65_535 }
     requires profile { shelf.now.profile ≡ C11 }
-    requires rows { All (IsUnitOf (length shelf.now.names) C11) units.now }
 {
     let setting = setting_of(alloc)?;
-    let mut pass = shelf.pass()?;
-    let outs = run(
-        rt, alloc, shelf, &mut pass, disk, gate, &setting, units, workers, block,
-    )?;
-    let mut text = Vec::new(alloc);
-    for out in &outs {
-        push_tokens(alloc, &mut text, out)?;
-    }
-    Ok(text)
+    let units = first_units(alloc, shelf, count)?;
+    Ok(given(
+        rt,
+        alloc,
+        shelf,
+        disk,
+        gate,
+        &setting,
+        units.as_slice(),
+        workers,
+        block,
+    )?)
 }
 
-// In each of the seven files its number.
-fn seven_files(alloc: Global) -> Result<MemoryDisk, AllocError> {
-    let mut files = Vec::new(alloc);
-    for (number, name) in SEVEN.iter().enumerate() {
-        let text = format!(in alloc; "{number}\n")?;
-        files.push(File {
-            name: String::from_str(alloc, name)?,
-            bytes: Vec::from_slice(alloc, text.as_bytes())?,
-        })?;
-    }
-    Ok(MemoryDisk { files })
+// The same over a shelf of these names.
+fn given_over<R: Threads + Sync, D: Disk + Send + Sync, G: Gate + Sync>(
+    rt: &R,
+    alloc: Global,
+    names: &[&str],
+    disk: &D,
+    gate: &G,
+    count: usize,
+    workers: usize,
+    block: usize,
+) -> Result<Vec<u8>, Fail>
+    requires workers { (1 ≤ workers) × (workers ≤ 64) }
+    requires block { (1 ≤ block) × (block ≤ 1024) }
+{
+    let shelf: Shelf<D> = shelf_of(alloc, names)?;
+    given_by_first(rt, alloc, &shelf, disk, gate, count, workers, block)
 }
 
 // That the seven files give their numbers in order.
+fn assert_numbers<R: Threads + Sync + Abort, D: Disk + Send + Sync, G: Gate + Sync>(
+    rt: &R,
+    alloc: Global,
+    disk: &D,
+    gate: &G,
+    workers: usize,
+    block: usize,
+) -> Result<(), Fail>
+    requires workers { (1 ≤ workers) × (workers ≤ 64) }
+    requires block { (1 ≤ block) × (block ≤ 1024) }
+{
+    let text = given_over(rt, alloc, SEVEN, disk, gate, 7, workers, block)?;
+    assert!(rt; text.as_slice() == b"0 ; 1 ; 2 ; 3 ; 4 ; 5 ; 6 ; ".as_slice());
+    Ok(())
+}
+
 fn assert_seven<R: Threads + Sync + Abort, G: Gate + Sync>(
     rt: &R,
     alloc: Global,
@@ -162,35 +234,28 @@ fn assert_seven<R: Threads + Sync + Abort, G: Gate + Sync>(
     requires workers { (1 ≤ workers) × (workers ≤ 64) }
     requires block { (1 ≤ block) × (block ≤ 1024) }
 {
-    let shelf: Shelf<MemoryDisk> = shelf_of(alloc, &SEVEN)?;
-    let disk = seven_files(alloc)?;
-    let units = first_units(alloc, &shelf, 7)?;
-    let text = given(
-        rt,
-        alloc,
-        &shelf,
-        &disk,
-        gate,
-        units.as_slice(),
-        workers,
-        block,
-    )?;
-    assert!(rt; text.as_slice() == b"0 ; 1 ; 2 ; 3 ; 4 ; 5 ; 6 ; ".as_slice());
-    Ok(())
+    let disk = disk_of(alloc, SEVEN_TEXTS)?;
+    assert_numbers(rt, alloc, &disk, gate, workers, block)
+}
+
+// That they do in blocks of several lengths.
+fn assert_in_blocks<R: Threads + Sync + Abort>(
+    rt: &R,
+    alloc: Global,
+    workers: usize,
+) -> Result<(), Fail>
+    requires { (1 ≤ workers) × (workers ≤ 64) }
+{
+    assert_seven(rt, alloc, &Open, workers, 1)?;
+    assert_seven(rt, alloc, &Open, workers, 3)?;
+    assert_seven(rt, alloc, &Open, workers, 1024)
 }
 
 #[test]
 fn answers_come_in_the_lists_order(rt: HostRuntime) -> Result<(), Fail> {
-    let alloc = rt.alloc();
-    assert_seven(&rt, alloc, &Open, 1, 1)?;
-    assert_seven(&rt, alloc, &Open, 1, 3)?;
-    assert_seven(&rt, alloc, &Open, 1, 1024)?;
-    assert_seven(&rt, alloc, &Open, 2, 1)?;
-    assert_seven(&rt, alloc, &Open, 2, 3)?;
-    assert_seven(&rt, alloc, &Open, 2, 1024)?;
-    assert_seven(&rt, alloc, &Open, 7, 1)?;
-    assert_seven(&rt, alloc, &Open, 7, 3)?;
-    assert_seven(&rt, alloc, &Open, 7, 1024)
+    assert_in_blocks(&rt, rt.alloc(), 1)?;
+    assert_in_blocks(&rt, rt.alloc(), 2)?;
+    assert_in_blocks(&rt, rt.alloc(), 7)
 }
 
 #[test]
@@ -203,15 +268,11 @@ fn two_workers_work_at_once(rt: HostRuntime) -> Result<(), Fail> {
 
 #[test]
 fn two_workers_read_at_once(rt: HostRuntime) -> Result<(), Fail> {
-    let alloc = rt.alloc();
-    let shelf: Shelf<Paired> = shelf_of(alloc, &SEVEN)?;
     let disk = Paired {
-        files: seven_files(alloc)?,
+        files: disk_of(rt.alloc(), SEVEN_TEXTS)?,
         pair: Pair::new(),
     };
-    let units = first_units(alloc, &shelf, 7)?;
-    let text = given(&rt, alloc, &shelf, &disk, &Open, units.as_slice(), 2, 1)?;
-    assert!(rt; text.as_slice() == b"0 ; 1 ; 2 ; 3 ; 4 ; 5 ; 6 ; ".as_slice());
+    assert_numbers(&rt, rt.alloc(), &disk, &Open, 2, 1)?;
     assert!(rt; disk.pair.met.load(SeqCst) == 2);
     Ok(())
 }
@@ -229,12 +290,9 @@ fn a_held_worker_leaves_the_blocks_to_the_other(rt: HostRuntime) -> Result<(), F
 
 #[test]
 fn workers_find_one_content(rt: HostRuntime) -> Result<(), Fail> {
-    let alloc = rt.alloc();
-    let shelf: Shelf<Changing> = shelf_of(alloc, &["a.c", "b.c", "h.h"])?;
-    let disk = Changing::new();
-    let gate = Pair::new();
-    let units = first_units(alloc, &shelf, 2)?;
-    let text = given(&rt, alloc, &shelf, &disk, &gate, units.as_slice(), 2, 1)?;
+    let names = ["a.c", "b.c", "h.h"];
+    let (disk, gate) = (Changing::new(), Pair::new());
+    let text = given_over(&rt, rt.alloc(), &names, &disk, &gate, 2, 2, 1)?;
     let text = text.as_slice();
     assert!(rt; text == b"1 ; 1 ; ".as_slice() || text == b"2 ; 2 ; ".as_slice());
     Ok(())
