@@ -1,13 +1,16 @@
 // Phase 4 of whole units over small files.
 ghost use Rattle.std.specs.Prelude.{◌≡◌, ◌≤◌, IfOk, length};
 ghost use Rattle.std.specs.Vec.{vec_len};
+ghost use Rattle.ppunit.specs.Unit.{IsUnitOf};
+
+mod again;
 
 use crate::{
     Definitions, Item, Items, Setting, Text, Texts, Unit, UnitOut, fits_command, preprocess,
     setting_ok, unit_ok,
 };
 use ppshelf::{File, MemoryDisk, Pass, Shelf};
-use pptext::{Fault, Place, Profile, Token};
+use pptext::{Fault, Memory, Place, Profile, Token};
 use std::alloc::{AllocError, Global};
 use std::process::Abort;
 use std::test::Fail;
@@ -181,6 +184,26 @@ fn told(alloc: Global, out: &UnitOut) -> Result<Vec<u8>, Fail> {
     Ok(shown(alloc, out)?)
 }
 
+/// What a unit gives. Where memory is refused, it is preprocessed again over the same shelf and pass.
+fn preprocess_again<'a>(
+    alloc: Global,
+    shelf: &'a Shelf<MemoryDisk>,
+    pass: &mut Pass<'a, MemoryDisk>,
+    disk: &MemoryDisk,
+    setting: &Setting,
+    unit: &'a Unit,
+) -> Result<UnitOut<'a>, Memory>
+    requires pass { pass.old.shelf ≡ shelf.now }
+    requires profile { shelf.now.profile ≡ setting.now.profile }
+    requires unit { IsUnitOf (length shelf.now.names) setting.now.profile unit.now }
+    ensures { pass.new.shelf ≡ shelf.now }
+{
+    let Ok(out) = preprocess(alloc, shelf, pass, disk, setting, unit) else {
+        return preprocess(alloc, shelf, pass, disk, setting, unit);
+    };
+    Ok(out)
+}
+
 /// What a unit gives, as a text.
 fn given<'a>(
     alloc: Global,
@@ -199,7 +222,7 @@ fn given<'a>(
     if !unit_ok(shelf, unit) {
         return Err(Fail::new("no such unit"));
     }
-    let out = preprocess(alloc, shelf, pass, disk, setting, unit)?;
+    let out = preprocess_again(alloc, shelf, pass, disk, setting, unit)?;
     told(alloc, &out)
 }
 

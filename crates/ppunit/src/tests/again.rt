@@ -1,0 +1,28 @@
+// Units that are preprocessed again where they are refused memory: `given` does so over the same shelf and pass.
+use super::{assert_contents, assert_units};
+use pptext::Profile;
+use std::test::Fail;
+
+/// A file that includes a guarded header twice, and the header.
+const GUARDED: &[(&str, &str)] = &[
+    ("a.c", "#include \"h.h\"\n#include \"h.h\"\n"),
+    ("h.h", "#ifndef H\n#define H\nint a;\n#endif\n"),
+];
+
+/// What two units of the file give, of which the second defines the guard.
+const GIVEN: &[(usize, &[&str], &str)] = &[
+    (0, &[], "int a ; | 0 1 | ok"),
+    (0, &["H"], "| 0 1 | ok"),
+];
+
+/// An invocation that goes on behind the replacement of another (6.10.3.4).
+const GOING_ON: &[(&str, &str)] = &[(
+    "#define f(a) a*g\n#define g(a) f(a)\nf(2)(9)\n",
+    "2 * 9 * g | 0 | ok",
+)];
+
+#[test]
+fn gives_the_same_after_want_of_memory(rt: HostRuntime) -> Result<(), Fail> {
+    assert_units(&rt, rt.alloc(), Profile::C11, GUARDED, GIVEN)?;
+    assert_contents(&rt, rt.alloc(), Profile::C11, GOING_ON)
+}
