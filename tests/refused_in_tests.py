@@ -4,16 +4,19 @@
     tests/refused_in_tests.py NAME..
 
 For each NAME the tests are crates/NAME/out/NAME_tests, which `rt test` leaves behind.  Each test runs with its 1st, 2nd,
-3rd .. request refused, until a run meets no refusal.  A test that looks at what a refused call left, and calls again, must
-pass; in another the want of memory is the test's own error.  Whatever else fails is a problem.
+3rd .. request refused, until a run meets no refusal; behind the 1,000th fewer and fewer requests are refused.  A test that
+looks at what a refused call left, and calls again, must pass; in another the want of memory is the test's own error.
+Whatever else fails is a problem.
 """
 import os
+import re
 import subprocess
 import sys
 
-from refusals import HERE, refusing_malloc, runs, tally
+from refusals import HERE, refusing_malloc, run, tally
 
-WANT_OF_MEMORY = (b"error: Memory", b"error: AllocError", b"error: AllocFailed")
+EACH_UP_TO = 1_000
+WANT_OF_MEMORY = re.compile(rb"[Ee]rror: (Memory|AllocError|AllocFailed|Kind\(OutOfMemory\))")
 
 
 def tests_of(program):
@@ -21,16 +24,25 @@ def tests_of(program):
     return [line.rsplit(": ", 1)[0] for line in listed.splitlines() if "::" in line]
 
 
+def some_runs(command, malloc):
+    """The runs with a request refused, each with the request's number, up to the first that meets no refusal."""
+    call, met = 1, True
+    while met:
+        done, met = run(command, malloc, call)
+        yield call, done, met
+        call += 1 + call // EACH_UP_TO
+
+
 def problems(program, test, malloc):
-    requests = went_on = 0
-    for call, done, met in runs([program, test], malloc):
+    refusals = went_on = 0
+    for call, done, met in some_runs([program, test], malloc):
         passed = done.returncode == 0
         words = done.stdout + done.stderr
-        if not passed and not (met and words.startswith(WANT_OF_MEMORY)):
+        if not passed and not (met and WANT_OF_MEMORY.match(words)):
             yield "request %d refused: %r" % (call, words[:200])
-        requests += met
+        refusals += met
         went_on += met and passed
-    print("  %d requests, %d of them met by a call that is tested" % (requests, went_on))
+    print("  %d requests refused, %d of them met by a call that is tested" % (refusals, went_on))
 
 
 def cases(names, malloc):

@@ -334,7 +334,7 @@ fn a_fill_goes_on_after_want_of_memory(rt: HostRuntime) -> Result<(), Fail> {
     let mut shelf = named(rt.alloc(), &["a", "b", "c"])?;
     let disk = refusing(1);
     assert!(rt; shelf.fill(&disk) == Err(Memory));
-    assert!(rt; shelf.fill(&disk) == Ok(()));
+    shelf.fill(&disk)?;
     assert!(rt; disk.reads.load(SeqCst) == 4);
     assert_numbers_are_kept(&rt, &shelf)?;
     Ok(())
@@ -356,32 +356,32 @@ fn a_fill_reads_what_a_look_has_kept(rt: HostRuntime) -> Result<(), Fail> {
     let mut shelf = named(rt.alloc(), &["a"])?;
     let disk = refusing(99);
     assert_first(&rt, &shelf, &disk, b"0\n".as_slice())?;
-    assert!(rt; shelf.fill(&disk) == Ok(()));
+    shelf.fill(&disk)?;
     assert_first(&rt, &shelf, &disk, b"1\n".as_slice())?;
     Ok(())
-}
-
-// That a look at the first row, with a new disk, answers so.
-fn assert_first_row<'a>(
-    rt: &impl Abort,
-    shelf: &'a Shelf<Counting>,
-    pass: &mut Pass<'a, Counting>,
-    refused: u64,
-    wanted: Result<Option<&[u8]>, Memory>,
-)
-    requires { pass.old.shelf ≡ shelf.now }
-    ensures { pass.new.shelf ≡ shelf.now }
-{
-    let found = bytes_of(shelf, pass, 0, &refusing(refused));
-    assert!(rt; found == wanted, "{refused}");
 }
 
 // That a pass is shown a row once there is memory for it, and that then it and another are shown it without a read.
 fn assert_read_once(rt: &impl Abort, shelf: &Shelf<Counting>) -> Result<(), Memory> {
     let mut pass = shelf.pass()?;
-    assert_first_row(rt, shelf, &mut pass, 0, Err(Memory));
-    assert_first_row(rt, shelf, &mut pass, 1, Ok(Some(b"0\n".as_slice())));
-    assert_first_row(rt, shelf, &mut pass, 0, Ok(Some(b"0\n".as_slice())));
+    let first = bytes_of(shelf, &mut pass, 0, &refusing(0));
+    assert!(rt; first == Err(Memory));
+    assert_shown(
+        rt,
+        shelf,
+        &mut pass,
+        0,
+        &refusing(1),
+        Some(b"0\n".as_slice()),
+    )?;
+    assert_shown(
+        rt,
+        shelf,
+        &mut pass,
+        0,
+        &refusing(0),
+        Some(b"0\n".as_slice()),
+    )?;
     assert_first(rt, shelf, &refusing(0), b"0\n".as_slice())
 }
 
@@ -526,22 +526,27 @@ fn names_have_one_form(rt: HostRuntime) -> Result<(), Fail> {
     Ok(())
 }
 
+// That no shelf is made of these names, for the one in this place.
+fn assert_refuses(rt: &impl Abort, alloc: Global, names: &[&str], place: usize) -> Result<(), Fail>
+    requires { length names.now ≤ most_rows }
+{
+    let made: Result<Shelf<MemoryDisk>, ShelfFault> = Shelf::new(
+        alloc,
+        texts(alloc, names)?,
+        Profile::C11,
+    );
+    match made {
+        Err(ShelfFault::Name(found)) => assert!(rt; found == place, "{found}"),
+        Err(ShelfFault::Memory) => return Err(Fail::from(Memory)),
+        Ok(_) => assert!(rt; false, "a shelf with a bad name"),
+    }
+    Ok(())
+}
+
 #[test]
 fn a_shelf_refuses_the_first_bad_name(rt: HostRuntime) -> Result<(), Fail> {
-    let alloc = rt.alloc();
-    let twice: Result<Shelf<MemoryDisk>, ShelfFault> = Shelf::new(
-        alloc,
-        texts(alloc, &["a", "b", "a", "."])?,
-        Profile::C11,
-    );
-    assert!(rt; twice.map(|_| ()) == Err(ShelfFault::Name(2)));
-    let out_of_form: Result<Shelf<MemoryDisk>, ShelfFault> = Shelf::new(
-        alloc,
-        texts(alloc, &["a", "b/", "a"])?,
-        Profile::C11,
-    );
-    assert!(rt; out_of_form.map(|_| ()) == Err(ShelfFault::Name(1)));
-    Ok(())
+    assert_refuses(&rt, rt.alloc(), &["a", "b", "a", "."], 2)?;
+    assert_refuses(&rt, rt.alloc(), &["a", "b/", "a"], 1)
 }
 
 #[test]
@@ -624,7 +629,7 @@ fn a_memory_disk_answers_its_files(rt: HostRuntime) -> Result<(), Fail> {
     let alloc = rt.alloc();
     let disk = disk_of(alloc, b"x\n".as_slice())?;
     let mut shelf = named(alloc, &["a", "b"])?;
-    assert!(rt; shelf.fill(&disk) == Ok(()));
+    shelf.fill(&disk)?;
     assert_answered(&rt, &shelf, &disk)?;
     Ok(())
 }
@@ -674,7 +679,7 @@ fn assert_reads_by(
     let mut shelf: Shelf<MemoryDisk> = Shelf::new(alloc, names, profile)?;
     assert!(rt; shelf.profile() == profile);
     assert_directive(rt, &shelf, disk, directive)?;
-    assert!(rt; shelf.fill(disk) == Ok(()));
+    shelf.fill(disk)?;
     assert_directive(rt, &shelf, disk, directive)?;
     Ok(())
 }
@@ -710,9 +715,16 @@ fn make_files<R: Files + AllocGlobal>(rt: &R, folder: &str) -> Result<(), Fail> 
 }
 
 // That a read of the long file stops above the longest content.
-fn assert_long_is_cut<R: Abort + Files + AllocGlobal>(rt: &R, disk: &FolderDisk<R>) {
-    let long = disk.read(rt.alloc(), "long");
-    assert!(rt; long.is_ok_and(|bytes| bytes.len() == 16_777_217));
+fn assert_long_is_cut<R: Abort + Files + AllocGlobal>(
+    rt: &R,
+    disk: &FolderDisk<R>,
+) -> Result<(), Memory> {
+    match disk.read(rt.alloc(), "long") {
+        Ok(bytes) => assert!(rt; bytes.len() == 16_777_217),
+        Err(ReadFault::Memory) => return Err(Memory),
+        Err(ReadFault::Unreadable) => assert!(rt; false, "the long file is unreadable"),
+    }
+    Ok(())
 }
 
 // That the shelf shows the short file alone.
@@ -735,7 +747,7 @@ fn assert_short_is_shown<'a, R: Abort + Files>(
 
 fn read_files<R: Abort + Files + AllocGlobal>(rt: &R, folder: &str) -> Result<(), Fail> {
     let disk = FolderDisk { files: rt, folder };
-    assert_long_is_cut(rt, &disk);
+    assert_long_is_cut(rt, &disk)?;
     let shelf = named(rt.alloc(), &["inc/x.h", "inc", "x.h", "long"])?;
     assert_short_is_shown(rt, &shelf, &disk)?;
     Ok(())
@@ -814,7 +826,7 @@ fn contents_are_moved_to_rows(rt: HostRuntime) -> Result<(), Fail> {
     fill_with_texts(alloc, &mut shelf, &["x\n", "/*"])?;
     // rows that are filled stay
     fill_with_texts(alloc, &mut shelf, &["y\n", "z\n"])?;
-    assert!(rt; shelf.fill(&disk) == Ok(()));
+    shelf.fill(&disk)?;
     assert_moved(&rt, &shelf, &disk)?;
     assert!(rt; disk.reads.load(SeqCst) == 0);
     Ok(())
