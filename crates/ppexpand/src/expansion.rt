@@ -26,6 +26,9 @@ use std::alloc::{AllocError, Global};
 /// The deepest level of lists: a run of text is at level 0, and an argument one level deeper than its invocation.
 const DEEPEST: u32 = 256;
 
+// So many levels need stack. What leads from a level to the next returns little by value, and leaves what it found with its caller; what
+// doesn't lead there isn't to be inlined into it.
+
 /// Whether a chain is this parameter alone.
 fn is_alone(parameter: usize, operands: &[Operand]) -> bool
     ensures { result ≡ is_alone parameter operands.now }
