@@ -9,6 +9,9 @@ use pptext::Memory;
 use std::alloc::{AllocError, Global};
 use std::marker::Model;
 
+// The bytes of nearly every name.
+const USUAL: usize = 64;
+
 /// A path from the root, which contracts see as the list of its segments.
 #[derive(Drop)]
 pub(crate) struct Path<'a> {
@@ -84,7 +87,7 @@ impl<'a> Path<'a> {
     pub(crate) fn name(&self, alloc: Global) -> Result<Vec<u8>, Memory>
         ensures { IfOk result (λ name. name.items ≡ join_with_byte 47 self.now) }
     {
-        let mut name = Vec::new(alloc);
+        let mut name = Vec::with_capacity(alloc, USUAL)?;
         for (i, segment) in self.segments.iter().enumerate() {
             if i > 0 {
                 push_slash(&mut name)?;

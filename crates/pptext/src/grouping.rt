@@ -49,27 +49,13 @@ pub(crate) fn group_lines(
 
 #[cfg(test)]
 mod tests {
-    use crate::asserting::assert_same;
+    use crate::asserting::{assert_is_fault, assert_same};
     use crate::reading::read_source;
     use crate::sources::{Directive, Line, Profile, SourceFault};
-    use crate::tokens::{Fault, Place};
+    use crate::tokens::{Memory, Place};
     use std::alloc::Global;
     use std::process::Abort;
     use std::test::Fail;
-
-    /// That a fault of these bytes has this number, place and text.
-    fn assert_is_fault(
-        rt: &impl Abort,
-        bytes: &[u8],
-        fault: &Fault,
-        number: u8,
-        at: Place,
-        name: &[u8],
-    ) {
-        assert_same(rt, bytes, &fault.number, &number);
-        assert_same(rt, bytes, &fault.at, &at);
-        assert_same(rt, bytes, &fault.text.as_bytes(), &name);
-    }
 
     /// That reading these bytes gives this fault, with this directive's name.
     fn assert_fault(
@@ -80,13 +66,15 @@ mod tests {
         number: u8,
         at: Place,
         name: &[u8],
-    )
+    ) -> Result<(), Memory>
         requires { length bytes.now ≤ 16_777_216 }
     {
         match read_source(alloc, bytes, 0, profile) {
             Err(SourceFault::Bad(fault)) => assert_is_fault(rt, bytes, &fault, number, at, name),
-            _ => assert!(rt; false, "no fault of {bytes:?}"),
+            Err(SourceFault::Memory) => return Err(Memory),
+            Ok(_) => assert!(rt; false, "no fault of {bytes:?}"),
         }
+        Ok(())
     }
 
     /// That a file of these bytes has this guard.
@@ -96,13 +84,15 @@ mod tests {
         profile: Profile,
         bytes: &[u8],
         guard: Option<&[u8]>,
-    )
+    ) -> Result<(), Memory>
         requires { length bytes.now ≤ 16_777_216 }
     {
         match read_source(alloc, bytes, 0, profile) {
             Ok(source) => assert_same(rt, bytes, &source.guard(), &guard),
-            _ => assert!(rt; false, "a fault of {bytes:?}"),
+            Err(SourceFault::Memory) => return Err(Memory),
+            Err(SourceFault::Bad(_)) => assert!(rt; false, "a fault of {bytes:?}"),
         }
+        Ok(())
     }
 
     /// That each of these lines has this directive and next branch line.
@@ -136,7 +126,7 @@ mod tests {
     }
 
     #[test]
-    fn tells_group_faults(rt: HostRuntime) {
+    fn tells_group_faults(rt: HostRuntime) -> Result<(), Fail> {
         let place = |line: u32, col: u32| Place { file: 0, line, col };
         let alloc = rt.alloc();
         assert_fault(
@@ -147,7 +137,7 @@ mod tests {
             3,
             place(2, 2),
             b"endif",
-        );
+        )?;
         assert_fault(
             &rt,
             alloc,
@@ -156,7 +146,7 @@ mod tests {
             3,
             place(3, 1),
             b"elif",
-        );
+        )?;
         assert_fault(
             &rt,
             alloc,
@@ -165,7 +155,7 @@ mod tests {
             4,
             place(3, 1),
             b"else",
-        );
+        )?;
         assert_fault(
             &rt,
             alloc,
@@ -174,37 +164,39 @@ mod tests {
             5,
             place(1, 1),
             b"if",
-        );
+        )?;
+        Ok(())
     }
 
     #[test]
-    fn finds_guards(rt: HostRuntime) {
+    fn finds_guards(rt: HostRuntime) -> Result<(), Fail> {
         let alloc = rt.alloc();
         let profile = Profile::C11;
         let guard = Some(b"X".as_slice());
-        assert_guard(&rt, alloc, profile, b"\n#ifndef X\na\n#endif\n\n", guard);
-        assert_guard(&rt, alloc, profile, b"# if !defined X\n#endif", guard);
+        assert_guard(&rt, alloc, profile, b"\n#ifndef X\na\n#endif\n\n", guard)?;
+        assert_guard(&rt, alloc, profile, b"# if !defined X\n#endif", guard)?;
         assert_guard(
             &rt,
             alloc,
             profile,
             b"#if !defined(X)\n#if 1\n#else\n#endif\n#endif",
             guard,
-        );
-        assert_guard(&rt, alloc, profile, b"#ifndef X\n#else\n#endif", None);
-        assert_guard(&rt, alloc, profile, b"#ifndef X\n#elif 1\n#endif", None);
-        assert_guard(&rt, alloc, profile, b"#ifndef X\n#endif\na", None);
-        assert_guard(&rt, alloc, profile, b"a\n#ifndef X\n#endif", None);
+        )?;
+        assert_guard(&rt, alloc, profile, b"#ifndef X\n#else\n#endif", None)?;
+        assert_guard(&rt, alloc, profile, b"#ifndef X\n#elif 1\n#endif", None)?;
+        assert_guard(&rt, alloc, profile, b"#ifndef X\n#endif\na", None)?;
+        assert_guard(&rt, alloc, profile, b"a\n#ifndef X\n#endif", None)?;
         assert_guard(
             &rt,
             alloc,
             profile,
             b"#ifndef X\n#endif\n#ifndef X\n#endif",
             None,
-        );
-        assert_guard(&rt, alloc, profile, b"#ifdef X\n#endif", None);
-        assert_guard(&rt, alloc, profile, b"#ifndef 1\n#endif", None);
-        assert_guard(&rt, alloc, profile, b"", None);
+        )?;
+        assert_guard(&rt, alloc, profile, b"#ifdef X\n#endif", None)?;
+        assert_guard(&rt, alloc, profile, b"#ifndef 1\n#endif", None)?;
+        assert_guard(&rt, alloc, profile, b"", None)?;
+        Ok(())
     }
 
     /// That these bytes are read by this profile into lines of these directives and next branch lines.
@@ -214,17 +206,19 @@ mod tests {
         profile: Profile,
         bytes: &[u8],
         wanted: &[(Option<Directive>, Option<usize>)],
-    )
+    ) -> Result<(), Memory>
         requires { length bytes.now ≤ 16_777_216 }
     {
         match read_source(alloc, bytes, 0, profile) {
             Ok(source) => assert_linked(rt, bytes, source.lines(), wanted),
-            _ => assert!(rt; false, "a fault of {bytes:?}"),
+            Err(SourceFault::Memory) => return Err(Memory),
+            Err(SourceFault::Bad(_)) => assert!(rt; false, "a fault of {bytes:?}"),
         }
+        Ok(())
     }
 
     #[test]
-    fn links_branches_by_profile(rt: HostRuntime) {
+    fn links_branches_by_profile(rt: HostRuntime) -> Result<(), Fail> {
         let alloc = rt.alloc();
         let bytes = b"#if a\n#elifdef B\nx\n%: elifndef C\n#else\n#endif\n";
         let later = [
@@ -235,7 +229,7 @@ mod tests {
             (Some(Directive::Else), Some(5)),
             (Some(Directive::Endif), None),
         ];
-        assert_links(&rt, alloc, Profile::Later, bytes, later.as_slice());
+        assert_links(&rt, alloc, Profile::Later, bytes, later.as_slice())?;
         let c11 = [
             (Some(Directive::If), Some(4)),
             (Some(Directive::Unknown), None),
@@ -244,11 +238,12 @@ mod tests {
             (Some(Directive::Else), Some(5)),
             (Some(Directive::Endif), None),
         ];
-        assert_links(&rt, alloc, Profile::C11, bytes, c11.as_slice());
+        assert_links(&rt, alloc, Profile::C11, bytes, c11.as_slice())?;
+        Ok(())
     }
 
     #[test]
-    fn tells_group_faults_by_profile(rt: HostRuntime) {
+    fn tells_group_faults_by_profile(rt: HostRuntime) -> Result<(), Fail> {
         let place = |line: u32, col: u32| Place { file: 0, line, col };
         let alloc = rt.alloc();
         let alone = b" #elifndef Q";
@@ -260,33 +255,35 @@ mod tests {
             3,
             place(1, 2),
             b"elifndef",
-        );
+        )?;
         let unknown = [(Some(Directive::Unknown), None)];
-        assert_links(&rt, alloc, Profile::C11, alone, unknown.as_slice());
+        assert_links(&rt, alloc, Profile::C11, alone, unknown.as_slice())?;
         let last = b"#if 1\n#else\n#elifdef X\n#endif";
-        assert_fault(&rt, alloc, Profile::Later, last, 4, place(3, 1), b"elifdef");
+        assert_fault(&rt, alloc, Profile::Later, last, 4, place(3, 1), b"elifdef")?;
         let passed = [
             (Some(Directive::If), Some(1)),
             (Some(Directive::Else), Some(3)),
             (Some(Directive::Unknown), None),
             (Some(Directive::Endif), None),
         ];
-        assert_links(&rt, alloc, Profile::C11, last, passed.as_slice());
+        assert_links(&rt, alloc, Profile::C11, last, passed.as_slice())?;
+        Ok(())
     }
 
     #[test]
-    fn finds_guards_by_profile(rt: HostRuntime) {
+    fn finds_guards_by_profile(rt: HostRuntime) -> Result<(), Fail> {
         let alloc = rt.alloc();
         let guard = Some(b"X".as_slice());
         for bytes in [
             b"#ifndef X\n#elifdef Y\n#endif".as_slice(),
             b"#ifndef X\n#elifndef Y\n#endif".as_slice(),
         ] {
-            assert_guard(&rt, alloc, Profile::Later, bytes, None);
-            assert_guard(&rt, alloc, Profile::C11, bytes, guard);
+            assert_guard(&rt, alloc, Profile::Later, bytes, None)?;
+            assert_guard(&rt, alloc, Profile::C11, bytes, guard)?;
         }
         let inner = b"#ifndef X\n#if 1\n#elifdef Y\n#endif\n#endif";
-        assert_guard(&rt, alloc, Profile::Later, inner, guard);
-        assert_guard(&rt, alloc, Profile::C11, inner, guard);
+        assert_guard(&rt, alloc, Profile::Later, inner, guard)?;
+        assert_guard(&rt, alloc, Profile::C11, inner, guard)?;
+        Ok(())
     }
 }

@@ -66,8 +66,9 @@ pub fn read_source(
         Ok(text) => text,
         Err(place) => return Err(fault_at(2, place)),
     };
-    let mut tokens = Vec::new(alloc);
-    let mut lines = Vec::new(alloc);
+    // Room for about as many as ordinary C has, so that they seldom move while they grow.
+    let mut tokens = Vec::with_capacity(alloc, bytes.len() / 8)?;
+    let mut lines = Vec::with_capacity(alloc, bytes.len() / 32)?;
     match cut_lines(alloc, &mut text, &mut tokens, &mut lines, profile) {
         Ok(()) => {}
         Err(CutFault::Unclosed(place)) => return Err(fault_at(1, place)),
@@ -125,27 +126,14 @@ pub fn relex(text: &[u8]) -> Option<Kind>
 #[cfg(test)]
 mod tests {
     use super::*;
-    use crate::asserting::assert_same;
+    use crate::asserting::{assert_is_fault, assert_same};
     use crate::sources::Directive;
+    use crate::tokens::Memory;
     use std::process::Abort;
     use std::test::Fail;
 
     fn place(line: u32, col: u32) -> Place {
         Place { file: 7, line, col }
-    }
-
-    /// That a fault of these bytes has this number, place and text.
-    fn assert_is_fault(
-        rt: &impl Abort,
-        bytes: &[u8],
-        fault: &Fault,
-        number: u8,
-        at: Place,
-        name: &[u8],
-    ) {
-        assert_same(rt, bytes, &fault.number, &number);
-        assert_same(rt, bytes, &fault.at, &at);
-        assert_same(rt, bytes, &fault.text.as_bytes(), &name);
     }
 
     /// That reading these bytes gives this fault, with this directive's name.
@@ -156,13 +144,15 @@ mod tests {
         number: u8,
         at: Place,
         name: &[u8],
-    )
+    ) -> Result<(), Memory>
         requires { length bytes.now ≤ 16_777_216 }
     {
         match read_source(alloc, bytes, 7, Profile::C11) {
             Err(SourceFault::Bad(fault)) => assert_is_fault(rt, bytes, &fault, number, at, name),
-            _ => assert!(rt; false, "no fault of {bytes:?}"),
+            Err(SourceFault::Memory) => return Err(Memory),
+            Ok(_) => assert!(rt; false, "no fault of {bytes:?}"),
         }
+        Ok(())
     }
 
     /// What a token is to be: its kind, spelling, space mark and place.
@@ -241,8 +231,8 @@ mod tests {
     }
 
     #[test]
-    fn tells_the_first_fault(rt: HostRuntime) {
-        assert_fault(&rt, rt.alloc(), b"/*\na \\", 2, place(2, 3), b"");
+    fn tells_the_first_fault(rt: HostRuntime) -> Result<(), Fail> {
+        assert_fault(&rt, rt.alloc(), b"/*\na \\", 2, place(2, 3), b"")?;
         assert_fault(
             &rt,
             rt.alloc(),
@@ -250,7 +240,7 @@ mod tests {
             1,
             place(2, 1),
             b"",
-        );
+        )?;
         assert_fault(
             &rt,
             rt.alloc(),
@@ -258,7 +248,7 @@ mod tests {
             4,
             place(3, 1),
             b"elif",
-        );
+        )?;
         assert_fault(
             &rt,
             rt.alloc(),
@@ -266,7 +256,8 @@ mod tests {
             5,
             place(2, 1),
             b"ifdef",
-        );
+        )?;
+        Ok(())
     }
 
     #[test]
