@@ -9,6 +9,7 @@ mod output;
 mod page;
 mod running;
 mod serving;
+mod stack;
 mod streams;
 #[cfg(test)]
 mod tests;
@@ -19,6 +20,7 @@ use ending::{status, words};
 use ppshelf::FolderDisk;
 use pptext::Hashing;
 use serving::{RunFault, serve, serve_from};
+use stack::reserve;
 use std::hash::RandomState;
 use std::process::ExitCode;
 use std::random::RandomSource;
@@ -32,7 +34,18 @@ fn hashing(rt: &impl RandomSource) -> Result<Hashing, RunFault> {
     }
 }
 
+/// Says what failed, if anything did. The program's status.
+fn ended(rt: &impl Eprint, outcome: &Result<bool, RunFault>) -> ExitCode {
+    if let Err(fault) = outcome {
+        let _ = eprintln!(rt; "{}", words(fault));
+    }
+    ExitCode::from(status(outcome))
+}
+
 fn main(rt: HostRuntime) -> ExitCode {
+    if reserve(rt.alloc()).is_err() {
+        return ended(&rt, &Err(RunFault::Memory));
+    }
     let Options {
         mode,
         workers,
@@ -75,8 +88,5 @@ fn main(rt: HostRuntime) -> ExitCode {
             )
         }
     };
-    if let Err(fault) = &outcome {
-        let _ = eprintln!(rt; "{}", words(fault));
-    }
-    ExitCode::from(status(&outcome))
+    ended(&rt, &outcome)
 }
