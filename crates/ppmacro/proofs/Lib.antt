@@ -4,6 +4,7 @@ pub mod ChainLemmas
 pub mod LexerLemmas
 pub mod KeepLemmas
 pub mod JoinLemmas
+pub mod WholeLemmas
 pub mod WalkLemmas
 pub mod ArgumentLemmas
 pub mod Tries

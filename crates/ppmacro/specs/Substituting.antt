@@ -8,6 +8,7 @@ use Rattle.pptext.specs.declared.tokens.Token.{Token}
 use Rattle.pptext.specs.declared.tokens.Fault.{Fault}
 use Rattle.ppmacro.specs.Numbered.{Numbered}
 use Rattle.ppmacro.specs.HideSets.{set_at, IsKnown, Hiding, hiding, hidings, AllKnown}
+use Rattle.ppmacro.specs.Lexing.{kind_of}
 use Rattle.ppmacro.specs.Substitution.{Arguments, Marked, argument_at, expanded_at, mark_first}
 use Rattle.ppmacro.specs.declared.flying.Hidden.{Hidden}
 use Rattle.ppmacro.specs.declared.flying.Expansion.{Expansion}
@@ -25,9 +26,17 @@ list_in sets (Ok v) = Ok (hidings sets v.items)
 list_in sets (Err f) = Err f
 
 -- a list that a call changed, unless it raised a fault
-abbrev pub left_in : Numbered → List Hidden → Result (Unit {0}) Fault → Result (List Hiding) Fault
+abbrev pub left_in : {A : Type 0} → Numbered → List Hidden → Result A Fault → Result (List Hiding) Fault
 left_in sets hs (Ok u) = Ok (hidings sets hs)
 left_in sets hs (Err f) = Err f
+
+-- the token's kind is that of its spelling
+abbrev pub IsWhole : Hidden → Type 0
+IsWhole h = kind_of h.token.text ≡ Some h.token.kind
+
+-- the kind of the last token is that of its spelling
+abbrev pub EndsWhole : List Hidden → Type 0
+EndsWhole hs = (front : List Hidden) (last : Hidden) → hs ≡ front ++ last ∷ [] → IsWhole last
 
 abbrev pub lists_of : List (Vec Hidden Global) → List (List Hidden)
 lists_of vs = map (λ v. v.items) vs

@@ -1,8 +1,8 @@
 // Tokens in flight: with their hide sets, and without copies where they stand in a file.
-ghost use Rattle.std.specs.Prelude.{◌≡◌, IfOk};
+ghost use Rattle.std.specs.Prelude.{◌≡◌, IfOk, if◌then◌else◌};
 ghost use Rattle.ppmacro.specs.Numbered.{Numbered};
 ghost use Rattle.ppmacro.specs.HideSets.{set_at, hiding};
-ghost use Rattle.ppmacro.specs.Flying.{placed};
+ghost use Rattle.ppmacro.specs.Flying.{placed, extended};
 ghost use Rattle.ppmacro.specs.Words.{word_token};
 
 use crate::hide_sets::Set;
@@ -156,6 +156,19 @@ impl<'a> Hidden<'a> {
         ensures { result ≡ self.now.hide }
     {
         self.hide
+    }
+
+    /// Puts bytes behind the spelling of a token that was made. Whether it is one: a file's token stays as it is.
+    pub(crate) fn extend(&mut self, alloc: Global, more: &[u8]) -> Result<bool, AllocError>
+        ensures { IfOk result (λ made. self.new ≡ (if made then extended self.old more.now else self.old)) }
+    {
+        match &mut self.word {
+            Word::Shared(_) => Ok(false),
+            Word::Made(token) => {
+                token.text.extend(alloc, more)?;
+                Ok(true)
+            }
+        }
     }
 
     /// Sets its mark.

@@ -15,10 +15,10 @@ no_header : AwaitsHeader [] → ⊥
 no_header (inl e) = cc
 no_header (inr e) = cc
 
-plain_token : (text : List ℕ) (k : Kind) → IsOneToken text k → PlainTokenAt [] text (length text) k
+pub plain_token : (text : List ℕ) (k : Kind) → IsOneToken text k → PlainTokenAt [] text (length text) k
 plain_token text k one = elim (one_token_stands text k one) [ inl h ↦ absurd (no_header h.0.awaited) | inr p ↦ p ]
 
-spelled_whole : (text : List ℕ) (k : Kind) → (¬ (OpensBlock text ⊎ OpensLine text)) → Spells k text → IsOneToken text k
+pub spelled_whole : (text : List ℕ) (k : Kind) → (¬ (OpensBlock text ⊎ OpensLine text)) → Spells k text → IsOneToken text k
 spelled_whole text k opens h =
     let whole : text ≡ take (length text) text = sym (take_all (length text) text (omega arith)) in
     stands_one_token text k

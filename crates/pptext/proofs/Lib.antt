@@ -32,5 +32,6 @@ pub mod Guards
 pub mod GuardScan
 pub mod Decides
 pub mod Lexer
+pub mod Carried
 pub mod Lengths
 pub mod Walks

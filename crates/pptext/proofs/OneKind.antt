@@ -185,10 +185,10 @@ str_ends s (a, b, e, p, (c, d, f, q, (j, k, l, r, m))) = (a ++ (c ++ j), long, w
     whole = e ∙ ap (λ z. a ++ z) (f ∙ ap (λ z. c ++ z) (l ∙ ap (λ z. j ++ z) m) ∙ sym (append_assoc c j (34 ∷ []))) ∙ sym (append_assoc a (c ++ j) (34 ∷ []))
 
 -- how identifiers and numbers begin
-abbrev is_ident_head : ℕ → Bool
+abbrev pub is_ident_head : ℕ → Bool
 is_ident_head c = is_nondigit c || c == 92
 
-abbrev begins_number : List ℕ → Bool
+abbrev pub begins_number : List ℕ → Bool
 begins_number [] = false
 begins_number (c ∷ []) = is_digit c
 begins_number (c ∷ d ∷ cs) = is_digit c || (c == 46 && is_digit d)
@@ -207,22 +207,22 @@ nondigit_begins : (s : List ℕ) → IsNondigit s → begins is_ident_head s ≡
 nondigit_begins s (inl a) = begins_also is_nondigit is_ident_head nondigit_head s (begins_one is_nondigit s a)
 nondigit_begins s (inr b) = begins_also (λ c. c == 92) is_ident_head backslash_head s (universal_begins s b)
 
-ident_begins : (s : List ℕ) → IsIdent s → begins is_ident_head s ≡ true
+pub ident_begins : (s : List ℕ) → IsIdent s → begins is_ident_head s ≡ true
 ident_begins s (a, b, e, x, y) = subst (λ z. begins is_ident_head z ≡ true) (sym e) (begins-append is_ident_head a b (nondigit_begins a x))
 
 digit_first : (c : ℕ) (b : List ℕ) → is_digit c ≡ true → begins_number (c ∷ b) ≡ true
 digit_first c [] t = t
 digit_first c (d ∷ b) t = grind (arith, nat_tests)
 
-number_begins : (s : List ℕ) → IsNumber s → begins_number s ≡ true
+pub number_begins : (s : List ℕ) → IsNumber s → begins_number s ≡ true
 number_begins s (a, b, e, inl (c, f, t), y) = subst (λ z. begins_number z ≡ true) (sym (e ∙ ap (λ z. z ++ b) f)) (digit_first c b t)
 number_begins s (a, b, e, inr (v, w, f, x, (d, g, t)), y) =
     subst (λ z. begins_number z ≡ true) (sym (e ∙ ap (λ z. z ++ b) (f ∙ ap (λ z. z ++ w) x ∙ ap (λ z. 46 ∷ z) g))) t
 
-abbrev is_number_head : ℕ → Bool
+abbrev pub is_number_head : ℕ → Bool
 is_number_head c = is_digit c || c == 46
 
-number_head : (s : List ℕ) → begins_number s ≡ true → begins is_number_head s ≡ true
+pub number_head : (s : List ℕ) → begins_number s ≡ true → begins is_number_head s ≡ true
 number_head [] t = t
 number_head (c ∷ []) t = grind (arith, nat_tests)
 number_head (c ∷ d ∷ cs) t = grind (arith, nat_tests)

@@ -128,7 +128,7 @@ one_header text m n p q (inl a) (inr b) =
 one_header text m n p q (inr a) (inl b) =
     absurd (begins_apart (λ c. c == 34) (λ c. c == 60) (apart 34 60 refl) text (between_begins (λ c. c == 34) 34 34 m text a refl) (between_begins (λ c. c == 60) 60 62 n text b refl))
 
-opening_begins : (test : ℕ → Bool) → test 47 ≡ true → (text : List ℕ) → OpensBlock text ⊎ OpensLine text → begins test text ≡ true
+pub opening_begins : (test : ℕ → Bool) → test 47 ≡ true → (text : List ℕ) → OpensBlock text ⊎ OpensLine text → begins test text ≡ true
 opening_begins test t text (inl a) = begins_with test text (47 ∷ 42 ∷ []) a t
 opening_begins test t text (inr b) = begins_with test text (47 ∷ 47 ∷ []) b t
 

@@ -36,6 +36,10 @@ IsUniversal = Either (Then (Exactly (92 ∷ 117 ∷ [])) (IsRun 4 is_hex)) (Then
 abbrev pub IsNondigit : List ℕ → Type 0
 IsNondigit = Either (One is_nondigit) IsUniversal
 
+-- a character that may stand at each place of an identifier but the first
+abbrev pub is_ident_byte : ℕ → Bool
+is_ident_byte c = is_nondigit c || is_digit c
+
 -- 6.4.2
 abbrev pub IsIdent : List ℕ → Type 0
 IsIdent = Then IsNondigit (Repeated (Either IsNondigit (One is_digit)))

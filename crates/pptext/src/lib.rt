@@ -21,9 +21,10 @@ mod tokens;
 pub use characters::Char;
 pub use hashing::Hashing;
 pub use laws::{
-    keeps_every_token, one_cut, one_lexer, one_reading, one_tree, relexes_what_is_cut,
+    carried_on, keeps_every_token, one_cut, one_lexer, one_reading, one_tree, relexes_what_is_cut,
     tree_unless_fault,
 };
 pub use reading::{read_source, relex};
+pub use scanning::carries_on;
 pub use sources::{Directive, Line, Profile, Source, SourceFault};
 pub use tokens::{Fault, Kind, Memory, Place, Spelling, Token, Tokens};

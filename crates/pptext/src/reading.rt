@@ -127,6 +127,7 @@ pub fn relex(text: &[u8]) -> Option<Kind>
 mod tests {
     use super::*;
     use crate::asserting::{assert_is_fault, assert_same};
+    use crate::scanning::carries_on;
     use crate::sources::Directive;
     use crate::tokens::Memory;
     use std::process::Abort;
@@ -282,6 +283,19 @@ mod tests {
             (b"<x>".as_slice(), None),
         ] {
             assert_same(&rt, text, &relex(text), &kind);
+        }
+    }
+
+    #[test]
+    fn tells_what_carries_on(rt: HostRuntime) {
+        for (text, carries) in [
+            (b"".as_slice(), true),
+            (b"aZ_$09\xff".as_slice(), true),
+            (b"a.".as_slice(), false),
+            (b"+".as_slice(), false),
+            (b"a\\u00c0".as_slice(), false),
+        ] {
+            assert_same(&rt, text, &carries_on(text), &carries);
         }
     }
 }

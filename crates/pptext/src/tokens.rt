@@ -1,5 +1,5 @@
 // Places, preprocessing tokens and faults.
-ghost use Rattle.std.specs.Prelude.{◌≡◌, ◌≤◌, ◌↔◌, ◌==◌, List, ℕ, IfOk, length, take, IsTrue, [], ◌∷◌, ◌++◌, Some, None};
+ghost use Rattle.std.specs.Prelude.{◌≡◌, ◌≤◌, ◌↔◌, ◌==◌, List, ℕ, IfOk, OnOk, length, take, IsTrue, [], ◌∷◌, ◌++◌, Some, None};
 ghost use Rattle.pptext.specs.Spelt.{IsSpelt, spelt};
 
 use std::alloc::{AllocError, AllocFailed, Global};
@@ -130,6 +130,20 @@ impl Spelling {
             });
         }
         Spelling::from_slice(alloc, &text[..n])
+    }
+
+    /// Puts bytes behind the others. Bytes of its own are moved seldom while they grow.
+    pub fn extend(&mut self, alloc: Global, more: &[u8]) -> Result<(), AllocError>
+        ensures { OnOk result (self.new ≡ self.old ++ more.now) }
+    {
+        if let Bytes::Long(bytes) = &mut self.bytes {
+            bytes.extend_from_slice(more)?;
+            return Ok(());
+        }
+        let mut text = Vec::from_slice(alloc, self.as_bytes())?;
+        text.extend_from_slice(more)?;
+        *self = Spelling::new(text)?;
+        Ok(())
     }
 
     /// The bytes.
@@ -284,6 +298,18 @@ mod tests {
         let copied = Spelling::from_slice(alloc, bytes.as_slice())?;
         assert_spells(rt, &copied, bytes.as_slice())?;
         assert!(rt; Spelling::new(bytes)? == copied);
+        Ok(())
+    }
+
+    // The short one and the long one, which has a block of its own.
+    #[test]
+    fn extends_spellings(rt: HostRuntime) -> Result<(), Fail> {
+        let alloc = rt.alloc();
+        let mut spelling = Spelling::empty();
+        for text in [b"ab".as_slice(), b"", b"cdefghijklmno", b"p"] {
+            spelling.extend(alloc, text)?;
+        }
+        assert_spells(&rt, &spelling, b"abcdefghijklmnop")?;
         Ok(())
     }
 

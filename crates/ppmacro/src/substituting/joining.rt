@@ -1,13 +1,16 @@
 // Lists that `##` joins (6.10.3.3).
-ghost use Rattle.std.specs.Prelude.{◌≡◌, ◌++◌, ◌∷◌, IfOk, OnOk, [], map};
-ghost use Rattle.ppmacro.specs.HideSets.{hidings, AllKnown, Keeps};
-ghost use Rattle.ppmacro.specs.Substitution.{join, join_all};
-ghost use Rattle.ppmacro.specs.Substituting.{lists_of, ListsKnown, list_in, left_in};
+ghost use Rattle.std.specs.Prelude.{◌≡◌, ◌⊎◌, ◌++◌, ◌∷◌, IfOk, OnOk, IsTrue, [], map};
+ghost use Rattle.std.specs.List.{AllPass};
+ghost use Rattle.pptext.specs.declared.tokens.Kind.TheVariants.{Ident, Number};
+ghost use Rattle.pptext.specs.Spellings.{is_ident_byte};
+ghost use Rattle.ppmacro.specs.HideSets.{hiding, hidings, IsKnown, AllKnown, Keeps};
+ghost use Rattle.ppmacro.specs.Substitution.{pasted, join, join_all};
+ghost use Rattle.ppmacro.specs.Substituting.{lists_of, ListsKnown, hidden_in, list_in, left_in, IsWhole, EndsWhole};
 
 use crate::flying::Hidden;
 use crate::hide_sets::HideSets;
 use crate::substituting::pasting::paste;
-use pptext::{Fault, Memory, Place};
+use pptext::{Fault, Kind, Memory, Place, carries_on};
 use std::alloc::{AllocError, Global};
 
 /// Puts tokens behind others.
@@ -32,35 +35,75 @@ fn push_joined<'a>(
     push_all(tokens, more)
 }
 
-// Joins the last token of one list with the first of the other, or raises fault 19.
+// Whether the last token is an identifier or a number for sure, and these bytes carry it on.
+fn is_carried_on(last: &Hidden, whole: bool, more: &[u8]) -> bool
+    ensures whole { IsTrue result → IsTrue whole }
+    ensures kind { IsTrue result → (last.now.token.kind ≡ Ident) ⊎ (last.now.token.kind ≡ Number) }
+    ensures more { IsTrue result → AllPass is_ident_byte more.now }
+{
+    whole && matches!(last.kind(), Kind::Ident | Kind::Number) && carries_on(more)
+}
+
+// Two tokens as one, as `paste` has it. `whole`: the last token's kind is that of its spelling, as it is once `##` made it. Such an
+// identifier or number is carried on where it stands, so that a long chain costs no more than its bytes.
+fn paste_onto<'a>(
+    alloc: Global,
+    sets: &mut HideSets,
+    last: Hidden<'a>,
+    whole: bool,
+    first: &Hidden,
+    used: Place,
+) -> Result<Result<Hidden<'a>, Fault>, Memory>
+    requires last { IsKnown sets.old last.hide }
+    requires first { IsKnown sets.old first.now.hide }
+    requires whole { IsTrue whole → IsWhole last }
+    ensures is { IfOk result (λ r. hidden_in sets.new r ≡ pasted (hiding sets.old last.entry) (hiding sets.old first.now) used) }
+    ensures known { IfOk result (λ r. IfOk r (λ h. IsKnown sets.new h.hide)) }
+    ensures whole { IfOk result (λ r. IfOk r IsWhole) }
+    ensures keeps { Keeps sets.old sets.new }
+{
+    let mut last = last;
+    if is_carried_on(&last, whole, first.text()) && last.extend(alloc, first.text())? {
+        let hide = sets.meet(last.hide(), first.hide())?;
+        last.turn(used, hide);
+        return Ok(Ok(last));
+    }
+    paste(alloc, sets, &last, first, used)
+}
+
+// Joins the last token of one list with the first of the other, or raises fault 19. `whole`, here and in the answer: `##` made
+// the last token.
 fn join<'a>(
     alloc: Global,
     sets: &mut HideSets,
     left: &mut Vec<Hidden<'a>>,
+    whole: bool,
     right: &[Hidden<'a>],
     used: Place,
-) -> Result<Result<(), Fault>, Memory>
+) -> Result<Result<bool, Fault>, Memory>
     requires left { AllKnown sets.old left.old.items }
+    requires whole { IsTrue whole → EndsWhole left.old.items }
     requires right { AllKnown sets.old right.now }
     ensures is { IfOk result (λ r. left_in sets.new left.new.items r ≡ join (hidings sets.old left.old.items) (hidings sets.old right.now) used) }
-    ensures known { IfOk result (λ r. OnOk r (AllKnown sets.new left.new.items)) }
+    ensures known { IfOk result (λ r. IfOk r (λ w. AllKnown sets.new left.new.items)) }
+    ensures whole { IfOk result (λ r. IfOk r (λ w. IsTrue w → EndsWhole left.new.items)) }
     ensures keeps { Keeps sets.old sets.new }
 {
     let first = match right.first() {
         Some(first) => first,
-        None => return Ok(Ok(())),
+        None => return Ok(Ok(whole)),
     };
     let last = match left.pop() {
         Some(last) => last,
         None => {
             push_all(left, right)?;
-            return Ok(Ok(()));
+            return Ok(Ok(false));
         }
     };
-    match paste(alloc, sets, &last, first, used)? {
+    match paste_onto(alloc, sets, last, whole, first, used)? {
         Ok(hidden) => {
             push_joined(left, hidden, &right[1..])?;
-            Ok(Ok(()))
+            Ok(Ok(right.len() == 1))
         }
         Err(fault) => Ok(Err(fault)),
     }
@@ -79,9 +122,10 @@ pub(crate) fn join_all<'a>(
     ensures keeps { Keeps sets.old sets.new }
 {
     let mut left = Vec::new(alloc);
+    let mut whole = false;
     for right in lists {
-        match join(alloc, sets, &mut left, right.as_slice(), used)? {
-            Ok(()) => {}
+        match join(alloc, sets, &mut left, whole, right.as_slice(), used)? {
+            Ok(then) => whole = then,
             Err(fault) => return Ok(Err(fault)),
         }
     }

@@ -286,6 +286,18 @@ const REPLACED: &[(&str, &[&str], &str)] = &[
         "2 1",
     ),
     ("#define f(a) a ## 1 #a", &["x"], "x1 \"x\""),
+    (
+        "#define c(x,y,z) x ## y ## _1 ## z ## $",
+        &["a", "b c", ""],
+        "ab c_1$",
+    ),
+    ("#define n(x) 1 ## 2 ## x ## . ## 3 ## L", &["e"], "12e.3L"),
+    ("#define u(x) x ## a ## \\u00c0 ## b", &["_"], "_a\\u00c0b"),
+    (
+        "#define l(x) x ## 0123456789 ## 0123456789 ## x",
+        &["a"],
+        "a01234567890123456789a",
+    ),
 ];
 
 // Examples of 6.10.3.3p4 and 6.10.3.5p5 to p9, and of this crate's own.
@@ -338,6 +350,8 @@ const REFUSED: &[(&str, &[&str], u8, &str)] = &[
     ("#define f(a,b) a ## b ## -", &["/", "/"], 19, "//"),
     ("#define f(a) a ## a", &["1 -"], 19, "-1"),
     ("#define f(a) # a ## 1", &["x"], 19, "\"x\"1"),
+    ("#define f(a) x ## 1 ## a ## +", &["y"], 19, "x1y+"),
+    ("#define f(a) 1 ## a ## 2 ## +", &["."], 19, "1.2+"),
 ];
 
 // Chains come from the left; in each `#` comes first, and then `##` from the left.

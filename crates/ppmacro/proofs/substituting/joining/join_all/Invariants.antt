@@ -1,7 +1,7 @@
-use Rattle.std.proofs.Common.{◌≡◌, [], map, drop}
+use Rattle.std.proofs.Common.{◌≡◌, IsTrue, [], map, drop}
 use Rattle.ppmacro.specs.HideSets.{hidings, AllKnown, Keeps}
 use Rattle.ppmacro.specs.Substitution.{join_all}
-use Rattle.ppmacro.specs.Substituting.{lists_of, ListsKnown}
+use Rattle.ppmacro.specs.Substituting.{lists_of, ListsKnown, EndsWhole}
 use Rattle.ppmacro.proofs.substituting.joining.join_all.Given as goal
 
 abbrev pub invariant-loop-right : goal.invariant-loop-right
@@ -10,4 +10,5 @@ invariant-loop-right l = record {
   left_known : AllKnown l.sets l.left.items;
   rest_known : ListsKnown l.initial.sets (drop l.right-index l.lists);
   keeps : Keeps l.initial.sets l.sets;
+  whole : IsTrue l.whole → EndsWhole l.left.items;
 }

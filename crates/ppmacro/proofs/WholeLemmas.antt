@@ -1,0 +1,77 @@
+-- Tokens whose kind is that of their spelling, as `##` makes them.
+use Rattle.std.proofs.Common.{◌≡◌, ℕ, List, [], ◌∷◌, ◌++◌, Option, Some, None, Result, Ok, Err, IfOk, refl, sym, ap, ◌∙◌, subst, ◌⊎◌, length, drop, length-append, arith}
+use Rattle.std.proofs.lemmas.List.{drop_at}
+use Rattle.std.specs.List.{AllPass}
+use Rattle.std.specs.FinSet as set
+use Rattle.pptext.specs.declared.tokens.Kind.{Kind}
+use Rattle.pptext.specs.declared.tokens.Kind.TheVariants.{Ident, Number}
+use Rattle.pptext.specs.declared.tokens.Place.{Place}
+use Rattle.pptext.specs.declared.tokens.Fault.{Fault}
+use Rattle.pptext.specs.declared.tokens.Memory.{Memory}
+use Rattle.pptext.specs.Spellings.{is_ident_byte}
+use Rattle.pptext.specs.Lexing.{Lexes}
+use Rattle.pptext.proofs.Lexer.{one_kind}
+use Rattle.pptext.proofs.Carried.{carried_on}
+use Rattle.ppmacro.specs.Numbered.{Numbered}
+use Rattle.ppmacro.specs.HideSets.{set_at, Hiding, hiding}
+use Rattle.ppmacro.specs.Flying.{extended}
+use Rattle.ppmacro.specs.Lexing.{kind_of}
+use Rattle.ppmacro.specs.Substitution.{pasted, pasted_as}
+use Rattle.ppmacro.specs.Substituting.{hidden_in, IsWhole, EndsWhole}
+use Rattle.ppmacro.specs.declared.flying.Hidden.{Hidden}
+use Rattle.ppmacro.proofs.LexerLemmas.{kind_of_is}
+
+ok-same : {x y : Hiding} → ◌≡◌ {A = Result Hiding Fault} (Ok x) (Ok y) → x ≡ y
+ok-same e = cc e
+
+carried_kind : (text more : List ℕ) (k : Kind) → kind_of text ≡ Some k → (k ≡ Ident) ⊎ (k ≡ Number) → AllPass is_ident_byte more → kind_of (text ++ more) ≡ Some k
+carried_kind text more k e word all =
+    let one : Lexes text (Some k) = subst (Lexes text) e (kind_of_is.each text) in
+    one_kind (text ++ more) (kind_of (text ++ more)) (Some k) (kind_of_is.each (text ++ more)) (carried_on text more k one.0 word all)
+
+-- what carries a token on is pasted to it
+module _ (last first grown turned : Hidden) (n : ℕ) (used : Place) (whole : IsWhole last) (word : (last.token.kind ≡ Ident) ⊎ (last.token.kind ≡ Number)) (all : AllPass is_ident_byte first.token.text) (is_grown : grown ≡ extended last first.token.text) (is_turned : turned ≡ record { token = record grown.token { used = used }; hide = n }) where
+  still-whole : kind_of (last.token.text ++ first.token.text) ≡ Some last.token.kind
+  still-whole = carried_kind last.token.text first.token.text last.token.kind whole word all
+
+  pub carried-whole : IsWhole turned
+  carried-whole =
+      subst IsWhole (sym is_turned) (subst (λ h. kind_of h.token.text ≡ Some h.token.kind) (sym is_grown) still-whole)
+
+  pub carried-pasted : (s t : Numbered) → set_at t n ≡ set.intersection (set_at s grown.hide) (set_at s first.hide) → Ok (hiding t turned) ≡ pasted (hiding s last) (hiding s first) used
+  carried-pasted s t met =
+      ap (λ h. Ok (hiding t h)) is_turned
+      ∙ ap (λ names. Ok (record { token = record grown.token { used = used }; hide = names })) met
+      ∙ ap (λ h. Ok (record { token = record h.token { used = used }; hide = set.intersection (set_at s h.hide) (set_at s first.hide) })) is_grown
+      ∙ ap (λ k. pasted_as k (hiding s last) (hiding s first) used) (sym still-whole)
+
+-- what `##` makes is whole
+pasted-whole : (k : Option Kind) (l r h : Hiding) (used : Place) → k ≡ kind_of (l.token.text ++ r.token.text) → Ok h ≡ pasted_as k l r used → kind_of h.token.text ≡ Some h.token.kind
+pasted-whole None l r h used is e = absurd (cc e)
+pasted-whole (Some k) l r h used is e = subst (λ t. kind_of t.token.text ≡ Some t.token.kind) (sym (ok-same e)) (sym is)
+
+made-whole : (s t : Numbered) (l r : Hidden) (used : Place) (m : Result Hidden Fault) → hidden_in t m ≡ pasted (hiding s l) (hiding s r) used → IfOk m IsWhole
+made-whole s t l r used (Ok h) e = pasted-whole _ (hiding s l) (hiding s r) (hiding t h) used refl e
+made-whole s t l r used (Err f) e = tt
+
+pub paste-whole : (s t : Numbered) (l r : Hidden) (used : Place) (m : Result (Result Hidden Fault) Memory) → IfOk m (λ x. hidden_in t x ≡ pasted (hiding s l) (hiding s r) used) → IfOk m (λ x. IfOk x IsWhole)
+paste-whole s t l r used (Ok x) e = made-whole s t l r used x e
+paste-whole s t l r used (Err m) e = tt
+
+-- ---- the last token of a list
+
+last-same : (xs ys : List Hidden) (x y : Hidden) → xs ++ x ∷ [] ≡ ys ++ y ∷ [] → x ≡ y
+last-same xs ys x y e =
+    let lx = length-append xs (x ∷ []) in
+    let ly = length-append ys (y ∷ []) in
+    let same : length xs ≡ length ys = (let h = ap length e in omega arith) in
+    let last : x ∷ [] ≡ y ∷ [] = sym (drop_at xs (x ∷ []) (length ys) same) ∙ ap (drop (length ys)) e ∙ drop_at ys (y ∷ []) (length ys) refl in
+    cc
+
+pub ends-whole : (ls : List Hidden) (h : Hidden) (rest : List Hidden) → length rest ≡ 0 → IsWhole h → EndsWhole (ls ++ h ∷ rest)
+ends-whole ls h [] e whole = λ front last is. subst IsWhole (last-same ls front h last is) whole
+ends-whole ls h (r ∷ rest) e whole = absurd (omega arith)
+
+pub nothing-whole : EndsWhole []
+nothing-whole [] last e = absurd (cc e)
+nothing-whole (x ∷ front) last e = absurd (cc e)
