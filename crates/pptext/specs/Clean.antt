@@ -1,5 +1,5 @@
 -- Translation phases 1 and 2 (5.1.1.2): the bytes of a file as characters with their places.
-use Rattle.std.specs.Prelude.{ℕ, zero, suc, ◌+◌, List, [], ◌∷◌, ◌++◌, map, Bool, false, ◌&&◌, ◌==◌, if◌then◌else◌, Option, None, Some, Result, Ok, Err, length}
+use Rattle.std.specs.Prelude.{ℕ, zero, suc, ◌+◌, List, [], ◌∷◌, ◌++◌, map, Bool, false, ◌&&◌, ◌==◌, if◌then◌else◌, Option, None, Some, Result, Ok, Err, length, codes}
 use Rattle.pptext.specs.declared.tokens.Place.{Place}
 use Rattle.pptext.specs.declared.characters.Char.{Char}
 
@@ -58,10 +58,24 @@ terminated cs = cs ++ missing_newline cs
 abbrev pub line_ends : ℕ → List ℕ → List Char
 line_ends file bytes = terminated (without_returns (placed file 1 1 (unmarked bytes)))
 
+-- the trigraphs (5.2.1.1): the character behind `??`, and the one that the three stand for
+abbrev pub trigraph_pairs : List (List ℕ × List ℕ)
+trigraph_pairs =
+    (codes "=", codes "#") ∷ (codes "(", codes "[") ∷ (codes "/", backslash ∷ []) ∷ (codes ")", codes "]") ∷ (codes "'", codes "^")
+    ∷ (codes "<", codes "{") ∷ (codes "!", codes "|") ∷ (codes ">", codes "}") ∷ (codes "-", codes "~") ∷ []
+
+-- the only code of a text of one, or 0
+abbrev pub only_code : List ℕ → ℕ
+only_code (c ∷ []) = c
+only_code cs = 0
+
+abbrev pub replaced_by : List (List ℕ × List ℕ) → ℕ → ℕ
+replaced_by [] c = 0
+replaced_by ((third, whole) ∷ more) c = if c == only_code third then only_code whole else replaced_by more c
+
 -- what `??` and this character stand for, or 0
 abbrev pub trigraph : ℕ → ℕ
-trigraph c =
-    if c == 61 then 35 else (if c == 40 then 91 else (if c == 47 then 92 else (if c == 41 then 93 else (if c == 39 then 94 else (if c == 60 then 123 else (if c == 33 then 124 else (if c == 62 then 125 else (if c == 45 then 126 else 0))))))))
+trigraph c = replaced_by trigraph_pairs c
 
 -- the character of the trigraph that begins here, or 0
 abbrev pub trigraph_at : List Char → ℕ
