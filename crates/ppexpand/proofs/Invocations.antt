@@ -69,7 +69,7 @@ found {c = c} (more {as' = as'} a t rest cut n e s) close behind is_close =
 
 -- ---- what is found is laid out
 
-abbrev IsClosed : Gathered → Type 0
+abbrev pub IsClosed : Gathered → Type 0
 IsClosed (Closed as' close behind) = Unit {0}
 IsClosed _ = ⊥
 
@@ -93,7 +93,7 @@ record Matched (d : ℕ) (c : Option ℕ) (list : List Hiding) : Type 0 where
   mates : mark_of mate.token ≡ Close
   on : IsClosed (gather d c rest)
 
-shorter : (list inside : List Hiding) (t : Hiding) (rest : List Hiding) → list ≡ inside ++ t ∷ rest → length rest < length list
+pub shorter : (list inside : List Hiding) (t : Hiding) (rest : List Hiding) → list ≡ inside ++ t ∷ rest → length rest < length list
 shorter list inside t rest e = rw e (omega (arith, length-append inside (t ∷ rest)))
 
 -- two parts, one behind the other

@@ -8,6 +8,7 @@ pub mod Bounds
 pub mod Follows
 pub mod Settled
 pub mod Invocations
+pub mod Unended
 pub mod Gathering
 pub mod Keeping
 pub mod TurnLemmas

@@ -8,7 +8,7 @@ use Rattle.ppmacro.specs.HideSets.{Hiding}
 use Rattle.ppmacro.specs.Chains.{is_function_like}
 use Rattle.ppmacro.specs.declared.macros.Definition.{Definition}
 use Rattle.ppexpand.specs.declared.env.Env.{Env}
-use Rattle.ppexpand.specs.declared.spellings.Mark.TheVariants.{Open, Close, Comma, Inner}
+use Rattle.ppexpand.specs.declared.spellings.Mark.TheVariants.{Quote, Open, Close, Comma, Inner}
 use Rattle.ppexpand.specs.declared.expansion.Expanded.{Expanded}
 use Rattle.ppexpand.specs.Arguments.{is_lone_quote, mark_of, separates, fewer}
 use Rattle.ppexpand.specs.Turn.{Call, Passes, Replaced, Called, less_one, macro_of, wanted, finished}
@@ -128,3 +128,20 @@ pub record IsInvocation (commas : Option ℕ) (list : List Hiding) (arguments : 
   pub laid_out : list ≡ inside ++ close ∷ behind
   pub closes : mark_of close.token ≡ Close
   pub separated : Separated commas inside arguments
+
+-- tokens that no `)` ends: each `)` is in a pair, a `(` may be without its `)`, and there is no lone quote
+pub data NeverClosed : List Hiding → Type 0 where
+  paired : {ts : List Hiding} → Nested true ts → NeverClosed ts
+  deeper : (ts : List Hiding) (open' : Hiding) (inside : List Hiding)
+      → Nested true ts
+      → mark_of open'.token ≡ Open
+      → NeverClosed inside
+      → NeverClosed (ts ++ open' ∷ inside)
+
+-- behind `(` stands this lone quote, before any `)` that would match
+pub record IsQuoted (list : List Hiding) (quote : Hiding) : Type 0 where
+  pub front : List Hiding
+  pub behind : List Hiding
+  pub laid_out : list ≡ front ++ quote ∷ behind
+  pub before : NeverClosed front
+  pub lone : mark_of quote.token ≡ Quote

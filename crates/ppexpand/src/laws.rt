@@ -5,12 +5,12 @@ ghost use Rattle.pptext.specs.declared.tokens.Token.{Token};
 ghost use Rattle.ppmacro.specs.Names.{Macros};
 ghost use Rattle.ppmacro.specs.HideSets.{Hiding};
 ghost use Rattle.ppexpand.specs.declared.env.Env.{Env};
-ghost use Rattle.ppexpand.specs.Arguments.{Closed, gather};
+ghost use Rattle.ppexpand.specs.Arguments.{Closed, Quoted, Unclosed, gather};
 ghost use Rattle.ppexpand.specs.Turn.{turn};
 ghost use Rattle.ppexpand.specs.declared.expansion.Expanded.{Expanded};
 ghost use Rattle.ppexpand.specs.Expansion.{Outcome, turn_within, Expands, ExpandsTo, IsExpansion, count};
 ghost use Rattle.ppexpand.specs.Standard.{StandardExpands, IsStandardExpansion};
-ghost use Rattle.ppexpand.specs.Laws.{HasOneOutcome, HasOneExpansion, EndsWithin, plus, IsCapped, OnlyBudgetsRefuse, is_settled, IsInvocation};
+ghost use Rattle.ppexpand.specs.Laws.{HasOneOutcome, HasOneExpansion, EndsWithin, plus, IsCapped, OnlyBudgetsRefuse, is_settled, IsInvocation, IsQuoted, NeverClosed};
 
 /// With any macros, each list of tokens with hide sets has exactly one outcome, at each level of arguments.
 pub fn one_outcome()
@@ -35,6 +35,13 @@ pub fn leaves_settled_tokens()
 /// An invocation's arguments are found exactly where the list behind `(` is laid out as these arguments, their `)` and what stands behind it (6.10.3).
 pub fn finds_arguments()
     ensures { (commas : Option ℕ) (list : List Hiding) (arguments : List (List Hiding)) (close : Hiding) (behind : List Hiding) → (gather 0 commas list ≡ Closed arguments close behind) ↔ IsInvocation commas list arguments close behind }
+{}
+
+/// An invocation stops at a lone quote exactly where this quote stands before any `)` that would match, and has no end exactly where no `)` matches and there is no
+/// lone quote (6.4, 6.10.3).
+pub fn finds_no_arguments()
+    ensures quote { (commas : Option ℕ) (list : List Hiding) (quote : Hiding) → (gather 0 commas list ≡ Quoted quote) ↔ IsQuoted list quote }
+    ensures no_end { (commas : Option ℕ) (list : List Hiding) → (gather 0 commas list ≡ Unclosed) ↔ NeverClosed list }
 {}
 
 /// Without a budget nothing is refused for it, and nothing is counted: a turn is what the rules of macro replacement call for (6.10.3, 6.10.3.4), there is no
