@@ -4,9 +4,10 @@ use Rattle.pptext.specs.declared.tokens.Place.{Place}
 use Rattle.pptext.specs.Lines.{LogicalLine}
 use Rattle.pptext.specs.Sources.{Reads}
 use Rattle.pptext.specs.Guard.{GuardedBy}
+use Rattle.ppshelf.specs.Names.{AreNames}
 use Rattle.ppshelf.specs.Content.{readable}
 use Rattle.ppshelf.specs.Files.{file_at}
-use Rattle.ppunit.specs.States.{Surroundings, going, depending, is_spent, paying}
+use Rattle.ppunit.specs.States.{Surroundings, Reached, going, depending, is_spent, paying}
 use Rattle.ppunit.specs.declared.states.State.{State}
 use Rattle.ppunit.specs.Conditions.{is_defined}
 use Rattle.ppunit.specs.Group.{deepest, Opened}
@@ -23,6 +24,20 @@ GuardsLeaveOut =
     → is_defined s.macros x ≡ true
     → is_spent s.left ≡ false
     → (d : Opened around depth at s row (going (depending (paying s) row))) × (count_opened d ≡ 1)
+
+-- and, with names of which none stands twice, it leads nowhere else
+abbrev pub GuardsOnlyLeaveOut : Type 0
+GuardsOnlyLeaveOut =
+    (around : Surroundings) (depth row : ℕ) (at : Place) (s : State) (bytes : List ℕ) (lines : List LogicalLine) (x : List ℕ) (end : Reached)
+    → AreNames around.names
+    → depth ≤ deepest
+    → file_at around.files row ≡ Some (readable bytes)
+    → Reads around.profile row bytes (Ok lines)
+    → GuardedBy lines x
+    → is_defined s.macros x ≡ true
+    → is_spent s.left ≡ false
+    → Opened around depth at s row end
+    → end ≡ going (depending (paying s) row)
 
 -- the lines are one section under a guard that is a macro's name
 abbrev pub IsLeftOut : State → List LogicalLine → Type 0

@@ -1,9 +1,12 @@
 // Files that are left out, since their guard is a macro's name (6.10.1).
 ghost use Rattle.std.specs.Prelude.{◌↔◌, IsTrue};
-ghost use Rattle.ppunit.specs.Guarded.{IsLeftOut, GuardsLeaveOut};
+ghost use Rattle.ppunit.specs.Guarded.{IsLeftOut, GuardsLeaveOut, GuardsOnlyLeaveOut};
 
 use crate::states::State;
-use pptext::Source;
+use ppexpand::one_expansion;
+use ppexpr::one_condition;
+use ppshelf::one_row;
+use pptext::{Source, one_reading, one_tree};
 
 /// Whether the file is one section under a guard that is a macro's name: its lines would do nothing.
 pub(crate) fn is_left_out(state: &State, source: &Source) -> bool
@@ -16,7 +19,14 @@ pub(crate) fn is_left_out(state: &State, source: &Source) -> bool
 }
 
 /// A law: a file that is one section under a guard (6.10.1) changes nothing but the dependencies where the guard is a
-/// macro's name.
+/// macro's name; opening it has this outcome and no other.
 pub fn guard_changes_nothing()
-    ensures { GuardsLeaveOut }
-{}
+    ensures leaves_out { GuardsLeaveOut }
+    ensures only { GuardsOnlyLeaveOut }
+{
+    one_expansion();
+    one_condition();
+    one_reading();
+    one_tree();
+    one_row();
+}
