@@ -14,3 +14,4 @@ pub mod Naming
 pub mod Viewed
 pub mod Numbers
 pub mod Repeating
+pub mod Headed
