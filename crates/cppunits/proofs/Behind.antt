@@ -1,5 +1,5 @@
 -- Text behind the first bytes of a list.
-use Rattle.std.proofs.Common.{◌≡◌, ℕ, ◌+◌, ◌/◌, ◌%◌, ◌^◌, ◌<◌, ◌≤◌, List, [], ◌∷◌, ◌++◌, decimal, length, take, sym, ap, ◌∙◌, arith, append_assoc, length-append}
+use Rattle.std.proofs.Common.{◌≡◌, ℕ, ◌+◌, ◌/◌, ◌%◌, ◌^◌, ◌<◌, ◌≤◌, List, [], ◌∷◌, ◌++◌, decimal, length, take, refl, sym, ap, ◌∙◌, arith, append_assoc, length-append}
 use Rattle.std.proofs.Math.Seq.{take-append-add}
 use Rattle.std.proofs.lemmas.List.{take-append-le, length-take-le}
 use Rattle.std.proofs.lemmas.Fmt.{decimal_digit, decimal_step, length-decimal-le}
@@ -44,3 +44,7 @@ places_joined p x a y b t =
     let behind = append_assoc s (32 ∷ y) b ∙ sym (append_assoc s (32 ∷ []) (y ++ b)) in
     rw (append_assoc p (32 ∷ x) a, append_assoc p s (32 ∷ y), append_assoc p (s ++ (32 ∷ y)) b, append_assoc p ((s ++ (32 ∷ y)) ++ b) t)
     (ap (λ z. p ++ (z ++ t)) behind)
+
+-- four bytes, one behind the other
+pub four_joined : (x : List ℕ) (a b c d : ℕ) → (((x ++ (a ∷ [])) ++ (b ∷ [])) ++ (c ∷ [])) ++ (d ∷ []) ≡ x ++ (a ∷ (b ∷ (c ∷ (d ∷ []))))
+four_joined x a b c d = rw (append_assoc x (a ∷ []) (b ∷ []), append_assoc x (a ∷ (b ∷ [])) (c ∷ []), append_assoc x (a ∷ (b ∷ (c ∷ []))) (d ∷ [])) refl

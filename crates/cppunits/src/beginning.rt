@@ -110,16 +110,21 @@ impl Beginning {
         let end = put_front(bytes, end, b"tok", 3);
         let end = self.at.put(bytes, end, at.col);
         let end = self.used.put(bytes, end, used.col);
-        put_front(bytes, end, &[b' ', letter(kind), mark(space), b' '], 4)
+        let end = put_byte(bytes, end, b' ');
+        let end = put_byte(bytes, end, letter(kind));
+        let end = put_byte(bytes, end, mark(space));
+        put_byte(bytes, end, b' ')
     }
 }
 
+#[inline(always)]
 fn mark(space: bool) -> u8
     ensures { result ≡ mark_of space }
 {
     if space { b'+' } else { b'-' }
 }
 
+#[inline(always)]
 fn letter(kind: Kind) -> u8
     ensures { result ≡ kind_letter kind }
 {

@@ -32,6 +32,19 @@ pub(crate) fn put_front<const N: usize>(
     end + len
 }
 
+/// Puts the first `len` of two bytes. Both are written, as in `put_front`.
+#[inline(always)]
+fn put_two(bytes: &mut [u8], end: usize, first: u8, second: u8, len: usize) -> usize
+    requires room { end + 2 ≤ length bytes.old }
+    requires len { len ≤ 2 }
+    ensures text { take result bytes.new ≡ take end bytes.old ++ take len (first ∷ (second ∷ [])) }
+    ensures end { result ≡ end + len }
+{
+    bytes[end] = first;
+    bytes[end + 1] = second;
+    end + len
+}
+
 /// Puts the two last digits of a number.
 #[inline(always)]
 fn put_pair(bytes: &mut [u8], end: usize, number: u32) -> usize
@@ -43,18 +56,17 @@ fn put_pair(bytes: &mut [u8], end: usize, number: u32) -> usize
     put_byte(bytes, end, b'0' + (number % 10) as u8)
 }
 
-/// Puts a number below 100 in decimal.
+/// Puts a number below 100 in decimal. Two bytes are written in either case, since a branch on the number's length is often mispredicted.
 #[inline(always)]
 fn put_small(bytes: &mut [u8], end: usize, number: u32) -> usize
     requires small { number < 100 }
-    requires room { end + length (decimal number) ≤ length bytes.old }
+    requires room { end + 2 ≤ length bytes.old }
     ensures text { take result bytes.new ≡ take end bytes.old ++ decimal number }
     ensures end { result ≡ end + length (decimal number) }
 {
-    if number < 10 {
-        return put_byte(bytes, end, b'0' + number as u8);
-    }
-    put_pair(bytes, end, number)
+    let (tens, ones) = (b'0' + (number / 10) as u8, b'0' + (number % 10) as u8);
+    let (first, len) = if number < 10 { (ones, 1) } else { (tens, 2) };
+    put_two(bytes, end, first, ones, len)
 }
 
 /// Puts a number of at least 100 in decimal.
@@ -73,10 +85,10 @@ fn put_large(bytes: &mut [u8], end: usize, number: u32) -> usize
     put_pair(bytes, end, number)
 }
 
-/// Puts a number in decimal.
+/// Puts a number in decimal, where there is room for the ten digits that it may have.
 #[inline(always)]
 pub(crate) fn put_number(bytes: &mut [u8], end: usize, number: u32) -> usize
-    requires { end + length (decimal number) ≤ length bytes.old }
+    requires { end + 10 ≤ length bytes.old }
     ensures text { take result bytes.new ≡ take end bytes.old ++ decimal number }
     ensures end { result ≡ end + length (decimal number) }
 {
