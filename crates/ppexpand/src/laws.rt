@@ -37,8 +37,8 @@ pub fn finds_arguments()
     ensures { (commas : Option ℕ) (list : List Hiding) (arguments : List (List Hiding)) (close : Hiding) (behind : List Hiding) → (gather 0 commas list ≡ Closed arguments close behind) ↔ IsInvocation commas list arguments close behind }
 {}
 
-/// An invocation stops at a lone quote exactly where this quote stands before any `)` that would match, and has no end exactly where no `)` matches and there is no
-/// lone quote (6.4, 6.10.3).
+/// An invocation stops at a lone quote exactly where this quote stands before any `)` that would match, and has no end exactly where no
+/// `)` matches and there is no lone quote (6.4, 6.10.3).
 pub fn finds_no_arguments()
     ensures quote { (commas : Option ℕ) (list : List Hiding) (quote : Hiding) → (gather 0 commas list ≡ Quoted quote) ↔ IsQuoted list quote }
     ensures no_end { (commas : Option ℕ) (list : List Hiding) → (gather 0 commas list ≡ Unclosed) ↔ NeverClosed list }
