@@ -72,7 +72,7 @@ mod tests {
         match read_source(alloc, bytes, 0, profile) {
             Err(SourceFault::Bad(fault)) => assert_is_fault(rt, bytes, &fault, number, at, name),
             Err(SourceFault::Memory) => return Err(Memory),
-            Ok(_) => assert!(rt; false, "no fault of {bytes:?}"),
+            Ok(_source) => assert!(rt; false, "no fault of {bytes:?}"),
         }
         Ok(())
     }
@@ -90,7 +90,7 @@ mod tests {
         match read_source(alloc, bytes, 0, profile) {
             Ok(source) => assert_same(rt, bytes, &source.guard(), &guard),
             Err(SourceFault::Memory) => return Err(Memory),
-            Err(SourceFault::Bad(_)) => assert!(rt; false, "a fault of {bytes:?}"),
+            Err(SourceFault::Bad(_fault)) => assert!(rt; false, "a fault of {bytes:?}"),
         }
         Ok(())
     }
@@ -212,7 +212,7 @@ mod tests {
         match read_source(alloc, bytes, 0, profile) {
             Ok(source) => assert_linked(rt, bytes, source.lines(), wanted),
             Err(SourceFault::Memory) => return Err(Memory),
-            Err(SourceFault::Bad(_)) => assert!(rt; false, "a fault of {bytes:?}"),
+            Err(SourceFault::Bad(_fault)) => assert!(rt; false, "a fault of {bytes:?}"),
         }
         Ok(())
     }

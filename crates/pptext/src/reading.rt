@@ -151,7 +151,7 @@ mod tests {
         match read_source(alloc, bytes, 7, Profile::C11) {
             Err(SourceFault::Bad(fault)) => assert_is_fault(rt, bytes, &fault, number, at, name),
             Err(SourceFault::Memory) => return Err(Memory),
-            Ok(_) => assert!(rt; false, "no fault of {bytes:?}"),
+            Ok(_source) => assert!(rt; false, "no fault of {bytes:?}"),
         }
         Ok(())
     }
