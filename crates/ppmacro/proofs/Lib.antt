@@ -14,4 +14,5 @@ pub mod Naming
 pub mod Viewed
 pub mod Numbers
 pub mod Repeating
-pub mod Headed
+pub mod Layouts
+pub mod Chained

@@ -18,3 +18,4 @@ pub mod Substituting
 pub mod Flying
 pub mod Words
 pub mod Holding
+pub mod Laws

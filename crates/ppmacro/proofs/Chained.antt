@@ -1,0 +1,204 @@
+-- The chains of a replacement list, laid end to end, are the list.
+use Rattle.std.proofs.Common.{◌≡◌, ℕ, zero, suc, ◌<◌, Bool, true, false, not, ◌&&◌, ◌||◌, List, [], ◌∷◌, ◌++◌, length, Option, Some, None, is_some, codes, if◌then◌else◌, refl, sym, ap, ◌∙◌, subst, true≢false, arith, append_assoc}
+use Rattle.pptext.specs.declared.tokens.Token.{Token}
+use Rattle.ppmacro.specs.Spellings.{is_identifier, is_punct, is_hash, is_paste}
+use Rattle.ppmacro.specs.Chains.{parameter_named, parameter_of, is_function_like, is_operator_hash, items_behind, begins_joined, join_first, grouped, chains_of}
+use Rattle.ppmacro.specs.Define.{is_empty, misplaces_paste, begins_with_parameter, misplaces_hash}
+use Rattle.ppmacro.specs.Laws.{IsOperand, token, parameter, stringized, AreJoined, last, pasted, AreChains, none, chain, places_operators}
+use Rattle.ppmacro.specs.declared.macros.Shape.{Shape}
+use Rattle.ppmacro.specs.declared.macros.Definition.{Definition}
+use Rattle.ppmacro.specs.declared.macros.Chain.{Chain}
+use Rattle.ppmacro.specs.declared.macros.Operand.{Operand}
+use Rattle.ppmacro.specs.declared.macros.Operand.TheVariants.{Tok, Param, Str}
+use Rattle.ppmacro.specs.declared.chains.Item.{Item}
+use Rattle.ppmacro.specs.declared.chains.Item.TheVariants.{Operates, Joins}
+use Rattle.ppmacro.proofs.Layouts.{no_punct, other_punct}
+
+-- ---- parameters and `#` are no `##`
+
+neither : (a b : Bool) → (a || b) ≡ false → (a ≡ false) × (b ≡ false)
+neither true b e = absurd (true≢false e)
+neither false b e = (refl, e)
+
+identifier_by : (b : Bool) (o : Option ℕ) (i : ℕ) → (if b then o else None) ≡ Some i → b ≡ true
+identifier_by true o i e = refl
+identifier_by false o i e = absurd (cc)
+
+parameter_identifier : (shape : Shape) (t : Token) (i : ℕ) → parameter_of shape t ≡ Some i → is_identifier t ≡ true
+parameter_identifier shape t i e = identifier_by (is_identifier t) (parameter_named shape t.text) i e
+
+parameter_no_paste : (shape : Shape) (t : Token) (i : ℕ) → parameter_of shape t ≡ Some i → is_paste t ≡ false
+parameter_no_paste shape t i e =
+    let is : is_identifier t ≡ true = parameter_identifier shape t i e in
+    rw (no_punct (codes "##") t is, no_punct (codes "%:%:") t is) refl
+
+and_false : (b : Bool) → (b && false) ≡ false
+and_false true = refl
+and_false false = refl
+
+parameter_no_hash : (shape : Shape) (t : Token) (i : ℕ) → parameter_of shape t ≡ Some i → is_operator_hash shape t ≡ false
+parameter_no_hash shape t i e =
+    let is : is_identifier t ≡ true = parameter_identifier shape t i e in
+    let no_hash : is_hash t ≡ false = rw (no_punct (codes "#") t is, no_punct (codes "%:") t is) refl in
+    rw no_hash (and_false (is_function_like shape))
+
+both : (a b : Bool) → (a && b) ≡ true → (a ≡ true) × (b ≡ true)
+both true b e = (refl, e)
+both false b e = absurd (true≢false (sym e))
+
+hash_no_paste : (shape : Shape) (t : Token) → is_operator_hash shape t ≡ true → is_paste t ≡ false
+hash_no_paste shape t e = by_spelling (is_punct (codes "#") t) refl (both (is_function_like shape) (is_hash t) e).1
+  where
+    by_spelling : (b : Bool) → is_punct (codes "#") t ≡ b → (b || is_punct (codes "%:") t) ≡ true → is_paste t ≡ false
+    by_spelling true s h = rw (other_punct (codes "#") (codes "##") t refl s, other_punct (codes "#") (codes "%:%:") t refl s) refl
+    by_spelling false s h = rw (other_punct (codes "%:") (codes "##") t refl h, other_punct (codes "%:") (codes "%:%:") t refl h) refl
+
+-- ---- what is laid out are the chains
+
+at_token : (shape : Shape) (t : Token) (rest : List Token) → is_paste t ≡ false → is_operator_hash shape t ≡ false → parameter_of shape t ≡ None → items_behind shape None (t ∷ rest) ≡ Operates t.space (Tok t) ∷ items_behind shape None rest
+at_token shape t rest p h e = rw (items_behind, p, h, e) refl
+
+at_parameter : (shape : Shape) (t : Token) (i : ℕ) (rest : List Token) → is_paste t ≡ false → is_operator_hash shape t ≡ false → parameter_of shape t ≡ Some i → items_behind shape None (t ∷ rest) ≡ Operates t.space (Param i) ∷ items_behind shape None rest
+at_parameter shape t i rest p h e = rw (items_behind, p, h, e) refl
+
+at_hash : (shape : Shape) (hash t : Token) (i : ℕ) (rest : List Token) → is_paste hash ≡ false → is_operator_hash shape hash ≡ true → parameter_of shape t ≡ Some i → items_behind shape None (hash ∷ (t ∷ rest)) ≡ Operates hash.space (Str i hash.at) ∷ items_behind shape None rest
+at_hash shape hash t i rest p h e = rw (items_behind, p, h, e) refl
+
+at_paste : (shape : Shape) (p : Token) (ts : List Token) → is_paste p ≡ true → items_behind shape None (p ∷ ts) ≡ Joins ∷ items_behind shape None ts
+at_paste shape p ts e = rw (items_behind, e) refl
+
+module _ (shape : Shape) where
+  abbrev items : List Token → List Item
+  items ts = items_behind shape None ts
+
+  operand_items : {mark : Bool} {ts : List Token} {o : Operand} → IsOperand shape mark ts o → (rest : List Token) → items (ts ++ rest) ≡ Operates mark o ∷ items rest
+  operand_items (token {t = t} p h e) rest = at_token shape t rest p h e
+  operand_items (parameter {t = t} {i = i} e) rest = at_parameter shape t i rest (parameter_no_paste shape t i e) (parameter_no_hash shape t i e) e
+  operand_items (stringized {hash = hash} {t = t} {i = i} h e) rest = at_hash shape hash t i rest (hash_no_paste shape hash h) h e
+
+  paste_items : (p : Token) (ts : List Token) → is_paste p ≡ true → items (p ∷ ts) ≡ Joins ∷ items ts
+  paste_items p ts e = at_paste shape p ts e
+
+  unjoined : {mark : Bool} {ts : List Token} {os : List Operand} → AreJoined shape mark ts os → (rest : List Token) → begins_joined (items (ts ++ rest)) ≡ false
+  unjoined (last o) rest = ap begins_joined (operand_items o rest)
+  unjoined (pasted ts p more other o e j) rest = ap (λ xs. begins_joined (items xs)) (append_assoc ts (p ∷ more) rest) ∙ ap begins_joined (operand_items o (p ∷ (more ++ rest)))
+
+  unjoined_all : {ts : List Token} {cs : List Chain} → AreChains shape ts cs → begins_joined (items ts) ≡ false
+  unjoined_all none = refl
+  unjoined_all (chain ts rest j more) = unjoined j rest
+
+  apart : (mark : Bool) (o : Operand) (is : List Item) → begins_joined is ≡ false → grouped (Operates mark o ∷ is) ≡ record { mark = mark; operands = o ∷ [] } ∷ grouped is
+  apart mark o is e = rw (grouped, e) refl
+
+  joined_grouped : {mark : Bool} {ts : List Token} {os : List Operand} → AreJoined shape mark ts os → (rest : List Token) (cs : List Chain) → begins_joined (items rest) ≡ false → grouped (items rest) ≡ cs → grouped (items (ts ++ rest)) ≡ record { mark = mark; operands = os } ∷ cs
+  joined_grouped (last {mark = mark} {o = o} is) rest cs b e = ap grouped (operand_items is rest) ∙ apart mark o (items rest) b ∙ ap (λ ds. record { mark = mark; operands = o ∷ [] } ∷ ds) e
+  joined_grouped (pasted {mark = mark} {o = o} ts p more other is s j) rest cs b e =
+      ap (λ xs. grouped (items xs)) (append_assoc ts (p ∷ more) rest)
+      ∙ ap grouped (operand_items is (p ∷ (more ++ rest)))
+      ∙ ap (λ ys. grouped (Operates mark o ∷ ys)) (paste_items p (more ++ rest) s)
+      ∙ ap (join_first mark o) (joined_grouped j rest cs b e)
+
+  pub laid : {ts : List Token} {cs : List Chain} → AreChains shape ts cs → grouped (items ts) ≡ cs
+  laid none = refl
+  laid (chain {cs = cs} ts rest j more) = joined_grouped j rest cs (unjoined_all more) (laid more)
+
+  -- ---- what has its operators in place is laid out
+
+  abbrev HashesStand : List Token → Type 0
+  HashesStand ts = (is_function_like shape && misplaces_hash shape ts) ≡ false
+
+  hashes_behind : (f a m : Bool) → (f && (a || m)) ≡ false → (f && m) ≡ false
+  hashes_behind true a m e = (neither a m e).1
+  hashes_behind false a m e = refl
+
+  hash_named : (f h b m : Bool) → (f && h) ≡ true → (f && ((h && not b) || m)) ≡ false → b ≡ true
+  hash_named true true true m h e = refl
+  hash_named true true false m h e = absurd (true≢false e)
+  hash_named true false b m h e = absurd (true≢false (sym h))
+  hash_named false g b m h e = absurd (true≢false (sym h))
+
+  record First (ts : List Token) : Type 0 where
+    mark : Bool
+    operand : Operand
+    front : List Token
+    rest : List Token
+    is : IsOperand shape mark front operand
+    laid_out : ts ≡ front ++ rest
+    less : length rest < length ts
+    pastes : misplaces_paste false rest ≡ false
+    hashes : HashesStand rest
+
+  behind_hash : (t : Token) (ts : List Token) → is_operator_hash shape t ≡ true → begins_with_parameter shape ts ≡ true → misplaces_paste false ts ≡ false → HashesStand ts → First (t ∷ ts)
+  behind_hash t [] h b p s = absurd (true≢false (sym b))
+  behind_hash t (u ∷ us) h b p s = elim (parameter_of shape u) as (λ o. parameter_of shape u ≡ o → is_some o ≡ true → First (t ∷ (u ∷ us))) [
+    | Some i ↦ λ e _.
+        let next : misplaces_paste false (u ∷ us) ≡ misplaces_paste false us = rw (parameter_no_paste shape u i e) refl in
+        record { mark = t.space; operand = _; front = t ∷ (u ∷ []); rest = us; is = stringized h e; laid_out = refl; less = omega arith; pastes = sym next ∙ p; hashes = hashes_behind (is_function_like shape) (is_hash u && not (begins_with_parameter shape us)) (misplaces_hash shape us) s }
+    | None ↦ λ _ b. absurd (true≢false (sym b))
+  ] refl b
+
+  first_by : (t : Token) (ts : List Token) → is_paste t ≡ false → misplaces_paste false ts ≡ false → HashesStand (t ∷ ts) → First (t ∷ ts)
+  first_by t ts p m s = elim (is_operator_hash shape t) as (λ b. is_operator_hash shape t ≡ b → First (t ∷ ts)) [
+    | true ↦ λ h. behind_hash t ts h (hash_named (is_function_like shape) (is_hash t) (begins_with_parameter shape ts) (misplaces_hash shape ts) h s) m behind
+    | false ↦ λ h. elim (parameter_of shape t) as (λ o. parameter_of shape t ≡ o → First (t ∷ ts)) [
+      | Some i ↦ λ e. record { mark = t.space; operand = _; front = t ∷ []; rest = ts; is = parameter e; laid_out = refl; less = omega arith; pastes = m; hashes = behind }
+      | None ↦ λ e. record { mark = t.space; operand = _; front = t ∷ []; rest = ts; is = token p h e; laid_out = refl; less = omega arith; pastes = m; hashes = behind }
+    ] refl
+  ] refl
+    where
+      behind : HashesStand ts
+      behind = hashes_behind (is_function_like shape) (is_hash t && not (begins_with_parameter shape ts)) (misplaces_hash shape ts) s
+
+  first : (t : Token) (ts : List Token) → misplaces_paste true (t ∷ ts) ≡ false → HashesStand (t ∷ ts) → First (t ∷ ts)
+  first t ts m s = elim (is_paste t) as (λ b. is_paste t ≡ b → (if b then (true || (is_empty ts || misplaces_paste true ts)) else misplaces_paste false ts) ≡ false → First (t ∷ ts)) [
+    | true ↦ λ _ m. absurd (true≢false m)
+    | false ↦ λ p m. first_by t ts p m s
+  ] refl m
+
+  abbrev Laid : List Token → Type 0
+  Laid ts = (cs : List Chain) × AreChains shape ts cs
+
+  abbrev Lays : ℕ → Type 0
+  Lays n = (ts : List Token) → length ts < n → misplaces_paste true ts ≡ false → HashesStand ts → Laid ts
+
+  -- an operand and `##` before chains
+  paste_before : {mark : Bool} {o : Operand} (front : List Token) (p : Token) → IsOperand shape mark front o → is_paste p ≡ true → {ts : List Token} {cs : List Chain} → AreChains shape ts cs → is_empty ts ≡ false → Laid (front ++ p ∷ ts)
+  paste_before front p is e none filled = absurd (true≢false filled)
+  paste_before {mark = mark} {o = o} front p is e (chain {mark = other} {os = os} {cs = cs} ts rest j more) filled =
+      (record { mark = mark; operands = o ∷ os } ∷ cs, subst (λ xs. AreChains shape xs (record { mark = mark; operands = o ∷ os } ∷ cs)) (append_assoc front (p ∷ ts) rest) (chain (front ++ p ∷ ts) rest (pasted front p ts other is e j) more))
+
+  operand_before : {mark : Bool} {o : Operand} (front rest : List Token) → IsOperand shape mark front o → Laid rest → Laid (front ++ rest)
+  operand_before {mark = mark} {o = o} front rest is m = (record { mark = mark; operands = o ∷ [] } ∷ m.0, chain front rest (last is) m.1)
+
+  lay_behind : {mark : Bool} {o : Operand} (front rest : List Token) → IsOperand shape mark front o → Lays (suc (length rest)) → misplaces_paste false rest ≡ false → HashesStand rest → Laid (front ++ rest)
+  lay_behind front [] is on m s = operand_before front [] is ([], none)
+  lay_behind front (p ∷ more) is on m s = elim (is_paste p) as (λ b. is_paste p ≡ b → (if b then (false || (is_empty more || misplaces_paste true more)) else misplaces_paste false more) ≡ false → Laid (front ++ p ∷ more)) [
+    | true ↦ λ e m.
+        let parts : (is_empty more ≡ false) × (misplaces_paste true more ≡ false) = neither (is_empty more) (misplaces_paste true more) m in
+        let l : Laid more = on more (omega arith) parts.1 (hashes_behind (is_function_like shape) (is_hash p && not (begins_with_parameter shape more)) (misplaces_hash shape more) s) in
+        paste_before front p is e l.1 parts.0
+    | false ↦ λ e m.
+        let stands : misplaces_paste true (p ∷ more) ≡ false = rw e m in
+        operand_before front (p ∷ more) is (on (p ∷ more) (omega arith) stands s)
+  ] refl m
+
+  lay : (n : ℕ) → Lays n
+  lay zero ts short m s = absurd (omega arith)
+  lay (suc n) [] short m s = ([], none)
+  lay (suc n) (t ∷ ts) short m s =
+      let f : First (t ∷ ts) = first t ts m s in
+      let less : length f.rest < length (t ∷ ts) = f.less in
+      subst Laid (sym f.laid_out) (lay_behind f.front f.rest f.is (λ us short' m' s'. lay n us (omega arith) m' s') f.pastes f.hashes)
+
+no : (b : Bool) → not b ≡ true → b ≡ false
+no true e = absurd (true≢false (sym e))
+no false e = refl
+
+pub lays_out : (d : Definition) → places_operators d ≡ true → AreChains d.shape d.body (chains_of d)
+lays_out d e =
+    let parts = both (not (misplaces_paste true d.body)) (not (is_function_like d.shape && misplaces_hash d.shape d.body)) e in
+    let l : Laid d.shape d.body = lay d.shape (suc (length d.body)) d.body (omega arith) (no _ parts.0) (no _ parts.1) in
+    subst (AreChains d.shape d.body) (sym (laid d.shape l.1)) l.1
+
+pub only_chains : (d : Definition) (cs : List Chain) → AreChains d.shape d.body cs → chains_of d ≡ cs
+only_chains d cs l = laid d.shape l

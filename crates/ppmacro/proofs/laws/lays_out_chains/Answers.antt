@@ -1,0 +1,8 @@
+use Rattle.ppmacro.proofs.Chained.{lays_out, only_chains}
+use Rattle.ppmacro.proofs.laws.lays_out_chains.Goals as goal
+
+pub returns-clause-laid_out : goal.returns-clause-laid_out
+returns-clause-laid_out c = lays_out
+
+pub returns-clause-only : goal.returns-clause-only
+returns-clause-only c = only_chains

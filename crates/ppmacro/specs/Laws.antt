@@ -1,0 +1,89 @@
+-- How the heading of a function-like macro and a replacement list are laid out.
+use Rattle.std.specs.Prelude.{◌≡◌, ℕ, Bool, true, false, not, ◌&&◌, List, [], ◌∷◌, ◌++◌, Some, None, codes}
+use Rattle.pptext.specs.declared.tokens.Token.{Token}
+use Rattle.ppmacro.specs.Names.{Name}
+use Rattle.ppmacro.specs.Spellings.{is_identifier, is_punct, is_paste}
+use Rattle.ppmacro.specs.Chains.{parameter_of, is_function_like, is_operator_hash}
+use Rattle.ppmacro.specs.Define.{misplaces_paste, misplaces_hash}
+use Rattle.ppmacro.specs.declared.macros.Shape.{Shape}
+use Rattle.ppmacro.specs.declared.macros.Definition.{Definition}
+use Rattle.ppmacro.specs.declared.macros.Chain.{Chain}
+use Rattle.ppmacro.specs.declared.macros.Operand.{Operand}
+use Rattle.ppmacro.specs.declared.macros.Operand.TheVariants.{Tok, Param, Str}
+use Rattle.ppmacro.specs.declared.defining.headings.Heading.{Heading}
+
+-- ---- the heading (6.10p1, 6.10.3p10)
+
+-- names with a comma between them
+pub data IdentifierList : List Token → List Name → Type 0 where
+  one : {t : Token}
+      → is_identifier t ≡ true
+      → IdentifierList (t ∷ []) (t.text ∷ [])
+  more : {t comma : Token} {ts : List Token} {names : List Name}
+      → is_identifier t ≡ true
+      → is_punct (codes ",") comma ≡ true
+      → IdentifierList ts names
+      → IdentifierList (t ∷ (comma ∷ ts)) (t.text ∷ names)
+
+-- what may stand between the parentheses, with the names, and whether `...` ends it
+pub data Parameters : List Token → List Name → Bool → Type 0 where
+  nothing : Parameters [] [] false
+  names : {ts : List Token} {ns : List Name}
+      → IdentifierList ts ns
+      → Parameters ts ns false
+  ellipsis : {t : Token}
+      → is_punct (codes "...") t ≡ true
+      → Parameters (t ∷ []) [] true
+  names_and_ellipsis : (ts : List Token) (comma t : Token) {ns : List Name}
+      → IdentifierList ts ns
+      → is_punct (codes ",") comma ≡ true
+      → is_punct (codes "...") t ≡ true
+      → Parameters (ts ++ comma ∷ (t ∷ [])) ns true
+
+-- behind `(` stand the parameters, `)` and the replacement list
+pub record IsHeading (line : List Token) (heading : Heading) : Type 0 where
+  pub inside : List Token
+  pub close : Token
+  pub laid_out : line ≡ inside ++ close ∷ heading.body
+  pub closes : is_punct (codes ")") close ≡ true
+  pub parameters : Parameters inside heading.names heading.variadic
+
+-- ---- the replacement list (6.10.3.2, 6.10.3.3)
+
+-- these tokens are this operand; with the space mark of the first
+pub data IsOperand (shape : Shape) : Bool → List Token → Operand → Type 0 where
+  token : {t : Token}
+      → is_paste t ≡ false
+      → is_operator_hash shape t ≡ false
+      → parameter_of shape t ≡ None
+      → IsOperand shape t.space (t ∷ []) (Tok t)
+  parameter : {t : Token} {i : ℕ}
+      → parameter_of shape t ≡ Some i
+      → IsOperand shape t.space (t ∷ []) (Param i)
+  stringized : {hash t : Token} {i : ℕ}
+      → is_operator_hash shape hash ≡ true
+      → parameter_of shape t ≡ Some i
+      → IsOperand shape hash.space (hash ∷ (t ∷ [])) (Str i hash.at)
+
+-- these tokens are these operands with `##` between them; with the space mark of the first
+pub data AreJoined (shape : Shape) : Bool → List Token → List Operand → Type 0 where
+  last : {mark : Bool} {ts : List Token} {o : Operand}
+      → IsOperand shape mark ts o
+      → AreJoined shape mark ts (o ∷ [])
+  pasted : {mark : Bool} {o : Operand} {os : List Operand} (ts : List Token) (paste : Token) (rest : List Token) (other : Bool)
+      → IsOperand shape mark ts o
+      → is_paste paste ≡ true
+      → AreJoined shape other rest os
+      → AreJoined shape mark (ts ++ paste ∷ rest) (o ∷ os)
+
+-- these tokens are these chains, laid end to end
+pub data AreChains (shape : Shape) : List Token → List Chain → Type 0 where
+  none : AreChains shape [] []
+  chain : {mark : Bool} {os : List Operand} {cs : List Chain} (ts rest : List Token)
+      → AreJoined shape mark ts os
+      → AreChains shape rest cs
+      → AreChains shape (ts ++ rest) (record { mark = mark; operands = os } ∷ cs)
+
+-- `##` and `#` stand where they may (6.10.3.2p1, 6.10.3.3p1)
+abbrev pub places_operators : Definition → Bool
+places_operators d = not (misplaces_paste true d.body) && not (is_function_like d.shape && misplaces_hash d.shape d.body)
