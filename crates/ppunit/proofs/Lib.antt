@@ -1,4 +1,5 @@
 pub mod Digits
+pub mod Messages
 pub mod Grows
 pub mod OneUnit
 pub mod OneCount

@@ -365,7 +365,7 @@ module _ (expansions : OneExpansion) (decisions : OneDecision) (readings : OneRe
     at_error : {depth row : ℕ} {s : State} {line : LogicalLine} {m : Reached}
         → line.directive ≡ Some Error
         → Controls around depth row s line m
-        → stopped s (line_fault 34 line.tokens (message true (operands line.tokens))) ≡ m
+        → stopped s (line_fault 34 line.tokens (message (operands line.tokens))) ≡ m
     at_error e (Controls.error is) = refl
     at_error e (Controls.quote is q) = absurd (is e)
     at_error {row = row} {s = s} {line = line} {m = m} e (Controls.other q does) = absurd (not_other row Error s line m e does)

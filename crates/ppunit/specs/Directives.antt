@@ -1,5 +1,5 @@
 -- What a control line does (6.10.2 to 6.10.7), but for the file that it includes.
-use Rattle.std.specs.Prelude.{◌≡◌, ℕ, Bool, true, false, not, ◌&&◌, List, [], ◌∷◌, ◌++◌, map, if◌then◌else◌, Option, None, Some, Result, Ok, Err, codes}
+use Rattle.std.specs.Prelude.{◌≡◌, ℕ, Bool, true, false, List, [], ◌∷◌, ◌++◌, map, flat_map, if◌then◌else◌, Option, None, Some, Result, Ok, Err, codes}
 use Rattle.std.specs.Str.{bytes_eq}
 use Rattle.pptext.specs.declared.tokens.Token.{Token}
 use Rattle.pptext.specs.declared.tokens.Fault.{Fault}
@@ -18,7 +18,7 @@ use Rattle.ppshelf.specs.Search.{candidates, IsFirstRow}
 use Rattle.ppunit.specs.declared.units.Item.TheVariants as item
 use Rattle.ppunit.specs.States.{Surroundings, Reached, going, stopped, passed, reading_once, with_left}
 use Rattle.ppunit.specs.declared.states.State.{State}
-use Rattle.ppunit.specs.Lines.{operands, line_fault}
+use Rattle.ppunit.specs.Lines.{operands, line_fault, spaced}
 use Rattle.ppunit.specs.declared.including.Asked.{Asked}
 use Rattle.ppunit.specs.declared.line_control.Presumed.{Presumed}
 use Rattle.ppunit.specs.LineControl.{presumed, renumbered}
@@ -39,9 +39,9 @@ with_macros s (Err f) = stopped s f
 -- ---- `#error` (6.10.5)
 
 -- the tokens, with one space where a token but the first has a mark
-abbrev pub message : Bool → List Token → List ℕ
-message first [] = []
-message first (t ∷ ts) = (if t.space && not first then 32 ∷ [] else []) ++ (t.text ++ message false ts)
+abbrev pub message : List Token → List ℕ
+message [] = []
+message (t ∷ ts) = t.text ++ flat_map spaced ts
 
 -- ---- `#line` (6.10.4)
 

@@ -78,7 +78,7 @@ mutual
   pub data Controls (around : Surroundings) : ℕ → ℕ → State → LogicalLine → Reached → Type 0 where
     error : {depth row : ℕ} {s : State} {line : LogicalLine}
         → line.directive ≡ Some Error
-        → Controls around depth row s line (stopped s (line_fault 34 line.tokens (message true (operands line.tokens))))
+        → Controls around depth row s line (stopped s (line_fault 34 line.tokens (message (operands line.tokens))))
     quote : {depth row : ℕ} {s : State} {line : LogicalLine} {f : Fault}
         → line.directive ≢ Some Error
         → lone_quote line.tokens ≡ Some f

@@ -1,5 +1,5 @@
 -- What an `#include` line asks for (6.10.2).
-use Rattle.std.specs.Prelude.{ℕ, ◌-◌, List, [], ◌∷◌, ◌++◌, Bool, true, false, not, ◌&&◌, ◌||◌, if◌then◌else◌, Option, None, Some, Result, Ok, Err, length, take, drop, codes}
+use Rattle.std.specs.Prelude.{ℕ, ◌-◌, List, [], ◌∷◌, ◌++◌, Bool, true, false, ◌||◌, if◌then◌else◌, Option, None, Some, Result, Ok, Err, length, take, drop, codes}
 use Rattle.std.specs.Str.{bytes_eq}
 use Rattle.pptext.specs.declared.tokens.Token.{Token}
 use Rattle.pptext.specs.declared.tokens.Fault.{Fault}
@@ -9,6 +9,7 @@ use Rattle.ppmacro.specs.Spellings.{is_punct}
 use Rattle.ppshelf.specs.declared.search.Form.{Form}
 use Rattle.ppshelf.specs.declared.search.Form.TheVariants.{Quote, Angle}
 use Rattle.ppunit.specs.declared.including.Asked.{Asked}
+use Rattle.ppunit.specs.Lines.{space_before, spaced}
 use Rattle.ppunit.specs.LineControl.{is_plain_string}
 
 -- without the characters around
@@ -32,9 +33,6 @@ abbrev pub header_asked : List Token → Option Asked
 header_asked (t ∷ []) = Some (record { form = form_of t.text; name = inner t.text })
 header_asked ts = None
 
-abbrev pub space_before : Bool → Token → List ℕ
-space_before first t = if t.space && not first then 32 ∷ [] else []
-
 -- only where nothing follows
 abbrev pub ended : List ℕ → List Token → Option (List ℕ)
 ended text [] = Some text
@@ -44,11 +42,15 @@ abbrev pub prefixed : List ℕ → Option (List ℕ) → Option (List ℕ)
 prefixed text None = None
 prefixed text (Some more) = Some (text ++ more)
 
--- The name up to `>`, which is the last token and stands nowhere else; one space where a token but the first has a mark.
-abbrev pub angle_name : Bool → List Token → Option (List ℕ)
-angle_name first [] = None
-angle_name first (t ∷ ts) =
-    if is_punct (codes ">") t then ended (space_before first t) ts else prefixed (space_before first t ++ t.text) (angle_name false ts)
+-- the rest of a name, up to `>`, which is the last token and stands nowhere else
+abbrev pub angle_rest : List Token → Option (List ℕ)
+angle_rest [] = None
+angle_rest (t ∷ ts) = if is_punct (codes ">") t then ended (space_before t) ts else prefixed (spaced t) (angle_rest ts)
+
+-- the name up to `>`, with one space where a token but the first has a mark
+abbrev pub angle_name : List Token → Option (List ℕ)
+angle_name [] = None
+angle_name (t ∷ ts) = if is_punct (codes ">") t then ended [] ts else prefixed t.text (angle_rest ts)
 
 abbrev pub angled : Option (List ℕ) → Option Asked
 angled None = None
@@ -57,7 +59,7 @@ angled (Some name) = Some (record { form = Angle; name = name })
 -- what the tokens behind replacement ask for
 abbrev pub expanded_asked : List Token → Option Asked
 expanded_asked (t ∷ []) = if is_plain_string t then Some (record { form = Quote; name = inner t.text }) else None
-expanded_asked (t ∷ u ∷ us) = if is_punct (codes "<") t then angled (angle_name true (u ∷ us)) else None
+expanded_asked (t ∷ u ∷ us) = if is_punct (codes "<") t then angled (angle_name (u ∷ us)) else None
 expanded_asked [] = None
 
 -- a name that no file has: an empty one, or one from the root

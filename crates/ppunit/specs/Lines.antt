@@ -1,5 +1,5 @@
 -- The parts of a directive line (6.10).
-use Rattle.std.specs.Prelude.{ℕ, List, [], ◌∷◌, if◌then◌else◌, Option, None, Some, drop, flat_map}
+use Rattle.std.specs.Prelude.{ℕ, List, [], ◌∷◌, ◌++◌, if◌then◌else◌, Option, None, Some, drop, flat_map}
 use Rattle.pptext.specs.declared.tokens.Token.{Token}
 use Rattle.pptext.specs.declared.tokens.Fault.{Fault}
 use Rattle.pptext.specs.declared.sources.Directive.{Directive}
@@ -22,6 +22,14 @@ line_fault number line text = record { number = number; at = sign_place line; te
 -- a fault that says the directive's name
 abbrev pub named_fault : ℕ → List Token → Fault
 named_fault number line = line_fault number line (name_of line)
+
+-- one space where a token has a mark
+abbrev pub space_before : Token → List ℕ
+space_before t = if t.space then 32 ∷ [] else []
+
+-- a token behind another, as text
+abbrev pub spaced : Token → List ℕ
+spaced t = space_before t ++ t.text
 
 -- the one identifier that is asked for
 abbrev pub one_identifier : List Token → Option (List ℕ)

@@ -27,8 +27,9 @@ pub(crate) fn run_text<'x>(
 }
 
 // The message of `#error` (6.10.5): the tokens, with one space where a token but the first has a mark.
+#[tactic(auto, using(crate::proofs::Messages::told_message))]
 fn message(alloc: Global, tokens: &[Token]) -> Result<Vec<u8>, AllocError>
-    ensures { IfOk result (λ m. m.items ≡ spec.message true tokens.now) }
+    ensures { IfOk result (λ m. m.items ≡ spec.message tokens.now) }
 {
     let mut text = Vec::new(alloc);
     let mut first = true;
@@ -44,7 +45,7 @@ fn message(alloc: Global, tokens: &[Token]) -> Result<Vec<u8>, AllocError>
 
 /// Fault 34, with the message of an `#error` line.
 pub(crate) fn error(alloc: Global, line: &[Token]) -> Result<Fault, AllocError>
-    ensures { IfOk result (λ f. f ≡ spec_lines.line_fault 34 line.now (spec.message true (spec_lines.operands line.now))) }
+    ensures { IfOk result (λ f. f ≡ spec_lines.line_fault 34 line.now (spec.message (spec_lines.operands line.now))) }
 {
     let text = message(alloc, operands(line))?;
     line_fault(alloc, 34, line, text.as_slice())

@@ -59,7 +59,7 @@ fn header_asked(alloc: Global, tokens: &[Token]) -> Result<Option<Asked>, AllocE
 
 // The name up to `>`, which is the last token and stands nowhere else.
 fn angle_name(alloc: Global, tokens: &[Token]) -> Result<Option<Vec<u8>>, AllocError>
-    ensures { IfOk result (λ n. option_map (λ v. v.items) n ≡ spec.angle_name true tokens.now) }
+    ensures { IfOk result (λ n. option_map (λ v. v.items) n ≡ spec.angle_name tokens.now) }
 {
     let mut name = Vec::new(alloc);
     for (index, token) in tokens.iter().enumerate() {

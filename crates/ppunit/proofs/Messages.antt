@@ -1,0 +1,60 @@
+-- The message of `#error` and the name of an include line, token by token: `first` says that none stands before.
+use Rattle.std.proofs.Common.{◌≡◌, ◌∙◌, refl, ap, ℕ, Bool, true, false, not, ◌&&◌, if◌then◌else◌, List, [], ◌∷◌, ◌++◌, flat_map, Option, None, codes}
+use Rattle.pptext.specs.declared.tokens.Token.{Token}
+use Rattle.ppmacro.specs.Spellings.{is_punct}
+use Rattle.ppunit.specs.Lines.{spaced}
+use Rattle.ppunit.specs.Directives.{message}
+use Rattle.ppunit.specs.Including.{ended, prefixed, angle_rest, angle_name}
+
+abbrev mark : Bool → List ℕ
+mark b = if b then 32 ∷ [] else []
+
+-- the space before a token
+abbrev pub space_at : Bool → Token → List ℕ
+space_at first t = if t.space && not first then 32 ∷ [] else []
+
+unmarked : (b : Bool) → mark (b && not true) ≡ []
+unmarked true = refl
+unmarked false = refl
+
+marked : (b : Bool) → mark (b && not false) ≡ mark b
+marked true = refl
+marked false = refl
+
+-- ---- the message
+
+abbrev pub told : Bool → List Token → List ℕ
+told first [] = []
+told first (t ∷ ts) = space_at first t ++ (t.text ++ told false ts)
+
+behind_mark : (b : Bool) (xs ys : List ℕ) → mark (b && not false) ++ (xs ++ ys) ≡ (mark b ++ xs) ++ ys
+behind_mark true xs ys = refl
+behind_mark false xs ys = refl
+
+told_behind : (ts : List Token) → told false ts ≡ flat_map spaced ts
+told_behind [] = refl
+told_behind (t ∷ ts) = behind_mark t.space t.text (told false ts) ∙ ap (λ (z : List ℕ). spaced t ++ z) (told_behind ts)
+
+pub told_message : (ts : List Token) → told true ts ≡ message ts
+told_message [] = refl
+told_message (t ∷ ts) = ap (λ (z : List ℕ). z ++ (t.text ++ told false ts)) (unmarked t.space) ∙ ap (λ (z : List ℕ). t.text ++ z) (told_behind ts)
+
+-- ---- the name
+
+abbrev pub named : Bool → List Token → Option (List ℕ)
+named first [] = None
+named first (t ∷ ts) = if is_punct (codes ">") t then ended (space_at first t) ts else prefixed (space_at first t ++ t.text) (named false ts)
+
+-- a name from its first token on, by the space before that
+abbrev from : Token → List Token → Option (List ℕ) → List ℕ → Option (List ℕ)
+from t ts more space = if is_punct (codes ">") t then ended space ts else prefixed (space ++ t.text) more
+
+named_behind : (ts : List Token) → named false ts ≡ angle_rest ts
+named_behind [] = refl
+named_behind (t ∷ ts) =
+    ap (from t ts (named false ts)) (marked t.space)
+    ∙ ap (λ more. from t ts more (mark t.space)) (named_behind ts)
+
+pub named_angle : (ts : List Token) → named true ts ≡ angle_name ts
+named_angle [] = refl
+named_angle (t ∷ ts) = ap (from t ts (named false ts)) (unmarked t.space) ∙ ap (λ more. from t ts more []) (named_behind ts)

@@ -1,0 +1,15 @@
+use Rattle.std.proofs.Common.{arith, ◌≡◌, ◌∙◌, sym, ℕ, Vec, Global, true, None}
+use Rattle.std.proofs.lemmas.Grind.{common_steps}
+use Rattle.std.specs.Option.{option_map}
+use Rattle.ppunit.proofs.Messages.{named, named_angle}
+use Rattle.ppunit.proofs.including.angle_name.Goals as goal
+
+pub returns-then-is_punct : goal.returns-then-is_punct
+returns-then-is_punct c =
+    let told : option_map (λ (v : Vec ℕ Global). v.items) c.if-index-tokens.result ≡ named true c.args.tokens.now = grind (arith, common_steps) in
+    told ∙ named_angle c.args.tokens.now
+
+pub returns : goal.returns
+returns c =
+    let told : named true c.args.tokens.now ≡ None = grind (arith, common_steps) in
+    sym told ∙ named_angle c.args.tokens.now
