@@ -23,6 +23,10 @@ has_only names (member k d ms) = has_text k names && has_only names ms
 abbrev pub is_object_of : List (List ℕ) → Data → Bool
 is_object_of names d = unwrap_or (option_map (has_only names) (as_object d)) false
 
+-- what comes of a part where it is there, and nothing where it is not
+abbrev pub given : {A B : Type 0} → Option A → (A → Option B) → Option B
+given part make = option_and_then make part
+
 abbrev pub text_at : List ℕ → Data → Option (List ℕ)
 text_at name d = option_and_then as_str (get name d)
 
@@ -81,13 +85,24 @@ file_members true = codes "name" ∷ codes "text" ∷ codes "hex" ∷ []
 file_members false = codes "name" ∷ []
 
 abbrev pub draft_file : Bool → Data → Option DraftFile
-draft_file inline d = if is_object_of (file_members inline) d then option_and_then (λ n. option_map (λ c. record { name = n; content = c }) (content_of inline d)) (text_at (codes "name") d) else None
+draft_file inline d =
+    if is_object_of (file_members inline) d then
+    given (text_at (codes "name") d) (λ name.
+    given (content_of inline d) (λ content.
+    Some (record { name = name; content = content })))
+    else None
 
 abbrev pub unit_members : List (List ℕ)
 unit_members = codes "file" ∷ codes "define" ∷ codes "search" ∷ []
 
 abbrev pub draft_unit : Data → Option DraftUnit
-draft_unit d = if is_object_of unit_members d then option_and_then (λ f. option_and_then (λ ts. option_map (λ ss. record { file = f; defines = ts; search = ss }) (texts_at (codes "search") d)) (texts_at (codes "define") d)) (text_at (codes "file") d) else None
+draft_unit d =
+    if is_object_of unit_members d then
+    given (text_at (codes "file") d) (λ file.
+    given (texts_at (codes "define") d) (λ defines.
+    given (texts_at (codes "search") d) (λ folders.
+    Some (record { file = file; defines = defines; search = folders }))))
+    else None
 
 -- the text of the profile, which is `c11` where it is missing
 abbrev pub profile_at : Data → Option (List ℕ)
@@ -107,11 +122,23 @@ abbrev pub budget_at : Data → Option DraftBudget
 budget_at d = budget_from (get (codes "budget") d)
 
 abbrev pub draft_setting : Data → Option DraftSetting
-draft_setting d = option_and_then (λ p. option_and_then (λ b. option_and_then (λ day. option_and_then (λ hour. option_map (λ ss. record { profile = p; budget = b; date = day; time = hour; search = ss }) (texts_at (codes "search") d)) (text_at (codes "time") d)) (text_at (codes "date") d)) (budget_at d)) (profile_at d)
+draft_setting d =
+    given (profile_at d) (λ profile.
+    given (budget_at d) (λ allowed.
+    given (text_at (codes "date") d) (λ date.
+    given (text_at (codes "time") d) (λ time.
+    given (texts_at (codes "search") d) (λ folders.
+    Some (record { profile = profile; budget = allowed; date = date; time = time; search = folders }))))))
 
 abbrev pub list_members : List (List ℕ)
 list_members = codes "profile" ∷ codes "budget" ∷ codes "date" ∷ codes "time" ∷ codes "search" ∷ codes "files" ∷ codes "units" ∷ []
 
--- the list as it stands, where it has its shape, and no other members
+-- the list as it stands, where it has its shape and no other members
 abbrev pub draft : Bool → Data → Option Draft
-draft inline d = if is_object_of list_members d then option_and_then (λ s. option_and_then (λ fs. option_map (λ us. record { setting = s; files = fs; units = us }) (array_at draft_unit (codes "units") d)) (array_at (draft_file inline) (codes "files") d)) (draft_setting d) else None
+draft inline d =
+    if is_object_of list_members d then
+    given (draft_setting d) (λ setting.
+    given (array_at (draft_file inline) (codes "files") d) (λ files.
+    given (array_at draft_unit (codes "units") d) (λ units.
+    Some (record { setting = setting; files = files; units = units }))))
+    else None
