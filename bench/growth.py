@@ -35,7 +35,7 @@ LEAST_SECONDS, LEAST_MEMORY = 0.05, 32 * MEGABYTE
 BYTES_A_THING = 80
 MOST_SECONDS, MOST_MEMORY = 30, 8_000 * MEGABYTE
 # so long a run needs no second; shorter ones that seem to grow too fast are measured so often again
-LONG_SECONDS, AGAIN = 4, 3
+LONG_SECONDS, AGAIN = 4, 8
 GCC = ["gcc", "-E", "-std=c11", "-pedantic-errors", "-x", "c", "-"]
 HEADING = ("shape", "size", "seconds", "factor", "MB", "factor", "gcc: seconds", "factor", "MB", "factor")
 NOTHING = ("-", "", "", "")

@@ -4,17 +4,20 @@
     tests/refused_memory.py [PROGRAM]
 
 PROGRAM is by default crates/cppunits/out/cppunits, which `rt ci` and `rt run` leave behind.  For each list below the
-program runs, with one worker and with four, with its 1st, 2nd, 3rd .. request refused, and with all refused from that
-one on, until a run meets no refusal.  Each run must end with status 4, nothing on standard output and `cppunits: out of
-memory` on standard error, or with the answer of the run that meets no refusal.  The gate cannot refuse memory to the
-built program, so this is no part of it.
+program runs, with one worker and with more, over the list and over a folder, with its 1st, 2nd, 3rd .. request refused,
+and with all refused from that one on, until a run meets no refusal.  Each run must end with status 4, nothing on standard
+output and `cppunits: out of memory` on standard error, or with the answer of the run that meets no refusal.  The proofs
+can't refuse memory to the built program.
 
 status:
   0  each run ended so
   1  one didn't
 """
+import contextlib
+import json
 import os
 import sys
+import tempfile
 
 from refusals import HERE, refusing_malloc, run, runs, tally
 
@@ -44,6 +47,49 @@ LISTS = {
 }
 
 
+INVOCATION = {"a.c": "#define f(a) a*g\n#define g(a) f(a)\nf(2)(9)\n"}
+GUARDED = {"a.c": '#include "h.h"\n#include "h.h"\n', "h.h": "#ifndef H\n#define H\nint a;\n#endif\n"}
+SEARCHED = {"src/a.c": '#include "x.h"\n#include <x.h>\n#include "../inc/x.h"\n#include <y.h>\n', "src/x.h": "1", "inc/x.h": "2"}
+
+# files, units and folders, and what is printed of them
+ROWS = {
+    "an invocation that reaches behind what it is replaced by": (
+        INVOCATION, [{"file": "a.c"}], [],
+        "unit 0 a.c\ntok 0:3:3 0:3:1 n+ 2\ntok 0:1:15 0:3:1 p- *\ntok 0:3:6 0:3:1 n- 9\ntok 0:1:15 0:3:1 p- *\ntok 0:1:16 0:3:1 i- g\n"
+        "dep 0 a.c\nok\n",
+    ),
+    "a guarded header twice, in two units": (
+        GUARDED, [{"file": "a.c"}, {"file": "a.c", "define": ["H"]}], [],
+        "unit 0 a.c\ntok 1:3:1 1:3:1 i+ int\ntok 1:3:5 1:3:5 i+ a\ntok 1:3:6 1:3:6 p- ;\ndep 0 a.c\ndep 1 h.h\nok\n"
+        "unit 1 a.c\ndep 0 a.c\ndep 1 h.h\nok\n",
+    ),
+    "searched folders": (
+        SEARCHED, [{"file": "src/a.c"}], ["inc"],
+        "unit 0 src/a.c\ntok 1:1:1 1:1:1 n+ 1\ntok 2:1:1 2:1:1 n+ 2\ntok 2:1:1 2:1:1 n+ 2\ndep 0 src/a.c\ndep 1 src/x.h\ndep 2 inc/x.h\n"
+        "fault 31 0:4:1 y.h\n",
+    ),
+}
+
+
+def row(name, inline):
+    """The list of a row, with its contents or names alone."""
+    files, units, folders, _ = ROWS[name]
+    rows = [{"name": file, "text": text} if inline else {"name": file} for file, text in files.items()]
+    return json.dumps({"date": "Feb  9 2024", "time": "08:05:03", "search": folders, "files": rows, "units": units}).encode()
+
+
+@contextlib.contextmanager
+def written(name):
+    """A folder with the files of a row."""
+    with tempfile.TemporaryDirectory() as folder:
+        for file, text in ROWS[name][0].items():
+            path = os.path.join(folder, file)
+            os.makedirs(os.path.dirname(path), exist_ok=True)
+            with open(path, "w") as out:
+                out.write(text)
+        yield folder
+
+
 # what stands before the list, and in it: one thread, several, and files of a folder
 WAYS = {
     "one worker": (["--workers", "1", "dump"], LISTS),
@@ -59,8 +105,10 @@ def outcome(done):
     return done.stdout, done.stderr, done.returncode
 
 
-def problems(command, data, malloc):
+def problems(command, data, malloc, wanted=None):
     answer = outcome(run(command, malloc, 0, data)[0])
+    if wanted not in (None, answer[0].decode()):
+        yield "the answer is %r" % answer[0][:500]
     for on in False, True:
         requests = 0
         for call, done, met in runs(command, malloc, data, on):
@@ -72,17 +120,27 @@ def problems(command, data, malloc):
         print("  %d requests, %s" % (requests, "each with all behind it" if on else "each alone"))
 
 
+def cases(program, malloc):
+    """Each case's name, and its problems."""
+    for way, (words, lists) in WAYS.items():
+        for name, data in lists.items():
+            yield "%s: %s" % (way, name), problems([program, *words], data, malloc)
+    for name, (*_, wanted) in ROWS.items():
+        for workers in "1", "2":
+            words = [program, "--workers", workers, "--block", "1"]
+            yield "--workers %s: %s" % (workers, name), problems([*words, "dump"], row(name, True), malloc, wanted)
+            with written(name) as folder:
+                over = problems([*words, "--root", folder, "dump"], row(name, False), malloc, wanted)
+                yield "--workers %s over a folder: %s" % (workers, name), over
+
+
 def main(words):
     if words in (["--help"], ["-h"]):
         print(__doc__.strip())
         return 0
     program = os.path.abspath(words[0] if words else PROGRAM)
     with refusing_malloc() as malloc:
-        return tally(
-            ("%s: %s" % (way, name), problems([program, *words], data, malloc))
-            for way, (words, lists) in WAYS.items()
-            for name, data in lists.items()
-        )
+        return tally(cases(program, malloc))
 
 
 if __name__ == "__main__":
