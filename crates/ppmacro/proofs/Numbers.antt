@@ -6,9 +6,7 @@ use Rattle.pptext.specs.declared.tokens.Fault.{Fault}
 use Rattle.ppmacro.specs.Names.{Name, Macros}
 use Rattle.ppmacro.specs.Spellings.{is_identifier}
 use Rattle.ppmacro.specs.declared.macros.Definition.{Definition}
-use Rattle.ppmacro.specs.declared.defining.Named.{Named}
-use Rattle.ppmacro.specs.declared.defining.Refusal.{Refusal}
-use Rattle.ppmacro.specs.declared.defining.Refusal.TheVariants.{ParameterList, Spacing, Pasting, Stringizing, VariableArguments, Redefinition}
+use Rattle.ppmacro.specs.Define.{Named, Refusal, ParameterList, Spacing, Pasting, Stringizing, VariableArguments, Redefinition}
 use Rattle.ppmacro.specs.Define.{fault, is_reserved, read_definition, fitting, number_of, under_name, judged, entered, after_define, undefined, taken_out, after_undef}
 
 -- the fault of a result, if it is one, has at most this number

@@ -53,11 +53,21 @@ stringized_item None hash t = plain_item None t
 abbrev pub hash_sign : Token → HashSign
 hash_sign t = record { mark = t.space; at = t.at }
 
+-- the items at a token, which is a `##`, a `#` that is an operator, or an operand; the last two lists are those behind it, where it
+-- is no such `#` and where it is one
+abbrev pub items_at : (paste hash : Bool) → Item → List Item → List Item → List Item
+items_at true hash operand behind behind_hash = Joins ∷ behind
+items_at false true operand behind behind_hash = behind_hash
+items_at false false operand behind behind_hash = operand ∷ behind
+
 -- a replacement list as operands and `##`; `hash` is the `#` that stands directly before, if one does
 abbrev pub items_behind : Shape → Option HashSign → List Token → List Item
 items_behind shape hash [] = []
 items_behind shape (Some hash) (t ∷ ts) = stringized_item (parameter_of shape t) hash t ∷ items_behind shape None ts
-items_behind shape None (t ∷ ts) = elim (is_paste t) [ true ↦ Joins ∷ items_behind shape None ts | false ↦ elim (is_operator_hash shape t) [ true ↦ items_behind shape (Some (hash_sign t)) ts | false ↦ plain_item (parameter_of shape t) t ∷ items_behind shape None ts ] ]
+items_behind shape None (t ∷ ts) =
+    items_at (is_paste t) (is_operator_hash shape t) (plain_item (parameter_of shape t) t)
+        (items_behind shape None ts)
+        (items_behind shape (Some (hash_sign t)) ts)
 
 -- the items where this one is the next, or none at a `#`
 abbrev pub led_by : Shape → Token → Option Item → List Token → List Item

@@ -10,14 +10,25 @@ use Rattle.pptext.specs.declared.tokens.Token.{Token}
 use Rattle.pptext.specs.declared.tokens.Fault.{Fault}
 use Rattle.ppmacro.specs.Names.{Name, Macros}
 use Rattle.ppmacro.specs.Spellings.{is_identifier, is_name, is_punct, is_hash, is_paste}
+use Rattle.ppmacro.specs.Headings.{Heading}
 use Rattle.ppmacro.specs.Chains.{parameter_of, is_function_like}
 use Rattle.ppmacro.specs.declared.macros.Shape.{Shape}
 use Rattle.ppmacro.specs.declared.macros.Shape.TheVariants.{Predefined, ObjectLike, FunctionLike}
 use Rattle.ppmacro.specs.declared.macros.Definition.{Definition}
-use Rattle.ppmacro.specs.declared.defining.Refusal.{Refusal}
-use Rattle.ppmacro.specs.declared.defining.Refusal.TheVariants.{ParameterList, Spacing, Pasting, Stringizing, VariableArguments, Redefinition}
-use Rattle.ppmacro.specs.declared.defining.Named.{Named}
-use Rattle.ppmacro.specs.declared.defining.headings.Heading.{Heading}
+
+-- why a definition is refused, once its name is allowed
+pub data Refusal : Type 0 where
+  ParameterList : Refusal
+  Spacing : Refusal
+  Pasting : Refusal
+  Stringizing : Refusal
+  VariableArguments : Refusal
+  Redefinition : Refusal
+
+-- a definition with the macro's name
+pub record Named : Type 0 where
+  pub name : Name
+  pub definition : Definition
 
 -- ---- the parameters (6.10p1, 6.10.3p10)
 

@@ -1,7 +1,13 @@
--- Headings that are read from the front.
-use Rattle.std.specs.Prelude.{List, ◌++◌}
+-- Headings of function-like macros.
+use Rattle.std.specs.Prelude.{Bool, List, ◌++◌}
+use Rattle.pptext.specs.declared.tokens.Token.{Token}
 use Rattle.ppmacro.specs.Names.{Name}
-use Rattle.ppmacro.specs.declared.defining.headings.Heading.{Heading}
+
+-- the parameters' names, whether `...` ends them, and what stands behind `)`
+pub record Heading : Type 0 where
+  pub names : List Name
+  pub variadic : Bool
+  pub body : List Token
 
 -- these names before the others
 abbrev pub with_names : List Name → Heading → Heading

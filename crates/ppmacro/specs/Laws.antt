@@ -3,6 +3,7 @@ use Rattle.std.specs.Prelude.{◌≡◌, ℕ, Bool, true, false, not, ◌&&◌, 
 use Rattle.pptext.specs.declared.tokens.Token.{Token}
 use Rattle.ppmacro.specs.Names.{Name}
 use Rattle.ppmacro.specs.Spellings.{is_identifier, is_punct, is_paste}
+use Rattle.ppmacro.specs.Headings.{Heading}
 use Rattle.ppmacro.specs.Chains.{parameter_of, is_function_like, is_operator_hash}
 use Rattle.ppmacro.specs.Define.{misplaces_paste, misplaces_hash}
 use Rattle.ppmacro.specs.declared.macros.Shape.{Shape}
@@ -10,7 +11,6 @@ use Rattle.ppmacro.specs.declared.macros.Definition.{Definition}
 use Rattle.ppmacro.specs.declared.macros.Chain.{Chain}
 use Rattle.ppmacro.specs.declared.macros.Operand.{Operand}
 use Rattle.ppmacro.specs.declared.macros.Operand.TheVariants.{Tok, Param, Str}
-use Rattle.ppmacro.specs.declared.defining.headings.Heading.{Heading}
 
 -- ---- the heading (6.10p1, 6.10.3p10)
 

@@ -11,6 +11,7 @@ pub mod Chains
 pub mod HideSets
 pub mod Define
 pub mod Headings
+pub mod Refusals
 pub mod Predefined
 pub mod Lexing
 pub mod Substitution

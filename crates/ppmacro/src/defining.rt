@@ -2,6 +2,8 @@
 ghost use Rattle.std.specs.Prelude.{◌≡◌, IfOk, OnOk, OnErr};
 ghost use Rattle.std.specs.FinMap as finite_map;
 ghost use Rattle.ppmacro.specs.declared.macros.Shape.TheVariants.{ObjectLike};
+ghost use Rattle.std.specs.Option.{option_map};
+ghost use Rattle.ppmacro.specs.Refusals.{meant, result_meant};
 ghost use Rattle.ppmacro.specs.Define.{parameter_list, read_definition, function_like, is_variadic, refusal_of, fitting, number_of, under_name, judged, after_define, undefined, after_undef, Leaves};
 
 mod agreement;
@@ -18,6 +20,7 @@ use crate::spellings::{fault, is_identifier, is_punct};
 use crate::tables::Table;
 use pptext::{Fault, Hashing, Memory, Place, Token};
 use std::alloc::{AllocError, Global};
+use std::marker::Model;
 
 /// Why a definition is refused, once its name is allowed.
 #[derive(Clone, Copy)]
@@ -33,7 +36,7 @@ pub(crate) enum Refusal {
 impl Refusal {
     // The fault's number.
     fn number(self) -> u8
-        ensures { result ≡ number_of self }
+        ensures { result ≡ number_of (meant self) }
     {
         match self {
             Refusal::ParameterList => 11,
@@ -53,13 +56,21 @@ pub(crate) struct Named<'a> {
     definition: Definition<'a>,
 }
 
+impl<'a> Model for Named<'a> {
+    ghost use Rattle.ppmacro.specs.Define.{Named};
+
+    ghost Value = { Named };
+
+    ghost view = { λ n. record { name = n.name; definition = n.definition } };
+}
+
 // The macro behind `(`. Its parameters are hashed so.
 fn function_like<'a>(
     alloc: Global,
     line: &'a [Token],
     hashing: Hashing,
 ) -> Result<Result<Definition<'a>, Refusal>, AllocError>
-    ensures { IfOk result (λ r. r ≡ function_like (parameter_list line.now)) }
+    ensures { IfOk result (λ r. result_meant r ≡ function_like (parameter_list line.now)) }
 {
     let Some(heading) = read_heading(alloc, line)? else {
         return Ok(Err(Refusal::ParameterList));
@@ -95,7 +106,7 @@ fn read_definition<'a>(
     line: &'a [Token],
     hashing: Hashing,
 ) -> Result<Result<Definition<'a>, Refusal>, AllocError>
-    ensures { IfOk result (λ r. r ≡ read_definition line.now) }
+    ensures { IfOk result (λ r. result_meant r ≡ read_definition line.now) }
 {
     let Some(first) = line.first() else {
         return Ok(Ok(object_like(line)));
@@ -116,7 +127,7 @@ fn refusal_of(
     name: &[u8],
     definition: &Definition,
 ) -> Result<Option<Refusal>, AllocError>
-    ensures { IfOk result (λ r. r ≡ refusal_of table.now name.now definition.now) }
+    ensures { IfOk result (λ r. option_map meant r ≡ refusal_of table.now name.now definition.now) }
 {
     let shape = &definition.shape;
     let body = definition.body.as_slice();
@@ -152,7 +163,7 @@ fn fitting<'a>(
     name: &[u8],
     line: &'a [Token],
 ) -> Result<Result<Definition<'a>, Refusal>, AllocError>
-    ensures { IfOk result (λ r. r ≡ fitting table.now name.now (read_definition line.now)) }
+    ensures { IfOk result (λ r. result_meant r ≡ fitting table.now name.now (read_definition line.now)) }
 {
     let definition = match read_definition(alloc, line, table.hashing())? {
         Ok(definition) => definition,
@@ -171,7 +182,7 @@ fn under_name<'a>(
     name: &'a Token,
     fitting: Result<Definition<'a>, Refusal>,
 ) -> Result<Result<Named<'a>, Fault>, AllocError>
-    ensures { IfOk result (λ r. r ≡ under_name at name.now.text fitting.entry) }
+    ensures { IfOk result (λ r. r ≡ under_name at name.now.text (result_meant fitting.entry)) }
 {
     match fitting {
         Ok(definition) => Ok(Ok(Named {

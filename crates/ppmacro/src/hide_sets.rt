@@ -19,7 +19,7 @@ use std::marker::Model;
 /// The number of a hide set.
 #[derive(Clone, Copy, Debug, PartialEq, Eq)]
 pub struct Set {
-    number: usize,
+    number: u32,
 }
 
 impl Model for Set {
@@ -98,7 +98,7 @@ impl HideSets {
     pub fn knows(&self, hide: Set) -> bool
         ensures { IsTrue result ↔ IsKnown self.now hide }
     {
-        hide.number < self.nodes.len()
+        (hide.number as usize) < self.nodes.len()
     }
 
     /// Whether a set has this name.

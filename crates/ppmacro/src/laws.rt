@@ -1,7 +1,7 @@
 // Laws of the definitions: functions that do nothing, whose contracts are the laws.
 ghost use Rattle.std.specs.Prelude.{◌≡◌, ◌↔◌, List, Some, true};
 ghost use Rattle.pptext.specs.declared.tokens.Token.{Token};
-ghost use Rattle.ppmacro.specs.declared.defining.headings.Heading.{Heading};
+ghost use Rattle.ppmacro.specs.Headings.{Heading};
 ghost use Rattle.ppmacro.specs.Define.{parameter_list};
 ghost use Rattle.ppmacro.specs.Chains.{chains_of};
 ghost use Rattle.ppmacro.specs.declared.macros.Definition.{Definition};

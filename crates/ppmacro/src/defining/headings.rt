@@ -12,6 +12,7 @@ use crate::places::{FEW, index_of_each};
 use crate::spellings::{is_identifier, is_punct};
 use pptext::{Hashing, Spelling, Token};
 use std::alloc::{AllocError, Global};
+use std::marker::Model;
 
 /// The parameters' names, whether `...` ends them, and what stands behind `)`.
 #[derive(Drop)]
@@ -19,6 +20,14 @@ pub(crate) struct Heading<'a> {
     pub(crate) names: Names,
     pub(crate) variadic: bool,
     pub(crate) body: Body<'a>,
+}
+
+impl<'a> Model for Heading<'a> {
+    ghost use Rattle.ppmacro.specs.Headings.{Heading};
+
+    ghost Value = { Heading };
+
+    ghost view = { λ h. record { names = h.names; variadic = h.variadic; body = h.body } };
 }
 
 // The heading of these names, where `)` stands here.

@@ -14,12 +14,15 @@ use std::alloc::{AllocError, Global};
 /// How many numbers a word of members has: the number n is bit n % 64 of the word n / 64.
 const WORD: usize = 64;
 
+/// How many nodes may be numbered; more are refused as want of memory is.
+const MOST: usize = 0xFFFF_FFFF;
+
 /// A set of numbers: its word 0, and by their nodes the words w that are its words 2w + 1, and those that are its words 2w + 2.
 #[derive(Clone, Copy, Debug, PartialEq, Eq, Hash)]
 pub(crate) struct Node {
     here: u64,
-    left: usize,
-    right: usize,
+    left: u32,
+    right: u32,
 }
 
 /// What two sets are made into.
@@ -60,15 +63,15 @@ pub(crate) fn start(alloc: Global) -> Result<IndexSet<Node>, AllocError>
 }
 
 // The node with this number.
-fn read(nodes: &IndexSet<Node>, number: usize) -> Node
+fn read(nodes: &IndexSet<Node>, number: u32) -> Node
     requires { number < length nodes.now.keys }
     ensures { result ≡ node_at nodes.now.keys number }
 {
-    nodes.as_slice()[number]
+    nodes.as_slice()[number as usize]
 }
 
 // The number of a node, which joins the others unless it is among them.
-fn number_for(nodes: &mut IndexSet<Node>, node: Node) -> Result<usize, AllocError>
+fn number_for(nodes: &mut IndexSet<Node>, node: Node) -> Result<u32, AllocError>
     requires pool { IsPool nodes.old.keys }
     requires within { IsWithin (length nodes.old.keys) node }
     ensures pool { IsPool nodes.new.keys }
@@ -78,19 +81,22 @@ fn number_for(nodes: &mut IndexSet<Node>, node: Node) -> Result<usize, AllocErro
     ensures fresh { IfOk result (λ m. (n : ℕ) → length nodes.old.keys ≤ n → n < length nodes.new.keys → n ≡ m) }
     ensures err { OnErr result (nodes.new.keys ≡ nodes.old.keys) }
 {
+    if nodes.len() >= MOST {
+        return Err(AllocError);
+    }
     let Ok((number, _)) = nodes.insert_full(node) else {
         return Err(AllocError);
     };
-    Ok(number)
+    Ok(number as u32)
 }
 
 // The same, where the node may be that of one of two sets, which are looked at first.
 fn number_beside(
     nodes: &mut IndexSet<Node>,
     node: Node,
-    one: usize,
-    two: usize,
-) -> Result<usize, AllocError>
+    one: u32,
+    two: u32,
+) -> Result<u32, AllocError>
     requires pool { IsPool nodes.old.keys }
     requires within { IsWithin (length nodes.old.keys) node }
     requires one { one < length nodes.old.keys }
@@ -112,7 +118,7 @@ fn number_beside(
 }
 
 // A word of a set.
-fn word_of(nodes: &IndexSet<Node>, set: usize, index: usize) -> u64
+fn word_of(nodes: &IndexSet<Node>, set: u32, index: usize) -> u64
     requires pool { IsPool nodes.now.keys }
     requires known { set < length nodes.now.keys }
     ensures { result ≡ word nodes.now.keys set index }
@@ -129,7 +135,7 @@ fn word_of(nodes: &IndexSet<Node>, set: usize, index: usize) -> u64
 }
 
 /// Whether a set has a number.
-pub(crate) fn has(nodes: &IndexSet<Node>, set: usize, number: usize) -> bool
+pub(crate) fn has(nodes: &IndexSet<Node>, set: u32, number: usize) -> bool
     requires pool { IsPool nodes.now.keys }
     requires known { set < length nodes.now.keys }
     ensures { result ≡ member nodes.now.keys set number }
@@ -141,9 +147,9 @@ pub(crate) fn has(nodes: &IndexSet<Node>, set: usize, number: usize) -> bool
 /// The number of a set with one member more.
 pub(crate) fn insert(
     nodes: &mut IndexSet<Node>,
-    set: usize,
+    set: u32,
     number: usize,
-) -> Result<usize, AllocError>
+) -> Result<u32, AllocError>
     requires pool { IsPool nodes.old.keys }
     requires known { set < length nodes.old.keys }
     ensures pool { IsPool nodes.new.keys }
@@ -159,10 +165,10 @@ pub(crate) fn insert(
 // The number of a set with one bit more in its word with this index.
 fn insert_bit(
     nodes: &mut IndexSet<Node>,
-    set: usize,
+    set: u32,
     index: usize,
     bit: usize,
-) -> Result<usize, AllocError>
+) -> Result<u32, AllocError>
     requires pool { IsPool nodes.old.keys }
     requires known { set < length nodes.old.keys }
     requires bit { bit < 64 }
@@ -191,7 +197,7 @@ fn insert_bit(
 }
 
 // The number of the union of two sets, where one is empty or they are the same.
-fn settled_union(one: usize, two: usize) -> Option<usize>
+fn settled_union(one: u32, two: u32) -> Option<u32>
     ensures { result ≡ union_known [] one two }
 {
     if one == 0 {
@@ -204,7 +210,7 @@ fn settled_union(one: usize, two: usize) -> Option<usize>
 }
 
 // The number of the meet of two sets, where one is empty or they are the same.
-fn settled_meet(one: usize, two: usize) -> Option<usize>
+fn settled_meet(one: u32, two: u32) -> Option<u32>
     ensures { result ≡ meet_known [] one two }
 {
     if one == 0 {
@@ -220,7 +226,7 @@ fn settled_meet(one: usize, two: usize) -> Option<usize>
 }
 
 // The number of what two sets are made into, where one is empty or they are the same.
-fn settled(operation: Operation, one: usize, two: usize) -> Option<usize>
+fn settled(operation: Operation, one: u32, two: u32) -> Option<u32>
     ensures { result ≡ known operation [] one two }
 {
     match operation {
@@ -230,7 +236,7 @@ fn settled(operation: Operation, one: usize, two: usize) -> Option<usize>
 }
 
 // The number of what two sets are made into, where no work is left.
-fn known(pairs: &Pairs, operation: Operation, one: usize, two: usize) -> Option<usize>
+fn known(pairs: &Pairs, operation: Operation, one: u32, two: u32) -> Option<u32>
     ensures { result ≡ known operation pairs.now one two }
 {
     match settled(operation, one, two) {
@@ -243,9 +249,9 @@ fn known(pairs: &Pairs, operation: Operation, one: usize, two: usize) -> Option<
 fn make(
     nodes: &mut IndexSet<Node>,
     operation: Operation,
-    one: usize,
-    two: usize,
-) -> Result<usize, AllocError>
+    one: u32,
+    two: u32,
+) -> Result<u32, AllocError>
     requires pool { IsPool nodes.old.keys }
     requires one { one < length nodes.old.keys }
     requires two { two < length nodes.old.keys }
@@ -274,9 +280,9 @@ pub(crate) fn join(
     nodes: &mut IndexSet<Node>,
     pairs: &mut Pairs,
     operation: Operation,
-    one: usize,
-    two: usize,
-) -> Result<usize, AllocError>
+    one: u32,
+    two: u32,
+) -> Result<u32, AllocError>
     requires pool { IsPool nodes.old.keys }
     requires answers { AreAnswers (joined operation) nodes.old.keys pairs.old }
     requires one { one < length nodes.old.keys }

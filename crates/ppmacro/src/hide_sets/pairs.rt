@@ -9,7 +9,7 @@ use std::marker::Model;
 /// Pairs of numbers, each with the number that answers it, in the order in which they were answered.
 #[derive(Drop)]
 pub(crate) struct Pairs {
-    answers: IndexMap<(usize, usize), usize>,
+    answers: IndexMap<(u32, u32), u32>,
 }
 
 impl Model for Pairs {
@@ -33,14 +33,14 @@ impl Pairs {
     }
 
     /// The answer of a pair.
-    pub(crate) fn get(&self, left: usize, right: usize) -> Option<usize>
+    pub(crate) fn get(&self, left: u32, right: u32) -> Option<u32>
         ensures { result ≡ answer_of self.now left right }
     {
         self.answers.get(&(left, right)).copied()
     }
 
     /// Puts the answer of a pair behind the others.
-    pub(crate) fn put(&mut self, left: usize, right: usize, answer: usize) -> Result<(), AllocError>
+    pub(crate) fn put(&mut self, left: u32, right: u32, answer: u32) -> Result<(), AllocError>
         requires { answer_of self.old left right ≡ None }
         ensures ok { OnOk result (self.new ≡ self.old ++ ((left, right), answer) ∷ []) }
         ensures err { OnErr result (self.new ≡ self.old) }

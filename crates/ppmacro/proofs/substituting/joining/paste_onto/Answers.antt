@@ -1,4 +1,4 @@
-use Rattle.std.proofs.Common.{◌≡◌, ◌∙◌, refl, sym, ap, subst, if◌then◌else◌}
+use Rattle.std.proofs.Common.{◌≡◌, ◌∙◌, refl, ap, subst, if◌then◌else◌}
 use Rattle.std.specs.List.{AllPass}
 use Rattle.pptext.specs.Spellings.{is_ident_byte}
 use Rattle.std.specs.FinSet as set

@@ -1,4 +1,4 @@
-use Rattle.std.proofs.Common.{◌≡◌, ◌∙◌, ◌≤◌, [], ap, unwrap_or, length, arith, rules}
+use Rattle.std.proofs.Common.{◌∙◌, ◌≤◌, [], ap, unwrap_or, length, rules}
 use Rattle.ppmacro.specs.Substituting.{option_of}
 use Rattle.ppmacro.proofs.JoinLemmas.{expansion-at, expansion-behind}
 use Rattle.ppmacro.proofs.substituting.operands.expansion.Goals as goal
