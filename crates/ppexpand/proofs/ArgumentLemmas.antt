@@ -1,5 +1,6 @@
 -- How the arguments of an invocation are expanded one after the other.
-use Rattle.std.proofs.Common.{◌≡◌, ℕ, zero, suc, ◌+◌, ◌<◌, ◌≤◌, true, false, List, [], ◌∷◌, drop, Option, Some, None, Ok, Err, Vec, Global, is_some, true≢false, refl, sym, ap, ◌∙◌, subst, get_or, length, add-one, arith}
+use Rattle.std.proofs.Common.{◌≡◌, ℕ, zero, suc, ◌+◌, ◌<◌, ◌≤◌, Bool, true, false, List, [], ◌∷◌, drop, Option, Some, None, Ok, Err, Vec, Global, is_some, true≢false, refl, sym, ap, ◌∙◌, subst, get_or, length, add-one, arith}
+use Rattle.std.proofs.lemmas.List.{get_or_default}
 use Rattle.pptext.specs.declared.tokens.Token.{Token}
 use Rattle.pptext.specs.declared.tokens.Fault.{Fault}
 use Rattle.ppmacro.specs.Names.{Macros}
@@ -82,3 +83,9 @@ rest-used s vs cs i v h e u = ap (to_expand i cs) (given-item s vs i v h e) ∙ 
 
 pub rest-end : (s : Numbered) (vs : List (Vec Hidden Global)) (cs : List Chain) (i : ℕ) → length vs ≤ i → to_expand i cs (drop i (given_in s vs)) ≡ []
 rest-end s vs cs i h = ap (to_expand i cs) (given-end s vs i h)
+
+-- what is marked of a parameter is whether it is used alone
+pub marked-alone : (used : List Bool) (count i : ℕ) (cs : List Chain) (mark : Bool) → i < count → length used ≡ count
+    → ((j : ℕ) → j < count → get_or used j false ≡ uses_alone j cs)
+    → mark ≡ get_or used i mark → uses_alone i cs ≡ mark
+marked-alone used count i cs mark less long marks is = sym (marks i less) ∙ get_or_default used i false mark (subst (λ n. i < n) (sym long) less) ∙ sym is

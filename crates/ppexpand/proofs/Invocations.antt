@@ -1,9 +1,7 @@
 -- The arguments of an invocation are found exactly where they are laid out.
 use Rattle.std.proofs.Common.{◌≡◌, ◌↔◌, ℕ, zero, suc, ◌<◌, Bool, true, false, not, List, [], ◌∷◌, ◌++◌, length, Option, refl, sym, ap, ◌∙◌, subst, true≢false, arith, append_assoc, length-append}
 use Rattle.ppmacro.specs.HideSets.{Hiding}
-use Rattle.ppexpand.specs.declared.spellings.Mark.{Mark}
-use Rattle.ppexpand.specs.declared.spellings.Mark.TheVariants.{Quote, Open, Close, Comma, Inner}
-use Rattle.ppexpand.specs.Arguments.{mark_of, Gathered, Closed, Quoted, Unclosed, with_token, with_argument, separates, fewer, gather}
+use Rattle.ppexpand.specs.Arguments.{mark_of, Gathered, Closed, Quoted, Unclosed, with_token, with_argument, separates, fewer, gather, Mark, Quote, Open, Close, Comma, Inner}
 use Rattle.ppexpand.specs.Laws.{Nested, nothing, inner, comma, pair, Separated, last, more, IsInvocation}
 
 -- ---- one token

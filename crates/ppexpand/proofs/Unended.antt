@@ -1,9 +1,7 @@
 -- Where no arguments are found: a lone quote stands first, or no `)` matches.
-use Rattle.std.proofs.Common.{◌≡◌, ◌↔◌, ℕ, zero, suc, ◌<◌, Bool, true, false, List, [], ◌∷◌, ◌++◌, length, Option, Some, None, refl, sym, ap, ◌∙◌, subst, arith, append_assoc, append-nil, length-append}
+use Rattle.std.proofs.Common.{◌≡◌, ◌↔◌, ℕ, zero, suc, ◌<◌, Bool, true, false, List, [], ◌∷◌, ◌++◌, length, Option, refl, sym, ap, ◌∙◌, subst, arith, append_assoc, append-nil}
 use Rattle.ppmacro.specs.HideSets.{Hiding}
-use Rattle.ppexpand.specs.declared.spellings.Mark.{Mark}
-use Rattle.ppexpand.specs.declared.spellings.Mark.TheVariants.{Quote, Open, Close, Comma, Inner}
-use Rattle.ppexpand.specs.Arguments.{mark_of, Gathered, Closed, Quoted, Unclosed, with_token, with_argument, separates, fewer, gather}
+use Rattle.ppexpand.specs.Arguments.{mark_of, Gathered, Closed, Quoted, Unclosed, with_token, with_argument, separates, fewer, gather, Mark, Quote, Open, Close, Comma, Inner}
 use Rattle.ppexpand.specs.Laws.{Nested, nothing, inner, comma, pair, NeverClosed, paired, deeper, IsQuoted}
 use Rattle.ppexpand.proofs.Invocations.{at_quote, at_inner, at_open, at_close, at_end, at_separator, at_comma, IsClosed, shorter}
 

@@ -7,8 +7,6 @@ use Rattle.pptext.specs.declared.tokens.Kind.TheVariants.{Other}
 use Rattle.ppmacro.specs.Names.{Name}
 use Rattle.ppmacro.specs.HideSets.{Hiding}
 use Rattle.ppmacro.specs.Spellings.{is_punct}
-use Rattle.ppexpand.specs.declared.spellings.Mark.{Mark}
-use Rattle.ppexpand.specs.declared.spellings.Mark.TheVariants.{Quote, Open, Close, Comma, Inner}
 
 abbrev pub is_other_kind : Kind → Bool
 is_other_kind Other = true
@@ -21,7 +19,14 @@ is_lone_quote t = is_other_kind t.kind && (bytes_eq t.text (codes "'") || bytes_
 abbrev pub is_open : Token → Bool
 is_open t = is_punct (codes "(") t
 
--- what a token is to the search for the matching `)`
+-- what a token is to the search for the matching `)`: a lone quote, a parenthesis, a comma, or any other
+pub data Mark : Type 0 where
+  Quote : Mark
+  Open : Mark
+  Close : Mark
+  Comma : Mark
+  Inner : Mark
+
 abbrev pub mark_of : Token → Mark
 mark_of t =
     if is_lone_quote t then Quote else (

@@ -6,12 +6,13 @@ ghost use Rattle.ppmacro.specs.Numbered.{Numbered};
 ghost use Rattle.ppmacro.specs.HideSets.{hidings, AllKnown, Keeps};
 ghost use Rattle.ppmacro.specs.Define.{fault as fault_at};
 ghost use Rattle.ppmacro.specs.declared.flying.Hidden.{Hidden};
-ghost use Rattle.ppexpand.specs.Turn.{is_alone, uses_alone, wanted};
+ghost use Rattle.ppexpand.specs.Turn.{wanted};
 ghost use Rattle.ppexpand.specs.Expansion.{ExpandsTo, ExpandsArguments, IsExpansion};
 ghost use Rattle.ppexpand.specs.Lists.{ArePlain};
 ghost use Rattle.ppexpand.specs.Skipping.{HasSkipped};
 ghost use Rattle.ppexpand.specs.Shown.{expanded_in, ExpansionsKnown, call_in, CallKnown, finished_in, Raises, held, ExpandsArgument, HasExpanded, Invokes, HasTaken, HasCalled};
 
+use crate::alone::used_alone;
 use crate::cursor::Cursor;
 use crate::env::Env;
 use crate::passed::{Passed, Run};
@@ -19,7 +20,7 @@ use crate::spellings::at_use;
 use crate::spending::less_one;
 use crate::stretch::{Stretch, is_plain, split_plain};
 use crate::turn::{Invocation, Next, finish, next_turn};
-use ppmacro::{Chain, Expansion, Hidden, HideSets, Operand, Table};
+use ppmacro::{Chain, Expansion, Hidden, HideSets, Table};
 use pptext::{Fault, Memory, Token};
 use std::alloc::{AllocError, Global};
 
@@ -28,25 +29,6 @@ const DEEPEST: u32 = 256;
 
 // So many levels need stack. What leads from a level to the next returns little by value, and leaves what it found with its caller; what
 // doesn't lead there isn't to be inlined into it.
-
-/// Whether a chain is this parameter alone.
-fn is_alone(parameter: usize, operands: &[Operand]) -> bool
-    ensures { result ≡ is_alone parameter operands.now }
-{
-    match operands {
-        [operand] => matches!(operand, Operand::Param(index) if *index == parameter),
-        _ => false,
-    }
-}
-
-/// Whether a replacement list has this parameter away from `#` and `##`.
-fn uses_alone(parameter: usize, chains: &[Chain]) -> bool
-    ensures { result ≡ uses_alone parameter chains.now }
-{
-    chains
-        .iter()
-        .any(|chain| is_alone(parameter, chain.operands.as_slice()))
-}
 
 /// Puts one more behind the expansions.
 fn push_expansion<'a>(
@@ -230,9 +212,11 @@ fn expand_arguments<'x, 'a: 'x>(
     ensures known { IfOk result (λ r. IfSome r (λ v. ExpansionsKnown sets.new v.items)) }
     ensures keeps { Keeps sets.old sets.new }
 {
-    let mut expanded = Vec::with_capacity(alloc, call.arguments.len())?;
+    let count = call.arguments.len();
+    let used = used_alone(alloc, count, chains)?;
+    let mut expanded = Vec::with_capacity(alloc, count)?;
     for (parameter, argument) in call.arguments.iter().enumerate() {
-        if !uses_alone(parameter, chains) {
+        if !used[parameter] {
             push_expansion(&mut expanded, Expansion::Unused)?;
             continue;
         }

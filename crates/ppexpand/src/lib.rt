@@ -1,6 +1,7 @@
 // Macro replacement of C11 (6.10.3) by hide sets, and its end.
 #![tactic(auto)]
 
+mod alone;
 mod arguments;
 mod cursor;
 mod env;

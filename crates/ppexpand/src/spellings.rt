@@ -3,6 +3,7 @@ ghost use Rattle.std.specs.Prelude.{◌≡◌, IfOk, []};
 ghost use Rattle.ppmacro.specs.Define.{fault};
 ghost use Rattle.ppexpand.specs.Arguments.{is_lone_quote, is_open, mark_of};
 ghost use Rattle.ppexpand.specs.Lists.{is_inert};
+ghost use Rattle.ppexpand.specs.Shown.{shown_mark};
 
 use ppmacro::{Hidden, is_identifier, is_punct};
 use pptext::{Fault, Kind, Place, Spelling, Token};
@@ -37,13 +38,13 @@ pub(crate) enum Mark {
 
 /// What a token is to that search.
 pub(crate) fn mark_of(hidden: &Hidden) -> Mark
-    ensures { result ≡ mark_of hidden.now.token }
+    ensures { shown_mark result ≡ mark_of hidden.now.token }
 {
     mark_of_word(hidden.word())
 }
 
 fn mark_of_word(token: &Token) -> Mark
-    ensures { result ≡ mark_of token.now }
+    ensures { shown_mark result ≡ mark_of token.now }
 {
     if !matches!(token.kind, Kind::Punct | Kind::Other) {
         return Mark::Inner;

@@ -12,7 +12,7 @@ use Rattle.ppexpand.specs.Turn.{finished, wanted, uses_alone, to_expand}
 use Rattle.ppexpand.specs.Expansion.{ExpandsTo, ExpandsArguments}
 use Rattle.ppexpand.specs.Shown.{finished_in, call_in, expanded_in, given_in, held, ExpansionsKnown, ExpandsArgument, deep, Invokes, refuses, finishes}
 use Rattle.ppexpand.proofs.Keeping.{call_in-keeps, call_known-keeps, given_known-keeps, expanded-keeps, expanded_known-keeps, expanded_known-push, expanded_in-push}
-use Rattle.ppexpand.proofs.ArgumentLemmas.{arguments_first, raised_some, raised_none, argument_expands, argument_raises, known-item, rest-unused, rest-used, rest-end}
+use Rattle.ppexpand.proofs.ArgumentLemmas.{arguments_first, raised_some, raised_none, argument_expands, argument_raises, known-item, rest-unused, rest-used, rest-end, marked-alone}
 use Rattle.ppexpand.proofs.Skipping.{plain-expands, next-known, more-known, follows_skip, skip_falls}
 use Rattle.ppexpand.proofs.Follows.{Follows, follows_on, follows_end, advances_falls, call_taken, ArgumentsFollow, arguments_unused, arguments_used, arguments_refused, arguments_end}
 use Rattle.ppexpand.proofs.expansion.+expansion.Goals as goal
@@ -148,8 +148,8 @@ expand_arguments-loop-parameter-init m c = record {
   follows = λ behind. rw c.in_ok-expanded.ensures.items (arguments_first c.args.table.now c.args.env.now c.args.level (call_in c.args.sets.now c.args.call.now behind) c.args.left.now);
 }
 
-pub expand_arguments-loop-parameter-preserved-then-not-uses_alone : goal.expand_arguments-loop-parameter-preserved-then-not-uses_alone
-expand_arguments-loop-parameter-preserved-then-not-uses_alone m c =
+pub expand_arguments-loop-parameter-preserved-then-not-index : goal.expand_arguments-loop-parameter-preserved-then-not-index
+expand_arguments-loop-parameter-preserved-then-not-index m c =
     let s = c.args.sets.now in
     let u = c.loop-parameter.sets in
     let i = c.loop-parameter.parameter in
@@ -157,7 +157,11 @@ expand_arguments-loop-parameter-preserved-then-not-uses_alone m c =
     let cs = chains_of c.args.call.now.replaced.now in
     let less : i < length vs = subst (λ xs. i < length xs) c.deref-argument-items.ensures.value c.loop-parameter-test.true in
     let is : c.argument-item.result ≡ get_or vs i c.argument-item.result = c.argument-item.is ∙ ap (λ xs. get_or xs i c.argument-item.result) c.deref-argument-items.ensures.value in
-    let unused : uses_alone i cs ≡ false = ap (uses_alone i) (sym c.requires.chains) ∙ sym c.uses_alone.ensures ∙ c.if-not-uses_alone.true in
+    let unused : uses_alone i cs ≡ false = ap (uses_alone i) (sym c.requires.chains)
+        ∙ marked-alone c.in_ok-used.used.items c.len-count.result i c.args.chains.now c.index.result.now
+            (subst (λ n. i < n) (c.deref-argument-items.ensures.len ∙ sym c.len-count.ensures) c.loop-parameter-test.true)
+            c.in_ok-used.ensures.len c.in_ok-used.ensures.used c.index.ensures
+        ∙ c.if-not-index.true in
     let next = rest-unused s vs cs i c.argument-item.result less is unused in
     let made = c.in_ok-push_expansion.ensures in
     let done = c.loop-parameter.expanded.items in
@@ -203,7 +207,11 @@ expand_arguments-returns-in-None-clause-is m c =
     let v = c.argument-item.result in
     let less : i < length vs = subst (λ xs. i < length xs) c.deref-argument-items.ensures.value c.loop-parameter-test.true in
     let is : c.argument-item.result ≡ get_or vs i c.argument-item.result = c.argument-item.is ∙ ap (λ xs. get_or xs i c.argument-item.result) c.deref-argument-items.ensures.value in
-    let is_used : uses_alone i cs ≡ true = ap (uses_alone i) (sym c.requires.chains) ∙ sym c.uses_alone.ensures ∙ c.if-not-uses_alone.false in
+    let is_used : uses_alone i cs ≡ true = ap (uses_alone i) (sym c.requires.chains)
+        ∙ marked-alone c.in_ok-used.used.items c.len-count.result i c.args.chains.now c.index.result.now
+            (subst (λ n. i < n) (c.deref-argument-items.ensures.len ∙ sym c.len-count.ensures) c.loop-parameter-test.true)
+            c.in_ok-used.ensures.len c.in_ok-used.ensures.used c.index.ensures
+        ∙ c.if-not-index.false in
     let next = rest-used s vs cs i v less is is_used in
     let argument : hidings u c.as_slice-tokens.result.now ≡ hidings s v.items = ap (hidings u) c.as_slice-tokens.ensures.value ∙ hidings-keeps v.items c.loop-parameter.invariant.keeps (known-item s vs i v less is c.requires.known.arguments) in
     let raised = rw c.in-None.is at c.in_ok-expansion.ensures.is in
@@ -232,7 +240,11 @@ expand_arguments-loop-parameter-preserved m c =
     let keeps = c.in_ok-expansion.ensures.keeps in
     let less : i < length vs = subst (λ xs. i < length xs) c.deref-argument-items.ensures.value c.loop-parameter-test.true in
     let is : c.argument-item.result ≡ get_or vs i c.argument-item.result = c.argument-item.is ∙ ap (λ xs. get_or xs i c.argument-item.result) c.deref-argument-items.ensures.value in
-    let is_used : uses_alone i cs ≡ true = ap (uses_alone i) (sym c.requires.chains) ∙ sym c.uses_alone.ensures ∙ c.if-not-uses_alone.false in
+    let is_used : uses_alone i cs ≡ true = ap (uses_alone i) (sym c.requires.chains)
+        ∙ marked-alone c.in_ok-used.used.items c.len-count.result i c.args.chains.now c.index.result.now
+            (subst (λ n. i < n) (c.deref-argument-items.ensures.len ∙ sym c.len-count.ensures) c.loop-parameter-test.true)
+            c.in_ok-used.ensures.len c.in_ok-used.ensures.used c.index.ensures
+        ∙ c.if-not-index.false in
     let next = rest-used s vs cs i v less is is_used in
     let argument : hidings u c.as_slice-tokens.result.now ≡ hidings s v.items = ap (hidings u) c.as_slice-tokens.ensures.value ∙ hidings-keeps v.items c.loop-parameter.invariant.keeps (known-item s vs i v less is c.requires.known.arguments) in
     let made_is = rw c.in-Some.is at c.in_ok-expansion.ensures.is in
