@@ -26,7 +26,7 @@ use Rattle.ppunit.specs.Including.{begins_with_header}
 use Rattle.ppunit.specs.Directives.{with_macros, renumbered_by, is_once, noting_once}
 use Rattle.ppunit.specs.Unit.{surroundings}
 use Rattle.ppunit.specs.StandardLines.{StandardDecidesBy, StandardDecidesUnless, StandardDecides, StandardRunGives, StandardControlBy, StandardAsksBy, StandardAsks}
-use Rattle.ppunit.specs.Standard.{StandardGroup, StandardBranched, StandardControls, StandardOpened, StandardDefines, StandardTranslates, IsStandardUnit}
+use Rattle.ppunit.specs.Standard.{StandardGroup, StandardBranched, StandardControls, StandardIncludes, StandardOpened, StandardDefines, StandardTranslates, IsStandardUnit}
 
 -- what was reached, with so much left
 abbrev moved : Option ℕ → Reached → Reached
@@ -112,9 +112,13 @@ module _ (around : Surroundings) (left : Option ℕ) where
     control_moved (StandardControls.error e) = StandardControls.error e
     control_moved (StandardControls.quote e q) = StandardControls.quote e q
     control_moved {row = row} (StandardControls.other {s = s} {line = line} {m = m} q does) = StandardControls.other q (control_by_moved left around.profile row line.directive s line m does)
-    control_moved (StandardControls.misnamed {s = s} {line = line} {f = f} e q asks) = StandardControls.misnamed e q (asks_moved left s line.tokens (Err f) asks)
-    control_moved (StandardControls.missing {s = s} {line = line} a e q asks finds) = StandardControls.missing a e q (asks_moved left s line.tokens (Ok a) asks) finds
-    control_moved (StandardControls.included {s = s} {line = line} a found e q asks finds opens) = StandardControls.included a found e q (asks_moved left s line.tokens (Ok a) asks) finds (opened_moved opens)
+    control_moved (StandardControls.include e q here) = StandardControls.include e q (includes_moved here)
+
+    includes_moved : {depth row : ℕ} {s : State} {line : LogicalLine} {m : Reached} → StandardIncludes around depth row s line m → StandardIncludes around depth row (with_left s left) line (moved left m)
+    includes_moved (StandardIncludes.misnamed {s = s} {line = line} {f = f} asks) = StandardIncludes.misnamed (asks_moved left s line.tokens (Err f) asks)
+    includes_moved (StandardIncludes.missing {s = s} {line = line} a asks finds) = StandardIncludes.missing a (asks_moved left s line.tokens (Ok a) asks) finds
+    includes_moved (StandardIncludes.included {s = s} {line = line} a found asks finds opens) =
+        StandardIncludes.included a found (asks_moved left s line.tokens (Ok a) asks) finds (opened_moved opens)
 
     opened_moved : {depth row : ℕ} {at : Place} {s : State} {m : Reached} → StandardOpened around depth at s row m → StandardOpened around depth at (with_left s left) row (moved left m)
     opened_moved (StandardOpened.too_deep deep) = StandardOpened.too_deep deep
@@ -131,5 +135,7 @@ module _ (around : Surroundings) (left : Option ℕ) where
   unit_moved (StandardTranslates.undefined here) = StandardTranslates.undefined (defines_moved here)
   unit_moved (StandardTranslates.translated here opens) = StandardTranslates.translated (defines_moved here) (opened_moved opens)
 
-pub any_budget : (names : List (List ℕ)) (files : Files) (setting : Setting) (unit : UnitOfList) (out : UnitOut) (budget : Option ℕ) → IsStandardUnit names files setting unit out → IsStandardUnit names files (record setting { budget = budget }) unit out
+pub any_budget : (names : List (List ℕ)) (files : Files) (setting : Setting) (unit : UnitOfList) (out : UnitOut) (budget : Option ℕ)
+    → IsStandardUnit names files setting unit out
+    → IsStandardUnit names files (record setting { budget = budget }) unit out
 any_budget names files setting unit out budget p = record { reached = moved budget p.reached; translates = unit_moved (surroundings names files setting unit) budget p.translates; gives = p.gives }

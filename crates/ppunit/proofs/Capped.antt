@@ -25,8 +25,8 @@ use Rattle.ppunit.specs.LineControl.{presumed}
 use Rattle.ppunit.specs.Including.{begins_with_header, asked_behind}
 use Rattle.ppunit.specs.Conditions.{DecidesBy, DecidesUnless, Decides}
 use Rattle.ppunit.specs.Directives.{RunGives, AsksBy, Asks, ControlBy, renumbered_by}
-use Rattle.ppunit.specs.Group.{deepest, fault_at, Group, Branched, Controls, Opened}
-use Rattle.ppunit.specs.Counts.{count_decides_by, count_decides_unless, count_decides, count_asks_by, count_asks, count_control_by, count_group, count_branched, count_control, count_opened}
+use Rattle.ppunit.specs.Group.{deepest, fault_at, Group, Branched, Controls, Includes, Opened}
+use Rattle.ppunit.specs.Counts.{count_decides_by, count_decides_unless, count_decides, count_asks_by, count_asks, count_control_by, count_group, count_branched, count_control, count_includes, count_opened}
 use Rattle.ppunit.specs.Unit.{beginning, surroundings, Defines, unread, processed, Translates, undefined, translated, count_defines, count_translates, IsUnit, count}
 use Rattle.ppunit.specs.Laws.{HasOneValue, Grows}
 use Rattle.ppunit.specs.Capped.{HasFault, AtMost, IsCapped, unlimited, BudgetCaps, OnlyBudgetsRefuse, with_budget, GivesNoLess, LargerBudgetsGiveNoLess}
@@ -140,17 +140,17 @@ module _ (around : Surroundings) where
         → Stops end.state (λ t f. Group around depth row (holding b r) ps (stopped t f))
     group_short b is Group.stays less = absurd (omega arith)
     group_short b is Group.done less = absurd (omega arith)
-    group_short {end = end} b is (Group.run {s = s} {rows = rows} {m = m} gives rest) less =
+    group_short {end = end} b is (Group.run {s = s} {lines = lines} {m = m} gives rest) less =
         let c = count_expansion gives.expands in
         elim (dec_lt b c) [
           | yes less ↦
-              (let x = run_short s (run_tokens rows) m b is gives less in
+              (let x = run_short s (run_tokens lines) m b is gives less in
               (x.0, x.1, over_then x.0 m.state end.state x.1 x.2 (group_before around rest), Group.run x.3 Group.stays))
           | no not_less ↦
               (let sum : b ≡ c + (b - c) = omega arith in
-              let left = run_rest s (run_tokens rows) m b (b - c) is gives sum in
+              let left = run_rest s (run_tokens lines) m b (b - c) is gives sum in
               let x = group_short (b - c) left rest (omega arith) in
-              (x.0, x.1, x.2, Group.run {end = stopped x.0 x.1} (run_enough s (run_tokens rows) m b is gives (b - c) sum) x.3))
+              (x.0, x.1, x.2, Group.run {end = stopped x.0 x.1} (run_enough s (run_tokens lines) m b is gives (b - c) sum) x.3))
         ]
     group_short {end = end} b is (Group.control {s = s} {m = m} here rest) less =
         let c = count_control here in
@@ -263,23 +263,31 @@ module _ (around : Surroundings) where
     control_short {row = row} b is (Controls.other {s = s} {line = line} {m = m} q does) less =
         let x = control_by_short around.profile row line.directive s line m b is does less in
         (x.0, x.1, x.2, Controls.other q x.3)
-    control_short b is (Controls.misnamed {s = s} {line = line} {after = after} {f = f} e q asks) less =
+    control_short b is (Controls.include e q here) less =
+        let x = includes_short b is here less in
+        (x.0, x.1, x.2, Controls.include e q x.3)
+
+    includes_short : {depth row : ℕ} {s : State} {line : LogicalLine} {m : Reached} (b : ℕ) → Covers s.left b
+        → (d : Includes around depth row s line m)
+        → b < count_includes d
+        → Stops m.state (λ t f. Includes around depth row (with_left s (Some b)) line (stopped t f))
+    includes_short b is (Includes.misnamed {s = s} {line = line} {after = after} {f = f} asks) less =
         let x = asks_short s line.tokens after (Err f) b is asks less in
-        (with_left s (Some 0), x.0, over_same s (with_left s after) x.0 x.1 (same_state s), Controls.misnamed e q x.2)
-    control_short b is (Controls.missing {s = s} {line = line} {after = after} a e q asks finds) less =
+        (with_left s (Some 0), x.0, over_same s (with_left s after) x.0 x.1 (same_state s), Includes.misnamed x.2)
+    includes_short b is (Includes.missing {s = s} {line = line} {after = after} a asks finds) less =
         let x = asks_short s line.tokens after (Ok a) b is asks less in
-        (with_left s (Some 0), x.0, over_same s (with_left s after) x.0 x.1 (same_state s), Controls.misnamed e q x.2)
-    control_short b is (Controls.included {s = s} {line = line} {after = after} a found {m = m} e q asks finds opens) less =
+        (with_left s (Some 0), x.0, over_same s (with_left s after) x.0 x.1 (same_state s), Includes.misnamed x.2)
+    includes_short b is (Includes.included {s = s} {line = line} {after = after} a found {m = m} asks finds opens) less =
         let c = count_asks s line.tokens after (Ok a) asks in
         elim (dec_lt b c) [
           | yes less ↦
               (let x = asks_short s line.tokens after (Ok a) b is asks less in
-              (with_left s (Some 0), x.0, over_same s m.state x.0 x.1 (opened_before around opens), Controls.misnamed e q x.2))
+              (with_left s (Some 0), x.0, over_same s m.state x.0 x.1 (opened_before around opens), Includes.misnamed x.2))
           | no not_less ↦
               (let sum : b ≡ c + (b - c) = omega arith in
               let left = asks_rest s line.tokens after (Ok a) b (b - c) is asks sum in
               let x = opened_short (b - c) left opens (omega arith) in
-              (x.0, x.1, x.2, Controls.included a found {m = stopped x.0 x.1} e q (asks_enough s line.tokens after (Ok a) b is asks (b - c) sum) finds x.3))
+              (x.0, x.1, x.2, Includes.included a found {m = stopped x.0 x.1} (asks_enough s line.tokens after (Ok a) b is asks (b - c) sum) finds x.3))
         ]
 
     pub opened_short : {depth row : ℕ} {at : Place} {s : State} {m : Reached} (b : ℕ) → Covers s.left b

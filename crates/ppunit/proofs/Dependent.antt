@@ -25,7 +25,7 @@ use Rattle.ppunit.specs.States.{Surroundings, Reached, passed, reading_once, wit
 use Rattle.ppunit.specs.Lines.{operands, run_tokens}
 use Rattle.ppunit.specs.LineControl.{presumed}
 use Rattle.ppunit.specs.Directives.{RunGives, renumbered_by, with_macros, is_once, ControlBy}
-use Rattle.ppunit.specs.Group.{Group, Branched, Controls, Opened}
+use Rattle.ppunit.specs.Group.{Group, Branched, Controls, Includes, Opened}
 use Rattle.ppunit.specs.Unit.{IsUnit, Defines, unread, processed, Translates, undefined, translated, surroundings}
 
 -- ---- what leaves the dependencies as they are
@@ -94,7 +94,7 @@ module _ (around : Surroundings) where
     group_within : {depth row : ℕ} {r : Reached} {ps : Parts} {end : Reached} → Group around depth row r ps end → Within r.state.deps → Within end.state.deps
     group_within Group.stays all = all
     group_within Group.done all = all
-    group_within (Group.run {s = s} {rows = rows} {m = m} gives rest) all = group_within rest (subst Within (sym (run_keeps s (run_tokens rows) m gives)) all)
+    group_within (Group.run {s = s} {lines = lines} {m = m} gives rest) all = group_within rest (subst Within (sym (run_keeps s (run_tokens lines) m gives)) all)
     group_within (Group.control here rest) all = group_within rest (control_within here all)
     group_within (Group.taken decides here rest) all = group_within rest (group_within here all)
     group_within (Group.skipped decides here rest) all = group_within rest (branches_within here all)
@@ -112,9 +112,12 @@ module _ (around : Surroundings) where
     control_within (Controls.quote is q) all = all
     control_within {row = row} {s = s} {line = line} {m = m} (Controls.other q does) all =
         subst Within (sym (control_keeps around.profile row line.directive s line m does)) all
-    control_within (Controls.misnamed is q asks) all = all
-    control_within (Controls.missing a is q asks finds) all = all
-    control_within (Controls.included a found is q asks finds opens) all = opened_within opens (first_within around.names _ found finds) all
+    control_within (Controls.include is q here) all = includes_within here all
+
+    includes_within : {depth row : ℕ} {s : State} {line : LogicalLine} {m : Reached} → Includes around depth row s line m → Within s.deps → Within m.state.deps
+    includes_within (Includes.misnamed asks) all = all
+    includes_within (Includes.missing a asks finds) all = all
+    includes_within (Includes.included a found asks finds opens) all = opened_within opens (first_within around.names _ found finds) all
 
     opened_within : {depth row : ℕ} {at : Place} {s : State} {m : Reached} → Opened around depth at s row m → row < length around.names → Within s.deps → Within m.state.deps
     opened_within (Opened.too_deep deep) within all = all

@@ -24,8 +24,8 @@ use Rattle.ppunit.specs.LineControl.{presumed}
 use Rattle.ppunit.specs.Including.{begins_with_header}
 use Rattle.ppunit.specs.Conditions.{DecidesBy, DecidesUnless, Decides}
 use Rattle.ppunit.specs.Directives.{RunGives, AsksBy, Asks, ControlBy, with_macros, renumbered_by, is_once, noting_once, pragma_passed}
-use Rattle.ppunit.specs.Group.{fault_at, Group, Branched, Controls, Opened}
-use Rattle.ppunit.specs.Counts.{count_decides_by, count_decides_unless, count_decides, count_asks_by, count_asks, count_control_by, count_group, count_branched, count_control, count_opened}
+use Rattle.ppunit.specs.Group.{fault_at, Group, Branched, Controls, Includes, Opened}
+use Rattle.ppunit.specs.Counts.{count_decides_by, count_decides_unless, count_decides, count_asks_by, count_asks, count_control_by, count_group, count_branched, count_control, count_includes, count_opened}
 use Rattle.ppunit.specs.Unit.{Defines, unread, processed, Translates, undefined, translated, count_defines, count_translates}
 use Rattle.ppunit.proofs.Larger.{Covers, without, larger, covers_less, covers_rest, expansion_enough, condition_enough}
 use Rattle.ppunit.proofs.Spends.{asks_spends, decides_spends, run_spends, group_spends, branches_spend, control_spends, defines_spends}
@@ -92,7 +92,7 @@ module _ (around : Surroundings) where
     pub group_before : {depth row : ℕ} {r : Reached} {ps : Parts} {end : Reached} → Group around depth row r ps end → Before r.state end.state
     group_before (Group.stays {s = s}) = same_state s
     group_before (Group.done {s = s}) = same_state s
-    group_before (Group.run {s = s} {rows = rows} {m = m} {end = end} gives rest) = before_then s m.state end.state (run_before s (run_tokens rows) m gives) (group_before rest)
+    group_before (Group.run {s = s} {lines = lines} {m = m} {end = end} gives rest) = before_then s m.state end.state (run_before s (run_tokens lines) m gives) (group_before rest)
     group_before (Group.control {s = s} {m = m} {end = end} here rest) = before_then s m.state end.state (control_before here) (group_before rest)
     group_before (Group.taken {s = s} {m = m} {end = end} decides here rest) = before_then s m.state end.state (group_before here) (group_before rest)
     group_before (Group.skipped {s = s} {m = m} {end = end} decides here rest) = before_then s m.state end.state (branches_before here) (group_before rest)
@@ -109,9 +109,12 @@ module _ (around : Surroundings) where
     control_before (Controls.error {s = s} e) = same_state s
     control_before (Controls.quote {s = s} e q) = same_state s
     control_before {row = row} (Controls.other {s = s} {line = line} {m = m} q does) = control_by_before around.profile row line.directive s line m does
-    control_before (Controls.misnamed {s = s} e q asks) = same_state s
-    control_before (Controls.missing {s = s} a e q asks finds) = same_state s
-    control_before (Controls.included a found e q asks finds opens) = opened_before opens
+    control_before (Controls.include e q here) = includes_before here
+
+    includes_before : {depth row : ℕ} {s : State} {line : LogicalLine} {m : Reached} → Includes around depth row s line m → Before s m.state
+    includes_before (Includes.misnamed {s = s} asks) = same_state s
+    includes_before (Includes.missing {s = s} a asks finds) = same_state s
+    includes_before (Includes.included a found asks finds opens) = opened_before opens
 
     pub opened_before : {depth row : ℕ} {at : Place} {s : State} {m : Reached} → Opened around depth at s row m → Before s m.state
     opened_before (Opened.too_deep {s = s} deep) = same_state s
@@ -275,9 +278,9 @@ module _ (around : Surroundings) where
     group_enough {depth} {row} b is (Group.done {s = s}) n sum =
         let same : b ≡ n = omega arith in
         subst (λ x. Group around depth row (holding b (going s)) Done (holding x (going s))) same Group.done
-    group_enough b is (Group.run {s = s} {rows = rows} {m = m} gives rest) n sum =
+    group_enough b is (Group.run {s = s} {lines = lines} {m = m} gives rest) n sum =
         let k = count_group rest in
-        Group.run (run_enough s (run_tokens rows) m b is gives (k + n) (omega arith)) (group_enough (k + n) (run_rest s (run_tokens rows) m b (k + n) is gives (omega arith)) rest n refl)
+        Group.run (run_enough s (run_tokens lines) m b is gives (k + n) (omega arith)) (group_enough (k + n) (run_rest s (run_tokens lines) m b (k + n) is gives (omega arith)) rest n refl)
     group_enough b is (Group.control here rest) n sum =
         let k = count_group rest in
         Group.control (control_enough b is here (k + n) (omega arith)) (group_enough (k + n) (control_rest b (k + n) is here (omega arith)) rest n refl)
@@ -290,7 +293,8 @@ module _ (around : Surroundings) where
         let j = count_branched here in
         let k = count_group rest in
         let left = decides_rest s line after (Ok false) b (j + (k + n)) is decides (omega arith) in
-        Group.skipped (decides_enough s line after (Ok false) b is decides (j + (k + n)) (omega arith)) (branches_enough (j + (k + n)) left here (k + n) refl) (group_enough (k + n) (branches_rest (j + (k + n)) (k + n) left here refl) rest n refl)
+        Group.skipped (decides_enough s line after (Ok false) b is decides (j + (k + n)) (omega arith))
+        (branches_enough (j + (k + n)) left here (k + n) refl) (group_enough (k + n) (branches_rest (j + (k + n)) (k + n) left here refl) rest n refl)
     group_enough b is (Group.refused {s = s} {line = line} {after = after} {f = f} decides) n sum = Group.refused (decides_enough s line after (Err f) b is decides n sum)
 
     pub branches_enough : {depth row : ℕ} {s : State} {bs : Branches} {m : Reached} (b : ℕ) → Covers s.left b
@@ -322,13 +326,20 @@ module _ (around : Surroundings) where
         subst (λ x. Controls around depth row (with_left s (Some b)) line (holding x m)) same (Controls.quote e q)
     control_enough {row = row} b is (Controls.other {s = s} {line = line} {m = m} q does) n sum =
         Controls.other q (control_by_enough around.profile row line.directive s line m b is does n sum)
-    control_enough b is (Controls.misnamed {s = s} {line = line} {after = after} {f = f} e q asks) n sum =
-        Controls.misnamed e q (asks_enough s line.tokens after (Err f) b is asks n sum)
-    control_enough b is (Controls.missing {s = s} {line = line} {after = after} a e q asks finds) n sum =
-        Controls.missing a e q (asks_enough s line.tokens after (Ok a) b is asks n sum) finds
-    control_enough b is (Controls.included {s = s} {line = line} {after = after} a found e q asks finds opens) n sum =
+    control_enough b is (Controls.include e q here) n sum = Controls.include e q (includes_enough b is here n sum)
+
+    includes_enough : {depth row : ℕ} {s : State} {line : LogicalLine} {m : Reached} (b : ℕ) → Covers s.left b
+        → (d : Includes around depth row s line m) (n : ℕ)
+        → b ≡ count_includes d + n
+        → Includes around depth row (with_left s (Some b)) line (holding n m)
+    includes_enough b is (Includes.misnamed {s = s} {line = line} {after = after} {f = f} asks) n sum =
+        Includes.misnamed (asks_enough s line.tokens after (Err f) b is asks n sum)
+    includes_enough b is (Includes.missing {s = s} {line = line} {after = after} a asks finds) n sum =
+        Includes.missing a (asks_enough s line.tokens after (Ok a) b is asks n sum) finds
+    includes_enough b is (Includes.included {s = s} {line = line} {after = after} a found asks finds opens) n sum =
         let j = count_opened opens in
-        Controls.included a found e q (asks_enough s line.tokens after (Ok a) b is asks (j + n) (omega arith)) finds (opened_enough (j + n) (asks_rest s line.tokens after (Ok a) b (j + n) is asks (omega arith)) opens n refl)
+        Includes.included a found (asks_enough s line.tokens after (Ok a) b is asks (j + n) (omega arith)) finds
+        (opened_enough (j + n) (asks_rest s line.tokens after (Ok a) b (j + n) is asks (omega arith)) opens n refl)
 
     pub opened_enough : {depth row : ℕ} {at : Place} {s : State} {m : Reached} (b : ℕ) → Covers s.left b
         → (d : Opened around depth at s row m) (n : ℕ)

@@ -50,7 +50,10 @@ ended_spelled profile tokens chars Blank all = tt
 ended_spelled profile tokens chars Comment all = tt
 ended_spelled profile tokens chars (Spelled k) all = tt
 
-after_spelled : (line : List (List ℕ)) (space : Bool) (tokens : List Token) (chars rest : List Char) (sort : Sort) → AreSpelled tokens → StandsAt line (codes_of (chars ++ rest)) (length chars) sort → AreSpelled (tokens_after space tokens chars sort)
+after_spelled : (line : List (List ℕ)) (space : Bool) (tokens : List Token) (chars rest : List Char) (sort : Sort)
+    → AreSpelled tokens
+    → StandsAt line (codes_of (chars ++ rest)) (length chars) sort
+    → AreSpelled (tokens_after space tokens chars sort)
 after_spelled line space tokens chars rest NewLine all here = tt
 after_spelled line space tokens chars rest Blank all here = all
 after_spelled line space tokens chars rest Comment all here = all
@@ -91,4 +94,14 @@ letter : (c : ℕ) → is_nondigit c ≡ true → Either IsNondigit (One is_digi
 letter c e = inl (inl (c, refl, e))
 
 pub defined_spelled : Spells Ident (codes "defined")
-defined_spelled = (100 ∷ [], codes "efined", refl, inl (100, refl, refl), ((101 ∷ []) ∷ (102 ∷ []) ∷ (105 ∷ []) ∷ (110 ∷ []) ∷ (101 ∷ []) ∷ (100 ∷ []) ∷ [], (letter 101 refl, (letter 102 refl, (letter 105 refl, (letter 110 refl, (letter 101 refl, (letter 100 refl, tt)))))), refl))
+defined_spelled = (
+  100 ∷ [],
+  codes "efined",
+  refl,
+  inl (100, refl, refl),
+  (
+    (101 ∷ []) ∷ (102 ∷ []) ∷ (105 ∷ []) ∷ (110 ∷ []) ∷ (101 ∷ []) ∷ (100 ∷ []) ∷ [],
+    (letter 101 refl, (letter 102 refl, (letter 105 refl, (letter 110 refl, (letter 101 refl, (letter 100 refl, tt)))))),
+    refl,
+  ),
+)

@@ -8,8 +8,8 @@ use Rattle.ppshelf.specs.Content.{unreadable}
 use Rattle.ppshelf.specs.Files.{Files, Extends}
 use Rattle.ppunit.specs.declared.states.State.{State}
 use Rattle.ppunit.specs.States.{Surroundings, Reached}
-use Rattle.ppunit.specs.Group.{Group, Branched, Controls, Opened}
-use Rattle.ppunit.specs.Counts.{count_decides, count_asks, count_group, count_branched, count_control, count_opened}
+use Rattle.ppunit.specs.Group.{Group, Branched, Controls, Includes, Opened}
+use Rattle.ppunit.specs.Counts.{count_decides, count_asks, count_group, count_branched, count_control, count_includes, count_opened}
 use Rattle.ppunit.specs.Unit.{Defines, unread, processed, Translates, undefined, translated, surroundings, count_defines, count_translates}
 use Rattle.ppunit.specs.Laws.{Grows}
 
@@ -57,11 +57,14 @@ module _ (around : Surroundings) (more : Files) (grows : Extends more around.fil
     control_grows (Controls.error is) = (Controls.error is, refl)
     control_grows (Controls.quote is q) = (Controls.quote is q, refl)
     control_grows (Controls.other q does) = (Controls.other q does, refl)
-    control_grows (Controls.misnamed is q asks) = (Controls.misnamed is q asks, refl)
-    control_grows (Controls.missing a is q asks finds) = (Controls.missing a is q asks finds, refl)
-    control_grows (Controls.included {s = s} {line = line} {after = after} a found is q asks finds opens) =
+    control_grows (Controls.include is q here) = let h = includes_grow here in (Controls.include is q h.0, h.1)
+
+    includes_grow : {depth row : ℕ} {s : State} {line : LogicalLine} {m : Reached} (d : Includes around depth row s line m) → (e : Includes wider depth row s line m) × (count_includes e ≡ count_includes d)
+    includes_grow (Includes.misnamed asks) = (Includes.misnamed asks, refl)
+    includes_grow (Includes.missing a asks finds) = (Includes.missing a asks finds, refl)
+    includes_grow (Includes.included {s = s} {line = line} {after = after} a found asks finds opens) =
         let o = opened_grows opens in
-        (Controls.included a found is q asks finds o.0, ap (λ n. count_asks s line.tokens after (Ok a) asks + n) o.1)
+        (Includes.included a found asks finds o.0, ap (λ n. count_asks s line.tokens after (Ok a) asks + n) o.1)
 
     pub opened_grows : {depth row : ℕ} {at : Place} {s : State} {m : Reached} (d : Opened around depth at s row m) → (e : Opened wider depth at s row m) × (count_opened e ≡ count_opened d)
     opened_grows (Opened.too_deep deep) = (Opened.too_deep deep, refl)

@@ -288,7 +288,7 @@ guard_line s profile r x (spelled, directed) opens is known =
 
 -- ---- the file
 
-blank_tokens : (rows : List LogicalLine) → AllByRecursion IsBlankLine rows → run_tokens rows ≡ []
+blank_tokens : (lines : List LogicalLine) → AllByRecursion IsBlankLine lines → run_tokens lines ≡ []
 blank_tokens [] all = refl
 blank_tokens (r ∷ rs) all = ap (λ (z : List Token). z ++ run_tokens rs) all.0 ∙ blank_tokens rs all.1
 
@@ -312,8 +312,8 @@ nothing_gives s = (
     unspent (Some zero) = refl
     unspent (Some (suc n)) = refl
 
-blank_gives : (s : State) (rows : List LogicalLine) → AllByRecursion IsBlankLine rows → GivesNothing s (run_tokens rows)
-blank_gives s rows blank = subst (λ (z : List Token). GivesNothing s z) (sym (blank_tokens rows blank)) (nothing_gives s)
+blank_gives : (s : State) (lines : List LogicalLine) → AllByRecursion IsBlankLine lines → GivesNothing s (run_tokens lines)
+blank_gives s lines blank = subst (λ (z : List Token). GivesNothing s z) (sym (blank_tokens lines blank)) (nothing_gives s)
 
 behind : {A : Type 0} (P : A → Type 0) (xs ys : List A) → AllByRecursion P (xs ++ ys) → AllByRecursion P ys
 behind P [] ys all = all

@@ -10,25 +10,27 @@ use Rattle.ppunit.specs.Walk.{no_line, line_at}
 
 -- ---- lines by index
 
-pub spans_length : (k start : ℕ) (rows : List LogicalLine) → length (spans k start rows) ≡ length rows
+pub spans_length : (k start : ℕ) (lines : List LogicalLine) → length (spans k start lines) ≡ length lines
 spans_length k start [] = refl
-spans_length k start (r ∷ rows) = ap suc (spans_length (k + 1) (start + length r.tokens) rows)
+spans_length k start (r ∷ lines) = ap suc (spans_length (k + 1) (start + length r.tokens) lines)
 
 pub line_is : (lines : List LogicalLine) (index : ℕ) (d : Line) → index < length lines → get_or (spans 0 0 lines) index d ≡ span index (length (tokens_of (take index lines))) (line_at lines index) (drop (suc index) lines)
 line_is lines index d l =
-    span_at 0 0 lines index d no_line l ∙ ap (λ (z : ℕ). span z (0 + length (tokens_of (take index lines))) (line_at lines index) (drop (suc index) lines)) (omega arith) ∙ ap (λ (z : ℕ). span index z (line_at lines index) (drop (suc index) lines)) (omega arith)
+    span_at 0 0 lines index d no_line l
+    ∙ ap (λ (z : ℕ). span z (0 + length (tokens_of (take index lines))) (line_at lines index) (drop (suc index) lines)) (omega arith)
+    ∙ ap (λ (z : ℕ). span index z (line_at lines index) (drop (suc index) lines)) (omega arith)
 
 -- what stands at an index
-pub record At (lines : List LogicalLine) (index : ℕ) (r : LogicalLine) (rows : List LogicalLine) : Type 0 where
+pub record At (lines : List LogicalLine) (index : ℕ) (r : LogicalLine) (rest : List LogicalLine) : Type 0 where
   pub within : index < length lines
   pub here : line_at lines index ≡ r
-  pub behind : drop (suc index) lines ≡ rows
+  pub behind : drop (suc index) lines ≡ rest
 
-pub at_index : (lines : List LogicalLine) (index : ℕ) (r : LogicalLine) (rows : List LogicalLine) → drop index lines ≡ r ∷ rows → At lines index r rows
-at_index [] zero r rows e = absurd (cc)
-at_index [] (suc index) r rows e = absurd (cc)
-at_index (x ∷ lines) zero r rows e = record { within = omega arith; here = cc; behind = cc }
-at_index (x ∷ lines) (suc index) r rows e = let h = at_index lines index r rows e in record { within = omega (arith, h.within); here = h.here; behind = h.behind }
+pub at_index : (lines : List LogicalLine) (index : ℕ) (r : LogicalLine) (rest : List LogicalLine) → drop index lines ≡ r ∷ rest → At lines index r rest
+at_index [] zero r rest e = absurd (cc)
+at_index [] (suc index) r rest e = absurd (cc)
+at_index (x ∷ lines) zero r rest e = record { within = omega arith; here = cc; behind = cc }
+at_index (x ∷ lines) (suc index) r rest e = let h = at_index lines index r rest e in record { within = omega (arith, h.within); here = h.here; behind = h.behind }
 
 pub from_index : (lines : List LogicalLine) (index : ℕ) → index < length lines → drop index lines ≡ line_at lines index ∷ drop (suc index) lines
 from_index lines index l =
@@ -47,7 +49,8 @@ tokens_split (r ∷ a) b = ap (λ (z : List Token). r.tokens ++ z) (tokens_split
 take_parted : (lines : List LogicalLine) (i j : ℕ) → i ≤ j → take j lines ≡ take i lines ++ take (j - i) (drop i lines)
 take_parted lines i j l =
     let sum : j ≡ i + (j - i) = omega arith in
-    sym (take-append-drop i (take j lines)) ∙ ap (λ (z : List LogicalLine). z ++ drop i (take j lines)) (take-take i j lines l) ∙ ap (λ (z : ℕ). take i lines ++ drop i (take z lines)) sum ∙ ap (λ (z : List LogicalLine). take i lines ++ z) (drop-take i (j - i) lines)
+    sym (take-append-drop i (take j lines)) ∙ ap (λ (z : List LogicalLine). z ++ drop i (take j lines)) (take-take i j lines l)
+    ∙ ap (λ (z : ℕ). take i lines ++ drop i (take z lines)) sum ∙ ap (λ (z : List LogicalLine). take i lines ++ z) (drop-take i (j - i) lines)
 
 -- the tokens of the lines from i up to j, among those of the file
 pub record Between (lines : List LogicalLine) (i j p q : ℕ) : Type 0 where
@@ -75,7 +78,9 @@ tokens_between lines i j l =
 pub line_end : (lines : List LogicalLine) (index : ℕ) → index < length lines → length (tokens_of (take (index + 1) lines)) ≡ length (tokens_of (take index lines)) + length (line_at lines index).tokens
 line_end lines index l =
     let r = line_at lines index in
-    ap (λ (z : List LogicalLine). length (tokens_of z)) (take_more lines index no_line l) ∙ ap length (tokens_split (take index lines) (r ∷ [])) ∙ length-append (tokens_of (take index lines)) (r.tokens ++ []) ∙ ap (λ (z : List Token). length (tokens_of (take index lines)) + length z) (append-nil r.tokens)
+    ap (λ (z : List LogicalLine). length (tokens_of z)) (take_more lines index no_line l) ∙ ap length (tokens_split (take index lines) (r ∷ []))
+    ∙ length-append (tokens_of (take index lines)) (r.tokens ++ [])
+    ∙ ap (λ (z : List Token). length (tokens_of (take index lines)) + length z) (append-nil r.tokens)
 
 pub between_line : (lines : List LogicalLine) (i start end : ℕ) → i < length lines → start ≡ length (tokens_of (take i lines)) → end ≡ start + length (line_at lines i).tokens → Between lines i (i + 1) start end
 between_line lines i start end l from to =
@@ -84,7 +89,13 @@ between_line lines i start end l from to =
     let begin : length (tokens_of (take i lines)) ≡ start = sym from in
     subst (λ (z : ℕ). Between lines i (i + 1) z end) begin (subst (λ (z : ℕ). Between lines i (i + 1) (length (tokens_of (take i lines))) z) over b)
 
-pub between_lines : (lines : List LogicalLine) (i j start last end : ℕ) → i < j → j ≤ length lines → start ≡ length (tokens_of (take i lines)) → last ≡ length (tokens_of (take (j - 1) lines)) → end ≡ last + length (line_at lines (j - 1)).tokens → Between lines i j start end
+pub between_lines : (lines : List LogicalLine) (i j start last end : ℕ)
+    → i < j
+    → j ≤ length lines
+    → start ≡ length (tokens_of (take i lines))
+    → last ≡ length (tokens_of (take (j - 1) lines))
+    → end ≡ last + length (line_at lines (j - 1)).tokens
+    → Between lines i j start end
 between_lines lines i j start last end some within from before to =
     let b = tokens_between lines i j (omega arith) in
     let one : j - 1 + 1 ≡ j = omega arith in

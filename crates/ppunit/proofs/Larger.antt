@@ -172,7 +172,10 @@ module _ (macros : Macros) (env : Env) where
     record { fault = record { number = 35; at = x.token.used; text = [] }; is = refl; number = refl; left = refl },
   )
 
-  stops_passed : {level b : ℕ} {list rest : List Hiding} {t : Hiding} (whole : Outcome) → turn_within macros env (Some b) list ≡ Passes t rest → Stops level b rest whole → Stops level b list (record { tokens = t ∷ whole.tokens; fault = whole.fault; left = whole.left })
+  stops_passed : {level b : ℕ} {list rest : List Hiding} {t : Hiding} (whole : Outcome)
+      → turn_within macros env (Some b) list ≡ Passes t rest
+      → Stops level b rest whole
+      → Stops level b list (record { tokens = t ∷ whole.tokens; fault = whole.fault; left = whole.left })
   stops_passed {t = t} whole e s =
       (suc s.0, record { tokens = t ∷ s.1.tokens; fault = s.1.fault; left = s.1.left }, passes e s.2, (s.3.0, ap (λ xs. t ∷ xs) s.3.1), record { fault = s.4.fault; is = s.4.is; number = s.4.number; left = s.4.left })
 

@@ -7,6 +7,9 @@ pub mod Preprocessed
 pub mod IndexedLines
 pub mod Commands
 pub mod Walk
+pub mod RunEnd
+pub mod WholeFile
+pub mod Options
 pub mod Deciding
 pub mod OpenFiles
 pub mod Work

@@ -29,7 +29,7 @@ use Rattle.ppunit.specs.LineControl.{presumed}
 use Rattle.ppunit.specs.Including.{begins_with_header, asked_behind}
 use Rattle.ppunit.specs.Conditions.{Decides, DecidesBy, DecidesUnless}
 use Rattle.ppunit.specs.Directives.{RunGives, LineGives, renumbered_by, ControlBy, message, Asks, AsksBy, Finds}
-use Rattle.ppunit.specs.Group.{deepest, fault_at, Group, Branched, Controls, Opened}
+use Rattle.ppunit.specs.Group.{deepest, fault_at, Group, Branched, Controls, Includes, Opened}
 use Rattle.ppunit.specs.Unit.{Defines, unread, processed, Translates, undefined, translated, command_file, command_text, first_place}
 
 abbrev pub OneExpansion : Type 0
@@ -369,9 +369,7 @@ module _ (expansions : OneExpansion) (decisions : OneDecision) (readings : OneRe
     at_error e (Controls.error is) = refl
     at_error e (Controls.quote is q) = absurd (is e)
     at_error {row = row} {s = s} {line = line} {m = m} e (Controls.other q does) = absurd (not_other row Error s line m e does)
-    at_error e (Controls.misnamed is q asks) = let differs : Some Error ≡ Some Include = sym e ∙ is in absurd (cc)
-    at_error e (Controls.missing a is q asks finds) = let differs : Some Error ≡ Some Include = sym e ∙ is in absurd (cc)
-    at_error e (Controls.included a found is q asks finds opens) = let differs : Some Error ≡ Some Include = sym e ∙ is in absurd (cc)
+    at_error e (Controls.include is q here) = let differs : Some Error ≡ Some Include = sym e ∙ is in absurd (cc)
 
     at_quote : {depth row : ℕ} {s : State} {line : LogicalLine} {f : Fault} {m : Reached}
         → line.directive ≢ Some Error
@@ -381,9 +379,7 @@ module _ (expansions : OneExpansion) (decisions : OneDecision) (readings : OneRe
     at_quote other e (Controls.error is) = absurd (other is)
     at_quote {s = s} {f = f} other e (Controls.quote {f = g} is q) = let same : f ≡ g = cc in ap (λ x. stopped s x) same
     at_quote other e (Controls.other q does) = absurd (cc)
-    at_quote other e (Controls.misnamed is q asks) = absurd (cc)
-    at_quote other e (Controls.missing a is q asks finds) = absurd (cc)
-    at_quote other e (Controls.included a found is q asks finds opens) = absurd (cc)
+    at_quote other e (Controls.include is q here) = absurd (cc)
 
     at_other : {depth row : ℕ} {s : State} {line : LogicalLine} {k m : Reached}
         → lone_quote line.tokens ≡ None
@@ -394,34 +390,17 @@ module _ (expansions : OneExpansion) (decisions : OneDecision) (readings : OneRe
     at_other q does (Controls.quote is e) = absurd (cc)
     at_other {row = row} {s = s} {line = line} {k = k} {m = m} q does (Controls.other e does') =
         control_by_once around.profile row line.directive s line k m does does'
-    at_other {row = row} {s = s} {line = line} {k = k} q does (Controls.misnamed is e asks) = absurd (not_other row Include s line k is does)
-    at_other {row = row} {s = s} {line = line} {k = k} q does (Controls.missing a is e asks finds) = absurd (not_other row Include s line k is does)
-    at_other {row = row} {s = s} {line = line} {k = k} q does (Controls.included a found is e asks finds opens) =
-        absurd (not_other row Include s line k is does)
-
-    data AfterAsk (depth row : ℕ) (s : State) (line : LogicalLine) : Reached → Type 0 where
-      is_misnamed : {after : Option ℕ} {f : Fault} → Asks s line.tokens after (Err f) → AfterAsk depth row s line (stopped (with_left s after) f)
-      is_missing : {after : Option ℕ} (a : Asked)
-          → Asks s line.tokens after (Ok a)
-          → Finds around row a None
-          → AfterAsk depth row s line (stopped (with_left s after) (line_fault 31 line.tokens a.name))
-      is_included : {after : Option ℕ} (a : Asked) (found : ℕ) {m : Reached}
-          → Asks s line.tokens after (Ok a)
-          → Finds around row a (Some found)
-          → Opened around (suc depth) (sign_place line.tokens) (with_left s after) found m
-          → AfterAsk depth row s line m
+    at_other {row = row} {s = s} {line = line} {k = k} q does (Controls.include is e here) = absurd (not_other row Include s line k is does)
 
     at_include : {depth row : ℕ} {s : State} {line : LogicalLine} {m : Reached}
         → line.directive ≡ Some Include
         → lone_quote line.tokens ≡ None
         → Controls around depth row s line m
-        → AfterAsk depth row s line m
+        → Includes around depth row s line m
     at_include e q (Controls.error is) = let differs : Some Include ≡ Some Error = sym e ∙ is in absurd (cc)
     at_include e q (Controls.quote is q') = absurd (cc)
     at_include {row = row} {s = s} {line = line} {m = m} e q (Controls.other q' does) = absurd (not_other row Include s line m e does)
-    at_include e q (Controls.misnamed is q' asks) = is_misnamed asks
-    at_include e q (Controls.missing a is q' asks finds) = is_missing a asks finds
-    at_include e q (Controls.included a found is q' asks finds opens) = is_included a found asks finds opens
+    at_include e q (Controls.include is q' here) = here
 
     -- one line asks for one thing
     same_asked : (s : State) (line : List Token) (after behind : Option ℕ) (a b : Asked) → Asks s line after (Ok a) → Asks s line behind (Ok b) → a ≡ b
@@ -429,49 +408,49 @@ module _ (expansions : OneExpansion) (decisions : OneDecision) (readings : OneRe
 
     after_misnamed : {depth row : ℕ} {s : State} {line : LogicalLine} {after : Option ℕ} {f : Fault} {m : Reached}
         → Asks s line.tokens after (Err f)
-        → AfterAsk depth row s line m
+        → Includes around depth row s line m
         → stopped (with_left s after) f ≡ m
-    after_misnamed {s = s} {line = line} {after = after} {f = f} asks (is_misnamed {after = behind} {f = g} asks') =
+    after_misnamed {s = s} {line = line} {after = after} {f = f} asks (Includes.misnamed {after = behind} {f = g} asks') =
         let one = asks_once s line.tokens after behind (Err f) (Err g) asks asks' in
         stopped_again {A = Asked} s after behind f g one.0 one.1
-    after_misnamed {s = s} {line = line} {after = after} {f = f} asks (is_missing {after = behind} a asks' finds) =
+    after_misnamed {s = s} {line = line} {after = after} {f = f} asks (Includes.missing {after = behind} a asks' finds) =
         let one : Err f ≡ Ok a = (asks_once s line.tokens after behind (Err f) (Ok a) asks asks').0 in absurd (cc)
-    after_misnamed {s = s} {line = line} {after = after} {f = f} asks (is_included {after = behind} a found asks' finds opens) =
+    after_misnamed {s = s} {line = line} {after = after} {f = f} asks (Includes.included {after = behind} a found asks' finds opens) =
         let one : Err f ≡ Ok a = (asks_once s line.tokens after behind (Err f) (Ok a) asks asks').0 in absurd (cc)
 
     after_missing : {depth row : ℕ} {s : State} {line : LogicalLine} {after : Option ℕ} {m : Reached} (a : Asked)
         → Asks s line.tokens after (Ok a)
         → Finds around row a None
-        → AfterAsk depth row s line m
+        → Includes around depth row s line m
         → stopped (with_left s after) (line_fault 31 line.tokens a.name) ≡ m
-    after_missing {s = s} {line = line} {after = after} a asks finds (is_misnamed {after = behind} {f = f} asks') =
+    after_missing {s = s} {line = line} {after = after} a asks finds (Includes.misnamed {after = behind} {f = f} asks') =
         let one : Ok a ≡ Err f = (asks_once s line.tokens after behind (Ok a) (Err f) asks asks').0 in absurd (cc)
-    after_missing {s = s} {line = line} {after = after} a asks finds (is_missing {after = behind} b asks' finds') =
+    after_missing {s = s} {line = line} {after = after} a asks finds (Includes.missing {after = behind} b asks' finds') =
         let same = same_asked s line.tokens after behind a b asks asks' in
         let lefts = (asks_once s line.tokens after behind (Ok a) (Ok b) asks asks').1 in
         λ i. stopped (with_left s (lefts i)) (line_fault 31 line.tokens (same i).name)
-    after_missing {row = row} {s = s} {line = line} {after = after} a asks finds (is_included {after = behind} b found asks' finds' opens) =
+    after_missing {row = row} {s = s} {line = line} {after = after} a asks finds (Includes.included {after = behind} b found asks' finds' opens) =
         let same = same_asked s line.tokens after behind a b asks asks' in
         let one : None ≡ Some found = finds_once row b None (Some found) (subst (λ x. Finds around row x None) same finds) finds' in absurd (cc)
 
     after_included : {depth row : ℕ} {s : State} {line : LogicalLine} {after : Option ℕ} {m : Reached} (a : Asked) (found : ℕ)
         → Asks s line.tokens after (Ok a)
         → Finds around row a (Some found)
-        → AfterAsk depth row s line m
+        → Includes around depth row s line m
         → Opened around (suc depth) (sign_place line.tokens) (with_left s after) found m
-    after_included {s = s} {line = line} {after = after} a found asks finds (is_misnamed {after = behind} {f = f} asks') =
+    after_included {s = s} {line = line} {after = after} a found asks finds (Includes.misnamed {after = behind} {f = f} asks') =
         let one : Ok a ≡ Err f = (asks_once s line.tokens after behind (Ok a) (Err f) asks asks').0 in absurd (cc)
-    after_included {row = row} {s = s} {line = line} {after = after} a found asks finds (is_missing {after = behind} b asks' finds') =
+    after_included {row = row} {s = s} {line = line} {after = after} a found asks finds (Includes.missing {after = behind} b asks' finds') =
         let same = same_asked s line.tokens after behind a b asks asks' in
         let one : Some found ≡ None = finds_once row b (Some found) None (subst (λ x. Finds around row x (Some found)) same finds) finds' in absurd (cc)
     after_included {depth = depth} {row = row} {s = s} {line = line} {after = after} {m = m} a found asks finds
-        (is_included {after = behind} b other asks' finds' opens) =
+        (Includes.included {after = behind} b other asks' finds' opens) =
         let same = same_asked s line.tokens after behind a b asks asks' in
         let one : Some found ≡ Some other = finds_once row b (Some found) (Some other) (subst (λ x. Finds around row x (Some found)) same finds) finds' in
-        let rows' : other ≡ found = cc in
+        let same_row : other ≡ found = cc in
         let lefts = sym (asks_once s line.tokens after behind (Ok a) (Ok b) asks asks').1 in
         subst (λ (x : Option ℕ). Opened around (suc depth) (sign_place line.tokens) (with_left s x) found m) lefts
-        (subst (λ (x : ℕ). Opened around (suc depth) (sign_place line.tokens) (with_left s behind) x m) rows' opens)
+        (subst (λ (x : ℕ). Opened around (suc depth) (sign_place line.tokens) (with_left s behind) x m) same_row opens)
 
     -- ---- opening a file
 
@@ -575,7 +554,12 @@ module _ (expansions : OneExpansion) (decisions : OneDecision) (readings : OneRe
     abbrev AfterLines : ℕ → State → ℕ → Parts → Reached → Type 0
     AfterLines depth s row parts m = (n : Reached) × (m ≡ leaving s n) × Group around depth row (going (entering around (paying s) row)) parts n
 
-    after_lines : {depth row : ℕ} {at : Place} {s : State} {lines : List LogicalLine} {parts : Parts} {x : Result (List LogicalLine) Fault} {m : Reached} → Ok lines ≡ x → Tree lines parts → AfterReading depth at s row x m → AfterLines depth s row parts m
+    after_lines : {depth row : ℕ} {at : Place} {s : State} {lines : List LogicalLine} {parts : Parts} {x : Result (List LogicalLine) Fault}
+        {m : Reached}
+        → Ok lines ≡ x
+        → Tree lines parts
+        → AfterReading depth at s row x m
+        → AfterLines depth s row parts m
     after_lines e tree by_fault = absurd (cc)
     after_lines {depth = depth} {row = row} {s = s} {lines = lines} {parts = parts} e tree (by_lines {lines = lines'} {parts = parts'} {m = n} tree' here) =
         let same : lines' ≡ lines = cc in
@@ -587,7 +571,7 @@ module _ (expansions : OneExpansion) (decisions : OneDecision) (readings : OneRe
       pub group_once : {depth row : ℕ} {r : Reached} {ps : Parts} {y : Reached} → Group around depth row r ps y → (z : Reached) → Group around depth row r ps z → y ≡ z
       group_once Group.stays z d = at_stop d
       group_once Group.done z d = at_done d
-      group_once {depth} {row} (Group.run {s = s} {rows = rs} {ps = ps} {m = m} gives rest) z d =
+      group_once {depth} {row} (Group.run {s = s} {lines = rs} {ps = ps} {m = m} gives rest) z d =
           let h : AfterRun depth row s rs ps z = at_run d in
           group_once rest z (subst (λ x. Group around depth row x ps z) (run_once s (run_tokens rs) h.0 m h.1 gives) h.2)
       group_once {depth} {row} (Group.control {s = s} {line = line} {ps = ps} {m = m} here rest) z d =
@@ -608,9 +592,12 @@ module _ (expansions : OneExpansion) (decisions : OneDecision) (readings : OneRe
       control_once (Controls.error is) z d = at_error is d
       control_once (Controls.quote is q) z d = at_quote is q d
       control_once (Controls.other q does) z d = at_other q does d
-      control_once (Controls.misnamed is q asks) z d = after_misnamed asks (at_include is q d)
-      control_once (Controls.missing a is q asks finds) z d = after_missing a asks finds (at_include is q d)
-      control_once (Controls.included a found is q asks finds opens) z d = opened_once opens z (after_included a found asks finds (at_include is q d))
+      control_once (Controls.include is q here) z d = includes_once here z (at_include is q d)
+
+      includes_once : {depth row : ℕ} {s : State} {line : LogicalLine} {y : Reached} → Includes around depth row s line y → (z : Reached) → Includes around depth row s line z → y ≡ z
+      includes_once (Includes.misnamed asks) z d = after_misnamed asks d
+      includes_once (Includes.missing a asks finds) z d = after_missing a asks finds d
+      includes_once (Includes.included a found asks finds opens) z d = opened_once opens z (after_included a found asks finds d)
 
       pub opened_once : {depth row : ℕ} {at : Place} {s : State} {y : Reached} → Opened around depth at s row y → (z : Reached) → Opened around depth at s row z → y ≡ z
       opened_once (Opened.too_deep deep) z d = at_deep deep d
@@ -642,7 +629,12 @@ module _ (expansions : OneExpansion) (decisions : OneDecision) (readings : OneRe
     unread_once {s = s} {f = f} e (is_unread {f = g}) = let same : f ≡ g = cc in ap (λ x. stopped s x) same
     unread_once e (is_processed tree here) = absurd (cc)
 
-    processed_once : {s : State} {lines : List LogicalLine} {parts : Parts} {y : Reached} {x : Result (List LogicalLine) Fault} {m : Reached} → Ok lines ≡ x → Tree lines parts → Group around 0 command_file (going s) parts y → AfterCommands s x m → y ≡ m
+    processed_once : {s : State} {lines : List LogicalLine} {parts : Parts} {y : Reached} {x : Result (List LogicalLine) Fault} {m : Reached}
+        → Ok lines ≡ x
+        → Tree lines parts
+        → Group around 0 command_file (going s) parts y
+        → AfterCommands s x m
+        → y ≡ m
     processed_once e tree here is_unread = absurd (cc)
     processed_once {s = s} {lines = lines} {parts = parts} {m = m} e tree here (is_processed {lines = lines'} {parts = parts'} tree' here') =
         let same : lines' ≡ lines = cc in

@@ -12,7 +12,8 @@ use Rattle.ppunit.specs.declared.walking.Next.{Next}
 use Rattle.ppunit.specs.Group.{Group, Controls}
 use Rattle.ppunit.specs.States.{Surroundings, Reached, going, stopped}
 use Rattle.ppunit.specs.Walk.{line_at, Outer, StandsAt, Ends, Advances, Passes, EntersFile, StepsTo, Steps, Walks, back, next_file, next_waiting, brought_back}
-use Rattle.ppunit.proofs.Walk.{FileSoFar, file_start, file_more, file_stop, file_done, extends_trans, ends_stop}
+use Rattle.ppunit.proofs.WholeFile.{FileSoFar, file_start, file_more, file_stop, file_done, extends_trans}
+use Rattle.ppunit.proofs.Walk.{ends_stop}
 
 -- what is left of a file: parts, and the sections around them
 abbrev pub Rest : Type 0
@@ -49,17 +50,32 @@ stack_start around files s file begins = record {
   };
 }
 
-enters_at : (around : Files → Surroundings) (old new : Files) (whole : Files → Reached → Type 0) (next : ℕ) (t u : State) (ws : List Waiting) (file : OpenFile) (e : Entered) → StackAt around old whole ws file t → Extends new old → Passes (length ws) file.row file.source.now file.index t next → EntersFile around new (suc (length ws)) (λ more m. Controls (around more) (length ws) file.row t (line_at file.source.now file.index) m) u e → StackAt around new whole (record { file = record file { index = next }; env = e.outer } ∷ ws) e.file u
+enters_at : (around : Files → Surroundings) (old new : Files) (whole : Files → Reached → Type 0) (next : ℕ) (t u : State) (ws : List Waiting)
+    (file : OpenFile) (e : Entered)
+    → StackAt around old whole ws file t
+    → Extends new old
+    → Passes (length ws) file.row file.source.now file.index t next
+    → EntersFile around new (suc (length ws)) (λ more m. Controls (around more) (length ws) file.row t (line_at file.source.now file.index) m) u e
+    → StackAt around new whole (record { file = record file { index = next }; env = e.outer } ∷ ws) e.file u
 enters_at around old new whole next t u ws file e at wider passes enters =
     let f = at.file_so_far in
     let g = passes f.parts f.outer f.stands in
     record {
       rests = (g.0, g.1) ∷ at.rests;
       waits = (g.2, at.waits);
-      file_so_far = file_start around new (Owes around whole (record { file = record file { index = next }; env = e.outer } ∷ ws) ((g.0, g.1) ∷ at.rests)) (suc (length ws)) e.file.row e.file.source.now e.file.index u enters.parts enters.begins enters.tree (λ more grows m group end rest. f.ends more (extends_trans more new old grows wider) end (g.3 (around more) (back e.outer m) end (enters.group more grows m group) rest));
+      file_so_far =
+          file_start around new (Owes around whole (record { file = record file { index = next }; env = e.outer } ∷ ws) ((g.0, g.1) ∷ at.rests))
+          (suc (length ws)) e.file.row e.file.source.now e.file.index u enters.parts enters.begins enters.tree
+          (λ more grows m group end rest. f.ends more (extends_trans more new old grows wider) end
+          (g.3 (around more) (back e.outer m) end (enters.group more grows m group) rest));
     }
 
-next_at : (around : Files → Surroundings) (old new : Files) (whole : Files → Reached → Type 0) (next : ℕ) (t u : State) (ws : List Waiting) (file : OpenFile) (entered : Option Entered) → StackAt around old whole ws file t → Extends new old → StepsTo around new (length ws) file.row file.source.now file.index t u next entered → StackAt around new whole (next_waiting (record file { index = next }) entered ws) (next_file (record file { index = next }) entered) u
+next_at : (around : Files → Surroundings) (old new : Files) (whole : Files → Reached → Type 0) (next : ℕ) (t u : State) (ws : List Waiting)
+    (file : OpenFile) (entered : Option Entered)
+    → StackAt around old whole ws file t
+    → Extends new old
+    → StepsTo around new (length ws) file.row file.source.now file.index t u next entered
+    → StackAt around new whole (next_waiting (record file { index = next }) entered ws) (next_file (record file { index = next }) entered) u
 next_at around old new whole next t u ws file None at wider step = record {
   rests = at.rests;
   waits = at.waits;
@@ -67,45 +83,83 @@ next_at around old new whole next t u ws file None at wider step = record {
 }
 next_at around old new whole next t u ws file (Some e) at wider step = enters_at around old new whole next t u ws file e at wider step.0 step.1
 
-pub stack_next : (around : Files → Surroundings) (old new : Files) (row : ℕ) (lines : List LogicalLine) (s t u : State) (ws : List Waiting) (file : OpenFile) (next : Next) → StackSoFar around old row lines s ws file t → Extends new old → Steps around new (length ws) file.row file.source.now file.index t u (Ok next) → StackSoFar around new row lines s (next_waiting (record file { index = next.line }) next.entered ws) (next_file (record file { index = next.line }) next.entered) u
+pub stack_next : (around : Files → Surroundings) (old new : Files) (row : ℕ) (lines : List LogicalLine) (s t u : State) (ws : List Waiting)
+    (file : OpenFile) (next : Next)
+    → StackSoFar around old row lines s ws file t
+    → Extends new old
+    → Steps around new (length ws) file.row file.source.now file.index t u (Ok next)
+    → StackSoFar around new row lines s (next_waiting (record file { index = next.line }) next.entered ws)
+    (next_file (record file { index = next.line }) next.entered) u
 stack_next around old new row lines s t u ws file next sofar wider step = record {
   so_far = λ parts tree. next_at around old new (λ more m. Group (around more) 0 row (going s) parts m) next.line t u ws file next.entered (sofar.so_far parts tree) wider step;
 }
 
 -- no file is deeper than 200
-pub next_depth : (around : Files → Surroundings) (files : Files) (row : ℕ) (lines : List LogicalLine) (index next : ℕ) (s t : State) (ws : List Waiting) (file : OpenFile) (entered : Option Entered) → length ws ≤ 200 → StepsTo around files (length ws) row lines index s t next entered → length (next_waiting file entered ws) ≤ 200
+pub next_depth : (around : Files → Surroundings) (files : Files) (row : ℕ) (lines : List LogicalLine) (index next : ℕ) (s t : State)
+    (ws : List Waiting) (file : OpenFile) (entered : Option Entered)
+    → length ws ≤ 200
+    → StepsTo around files (length ws) row lines index s t next entered
+    → length (next_waiting file entered ws) ≤ 200
 next_depth around files row lines index next s t ws file None deep step = deep
 next_depth around files row lines index next s t ws file (Some e) deep step = step.1.fits
 
-leaves_at : (around : Files → Surroundings) (files : Files) (whole : Files → Reached → Type 0) (w : Waiting) (ws : List Waiting) (file : OpenFile) (t : State) (rests : List Rest) → Waits (w ∷ ws) rests → FileSoFar around files (Owes around whole (w ∷ ws) rests) (suc (length ws)) file.row file.source.now file.index t → length file.source.now ≤ file.index → StackAt around files whole ws w.file (record t { env = w.env })
+leaves_at : (around : Files → Surroundings) (files : Files) (whole : Files → Reached → Type 0) (w : Waiting) (ws : List Waiting) (file : OpenFile)
+    (t : State) (rests : List Rest)
+    → Waits (w ∷ ws) rests
+    → FileSoFar around files (Owes around whole (w ∷ ws) rests) (suc (length ws)) file.row file.source.now file.index t
+    → length file.source.now ≤ file.index
+    → StackAt around files whole ws w.file (record t { env = w.env })
 leaves_at around files whole w ws file t [] waits sofar over = absurd waits
 leaves_at around files whole w ws file t ((ps, k) ∷ rests) waits sofar over = record {
   rests = rests;
   waits = waits.1;
-  file_so_far = record { parts = ps; outer = k; stands = waits.0; ends = λ more grows end rest. file_done around files (Owes around whole (w ∷ ws) ((ps, k) ∷ rests)) (suc (length ws)) file.row file.source.now file.index t sofar over more grows end rest };
+  file_so_far =
+      record {
+        parts = ps;
+        outer = k;
+        stands = waits.0;
+        ends = λ more grows end rest. file_done around files
+            (Owes around whole (w ∷ ws) ((ps, k) ∷ rests)) (suc (length ws)) file.row file.source.now file.index t sofar over more grows end rest;
+      };
 }
 
-pub stack_leaves : (around : Files → Surroundings) (files : Files) (row : ℕ) (lines : List LogicalLine) (s t : State) (w : Waiting) (ws : List Waiting) (file : OpenFile) → StackSoFar around files row lines s (w ∷ ws) file t → length file.source.now ≤ file.index → StackSoFar around files row lines s ws w.file (record t { env = w.env })
+pub stack_leaves : (around : Files → Surroundings) (files : Files) (row : ℕ) (lines : List LogicalLine) (s t : State) (w : Waiting)
+    (ws : List Waiting) (file : OpenFile)
+    → StackSoFar around files row lines s (w ∷ ws) file t
+    → length file.source.now ≤ file.index
+    → StackSoFar around files row lines s ws w.file (record t { env = w.env })
 stack_leaves around files row lines s t w ws file sofar over = record {
   so_far = λ parts tree.
       let f = sofar.so_far parts tree in
       leaves_at around files (λ more m. Group (around more) 0 row (going s) parts m) w ws file t f.rests f.waits f.file_so_far over;
 }
 
-stops_at : (around : Files → Surroundings) (whole : Files → Reached → Type 0) (more : Files) (t : State) (fault : Fault) (ws : List Waiting) (rests : List Rest) → Waits ws rests → Owes around whole ws rests more (stopped t fault) → whole more (stopped (brought_back ws t) fault)
+stops_at : (around : Files → Surroundings) (whole : Files → Reached → Type 0) (more : Files) (t : State) (fault : Fault) (ws : List Waiting)
+    (rests : List Rest)
+    → Waits ws rests
+    → Owes around whole ws rests more (stopped t fault)
+    → whole more (stopped (brought_back ws t) fault)
 stops_at around whole more t fault [] rests waits owes = owes
 stops_at around whole more t fault (w ∷ ws) [] waits owes = absurd waits
 stops_at around whole more t fault (w ∷ ws) ((ps, k) ∷ rests) waits owes =
     let u = record t { env = w.env } in
     stops_at around whole more u fault ws rests waits.1 (owes (stopped u fault) (ends_stop (around more) (length ws) w.file.row (stopped u fault) u fault ps k Group.stays))
 
-pub stack_stops : (around : Files → Surroundings) (old new : Files) (row : ℕ) (lines : List LogicalLine) (s t u : State) (fault : Fault) (ws : List Waiting) (file : OpenFile) → StackSoFar around old row lines s ws file t → Extends new old → Advances around new (length ws) file.row file.source.now file.index t u (Err fault) → Walks around new 0 row lines s (stopped (brought_back ws u) fault)
+pub stack_stops : (around : Files → Surroundings) (old new : Files) (row : ℕ) (lines : List LogicalLine) (s t u : State) (fault : Fault)
+    (ws : List Waiting) (file : OpenFile)
+    → StackSoFar around old row lines s ws file t
+    → Extends new old
+    → Advances around new (length ws) file.row file.source.now file.index t u (Err fault)
+    → Walks around new 0 row lines s (stopped (brought_back ws u) fault)
 stack_stops around old new row lines s t u fault ws file sofar wider step parts tree more grows =
     let f = sofar.so_far parts tree in
     let whole : Files → Reached → Type 0 = λ more m. Group (around more) 0 row (going s) parts m in
     stops_at around whole more u fault ws f.rests f.waits (file_stop around old new (Owes around whole ws f.rests) (length ws) file.row file.source.now file.index t u fault f.file_so_far wider step more grows)
 
-pub stack_done : (around : Files → Surroundings) (files : Files) (row : ℕ) (lines : List LogicalLine) (s t : State) (file : OpenFile) → StackSoFar around files row lines s [] file t → length file.source.now ≤ file.index → Walks around files 0 row lines s (going t)
+pub stack_done : (around : Files → Surroundings) (files : Files) (row : ℕ) (lines : List LogicalLine) (s t : State) (file : OpenFile)
+    → StackSoFar around files row lines s [] file t
+    → length file.source.now ≤ file.index
+    → Walks around files 0 row lines s (going t)
 stack_done around files row lines s t file sofar over parts tree more grows =
     let f = sofar.so_far parts tree in
     let whole : Files → Reached → Type 0 = λ more m. Group (around more) 0 row (going s) parts m in

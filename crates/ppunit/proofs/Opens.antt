@@ -23,7 +23,7 @@ use Rattle.ppunit.specs.States.{Surroundings, Reached, going, stopped, depending
 use Rattle.ppunit.specs.Lines.{directed}
 use Rattle.ppunit.specs.Dependencies.{is_among}
 use Rattle.ppunit.specs.Quotes.{lone_quote}
-use Rattle.ppunit.specs.Group.{fault_at, deepest, Group, Controls, Opened}
+use Rattle.ppunit.specs.Group.{fault_at, deepest, Group, Controls, Includes, Opened}
 use Rattle.ppunit.specs.Walk.{line_at, Advances, EntersFile, Leads, StepsTo, Steps, back}
 use Rattle.ppunit.proofs.Walk.{control_advances, passes}
 
@@ -140,7 +140,9 @@ pub entering_is : (around : Surroundings) (row : ℕ) (s a : State) (inside inne
     → name_in around.names row ≡ name
     → record a { env = inside } ≡ entering around s row
 entering_is around row s a inside inner name depends same is named =
-    ap (λ (z : Env). record a { env = z }) (same ∙ is) ∙ ap (λ (z : List ℕ). record a { env = record a.env { name = literal z; shift = pos 0 } }) (sym named) ∙ ap (λ (z : State). record z { env = record z.env { name = literal (name_in around.names row); shift = pos 0 } }) depends
+    ap (λ (z : Env). record a { env = z }) (same ∙ is)
+    ∙ ap (λ (z : List ℕ). record a { env = record a.env { name = literal z; shift = pos 0 } }) (sym named)
+    ∙ ap (λ (z : State). record z { env = record z.env { name = literal (name_in around.names row); shift = pos 0 } }) depends
 
 pub opens_read : (around : Files → Surroundings) (files : Files) (depth row from : ℕ) (by : Profile) (at : Place) (s t : State) (e : Entered)
     (content : Content)
@@ -177,7 +179,11 @@ opens_read around files depth row from by at s t e (readable bytes) fits unspent
 
 -- ---- where a line leads
 
-leads_on : (around : Files → Surroundings) (files : Files) (depth : ℕ) (one other : Files → Reached → Type 0) (t : State) (r : Result (Option Entered) Fault) → ((more : Files) (m : Reached) → one more m → other more m) → Leads around files depth one t r → Leads around files depth other t r
+leads_on : (around : Files → Surroundings) (files : Files) (depth : ℕ) (one other : Files → Reached → Type 0) (t : State)
+    (r : Result (Option Entered) Fault)
+    → ((more : Files) (m : Reached) → one more m → other more m)
+    → Leads around files depth one t r
+    → Leads around files depth other t r
 leads_on around files depth one other t (Ok None) turn leads = λ more grows. turn more (going t) (leads more grows)
 leads_on around files depth one other t (Ok (Some e)) turn leads = record {
   fits = leads.fits;
@@ -205,14 +211,21 @@ leads_included around files depth deeper row found at line s t after a r one pla
     subst (λ (z : Place). Leads around files (suc depth) (λ more m. Opened (around more) (suc depth) z u found m) t r) place
     (subst (λ (z : ℕ). Leads around files z (λ more m. Opened (around more) z at u found m) t r) one leads) in
     leads_on around files (suc depth) (λ more m. Opened (around more) (suc depth) (sign_place line.tokens) u found m)
-    (λ more m. Controls (around more) depth row s line m) t r (λ more m opened. Controls.included a found is alone asks (finds more) opened) here
+    (λ more m. Controls (around more) depth row s line m) t r (λ more m opened. Controls.include is alone (Includes.included a found asks (finds more) opened)) here
 
-pub steps_line : (around : Files → Surroundings) (files : Files) (depth row : ℕ) (lines : List LogicalLine) (index : ℕ) (s t : State) (found : Result ℕ Fault) (r : Result Next Fault) → MatchResult r (λ next. (found ≡ Ok next.line) × (next.entered ≡ None)) (λ fault. found ≡ Err fault) → Advances around files depth row lines index s t found → Steps around files depth row lines index s t r
+pub steps_line : (around : Files → Surroundings) (files : Files) (depth row : ℕ) (lines : List LogicalLine) (index : ℕ) (s t : State)
+    (found : Result ℕ Fault) (r : Result Next Fault)
+    → MatchResult r (λ next. (found ≡ Ok next.line) × (next.entered ≡ None)) (λ fault. found ≡ Err fault)
+    → Advances around files depth row lines index s t found
+    → Steps around files depth row lines index s t r
 steps_line around files depth row lines index s t found (Ok next) (is, none) advances =
     subst (λ (z : Option Entered). StepsTo around files depth row lines index s t next.line z) (sym none) (subst (λ (z : Result ℕ Fault). Advances around files depth row lines index s t z) is advances)
 steps_line around files depth row lines index s t found (Err f) is advances = subst (λ (z : Result ℕ Fault). Advances around files depth row lines index s t z) is advances
 
-module _ (around : Files → Surroundings) (files : Files) (depth row : ℕ) (lines : List LogicalLine) (index : ℕ) (s t : State) (d : Directive) (tokens : List Token) (number : ℕ) (within : index < length lines) (is : (line_at lines index).directive ≡ Some d) (opens : opens_section d ≡ false) (ends : ends_group d ≡ false) (same_tokens : tokens ≡ (line_at lines index).tokens) (same_number : number ≡ (line_at lines index).number) where
+module _ (around : Files → Surroundings) (files : Files) (depth row : ℕ) (lines : List LogicalLine) (index : ℕ) (s t : State) (d : Directive)
+    (tokens : List Token) (number : ℕ) (within : index < length lines) (is : (line_at lines index).directive ≡ Some d)
+    (opens : opens_section d ≡ false) (ends : ends_group d ≡ false) (same_tokens : tokens ≡ (line_at lines index).tokens)
+    (same_number : number ≡ (line_at lines index).number) where
   leads_there : (r : Result (Option Entered) Fault)
       → Leads around files (suc depth) (λ more m. Controls (around more) depth row s (directed d tokens number) m) t r
       → Leads around files (suc depth) (λ more m. Controls (around more) depth row s (line_at lines index) m) t r

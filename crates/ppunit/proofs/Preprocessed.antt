@@ -15,7 +15,7 @@ use Rattle.ppunit.specs.Group.{Opened}
 use Rattle.ppunit.specs.Unit.{IsUnit, beginning, command_file, command_text, unread, processed, Translates, undefined, translated, first_place}
 use Rattle.ppunit.specs.declared.opening.Entered.{Entered}
 use Rattle.ppunit.specs.Walk.{EntersFile, Walks, DefinesOver}
-use Rattle.ppunit.proofs.Walk.{extends_trans}
+use Rattle.ppunit.proofs.WholeFile.{extends_trans}
 
 -- the files without fault are those with a tree
 abbrev pub TreesUnlessFault : Type 0
@@ -57,15 +57,30 @@ on_ok (Err e) f p = tt
 extends_itself : (files : Files) → Extends files files
 extends_itself files row c e = e
 
-pub entered_file : (around : Files → Surroundings) (files new : Files) (depth : ℕ) (whole : Files → Reached → Type 0) (t u : State) (e : Entered) (fault : Option Fault) → Extends new files → EntersFile around files depth whole t e → Walks around new depth e.file.row e.file.source.now t (record { state = u; fault = fault }) → (more : Files) → Extends more new → whole more (record { state = record u { env = e.outer }; fault = fault })
+pub entered_file : (around : Files → Surroundings) (files new : Files) (depth : ℕ) (whole : Files → Reached → Type 0) (t u : State) (e : Entered)
+    (fault : Option Fault)
+    → Extends new files
+    → EntersFile around files depth whole t e
+    → Walks around new depth e.file.row e.file.source.now t (record { state = u; fault = fault })
+    → (more : Files)
+    → Extends more new
+    → whole more (record { state = record u { env = e.outer }; fault = fault })
 entered_file around files new depth whole t u e fault wider enters walks more grows =
     enters.group more (extends_trans more new files grows wider) (record { state = u; fault = fault }) (walks enters.parts enters.tree more grows)
 
-pub undefined_unit : (around : Files → Surroundings) (files : Files) (defines : List (List ℕ)) (row : ℕ) (s t : State) (f : Option Fault) → is_some f ≡ true → DefinesOver around files defines s (record { state = t; fault = f }) → Translates (around files) defines row s (record { state = t; fault = f })
+pub undefined_unit : (around : Files → Surroundings) (files : Files) (defines : List (List ℕ)) (row : ℕ) (s t : State) (f : Option Fault)
+    → is_some f ≡ true
+    → DefinesOver around files defines s (record { state = t; fault = f })
+    → Translates (around files) defines row s (record { state = t; fault = f })
 undefined_unit around files defines row s t None e over = absurd (cc)
 undefined_unit around files defines row s t (Some f) e over = undefined (over files (extends_itself files))
 
-pub translated_unit : (around : Files → Surroundings) (files more : Files) (defines : List (List ℕ)) (row : ℕ) (s t u : State) (f g : Option Fault) → is_some f ≡ false → DefinesOver around files defines s (record { state = t; fault = f }) → Extends more files → ((most : Files) → Extends most more → Opened (around most) 0 (first_place row) t row (record { state = u; fault = g })) → Translates (around more) defines row s (record { state = u; fault = g })
+pub translated_unit : (around : Files → Surroundings) (files more : Files) (defines : List (List ℕ)) (row : ℕ) (s t u : State) (f g : Option Fault)
+    → is_some f ≡ false
+    → DefinesOver around files defines s (record { state = t; fault = f })
+    → Extends more files
+    → ((most : Files) → Extends most more → Opened (around most) 0 (first_place row) t row (record { state = u; fault = g }))
+    → Translates (around more) defines row s (record { state = u; fault = g })
 translated_unit around files more defines row s t u None g e over grows opens = translated (over more grows) (opens more (extends_itself more))
 translated_unit around files more defines row s t u (Some f) g e over grows opens = absurd (cc)
 

@@ -29,7 +29,7 @@ use Rattle.ppunit.specs.LineControl.{presumed}
 use Rattle.ppunit.specs.Including.{begins_with_header, header_asked, expanded_asked, if_somewhere, asked_or, asked_behind}
 use Rattle.ppunit.specs.Conditions.{by_name, DecidesBy, DecidesUnless, Decides}
 use Rattle.ppunit.specs.Directives.{RunGives, with_macros, renumbered_by, AsksBy, Asks, ControlBy}
-use Rattle.ppunit.specs.Group.{Group, Branched, Controls, Opened}
+use Rattle.ppunit.specs.Group.{Group, Branched, Controls, Includes, Opened}
 use Rattle.ppunit.specs.Unit.{surroundings, count_defines, Defines, unread, processed, Translates, undefined, translated}
 use Rattle.ppunit.specs.Capped.{OnlyBudgetsRefuse}
 use Rattle.ppexpand.specs.Expansion.{count_expansion}
@@ -110,7 +110,7 @@ or_other : (r : LogicalLine) (n : Option ℕ) (later : Option Fault) → IsOther
 or_other r None later h k = k
 or_other r (Some n) later h k = h
 
-groups_other : (os : List Open) (rows : List LogicalLine) → IsOther (group_fault os rows)
+groups_other : (os : List Open) (lines : List LogicalLine) → IsOther (group_fault os lines)
 groups_other os [] = end_other os
 groups_other os (r ∷ rs) = or_other r (opened (role r) r os).0 _ (opened_line_other r.directive r os) (groups_other (opened (role r) r os).1 rs)
 
@@ -213,7 +213,7 @@ module _ (around : Surroundings) where
     group_other : {depth row : ℕ} {r : Reached} {ps : Parts} {end : Reached} → r.state.left ≡ None → IsOther r.fault → Group around depth row r ps end → IsOther end.fault
     group_other is h Group.stays = h
     group_other is h Group.done = tt
-    group_other is h (Group.run {s = s} {rows = rows} {m = m} gives rest) = group_other (run_none s (run_tokens rows) m is gives) (run_other s (run_tokens rows) m is gives) rest
+    group_other is h (Group.run {s = s} {lines = lines} {m = m} gives rest) = group_other (run_none s (run_tokens lines) m is gives) (run_other s (run_tokens lines) m is gives) rest
     group_other is h (Group.control here rest) = group_other (control_none around is here) (control_other is here) rest
     group_other is h (Group.taken {s = s} {line = line} {after = after} decides here rest) =
         let left = decides_none s line after (Ok true) is decides in
@@ -234,9 +234,12 @@ module _ (around : Surroundings) where
     control_other is (Controls.error e) = λ h. absurd (omega arith)
     control_other is (Controls.quote {line = line} e q) = subst IsOther q (quote_other line.tokens)
     control_other {row = row} is (Controls.other {s = s} {line = line} {m = m} q does) = control_by_other around.profile row line.directive s line m is does
-    control_other is (Controls.misnamed {s = s} {line = line} {after = after} {f = f} e q asks) = asks_other s line.tokens after f is asks
-    control_other is (Controls.missing a e q asks finds) = λ h. absurd (omega arith)
-    control_other is (Controls.included {s = s} {line = line} {after = after} a found e q asks finds opens) = opened_other (asks_none s line.tokens after (Ok a) is asks) opens
+    control_other is (Controls.include e q here) = includes_other is here
+
+    includes_other : {depth row : ℕ} {s : State} {line : LogicalLine} {m : Reached} → s.left ≡ None → Includes around depth row s line m → IsOther m.fault
+    includes_other is (Includes.misnamed {s = s} {line = line} {after = after} {f = f} asks) = asks_other s line.tokens after f is asks
+    includes_other is (Includes.missing a asks finds) = λ h. absurd (omega arith)
+    includes_other is (Includes.included {s = s} {line = line} {after = after} a found asks finds opens) = opened_other (asks_none s line.tokens after (Ok a) is asks) opens
 
     opened_other : {depth row : ℕ} {at : Place} {s : State} {m : Reached} → s.left ≡ None → Opened around depth at s row m → IsOther m.fault
     opened_other is (Opened.too_deep deep) = λ e. absurd (omega arith)

@@ -28,8 +28,8 @@ use Rattle.ppunit.specs.LineControl.{presumed}
 use Rattle.ppunit.specs.Including.{begins_with_header}
 use Rattle.ppunit.specs.Conditions.{DecidesBy, DecidesUnless, Decides}
 use Rattle.ppunit.specs.Directives.{RunGives, AsksBy, Asks, ControlBy, with_macros, renumbered_by, is_once, noting_once}
-use Rattle.ppunit.specs.Group.{Group, Branched, Controls, Opened}
-use Rattle.ppunit.specs.Counts.{count_decides_by, count_decides_unless, count_decides, count_asks_by, count_asks, count_control_by, count_group, count_branched, count_control, count_opened}
+use Rattle.ppunit.specs.Group.{Group, Branched, Controls, Includes, Opened}
+use Rattle.ppunit.specs.Counts.{count_decides_by, count_decides_unless, count_decides, count_asks_by, count_asks, count_control_by, count_group, count_branched, count_control, count_includes, count_opened}
 use Rattle.ppunit.specs.Unit.{Defines, unread, processed, Translates, undefined, translated, IsUnit, count, count_defines, count_translates}
 use Rattle.ppunit.specs.Capped.{AtMost}
 
@@ -132,7 +132,7 @@ module _ (around : Surroundings) where
     pub group_spends : {depth row : ℕ} {r : Reached} {ps : Parts} {end : Reached} (d : Group around depth row r ps end) → r.state.left ≡ plus (count_group d) end.state.left
     group_spends (Group.stays {s = s}) = plus_nothing s.left
     group_spends (Group.done {s = s}) = plus_nothing s.left
-    group_spends (Group.run {s = s} {rows = rows} {m = m} gives rest) = both _ _ _ (run_spends s (run_tokens rows) m gives) (group_spends rest)
+    group_spends (Group.run {s = s} {lines = lines} {m = m} gives rest) = both _ _ _ (run_spends s (run_tokens lines) m gives) (group_spends rest)
     group_spends (Group.control here rest) = both _ _ _ (control_spends here) (group_spends rest)
     group_spends (Group.taken {s = s} {line = line} {after = after} decides here rest) =
         both _ _ _ (decides_spends s line after (Ok true) decides) (both _ _ _ (group_spends here) (group_spends rest))
@@ -151,9 +151,13 @@ module _ (around : Surroundings) where
     control_spends (Controls.error {s = s} e) = plus_nothing s.left
     control_spends (Controls.quote {s = s} e q) = plus_nothing s.left
     control_spends {row = row} (Controls.other {s = s} {line = line} {m = m} q does) = control_by_spends around.profile row line.directive s line m does
-    control_spends (Controls.misnamed {s = s} {line = line} {after = after} {f = f} e q asks) = asks_spends s line.tokens after (Err f) asks
-    control_spends (Controls.missing {s = s} {line = line} {after = after} a e q asks finds) = asks_spends s line.tokens after (Ok a) asks
-    control_spends (Controls.included {s = s} {line = line} {after = after} a found e q asks finds opens) = both _ _ _ (asks_spends s line.tokens after (Ok a) asks) (opened_spends opens)
+    control_spends (Controls.include e q here) = includes_spend here
+
+    pub includes_spend : {depth row : ℕ} {s : State} {line : LogicalLine} {m : Reached} (d : Includes around depth row s line m) → s.left ≡ plus (count_includes d) m.state.left
+    includes_spend (Includes.misnamed {s = s} {line = line} {after = after} {f = f} asks) = asks_spends s line.tokens after (Err f) asks
+    includes_spend (Includes.missing {s = s} {line = line} {after = after} a asks finds) = asks_spends s line.tokens after (Ok a) asks
+    includes_spend (Includes.included {s = s} {line = line} {after = after} a found asks finds opens) =
+        both _ _ _ (asks_spends s line.tokens after (Ok a) asks) (opened_spends opens)
 
     pub opened_spends : {depth row : ℕ} {at : Place} {s : State} {m : Reached} (d : Opened around depth at s row m) → s.left ≡ plus (count_opened d) m.state.left
     opened_spends (Opened.too_deep {s = s} deep) = plus_nothing s.left

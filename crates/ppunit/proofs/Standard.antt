@@ -27,10 +27,10 @@ use Rattle.ppunit.specs.LineControl.{presumed}
 use Rattle.ppunit.specs.Including.{begins_with_header}
 use Rattle.ppunit.specs.Conditions.{DecidesBy, DecidesUnless, Decides}
 use Rattle.ppunit.specs.Directives.{RunGives, LineGives, renumbered_by, AsksBy, Asks, ControlBy}
-use Rattle.ppunit.specs.Group.{Group, Branched, Controls, Opened, fault_at}
+use Rattle.ppunit.specs.Group.{Group, Branched, Controls, Includes, Opened, fault_at}
 use Rattle.ppunit.specs.Unit.{Defines, Translates, IsUnit, surroundings}
 use Rattle.ppunit.specs.StandardLines.{StandardDecidesBy, StandardDecidesUnless, StandardDecides, StandardRunGives, StandardLineGives, StandardControlBy, StandardAsksBy, StandardAsks}
-use Rattle.ppunit.specs.Standard.{StandardGroup, StandardBranched, StandardControls, StandardOpened, StandardDefines, StandardTranslates, IsStandardUnit}
+use Rattle.ppunit.specs.Standard.{StandardGroup, StandardBranched, StandardControls, StandardIncludes, StandardOpened, StandardDefines, StandardTranslates, IsStandardUnit}
 use Rattle.ppunit.proofs.Refusing.{asks_none, decides_none, run_none, group_none, branches_none, control_none, defines_none}
 
 -- ---- a state without a budget stays as it is
@@ -64,7 +64,10 @@ decides_by_unbudgeted (Some Elifdef) s line taken is g = (refl, g)
 decides_by_unbudgeted (Some Elifndef) s line taken is g = (refl, g)
 decides_by_unbudgeted _ s line taken is g = absurd g
 
-decides_unless_standard : (quote : Option Fault) (d : Option Directive) (s : State) (line : List Token) (after : Option ℕ) (taken : Result Bool Fault) → s.left ≡ None → DecidesUnless quote d s line after taken → StandardDecidesUnless quote d s line taken
+decides_unless_standard : (quote : Option Fault) (d : Option Directive) (s : State) (line : List Token) (after : Option ℕ) (taken : Result Bool Fault)
+    → s.left ≡ None
+    → DecidesUnless quote d s line after taken
+    → StandardDecidesUnless quote d s line taken
 decides_unless_standard (Some f) d s line after taken is g = g.1
 decides_unless_standard None d s line after taken is g = decides_by_standard d s line after taken is g
 
@@ -142,8 +145,8 @@ module _ (around : Surroundings) where
     group_standard : {depth row : ℕ} {r : Reached} {ps : Parts} {end : Reached} → r.state.left ≡ None → Group around depth row r ps end → StandardGroup around depth row r ps end
     group_standard is Group.stays = StandardGroup.stays
     group_standard is Group.done = StandardGroup.done
-    group_standard is (Group.run {s = s} {rows = rows} {m = m} gives rest) =
-        StandardGroup.run (run_standard s (run_tokens rows) m is gives) (group_standard (run_none s (run_tokens rows) m is gives) rest)
+    group_standard is (Group.run {s = s} {lines = lines} {m = m} gives rest) =
+        StandardGroup.run (run_standard s (run_tokens lines) m is gives) (group_standard (run_none s (run_tokens lines) m is gives) rest)
     group_standard is (Group.control here rest) = StandardGroup.control (control_standard is here) (group_standard (control_none around is here) rest)
     group_standard {depth = depth} {row = row} is (Group.taken {s = s} {line = line} {ps = ps} {after = after} {m = m} decides here rest) =
         let left = decides_none s line after (Ok true) is decides in
@@ -178,15 +181,20 @@ module _ (around : Surroundings) where
     control_standard is (Controls.error e) = StandardControls.error e
     control_standard is (Controls.quote e q) = StandardControls.quote e q
     control_standard {row = row} is (Controls.other {s = s} {line = line} {m = m} q does) = StandardControls.other q (control_by_standard around.profile row line.directive s line m is does)
-    control_standard {depth = depth} {row = row} is (Controls.misnamed {s = s} {line = line} {after = after} {f = f} e q asks) =
+    control_standard is (Controls.include e q here) = StandardControls.include e q (includes_standard is here)
+
+    includes_standard : {depth row : ℕ} {s : State} {line : LogicalLine} {m : Reached} → s.left ≡ None → Includes around depth row s line m → StandardIncludes around depth row s line m
+    includes_standard {depth = depth} {row = row} is (Includes.misnamed {s = s} {line = line} {after = after} {f = f} asks) =
         let left = asks_none s line.tokens after (Err f) is asks in
-        subst (λ t. StandardControls around depth row s line (stopped t f)) (sym (still s after is left)) (StandardControls.misnamed e q (asks_standard s line.tokens after (Err f) is asks))
-    control_standard {depth = depth} {row = row} is (Controls.missing {s = s} {line = line} {after = after} a e q asks finds) =
+        subst (λ t. StandardIncludes around depth row s line (stopped t f)) (sym (still s after is left))
+        (StandardIncludes.misnamed (asks_standard s line.tokens after (Err f) is asks))
+    includes_standard {depth = depth} {row = row} is (Includes.missing {s = s} {line = line} {after = after} a asks finds) =
         let left = asks_none s line.tokens after (Ok a) is asks in
-        subst (λ t. StandardControls around depth row s line (stopped t (line_fault 31 line.tokens a.name))) (sym (still s after is left)) (StandardControls.missing a e q (asks_standard s line.tokens after (Ok a) is asks) finds)
-    control_standard {depth = depth} is (Controls.included {s = s} {line = line} {after = after} a found {m = m} e q asks finds opens) =
+        subst (λ t. StandardIncludes around depth row s line (stopped t (line_fault 31 line.tokens a.name))) (sym (still s after is left))
+        (StandardIncludes.missing a (asks_standard s line.tokens after (Ok a) is asks) finds)
+    includes_standard {depth = depth} is (Includes.included {s = s} {line = line} {after = after} a found {m = m} asks finds opens) =
         let left = asks_none s line.tokens after (Ok a) is asks in
-        StandardControls.included a found e q (asks_standard s line.tokens after (Ok a) is asks) finds
+        StandardIncludes.included a found (asks_standard s line.tokens after (Ok a) is asks) finds
         (subst (λ t. StandardOpened around (suc depth) (sign_place line.tokens) t found m) (still s after is left) (opened_standard left opens))
 
     opened_standard : {depth row : ℕ} {at : Place} {s : State} {m : Reached} → s.left ≡ None → Opened around depth at s row m → StandardOpened around depth at s row m
@@ -206,9 +214,9 @@ module _ (around : Surroundings) where
     group_unbudgeted : {depth row : ℕ} {r : Reached} {ps : Parts} {end : Reached} → r.state.left ≡ None → StandardGroup around depth row r ps end → Group around depth row r ps end
     group_unbudgeted is StandardGroup.stays = Group.stays
     group_unbudgeted is StandardGroup.done = Group.done
-    group_unbudgeted is (StandardGroup.run {s = s} {rows = rows} {m = m} gives rest) =
-        let g = run_unbudgeted s (run_tokens rows) m is gives in
-        Group.run g (group_unbudgeted (run_none s (run_tokens rows) m is g) rest)
+    group_unbudgeted is (StandardGroup.run {s = s} {lines = lines} {m = m} gives rest) =
+        let g = run_unbudgeted s (run_tokens lines) m is gives in
+        Group.run g (group_unbudgeted (run_none s (run_tokens lines) m is g) rest)
     group_unbudgeted is (StandardGroup.control here rest) =
         let g = control_unbudgeted is here in
         Group.control g (group_unbudgeted (control_none around is g) rest)
@@ -233,10 +241,15 @@ module _ (around : Surroundings) where
     control_unbudgeted is (StandardControls.error e) = Controls.error e
     control_unbudgeted is (StandardControls.quote e q) = Controls.quote e q
     control_unbudgeted {row = row} is (StandardControls.other {s = s} {line = line} {m = m} q does) = Controls.other q (control_by_unbudgeted around.profile row line.directive s line m is does)
-    control_unbudgeted is (StandardControls.misnamed {s = s} {line = line} {f = f} e q asks) = Controls.misnamed {after = s.left} e q (asks_unbudgeted s line.tokens (Err f) is asks)
-    control_unbudgeted is (StandardControls.missing {s = s} {line = line} a e q asks finds) = Controls.missing {after = s.left} a e q (asks_unbudgeted s line.tokens (Ok a) is asks) finds
-    control_unbudgeted is (StandardControls.included {s = s} {line = line} a found e q asks finds opens) =
-        Controls.included {after = s.left} a found e q (asks_unbudgeted s line.tokens (Ok a) is asks) finds (opened_unbudgeted is opens)
+    control_unbudgeted is (StandardControls.include e q here) = Controls.include e q (includes_unbudgeted is here)
+
+    includes_unbudgeted : {depth row : ℕ} {s : State} {line : LogicalLine} {m : Reached} → s.left ≡ None → StandardIncludes around depth row s line m → Includes around depth row s line m
+    includes_unbudgeted is (StandardIncludes.misnamed {s = s} {line = line} {f = f} asks) =
+        Includes.misnamed {after = s.left} (asks_unbudgeted s line.tokens (Err f) is asks)
+    includes_unbudgeted is (StandardIncludes.missing {s = s} {line = line} a asks finds) =
+        Includes.missing {after = s.left} a (asks_unbudgeted s line.tokens (Ok a) is asks) finds
+    includes_unbudgeted is (StandardIncludes.included {s = s} {line = line} a found asks finds opens) =
+        Includes.included {after = s.left} a found (asks_unbudgeted s line.tokens (Ok a) is asks) finds (opened_unbudgeted is opens)
 
     opened_unbudgeted : {depth row : ℕ} {at : Place} {s : State} {m : Reached} → s.left ≡ None → StandardOpened around depth at s row m → Opened around depth at s row m
     opened_unbudgeted is (StandardOpened.too_deep deep) = Opened.too_deep deep

@@ -1,15 +1,14 @@
 -- A walk over the lines of a file, step by step, in the tree of its groups.
 use Rattle.std.proofs.Common.{◌≡◌, ◌≢◌, ℕ, suc, ◌+◌, ◌-◌, ◌<◌, ◌≤◌, Bool, true, false, List, [], ◌∷◌, ◌++◌, map, length, take, drop, refl, sym, ap, ◌∙◌, subst, arith, add-one, append_assoc, Option, None, Some, Result, Ok, Err}
-use Rattle.std.proofs.lemmas.List.{take_at, drop_all, length-drop}
+use Rattle.std.proofs.lemmas.List.{take_at, length-drop}
 use Rattle.std.specs.List.{AllByRecursion}
-use Rattle.std.specs.Option.{is_some}
 use Rattle.std.specs.Prelude.{IfOk}
 use Rattle.pptext.specs.declared.tokens.Fault.{Fault}
 use Rattle.pptext.specs.declared.sources.Directive.{Directive}
 use Rattle.pptext.specs.declared.sources.Directive.TheVariants.{If, Ifdef, Ifndef, Elif, Elifdef, Elifndef, Else, Endif, Include, Define, Undef, Line as LineOf, Error, Pragma, Null, Unknown}
 use Rattle.pptext.specs.Lines.{LogicalLine}
 use Rattle.pptext.specs.Sources.{next_branch}
-use Rattle.pptext.specs.Tree.{Parts, Done, Run, Control, Section, Branches, End, Branch, part_lines, branch_lines, BeginsRun, AreParts, AreBranches, Tree, role, role_by, branch_behind, opens_section, ends_group}
+use Rattle.pptext.specs.Tree.{Parts, Done, Run, Control, Section, Branches, End, Branch, part_lines, branch_lines, BeginsRun, AreParts, AreBranches, role, role_by, branch_behind, opens_section, ends_group}
 use Rattle.pptext.proofs.Walks.{next_within, next_of_opening, next_of_branch, next_of_end, next_behind}
 use Rattle.ppunit.specs.declared.states.State.{State}
 use Rattle.ppunit.specs.States.{Surroundings, Reached, going, stopped, with_left}
@@ -34,7 +33,10 @@ lay_control r ps ((bs, qs) ∷ k) = refl
 
 pub lay_section : (r : LogicalLine) (ps qs : Parts) (bs : Branches) (k : Outer) → lay (Section r ps bs qs) k ≡ r ∷ lay ps ((bs, qs) ∷ k)
 lay_section r ps qs bs [] = ap (λ (z : List LogicalLine). r ∷ z) (append_assoc (part_lines ps) (branch_lines bs) (part_lines qs))
-lay_section r ps qs bs ((cs, rs) ∷ k) = ap (λ (z : List LogicalLine). r ∷ z) (append_assoc (part_lines ps ++ branch_lines bs) (part_lines qs) (branch_lines cs ++ lay rs k) ∙ append_assoc (part_lines ps) (branch_lines bs) (part_lines qs ++ (branch_lines cs ++ lay rs k)))
+lay_section r ps qs bs ((cs, rs) ∷ k) =
+    ap (λ (z : List LogicalLine). r ∷ z)
+    (append_assoc (part_lines ps ++ branch_lines bs) (part_lines qs) (branch_lines cs ++ lay rs k)
+    ∙ append_assoc (part_lines ps) (branch_lines bs) (part_lines qs ++ (branch_lines cs ++ lay rs k)))
 
 pub lay_branch : (r : LogicalLine) (ps qs : Parts) (bs : Branches) (k : Outer) → branch_lines (Branch r ps bs) ++ lay qs k ≡ r ∷ lay ps ((bs, qs) ∷ k)
 lay_branch r ps qs bs k = ap (λ (z : List LogicalLine). r ∷ z) (append_assoc (part_lines ps) (branch_lines bs) (lay qs k))
@@ -104,12 +106,12 @@ ending_role Else r e is = record { not_text = λ h. cc; not_control = λ h. cc; 
 ending_role Endif r e is = record { not_text = λ h. cc; not_control = λ h. cc; not_opening = λ h. cc }
 ending_role d r e is = absurd (cc)
 
-branches_differ : (bs : Branches) (last : Bool) (r : LogicalLine) (rest rows : List LogicalLine) → AreBranches last bs → branch_lines bs ++ rest ≡ r ∷ rows → Differs r
-branches_differ (End x) last r rest rows is e =
+branches_differ : (bs : Branches) (last : Bool) (r : LogicalLine) (rest behind : List LogicalLine) → AreBranches last bs → branch_lines bs ++ rest ≡ r ∷ behind → Differs r
+branches_differ (End x) last r rest behind is e =
     let same : x ≡ r = cc in
     let here = ap role (sym same) ∙ is in
     record { not_text = λ h. cc; not_control = λ h. cc; not_opening = λ h. cc }
-branches_differ (Branch x ps bs) last r rest rows (before, final, is, parts, more) e =
+branches_differ (Branch x ps bs) last r rest behind (before, final, is, parts, more) e =
     let same : x ≡ r = cc in
     let here = ap role (sym same) ∙ is in
     record { not_text = λ h. cc; not_control = λ h. cc; not_opening = λ h. cc }
@@ -121,28 +123,28 @@ data First (r : LogicalLine) : Parts → Outer → Type 0 where
   opening : {x : LogicalLine} {ps qs : Parts} {bs : Branches} {k : Outer} → x ≡ r → role r ≡ role_by (Some If) → First r (Section x ps bs qs) k
   ending : {bs : Branches} {qs : Parts} {k : Outer} → Differs r → First r Done ((bs, qs) ∷ k)
 
-first_of : (ps : Parts) (k : Outer) (r : LogicalLine) (rows : List LogicalLine) → lay ps k ≡ r ∷ rows → AreParts ps → AreOuter k → First r ps k
-first_of Done [] r rows e are outer = absurd (cc)
-first_of Done ((bs, qs) ∷ k) r rows e are outer = ending (branches_differ bs outer.0.0 r (lay qs k) rows outer.0.1 e)
-first_of (Run [] ps) k r rows e are outer = absurd (are.0 refl)
-first_of (Run (x ∷ rs) ps) k r rows e are outer =
+first_of : (ps : Parts) (k : Outer) (r : LogicalLine) (behind : List LogicalLine) → lay ps k ≡ r ∷ behind → AreParts ps → AreOuter k → First r ps k
+first_of Done [] r behind e are outer = absurd (cc)
+first_of Done ((bs, qs) ∷ k) r behind e are outer = ending (branches_differ bs outer.0.0 r (lay qs k) behind outer.0.1 e)
+first_of (Run [] ps) k r behind e are outer = absurd (are.0 refl)
+first_of (Run (x ∷ rs) ps) k r behind e are outer =
     let whole = sym (lay_run (x ∷ rs) ps k) ∙ e in
     let same : x ≡ r = cc in
     text (ap role (sym same) ∙ are.1.0)
-first_of (Control x ps) k r rows e are outer =
+first_of (Control x ps) k r behind e are outer =
     let whole = sym (lay_control x ps k) ∙ e in
     let same : x ≡ r = cc in
     control same (ap role (sym same) ∙ are.0)
-first_of (Section x ps bs qs) k r rows e are outer =
+first_of (Section x ps bs qs) k r behind e are outer =
     let whole = sym (lay_section x ps qs bs k) ∙ e in
     let same : x ≡ r = cc in
     opening same (ap role (sym same) ∙ are.0)
 
 -- ---- a text run
 
-text_rows : (rs : List LogicalLine) → AllByRecursion (λ r. role r ≡ role_by None) rs → AllByRecursion IsTextLine rs
-text_rows [] all = tt
-text_rows (r ∷ rs) all = (text_directive r.directive all.0, text_rows rs all.1)
+text_lines : (rs : List LogicalLine) → AllByRecursion (λ r. role r ≡ role_by None) rs → AllByRecursion IsTextLine rs
+text_lines [] all = tt
+text_lines (r ∷ rs) all = (text_directive r.directive all.0, text_lines rs all.1)
 
 no_text : (r : LogicalLine) → role r ≢ role_by None → ¬ IsTextLine r
 no_text r differs is = differs (ap role_by is)
@@ -159,45 +161,12 @@ behind_run (Control r ps) ((bs, qs) ∷ k) are outer alone = let is = are.0 in n
 behind_run (Section r ps cs rs) [] are outer alone = let is = are.0 in no_text r (λ h. cc)
 behind_run (Section r ps cs rs) ((bs, qs) ∷ k) are outer alone = let is = are.0 in no_text r (λ h. cc)
 
--- as far as the text lines go that have been passed
-pub record RunSoFar (lines : List LogicalLine) (start end : ℕ) : Type 0 where
-  pub within : end ≤ length lines
-  pub from : start ≤ end
-  pub so_far : (rows rest : List LogicalLine) → drop start lines ≡ rows ++ rest → AllByRecursion IsTextLine rows → IsRest rest → (more : List LogicalLine) × (drop end lines ≡ more ++ rest) × AllByRecursion IsTextLine more × (start + length rows ≡ end + length more)
-
-pub run_start : (lines : List LogicalLine) (start : ℕ) → start ≤ length lines → RunSoFar lines start start
-run_start lines start within = record { within = within; from = omega arith; so_far = λ rows rest e all is. (rows, e, all, refl) }
-
-run_one : (lines : List LogicalLine) (end goal : ℕ) (more rest : List LogicalLine) → end < length lines → IsTextLine (line_at lines end) → drop end lines ≡ more ++ rest → AllByRecursion IsTextLine more → IsRest rest → goal ≡ end + length more → (less : List LogicalLine) × (drop (end + 1) lines ≡ less ++ rest) × AllByRecursion IsTextLine less × (goal ≡ end + 1 + length less)
-run_one lines end goal [] [] within is e all ends sum = let there = sym (from_index lines end within) ∙ e in absurd (cc)
-run_one lines end goal [] (r ∷ rest) within is e all ends sum =
-    let h = at_index lines end r rest e in
-    absurd (ends (subst IsTextLine h.here is))
-run_one lines end goal (r ∷ more) rest within is e all ends sum =
-    let h = at_index lines end r (more ++ rest) e in
-    (more, rw add-one h.behind, all.1, omega arith)
-
-pub run_more : (lines : List LogicalLine) (start end : ℕ) → end < length lines → IsTextLine (line_at lines end) → RunSoFar lines start end → RunSoFar lines start (end + 1)
-run_more lines start end within is sofar = record {
-  within = omega arith;
-  from = omega (arith, sofar.from);
-  so_far = λ rows rest e all ends. let f = sofar.so_far rows rest e all ends in run_one lines end (start + length rows) f.0 rest within is f.1 f.2 ends f.3;
-}
-
-run_over : (lines : List LogicalLine) (end goal : ℕ) (more rest : List LogicalLine) → (end < length lines → ¬ IsTextLine (line_at lines end)) → drop end lines ≡ more ++ rest → AllByRecursion IsTextLine more → goal ≡ end + length more → (end ≡ goal) × (drop end lines ≡ rest)
-run_over lines end goal [] rest over e all sum = (omega arith, e)
-run_over lines end goal (r ∷ more) rest over e all sum =
-    let h = at_index lines end r (more ++ rest) e in
-    absurd (over h.within (subst IsTextLine (sym h.here) all.0))
-
-pub run_done : (lines : List LogicalLine) (start end : ℕ) → RunSoFar lines start end → (end < length lines → ¬ IsTextLine (line_at lines end)) → (rows rest : List LogicalLine) → drop start lines ≡ rows ++ rest → AllByRecursion IsTextLine rows → IsRest rest → (end ≡ start + length rows) × (drop end lines ≡ rest)
-run_done lines start end sofar over rows rest e all ends =
-    let f = sofar.so_far rows rest e all ends in
-    run_over lines end (start + length rows) f.0 rest over f.1 f.2 f.3
-
 -- ---- what is behind follows from what is left
 
-ends_front : (around : Surroundings) (depth row : ℕ) (m n : Reached) (ps qs : Parts) (k : Outer) (end : Reached) → ((o : Reached) → Group around depth row n qs o → Group around depth row m ps o) → Ends around depth row n qs k end → Ends around depth row m ps k end
+ends_front : (around : Surroundings) (depth row : ℕ) (m n : Reached) (ps qs : Parts) (k : Outer) (end : Reached)
+    → ((o : Reached) → Group around depth row n qs o → Group around depth row m ps o)
+    → Ends around depth row n qs k end
+    → Ends around depth row m ps k end
 ends_front around depth row m n ps qs [] end front e = front end e
 ends_front around depth row m n ps qs ((bs, rs) ∷ k) end front e = (e.0, front e.0 e.1, e.2)
 
@@ -207,10 +176,16 @@ ends_stop around depth row m s f ps ((bs, qs) ∷ k) g = (stopped s f, g, ends_s
 
 -- ---- the end of a section
 
-branches_next : (lines : List LogicalLine) (index : ℕ) (r : LogicalLine) (ps qs : Parts) (bs : Branches) (last : Bool) (rest : List LogicalLine) → drop index lines ≡ r ∷ (part_lines ps ++ (branch_lines bs ++ rest)) → ((n : ℕ) (rows : List LogicalLine) → next_branch n (role r) rows ≡ branch_behind 0 (n + 1) (map role rows)) → AreParts ps → AreBranches last bs → next_branch index (role (line_at lines index)) (drop (suc index) lines) ≡ Some (index + 1 + length (part_lines ps))
+branches_next : (lines : List LogicalLine) (index : ℕ) (r : LogicalLine) (ps qs : Parts) (bs : Branches) (last : Bool) (rest : List LogicalLine)
+    → drop index lines ≡ r ∷ (part_lines ps ++ (branch_lines bs ++ rest))
+    → ((n : ℕ) (behind : List LogicalLine) → next_branch n (role r) behind ≡ branch_behind 0 (n + 1) (map role behind))
+    → AreParts ps
+    → AreBranches last bs
+    → next_branch index (role (line_at lines index)) (drop (suc index) lines) ≡ Some (index + 1 + length (part_lines ps))
 branches_next lines index r ps qs bs last rest e next parts are =
     let h = at_index lines index r (part_lines ps ++ (branch_lines bs ++ rest)) e in
-    ap (λ (z : LogicalLine). next_branch index (role z) (drop (suc index) lines)) h.here ∙ next index (drop (suc index) lines) ∙ ap (λ (z : List LogicalLine). branch_behind 0 (index + 1) (map role z)) h.behind ∙ next_behind ps bs last (index + 1) rest parts are
+    ap (λ (z : LogicalLine). next_branch index (role z) (drop (suc index) lines)) h.here ∙ next index (drop (suc index) lines)
+    ∙ ap (λ (z : List LogicalLine). branch_behind 0 (index + 1) (map role z)) h.behind ∙ next_behind ps bs last (index + 1) rest parts are
 
 branches_there : (lines : List LogicalLine) (index : ℕ) (r : LogicalLine) (ps : Parts) (rest : List LogicalLine) → drop index lines ≡ r ∷ (part_lines ps ++ rest) → drop (index + 1 + length (part_lines ps)) lines ≡ rest
 branches_there lines index r ps rest e =
@@ -219,12 +194,19 @@ branches_there lines index r ps rest e =
 pub record SectionSoFar (lines : List LogicalLine) (branch index : ℕ) : Type 0 where
   pub within : index < length lines
   pub from : branch ≤ index
-  pub so_far : (last : Bool) (bs : Branches) (rest : List LogicalLine) → drop branch lines ≡ branch_lines bs ++ rest → AreBranches last bs → (final : Bool) × (cs : Branches) × (drop index lines ≡ branch_lines cs ++ rest) × AreBranches final cs
+  pub so_far : (last : Bool) (bs : Branches) (rest : List LogicalLine)
+      → drop branch lines ≡ branch_lines bs ++ rest
+      → AreBranches last bs
+      → (final : Bool) × (cs : Branches) × (drop index lines ≡ branch_lines cs ++ rest) × AreBranches final cs
 
 pub section_start : (lines : List LogicalLine) (branch : ℕ) → branch < length lines → SectionSoFar lines branch branch
 section_start lines branch within = record { within = within; from = omega arith; so_far = λ last bs rest e are. (last, bs, e, are) }
 
-section_one : (lines : List LogicalLine) (index next : ℕ) (last : Bool) (bs : Branches) (rest : List LogicalLine) → drop index lines ≡ branch_lines bs ++ rest → AreBranches last bs → next_branch index (role (line_at lines index)) (drop (suc index) lines) ≡ Some next → (final : Bool) × (cs : Branches) × (drop next lines ≡ branch_lines cs ++ rest) × AreBranches final cs
+section_one : (lines : List LogicalLine) (index next : ℕ) (last : Bool) (bs : Branches) (rest : List LogicalLine)
+    → drop index lines ≡ branch_lines bs ++ rest
+    → AreBranches last bs
+    → next_branch index (role (line_at lines index)) (drop (suc index) lines) ≡ Some next
+    → (final : Bool) × (cs : Branches) × (drop next lines ≡ branch_lines cs ++ rest) × AreBranches final cs
 section_one lines index next last (End r) rest e is found =
     let h = at_index lines index r rest e in
     let none = next_of_end (line_at lines index) (ap role h.here ∙ is) index (drop (suc index) lines) in
@@ -252,25 +234,41 @@ section_more lines branch index next found sofar =
       so_far = λ last bs rest e are. let f = sofar.so_far last bs rest e are in section_one lines index next f.0 f.1 rest f.2 f.3 found;
     }
 
-section_over : (lines : List LogicalLine) (index : ℕ) (last : Bool) (bs : Branches) (rest : List LogicalLine) → drop index lines ≡ branch_lines bs ++ rest → AreBranches last bs → next_branch index (role (line_at lines index)) (drop (suc index) lines) ≡ None → drop (index + 1) lines ≡ rest
+section_over : (lines : List LogicalLine) (index : ℕ) (last : Bool) (bs : Branches) (rest : List LogicalLine)
+    → drop index lines ≡ branch_lines bs ++ rest
+    → AreBranches last bs
+    → next_branch index (role (line_at lines index)) (drop (suc index) lines) ≡ None
+    → drop (index + 1) lines ≡ rest
 section_over lines index last (End r) rest e is found = rw add-one (at_index lines index r rest e).behind
 section_over lines index last (Branch r ps bs) rest e (before, final, is, parts, more) found =
     let there = e ∙ ap (λ (z : List LogicalLine). r ∷ z) (append_assoc (part_lines ps) (branch_lines bs) rest) in
     let known = branches_next lines index r ps ps bs final rest there (next_of_branch r final is) parts more in
     absurd (cc)
 
-pub section_done : (lines : List LogicalLine) (branch index : ℕ) → SectionSoFar lines branch index → next_branch index (role (line_at lines index)) (drop (suc index) lines) ≡ None → (last : Bool) (bs : Branches) (rest : List LogicalLine) → drop branch lines ≡ branch_lines bs ++ rest → AreBranches last bs → drop (index + 1) lines ≡ rest
+pub section_done : (lines : List LogicalLine) (branch index : ℕ)
+    → SectionSoFar lines branch index
+    → next_branch index (role (line_at lines index)) (drop (suc index) lines) ≡ None
+    → (last : Bool) (bs : Branches) (rest : List LogicalLine)
+    → drop branch lines ≡ branch_lines bs ++ rest
+    → AreBranches last bs
+    → drop (index + 1) lines ≡ rest
 section_done lines branch index sofar found last bs rest e are =
     let f = sofar.so_far last bs rest e are in
     section_over lines index f.0 f.1 rest f.2 f.3 found
 
 -- ---- the branch that is taken
 
-at_branches : (lines : List LogicalLine) (index : ℕ) (ps : Parts) (bs : Branches) (qs : Parts) (k : Outer) → BranchesAt lines index ps bs qs k → (next_branch index (role (line_at lines index)) (drop (suc index) lines) ≡ Some (index + 1 + length (part_lines ps))) × (drop (index + 1 + length (part_lines ps)) lines ≡ branch_lines bs ++ lay qs k)
+at_branches : (lines : List LogicalLine) (index : ℕ) (ps : Parts) (bs : Branches) (qs : Parts) (k : Outer)
+    → BranchesAt lines index ps bs qs k
+    → (next_branch index (role (line_at lines index)) (drop (suc index) lines) ≡ Some (index + 1 + length (part_lines ps)))
+    × (drop (index + 1 + length (part_lines ps)) lines ≡ branch_lines bs ++ lay qs k)
 at_branches lines index ps bs qs k b =
     (branches_next lines index b.line ps qs bs b.outer.0.0 (lay qs k) b.rest b.next b.parts b.outer.0.1, branches_there lines index b.line ps (branch_lines bs ++ lay qs k) b.rest)
 
-pub found_at : (lines : List LogicalLine) (index next : ℕ) (ps : Parts) (bs : Branches) (qs : Parts) (k : Outer) → BranchesAt lines index ps bs qs k → next_branch index (role (line_at lines index)) (drop (suc index) lines) ≡ Some next → drop next lines ≡ branch_lines bs ++ lay qs k
+pub found_at : (lines : List LogicalLine) (index next : ℕ) (ps : Parts) (bs : Branches) (qs : Parts) (k : Outer)
+    → BranchesAt lines index ps bs qs k
+    → next_branch index (role (line_at lines index)) (drop (suc index) lines) ≡ Some next
+    → drop next lines ≡ branch_lines bs ++ lay qs k
 found_at lines index next ps bs qs k b found =
     let known = at_branches lines index ps bs qs k b in
     let is = known.0 in
@@ -290,32 +288,32 @@ enters_by lines index s after taken r d here is e =
 
 -- a branch that is no `#else` decides
 branch_decides : (lines : List LogicalLine) (index : ℕ) (s : State) (after : Option ℕ) (taken : Result Bool Fault) (r : LogicalLine)
-    (rows : List LogicalLine)
-    → drop index lines ≡ r ∷ rows
+    (behind : List LogicalLine)
+    → drop index lines ≡ r ∷ behind
     → role r ≡ role_by (Some Elif)
     → EntersAt lines index s after taken
     → Decides s r after taken
-branch_decides lines index s after taken r rows there is e =
-    condition_decides r.directive s r after taken is (enters_by lines index s after taken r r.directive (at_index lines index r rows there).here refl e)
+branch_decides lines index s after taken r behind there is e =
+    condition_decides r.directive s r after taken is (enters_by lines index s after taken r r.directive (at_index lines index r behind there).here refl e)
 
 -- `#else` and `#endif` are entered freely
 else_enters : (lines : List LogicalLine) (next : ℕ) (s : State) (after : Option ℕ) (taken : Result Bool Fault) (r : LogicalLine)
-    (rows : List LogicalLine)
-    → drop next lines ≡ r ∷ rows
+    (behind : List LogicalLine)
+    → drop next lines ≡ r ∷ behind
     → role r ≡ role_by (Some Else)
     → EntersAt lines next s after taken
     → DecidesFreely s (Ok true) after taken
-else_enters lines next s after taken r rows there is e =
-    enters_by lines next s after taken r (Some Else) (at_index lines next r rows there).here (else_directive r.directive is) e
+else_enters lines next s after taken r behind there is e =
+    enters_by lines next s after taken r (Some Else) (at_index lines next r behind there).here (else_directive r.directive is) e
 
 endif_enters : (lines : List LogicalLine) (next : ℕ) (s : State) (after : Option ℕ) (taken : Result Bool Fault) (r : LogicalLine)
-    (rows : List LogicalLine)
-    → drop next lines ≡ r ∷ rows
+    (behind : List LogicalLine)
+    → drop next lines ≡ r ∷ behind
     → role r ≡ role_by (Some Endif)
     → EntersAt lines next s after taken
     → DecidesFreely s (Ok true) after taken
-endif_enters lines next s after taken r rows there is e =
-    enters_by lines next s after taken r (Some Endif) (at_index lines next r rows there).here (endif_directive r.directive is) e
+endif_enters lines next s after taken r behind there is e =
+    enters_by lines next s after taken r (Some Endif) (at_index lines next r behind there).here (endif_directive r.directive is) e
 
 stands_behind : (lines : List LogicalLine) (index : ℕ) (r : LogicalLine) (ps : Parts) (k : Outer) → drop index lines ≡ r ∷ lay ps k → AreParts ps → AreOuter k → StandsAt lines (index + 1) ps k
 stands_behind lines index r ps k e are outer = record { rest = rw add-one (at_index lines index r (lay ps k) e).behind; parts = are; outer = outer }
@@ -446,7 +444,12 @@ branch_refused lines start next index s t after fault sofar found entered ps bs 
     λ around depth row. f.3 around depth row (stopped (with_left t after) fault) (g around depth row)
 
 -- behind an opening line or a branch there is a branch line
-pub branch_found : (lines : List LogicalLine) (start index : ℕ) (s t : State) → BranchSoFar lines start s t index → next_branch index (role (line_at lines index)) (drop (suc index) lines) ≡ None → (ps : Parts) (bs : Branches) (qs : Parts) (k : Outer) → BranchesAt lines start ps bs qs k → ⊥
+pub branch_found : (lines : List LogicalLine) (start index : ℕ) (s t : State)
+    → BranchSoFar lines start s t index
+    → next_branch index (role (line_at lines index)) (drop (suc index) lines) ≡ None
+    → (ps : Parts) (bs : Branches) (qs : Parts) (k : Outer)
+    → BranchesAt lines start ps bs qs k
+    → ⊥
 branch_found lines start index s t sofar none ps bs qs k b =
     let f = sofar.so_far ps bs qs k b in
     let known = (at_branches lines index f.0 f.1 qs k f.2).0 in
@@ -455,10 +458,18 @@ branch_found lines start index s t sofar none ps bs qs k b =
 -- ---- one step
 
 abbrev AdvancesFrom : (Files → Surroundings) → Files → ℕ → ℕ → List LogicalLine → State → State → Result ℕ Fault → Parts → Outer → Type 0
-AdvancesFrom around files depth row lines s t (Ok next) ps k = (ps' : Parts) × (k' : Outer) × StandsAt lines next ps' k' × ((more : Files) → Extends more files → (end : Reached) → Ends (around more) depth row (going t) ps' k' end → Ends (around more) depth row (going s) ps k end)
+AdvancesFrom around files depth row lines s t (Ok next) ps k =
+    (ps' : Parts) × (k' : Outer) × StandsAt lines next ps' k'
+    × ((more : Files)
+    → Extends more files
+    → (end : Reached)
+    → Ends (around more) depth row (going t) ps' k' end
+    → Ends (around more) depth row (going s) ps k end)
 AdvancesFrom around files depth row lines s t (Err f) ps k = (more : Files) → Extends more files → Ends (around more) depth row (going s) ps k (stopped t f)
 
-advances : (around : Files → Surroundings) (files : Files) (depth row : ℕ) (lines : List LogicalLine) (index : ℕ) (s t : State) (r : Result ℕ Fault) → ((ps : Parts) (k : Outer) → StandsAt lines index ps k → AdvancesFrom around files depth row lines s t r ps k) → Advances around files depth row lines index s t r
+advances : (around : Files → Surroundings) (files : Files) (depth row : ℕ) (lines : List LogicalLine) (index : ℕ) (s t : State) (r : Result ℕ Fault)
+    → ((ps : Parts) (k : Outer) → StandsAt lines index ps k → AdvancesFrom around files depth row lines s t r ps k)
+    → Advances around files depth row lines index s t r
 advances around files depth row lines index s t (Ok next) each = each
 advances around files depth row lines index s t (Err f) each = each
 
@@ -477,24 +488,38 @@ run_result next None = Ok next
 run_result next (Some f) = Err f
 
 abbrev pub RunOf : List LogicalLine → ℕ → ℕ → Type 0
-RunOf lines index end = (rows rest : List LogicalLine) → drop index lines ≡ rows ++ rest → AllByRecursion IsTextLine rows → IsRest rest → (end ≡ index + length rows) × (drop end lines ≡ rest)
+RunOf lines index end = (front rest : List LogicalLine) → drop index lines ≡ front ++ rest → AllByRecursion IsTextLine front → IsRest rest → (end ≡ index + length front) × (drop end lines ≡ rest)
 
-pub run_tokens_are : (lines rows rest : List LogicalLine) (index end : ℕ) → drop index lines ≡ rows ++ rest → end ≡ index + length rows → take (end - index) (drop index lines) ≡ rows
-run_tokens_are lines rows rest index end e is =
-    let count : length rows ≡ end - index = omega arith in
-    ap (take (end - index)) e ∙ take_at rows rest (end - index) count
+pub run_tokens_are : (lines front rest : List LogicalLine) (index end : ℕ) → drop index lines ≡ front ++ rest → end ≡ index + length front → take (end - index) (drop index lines) ≡ front
+run_tokens_are lines front rest index end e is =
+    let count : length front ≡ end - index = omega arith in
+    ap (take (end - index)) e ∙ take_at front rest (end - index) count
 
-run_by : (around : Files → Surroundings) (files : Files) (depth row : ℕ) (lines : List LogicalLine) (index end : ℕ) (s t : State) (f : Option Fault) (ps : Parts) (k : Outer) → role (line_at lines index) ≡ role_by None → First (line_at lines index) ps k → StandsAt lines index ps k → RunOf lines index end → RunGives s (run_tokens (take (end - index) (drop index lines))) (record { state = t; fault = f }) → (rs : List LogicalLine) × (qs : Parts) × (ps ≡ Run rs qs) × (drop end lines ≡ lay qs k) × RunGives s (run_tokens rs) (record { state = t; fault = f })
+run_by : (around : Files → Surroundings) (files : Files) (depth row : ℕ) (lines : List LogicalLine) (index end : ℕ) (s t : State) (f : Option Fault)
+    (ps : Parts) (k : Outer)
+    → role (line_at lines index) ≡ role_by None
+    → First (line_at lines index) ps k
+    → StandsAt lines index ps k
+    → RunOf lines index end
+    → RunGives s (run_tokens (take (end - index) (drop index lines))) (record { state = t; fault = f })
+    → (rs : List LogicalLine) × (qs : Parts) × (ps ≡ Run rs qs) × (drop end lines ≡ lay qs k) × RunGives s (run_tokens rs)
+    (record { state = t; fault = f })
 run_by around files depth row lines index end s t f (Run rs ps) k is (text same) stands run gives =
     let there = stands.rest ∙ lay_run rs ps k in
     let parts = stands.parts in
-    let over = run rs (lay ps k) there (text_rows rs parts.1) (behind_run ps k parts.3 stands.outer parts.2) in
+    let over = run rs (lay ps k) there (text_lines rs parts.1) (behind_run ps k parts.3 stands.outer parts.2) in
     (rs, ps, refl, over.1, subst (λ (z : List LogicalLine). RunGives s (run_tokens z) (record { state = t; fault = f })) (run_tokens_are lines rs (lay ps k) index end there over.0) gives)
 run_by around files depth row lines index end s t f ps k is (control same other) stands run gives = absurd (cc)
 run_by around files depth row lines index end s t f ps k is (opening same other) stands run gives = absurd (cc)
 run_by around files depth row lines index end s t f ps k is (ending differs) stands run gives = absurd (differs.not_text is)
 
-run_on : (around : Files → Surroundings) (files : Files) (depth row : ℕ) (lines : List LogicalLine) (index end : ℕ) (s t : State) (f : Option Fault) (rs : List LogicalLine) (qs : Parts) (k : Outer) → AreParts qs → AreOuter k → drop end lines ≡ lay qs k → RunGives s (run_tokens rs) (record { state = t; fault = f }) → AdvancesFrom around files depth row lines s t (run_result end f) (Run rs qs) k
+run_on : (around : Files → Surroundings) (files : Files) (depth row : ℕ) (lines : List LogicalLine) (index end : ℕ) (s t : State) (f : Option Fault)
+    (rs : List LogicalLine) (qs : Parts) (k : Outer)
+    → AreParts qs
+    → AreOuter k
+    → drop end lines ≡ lay qs k
+    → RunGives s (run_tokens rs) (record { state = t; fault = f })
+    → AdvancesFrom around files depth row lines s t (run_result end f) (Run rs qs) k
 run_on around files depth row lines index end s t None rs qs k are outer there gives =
     (qs, k, record { rest = there; parts = are; outer = outer }, λ more grows last rest. ends_front (around more) depth row (going s) (going t) (Run rs qs) qs k last (λ o g. Group.run gives g) rest)
 run_on around files depth row lines index end s t (Some f) rs qs k are outer there gives =
@@ -558,7 +583,13 @@ pub enter_taken : (around : Files → Surroundings) (files : Files) (depth row :
     → Advances around files depth row lines index s (with_left s after) (Ok (index + 1))
 enter_taken around files depth row lines index s after d within is opens decides ps k stands =
     let a = section_at lines index d ps k within is opens stands in
-    subst (λ (z : Parts). AdvancesFrom around files depth row lines s (with_left s after) (Ok (index + 1)) z k) (sym a.whole) (a.first, (a.branches, a.behind) ∷ k, a.stands, λ more grows end rest. ends_front (around more) depth row (going s) rest.0 (Section (line_at lines index) a.first a.branches a.behind) a.behind k end (λ o g. Group.taken decides rest.1 g) rest.2)
+    subst (λ (z : Parts). AdvancesFrom around files depth row lines s (with_left s after) (Ok (index + 1)) z k) (sym a.whole) (
+      a.first,
+      (a.branches, a.behind) ∷ k,
+      a.stands,
+      λ more grows end rest. ends_front (around more) depth row (going s) rest.0
+          (Section (line_at lines index) a.first a.branches a.behind) a.behind k end (λ o g. Group.taken decides rest.1 g) rest.2,
+    )
 
 skipped_to : (around : Files → Surroundings) (files : Files) (depth row : ℕ) (lines : List LogicalLine) (index : ℕ) (s t : State)
     (after : Option ℕ) (r : LogicalLine) (ps qs : Parts) (bs : Branches) (k : Outer) (found : Result ℕ Fault)
@@ -581,7 +612,9 @@ pub enter_skipped : (around : Files → Surroundings) (files : Files) (depth row
 enter_skipped around files depth row lines index s t after d found within is opens decides finds =
     advances around files depth row lines index s t found (λ ps k stands.
     let a = section_at lines index d ps k within is opens stands in
-    subst (λ (z : Parts). AdvancesFrom around files depth row lines s t found z k) (sym a.whole) (skipped_to around files depth row lines index s t after (line_at lines index) a.first a.behind a.branches k found decides (finds a.first a.branches a.behind k a.at)))
+    subst (λ (z : Parts). AdvancesFrom around files depth row lines s t found z k) (sym a.whole)
+    (skipped_to around files depth row lines index s t after (line_at lines index) a.first a.behind a.branches k found decides
+    (finds a.first a.branches a.behind k a.at)))
 
 pub enter_refused : (around : Files → Surroundings) (files : Files) (depth row : ℕ) (lines : List LogicalLine) (index : ℕ) (s : State)
     (after : Option ℕ) (d : Directive) (f : Fault)
@@ -592,11 +625,32 @@ pub enter_refused : (around : Files → Surroundings) (files : Files) (depth row
     → Advances around files depth row lines index s (with_left s after) (Err f)
 enter_refused around files depth row lines index s after d f within is opens decides ps k stands =
     let a = section_at lines index d ps k within is opens stands in
-    subst (λ (z : Parts). AdvancesFrom around files depth row lines s (with_left s after) (Err f) z k) (sym a.whole) (λ more grows. ends_stop (around more) depth row (going s) (with_left s after) f (Section (line_at lines index) a.first a.branches a.behind) k (Group.refused decides))
+    subst (λ (z : Parts). AdvancesFrom around files depth row lines s (with_left s after) (Err f) z k) (sym a.whole)
+    (λ more grows. ends_stop (around more) depth row (going s) (with_left s after) f (Section (line_at lines index) a.first a.branches a.behind) k
+    (Group.refused decides))
+
+pub enter_found : {E : Type 0} (around : Files → Surroundings) (files : Files) (depth row : ℕ) (lines : List LogicalLine) (index : ℕ) (s t : State)
+    (after : Option ℕ) (d : Directive) (found : Result (Result ℕ Fault) E)
+    → index < length lines
+    → (line_at lines index).directive ≡ Some d
+    → opens_section d ≡ true
+    → Decides s (line_at lines index) after (Ok false)
+    → IfOk found (λ next. (ps : Parts) (bs : Branches) (qs : Parts) (k : Outer) → BranchesAt lines index ps bs qs k → FindsBranch lines (with_left s after) t bs qs k next)
+    → IfOk found (λ next. Advances around files depth row lines index s t next)
+enter_found around files depth row lines index s t after d (Ok next) within is opens decides finds =
+    enter_skipped around files depth row lines index s t after d next within is opens decides finds
+enter_found around files depth row lines index s t after d (Err e) within is opens decides finds = tt
 
 -- ---- the end of a group
 
-end_by : (around : Files → Surroundings) (files : Files) (depth row : ℕ) (lines : List LogicalLine) (index next : ℕ) (s : State) (ps : Parts) (k : Outer) → Differs (line_at lines index) → First (line_at lines index) ps k → StandsAt lines index ps k → ((last : Bool) (bs : Branches) (rest : List LogicalLine) → drop index lines ≡ branch_lines bs ++ rest → AreBranches last bs → drop next lines ≡ rest) → AdvancesFrom around files depth row lines s s (Ok next) ps k
+end_by : (around : Files → Surroundings) (files : Files) (depth row : ℕ) (lines : List LogicalLine) (index next : ℕ) (s : State) (ps : Parts)
+    (k : Outer)
+    → Differs (line_at lines index)
+    → First (line_at lines index) ps k
+    → StandsAt lines index ps k
+    → ((last : Bool) (bs : Branches) (rest : List LogicalLine) → drop index lines ≡ branch_lines bs ++ rest → AreBranches last bs → drop next lines
+    ≡ rest)
+    → AdvancesFrom around files depth row lines s s (Ok next) ps k
 end_by around files depth row lines index next s Done ((bs, qs) ∷ k) differs (ending other) stands over =
     let outer = stands.outer in
     (qs, k, record { rest = over outer.0.0 bs (lay qs k) stands.rest outer.0.1; parts = outer.1; outer = outer.2 }, λ more grows end rest. (going s, Group.done, rest))
@@ -616,13 +670,25 @@ end_advances around files depth row lines index next s d within is ends over ps 
 
 -- ---- a control line
 
-control_on : (around : Files → Surroundings) (files : Files) (depth row : ℕ) (lines : List LogicalLine) (index : ℕ) (s t : State) (f : Option Fault) (r : LogicalLine) (qs : Parts) (k : Outer) → drop index lines ≡ r ∷ lay qs k → AreParts qs → AreOuter k → ((more : Files) → Extends more files → Controls (around more) depth row s r (record { state = t; fault = f })) → AdvancesFrom around files depth row lines s t (run_result (index + 1) f) (Control r qs) k
+control_on : (around : Files → Surroundings) (files : Files) (depth row : ℕ) (lines : List LogicalLine) (index : ℕ) (s t : State) (f : Option Fault)
+    (r : LogicalLine) (qs : Parts) (k : Outer)
+    → drop index lines ≡ r ∷ lay qs k
+    → AreParts qs
+    → AreOuter k
+    → ((more : Files) → Extends more files → Controls (around more) depth row s r (record { state = t; fault = f }))
+    → AdvancesFrom around files depth row lines s t (run_result (index + 1) f) (Control r qs) k
 control_on around files depth row lines index s t None r qs k there are outer controls =
     (qs, k, stands_behind lines index r qs k there are outer, λ more grows end rest. ends_front (around more) depth row (going s) (going t) (Control r qs) qs k end (λ o g. Group.control (controls more grows) g) rest)
 control_on around files depth row lines index s t (Some f) r qs k there are outer controls =
     λ more grows. ends_stop (around more) depth row (going s) t f (Control r qs) k (Group.control (controls more grows) Group.stays)
 
-control_by : (around : Files → Surroundings) (files : Files) (depth row : ℕ) (lines : List LogicalLine) (index : ℕ) (s t : State) (f : Option Fault) (ps : Parts) (k : Outer) → role (line_at lines index) ≡ role_by (Some Null) → First (line_at lines index) ps k → StandsAt lines index ps k → ((more : Files) → Extends more files → Controls (around more) depth row s (line_at lines index) (record { state = t; fault = f })) → AdvancesFrom around files depth row lines s t (run_result (index + 1) f) ps k
+control_by : (around : Files → Surroundings) (files : Files) (depth row : ℕ) (lines : List LogicalLine) (index : ℕ) (s t : State) (f : Option Fault)
+    (ps : Parts) (k : Outer)
+    → role (line_at lines index) ≡ role_by (Some Null)
+    → First (line_at lines index) ps k
+    → StandsAt lines index ps k
+    → ((more : Files) → Extends more files → Controls (around more) depth row s (line_at lines index) (record { state = t; fault = f }))
+    → AdvancesFrom around files depth row lines s t (run_result (index + 1) f) ps k
 control_by around files depth row lines index s t f (Control x qs) k is (control same other) stands controls =
     let r = line_at lines index in
     let there : drop index lines ≡ r ∷ lay qs k = stands.rest ∙ lay_control x qs k ∙ ap (λ (z : LogicalLine). z ∷ lay qs k) same in
@@ -640,13 +706,25 @@ pub control_advances : (around : Files → Surroundings) (files : Files) (depth 
     → ((more : Files) → Extends more files → Controls (around more) depth row s (line_at lines index) (record { state = t; fault = f }))
     → Advances around files depth row lines index s t (run_result (index + 1) f)
 control_advances around files depth row lines index s t f d within is opens ends controls =
-    advances around files depth row lines index s t (run_result (index + 1) f) (λ ps k stands. control_by around files depth row lines index s t f ps k (ap role_by is ∙ control_role d opens ends) (first_at lines index ps k within stands) stands controls)
+    advances around files depth row lines index s t (run_result (index + 1) f)
+    (λ ps k stands. control_by around files depth row lines index s t f ps k (ap role_by is ∙ control_role d opens ends)
+    (first_at lines index ps k within stands) stands controls)
 
-passes_by : (depth row : ℕ) (lines : List LogicalLine) (index : ℕ) (s : State) (ps : Parts) (k : Outer) → role (line_at lines index) ≡ role_by (Some Null) → First (line_at lines index) ps k → StandsAt lines index ps k → PassesFrom depth row lines index s (index + 1) ps k
+passes_by : (depth row : ℕ) (lines : List LogicalLine) (index : ℕ) (s : State) (ps : Parts) (k : Outer)
+    → role (line_at lines index) ≡ role_by (Some Null)
+    → First (line_at lines index) ps k
+    → StandsAt lines index ps k
+    → PassesFrom depth row lines index s (index + 1) ps k
 passes_by depth row lines index s (Control x qs) k is (control same other) stands =
     let r = line_at lines index in
-    let there : drop index lines ≡ r ∷ lay qs k = stands.rest ∙ lay_control x qs k ∙ ap (λ (z : LogicalLine). z ∷ lay qs k) same in
-    (qs, k, stands_behind lines index r qs k there stands.parts.1 stands.outer, λ around m end controls rest. subst (λ (z : LogicalLine). Ends around depth row (going s) (Control z qs) k end) (sym same) (ends_front around depth row (going s) m (Control r qs) qs k end (λ o g. Group.control controls g) rest))
+    let there : drop index lines ≡ r ∷ lay qs k = stands.rest ∙ lay_control x qs k ∙ ap (λ (z : LogicalLine). z ∷ lay qs k) same in (
+      qs,
+      k,
+      stands_behind lines index r qs k there stands.parts.1 stands.outer,
+      λ around m end controls rest. subst
+          (λ (z : LogicalLine). Ends around depth row (going s) (Control z qs) k end) (sym same)
+          (ends_front around depth row (going s) m (Control r qs) qs k end (λ o g. Group.control controls g) rest),
+    )
 passes_by depth row lines index s ps k is (text same) stands = absurd (cc)
 passes_by depth row lines index s ps k is (opening same other) stands = absurd (cc)
 passes_by depth row lines index s ps k is (ending differs) stands = absurd (differs.not_control is)
@@ -659,65 +737,3 @@ pub passes : (depth row : ℕ) (lines : List LogicalLine) (index : ℕ) (s : Sta
     → Passes depth row lines index s (index + 1)
 passes depth row lines index s d within is opens ends ps k stands =
     passes_by depth row lines index s ps k (ap role_by is ∙ control_role d opens ends) (first_at lines index ps k within stands) stands
-
--- ---- the whole file
-
--- as far as the lines of a file go that have been passed: its end leads to what is to be reached
-pub record FileSoFar (around : Files → Surroundings) (files : Files) (whole : Files → Reached → Type 0) (depth row : ℕ) (lines : List LogicalLine) (index : ℕ) (t : State) : Type 0 where
-  pub parts : Parts
-  pub outer : Outer
-  pub stands : StandsAt lines index parts outer
-  pub ends : (more : Files) → Extends more files → (end : Reached) → Ends (around more) depth row (going t) parts outer end → whole more end
-
-pub file_start : (around : Files → Surroundings) (files : Files) (whole : Files → Reached → Type 0) (depth row : ℕ) (lines : List LogicalLine) (index : ℕ) (t : State) (parts : Parts) → index ≡ 0 → Tree lines parts → ((more : Files) → Extends more files → (end : Reached) → Group (around more) depth row (going t) parts end → whole more end) → FileSoFar around files whole depth row lines index t
-file_start around files whole depth row lines index t parts begins tree ends =
-    subst (λ (z : ℕ). FileSoFar around files whole depth row lines z t) (sym begins) (record { parts = parts; outer = []; stands = record { rest = sym tree.whole; parts = tree.each; outer = tt }; ends = ends })
-
-pub extends_trans : (a b c : Files) → Extends a b → Extends b c → Extends a c
-extends_trans a b c ab bc row content at = ab row content (bc row content at)
-
-pub file_more : (around : Files → Surroundings) (old new : Files) (whole : Files → Reached → Type 0) (depth row : ℕ) (lines : List LogicalLine) (index next : ℕ) (t u : State) → FileSoFar around old whole depth row lines index t → Extends new old → Advances around new depth row lines index t u (Ok next) → FileSoFar around new whole depth row lines next u
-file_more around old new whole depth row lines index next t u sofar wider step =
-    let g = step sofar.parts sofar.outer sofar.stands in
-    record { parts = g.0; outer = g.1; stands = g.2; ends = λ more grows end rest. sofar.ends more (extends_trans more new old grows wider) end (g.3 more grows end rest) }
-
-pub file_stop : (around : Files → Surroundings) (old new : Files) (whole : Files → Reached → Type 0) (depth row : ℕ) (lines : List LogicalLine) (index : ℕ) (t u : State) (fault : Fault) → FileSoFar around old whole depth row lines index t → Extends new old → Advances around new depth row lines index t u (Err fault) → (more : Files) → Extends more new → whole more (stopped u fault)
-file_stop around old new whole depth row lines index t u fault sofar wider step more grows =
-    sofar.ends more (extends_trans more new old grows wider) (stopped u fault) (step sofar.parts sofar.outer sofar.stands more grows)
-
-nothing_laid : (around : Surroundings) (depth row : ℕ) (t : State) (ps : Parts) (k : Outer) → lay ps k ≡ [] → AreParts ps → Ends around depth row (going t) ps k (going t)
-nothing_laid around depth row t Done [] e are = Group.done
-nothing_laid around depth row t Done ((End r, qs) ∷ k) e are = absurd (cc)
-nothing_laid around depth row t Done ((Branch r ps bs, qs) ∷ k) e are = absurd (cc)
-nothing_laid around depth row t (Run [] ps) k e are = absurd (are.0 refl)
-nothing_laid around depth row t (Run (r ∷ rs) ps) k e are = let whole = sym (lay_run (r ∷ rs) ps k) ∙ e in absurd (cc)
-nothing_laid around depth row t (Control r ps) k e are = let whole = sym (lay_control r ps k) ∙ e in absurd (cc)
-nothing_laid around depth row t (Section r ps bs qs) k e are = let whole = sym (lay_section r ps qs bs k) ∙ e in absurd (cc)
-
-pub file_done : (around : Files → Surroundings) (files : Files) (whole : Files → Reached → Type 0) (depth row : ℕ) (lines : List LogicalLine) (index : ℕ) (t : State) → FileSoFar around files whole depth row lines index t → length lines ≤ index → (more : Files) → Extends more files → whole more (going t)
-file_done around files whole depth row lines index t sofar over more grows =
-    sofar.ends more grows (going t) (nothing_laid (around more) depth row t sofar.parts sofar.outer (sym sofar.stands.rest ∙ drop_all index lines over) sofar.stands.parts)
-
-pub none_of : {A : Type 0} (o : Option A) → ((x : A) → o ≡ Some x → ⊥) → o ≡ None
-none_of None never = refl
-none_of (Some n) never = absurd (never n refl)
-
-pub none_by : {A : Type 0} (o : Option A) → is_some o ≡ false → o ≡ None
-none_by None never = refl
-none_by (Some x) never = absurd (cc)
-
-pub some_not : {A : Type 0} (o : Option A) → is_some o ≡ true → o ≡ None → ⊥
-some_not None is none = absurd (cc)
-some_not (Some x) is none = cc
-
-pub enter_found : {E : Type 0} (around : Files → Surroundings) (files : Files) (depth row : ℕ) (lines : List LogicalLine) (index : ℕ) (s t : State)
-    (after : Option ℕ) (d : Directive) (found : Result (Result ℕ Fault) E)
-    → index < length lines
-    → (line_at lines index).directive ≡ Some d
-    → opens_section d ≡ true
-    → Decides s (line_at lines index) after (Ok false)
-    → IfOk found (λ next. (ps : Parts) (bs : Branches) (qs : Parts) (k : Outer) → BranchesAt lines index ps bs qs k → FindsBranch lines (with_left s after) t bs qs k next)
-    → IfOk found (λ next. Advances around files depth row lines index s t next)
-enter_found around files depth row lines index s t after d (Ok next) within is opens decides finds =
-    enter_skipped around files depth row lines index s t after d next within is opens decides finds
-enter_found around files depth row lines index s t after d (Err e) within is opens decides finds = tt

@@ -66,12 +66,23 @@ deeper x y z r s rest is some few less =
     let outer : suc y * s ≤ z * s = mul-le-mul_right s less in
     omega arith
 
-work_entering : (f : OpenFile) (next : ℕ) (e : Entered) (ws : List Waiting) → f.index < length f.source.now → f.index < next → length e.file.source.now < 2 ^ 64 → length ws < 200 → work e.file (record { file = record f { index = next }; env = e.outer } ∷ ws) < work f ws
+work_entering : (f : OpenFile) (next : ℕ) (e : Entered) (ws : List Waiting)
+    → f.index < length f.source.now
+    → f.index < next
+    → length e.file.source.now < 2 ^ 64
+    → length ws < 200
+    → work e.file (record { file = record f { index = next }; env = e.outer } ∷ ws) < work f ws
 unfolding work waiting_work
 work_entering f next e ws within further few deep =
-    deeper (lines_left e.file) (lines_left (record f { index = next })) (lines_left f) (room (200 - suc (length ws))) (room (200 - length ws)) (waiting_work ws) (room_more (length ws) deep) (room_pos (200 - suc (length ws))) (lines_few e.file few) (lines_fewer f next within further)
+    deeper (lines_left e.file) (lines_left (record f { index = next })) (lines_left f) (room (200 - suc (length ws))) (room (200 - length ws))
+    (waiting_work ws) (room_more (length ws) deep) (room_pos (200 - suc (length ws))) (lines_few e.file few) (lines_fewer f next within further)
 
-pub work_next : (around : Files → Surroundings) (files : Files) (row : ℕ) (lines : List LogicalLine) (index next : ℕ) (s t : State) (f : OpenFile) (entered : Option Entered) (ws : List Waiting) → f.index < length f.source.now → f.index < next → StepsTo around files (length ws) row lines index s t next entered → work (next_file (record f { index = next }) entered) (next_waiting (record f { index = next }) entered ws) < work f ws
+pub work_next : (around : Files → Surroundings) (files : Files) (row : ℕ) (lines : List LogicalLine) (index next : ℕ) (s t : State) (f : OpenFile)
+    (entered : Option Entered) (ws : List Waiting)
+    → f.index < length f.source.now
+    → f.index < next
+    → StepsTo around files (length ws) row lines index s t next entered
+    → work (next_file (record f { index = next }) entered) (next_waiting (record f { index = next }) entered ws) < work f ws
 work_next around files row lines index next s t f None ws within further step = work_on f next ws within further
 work_next around files row lines index next s t f (Some e) ws within further step = work_entering f next e ws within further step.1.few step.1.fits
 

@@ -46,11 +46,17 @@ IsCappedOver names files setting unit out =
 
 -- a unit's count is at most its budget
 abbrev pub StaysWithin : Type 0
-StaysWithin = (names : List (List ℕ)) (files : Files) (setting : Setting) (unit : UnitOfList) (out : UnitOut) → IsWithin names files setting unit out
+StaysWithin =
+    (names : List (List ℕ)) (files : Files) (setting : Setting) (unit : UnitOfList) (out : UnitOut)
+    → IsWithin names files setting unit out
 
 -- a budgeted value is a beginning, and the whole exactly where the budget suffices
 abbrev pub BudgetCaps : Type 0
-BudgetCaps = (names : List (List ℕ)) (files : Files) (setting : Setting) (unit : UnitOfList) (out : UnitOut) → AreNames names → IsUnit names files setting unit out → IsCappedOver names files setting unit out
+BudgetCaps =
+    (names : List (List ℕ)) (files : Files) (setting : Setting) (unit : UnitOfList) (out : UnitOut)
+    → AreNames names
+    → IsUnit names files setting unit out
+    → IsCappedOver names files setting unit out
 
 -- without a budget no unit has fault 35
 abbrev pub OnlyBudgetsRefuse : Type 0

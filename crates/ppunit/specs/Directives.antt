@@ -46,14 +46,14 @@ message (t ∷ ts) = t.text ++ flat_map spaced ts
 -- ---- `#line` (6.10.4)
 
 abbrev pub renumbered_by : State → LogicalLine → Option Fault → Option Presumed → Reached
-renumbered_by s r (Some f) p = stopped s f
-renumbered_by s r None None = stopped s (line_fault 33 r.tokens [])
-renumbered_by s r None (Some p) = going (renumbered s r p)
+renumbered_by s line (Some f) p = stopped s f
+renumbered_by s line None None = stopped s (line_fault 33 line.tokens [])
+renumbered_by s line None (Some p) = going (renumbered s line p)
 
-pub record LineGives (s : State) (r : LogicalLine) (reached : Reached) : Type 0 where
+pub record LineGives (s : State) (line : LogicalLine) (reached : Reached) : Type 0 where
   pub expanded : Expanded
-  pub expands : IsExpansion s.macros s.env s.left (operands r.tokens) expanded
-  pub is : reached ≡ renumbered_by (with_left s expanded.left) r expanded.fault (presumed expanded.tokens)
+  pub expands : IsExpansion s.macros s.env s.left (operands line.tokens) expanded
+  pub is : reached ≡ renumbered_by (with_left s expanded.left) line expanded.fault (presumed expanded.tokens)
 
 -- ---- `#include` (6.10.2)
 
@@ -74,7 +74,8 @@ Asks s line after asked = AsksBy (begins_with_header (operands line)) s line aft
 
 -- the row of the file that is asked for in the file of this row, if there is one
 abbrev pub Finds : Surroundings → ℕ → Asked → Option ℕ → Type 0
-Finds around from a found = IsFirstRow around.names (candidates a.form (name_in around.names from) around.unit_folders around.setting_folders a.name) found
+Finds around from a found =
+    IsFirstRow around.names (candidates a.form (name_in around.names from) around.unit_folders around.setting_folders a.name) found
 
 -- ---- `#pragma` (6.10.6)
 
@@ -98,13 +99,13 @@ unknown_name ts = []
 
 -- a control line without lone quotes that includes no file, in the file of a row
 abbrev pub ControlBy : Profile → ℕ → Option Directive → State → LogicalLine → Reached → Type 0
-ControlBy profile row (Some Null) s r reached = reached ≡ going s
-ControlBy profile row (Some Define) s r reached = reached ≡ with_macros s (after_define s.macros (sign_place r.tokens) (operands r.tokens))
-ControlBy profile row (Some Undef) s r reached = reached ≡ with_macros s (after_undef s.macros (sign_place r.tokens) (operands r.tokens))
-ControlBy profile row (Some Line) s r reached = LineGives s r reached
-ControlBy profile row (Some Pragma) s r reached = reached ≡ going (pragma_passed profile row s r.tokens)
-ControlBy profile row (Some Unknown) s r reached = reached ≡ stopped s (line_fault 8 r.tokens (unknown_name r.tokens))
-ControlBy _ _ _ s r reached = ⊥
+ControlBy profile row (Some Null) s line reached = reached ≡ going s
+ControlBy profile row (Some Define) s line reached = reached ≡ with_macros s (after_define s.macros (sign_place line.tokens) (operands line.tokens))
+ControlBy profile row (Some Undef) s line reached = reached ≡ with_macros s (after_undef s.macros (sign_place line.tokens) (operands line.tokens))
+ControlBy profile row (Some Line) s line reached = LineGives s line reached
+ControlBy profile row (Some Pragma) s line reached = reached ≡ going (pragma_passed profile row s line.tokens)
+ControlBy profile row (Some Unknown) s line reached = reached ≡ stopped s (line_fault 8 line.tokens (unknown_name line.tokens))
+ControlBy _ _ _ s line reached = ⊥
 
 -- the control lines that open no file, but for `#error`
 abbrev pub IsControl : Directive → Type 0

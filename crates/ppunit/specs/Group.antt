@@ -30,10 +30,10 @@ mutual
   pub data Group (around : Surroundings) : ℕ → ℕ → Reached → Parts → Reached → Type 0 where
     stays : {depth row : ℕ} {s : State} {f : Fault} {ps : Parts} → Group around depth row (stopped s f) ps (stopped s f)
     done : {depth row : ℕ} {s : State} → Group around depth row (going s) Done (going s)
-    run : {depth row : ℕ} {s : State} {rows : List LogicalLine} {ps : Parts} {m end : Reached}
-        → RunGives s (run_tokens rows) m
+    run : {depth row : ℕ} {s : State} {lines : List LogicalLine} {ps : Parts} {m end : Reached}
+        → RunGives s (run_tokens lines) m
         → Group around depth row m ps end
-        → Group around depth row (going s) (Run rows ps) end
+        → Group around depth row (going s) (Run lines ps) end
     control : {depth row : ℕ} {s : State} {line : LogicalLine} {ps : Parts} {m end : Reached}
         → Controls around depth row s line m
         → Group around depth row m ps end
@@ -87,27 +87,30 @@ mutual
         → lone_quote line.tokens ≡ None
         → ControlBy around.profile row line.directive s line m
         → Controls around depth row s line m
+    include : {depth row : ℕ} {s : State} {line : LogicalLine} {m : Reached}
+        → line.directive ≡ Some Include
+        → lone_quote line.tokens ≡ None
+        → Includes around depth row s line m
+        → Controls around depth row s line m
+
+  -- An include line without lone quotes (6.10.2): its operands have a fault, or no file is found for what it asks for, or the file that is found is
+  -- opened one level deeper.
+  pub data Includes (around : Surroundings) : ℕ → ℕ → State → LogicalLine → Reached → Type 0 where
     misnamed : {depth row : ℕ} {s : State} {line : LogicalLine} {after : Option ℕ} {f : Fault}
-        → line.directive ≡ Some Include
-        → lone_quote line.tokens ≡ None
         → Asks s line.tokens after (Err f)
-        → Controls around depth row s line (stopped (with_left s after) f)
+        → Includes around depth row s line (stopped (with_left s after) f)
     missing : {depth row : ℕ} {s : State} {line : LogicalLine} {after : Option ℕ} (a : Asked)
-        → line.directive ≡ Some Include
-        → lone_quote line.tokens ≡ None
         → Asks s line.tokens after (Ok a)
         → Finds around row a None
-        → Controls around depth row s line (stopped (with_left s after) (line_fault 31 line.tokens a.name))
+        → Includes around depth row s line (stopped (with_left s after) (line_fault 31 line.tokens a.name))
     included : {depth row : ℕ} {s : State} {line : LogicalLine} {after : Option ℕ} (a : Asked) (found : ℕ) {m : Reached}
-        → line.directive ≡ Some Include
-        → lone_quote line.tokens ≡ None
         → Asks s line.tokens after (Ok a)
         → Finds around row a (Some found)
         → Opened around (suc depth) (sign_place line.tokens) (with_left s after) found m
-        → Controls around depth row s line m
+        → Includes around depth row s line m
 
-  -- The file of a row is opened, for the line at this place, where something is left for that. One that is read once and was read changes nothing but the
-  -- dependencies and what is left.
+  -- The file of a row is opened, for the line at this place, where something is left for that. One that is read once and was read changes nothing but
+  -- the dependencies and what is left.
   pub data Opened (around : Surroundings) : ℕ → Place → State → ℕ → Reached → Type 0 where
     too_deep : {depth row : ℕ} {at : Place} {s : State}
         → deepest < depth

@@ -32,7 +32,8 @@ are_digits t = is_number t.kind && list_all is_digit t.text
 
 -- 1 to 2147483647
 abbrev pub line_number : Token → Option ℕ
-line_number t = if are_digits t && nat_le 1 (decimal_value t.text) && nat_le (decimal_value t.text) 2147483647 then Some (decimal_value t.text) else None
+line_number t =
+    if are_digits t && nat_le 1 (decimal_value t.text) && nat_le (decimal_value t.text) 2147483647 then Some (decimal_value t.text) else None
 
 -- a string literal without prefix
 abbrev pub is_plain_string : Token → Bool
@@ -54,4 +55,4 @@ or_old old (Some new) = new
 
 -- the line behind the directive's new-line gets the number
 abbrev pub renumbered : State → LogicalLine → Presumed → State
-renumbered s r p = record s { env = record s.env { name = or_old s.env.name p.name; shift = pos p.number -ℤ pos (r.number + 1) } }
+renumbered s line p = record s { env = record s.env { name = or_old s.env.name p.name; shift = pos p.number -ℤ pos (line.number + 1) } }

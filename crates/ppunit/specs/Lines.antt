@@ -38,4 +38,4 @@ one_identifier ts = None
 
 -- the tokens of a text run
 abbrev pub run_tokens : List LogicalLine → List Token
-run_tokens rows = flat_map (λ r. r.tokens) rows
+run_tokens lines = flat_map (λ line. line.tokens) lines

@@ -28,10 +28,10 @@ mutual
   pub data StandardGroup (around : Surroundings) : ℕ → ℕ → Reached → Parts → Reached → Type 0 where
     stays : {depth row : ℕ} {s : State} {f : Fault} {ps : Parts} → StandardGroup around depth row (stopped s f) ps (stopped s f)
     done : {depth row : ℕ} {s : State} → StandardGroup around depth row (going s) Done (going s)
-    run : {depth row : ℕ} {s : State} {rows : List LogicalLine} {ps : Parts} {m end : Reached}
-        → StandardRunGives s (run_tokens rows) m
+    run : {depth row : ℕ} {s : State} {lines : List LogicalLine} {ps : Parts} {m end : Reached}
+        → StandardRunGives s (run_tokens lines) m
         → StandardGroup around depth row m ps end
-        → StandardGroup around depth row (going s) (Run rows ps) end
+        → StandardGroup around depth row (going s) (Run lines ps) end
     control : {depth row : ℕ} {s : State} {line : LogicalLine} {ps : Parts} {m end : Reached}
         → StandardControls around depth row s line m
         → StandardGroup around depth row m ps end
@@ -85,24 +85,27 @@ mutual
         → lone_quote line.tokens ≡ None
         → StandardControlBy around.profile row line.directive s line m
         → StandardControls around depth row s line m
+    include : {depth row : ℕ} {s : State} {line : LogicalLine} {m : Reached}
+        → line.directive ≡ Some Include
+        → lone_quote line.tokens ≡ None
+        → StandardIncludes around depth row s line m
+        → StandardControls around depth row s line m
+
+  -- An include line without lone quotes (6.10.2): its operands have a fault, or no file is found for what it asks for, or the file that is found is
+  -- opened one level deeper.
+  pub data StandardIncludes (around : Surroundings) : ℕ → ℕ → State → LogicalLine → Reached → Type 0 where
     misnamed : {depth row : ℕ} {s : State} {line : LogicalLine} {f : Fault}
-        → line.directive ≡ Some Include
-        → lone_quote line.tokens ≡ None
         → StandardAsks s line.tokens (Err f)
-        → StandardControls around depth row s line (stopped s f)
+        → StandardIncludes around depth row s line (stopped s f)
     missing : {depth row : ℕ} {s : State} {line : LogicalLine} (a : Asked)
-        → line.directive ≡ Some Include
-        → lone_quote line.tokens ≡ None
         → StandardAsks s line.tokens (Ok a)
         → Finds around row a None
-        → StandardControls around depth row s line (stopped s (line_fault 31 line.tokens a.name))
+        → StandardIncludes around depth row s line (stopped s (line_fault 31 line.tokens a.name))
     included : {depth row : ℕ} {s : State} {line : LogicalLine} (a : Asked) (found : ℕ) {m : Reached}
-        → line.directive ≡ Some Include
-        → lone_quote line.tokens ≡ None
         → StandardAsks s line.tokens (Ok a)
         → Finds around row a (Some found)
         → StandardOpened around (suc depth) (sign_place line.tokens) s found m
-        → StandardControls around depth row s line m
+        → StandardIncludes around depth row s line m
 
   -- The file of a row is opened, for the line at this place. One that is read once and was read changes nothing but the dependencies.
   pub data StandardOpened (around : Surroundings) : ℕ → Place → State → ℕ → Reached → Type 0 where
@@ -135,7 +138,9 @@ mutual
 
 -- phases 1 to 4 of a unit's definitions, before its file
 pub data StandardDefines (around : Surroundings) (defines : List (List ℕ)) : State → Reached → Type 0 where
-  unread : {s : State} {f : Fault} → Reads around.profile command_file (command_text defines) (Err f) → StandardDefines around defines s (stopped s f)
+  unread : {s : State} {f : Fault}
+      → Reads around.profile command_file (command_text defines) (Err f)
+      → StandardDefines around defines s (stopped s f)
   processed : {s : State} {lines : List LogicalLine} {parts : Parts} {m : Reached}
       → Reads around.profile command_file (command_text defines) (Ok lines)
       → Tree lines parts
@@ -144,7 +149,9 @@ pub data StandardDefines (around : Surroundings) (defines : List (List ℕ)) : S
 
 -- the definitions, and then the unit's file
 pub data StandardTranslates (around : Surroundings) (defines : List (List ℕ)) (row : ℕ) : State → Reached → Type 0 where
-  undefined : {s t : State} {f : Fault} → StandardDefines around defines s (stopped t f) → StandardTranslates around defines row s (stopped t f)
+  undefined : {s t : State} {f : Fault}
+      → StandardDefines around defines s (stopped t f)
+      → StandardTranslates around defines row s (stopped t f)
   translated : {s t : State} {m : Reached}
       → StandardDefines around defines s (going t)
       → StandardOpened around 0 (first_place row) t row m

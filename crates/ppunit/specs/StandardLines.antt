@@ -51,16 +51,16 @@ pub record StandardRunGives (s : State) (tokens : List Token) (r : Reached) : Ty
 
 -- ---- `#line` (6.10.4), and the control lines that replace nothing
 
-pub record StandardLineGives (s : State) (r : LogicalLine) (reached : Reached) : Type 0 where
+pub record StandardLineGives (s : State) (line : LogicalLine) (reached : Reached) : Type 0 where
   pub expanded : List Token
   pub fault : Option Fault
-  pub expands : IsStandardExpansion s.macros s.env (operands r.tokens) expanded fault
-  pub is : reached ≡ renumbered_by s r fault (presumed expanded)
+  pub expands : IsStandardExpansion s.macros s.env (operands line.tokens) expanded fault
+  pub is : reached ≡ renumbered_by s line fault (presumed expanded)
 
 -- a control line without lone quotes that includes no file, in the file of a row
 abbrev pub StandardControlBy : Profile → ℕ → Option Directive → State → LogicalLine → Reached → Type 0
-StandardControlBy profile row (Some Line) s r reached = StandardLineGives s r reached
-StandardControlBy profile row d s r reached = ControlBy profile row d s r reached
+StandardControlBy profile row (Some Line) s line reached = StandardLineGives s line reached
+StandardControlBy profile row d s line reached = ControlBy profile row d s line reached
 
 -- ---- `#include` (6.10.2)
 

@@ -17,8 +17,8 @@ pub record Library : Type 0 where
   pub unit_folders : List (List ℕ)
   pub setting_folders : List (List ℕ)
 
--- what does not change within a unit: the names of all files, their profile, what is known of them, and the folders that are searched, the unit's before
--- the setting's
+-- what does not change within a unit: the names of all files, their profile, what is known of them, and the folders that are searched, the unit's
+-- before the setting's
 pub record Surroundings : Type 0 where
   pub names : List (List ℕ)
   pub profile : Profile
@@ -34,8 +34,7 @@ surroundings_of library files =
       profile = library.shelf.profile;
       files = files;
       unit_folders = library.unit_folders;
-      setting_folders =
-          library.setting_folders;
+      setting_folders = library.setting_folders;
     }
 
 -- a unit goes on, or has stopped at its first fault

@@ -36,7 +36,9 @@ first_place row = record { file = row; line = 1; col = 1 }
 
 -- phases 1 to 4 of a unit's definitions, before its file
 pub data Defines (around : Surroundings) (defines : List (List ℕ)) : State → Reached → Type 0 where
-  unread : {s : State} {f : Fault} → Reads around.profile command_file (command_text defines) (Err f) → Defines around defines s (stopped s f)
+  unread : {s : State} {f : Fault}
+      → Reads around.profile command_file (command_text defines) (Err f)
+      → Defines around defines s (stopped s f)
   processed : {s : State} {lines : List LogicalLine} {parts : Parts} {m : Reached}
       → Reads around.profile command_file (command_text defines) (Ok lines)
       → Tree lines parts
@@ -45,8 +47,13 @@ pub data Defines (around : Surroundings) (defines : List (List ℕ)) : State →
 
 -- the definitions, and then the unit's file
 pub data Translates (around : Surroundings) (defines : List (List ℕ)) (row : ℕ) : State → Reached → Type 0 where
-  undefined : {s t : State} {f : Fault} → Defines around defines s (stopped t f) → Translates around defines row s (stopped t f)
-  translated : {s t : State} {m : Reached} → Defines around defines s (going t) → Opened around 0 (first_place row) t row m → Translates around defines row s m
+  undefined : {s t : State} {f : Fault}
+      → Defines around defines s (stopped t f)
+      → Translates around defines row s (stopped t f)
+  translated : {s t : State} {m : Reached}
+      → Defines around defines s (going t)
+      → Opened around 0 (first_place row) t row m
+      → Translates around defines row s m
 
 abbrev pub surroundings : List (List ℕ) → Files → Setting → UnitOfList → Surroundings
 surroundings names files setting unit =
@@ -62,7 +69,9 @@ abbrev pub count_defines : {around : Surroundings} {defines : List (List ℕ)} {
 count_defines (unread reads) = 0
 count_defines (processed reads tree here) = count_group here
 
-abbrev pub count_translates : {around : Surroundings} {defines : List (List ℕ)} {row : ℕ} {s : State} {m : Reached} → Translates around defines row s m → ℕ
+abbrev pub count_translates : {around : Surroundings} {defines : List (List ℕ)} {row : ℕ} {s : State} {m : Reached}
+    → Translates around defines row s m
+    → ℕ
 count_translates (undefined here) = count_defines here
 count_translates (translated here opens) = count_defines here + count_opened opens
 
@@ -75,5 +84,7 @@ pub record IsUnit (names : List (List ℕ)) (files : Files) (setting : Setting) 
   pub gives : out ≡ given reached
 
 -- how many replacements a unit makes and how many files it opens, its own among them
-abbrev pub count : {names : List (List ℕ)} {files : Files} {setting : Setting} {unit : UnitOfList} {out : UnitOut} → IsUnit names files setting unit out → ℕ
+abbrev pub count : {names : List (List ℕ)} {files : Files} {setting : Setting} {unit : UnitOfList} {out : UnitOut}
+    → IsUnit names files setting unit out
+    → ℕ
 count p = count_translates p.translates

@@ -49,8 +49,21 @@ Ends around depth row m ps ((bs, qs) ∷ k) end = (n : Reached) × Group around 
 
 -- From the line at an index to the line at another, or to a fault: what is behind follows from what is left.
 abbrev pub Advances : (Files → Surroundings) → Files → ℕ → ℕ → List LogicalLine → ℕ → State → State → Result ℕ Fault → Type 0
-Advances around files depth row lines index s t (Ok next) = (ps : Parts) (k : Outer) → StandsAt lines index ps k → (ps' : Parts) × (k' : Outer) × StandsAt lines next ps' k' × ((more : Files) → Extends more files → (end : Reached) → Ends (around more) depth row (going t) ps' k' end → Ends (around more) depth row (going s) ps k end)
-Advances around files depth row lines index s t (Err f) = (ps : Parts) (k : Outer) → StandsAt lines index ps k → (more : Files) → Extends more files → Ends (around more) depth row (going s) ps k (stopped t f)
+Advances around files depth row lines index s t (Ok next) =
+    (ps : Parts) (k : Outer)
+    → StandsAt lines index ps k
+    → (ps' : Parts) × (k' : Outer) × StandsAt lines next ps' k'
+    × ((more : Files)
+    → Extends more files
+    → (end : Reached)
+    → Ends (around more) depth row (going t) ps' k' end
+    → Ends (around more) depth row (going s) ps k end)
+Advances around files depth row lines index s t (Err f) =
+    (ps : Parts) (k : Outer)
+    → StandsAt lines index ps k
+    → (more : Files)
+    → Extends more files
+    → Ends (around more) depth row (going s) ps k (stopped t f)
 
 -- what the predefined names stood for comes back
 abbrev pub back : Env → Reached → Reached
@@ -58,13 +71,18 @@ back env m = record m { state = record m.state { env = env } }
 
 -- A file was entered and its first line comes next: what its lines reach from this state on leads, with the names brought back, to what was to be
 -- reached.
-pub record EntersFile (around : Files → Surroundings) (files : Files) (depth : ℕ) (whole : Files → Reached → Type 0) (t : State) (e : Entered) : Type 0 where
+pub record EntersFile (around : Files → Surroundings) (files : Files) (depth : ℕ) (whole : Files → Reached → Type 0) (t : State) (e : Entered)
+    : Type 0 where
   pub fits : depth ≤ deepest
   pub begins : e.file.index ≡ 0
   pub few : length e.file.source.now < 2 ^ 64
   pub parts : Parts
   pub tree : Tree e.file.source.now parts
-  pub group : (more : Files) → Extends more files → (m : Reached) → Group (around more) depth e.file.row (going t) parts m → whole more (back e.outer m)
+  pub group : (more : Files)
+      → Extends more files
+      → (m : Reached)
+      → Group (around more) depth e.file.row (going t) parts m
+      → whole more (back e.outer m)
 
 -- what was to be reached is reached, by a fault or not, or a file was entered whose lines lead there
 abbrev pub Leads : (Files → Surroundings) → Files → ℕ → (Files → Reached → Type 0) → State → Result (Option Entered) Fault → Type 0
@@ -74,15 +92,25 @@ Leads around files depth whole t (Err f) = (more : Files) → Extends more files
 
 -- From the control line at an index to the line at another: what is behind follows from what the control line reaches.
 abbrev pub PassesFrom : ℕ → ℕ → List LogicalLine → ℕ → State → ℕ → Parts → Outer → Type 0
-PassesFrom depth row lines index s next ps k = (ps' : Parts) × (k' : Outer) × StandsAt lines next ps' k' × ((around : Surroundings) (m end : Reached) → Controls around depth row s (line_at lines index) m → Ends around depth row m ps' k' end → Ends around depth row (going s) ps k end)
+PassesFrom depth row lines index s next ps k =
+    (ps' : Parts) × (k' : Outer) × StandsAt lines next ps' k'
+    × ((around : Surroundings) (m end : Reached)
+    → Controls around depth row s (line_at lines index) m
+    → Ends around depth row m ps' k' end
+    → Ends around depth row (going s) ps k end)
 
 abbrev pub Passes : ℕ → ℕ → List LogicalLine → ℕ → State → ℕ → Type 0
-Passes depth row lines index s next = (ps : Parts) (k : Outer) → StandsAt lines index ps k → PassesFrom depth row lines index s next ps k
+Passes depth row lines index s next =
+    (ps : Parts) (k : Outer)
+    → StandsAt lines index ps k
+    → PassesFrom depth row lines index s next ps k
 
 -- from the line at an index to the line at another, and into a file if one was entered
 abbrev pub StepsTo : (Files → Surroundings) → Files → ℕ → ℕ → List LogicalLine → ℕ → State → State → ℕ → Option Entered → Type 0
 StepsTo around files depth row lines index s t next None = Advances around files depth row lines index s t (Ok next)
-StepsTo around files depth row lines index s t next (Some e) = Passes depth row lines index s next × EntersFile around files (suc depth) (λ more m. Controls (around more) depth row s (line_at lines index) m) t e
+StepsTo around files depth row lines index s t next (Some e) =
+    Passes depth row lines index s next
+    × EntersFile around files (suc depth) (λ more m. Controls (around more) depth row s (line_at lines index) m) t e
 
 -- the same, or to a fault
 abbrev pub Steps : (Files → Surroundings) → Files → ℕ → ℕ → List LogicalLine → ℕ → State → State → Result Next Fault → Type 0
@@ -105,17 +133,23 @@ brought_back (w ∷ ws) s = brought_back ws (record s { env = w.env })
 
 -- phase 4 of a file's lines, over these files and any more
 abbrev pub Walks : (Files → Surroundings) → Files → ℕ → ℕ → List LogicalLine → State → Reached → Type 0
-Walks around files depth row lines s end = (parts : Parts) → Tree lines parts → (more : Files) → Extends more files → Group (around more) depth row (going s) parts end
+Walks around files depth row lines s end =
+    (parts : Parts)
+    → Tree lines parts
+    → (more : Files)
+    → Extends more files
+    → Group (around more) depth row (going s) parts end
 
 -- At the index stands an opening line or a branch with a condition, then the parts of its group, and then these branches.
 pub record BranchesAt (lines : List LogicalLine) (index : ℕ) (ps : Parts) (bs : Branches) (qs : Parts) (k : Outer) : Type 0 where
   pub line : LogicalLine
   pub rest : drop index lines ≡ line ∷ lay ps ((bs, qs) ∷ k)
-  pub next : (n : ℕ) (rows : List LogicalLine) → next_branch n (role line) rows ≡ branch_behind 0 (n + 1) (map role rows)
+  pub next : (n : ℕ) (behind : List LogicalLine) → next_branch n (role line) behind ≡ branch_behind 0 (n + 1) (map role behind)
   pub parts : AreParts ps
   pub outer : AreOuter ((bs, qs) ∷ k)
 
--- whether the work goes on behind a branch line or `#endif`, or the line's fault, and what is left of the budget; where the line has a condition, that decides
+-- whether the work goes on behind a branch line or `#endif`, or the line's fault, and what is left of the budget; where the line has a condition,
+-- that decides
 abbrev pub EntersIf : Bool → State → LogicalLine → Option ℕ → Result Bool Fault → Type 0
 EntersIf true s line after taken = Decides s line after taken
 EntersIf false s line after taken = DecidesFreely s (Ok true) after taken
@@ -129,16 +163,20 @@ Enters s line after taken = EntersBy line.directive s line after taken
 
 -- the line that the work goes on with, behind a group that is not taken, and the state then
 abbrev pub FindsBranch : List LogicalLine → State → State → Branches → Parts → Outer → Result ℕ Fault → Type 0
-FindsBranch lines s t bs qs k (Ok next) = (ps : Parts) × (k' : Outer) × StandsAt lines next ps k' × ((around : Surroundings) (depth row : ℕ) (end : Reached) → Ends around depth row (going t) ps k' end → (m : Reached) × Branched around depth row s bs m × Ends around depth row m qs k end)
+FindsBranch lines s t bs qs k (Ok next) =
+    (ps : Parts) × (k' : Outer) × StandsAt lines next ps k'
+    × ((around : Surroundings) (depth row : ℕ) (end : Reached)
+    → Ends around depth row (going t) ps k' end
+    → (m : Reached) × Branched around depth row s bs m × Ends around depth row m qs k end)
 FindsBranch lines s t bs qs k (Err f) = (around : Surroundings) (depth row : ℕ) → Branched around depth row s bs (stopped t f)
 
 abbrev pub IsTextLine : LogicalLine → Type 0
-IsTextLine r = r.directive ≡ None
+IsTextLine line = line.directive ≡ None
 
 -- no text line stands first
 abbrev pub IsRest : List LogicalLine → Type 0
 IsRest [] = Unit {0}
-IsRest (r ∷ rows) = ¬ IsTextLine r
+IsRest (line ∷ behind) = ¬ IsTextLine line
 
 -- phases 1 to 4 of a unit's definitions, over these files and any more
 abbrev pub DefinesOver : (Files → Surroundings) → Files → List (List ℕ) → State → Reached → Type 0

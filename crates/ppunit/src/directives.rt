@@ -90,7 +90,9 @@ pub(crate) fn control<'x>(
     physical: u32,
 ) -> Result<Option<Fault>, Memory>
     requires { spec.IsControl directive }
-    ensures { IfOk result (λ f. spec.ControlBy profile row (Some directive) state.old (spec_lines.directed directive line.now physical) (record { state = state.new; fault = f })) }
+    ensures { IfOk result (λ f.
+        spec.ControlBy profile row (Some directive) state.old (spec_lines.directed directive line.now physical)
+        (record { state = state.new; fault = f })) }
 {
     match directive {
         Directive::Define => Ok(define(

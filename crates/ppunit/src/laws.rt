@@ -51,8 +51,8 @@ pub fn larger_budgets_give_no_less()
     one_value();
 }
 
-/// A law: without a budget a unit gives what it gives by the standard's own rules (5.1.1.2, 6.10); and these know no budget, so that by them a unit gives the
-/// same whatever its budget is.
+/// A law: without a budget a unit gives what it gives by the standard's own rules (5.1.1.2, 6.10); and these know no budget, so that by them
+/// a unit gives the same whatever its budget is.
 pub fn without_a_budget()
     ensures rules { WithoutABudget }
     ensures any_budget { KnowsNoBudget }

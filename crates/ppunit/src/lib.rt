@@ -7,6 +7,7 @@ mod directives;
 mod forms;
 mod guards;
 mod including;
+mod indexed;
 mod items;
 mod laws;
 mod line_control;
@@ -14,7 +15,6 @@ mod lines;
 mod lists;
 mod opening;
 mod preprocessing;
-mod rows;
 mod stack;
 mod states;
 #[cfg(test)]

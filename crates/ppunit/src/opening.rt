@@ -9,7 +9,7 @@ ghost use Rattle.ppunit.specs.Walk.{Leads};
 
 use crate::guards::is_left_out;
 use crate::including::Asked;
-use crate::rows::count;
+use crate::indexed::count;
 use crate::states::{State, literal};
 use ppexpand::Env;
 use ppshelf::{Disk, Folders, Form, Pass, Shelf, resolve};
@@ -37,7 +37,11 @@ impl<'a, 'b, D: Disk> Model for Around<'a, 'b, D> {
 
     ghost Value = { Library };
 
-    ghost view = { λ a. record { shelf = a.shelf.now; unit_folders = map string_bytes a.folders.unit.now; setting_folders = map string_bytes a.folders.setting.now } };
+    ghost view = { λ a. record {
+      shelf = a.shelf.now;
+      unit_folders = map string_bytes a.folders.unit.now;
+      setting_folders = map string_bytes a.folders.setting.now;
+    } };
 }
 
 impl<D: Disk> Drop for Around<'_, '_, D> {
@@ -59,7 +63,11 @@ impl<'a, 'b, D: Disk> Around<'a, 'b, D> {
         disk: &'b D,
         folders: Folders<'b>,
     ) -> Around<'a, 'b, D>
-        ensures { result ≡ record { shelf = shelf.now; unit_folders = map string_bytes folders.entry.unit.now; setting_folders = map string_bytes folders.entry.setting.now } }
+        ensures { result ≡ record {
+          shelf = shelf.now;
+          unit_folders = map string_bytes folders.entry.unit.now;
+          setting_folders = map string_bytes folders.entry.setting.now;
+        } }
     {
         Around {
             alloc,
@@ -182,7 +190,10 @@ pub(crate) fn open<'a, D: Disk>(
     requires row { row < length around.now.shelf.names }
     ensures shelf { pass.new.shelf ≡ around.now.shelf }
     ensures grows { Extends pass.new.files pass.old.files }
-    ensures opened { IfOk result (λ leads. Leads (surroundings_of around.now) pass.new.files depth (λ (more : Files) (m : Reached). Opened (surroundings_of around.now more) depth at state.old row m) state.new leads) }
+    ensures opened { IfOk result (λ leads.
+        Leads (surroundings_of around.now) pass.new.files depth
+        (λ (more : Files) (m : Reached). Opened (surroundings_of around.now more) depth at state.old row m)
+        state.new leads) }
 {
     let shelf = around.shelf();
     let name = shelf.name(row);

@@ -29,7 +29,8 @@ fn define_all<'x, 'a: 'x, D: Disk>(
     requires profile { defines.now.profile ≡ around.now.shelf.profile }
     ensures shelf { pass.new.shelf ≡ around.now.shelf }
     ensures grows { Extends pass.new.files pass.old.files }
-    ensures defined { IfOk result (λ f. DefinesOver (surroundings_of around.now) pass.new.files defines.now.texts state.old (record { state = state.new; fault = f })) }
+    ensures defined { IfOk result (λ f.
+        DefinesOver (surroundings_of around.now) pass.new.files defines.now.texts state.old (record { state = state.new; fault = f })) }
 {
     let source = match defines.lines() {
         Ok(source) => source,
@@ -51,7 +52,10 @@ fn process<'x, 'a: 'x, D: Disk>(
     requires row { row < length around.now.shelf.names }
     ensures shelf { pass.new.shelf ≡ around.now.shelf }
     ensures grows { Extends pass.new.files pass.old.files }
-    ensures opened { IfOk result (λ f. (more : Files) → Extends more pass.new.files → Opened (surroundings_of around.now more) 0 (first_place row) state.old row (record { state = state.new; fault = f })) }
+    ensures opened { IfOk result (λ f.
+        (more : Files)
+        → Extends more pass.new.files
+        → Opened (surroundings_of around.now more) 0 (first_place row) state.old row (record { state = state.new; fault = f })) }
 {
     // A row fits a place, since a shelf has at most `MOST_ROWS`.
     let _count = around.shelf().len();
@@ -83,7 +87,8 @@ fn translate<'x, 'a: 'x, D: Disk>(
     requires profile { defines.now.profile ≡ around.now.shelf.profile }
     ensures shelf { pass.new.shelf ≡ around.now.shelf }
     ensures grows { Extends pass.new.files pass.old.files }
-    ensures translated { IfOk result (λ f. Translates (surroundings_of around.now pass.new.files) defines.now.texts row state.old (record { state = state.new; fault = f })) }
+    ensures translated { IfOk result (λ f.
+        Translates (surroundings_of around.now pass.new.files) defines.now.texts row state.old (record { state = state.new; fault = f })) }
 {
     let fault = define_all(around, pass, state, defines)?;
     if fault.is_some() {

@@ -16,9 +16,9 @@ ghost use Rattle.ppunit.specs.Walk.{line_at, IsTextLine, IsRest, Outer, Branches
 use crate::conditions::decide;
 use crate::directives::{control, error, run_text};
 use crate::including::ask;
+use crate::indexed::{count, line, tokens_at, tokens_between};
 use crate::lines::{line_fault, lone_quote, sign};
 use crate::opening::{Around, Entered, OpenFile, open, resolve_in};
-use crate::rows::{count, line, tokens_at, tokens_between};
 use crate::stack::Stack;
 use crate::states::State;
 use ppshelf::{Disk, Pass};
@@ -31,7 +31,11 @@ fn run_end(source: &Source, start: usize) -> usize
     requires text { IsTextLine (line_at source.now start) }
     ensures within { result ≤ length source.now }
     ensures further { start < result }
-    ensures run { (rows rest : List LogicalLine) → drop start source.now ≡ rows ++ rest → AllByRecursion IsTextLine rows → IsRest rest → (result ≡ start + length rows) × (drop result source.now ≡ rest) }
+    ensures run { (run rest : List LogicalLine)
+        → drop start source.now ≡ run ++ rest
+        → AllByRecursion IsTextLine run
+        → IsRest rest
+        → (result ≡ start + length run) × (drop result source.now ≡ rest) }
 {
     let lines = count(source);
     let mut end = start + 1;
@@ -70,7 +74,10 @@ fn find_branch(
 ) -> Result<Result<usize, Fault>, Memory>
     requires { start < length source.now }
     ensures further { IfOk result (λ found. IfOk found (λ next. start < next)) }
-    ensures found { IfOk result (λ next. (ps : Parts) (bs : Branches) (qs : Parts) (k : Outer) → BranchesAt source.now start ps bs qs k → FindsBranch source.now state.old state.new bs qs k next) }
+    ensures found { IfOk result (λ next.
+        (ps : Parts) (bs : Branches) (qs : Parts) (k : Outer)
+        → BranchesAt source.now start ps bs qs k
+        → FindsBranch source.now state.old state.new bs qs k next) }
 {
     let mut index = start;
     while let Some(next) = line(source, index).next_branch {
@@ -89,7 +96,10 @@ fn find_branch(
 fn section_end(source: &Source, branch: usize) -> usize
     requires { branch < length source.now }
     ensures further { branch < result }
-    ensures end { (last : Bool) (bs : Branches) (rest : List LogicalLine) → drop branch source.now ≡ branch_lines bs ++ rest → AreBranches last bs → drop result source.now ≡ rest }
+    ensures end { (last : Bool) (bs : Branches) (rest : List LogicalLine)
+        → drop branch source.now ≡ branch_lines bs ++ rest
+        → AreBranches last bs
+        → drop result source.now ≡ rest }
 {
     let mut index = branch;
     while let Some(next) = line(source, index).next_branch {
@@ -110,7 +120,8 @@ fn enter_section(
     requires line { (line_at source.now index).directive ≡ Some directive }
     requires opens { opens_section directive ≡ true }
     ensures further { IfOk result (λ found. IfOk found (λ next. index < next)) }
-    ensures entered { (around : Files → Surroundings) (files : Files) (depth row : ℕ) → IfOk result (λ next. Advances around files depth row source.now index state.old state.new next) }
+    ensures entered { (around : Files → Surroundings) (files : Files) (depth row : ℕ)
+        → IfOk result (λ next. Advances around files depth row source.now index state.old state.new next) }
 {
     let (taken, left) = decide(alloc, state, directive, tokens_at(source, index))?;
     state.left = left;
@@ -131,7 +142,8 @@ fn do_run<'x>(
     requires index { index < length source.now }
     requires text { IsTextLine (line_at source.now index) }
     ensures further { IfOk result (λ found. IfOk found (λ next. index < next)) }
-    ensures run { (around : Files → Surroundings) (files : Files) (depth row : ℕ) → IfOk result (λ next. Advances around files depth row source.now index state.old state.new next) }
+    ensures run { (around : Files → Surroundings) (files : Files) (depth row : ℕ)
+        → IfOk result (λ next. Advances around files depth row source.now index state.old state.new next) }
 {
     let end = run_end(source, index);
     match run_text(alloc, state, tokens_between(source, index, end))? {
@@ -155,7 +167,11 @@ fn include<'x, 'a: 'x, D: Disk>(
     requires quotes { quotes.lone_quote line.now ≡ None }
     ensures shelf { pass.new.shelf ≡ around.now.shelf }
     ensures grows { Extends pass.new.files pass.old.files }
-    ensures control { IfOk result (λ leads. (number : ℕ) → Leads (surroundings_of around.now) pass.new.files (suc depth) (λ (more : Files) (m : Reached). Controls (surroundings_of around.now more) depth row state.old (directed Include line.now number) m) state.new leads) }
+    ensures control { IfOk result (λ leads.
+        (number : ℕ)
+        → Leads (surroundings_of around.now) pass.new.files (suc depth)
+        (λ (more : Files) (m : Reached). Controls (surroundings_of around.now more) depth row state.old (directed Include line.now number) m)
+        state.new leads) }
 {
     let (asked, left) = ask(around.alloc, state, line)?;
     state.left = left;
@@ -187,7 +203,10 @@ fn do_line<'x, 'a: 'x, D: Disk>(
     requires ends { ends_group directive ≡ false }
     ensures shelf { pass.new.shelf ≡ around.now.shelf }
     ensures grows { Extends pass.new.files pass.old.files }
-    ensures control { IfOk result (λ leads. Leads (surroundings_of around.now) pass.new.files (suc depth) (λ (more : Files) (m : Reached). Controls (surroundings_of around.now more) depth row state.old (directed directive line.now physical) m) state.new leads) }
+    ensures control { IfOk result (λ leads.
+        Leads (surroundings_of around.now) pass.new.files (suc depth)
+        (λ (more : Files) (m : Reached). Controls (surroundings_of around.now more) depth row state.old (directed directive line.now physical) m)
+        state.new leads) }
 {
     if directive == Directive::Error {
         return Ok(Err(error(around.alloc, line)?));
@@ -238,7 +257,8 @@ fn step<'x, 'a: 'x, D: Disk>(
     ensures shelf { pass.new.shelf ≡ around.now.shelf }
     ensures grows { Extends pass.new.files pass.old.files }
     ensures further { IfOk result (λ found. IfOk found (λ next. file.now.index < next.line)) }
-    ensures step { IfOk result (λ found. Steps (surroundings_of around.now) pass.new.files depth file.now.row file.now.source.now file.now.index state.old state.new found) }
+    ensures step { IfOk result (λ found.
+        Steps (surroundings_of around.now) pass.new.files depth file.now.row file.now.source.now file.now.index state.old state.new found) }
 {
     let OpenFile { row, source, index } = *file;
     let Some(directive) = line(source, index).directive else {
@@ -273,7 +293,9 @@ pub(crate) fn walk<'s, 'a: 's, D: Disk>(
     requires begins { first.index ≡ 0 }
     ensures shelf { pass.new.shelf ≡ around.now.shelf }
     ensures grows { Extends pass.new.files pass.old.files }
-    ensures walk { IfOk result (λ f. Walks (surroundings_of around.now) pass.new.files 0 first.entry.row first.entry.source.now state.old (record { state = state.new; fault = f })) }
+    ensures walk { IfOk result (λ f.
+        Walks (surroundings_of around.now) pass.new.files 0 first.entry.row first.entry.source.now state.old
+        (record { state = state.new; fault = f })) }
 {
     let mut waiting = Stack::new(around.alloc);
     let mut file = first;

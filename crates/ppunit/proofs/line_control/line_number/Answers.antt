@@ -11,6 +11,7 @@ loop-byte-preserved c =
     let i = c.loop-byte.byte-index in
     let digit : is_digit (get_or digits i 0) ≡ true = sym c.is_digit.ensures ∙ c.if-not-is_digit.false in
     elim c.if-number-le-LAST_LINE.branch [
-      | then-number-le-LAST_LINE w ↦ subst (Reads digits (i + 1)) (sym (w.number-is ∙ ap (λ d. c.loop-byte.number * 10 + d) w.from.ensures)) (reads_digit digits i c.loop-byte.number c.loop-byte-test.true digit w.if-number-le-LAST_LINE.true c.loop-byte.invariant)
+      | then-number-le-LAST_LINE w ↦ subst (Reads digits (i + 1)) (sym (w.number-is ∙ ap (λ d. c.loop-byte.number * 10 + d) w.from.ensures))
+          (reads_digit digits i c.loop-byte.number c.loop-byte-test.true digit w.if-number-le-LAST_LINE.true c.loop-byte.invariant)
       | else-number-le-LAST_LINE w ↦ subst (Reads digits (i + 1)) (sym w.number-is) (reads_on digits i c.loop-byte.number c.loop-byte-test.true digit (omega (arith, w.if-number-le-LAST_LINE.false)) c.loop-byte.invariant)
     ]

@@ -9,7 +9,9 @@ use Rattle.ppunit.proofs.opening.open.Goals as goal
 
 pub returns-then-depth-gt-DEEPEST-clause-opened : goal.returns-then-depth-gt-DEEPEST-clause-opened
 returns-then-depth-gt-DEEPEST-clause-opened g c more grows =
-    opens_deep (surroundings_of c.args.around.now more) c.args.depth c.args.row c.args.at c.args.state.now c.name-name.result.now c.in_ok-file_fault.field-0 c.if-depth-gt-DEEPEST.true (ap (λ (z : Stock). name_in z.names c.args.row) (sym c.shelf-shelf.ensures) ∙ sym c.name-name.ensures) c.in_ok-file_fault.ensures
+    opens_deep (surroundings_of c.args.around.now more) c.args.depth c.args.row c.args.at c.args.state.now c.name-name.result.now
+    c.in_ok-file_fault.field-0 c.if-depth-gt-DEEPEST.true
+    (ap (λ (z : Stock). name_in z.names c.args.row) (sym c.shelf-shelf.ensures) ∙ sym c.name-name.ensures) c.in_ok-file_fault.ensures
 
 pub returns-then-is_spent-clause-opened : goal.returns-then-is_spent-clause-opened
 returns-then-is_spent-clause-opened g c more grows =

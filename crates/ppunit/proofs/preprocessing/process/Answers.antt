@@ -11,5 +11,10 @@ use Rattle.ppunit.proofs.preprocessing.process.Goals as goal
 pub returns-clause-opened : goal.returns-clause-opened
 returns-clause-opened g c =
     let is : c.in_ok-entered.field-0 ≡ Ok (Some c.in-Ok-Some.entered) = cc in
-    let enters = subst (λ (z : Result (Option Entered) Fault). Leads (surroundings_of c.args.around.now) c.open.new.pass.files 0 (λ more m. Opened (surroundings_of c.args.around.now more) 0 (first_place c.args.row) c.args.state.now c.args.row m) c.open.new.state z) is c.in_ok-entered.ensures.opened in
-    entered_file (surroundings_of c.args.around.now) c.open.new.pass.files c.walk.new.pass.files 0 (λ more m. Opened (surroundings_of c.args.around.now more) 0 (first_place c.args.row) c.args.state.now c.args.row m) c.open.new.state c.walk.new.state c.in-Ok-Some.entered c.in_ok-fault.fault c.in_ok-fault.ensures.grows enters c.in_ok-fault.ensures.walk
+    let enters = subst
+    (λ (z : Result (Option Entered) Fault). Leads (surroundings_of c.args.around.now) c.open.new.pass.files 0
+    (λ more m. Opened (surroundings_of c.args.around.now more) 0 (first_place c.args.row) c.args.state.now c.args.row m) c.open.new.state z) is
+    c.in_ok-entered.ensures.opened in
+    entered_file (surroundings_of c.args.around.now) c.open.new.pass.files c.walk.new.pass.files 0
+    (λ more m. Opened (surroundings_of c.args.around.now more) 0 (first_place c.args.row) c.args.state.now c.args.row m) c.open.new.state
+    c.walk.new.state c.in-Ok-Some.entered c.in_ok-fault.fault c.in_ok-fault.ensures.grows enters c.in_ok-fault.ensures.walk

@@ -4,15 +4,16 @@ use Rattle.ppunit.specs.States.{with_left, surroundings_of}
 use Rattle.pptext.specs.declared.sources.Directive.TheVariants.{Include}
 use Rattle.ppunit.specs.Lines.{directed, line_fault}
 use Rattle.ppunit.specs.Directives.{Asks, Finds}
-use Rattle.ppunit.specs.Group.{Controls}
-use Rattle.ppunit.proofs.Walk.{none_of}
+use Rattle.ppunit.specs.Group.{Controls, Includes}
+use Rattle.ppunit.proofs.Options.{none_of}
 use Rattle.ppunit.proofs.Opens.{leads_included}
 use Rattle.ppunit.proofs.Preprocessed.{on_ok}
 use Rattle.ppunit.proofs.walking.include.Goals as goal
 
 pub returns-in-Err-clause-control : goal.returns-in-Err-clause-control
 returns-in-Err-clause-control g c number more grows =
-    Controls.misnamed refl c.requires.quotes (subst (Asks c.args.state.now c.args.line.now c.in_ok-asked.left) c.in-Err.is c.in_ok-asked.ensures)
+    Controls.include refl c.requires.quotes
+    (Includes.misnamed (subst (Asks c.args.state.now c.args.line.now c.in_ok-asked.left) c.in-Err.is c.in_ok-asked.ensures))
 
 pub returns-in_default-clause-control : goal.returns-in_default-clause-control
 returns-in_default-clause-control g c number more grows =
@@ -25,7 +26,7 @@ returns-in_default-clause-control g c number more grows =
     subst (Finds around c.args.row c.in-Ok.asked) (none_of c.in_ok-found.field-0 c.in_default.not-Some) (c.in_ok-found.ensures.finds more) in
     subst (λ (z : Fault). Controls around c.args.depth c.args.row c.args.state.now line
     (record { state = with_left c.args.state.now c.in_ok-asked.left; fault = Some z })) (sym same)
-    (Controls.missing c.in-Ok.asked refl c.requires.quotes asks finds)
+    (Controls.include refl c.requires.quotes (Includes.missing c.in-Ok.asked asks finds))
 
 pub returns-clause-control : goal.returns-clause-control
 returns-clause-control g c =

@@ -1,6 +1,7 @@
 use Rattle.std.proofs.Common.{◌∙◌, sym, arith}
 use Rattle.ppunit.specs.Walk.{line_at, IsTextLine}
-use Rattle.ppunit.proofs.Walk.{run_start, run_more, run_done, none_by, some_not}
+use Rattle.ppunit.proofs.RunEnd.{run_start, run_more, run_done}
+use Rattle.ppunit.proofs.Options.{none_by, some_not}
 use Rattle.ppunit.proofs.walking.run_end.Goals as goal
 
 pub loop-end-init : goal.loop-end-init

@@ -1,5 +1,6 @@
 use Rattle.std.proofs.Common.{◌∙◌, sym, arith}
-use Rattle.ppunit.proofs.Walk.{section_more, section_done, next_inside, none_of}
+use Rattle.ppunit.proofs.Walk.{section_more, section_done, next_inside}
+use Rattle.ppunit.proofs.Options.{none_of}
 use Rattle.ppunit.proofs.walking.section_end.Goals as goal
 
 pub loop-next-smaller : goal.loop-next-smaller

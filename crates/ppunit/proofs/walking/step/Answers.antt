@@ -6,22 +6,38 @@ use Rattle.ppunit.proofs.walking.step.Goals as goal
 
 pub returns-in_default-clause-step : goal.returns-in_default-clause-step
 returns-in_default-clause-step g c =
-    steps_line (surroundings_of c.args.around.now) c.args.pass.now.files c.args.depth c.args.file.now.row c.args.file.now.source.now c.args.file.now.index c.args.state.now c.do_run.new.state c.in_ok-do_run.field-0 c.to_line.result c.to_line.ensures (c.in_ok-do_run.ensures.run (surroundings_of c.args.around.now) c.args.pass.now.files c.args.depth c.args.file.now.row)
+    steps_line (surroundings_of c.args.around.now) c.args.pass.now.files c.args.depth c.args.file.now.row c.args.file.now.source.now
+    c.args.file.now.index c.args.state.now c.do_run.new.state c.in_ok-do_run.field-0 c.to_line.result c.to_line.ensures
+    (c.in_ok-do_run.ensures.run (surroundings_of c.args.around.now) c.args.pass.now.files c.args.depth c.args.file.now.row)
 
 pub returns-then-opens_section-clause-step : goal.returns-then-opens_section-clause-step
 returns-then-opens_section-clause-step g c =
-    steps_line (surroundings_of c.args.around.now) c.args.pass.now.files c.args.depth c.args.file.now.row c.args.file.now.source.now c.args.file.now.index c.args.state.now c.enter_section.new.state c.in_ok-enter_section.field-0 c.to_line-then-opens_section.result c.to_line-then-opens_section.ensures (c.in_ok-enter_section.ensures.entered (surroundings_of c.args.around.now) c.args.pass.now.files c.args.depth c.args.file.now.row)
+    steps_line (surroundings_of c.args.around.now) c.args.pass.now.files c.args.depth c.args.file.now.row c.args.file.now.source.now
+    c.args.file.now.index c.args.state.now c.enter_section.new.state c.in_ok-enter_section.field-0 c.to_line-then-opens_section.result
+    c.to_line-then-opens_section.ensures
+    (c.in_ok-enter_section.ensures.entered (surroundings_of c.args.around.now) c.args.pass.now.files c.args.depth c.args.file.now.row)
 
 pub returns-then-ends_group-clause-step : goal.returns-then-ends_group-clause-step
 returns-then-ends_group-clause-step g c =
-    steps_line (surroundings_of c.args.around.now) c.args.pass.now.files c.args.depth c.args.file.now.row c.args.file.now.source.now c.args.file.now.index c.args.state.now c.args.state.now (Ok c.section_end.result) c.to_line-then-ends_group.result c.to_line-then-ends_group.ensures (end_advances (surroundings_of c.args.around.now) c.args.pass.now.files c.args.depth c.args.file.now.row c.args.file.now.source.now c.args.file.now.index c.section_end.result c.args.state.now c.in-Some.directive c.requires.index (sym c.line.ensures.directive ∙ c.in-Some.is) (sym c.ends_group.ensures ∙ c.if-ends_group.true) c.section_end.ensures.end)
+    steps_line (surroundings_of c.args.around.now) c.args.pass.now.files c.args.depth c.args.file.now.row c.args.file.now.source.now
+    c.args.file.now.index c.args.state.now c.args.state.now (Ok c.section_end.result) c.to_line-then-ends_group.result
+    c.to_line-then-ends_group.ensures
+    (end_advances (surroundings_of c.args.around.now) c.args.pass.now.files c.args.depth c.args.file.now.row c.args.file.now.source.now
+    c.args.file.now.index c.section_end.result c.args.state.now c.in-Some.directive c.requires.index (sym c.line.ensures.directive ∙ c.in-Some.is)
+    (sym c.ends_group.ensures ∙ c.if-ends_group.true) c.section_end.ensures.end)
 
 pub returns-in-Ok-clause-step : goal.returns-in-Ok-clause-step
 returns-in-Ok-clause-step g c =
     let control = rw c.in-Ok.is at c.in_ok-entered.ensures.control in
-    steps_control (surroundings_of c.args.around.now) c.do_line.new.pass.files c.args.depth c.args.file.now.row c.args.file.now.source.now c.args.file.now.index c.args.state.now c.do_line.new.state c.in-Some.directive c.tokens_at-tokens.result.now c.line-2.result.now.number c.requires.index (sym c.line.ensures.directive ∙ c.in-Some.is) (sym c.opens_section.ensures ∙ c.if-opens_section.false) (sym c.ends_group.ensures ∙ c.if-ends_group.false) c.tokens_at-tokens.ensures.tokens c.line-2.ensures.number c.in-Ok.entered control
+    steps_control (surroundings_of c.args.around.now) c.do_line.new.pass.files c.args.depth c.args.file.now.row c.args.file.now.source.now
+    c.args.file.now.index c.args.state.now c.do_line.new.state c.in-Some.directive c.tokens_at-tokens.result.now c.line-2.result.now.number
+    c.requires.index (sym c.line.ensures.directive ∙ c.in-Some.is) (sym c.opens_section.ensures ∙ c.if-opens_section.false)
+    (sym c.ends_group.ensures ∙ c.if-ends_group.false) c.tokens_at-tokens.ensures.tokens c.line-2.ensures.number c.in-Ok.entered control
 
 pub returns-in-Err-clause-step : goal.returns-in-Err-clause-step
 returns-in-Err-clause-step g c =
     let control = rw c.in-Err.is at c.in_ok-entered.ensures.control in
-    stops_control (surroundings_of c.args.around.now) c.do_line.new.pass.files c.args.depth c.args.file.now.row c.args.file.now.source.now c.args.file.now.index c.args.state.now c.do_line.new.state c.in-Some.directive c.tokens_at-tokens.result.now c.line-2.result.now.number c.requires.index (sym c.line.ensures.directive ∙ c.in-Some.is) (sym c.opens_section.ensures ∙ c.if-opens_section.false) (sym c.ends_group.ensures ∙ c.if-ends_group.false) c.tokens_at-tokens.ensures.tokens c.line-2.ensures.number c.in-Err.fault control
+    stops_control (surroundings_of c.args.around.now) c.do_line.new.pass.files c.args.depth c.args.file.now.row c.args.file.now.source.now
+    c.args.file.now.index c.args.state.now c.do_line.new.state c.in-Some.directive c.tokens_at-tokens.result.now c.line-2.result.now.number
+    c.requires.index (sym c.line.ensures.directive ∙ c.in-Some.is) (sym c.opens_section.ensures ∙ c.if-opens_section.false)
+    (sym c.ends_group.ensures ∙ c.if-ends_group.false) c.tokens_at-tokens.ensures.tokens c.line-2.ensures.number c.in-Err.fault control

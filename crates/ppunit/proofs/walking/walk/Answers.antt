@@ -3,7 +3,7 @@ use Rattle.ppunit.specs.declared.stack.Waiting.{Waiting}
 use Rattle.ppunit.specs.declared.states.State.{State}
 use Rattle.ppunit.specs.States.{stopped, surroundings_of}
 use Rattle.ppunit.specs.Walk.{Walks}
-use Rattle.ppunit.proofs.Walk.{extends_trans}
+use Rattle.ppunit.proofs.WholeFile.{extends_trans}
 use Rattle.ppunit.proofs.OpenFiles.{StackSoFar, stack_start, stack_next, next_depth, stack_leaves, stack_stops, stack_done}
 use Rattle.ppunit.proofs.Work.{work, work_next, work_leaving}
 use Rattle.ppunit.proofs.walking.walk.Goals as goal
@@ -15,14 +15,20 @@ loop-file-init g c =
       shelf = c.requires.shelf;
       grows = λ row content known. known;
       depth = omega (arith, ap length none);
-      walked = subst (λ (z : List Waiting). StackSoFar (surroundings_of c.args.around.now) c.args.pass.now.files c.args.first.row c.args.first.source.now c.args.state.now z c.args.first c.args.state.now) (sym none) (stack_start (surroundings_of c.args.around.now) c.args.pass.now.files c.args.state.now c.args.first c.requires.begins);
+      walked =
+          subst (λ (z : List Waiting). StackSoFar (surroundings_of c.args.around.now) c.args.pass.now.files c.args.first.row c.args.first.source.now
+          c.args.state.now z c.args.first c.args.state.now) (sym none)
+          (stack_start (surroundings_of c.args.around.now) c.args.pass.now.files c.args.state.now c.args.first c.requires.begins);
     }
 
 pub returns-in_default-clause-walk : goal.returns-in_default-clause-walk
 returns-in_default-clause-walk g c =
     let none : c.loop-file.waiting ≡ [] = c.in_default.ensures.0 in
     let over : length c.loop-file.file.source.now ≤ c.loop-file.file.index = omega (arith, c.count.ensures, c.if-file-count.false) in
-    stack_done (surroundings_of c.args.around.now) c.loop-file.pass.files c.args.first.row c.args.first.source.now c.args.state.now c.loop-file.state c.loop-file.file (subst (λ (z : List Waiting). StackSoFar (surroundings_of c.args.around.now) c.loop-file.pass.files c.args.first.row c.args.first.source.now c.args.state.now z c.loop-file.file c.loop-file.state) none c.loop-file.invariant.walked) over
+    stack_done (surroundings_of c.args.around.now) c.loop-file.pass.files c.args.first.row c.args.first.source.now c.args.state.now c.loop-file.state
+    c.loop-file.file
+    (subst (λ (z : List Waiting). StackSoFar (surroundings_of c.args.around.now) c.loop-file.pass.files c.args.first.row c.args.first.source.now
+    c.args.state.now z c.loop-file.file c.loop-file.state) none c.loop-file.invariant.walked) over
 
 pub loop-file-smaller : goal.loop-file-smaller
 loop-file-smaller g c =
@@ -37,7 +43,11 @@ loop-file-preserved g c =
       shelf = c.loop-file.invariant.shelf;
       grows = c.loop-file.invariant.grows;
       depth = omega (arith, ap length there, c.loop-file.invariant.depth);
-      walked = stack_leaves (surroundings_of c.args.around.now) c.loop-file.pass.files c.args.first.row c.args.first.source.now c.args.state.now c.loop-file.state c.in-Some.outer c.pop.new.self c.loop-file.file (subst (λ (z : List Waiting). StackSoFar (surroundings_of c.args.around.now) c.loop-file.pass.files c.args.first.row c.args.first.source.now c.args.state.now z c.loop-file.file c.loop-file.state) there c.loop-file.invariant.walked) over;
+      walked =
+          stack_leaves (surroundings_of c.args.around.now) c.loop-file.pass.files c.args.first.row c.args.first.source.now c.args.state.now
+          c.loop-file.state c.in-Some.outer c.pop.new.self c.loop-file.file
+          (subst (λ (z : List Waiting). StackSoFar (surroundings_of c.args.around.now) c.loop-file.pass.files c.args.first.row c.args.first.source.now
+          c.args.state.now z c.loop-file.file c.loop-file.state) there c.loop-file.invariant.walked) over;
     }
 
 pub loop-file-smaller-in-Ok : goal.loop-file-smaller-in-Ok
@@ -45,7 +55,9 @@ loop-file-smaller-in-Ok g c =
     let step = rw (c.in-Ok.is, c.depth.ensures) at c.in_ok-next.ensures.step in
     let further = rw c.in-Ok.is at c.in_ok-next.ensures.further in
     let within : c.loop-file.file.index < length c.loop-file.file.source.now = omega (arith, c.count.ensures, c.if-file-count.true) in
-    let less = work_next (surroundings_of c.args.around.now) c.step.new.pass.files c.loop-file.file.row c.loop-file.file.source.now c.loop-file.file.index c.in-Ok.next.line c.loop-file.state c.step.new.state c.loop-file.file c.in-Ok.next.entered c.loop-file.waiting within further step in
+    let less = work_next (surroundings_of c.args.around.now) c.step.new.pass.files c.loop-file.file.row c.loop-file.file.source.now
+    c.loop-file.file.index c.in-Ok.next.line c.loop-file.state c.step.new.state c.loop-file.file c.in-Ok.next.entered c.loop-file.waiting within
+    further step in
     rw (c.in_ok-file-in-Ok.ensures.file, c.in_ok-file-in-Ok.ensures.waiting) less
 
 pub loop-file-preserved-in-Ok : goal.loop-file-preserved-in-Ok
@@ -54,11 +66,23 @@ loop-file-preserved-in-Ok g c =
     record {
       shelf = c.in_ok-next.ensures.shelf;
       grows = extends_trans c.step.new.pass.files c.loop-file.pass.files c.args.pass.now.files c.in_ok-next.ensures.grows c.loop-file.invariant.grows;
-      depth = rw c.in_ok-file-in-Ok.ensures.waiting (next_depth (surroundings_of c.args.around.now) c.step.new.pass.files c.loop-file.file.row c.loop-file.file.source.now c.loop-file.file.index c.in-Ok.next.line c.loop-file.state c.step.new.state c.loop-file.waiting (record c.loop-file.file { index = c.in-Ok.next.line }) c.in-Ok.next.entered c.loop-file.invariant.depth step);
-      walked = rw (c.in_ok-file-in-Ok.ensures.file, c.in_ok-file-in-Ok.ensures.waiting) (stack_next (surroundings_of c.args.around.now) c.loop-file.pass.files c.step.new.pass.files c.args.first.row c.args.first.source.now c.args.state.now c.loop-file.state c.step.new.state c.loop-file.waiting c.loop-file.file c.in-Ok.next c.loop-file.invariant.walked c.in_ok-next.ensures.grows step);
+      depth =
+          rw c.in_ok-file-in-Ok.ensures.waiting
+          (next_depth (surroundings_of c.args.around.now) c.step.new.pass.files c.loop-file.file.row c.loop-file.file.source.now
+          c.loop-file.file.index c.in-Ok.next.line c.loop-file.state c.step.new.state c.loop-file.waiting
+          (record c.loop-file.file { index = c.in-Ok.next.line }) c.in-Ok.next.entered c.loop-file.invariant.depth step);
+      walked =
+          rw (c.in_ok-file-in-Ok.ensures.file, c.in_ok-file-in-Ok.ensures.waiting)
+          (stack_next (surroundings_of c.args.around.now) c.loop-file.pass.files c.step.new.pass.files c.args.first.row c.args.first.source.now
+          c.args.state.now c.loop-file.state c.step.new.state c.loop-file.waiting c.loop-file.file c.in-Ok.next c.loop-file.invariant.walked
+          c.in_ok-next.ensures.grows step);
     }
 
 pub returns-in-Err-clause-walk : goal.returns-in-Err-clause-walk
 returns-in-Err-clause-walk g c =
     let step = rw (c.in-Err.is, c.depth.ensures) at c.in_ok-next.ensures.step in
-    subst (λ (z : State). Walks (surroundings_of c.args.around.now) c.step.new.pass.files 0 c.args.first.row c.args.first.source.now c.args.state.now (stopped z c.in-Err.fault)) (sym c.stop.ensures) (stack_stops (surroundings_of c.args.around.now) c.loop-file.pass.files c.step.new.pass.files c.args.first.row c.args.first.source.now c.args.state.now c.loop-file.state c.step.new.state c.in-Err.fault c.loop-file.waiting c.loop-file.file c.loop-file.invariant.walked c.in_ok-next.ensures.grows step)
+    subst (λ (z : State). Walks (surroundings_of c.args.around.now) c.step.new.pass.files 0 c.args.first.row c.args.first.source.now c.args.state.now
+    (stopped z c.in-Err.fault)) (sym c.stop.ensures)
+    (stack_stops (surroundings_of c.args.around.now) c.loop-file.pass.files c.step.new.pass.files c.args.first.row c.args.first.source.now
+    c.args.state.now c.loop-file.state c.step.new.state c.in-Err.fault c.loop-file.waiting c.loop-file.file c.loop-file.invariant.walked
+    c.in_ok-next.ensures.grows step)

@@ -1,7 +1,7 @@
 use Rattle.std.proofs.Common.{rules, ◌≤◌, ◌-◌, List, length, take, drop, ap, ◌∙◌, arith}
 use Rattle.pptext.specs.declared.tokens.Token.{Token}
 use Rattle.ppunit.proofs.IndexedLines.{between_line, one_line}
-use Rattle.ppunit.proofs.rows.tokens_at.Goals as goal
+use Rattle.ppunit.proofs.indexed.tokens_at.Goals as goal
 
 pub offset_bounds-tokens-line : goal.offset_bounds-tokens-line
 offset_bounds-tokens-line c =

@@ -4,7 +4,7 @@ use Rattle.pptext.specs.Sources.{tokens_of}
 use Rattle.pptext.proofs.Spans.{no_line, span}
 use Rattle.ppunit.specs.Walk.{line_at}
 use Rattle.ppunit.proofs.IndexedLines.{spans_length, line_is}
-use Rattle.ppunit.proofs.rows.line.Goals as goal
+use Rattle.ppunit.proofs.indexed.line.Goals as goal
 
 pub bounds-lines-index : goal.bounds-lines-index
 bounds-lines-index c = omega (arith, ap length c.lines.ensures, spans_length 0 0 c.args.source.now)
@@ -18,7 +18,9 @@ pub returns : goal.returns
 returns c =
     let lines = c.args.source.now in
     let x = get_or c.lines.result.now c.args.index no_line in
-    let is : x ≡ span c.args.index (length (tokens_of (take c.args.index lines))) (line_at lines c.args.index) (drop (suc c.args.index) lines) = ap (λ (z : List Line). get_or z c.args.index no_line) c.lines.ensures ∙ line_is lines c.args.index no_line c.requires in
+    let is : x ≡ span c.args.index (length (tokens_of (take c.args.index lines))) (line_at lines c.args.index) (drop (suc c.args.index) lines) = ap
+    (λ (z : List Line). get_or z c.args.index no_line) c.lines.ensures
+    ∙ line_is lines c.args.index no_line c.requires in
     record {
       few = omega (arith, ap length c.lines.ensures, spans_length 0 0 c.args.source.now, c.lines.type_inv);
       start = ap (λ (z : Line). z.start) is;
