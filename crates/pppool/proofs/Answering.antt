@@ -9,26 +9,28 @@ use Rattle.ppunit.specs.declared.units.Unit.{Unit as UnitOfList}
 use Rattle.ppunit.specs.declared.units.Setting.{Setting}
 use Rattle.ppunit.specs.declared.units.UnitOut.{UnitOut}
 use Rattle.ppunit.specs.Laws.{Grows}
-use Rattle.ppunit.specs.Unit.{IsUnit}
+use Rattle.pppool.specs.declared.keeping.Keep.{Keep}
+use Rattle.pppool.specs.Kept.{IsKept}
+use Rattle.pppool.proofs.Kept.{kept_grows}
 use Rattle.pppool.specs.declared.workers.Answer.{Answer}
 use Rattle.pppool.specs.Desk.{times}
 use Rattle.pppool.specs.Workers.{IsAnswer, AreAnswers, AllAnswered, answered}
 use Rattle.pppool.proofs.Totals.{times-append, times_at}
 
 -- what is true of an answer over some files is true over more
-pub answers_grow : Grows → (stock : Stock) (old new : Files) (setting : Setting) (units : List UnitOfList) (answers : List Answer) → Extends new old → AreAnswers stock old setting units answers → AreAnswers stock new setting units answers
-answers_grow grows stock old new setting units answers more all k d w =
+pub answers_grow : Grows → (keep : Keep) (stock : Stock) (old new : Files) (setting : Setting) (units : List UnitOfList) (answers : List Answer) → Extends new old → AreAnswers keep stock old setting units answers → AreAnswers keep stock new setting units answers
+answers_grow grows keep stock old new setting units answers more all k d w =
     let a = all k d w in
-    record { within = a.within; value = λ u. (grows stock.names old new setting (get_or units (get_or answers k d).unit u) (get_or answers k d).out more (a.value u)).0 }
+    record { within = a.within; value = λ u. kept_grows grows keep stock.names old new setting (get_or units (get_or answers k d).unit u) (get_or answers k d).out more (a.value u) }
 
 -- one answer more
-pub answers_push : Grows → (stock : Stock) (old new : Files) (setting : Setting) (units : List UnitOfList) (answers : List Answer) (number : ℕ) (unit : UnitOfList) (out : UnitOut)
-    → Extends new old → AreAnswers stock old setting units answers → number < length units → unit ≡ get_or units number unit → IsUnit stock.names new setting unit out
-    → AreAnswers stock new setting units (answers ++ record { unit = number; out = out } ∷ [])
-answers_push grows stock old new setting units answers number unit out more all w read is =
-    let P : Answer → Type 0 = IsAnswer stock new setting units in
-    let Q : UnitOfList → Type 0 = λ u. IsUnit stock.names new setting u out in
-    All-push P answers (record { unit = number; out = out }) (answers_grow grows stock old new setting units answers more all)
+pub answers_push : Grows → (keep : Keep) (stock : Stock) (old new : Files) (setting : Setting) (units : List UnitOfList) (answers : List Answer) (number : ℕ) (unit : UnitOfList) (out : UnitOut)
+    → Extends new old → AreAnswers keep stock old setting units answers → number < length units → unit ≡ get_or units number unit → IsKept keep stock.names new setting unit out
+    → AreAnswers keep stock new setting units (answers ++ record { unit = number; out = out } ∷ [])
+answers_push grows keep stock old new setting units answers number unit out more all w read is =
+    let P : Answer → Type 0 = IsAnswer keep stock new setting units in
+    let Q : UnitOfList → Type 0 = λ u. IsKept keep stock.names new setting u out in
+    All-push P answers (record { unit = number; out = out }) (answers_grow grows keep stock old new setting units answers more all)
     (record { within = w; value = λ u. subst Q (get_or_read units number unit w read u) is })
 
 pub answered_push : (answers : List Answer) (a : Answer) → answered (answers ++ a ∷ []) ≡ answered answers ++ a.unit ∷ []

@@ -11,6 +11,9 @@ use Rattle.ppunit.specs.declared.units.Setting.{Setting}
 use Rattle.ppunit.specs.declared.units.UnitOut.{UnitOut}
 use Rattle.ppunit.specs.Laws.{Grows}
 use Rattle.ppunit.specs.Unit.{IsUnit}
+use Rattle.pppool.specs.declared.keeping.Keep.{Keep}
+use Rattle.pppool.specs.Kept.{IsKept, AreKept, kept}
+use Rattle.pppool.proofs.Kept.{kept_grows}
 use Rattle.ppunit.specs.Capped.{IsWithin, IsCappedOver, StaysWithin, BudgetCaps}
 use Rattle.ppunit.specs.Units.{AreUnits, AreWithin, AreCapped}
 use Rattle.pppool.specs.declared.workers.Answer.{Answer}
@@ -44,29 +47,29 @@ if_some_map P Q None more h = tt
 if_some_map P Q (Some x) more h = more x h
 
 -- what stands in slots over some files stands there over more
-pub slots_grow : Grows → (stock : Stock) (old new : Files) (setting : Setting) (units : List UnitOfList) (slots : List (Option UnitOut)) → Extends new old → FitSlots stock old setting units slots → FitSlots stock new setting units slots
-slots_grow grows stock old new setting units slots more fit =
-    let At : Files → UnitOfList → UnitOut → Type 0 = λ files unit out. IsUnit stock.names files setting unit out in
+pub slots_grow : Grows → (keep : Keep) (stock : Stock) (old new : Files) (setting : Setting) (units : List UnitOfList) (slots : List (Option UnitOut)) → Extends new old → FitSlots keep stock old setting units slots → FitSlots keep stock new setting units slots
+slots_grow grows keep stock old new setting units slots more fit =
+    let At : Files → UnitOfList → UnitOut → Type 0 = λ files unit out. IsKept keep stock.names files setting unit out in
     zip_map (λ unit slot. IfSome slot (At old unit)) (λ unit slot. IfSome slot (At new unit)) units slots
-    (λ unit slot h. if_some_map (At old unit) (At new unit) slot (λ out is. (grows stock.names old new setting unit out more is).0) h) fit
+    (λ unit slot h. if_some_map (At old unit) (At new unit) slot (λ out is. kept_grows grows keep stock.names old new setting unit out more is) h) fit
 
 -- answers that are their units' values go into slots
-pub slots_placed : (stock : Stock) (files : Files) (setting : Setting) (units : List UnitOfList) (slots : List (Option UnitOut)) (answers : List Answer) → FitSlots stock files setting units slots → AreAnswers stock files setting units answers → FitSlots stock files setting units (placed slots answers)
-slots_placed stock files setting units slots [] fit all = fit
-slots_placed stock files setting units slots (a ∷ answers) fit all =
+pub slots_placed : (keep : Keep) (stock : Stock) (files : Files) (setting : Setting) (units : List UnitOfList) (slots : List (Option UnitOut)) (answers : List Answer) → FitSlots keep stock files setting units slots → AreAnswers keep stock files setting units answers → FitSlots keep stock files setting units (placed slots answers)
+slots_placed keep stock files setting units slots [] fit all = fit
+slots_placed keep stock files setting units slots (a ∷ answers) fit all =
     let first = all 0 a (omega arith) in
-    let R : UnitOfList → Option UnitOut → Type 0 = λ unit slot. IfSome slot (λ out. IsUnit stock.names files setting unit out) in
-    slots_placed stock files setting units (set slots a.unit (Some a.out)) answers (zip_set R units slots a.unit (Some a.out) fit (λ d w. first.value d)) (λ k d w. all (suc k) d (omega arith))
+    let R : UnitOfList → Option UnitOut → Type 0 = λ unit slot. IfSome slot (λ out. IsKept keep stock.names files setting unit out) in
+    slots_placed keep stock files setting units (set slots a.unit (Some a.out)) answers (zip_set R units slots a.unit (Some a.out) fit (λ d w. first.value d)) (λ k d w. all (suc k) d (omega arith))
 
-none_fit : (stock : Stock) (files : Files) (setting : Setting) (units : List UnitOfList) → FitSlots stock files setting units (replicate (length units) None)
-none_fit stock files setting [] = tt
-none_fit stock files setting (u ∷ units) = (tt, none_fit stock files setting units)
+none_fit : (keep : Keep) (stock : Stock) (files : Files) (setting : Setting) (units : List UnitOfList) → FitSlots keep stock files setting units (replicate (length units) None)
+none_fit keep stock files setting [] = tt
+none_fit keep stock files setting (u ∷ units) = (tt, none_fit keep stock files setting units)
 
 -- empty slots
-pub slots_empty : (stock : Stock) (files : Files) (setting : Setting) (units : List UnitOfList) (slots : List (Option UnitOut)) → slots ≡ replicate (length units) None → FitSlots stock files setting units slots
-slots_empty stock files setting units slots is =
-    let P : List (Option UnitOut) → Type 0 = FitSlots stock files setting units in
-    subst P (sym is) (none_fit stock files setting units)
+pub slots_empty : (keep : Keep) (stock : Stock) (files : Files) (setting : Setting) (units : List UnitOfList) (slots : List (Option UnitOut)) → slots ≡ replicate (length units) None → FitSlots keep stock files setting units slots
+slots_empty keep stock files setting units slots is =
+    let P : List (Option UnitOut) → Type 0 = FitSlots keep stock files setting units in
+    subst P (sym is) (none_fit keep stock files setting units)
 
 -- a slot that was full stays full, and each answer's slot is full
 full_set : (slots : List (Option UnitOut)) (j i : ℕ) (out : UnitOut) → IsSome (get_or slots i None) → IsSome (get_or (set slots j (Some out)) i None)
@@ -96,24 +99,30 @@ placed_fills slots (a ∷ answers) i w h =
           placed_fills (set slots a.unit (Some a.out)) answers i (let l = length-set slots a.unit (Some a.out) in omega arith) (omega arith)
     ]
 
--- at the end the slots have the units' values
-pub are_units : (stock : Stock) (files : Files) (setting : Setting) (units : List UnitOfList) (outs : List UnitOut) → FitSlots stock files setting units (map (λ x. Some x) outs) → AreUnits stock.names files setting units outs
-are_units stock files setting [] [] fit = tt
-are_units stock files setting [] (out ∷ outs) fit = elim fit [ ]
-are_units stock files setting (u ∷ units) [] fit = elim fit [ ]
-are_units stock files setting (u ∷ units) (out ∷ outs) fit = (fit.0, are_units stock files setting units outs fit.1)
+-- at the end the slots have what is kept of the units' values
+pub are_kept : (keep : Keep) (stock : Stock) (files : Files) (setting : Setting) (units : List UnitOfList) (outs : List UnitOut) → FitSlots keep stock files setting units (map (λ x. Some x) outs) → AreKept keep stock.names files setting units outs
+are_kept keep stock files setting [] [] fit = record { wholes = []; values = tt; same = refl }
+are_kept keep stock files setting [] (out ∷ outs) fit = elim fit [ ]
+are_kept keep stock files setting (u ∷ units) [] fit = elim fit [ ]
+are_kept keep stock files setting (u ∷ units) (out ∷ outs) fit =
+    let rest = are_kept keep stock files setting units outs fit.1 in
+    record {
+      wholes = fit.0.whole ∷ rest.wholes;
+      values = (fit.0.value, rest.values);
+      same = ap (λ (o : UnitOut). o ∷ outs) fit.0.same ∙ ap (λ (os : List UnitOut). kept keep fit.0.whole ∷ os) rest.same;
+    }
 
 -- ---- what comes of a worker that is done
 
 -- each unit has a slot
-pub slots_long : (stock : Stock) (files : Files) (setting : Setting) (units : List UnitOfList) (slots : List (Option UnitOut)) → FitSlots stock files setting units slots → (i : ℕ) → i < length units → i < length slots
-slots_long stock files setting units slots fit i w =
-    let long = AllZip-long (λ unit slot. IfSome slot (λ out. IsUnit stock.names files setting unit out)) units slots fit in
+pub slots_long : (keep : Keep) (stock : Stock) (files : Files) (setting : Setting) (units : List UnitOfList) (slots : List (Option UnitOut)) → FitSlots keep stock files setting units slots → (i : ℕ) → i < length units → i < length slots
+slots_long keep stock files setting units slots fit i w =
+    let long = AllZip-long (λ unit slot. IfSome slot (λ out. IsKept keep stock.names files setting unit out)) units slots fit in
     omega arith
 
 -- each answer has a slot
-pub within_slots : (stock : Stock) (mine theirs : Files) (setting : Setting) (units : List UnitOfList) (slots : List (Option UnitOut)) (answers : List Answer) → FitSlots stock mine setting units slots → AreAnswers stock theirs setting units answers → All (λ a. a.unit < length slots) answers
-within_slots stock mine theirs setting units slots answers fit all k d w = slots_long stock mine setting units slots fit (get_or answers k d).unit (all k d w).within
+pub within_slots : (keep : Keep) (stock : Stock) (mine theirs : Files) (setting : Setting) (units : List UnitOfList) (slots : List (Option UnitOut)) (answers : List Answer) → FitSlots keep stock mine setting units slots → AreAnswers keep stock theirs setting units answers → All (λ a. a.unit < length slots) answers
+within_slots keep stock mine theirs setting units slots answers fit all k d w = slots_long keep stock mine setting units slots fit (get_or answers k d).unit (all k d w).within
 
 -- a seat more is handed in
 pub filled_push : (count block : ℕ) (seats more : List SeatView) (seat : SeatView) (old new : List (Option UnitOut)) → more ≡ seats ++ seat ∷ [] → AllFilled count block (claims_of seats) old
@@ -136,10 +145,10 @@ if_ok_then (Ok x) p more = more x p
 if_ok_then (Err e) p more = tt
 
 -- where each block was claimed, all slots are full
-pub all_full : (stock : Stock) (files : Files) (setting : Setting) (units : List UnitOfList) (block blocks : ℕ) (claims : List ℕ) (slots : List (Option UnitOut)) → FitSlots stock files setting units slots
+pub all_full : (keep : Keep) (stock : Stock) (files : Files) (setting : Setting) (units : List UnitOfList) (block blocks : ℕ) (claims : List ℕ) (slots : List (Option UnitOut)) → FitSlots keep stock files setting units slots
     → AllFilled (length units) block claims slots → ((x : ℕ) → times x claims ≡ once_below x blocks) → ((i : ℕ) → i < length units → i / block < blocks) → All (λ s. IsSome s) slots
-all_full stock files setting units block blocks claims slots fit full whole below k d w =
-    let long = AllZip-long (λ unit slot. IfSome slot (λ out. IsUnit stock.names files setting unit out)) units slots fit in
+all_full keep stock files setting units block blocks claims slots fit full whole below k d w =
+    let long = AllZip-long (λ unit slot. IfSome slot (λ out. IsKept keep stock.names files setting unit out)) units slots fit in
     let u : k < length units = omega arith in
     let P : Option UnitOut → Type 0 = IsSome in
     let once = below_once_one (k / block) blocks (below k u) in

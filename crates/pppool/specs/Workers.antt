@@ -5,17 +5,18 @@ use Rattle.ppshelf.specs.Files.{Files, Stock, Known}
 use Rattle.ppunit.specs.declared.units.Unit.{Unit as UnitOfList}
 use Rattle.ppunit.specs.declared.units.Setting.{Setting}
 use Rattle.ppunit.specs.declared.units.UnitOut.{UnitOut}
-use Rattle.ppunit.specs.Unit.{IsUnit}
+use Rattle.pppool.specs.Kept.{IsKept}
+use Rattle.pppool.specs.declared.keeping.Keep.{Keep}
 use Rattle.pppool.specs.Desk.{DeskId, SeatView, times}
 use Rattle.pppool.specs.declared.workers.Answer.{Answer}
 
--- the answer is the value of the unit with its number
-pub record IsAnswer (stock : Stock) (files : Files) (setting : Setting) (units : List UnitOfList) (a : Answer) : Type 0 where
+-- the answer is what is kept of the value of the unit with its number
+pub record IsAnswer (keep : Keep) (stock : Stock) (files : Files) (setting : Setting) (units : List UnitOfList) (a : Answer) : Type 0 where
   pub within : a.unit < length units
-  pub value : (d : UnitOfList) → IsUnit stock.names files setting (slice_index_or units a.unit d) a.out
+  pub value : (d : UnitOfList) → IsKept keep stock.names files setting (slice_index_or units a.unit d) a.out
 
-abbrev pub AreAnswers : Stock → Files → Setting → List UnitOfList → List Answer → Type 0
-AreAnswers stock files setting units answers = All (λ a. IsAnswer stock files setting units a) answers
+abbrev pub AreAnswers : Keep → Stock → Files → Setting → List UnitOfList → List Answer → Type 0
+AreAnswers keep stock files setting units answers = All (λ a. IsAnswer keep stock files setting units a) answers
 
 -- the numbers of the units that are answered
 abbrev pub answered : List Answer → List ℕ
@@ -28,16 +29,16 @@ AllAnswered count block blocks units = (i : ℕ) → i < count → 0 < times (i 
 
 -- What a worker gives back: a seat that was told that no block is left, a pass, and answers over what the pass knows to all units of the
 -- blocks that the seat claimed.
-pub record IsDone (desk : DeskId) (stock : Stock) (setting : Setting) (units : List UnitOfList) (block : ℕ) (seat : SeatView) (pass : Known) (answers : List Answer) : Type 0 where
+pub record IsDone (keep : Keep) (desk : DeskId) (stock : Stock) (setting : Setting) (units : List UnitOfList) (block : ℕ) (seat : SeatView) (pass : Known) (answers : List Answer) : Type 0 where
   pub at_desk : seat.desk ≡ desk
   pub found_empty : seat.found_empty ≡ true
   pub of_shelf : pass.shelf ≡ stock
-  pub values : AreAnswers stock pass.files setting units answers
+  pub values : AreAnswers keep stock pass.files setting units answers
   pub all : AllAnswered (length units) block seat.claims (answered answers)
 
--- in each unit's slot stands its value, if anything
-abbrev pub FitSlots : Stock → Files → Setting → List UnitOfList → List (Option UnitOut) → Type 0
-FitSlots stock files setting units slots = AllZip (λ unit slot. IfSome slot (λ out. IsUnit stock.names files setting unit out)) units slots
+-- in each unit's slot stands what is kept of its value, if anything
+abbrev pub FitSlots : Keep → Stock → Files → Setting → List UnitOfList → List (Option UnitOut) → Type 0
+FitSlots keep stock files setting units slots = AllZip (λ unit slot. IfSome slot (λ out. IsKept keep stock.names files setting unit out)) units slots
 
 -- the slots with these answers put in, each into its unit's
 abbrev pub placed : List (Option UnitOut) → List Answer → List (Option UnitOut)

@@ -5,6 +5,7 @@ mod dealing;
 mod desk;
 mod gate;
 mod hand;
+mod keeping;
 mod laws;
 mod running;
 mod slots;
@@ -12,8 +13,9 @@ mod workers;
 
 pub use desk::{Desk, DeskSeat};
 pub use gate::Gate;
+pub use keeping::Keep;
 pub use laws::{joined_passes_agree, list_growth};
-pub use running::run;
+pub use running::{run, run_keeping};
 
 #[cfg(test)]
 mod tests;

@@ -4,10 +4,12 @@ ghost use Rattle.ppshelf.specs.Files.{Extends, Agree, AllLawful};
 ghost use Rattle.ppunit.specs.Unit.{IsUnitOf};
 ghost use Rattle.ppunit.specs.Units.{AreUnits, AreWithin, AreCapped};
 ghost use Rattle.pppool.specs.Desk.{new_seat, times, claims_of};
+ghost use Rattle.pppool.specs.Kept.{AreKept};
 ghost use Rattle.pppool.specs.Workers.{AllFilled, FitSlots, IsDone};
 
 use crate::desk::{Desk, DeskSeat};
 use crate::gate::Gate;
+use crate::keeping::Keep;
 use crate::slots::{all_of, empty_slots, place};
 use crate::workers::{Job, Worker};
 use ppshelf::{Disk, Pass, Shelf};
@@ -53,6 +55,54 @@ pub fn run<'a, R: Threads + Sync, D: Disk + Send + Sync, G: Gate + Sync>(
     ensures lawful { AllLawful D.may shelf.now.names pass.new.files }
     ensures filled { Agree shelf.now.base pass.new.files }
 {
+    let outs = run_keeping(
+        threads,
+        alloc,
+        shelf,
+        pass,
+        disk,
+        gate,
+        setting,
+        units,
+        workers,
+        block,
+        Keep::Whole,
+    )?;
+    shelf.lawful();
+    stays_within();
+    budget_caps_units();
+    Ok(outs)
+}
+
+/// Preprocesses the units of a list as `run` does, and keeps so much of each unit's value: what isn't kept is let go as soon as the unit is
+/// done.
+///
+/// Fails only for want of memory, and then the pass knows what it knew.
+pub fn run_keeping<'a, R: Threads + Sync, D: Disk + Send + Sync, G: Gate + Sync>(
+    threads: &R,
+    alloc: Global,
+    shelf: &'a Shelf<D>,
+    pass: &mut Pass<'a, D>,
+    disk: &D,
+    gate: &G,
+    setting: &Setting,
+    units: &'a [Unit],
+    workers: usize,
+    block: usize,
+    keep: Keep,
+) -> Result<Vec<UnitOut<'a>>, Memory>
+    requires shelf { pass.old.shelf ≡ shelf.now }
+    requires workers { (1 ≤ workers) × (workers ≤ 64) }
+    requires block { (1 ≤ block) × (block ≤ 1024) }
+    requires count { length units.now ≤ 65_535 }
+    requires profile { shelf.now.profile ≡ setting.now.profile }
+    requires rows { All (IsUnitOf (length shelf.now.names) setting.now.profile) units.now }
+    ensures shelf { pass.new.shelf ≡ shelf.now }
+    ensures grows { Extends pass.new.files pass.old.files }
+    ensures kept { IfOk result (λ outs. AreKept keep shelf.now.names pass.new.files setting.now units.now outs.items) }
+    ensures lawful { AllLawful D.may shelf.now.names pass.new.files }
+    ensures filled { Agree shelf.now.base pass.new.files }
+{
     pass.lawful();
     let (desk, seats) = Desk::new(alloc, block_count(units.len(), block), workers)?;
     let gathered = gather(
@@ -65,6 +115,7 @@ pub fn run<'a, R: Threads + Sync, D: Disk + Send + Sync, G: Gate + Sync>(
             setting,
             units,
             block,
+            keep,
             desk: &desk,
         },
         seats,
@@ -72,8 +123,6 @@ pub fn run<'a, R: Threads + Sync, D: Disk + Send + Sync, G: Gate + Sync>(
     );
     pass.lawful();
     shelf.lawful();
-    stays_within();
-    budget_caps_units();
     let (seats, slots) = gathered?;
     if desk.close(seats) {
         all_of(alloc, slots)
@@ -108,12 +157,12 @@ fn gather<'a, R: Threads + Sync, D: Disk + Send + Sync, G: Gate + Sync>(
     ensures shelf { pass.new.shelf ≡ job.now.shelf.now }
     ensures grows { Extends pass.new.files pass.old.files }
     ensures seats { IfOk result (λ r. All (λ s. s.desk ≡ job.now.desk.now) r.0.items) }
-    ensures slots { IfOk result (λ r. FitSlots job.now.shelf.now pass.new.files job.now.setting.now job.now.units.now r.1.items) }
+    ensures slots { IfOk result (λ r. FitSlots job.now.keep job.now.shelf.now pass.new.files job.now.setting.now job.now.units.now r.1.items) }
     ensures full { IfOk result (λ r. AllFilled (length job.now.units.now) job.now.block (claims_of r.0.items) r.1.items) }
 {
     let task = |seat: DeskSeat| -> Result<Worker<D>, Memory>
         requires { (seat ≡ new_seat job.now.desk.now) × (1 ≤ job.now.block) × (job.now.block ≤ 1024) × (job.now.desk.now.plan.blocks ≤ 65_535) × (job.now.shelf.now.profile ≡ job.now.setting.now.profile) × All (IsUnitOf (length job.now.shelf.now.names) job.now.setting.now.profile) job.now.units.now }
-        ensures { IfOk result (λ w. IsDone job.entry.now.desk.now job.entry.now.shelf.now job.entry.now.setting.now job.entry.now.units.now job.entry.now.block w.seat w.pass w.answers.items) }
+        ensures { IfOk result (λ w. IsDone job.entry.now.keep job.entry.now.desk.now job.entry.now.shelf.now job.entry.now.setting.now job.entry.now.units.now job.entry.now.block w.seat w.pass w.answers.items) }
     { Worker::in_seat(job, seat) };
     let done = thread::map_vec(threads, seats, &task)?;
     collect(job, pass, done)
@@ -126,11 +175,11 @@ fn collect<'a, D: Disk, G: Gate>(
     done: Vec<Result<Worker<'a, D>, Memory>>,
 ) -> Result<(Vec<DeskSeat>, Vec<Option<UnitOut<'a>>>), Memory>
     requires shelf { pass.old.shelf ≡ job.now.shelf.now }
-    requires done { All (λ r. IfOk r (λ w. IsDone job.now.desk.now job.now.shelf.now job.now.setting.now job.now.units.now job.now.block w.seat w.pass w.answers.items)) done.items }
+    requires done { All (λ r. IfOk r (λ w. IsDone job.now.keep job.now.desk.now job.now.shelf.now job.now.setting.now job.now.units.now job.now.block w.seat w.pass w.answers.items)) done.items }
     ensures shelf { pass.new.shelf ≡ job.now.shelf.now }
     ensures grows { Extends pass.new.files pass.old.files }
     ensures seats { IfOk result (λ r. All (λ s. s.desk ≡ job.now.desk.now) r.0.items) }
-    ensures slots { IfOk result (λ r. FitSlots job.now.shelf.now pass.new.files job.now.setting.now job.now.units.now r.1.items) }
+    ensures slots { IfOk result (λ r. FitSlots job.now.keep job.now.shelf.now pass.new.files job.now.setting.now job.now.units.now r.1.items) }
     ensures full { IfOk result (λ r. AllFilled (length job.now.units.now) job.now.block (claims_of r.0.items) r.1.items) }
 {
     let mut seats = Vec::new(job.alloc);
@@ -151,12 +200,12 @@ fn absorb<'a, D: Disk, G: Gate>(
     slots: &mut Vec<Option<UnitOut<'a>>>,
 ) -> DeskSeat
     requires mine { pass.old.shelf ≡ job.now.shelf.now }
-    requires done { IsDone job.now.desk.now job.now.shelf.now job.now.setting.now job.now.units.now job.now.block worker.seat worker.pass worker.answers.items }
-    requires slots { FitSlots job.now.shelf.now pass.old.files job.now.setting.now job.now.units.now slots.old.items }
+    requires done { IsDone job.now.keep job.now.desk.now job.now.shelf.now job.now.setting.now job.now.units.now job.now.block worker.seat worker.pass worker.answers.items }
+    requires slots { FitSlots job.now.keep job.now.shelf.now pass.old.files job.now.setting.now job.now.units.now slots.old.items }
     ensures seat { result.desk ≡ job.now.desk.now }
     ensures shelf { pass.new.shelf ≡ job.now.shelf.now }
     ensures grows { Extends pass.new.files pass.old.files }
-    ensures slots { FitSlots job.now.shelf.now pass.new.files job.now.setting.now job.now.units.now slots.new.items }
+    ensures slots { FitSlots job.now.keep job.now.shelf.now pass.new.files job.now.setting.now job.now.units.now slots.new.items }
     ensures stay { (i : ℕ) → IsSome (slice_index_or slots.old.items i None) → IsSome (slice_index_or slots.new.items i None) }
     ensures put { (i : ℕ) → i < length job.now.units.now → 0 < times (i / job.now.block) result.claims → IsSome (slice_index_or slots.new.items i None) }
 {

@@ -7,6 +7,7 @@ ghost use Rattle.pppool.specs.Workers.{AreAnswers, AllAnswered, IsDone, answered
 
 use crate::desk::{Desk, DeskSeat};
 use crate::gate::Gate;
+use crate::keeping::{Keep, kept};
 use ppshelf::{Disk, Pass, Shelf};
 use pptext::Memory;
 use ppunit::{Setting, Unit, UnitOut, growth, preprocess};
@@ -21,6 +22,7 @@ pub(crate) struct Job<'a, 'j, D: Disk, G: Gate> {
     pub setting: &'j Setting,
     pub units: &'a [Unit],
     pub block: usize,
+    pub keep: Keep,
     pub desk: &'j Desk,
 }
 
@@ -34,12 +36,13 @@ impl<D: Disk, G: Gate> Drop for Job<'_, '_, D, G> {
             setting: _,
             units: _,
             block: _,
+            keep: _,
             desk: _,
         } = self;
     }
 }
 
-/// What a unit gives, with its number in the list.
+/// What is kept of what a unit gives, with its number in the list.
 #[derive(Drop)]
 pub(crate) struct Answer<'a> {
     pub unit: usize,
@@ -70,10 +73,10 @@ impl<'a, D: Disk> Worker<'a, D> {
         requires unit { unit < length job.now.units.now }
         requires profile { job.now.shelf.now.profile ≡ job.now.setting.now.profile }
         requires rows { All (IsUnitOf (length job.now.shelf.now.names) job.now.setting.now.profile) job.now.units.now }
-        requires answers { AreAnswers job.now.shelf.now self.old.pass.files job.now.setting.now job.now.units.now self.old.answers.items }
+        requires answers { AreAnswers job.now.keep job.now.shelf.now self.old.pass.files job.now.setting.now job.now.units.now self.old.answers.items }
         ensures seat { self.new.seat ≡ self.old.seat }
         ensures shelf { self.new.pass.shelf ≡ job.now.shelf.now }
-        ensures answers { OnOk result (AreAnswers job.now.shelf.now self.new.pass.files job.now.setting.now job.now.units.now self.new.answers.items) }
+        ensures answers { OnOk result (AreAnswers job.now.keep job.now.shelf.now self.new.pass.files job.now.setting.now job.now.units.now self.new.answers.items) }
         ensures answered { OnOk result (answered self.new.answers.items ≡ answered self.old.answers.items ++ unit ∷ []) }
     {
         job.gate.enter(unit);
@@ -86,7 +89,7 @@ impl<'a, D: Disk> Worker<'a, D> {
             &job.units[unit],
         );
         growth();
-        let out = given?;
+        let out = kept(job.alloc, job.keep, given?);
         self.answers.push(Answer { unit, out })?;
         Ok(())
     }
@@ -98,10 +101,10 @@ impl<'a, D: Disk> Worker<'a, D> {
         requires number { number < 65_535 }
         requires profile { job.now.shelf.now.profile ≡ job.now.setting.now.profile }
         requires rows { All (IsUnitOf (length job.now.shelf.now.names) job.now.setting.now.profile) job.now.units.now }
-        requires answers { AreAnswers job.now.shelf.now self.old.pass.files job.now.setting.now job.now.units.now self.old.answers.items }
+        requires answers { AreAnswers job.now.keep job.now.shelf.now self.old.pass.files job.now.setting.now job.now.units.now self.old.answers.items }
         ensures seat { self.new.seat ≡ self.old.seat }
         ensures shelf { self.new.pass.shelf ≡ job.now.shelf.now }
-        ensures answers { OnOk result (AreAnswers job.now.shelf.now self.new.pass.files job.now.setting.now job.now.units.now self.new.answers.items) }
+        ensures answers { OnOk result (AreAnswers job.now.keep job.now.shelf.now self.new.pass.files job.now.setting.now job.now.units.now self.new.answers.items) }
         ensures stay { OnOk result ((i : ℕ) → 0 < times i (answered self.old.answers.items) → 0 < times i (answered self.new.answers.items)) }
         ensures block { OnOk result ((i : ℕ) → i < length job.now.units.now → i / job.now.block ≡ number → 0 < times i (answered self.new.answers.items)) }
     {
@@ -122,7 +125,7 @@ impl<'a, D: Disk> Worker<'a, D> {
         requires profile { job.now.shelf.now.profile ≡ job.now.setting.now.profile }
         requires rows { All (IsUnitOf (length job.now.shelf.now.names) job.now.setting.now.profile) job.now.units.now }
         requires answers { self.old.answers.items ≡ [] }
-        ensures { OnOk result (IsDone job.now.desk.now job.now.shelf.now job.now.setting.now job.now.units.now job.now.block self.new.seat self.new.pass self.new.answers.items) }
+        ensures { OnOk result (IsDone job.now.keep job.now.desk.now job.now.shelf.now job.now.setting.now job.now.units.now job.now.block self.new.seat self.new.pass self.new.answers.items) }
     {
         while let Some(number) = job.desk.claim(&mut self.seat) {
             self.work_block(job, number as usize)?;
@@ -137,7 +140,7 @@ impl<'a, D: Disk> Worker<'a, D> {
         requires blocks { job.now.desk.now.plan.blocks ≤ 65_535 }
         requires profile { job.now.shelf.now.profile ≡ job.now.setting.now.profile }
         requires rows { All (IsUnitOf (length job.now.shelf.now.names) job.now.setting.now.profile) job.now.units.now }
-        ensures { IfOk result (λ w. IsDone job.now.desk.now job.now.shelf.now job.now.setting.now job.now.units.now job.now.block w.seat w.pass w.answers.items) }
+        ensures { IfOk result (λ w. IsDone job.now.keep job.now.desk.now job.now.shelf.now job.now.setting.now job.now.units.now job.now.block w.seat w.pass w.answers.items) }
     {
         let mut worker = Worker {
             seat,

@@ -12,7 +12,7 @@ loop-one-init g c =
       c.requires.shelf,
       (λ row x e. e),
       none_at job.desk.now c.new-seats.result.items none,
-      slots_empty job.shelf.now c.args.pass.now.files job.setting.now job.units.now slots c.in_ok-slots.ensures,
+      slots_empty job.keep job.shelf.now c.args.pass.now.files job.setting.now job.units.now slots c.in_ok-slots.ensures,
       filled_none (length job.units.now) job.block c.new-seats.result.items slots none,
     )
 

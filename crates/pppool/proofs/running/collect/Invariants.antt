@@ -9,5 +9,5 @@ invariant-loop-one g l =
     (l.pass.shelf ≡ l.job.shelf.now)
     × Extends l.pass.files l.initial.pass.files
     × All (λ s. s.desk ≡ l.job.desk.now) l.seats.items
-    × FitSlots l.job.shelf.now l.pass.files l.job.setting.now l.job.units.now l.slots.items
+    × FitSlots l.job.keep l.job.shelf.now l.pass.files l.job.setting.now l.job.units.now l.slots.items
     × AllFilled (length l.job.units.now) l.job.block (claims_of l.seats.items) l.slots.items

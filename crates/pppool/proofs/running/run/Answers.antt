@@ -1,45 +1,15 @@
-use Rattle.std.proofs.Common.{ℕ, ◌≡◌, ◌<◌, ◌/◌, List, length, ap, sym, subst, map, Some, Option}
-use Rattle.ppshelf.specs.Files.{Agree, Stock}
-use Rattle.ppunit.specs.declared.units.UnitOut.{UnitOut}
-use Rattle.pppool.specs.declared.hand.Plan.{Plan}
-use Rattle.pppool.specs.Desk.{claims_of}
-use Rattle.pppool.specs.Workers.{FitSlots}
-use Rattle.pppool.proofs.Placing.{all_full, are_units, are_within, are_capped, if_ok_then}
+use Rattle.ppunit.specs.Units.{AreUnits}
+use Rattle.pppool.proofs.Kept.{all_kept}
+use Rattle.pppool.proofs.Placing.{are_within, are_capped}
 use Rattle.pppool.proofs.running.run.Goals as goal
 
-pub all_of-requires : goal.all_of-requires
-all_of-requires g c =
-    let e = c.in_ok-seats.ensures in
-    let Q : ℕ → Type 0 = λ n. (i : ℕ) → i < length c.args.units.now → i / c.args.block < n in
-    let blocks = ap (λ (p : Plan). p.blocks) c.in_ok-desk.ensures.plan in
-    all_full c.args.shelf.now c.gather-gathered.new.pass.files c.args.setting.now c.args.units.now c.args.block c.in_ok-desk.desk.plan.blocks (claims_of c.in_ok-seats.seats.items) c.in_ok-seats.slots.items
-    e.slots e.full (c.close.ensures.whole c.if-close.true) (subst Q (sym blocks) c.block_count.ensures.all)
+pub returns-clause-value : goal.returns-clause-value
+returns-clause-value g c = all_kept c.args.shelf.now.names c.run_keeping.new.pass.files c.args.setting.now c.args.units.now c.in_ok-outs.outs.items c.in_ok-outs.ensures.kept
 
-pub returns-then-close-clause-value : goal.returns-then-close-clause-value
-returns-then-close-clause-value g c =
-    let files = c.gather-gathered.new.pass.files in
-    let P : List (Option UnitOut) → Type 0 = FitSlots c.args.shelf.now files c.args.setting.now c.args.units.now in
-    if_ok_then c.all_of.result c.all_of.ensures (λ v is. are_units c.args.shelf.now files c.args.setting.now c.args.units.now v.items (subst P is c.in_ok-seats.ensures.slots))
+pub returns-clause-within : goal.returns-clause-within
+returns-clause-within g c =
+    are_within c.stays_within.ensures c.args.shelf.now.names c.run_keeping.new.pass.files c.args.setting.now c.args.units.now c.in_ok-outs.outs.items (returns-clause-value g c)
 
-pub returns-then-close-clause-within : goal.returns-then-close-clause-within
-returns-then-close-clause-within g c =
-    if_ok_then c.all_of.result (returns-then-close-clause-value g c)
-    (λ v are. are_within c.stays_within.ensures c.args.shelf.now.names c.gather-gathered.new.pass.files c.args.setting.now c.args.units.now v.items are)
-
-pub returns-then-close-clause-capped : goal.returns-then-close-clause-capped
-returns-then-close-clause-capped g c =
-    let names = c.args.shelf.now.names in
-    let files = c.gather-gathered.new.pass.files in
-    let caps = c.budget_caps_units.ensures in
-    if_ok_then c.all_of.result (returns-then-close-clause-value g c)
-    (λ v are. are_capped caps names files c.args.setting.now c.args.units.now v.items c.lawful-3.ensures.names are)
-
-pub returns-clause-filled : goal.returns-clause-filled
-returns-clause-filled g c =
-    let P : Stock → Type 0 = λ s. Agree (s.base) c.gather-gathered.new.pass.files in
-    subst P c.gather-gathered.ensures.shelf c.lawful-2.ensures.filled
-
-pub returns-then-close-clause-filled : goal.returns-then-close-clause-filled
-returns-then-close-clause-filled g c =
-    let P : Stock → Type 0 = λ s. Agree (s.base) c.gather-gathered.new.pass.files in
-    subst P c.gather-gathered.ensures.shelf c.lawful-2.ensures.filled
+pub returns-clause-capped : goal.returns-clause-capped
+returns-clause-capped g c =
+    are_capped c.budget_caps_units.ensures c.args.shelf.now.names c.run_keeping.new.pass.files c.args.setting.now c.args.units.now c.in_ok-outs.outs.items c.lawful.ensures.names (returns-clause-value g c)

@@ -7,7 +7,7 @@ abbrev pub invariant-loop-number : goal.invariant-loop-number
 invariant-loop-number g l =
     (l.self.seat.desk ≡ l.job.desk.now)
     × (l.self.pass.shelf ≡ l.job.shelf.now)
-    × AreAnswers l.job.shelf.now l.self.pass.files l.job.setting.now l.job.units.now l.self.answers.items
+    × AreAnswers l.job.keep l.job.shelf.now l.self.pass.files l.job.setting.now l.job.units.now l.self.answers.items
     × AllAnswered (length l.job.units.now) l.job.block l.self.seat.claims (answered l.self.answers.items)
 
 abbrev pub decreases-loop-number : goal.decreases-loop-number

@@ -7,6 +7,6 @@ abbrev pub invariant-loop-unit : goal.invariant-loop-unit
 invariant-loop-unit g l =
     (l.self.seat ≡ l.initial.self.seat)
     × (l.self.pass.shelf ≡ l.job.shelf.now)
-    × AreAnswers l.job.shelf.now l.self.pass.files l.job.setting.now l.job.units.now l.self.answers.items
+    × AreAnswers l.job.keep l.job.shelf.now l.self.pass.files l.job.setting.now l.job.units.now l.self.answers.items
     × ((i : ℕ) → 0 < times i (answered l.initial.self.answers.items) → 0 < times i (answered l.self.answers.items))
     × ((i : ℕ) → l.first ≤ i → i < l.unit → 0 < times i (answered l.self.answers.items))

@@ -1,0 +1,31 @@
+-- What is kept of the units' answers.
+use Rattle.std.specs.Prelude.{◌≡◌, ℕ, List, [], map}
+use Rattle.ppshelf.specs.Files.{Files}
+use Rattle.ppunit.specs.declared.units.Unit.{Unit as UnitOfList}
+use Rattle.ppunit.specs.declared.units.Setting.{Setting}
+use Rattle.ppunit.specs.declared.units.UnitOut.{UnitOut}
+use Rattle.ppunit.specs.Unit.{IsUnit}
+use Rattle.ppunit.specs.Units.{AreUnits}
+use Rattle.pppool.specs.declared.keeping.Keep.{Keep}
+use Rattle.pppool.specs.declared.keeping.Keep.TheVariants.{Whole, Bare}
+
+-- an answer without its items
+abbrev pub bare : UnitOut → UnitOut
+bare out = record { items = []; deps = out.deps; fault = out.fault }
+
+-- what is kept of an answer
+abbrev pub kept : Keep → UnitOut → UnitOut
+kept Whole out = out
+kept Bare out = bare out
+
+-- this is what is kept of the unit's value
+pub record IsKept (keep : Keep) (names : List (List ℕ)) (files : Files) (setting : Setting) (unit : UnitOfList) (out : UnitOut) : Type 0 where
+  pub whole : UnitOut
+  pub value : IsUnit names files setting unit whole
+  pub same : out ≡ kept keep whole
+
+-- these are what is kept of the units' values over these files, in order, each once
+pub record AreKept (keep : Keep) (names : List (List ℕ)) (files : Files) (setting : Setting) (units : List UnitOfList) (outs : List UnitOut) : Type 0 where
+  pub wholes : List UnitOut
+  pub values : AreUnits names files setting units wholes
+  pub same : outs ≡ map (kept keep) wholes
