@@ -3,7 +3,7 @@ use Rattle.std.proofs.Common.{List, ◌++◌, Option, option_map}
 use Rattle.serde_json.specs.Data.{Data}
 use Rattle.serde_json.specs.View.{items_view}
 use Rattle.serde_json.specs.declared.value.Value.{Value}
-use Rattle.cppunits.specs.Shape.{each_item}
+use Rattle.cppunits.specs.Drafting.{each_item}
 
 -- what is read of the items from here on
 abbrev pub read_from : {A : Type 0} → (Data → Option A) → List Value → Option (List A)

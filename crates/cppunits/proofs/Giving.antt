@@ -1,27 +1,29 @@
 -- What the units of a list give, over files that are known.
-use Rattle.std.specs.Io.KnownBytes.{Appends}
-use Rattle.std.proofs.Common.{Bool, Result, Ok, Err, IfOk, Vec, ◌≡◌, ℕ, ◌+◌, ◌<◌, ◌≤◌, List, [], ◌∷◌, ◌++◌, map, length, get_or, take, Option, Some, None, IsSome, String, All, sym, ap, ◌∙◌, subst, arith, refl, replicate, inl, inr}
+use Rattle.std.proofs.Common.{Bool, Result, Ok, Err, IfOk, Vec, ◌≡◌, ℕ, ◌<◌, ◌≤◌, List, [], ◌∷◌, map, length, get_or, take, Option, Some, None, IsSome, String, All, sym, ap, ◌∙◌, subst, arith, refl, replicate, inl, inr}
 use Rattle.std.specs.List.{AllZip}
 use Rattle.std.specs.String.{string_bytes}
 use Rattle.std.specs.declared.alloc.Global.{Global}
 use Rattle.std.proofs.lemmas.Bool.{cases_lt, false≢true}
-use Rattle.std.proofs.lemmas.List.{ext_get_or, get_or_past, get_or-map, get_or-replicate, length-map, take_more}
+use Rattle.std.proofs.lemmas.List.{ext_get_or, get_or_past, get_or-map, get_or-replicate, length-map}
 use Rattle.std.proofs.lemmas.Option.{none-some}
-use Rattle.std.proofs.lemmas.Slice.Zip.{all_zipped_more, AllZip-long}
+use Rattle.std.proofs.lemmas.Slice.Zip.{AllZip-long}
 use Rattle.ppshelf.specs.Content.{Content, readable}
 use Rattle.ppshelf.specs.Files.{most_rows, Files, Stock, file_at, Extends, Agree, IsFull, Filled, bytes_at}
 use Rattle.ppunit.specs.declared.units.Setting.{Setting}
 use Rattle.ppunit.specs.declared.units.Unit.{Unit as UnitOfList}
 use Rattle.ppunit.specs.declared.units.UnitOut.{UnitOut}
 use Rattle.ppunit.specs.Unit.{IsUnit, IsUnitOf}
-use Rattle.ppunit.specs.Units.{AreUnits}
+use Rattle.pppool.specs.declared.keeping.Keep.{Keep}
+use Rattle.pppool.specs.Kept.{AreKept, kept}
 use Rattle.cppunits.specs.declared.list.List.{List as CompilationList}
 use Rattle.cppunits.specs.Contents.{files_of, GiveOverSome}
 use Rattle.cppunits.specs.Listing.{IsRunnable}
 use Rattle.cppunits.specs.Output.{numbered, unit_lines, output_text}
-use Rattle.cppunits.specs.Serving.{some_fault, Brings, HandsOut, HandsOutFront, Serves, BreaksOff}
+use Rattle.cppunits.specs.Serving.{some_fault, Comes, HandsOut, HandsOutFront, Serves, BreaksOff}
 use Rattle.cppunits.specs.declared.output.Mode.{Mode}
+use Rattle.cppunits.specs.Needed.{needed}
 use Rattle.cppunits.proofs.Known.{appends_as}
+use Rattle.cppunits.proofs.Shown.{text_kept, some_fault_kept}
 
 -- what was put in a filled row
 content_now : (o : Option Content) → IsSome o → (c : Content) × (o ≡ Some c)
@@ -38,18 +40,19 @@ knows_files shelf files full agree len row c e =
       | inr w ↦ absurd (none-some c (sym (get_or_past files row None w) ∙ e))
     ]
 
--- what units give over a shelf of the list's files, they give over the list's
-pub gives_all : (list : CompilationList) (shelf : Stock) (units : List UnitOfList) (outs : List UnitOut) → shelf.names ≡ list.names → shelf.base ≡ files_of list.contents → units ≡ list.units
-    → AreUnits shelf.names shelf.base list.setting units outs → AreUnits list.names (files_of list.contents) list.setting list.units outs
-gives_all list shelf units outs named is same gives =
-    let P : List (List ℕ) → Type 0 = λ ns. AreUnits ns shelf.base list.setting units outs in
-    let Q : Files → Type 0 = λ fs. AreUnits list.names fs list.setting units outs in
-    let R : List UnitOfList → Type 0 = λ us. AreUnits list.names (files_of list.contents) list.setting us outs in
+-- what is kept of what units give over a shelf of the list's files is kept of what they give over the list's
+pub gives_all : (keep : Keep) (list : CompilationList) (shelf : Stock) (units : List UnitOfList) (outs : List UnitOut) → shelf.names ≡ list.names → shelf.base ≡ files_of list.contents → units ≡ list.units
+    → AreKept keep shelf.names shelf.base list.setting units outs → AreKept keep list.names (files_of list.contents) list.setting list.units outs
+gives_all keep list shelf units outs named is same gives =
+    let P : List (List ℕ) → Type 0 = λ ns. AreKept keep ns shelf.base list.setting units outs in
+    let Q : Files → Type 0 = λ fs. AreKept keep list.names fs list.setting units outs in
+    let R : List UnitOfList → Type 0 = λ us. AreKept keep list.names (files_of list.contents) list.setting us outs in
     subst R same (subst Q is (subst P named gives))
 
 -- one outcome a unit
-pub one_each : (names : List (List ℕ)) (files : Files) (setting : Setting) (units : List UnitOfList) (outs : List UnitOut) → AreUnits names files setting units outs → length outs ≡ length units
-one_each names files setting units outs gives = AllZip-long (λ unit out. IsUnit names files setting unit out) units outs gives
+pub one_each : (keep : Keep) (names : List (List ℕ)) (files : Files) (setting : Setting) (units : List UnitOfList) (outs : List UnitOut) → AreKept keep names files setting units outs → length outs ≡ length units
+one_each keep names files setting units outs gives =
+    ap length gives.same ∙ (length-map gives.wholes (kept keep) ∙ AllZip-long (λ unit out. IsUnit names files setting unit out) units gives.wholes gives.values)
 
 -- copies of texts are the same texts
 pub same_texts : (xs ys : List (String Global)) → AllZip (λ s t. string_bytes t ≡ string_bytes s) xs ys → map string_bytes ys ≡ map string_bytes xs
@@ -78,11 +81,11 @@ filled_files contents old new empty len named long rows full =
     now.1 ∙ (ap Some content ∙ sym (get_or-map file texts row [] None in_texts)))
 
 -- what units give over some files of a shelf, they give for the list whose names the shelf has
-pub gives_from : (may : List ℕ → Content → Type 0) (list : CompilationList) (shelf : Stock) (units : List UnitOfList) (outs : List UnitOut) → shelf.names ≡ list.names → units ≡ list.units
-    → GiveOverSome may shelf.names list.setting units outs → GiveOverSome may list.names list.setting list.units outs
-gives_from may list shelf units outs named same gives =
-    let P : List (List ℕ) → Type 0 = λ ns. GiveOverSome may ns list.setting units outs in
-    let R : List UnitOfList → Type 0 = λ us. GiveOverSome may list.names list.setting us outs in
+pub gives_from : (may : List ℕ → Content → Type 0) (keep : Keep) (list : CompilationList) (shelf : Stock) (units : List UnitOfList) (outs : List UnitOut) → shelf.names ≡ list.names → units ≡ list.units
+    → GiveOverSome may keep shelf.names list.setting units outs → GiveOverSome may keep list.names list.setting list.units outs
+gives_from may keep list shelf units outs named same gives =
+    let P : List (List ℕ) → Type 0 = λ ns. GiveOverSome may keep ns list.setting units outs in
+    let R : List UnitOfList → Type 0 = λ us. GiveOverSome may keep list.names list.setting us outs in
     subst R same (subst P named gives)
 
 -- the units of a list that can be run are units of its shelf
@@ -101,29 +104,33 @@ pub if_ok_then : {T E : Type 0} (r : Result T E) {P Q : T → Type 0} → IfOk r
 if_ok_then (Ok x) p more = more x p
 if_ok_then (Err e) p more = tt
 
--- the output of a list's units is its output
-text_of : (mode : Mode) (list : CompilationList) (units : List UnitOfList) (shown outs : List UnitOut) → units ≡ list.units → shown ≡ outs → numbered (unit_lines mode list.names) 0 units shown ≡ output_text mode list outs
+-- the output of what is needed of a list's units is the list's output
+text_of : (mode : Mode) (list : CompilationList) (units : List UnitOfList) (shown outs : List UnitOut) → units ≡ list.units → shown ≡ map (kept (needed mode)) outs
+    → numbered (unit_lines mode list.names) 0 units shown ≡ output_text mode list outs
 text_of mode list units shown outs same is =
-    ap (λ (us : List UnitOfList). numbered (unit_lines mode list.names) 0 us shown) same ∙ ap (λ (os : List UnitOut). numbered (unit_lines mode list.names) 0 list.units os) is
+    ap (λ (us : List UnitOfList). numbered (unit_lines mode list.names) 0 us shown) same
+    ∙ (ap (λ (os : List UnitOut). numbered (unit_lines mode list.names) 0 list.units os) is ∙ text_kept mode list.names 0 list.units outs)
 
 -- a list that came, and whose output went out, was served
 pub served : {inline : Bool} {Such : CompilationList → Files → Type 0} {before after : Option (List ℕ)} (mode : Mode) (list : CompilationList) (units : List UnitOfList) (shown outs : List UnitOut) (out_before out_after : Option (List ℕ)) (any : Bool)
-    → units ≡ list.units → shown ≡ outs → Brings inline Such before after list outs → HandsOut mode list.names units shown out_before out_after any → Serves inline Such mode before after out_before out_after any
-served mode list units shown outs out_before out_after any same is came given = record {
+    → units ≡ list.units → shown ≡ outs → Comes inline before after list → (files : Files) → Such list files → AreKept (needed mode) list.names files list.setting list.units outs
+    → HandsOut mode list.names units shown out_before out_after any → Serves inline Such mode before after out_before out_after any
+served mode list units shown outs out_before out_after any same is came files such gives given = record {
   list = list;
-  outs = outs;
-  came = came;
-  went = appends_as out_before out_after _ _ (text_of mode list units shown outs same is) given.went;
-  fault = given.fault ∙ ap some_fault is;
+  outs = gives.wholes;
+  came = record { came = came; files = files; such = such; gives = gives.values };
+  went = appends_as out_before out_after _ _ (text_of mode list units shown gives.wholes same (is ∙ gives.same)) given.went;
+  fault = given.fault ∙ (ap some_fault (is ∙ gives.same) ∙ some_fault_kept mode gives.wholes);
 }
 
 -- a list that came, and of whose output a beginning went out, was broken off
 pub broken_off : {inline : Bool} {Such : CompilationList → Files → Type 0} {before after : Option (List ℕ)} (mode : Mode) (list : CompilationList) (units : List UnitOfList) (shown outs : List UnitOut) (out_before out_after : Option (List ℕ))
-    → units ≡ list.units → shown ≡ outs → Brings inline Such before after list outs → HandsOutFront mode list.names units shown out_before out_after → BreaksOff inline Such mode before after out_before out_after
-broken_off mode list units shown outs out_before out_after same is came given = record {
+    → units ≡ list.units → shown ≡ outs → Comes inline before after list → (files : Files) → Such list files → AreKept (needed mode) list.names files list.setting list.units outs
+    → HandsOutFront mode list.names units shown out_before out_after → BreaksOff inline Such mode before after out_before out_after
+broken_off mode list units shown outs out_before out_after same is came files such gives given = record {
   list = list;
-  outs = outs;
-  came = came;
+  outs = gives.wholes;
+  came = record { came = came; files = files; such = such; gives = gives.values };
   count = given.count;
-  went = appends_as out_before out_after _ _ (ap (take given.count) (text_of mode list units shown outs same is)) given.went;
+  went = appends_as out_before out_after _ _ (ap (take given.count) (text_of mode list units shown gives.wholes same (is ∙ gives.same))) given.went;
 }

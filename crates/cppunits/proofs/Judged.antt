@@ -13,7 +13,7 @@ use Rattle.serde_json.specs.Data.{Data}
 use Rattle.ppunit.specs.Forms.{is_one_line}
 use Rattle.ppunit.specs.Unit.{IsUnitOf, command_text}
 use Rattle.ppunit.specs.declared.units.Unit.{Unit as UnitOfList}
-use Rattle.cppunits.specs.Shape.{draft}
+use Rattle.cppunits.specs.Drafting.{draft}
 use Rattle.ppshelf.specs.Content.{longest}
 use Rattle.ppshelf.specs.Files.{most_rows}
 use Rattle.cppunits.specs.Listing.{accepted, refused, json_value, outcome_of, judged, listed, listed_unit, place_of, names_of, contents_of, names_hold, sizes_hold, are_known, times_hold, lines_hold, folders_hold, profile_holds, profile_of, budget_holds, most_input, IsRunnable}

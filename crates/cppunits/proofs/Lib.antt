@@ -1,5 +1,7 @@
 pub mod Objects
+pub mod Drafted
 pub mod Each
+pub mod Shown
 pub mod Giving
 pub mod Hex
 pub mod JsonValue

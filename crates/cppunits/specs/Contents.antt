@@ -2,7 +2,8 @@
 use Rattle.std.specs.Prelude.{◌≡◌, ℕ, List, map, Some}
 use Rattle.ppshelf.specs.Content.{Content, readable}
 use Rattle.ppshelf.specs.Files.{Files, AllLawful}
-use Rattle.ppunit.specs.Units.{AreUnits}
+use Rattle.pppool.specs.declared.keeping.Keep.{Keep}
+use Rattle.pppool.specs.Kept.{AreKept}
 use Rattle.ppunit.specs.declared.units.Setting.{Setting}
 use Rattle.ppunit.specs.declared.units.Unit.{Unit as UnitOfList}
 use Rattle.ppunit.specs.declared.units.UnitOut.{UnitOut}
@@ -20,8 +21,9 @@ StandIn list files = files ≡ files_of list.contents
 abbrev pub MayBe : (List ℕ → Content → Type 0) → CompilationList → Files → Type 0
 MayBe may list files = AllLawful may list.names files
 
--- what units give over some one set of such files
-pub record GiveOverSome (may : List ℕ → Content → Type 0) (names : List (List ℕ)) (setting : Setting) (units : List UnitOfList) (outs : List UnitOut) : Type 0 where
+-- what is kept of what units give over some one set of such files
+pub record GiveOverSome (may : List ℕ → Content → Type 0) (keep : Keep) (names : List (List ℕ)) (setting : Setting)
+    (units : List UnitOfList) (outs : List UnitOut) : Type 0 where
   pub files : Files
   pub lawful : AllLawful may names files
-  pub gives : AreUnits names files setting units outs
+  pub gives : AreKept keep names files setting units outs

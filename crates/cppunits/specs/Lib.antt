@@ -1,5 +1,7 @@
 pub mod Shape
+pub mod Drafting
 pub mod Listing
+pub mod Needed
 pub mod Contents
 pub mod Ending
 pub mod Output

@@ -10,7 +10,8 @@ token_line t = codes "tok" ++ token_text t
 
 -- what stands before a token's spelling, behind its line's word
 abbrev pub before_spelling : Place → Place → Kind → Bool → List ℕ
-before_spelling at used kind space = codes " " ++ place_text at ++ codes " " ++ place_text used ++ (32 ∷ (kind_letter kind ∷ (mark space ∷ (32 ∷ []))))
+before_spelling at used kind space =
+    codes " " ++ place_text at ++ codes " " ++ place_text used ++ (32 ∷ (kind_letter kind ∷ (mark space ∷ (32 ∷ []))))
 
 -- ` FILE:LINE:`, how a place begins
 abbrev pub line_start : ℕ → ℕ → List ℕ

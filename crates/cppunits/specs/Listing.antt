@@ -1,5 +1,6 @@
 -- The list of translation units that bytes hold, or why they are refused.
-use Rattle.std.specs.Prelude.{◌≡◌, ℕ, ◌-◌, ◌^◌, ◌<◌, ◌≤◌, ◌&&◌, ◌⊎◌, not, Bool, true, false, List, [], ◌∷◌, ◌++◌, All, if◌then◌else◌, nat_lt, nat_le, codes, length, map, Option, Some, None, unwrap_or}
+use Rattle.std.specs.Prelude.{◌≡◌, ℕ, ◌-◌, ◌^◌, ◌≤◌, ◌&&◌, ◌⊎◌, not, Bool}
+use Rattle.std.specs.Prelude.{true, false, List, [], ◌∷◌, ◌++◌, All, if◌then◌else◌, nat_lt, nat_le, codes, length, map, Option, Some, None, unwrap_or}
 use Rattle.std.specs.Option.{is_some}
 use Rattle.std.specs.List.{list_all, position}
 use Rattle.std.specs.Str.{is_utf8, bytes_eq}
@@ -14,7 +15,8 @@ use Rattle.ppunit.specs.Forms.{is_date, is_time, is_one_line}
 use Rattle.ppunit.specs.Unit.{IsUnitOf, command_text}
 use Rattle.ppunit.specs.declared.units.Setting.{Setting}
 use Rattle.ppunit.specs.declared.units.Unit.{Unit as UnitOfList}
-use Rattle.cppunits.specs.Shape.{has_text, draft}
+use Rattle.cppunits.specs.Shape.{has_text}
+use Rattle.cppunits.specs.Drafting.{draft}
 use Rattle.cppunits.specs.declared.list.List.{List as CompilationList}
 use Rattle.cppunits.specs.declared.list.ListFault.{ListFault}
 use Rattle.cppunits.specs.declared.list.ListFault.TheVariants.{Bad, Memory}
@@ -114,27 +116,50 @@ budget_of (budget.Whole n) = Some n
 budget_of budget.Other = None
 
 abbrev pub listed_setting : DraftSetting → Setting
-listed_setting s = record { profile = profile_of s; date = s.date; time = s.time; search = s.search; budget = budget_of s.budget }
+listed_setting s = record {
+  profile = profile_of s;
+  date = s.date;
+  time = s.time;
+  search = s.search;
+  budget = budget_of s.budget;
+}
 
 -- a unit, whose definitions are read by this profile
 abbrev pub listed_unit : Profile → List (List ℕ) → DraftUnit → UnitOfList
-listed_unit profile names u = record { file = unwrap_or (place_of u.file names) 0; defines = record { texts = u.defines; profile = profile }; search = u.search }
+listed_unit profile names u = record {
+  file = unwrap_or (place_of u.file names) 0;
+  defines = record { texts = u.defines; profile = profile };
+  search = u.search;
+}
 
 -- the list of a draft, with contents where lists hold them
 abbrev pub listed : Bool → Draft → CompilationList
-listed inline d = record { setting = listed_setting d.setting; names = names_of d.files; contents = if inline then contents_of d.files else []; units = map (listed_unit (profile_of d.setting) (names_of d.files)) d.units }
+listed inline d = record {
+  setting = listed_setting d.setting;
+  names = names_of d.files;
+  contents = if inline then contents_of d.files else [];
+  units = map (listed_unit (profile_of d.setting) (names_of d.files)) d.units;
+}
 
 -- what stands in a draft whose texts are as they are to be
 abbrev pub judged_choices : Bool → Draft → Outcome
-judged_choices inline d = if not (profile_holds d.setting) then refused 9 else (if not (budget_holds d.setting) then refused 10 else accepted (listed inline d))
+judged_choices inline d =
+    if not (profile_holds d.setting) then refused 9 else (
+    if not (budget_holds d.setting) then refused 10 else accepted (listed inline d))
 
 -- what stands in a draft whose units have their files
 abbrev pub judged_texts : Bool → Draft → Outcome
-judged_texts inline d = if not (times_hold d.setting) then refused 6 else (if not (lines_hold d.units) then refused 7 else (if not (folders_hold d) then refused 8 else judged_choices inline d))
+judged_texts inline d =
+    if not (times_hold d.setting) then refused 6 else (
+    if not (lines_hold d.units) then refused 7 else (
+    if not (folders_hold d) then refused 8 else judged_choices inline d))
 
 -- the list, or the least number of a refusal that applies
 abbrev pub judged : Bool → Draft → Outcome
-judged inline d = if not (names_hold d.files) then refused 3 else (if not (sizes_hold d) then refused 4 else (if not (are_known (names_of d.files) d.units) then refused 5 else judged_texts inline d))
+judged inline d =
+    if not (names_hold d.files) then refused 3 else (
+    if not (sizes_hold d) then refused 4 else (
+    if not (are_known (names_of d.files) d.units) then refused 5 else judged_texts inline d))
 
 abbrev shaped : Bool → Option Draft → Outcome
 shaped inline None = refused 2

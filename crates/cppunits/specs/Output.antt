@@ -1,5 +1,6 @@
 -- What is printed of a list's units.
-use Rattle.std.specs.Prelude.{ℕ, suc, ◌+◌, ◌/◌, ◌%◌, ◌==◌, ◌&&◌, Bool, true, false, not, List, [], ◌∷◌, ◌++◌, if◌then◌else◌, nat_lt, nat_le, codes, decimal, slice_index_or, flat_map, Option, Some, None}
+use Rattle.std.specs.Prelude.{ℕ, suc, ◌+◌, ◌/◌, ◌%◌, ◌==◌, ◌&&◌, Bool, true, false, not, List, [], ◌∷◌, ◌++◌}
+use Rattle.std.specs.Prelude.{if◌then◌else◌, nat_lt, nat_le, codes, decimal, slice_index_or, flat_map, Option, Some, None}
 use Rattle.pptext.specs.declared.tokens.Place.{Place}
 use Rattle.pptext.specs.declared.tokens.Kind.{Kind}
 use Rattle.pptext.specs.declared.tokens.Kind.TheVariants as kind
@@ -47,7 +48,8 @@ mark false = 45
 -- ` AT USED KM SPELLING`, and the line's end
 abbrev pub token_text : Token → List ℕ
 token_text t =
-    codes " " ++ place_text t.at ++ codes " " ++ place_text t.used ++ (32 ∷ (kind_letter t.kind ∷ (mark t.space ∷ (32 ∷ [])))) ++ escaped t.text ++ (10 ∷ [])
+    codes " " ++ place_text t.at ++ codes " " ++ place_text t.used
+    ++ (32 ∷ (kind_letter t.kind ∷ (mark t.space ∷ (32 ∷ [])))) ++ escaped t.text ++ (10 ∷ [])
 
 abbrev pub pragma_token_line : Token → List ℕ
 pragma_token_line t = codes "ptok" ++ token_text t
@@ -78,7 +80,8 @@ shown_items Deps items = []
 
 abbrev pub unit_lines : Mode → List (List ℕ) → ℕ → UnitOfList → UnitOut → List ℕ
 unit_lines mode names i unit out =
-    codes "unit " ++ decimal i ++ codes " " ++ escaped (name_at names unit.file) ++ (10 ∷ []) ++ shown_items mode out.items ++ flat_map (dep_line names) out.deps ++ last_line out.fault
+    codes "unit " ++ decimal i ++ codes " " ++ escaped (name_at names unit.file) ++ (10 ∷ [])
+    ++ shown_items mode out.items ++ flat_map (dep_line names) out.deps ++ last_line out.fault
 
 -- f of each pair, one after the other, numbered from n
 abbrev pub numbered : {A B : Type 0} → (ℕ → A → B → List ℕ) → ℕ → List A → List B → List ℕ

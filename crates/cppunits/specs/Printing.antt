@@ -2,7 +2,8 @@
 use Rattle.std.specs.Prelude.{◌≡◌, ℕ, Bool, true, false, List, [], ◌++◌, Option}
 use Rattle.std.specs.Io.KnownBytes.{Appends}
 
--- The text goes behind the bytes of the page p: a front of them went out from the writer w to the writer v, and the rest waits on the page q unless a write failed, after which nothing more goes out.
+-- The text goes behind the bytes of the page p: a front of them went out from the writer w to the writer v, and the rest waits on the page q
+-- unless a write failed, after which nothing more goes out.
 pub record Puts {V : Type 0} (written : V → Option (List ℕ)) (has_failed : V → Bool) (w v : V) (p q text : List ℕ) : Type 0 where
   pub front : List ℕ
   pub rest : List ℕ

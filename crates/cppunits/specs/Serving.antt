@@ -1,5 +1,5 @@
 -- From a reader's bytes to a writer's.
-use Rattle.std.specs.Prelude.{◌≡◌, ℕ, ◌≤◌, ◌||◌, Bool, true, false, List, [], ◌∷◌, length, take, Option, Some}
+use Rattle.std.specs.Prelude.{◌≡◌, ℕ, ◌≤◌, ◌||◌, Bool, false, List, [], ◌∷◌, length, take, Option, Some}
 use Rattle.std.specs.Option.{is_some}
 use Rattle.std.specs.Io.KnownBytes.{Appends, Consumes, IsAtEnd}
 use Rattle.ppshelf.specs.Files.{Files}
@@ -32,24 +32,28 @@ pub record Comes (inline : Bool) (before after : Option (List ℕ)) (list : Comp
   pub is_list : outcome_of inline bytes ≡ accepted list
 
 -- a list came, whose units give these over some such files
-pub record Brings (inline : Bool) (Such : CompilationList → Files → Type 0) (before after : Option (List ℕ)) (list : CompilationList) (outs : List UnitOut) : Type 0 where
+pub record Brings (inline : Bool) (Such : CompilationList → Files → Type 0)
+    (before after : Option (List ℕ)) (list : CompilationList) (outs : List UnitOut) : Type 0 where
   pub came : Comes inline before after list
   pub files : Files
   pub such : Such list files
   pub gives : AreUnits list.names files list.setting list.units outs
 
 -- the whole output of units went out
-pub record HandsOut (mode : Mode) (names : List (List ℕ)) (units : List UnitOfList) (outs : List UnitOut) (before after : Option (List ℕ)) (any : Bool) : Type 0 where
+pub record HandsOut (mode : Mode) (names : List (List ℕ)) (units : List UnitOfList) (outs : List UnitOut)
+    (before after : Option (List ℕ)) (any : Bool) : Type 0 where
   pub went : Appends before after (numbered (unit_lines mode names) 0 units outs)
   pub fault : any ≡ some_fault outs
 
 -- a beginning of the output of units went out
-pub record HandsOutFront (mode : Mode) (names : List (List ℕ)) (units : List UnitOfList) (outs : List UnitOut) (before after : Option (List ℕ)) : Type 0 where
+pub record HandsOutFront (mode : Mode) (names : List (List ℕ)) (units : List UnitOfList) (outs : List UnitOut)
+    (before after : Option (List ℕ)) : Type 0 where
   pub count : ℕ
   pub went : Appends before after (take count (numbered (unit_lines mode names) 0 units outs))
 
 -- a list came, and its whole output over some such files went out
-pub record Serves (inline : Bool) (Such : CompilationList → Files → Type 0) (mode : Mode) (before after out_before out_after : Option (List ℕ)) (any : Bool) : Type 0 where
+pub record Serves (inline : Bool) (Such : CompilationList → Files → Type 0) (mode : Mode)
+    (before after out_before out_after : Option (List ℕ)) (any : Bool) : Type 0 where
   pub list : CompilationList
   pub outs : List UnitOut
   pub came : Brings inline Such before after list outs
@@ -57,7 +61,8 @@ pub record Serves (inline : Bool) (Such : CompilationList → Files → Type 0) 
   pub fault : any ≡ some_fault outs
 
 -- a list came, and a beginning of its output over some such files went out
-pub record BreaksOff (inline : Bool) (Such : CompilationList → Files → Type 0) (mode : Mode) (before after out_before out_after : Option (List ℕ)) : Type 0 where
+pub record BreaksOff (inline : Bool) (Such : CompilationList → Files → Type 0) (mode : Mode)
+    (before after out_before out_after : Option (List ℕ)) : Type 0 where
   pub list : CompilationList
   pub outs : List UnitOut
   pub came : Brings inline Such before after list outs
@@ -77,4 +82,7 @@ run_fault_of list_fault.Memory = run_fault.Memory
 
 -- Where the bytes of a reader are known, what came from it is the list that they all hold, or is refused as they are.
 abbrev pub KnownBytesDecide : Type 0
-KnownBytesDecide = (inline : Bool) (known bytes : List ℕ) (after : Option (List ℕ)) → Received (Some known) after bytes → outcome_of inline bytes ≡ outcome_of inline known
+KnownBytesDecide =
+    (inline : Bool) (known bytes : List ℕ) (after : Option (List ℕ))
+    → Received (Some known) after bytes
+    → outcome_of inline bytes ≡ outcome_of inline known

@@ -1,15 +1,18 @@
--- The shape of a list: which members its objects have, and of which kinds.
-use Rattle.std.specs.Prelude.{ℕ, ◌+◌, ◌-◌, ◌*◌, ◌&&◌, Bool, true, false, List, [], ◌∷◌, if◌then◌else◌, nat_le, codes, Option, Some, None, option_map, option_and_then, unwrap_or}
+-- The shape of a list: which members its objects have, of which kinds, and what is drafted of each.
+use Rattle.std.specs.Prelude.{◌≡◌, ℕ, ◌+◌, ◌-◌, ◌*◌, ◌&&◌, Bool, true, false, List, [], ◌∷◌}
+use Rattle.std.specs.Prelude.{if◌then◌else◌, nat_le, codes, Option, Some, None, option_map, option_and_then, unwrap_or}
 use Rattle.std.specs.List.{list_any}
 use Rattle.std.specs.Str.{bytes_eq}
-use Rattle.serde_json.specs.Data.{Num, Data, Items, no_items, item, Members, no_members, member}
-use Rattle.serde_json.specs.Find.{get, as_number, as_str, as_array, as_object, as_u64}
+use Rattle.serde_json.specs.Data.{Num, Data, number, string, array, Items, no_items, item, Members, no_members, member}
+use Rattle.serde_json.specs.Find.{get, as_object, as_u64}
 use Rattle.cppunits.specs.declared.list.drafts.DraftFile.{DraftFile}
 use Rattle.cppunits.specs.declared.list.drafts.DraftUnit.{DraftUnit}
 use Rattle.cppunits.specs.declared.list.drafts.DraftBudget.{DraftBudget}
 use Rattle.cppunits.specs.declared.list.drafts.DraftBudget.TheVariants as budget
 use Rattle.cppunits.specs.declared.list.drafts.DraftSetting.{DraftSetting}
 use Rattle.cppunits.specs.declared.list.drafts.Draft.{Draft}
+
+-- ---- names of members
 
 abbrev pub has_text : List ℕ → List (List ℕ) → Bool
 has_text t = list_any (bytes_eq t)
@@ -23,36 +26,17 @@ has_only names (member k d ms) = has_text k names && has_only names ms
 abbrev pub is_object_of : List (List ℕ) → Data → Bool
 is_object_of names d = unwrap_or (option_map (has_only names) (as_object d)) false
 
--- what comes of a part where it is there, and nothing where it is not
-abbrev pub given : {A B : Type 0} → Option A → (A → Option B) → Option B
-given part make = option_and_then make part
+abbrev pub file_members : Bool → List (List ℕ)
+file_members true = codes "name" ∷ codes "text" ∷ codes "hex" ∷ []
+file_members false = codes "name" ∷ []
 
-abbrev pub text_at : List ℕ → Data → Option (List ℕ)
-text_at name d = option_and_then as_str (get name d)
+abbrev pub unit_members : List (List ℕ)
+unit_members = codes "file" ∷ codes "define" ∷ codes "search" ∷ []
 
--- the text of a member, and another where it is missing
-abbrev pub text_or : List ℕ → Option Data → Option (List ℕ)
-text_or other None = Some other
-text_or other (Some d) = as_str d
+abbrev pub list_members : List (List ℕ)
+list_members = codes "profile" ∷ codes "budget" ∷ codes "date" ∷ codes "time" ∷ codes "search" ∷ codes "files" ∷ codes "units" ∷ []
 
--- what `read` gives of each item
-abbrev pub each_item : {A : Type 0} → (Data → Option A) → Items → Option (List A)
-each_item read no_items = Some []
-each_item read (item d ds) = option_and_then (λ x. option_map (λ xs. x ∷ xs) (each_item read ds)) (read d)
-
-abbrev pub each_of : {A : Type 0} → (Data → Option A) → Data → Option (List A)
-each_of read d = option_and_then (each_item read) (as_array d)
-
-abbrev pub array_at : {A : Type 0} → (Data → Option A) → List ℕ → Data → Option (List A)
-array_at read name d = option_and_then (each_of read) (get name d)
-
--- the texts of an array, and none where it is missing
-abbrev pub texts_of : Option Data → Option (List (List ℕ))
-texts_of None = Some []
-texts_of (Some d) = each_of as_str d
-
-abbrev pub texts_at : List ℕ → Data → Option (List (List ℕ))
-texts_at name d = texts_of (get name d)
+-- ---- hexadecimal digits
 
 -- the value of a hexadecimal digit, a letter in lower case
 abbrev pub hex_value : ℕ → Option ℕ
@@ -68,77 +52,89 @@ hex_bytes [] = Some []
 hex_bytes (a ∷ []) = None
 hex_bytes (a ∷ b ∷ more) = option_and_then (λ x. option_map (λ xs. x ∷ xs) (hex_bytes more)) (hex_byte a b)
 
--- the content by exactly one of `text` and `hex`
-abbrev pub content_from : Option Data → Option Data → Option (List ℕ)
-content_from None None = None
-content_from None (Some h) = option_and_then hex_bytes (as_str h)
-content_from (Some t) None = as_str t
-content_from (Some t) (Some h) = None
+-- ---- one member
 
--- a file's content, where lists hold contents
-abbrev pub content_of : Bool → Data → Option (List ℕ)
-content_of true d = content_from (get (codes "text") d) (get (codes "hex") d)
-content_of false d = Some []
+-- a value is a string of this text
+abbrev pub IsText : Data → List ℕ → Type 0
+IsText d text = d ≡ string text
 
-abbrev pub file_members : Bool → List (List ℕ)
-file_members true = codes "name" ∷ codes "text" ∷ codes "hex" ∷ []
-file_members false = codes "name" ∷ []
+-- the member of this name is a string of this text
+abbrev pub HasText : Data → List ℕ → List ℕ → Type 0
+HasText d name text = get name d ≡ Some (string text)
 
-abbrev pub draft_file : Bool → Data → Option DraftFile
-draft_file inline d =
-    if is_object_of (file_members inline) d then
-    given (text_at (codes "name") d) (λ name.
-    given (content_of inline d) (λ content.
-    Some (record { name = name; content = content })))
-    else None
+-- the items of an array are so, one after the other, with those of a list
+pub data AreItems {A : Type 0} (Is : Data → A → Type 0) : Items → List A → Type 0 where
+  nothing : AreItems Is no_items []
+  more : {d : Data} {x : A} {ds : Items} {xs : List A}
+      → Is d x
+      → AreItems Is ds xs
+      → AreItems Is (item d ds) (x ∷ xs)
 
-abbrev pub unit_members : List (List ℕ)
-unit_members = codes "file" ∷ codes "define" ∷ codes "search" ∷ []
+-- the member of this name is an array, whose items are so with those of a list
+pub record HasItems {A : Type 0} (Is : Data → A → Type 0) (d : Data) (name : List ℕ) (xs : List A) : Type 0 where
+  pub items : Items
+  pub is_array : get name d ≡ Some (array items)
+  pub are : AreItems Is items xs
 
-abbrev pub draft_unit : Data → Option DraftUnit
-draft_unit d =
-    if is_object_of unit_members d then
-    given (text_at (codes "file") d) (λ file.
-    given (texts_at (codes "define") d) (λ defines.
-    given (texts_at (codes "search") d) (λ folders.
-    Some (record { file = file; defines = defines; search = folders }))))
-    else None
+-- the member of this name is an array of these texts, or it is missing and there are none
+pub data HasTexts (d : Data) (name : List ℕ) : List (List ℕ) → Type 0 where
+  no_texts : get name d ≡ None → HasTexts d name []
+  some_texts : {texts : List (List ℕ)} → HasItems IsText d name texts → HasTexts d name texts
+
+-- a file's content stands in exactly one of `text` and `hex`; where lists hold no contents it is left out
+pub data HasContent : Bool → Data → List ℕ → Type 0 where
+  as_text : {d : Data} {content : List ℕ}
+      → HasText d (codes "text") content
+      → get (codes "hex") d ≡ None
+      → HasContent true d content
+  as_hex : {d : Data} {digits content : List ℕ}
+      → get (codes "text") d ≡ None
+      → HasText d (codes "hex") digits
+      → hex_bytes digits ≡ Some content
+      → HasContent true d content
+  left_out : {d : Data} → HasContent false d []
 
 -- the text of the profile, which is `c11` where it is missing
-abbrev pub profile_at : Data → Option (List ℕ)
-profile_at d = text_or (codes "c11") (get (codes "profile") d)
+pub data HasProfile (d : Data) : List ℕ → Type 0 where
+  no_profile : get (codes "profile") d ≡ None → HasProfile d (codes "c11")
+  some_profile : {text : List ℕ} → HasText d (codes "profile") text → HasProfile d text
 
--- a number as it is written: a whole one of 64 bits without a sign, or another
-abbrev pub written : Option ℕ → DraftBudget
-written (Some n) = budget.Whole n
-written None = budget.Other
+-- the budget: missing, a whole number of 64 bits without a sign, or another number
+pub data HasBudget (d : Data) : DraftBudget → Type 0 where
+  no_budget : get (codes "budget") d ≡ None → HasBudget d budget.Missing
+  whole_budget : {n : Num} {amount : ℕ}
+      → get (codes "budget") d ≡ Some (number n)
+      → as_u64 n ≡ Some amount
+      → HasBudget d (budget.Whole amount)
+  other_budget : {n : Num}
+      → get (codes "budget") d ≡ Some (number n)
+      → as_u64 n ≡ None
+      → HasBudget d budget.Other
 
--- the budget, a number, or that it is missing
-abbrev pub budget_from : Option Data → Option DraftBudget
-budget_from None = Some budget.Missing
-budget_from (Some d) = option_map (λ (n : Num). written (as_u64 n)) (as_number d)
+-- ---- one object, a field a member
 
-abbrev pub budget_at : Data → Option DraftBudget
-budget_at d = budget_from (get (codes "budget") d)
+pub record IsFileDraft (inline : Bool) (d : Data) (f : DraftFile) : Type 0 where
+  pub object : is_object_of (file_members inline) d ≡ true
+  pub name : HasText d (codes "name") f.name
+  pub content : HasContent inline d f.content
 
-abbrev pub draft_setting : Data → Option DraftSetting
-draft_setting d =
-    given (profile_at d) (λ profile.
-    given (budget_at d) (λ allowed.
-    given (text_at (codes "date") d) (λ date.
-    given (text_at (codes "time") d) (λ time.
-    given (texts_at (codes "search") d) (λ folders.
-    Some (record { profile = profile; budget = allowed; date = date; time = time; search = folders }))))))
+pub record IsUnitDraft (d : Data) (u : DraftUnit) : Type 0 where
+  pub object : is_object_of unit_members d ≡ true
+  pub file : HasText d (codes "file") u.file
+  pub defines : HasTexts d (codes "define") u.defines
+  pub folders : HasTexts d (codes "search") u.search
 
-abbrev pub list_members : List (List ℕ)
-list_members = codes "profile" ∷ codes "budget" ∷ codes "date" ∷ codes "time" ∷ codes "search" ∷ codes "files" ∷ codes "units" ∷ []
+-- what all units share
+pub record IsSettingDraft (d : Data) (s : DraftSetting) : Type 0 where
+  pub profile : HasProfile d s.profile
+  pub budget : HasBudget d s.budget
+  pub date : HasText d (codes "date") s.date
+  pub time : HasText d (codes "time") s.time
+  pub folders : HasTexts d (codes "search") s.search
 
--- the list as it stands, where it has its shape and no other members
-abbrev pub draft : Bool → Data → Option Draft
-draft inline d =
-    if is_object_of list_members d then
-    given (draft_setting d) (λ setting.
-    given (array_at (draft_file inline) (codes "files") d) (λ files.
-    given (array_at draft_unit (codes "units") d) (λ units.
-    Some (record { setting = setting; files = files; units = units }))))
-    else None
+-- the list, in which contents stand or not
+pub record IsDraft (inline : Bool) (d : Data) (x : Draft) : Type 0 where
+  pub object : is_object_of list_members d ≡ true
+  pub setting : IsSettingDraft d x.setting
+  pub files : HasItems (IsFileDraft inline) d (codes "files") x.files
+  pub units : HasItems IsUnitDraft d (codes "units") x.units

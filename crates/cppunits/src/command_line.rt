@@ -18,7 +18,7 @@ pub struct Options {
     pub mode: Mode,
     /// How many units are preprocessed at once, 1 to 64.
     pub workers: usize,
-    /// How many units a worker takes at a time, 1 to 1024.
+    /// The most units that a worker takes at a time, 1 to 1024.
     pub block: usize,
     /// The folder that the files are read from; without one the list holds them.
     pub root: Option<String>,
@@ -144,7 +144,7 @@ fn block_option<'a>(alloc: Global) -> Arg<'a> {
     Arg::new(alloc, "block")
         .long("block")
         .value_name("K")
-        .help("How many units a worker takes at a time, 1 to 1024")
+        .help("The most units that a worker takes at a time, 1 to 1024")
         .default_value("8")
         .value_parser(clap::value_parser!(usize).range(1..=MOST_BLOCK as i64))
 }

@@ -1,7 +1,9 @@
 // What is printed of a list's units.
-ghost use Rattle.std.specs.Prelude.{◌≡◌, ℕ, ◌+◌, ◌++◌, ◌∷◌, [], ◌<◌, ◌≤◌, OnOk, OnErr, IfOk, codes, decimal, false, true, length, take, flat_map};
+ghost use Rattle.std.specs.Prelude.{◌≡◌, ℕ, ◌+◌, ◌++◌, ◌∷◌, [], ◌<◌, ◌≤◌};
+ghost use Rattle.std.specs.Prelude.{OnOk, OnErr, IfOk, Some, codes, decimal, false, true, length, take, flat_map};
 ghost use Rattle.std.specs.Io.KnownBytes.{Appends};
-ghost use Rattle.cppunits.specs.Output.{escaped, escaped_byte, is_plain as plain, hex_digit, place_text, token_text, item_lines, pragma_token_line, dep_line, name_at, fault_text, last_line, shown_items, unit_lines, numbered, output_text};
+ghost use Rattle.cppunits.specs.Output.{escaped, escaped_byte, is_plain as plain, hex_digit, place_text, token_text, item_lines, pragma_token_line};
+ghost use Rattle.cppunits.specs.Output.{dep_line, name_at, fault_text, last_line, shown_items, unit_lines, numbered, output_text};
 ghost use Rattle.cppunits.specs.Printing.{Puts};
 ghost use Rattle.cppunits.specs.declared.output.Mode.TheVariants.{Dump, Deps};
 ghost use Rattle.ppmacro.specs.Substituting.{tokens_of};
@@ -75,7 +77,8 @@ pub(crate) fn print<W: Sink>(
     requires counts { length outs.now ≡ length units.now }
     ensures ok { OnOk result (Appends (W.written writer.old) (W.written writer.new) (numbered (unit_lines mode names.now) 0 units.now outs.now)) }
     ensures failed { OnErr result (W.has_failed writer.new ≡ true) }
-    ensures front { OnErr result ((n : ℕ) × Appends (W.written writer.old) (W.written writer.new) (take n (numbered (unit_lines mode names.now) 0 units.now outs.now))) }
+    ensures front { OnErr result ((n : ℕ) × Appends (W.written writer.old) (W.written writer.new)
+        (take n (numbered (unit_lines mode names.now) 0 units.now outs.now))) }
 {
     put_units(page, writer, mode, names, units, outs);
     page.send(writer);
@@ -261,7 +264,8 @@ fn put_line<W: Sink>(
     space: bool,
     spelling: &[u8],
 )
-    ensures { Puts W.written W.has_failed writer.old writer.new page.old page.new (codes "tok" ++ before_spelling at used kind space ++ escaped spelling.now ++ (10 ∷ [])) }
+    ensures { Puts W.written W.has_failed writer.old writer.new page.old page.new
+        (codes "tok" ++ before_spelling at used kind space ++ escaped spelling.now ++ (10 ∷ [])) }
 {
     page.make_room(writer);
     page.add_beginning(at, used, kind, space);
@@ -308,7 +312,7 @@ fn put_last<W: Sink>(page: &mut Page, writer: &mut W, fault: &Option<Fault>)
 }
 
 fn put_fault<W: Sink>(page: &mut Page, writer: &mut W, fault: &Fault)
-    ensures { Puts W.written W.has_failed writer.old writer.new page.old page.new (codes "fault " ++ decimal fault.now.number ++ codes " " ++ place_text fault.now.at ++ fault_text fault.now.text ++ (10 ∷ [])) }
+    ensures { Puts W.written W.has_failed writer.old writer.new page.old page.new (last_line (Some fault.now)) }
 {
     page.put(writer, b"fault ");
     put_decimal(page, writer, u64::from(fault.number));

@@ -3,24 +3,52 @@ ghost use Rattle.std.specs.Prelude.{◌≡◌, ◌≤◌, [], length, replicate,
 ghost use Rattle.ppshelf.specs.Content.{longest};
 ghost use Rattle.ppshelf.specs.Files.{most_rows, IsFull};
 ghost use Rattle.ppunit.specs.Unit.{IsUnitOf};
-ghost use Rattle.ppunit.specs.Units.{AreUnits};
+ghost use Rattle.pppool.specs.Kept.{AreKept};
 ghost use Rattle.cppunits.specs.Contents.{files_of, GiveOverSome};
+ghost use Rattle.cppunits.specs.Needed.{needed};
 
 use crate::list::Contents;
-use pppool::{Gate, list_growth, run};
+use crate::output::Mode;
+use pppool::{Gate, Keep, list_growth, run_keeping};
 use ppshelf::{Disk, MemoryDisk, Shelf};
 use pptext::{Hashing, Memory, Profile};
 use ppunit::{Setting, Texts, Unit, UnitOut};
 use std::alloc::Global;
 use std::thread::Threads;
 
-/// How workers share the units of a list.
+/// How workers share the units of a list, and what for.
 #[derive(Clone, Copy, Debug, PartialEq, Eq)]
 pub(crate) struct Crew {
     /// How many work at once, 1 to 64.
     pub workers: usize,
-    /// How many units one takes at a time, 1 to 1024.
+    /// The most units that one takes at a time, 1 to 1024.
     pub block: usize,
+    /// What is printed of them.
+    pub mode: Mode,
+}
+
+// How often each worker takes units where they are too few for whole blocks.
+const TURNS: usize = 16;
+
+impl Crew {
+    /// How many of a list's units one takes at a time: of a short list fewer than it may, so that all are done at about the same time.
+    pub(crate) fn share(self, units: usize) -> usize
+        requires workers { (1 ≤ self.workers) × (self.workers ≤ 64) }
+        requires block { 1 ≤ self.block }
+        ensures { (1 ≤ result) × (result ≤ self.block) }
+    {
+        units.div_ceil(self.workers * TURNS).clamp(1, self.block)
+    }
+}
+
+/// What is needed of answers to print them.
+fn needed(mode: Mode) -> Keep
+    ensures { result ≡ needed mode }
+{
+    match mode {
+        Mode::Dump => Keep::Whole,
+        Mode::Deps => Keep::Bare,
+    }
 }
 
 /// A gate that lets each unit begin at once.
@@ -79,7 +107,7 @@ pub(crate) fn filled_shelf(
     Ok(shelf)
 }
 
-/// What units give over exactly the files of a shelf, in their order: what they give over those that they open, and so over all.
+/// What is needed of what units give over exactly the files of a shelf, in their order: what they give over those that they open, and so over all.
 pub(crate) fn over_contents<'a, R: Threads + Sync>(
     threads: &R,
     alloc: Global,
@@ -94,11 +122,11 @@ pub(crate) fn over_contents<'a, R: Threads + Sync>(
     requires units { All (IsUnitOf (length shelf.now.names) setting.now.profile) units.now }
     requires workers { (1 ≤ crew.workers) × (crew.workers ≤ 64) }
     requires block { (1 ≤ crew.block) × (crew.block ≤ 1024) }
-    ensures { IfOk result (λ outs. AreUnits shelf.now.names shelf.now.base setting.now units.now outs.items) }
+    ensures { IfOk result (λ outs. AreKept (needed crew.mode) shelf.now.names shelf.now.base setting.now units.now outs.items) }
 {
     let disk = no_disk(alloc);
     let mut pass = shelf.pass()?;
-    let outs = run(
+    let outs = run_keeping(
         threads,
         alloc,
         shelf,
@@ -108,14 +136,15 @@ pub(crate) fn over_contents<'a, R: Threads + Sync>(
         setting,
         units,
         crew.workers,
-        crew.block,
+        crew.share(units.len()),
+        needed(crew.mode),
     )?;
     pass.lawful();
     list_growth();
     Ok(outs)
 }
 
-/// What units give over one set of files, each content one that disks of this type may answer for its name, in their order.
+/// What is needed of what units give over one set of files, each content one that disks of this type may answer for its name, in their order.
 pub(crate) fn over_disk<'a, R: Threads + Sync, D: Disk + Send + Sync>(
     threads: &R,
     alloc: Global,
@@ -130,10 +159,10 @@ pub(crate) fn over_disk<'a, R: Threads + Sync, D: Disk + Send + Sync>(
     requires units { All (IsUnitOf (length shelf.now.names) setting.now.profile) units.now }
     requires workers { (1 ≤ crew.workers) × (crew.workers ≤ 64) }
     requires block { (1 ≤ crew.block) × (crew.block ≤ 1024) }
-    ensures { IfOk result (λ outs. GiveOverSome D.may shelf.now.names setting.now units.now outs.items) }
+    ensures { IfOk result (λ outs. GiveOverSome D.may (needed crew.mode) shelf.now.names setting.now units.now outs.items) }
 {
     let mut pass = shelf.pass()?;
-    run(
+    run_keeping(
         threads,
         alloc,
         shelf,
@@ -143,6 +172,7 @@ pub(crate) fn over_disk<'a, R: Threads + Sync, D: Disk + Send + Sync>(
         setting,
         units,
         crew.workers,
-        crew.block,
+        crew.share(units.len()),
+        needed(crew.mode),
     )
 }

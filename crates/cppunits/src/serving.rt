@@ -2,7 +2,8 @@
 ghost use Rattle.std.specs.Prelude.{◌≡◌, ◌⊎◌, ◌≤◌, ◌≢◌, ℕ, IfOk, IfErr, IsErrOf, length, true, false};
 ghost use Rattle.cppunits.specs.Contents.{StandIn, MayBe};
 ghost use Rattle.cppunits.specs.Listing.{IsRunnable};
-ghost use Rattle.cppunits.specs.declared.serving.RunFault.TheVariants.{List as ListRefused, Memory as OutOfMemory, Read as ReadFailed, Write as WriteFailed};
+ghost use Rattle.cppunits.specs.declared.serving.RunFault.TheVariants.{List as ListRefused, Memory as OutOfMemory};
+ghost use Rattle.cppunits.specs.declared.serving.RunFault.TheVariants.{Read as ReadFailed, Write as WriteFailed};
 ghost use Rattle.cppunits.specs.Serving.{some_fault, Received, Comes, HandsOut, HandsOutFront, Serves, BreaksOff, Refuses, KnownBytesDecide};
 
 use crate::list::{List, ListFault, MOST_INPUT, read_list};
@@ -66,9 +67,9 @@ impl From<ListFault> for RunFault {
 
 const CHUNK: usize = 65_536;
 
-/// Reads a list that holds its files, preprocesses its units by so many workers, each of which takes so many units at a time, and writes their
-/// output once they are all done. Answers whether some unit has a fault. Where the list has a budget, what a unit gives is what it gives within
-/// it: a beginning of what it gives without, and the whole exactly where the budget suffices.
+/// Reads a list that holds its files, preprocesses its units by so many workers, each of which takes at most so many units at a time, and
+/// writes their output once they are all done. Answers whether some unit has a fault. Where the list has a budget, what a unit gives is what it
+/// gives within it: a beginning of what it gives without, and the whole exactly where the budget suffices.
 pub fn serve<T: Threads + Sync, R: Feed, W: Sink>(
     threads: &T,
     alloc: Global,
@@ -83,11 +84,13 @@ pub fn serve<T: Threads + Sync, R: Feed, W: Sink>(
     requires writer { W.has_failed writer.old ≡ false }
     requires workers { (1 ≤ workers) × (workers ≤ 64) }
     requires block { (1 ≤ block) × (block ≤ 1024) }
-    ensures ok { IfOk result (λ any. Serves true StandIn mode (R.rest reader.old) (R.rest reader.new) (W.written writer.old) (W.written writer.new) any) }
+    ensures ok { IfOk result (λ any.
+        Serves true StandIn mode (R.rest reader.old) (R.rest reader.new) (W.written writer.old) (W.written writer.new) any) }
     ensures refused { (n : ℕ) → IsErrOf result (ListRefused n) → Refuses true (R.rest reader.old) (R.rest reader.new) n }
     ensures read { IsErrOf result ReadFailed → R.has_failed reader.new ≡ true }
     ensures write { IsErrOf result WriteFailed → W.has_failed writer.new ≡ true }
-    ensures broken_off { IsErrOf result WriteFailed → BreaksOff true StandIn mode (R.rest reader.old) (R.rest reader.new) (W.written writer.old) (W.written writer.new) }
+    ensures broken_off { IsErrOf result WriteFailed →
+        BreaksOff true StandIn mode (R.rest reader.old) (R.rest reader.new) (W.written writer.old) (W.written writer.new) }
     ensures untouched { IfErr result (λ fault. fault ≢ WriteFailed → writer.new ≡ writer.old) }
 {
     let list = receive(alloc, reader, true, hashing)?;
@@ -99,7 +102,11 @@ pub fn serve<T: Threads + Sync, R: Feed, W: Sink>(
     } = list;
     let shelf = filled_shelf(alloc, &names, setting.profile, contents, hashing)?;
     let units = units.as_slice();
-    let crew = Crew { workers, block };
+    let crew = Crew {
+        workers,
+        block,
+        mode,
+    };
     let outs = over_contents(threads, alloc, &shelf, &setting, units, crew)?;
     let answer = hand_out(alloc, writer, mode, &names, units, outs.as_slice());
     // The program ends next: the system takes memory back at once, where token by token it costs a tenth of a run.
@@ -125,17 +132,23 @@ pub fn serve_from<T: Threads + Sync, R: Feed, W: Sink, D: Disk + Send + Sync>(
     requires writer { W.has_failed writer.old ≡ false }
     requires workers { (1 ≤ workers) × (workers ≤ 64) }
     requires block { (1 ≤ block) × (block ≤ 1024) }
-    ensures ok { IfOk result (λ any. Serves false (MayBe D.may) mode (R.rest reader.old) (R.rest reader.new) (W.written writer.old) (W.written writer.new) any) }
+    ensures ok { IfOk result (λ any.
+        Serves false (MayBe D.may) mode (R.rest reader.old) (R.rest reader.new) (W.written writer.old) (W.written writer.new) any) }
     ensures refused { (n : ℕ) → IsErrOf result (ListRefused n) → Refuses false (R.rest reader.old) (R.rest reader.new) n }
     ensures read { IsErrOf result ReadFailed → R.has_failed reader.new ≡ true }
     ensures write { IsErrOf result WriteFailed → W.has_failed writer.new ≡ true }
-    ensures broken_off { IsErrOf result WriteFailed → BreaksOff false (MayBe D.may) mode (R.rest reader.old) (R.rest reader.new) (W.written writer.old) (W.written writer.new) }
+    ensures broken_off { IsErrOf result WriteFailed →
+        BreaksOff false (MayBe D.may) mode (R.rest reader.old) (R.rest reader.new) (W.written writer.old) (W.written writer.new) }
     ensures untouched { IfErr result (λ fault. fault ≢ WriteFailed → writer.new ≡ writer.old) }
 {
     let list = receive(alloc, reader, false, hashing)?;
     let shelf = empty_shelf(alloc, &list.names, list.setting.profile, hashing)?;
     let units = list.units.as_slice();
-    let crew = Crew { workers, block };
+    let crew = Crew {
+        workers,
+        block,
+        mode,
+    };
     let outs = over_disk(threads, alloc, &shelf, disk, &list.setting, units, crew)?;
     let answer = hand_out(alloc, writer, mode, &list.names, units, outs.as_slice());
     // as in `serve`

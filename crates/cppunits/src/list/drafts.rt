@@ -4,6 +4,8 @@ ghost use Rattle.serde_json.specs.Find.{as_str};
 ghost use Rattle.serde_json.specs.View.{view, members_view, items_view};
 ghost use Rattle.cppunits.specs.Listing.{RefusedFor};
 ghost use Rattle.cppunits.specs.Shape as shape;
+ghost use Rattle.cppunits.specs.Drafting as drafting;
+ghost use Rattle.cppunits.specs.Drafting.{ShapeDecides};
 
 use crate::list::ListFault;
 use ppunit::{Text, Texts};
@@ -174,8 +176,8 @@ pub(super) struct Draft {
 ///
 /// `Bad(2)` where a member is missing, unknown or of another shape, and `Memory`.
 pub(super) fn draft_of(alloc: Global, value: &Value, inline: bool) -> Result<Draft, ListFault>
-    ensures ok { IfOk result (λ d. shape.draft inline (view value.now) ≡ Some d) }
-    ensures err { IfErr result (RefusedFor 2 (shape.draft inline (view value.now) ≡ None)) }
+    ensures ok { IfOk result (λ d. drafting.draft inline (view value.now) ≡ Some d) }
+    ensures err { IfErr result (RefusedFor 2 (drafting.draft inline (view value.now) ≡ None)) }
 {
     if !is_object_of(
         value,
@@ -195,9 +197,14 @@ pub(super) fn draft_of(alloc: Global, value: &Value, inline: bool) -> Result<Dra
     })
 }
 
+/// A law: a value gives a draft exactly where it has the shape of a list with it (`IsDraft`), member by member.
+pub fn shape_decides()
+    ensures { ShapeDecides }
+{}
+
 fn setting_of(alloc: Global, value: &Value) -> Result<DraftSetting, ListFault>
-    ensures ok { IfOk result (λ s. shape.draft_setting (view value.now) ≡ Some s) }
-    ensures err { IfErr result (RefusedFor 2 (shape.draft_setting (view value.now) ≡ None)) }
+    ensures ok { IfOk result (λ s. drafting.draft_setting (view value.now) ≡ Some s) }
+    ensures err { IfErr result (RefusedFor 2 (drafting.draft_setting (view value.now) ≡ None)) }
 {
     let profile = profile_at(alloc, value)?;
     let budget = budget_at(value)?;
@@ -215,8 +222,8 @@ fn setting_of(alloc: Global, value: &Value) -> Result<DraftSetting, ListFault>
 
 /// The text of the profile, which is `c11` where it is missing.
 fn profile_at(alloc: Global, value: &Value) -> Result<Text, ListFault>
-    ensures ok { IfOk result (λ t. shape.profile_at (view value.now) ≡ Some t) }
-    ensures err { IfErr result (RefusedFor 2 (shape.profile_at (view value.now) ≡ None)) }
+    ensures ok { IfOk result (λ t. drafting.profile_at (view value.now) ≡ Some t) }
+    ensures err { IfErr result (RefusedFor 2 (drafting.profile_at (view value.now) ≡ None)) }
 {
     let text = match value.get("profile") {
         Some(member) => text_of(member)?,
@@ -227,8 +234,8 @@ fn profile_at(alloc: Global, value: &Value) -> Result<Text, ListFault>
 
 /// The budget, a number, or that it is missing.
 fn budget_at(value: &Value) -> Result<DraftBudget, ListFault>
-    ensures ok { IfOk result (λ b. shape.budget_at (view value.now) ≡ Some b) }
-    ensures err { IfErr result (RefusedFor 2 (shape.budget_at (view value.now) ≡ None)) }
+    ensures ok { IfOk result (λ b. drafting.budget_at (view value.now) ≡ Some b) }
+    ensures err { IfErr result (RefusedFor 2 (drafting.budget_at (view value.now) ≡ None)) }
 {
     let Some(member) = value.get("budget") else {
         return Ok(DraftBudget::Missing);
@@ -253,8 +260,8 @@ fn text_of(value: &Value) -> Result<&str, ListFault>
 }
 
 fn files_of(alloc: Global, value: &Value, inline: bool) -> Result<DraftFiles, ListFault>
-    ensures ok { IfOk result (λ fs. shape.array_at (shape.draft_file inline) (codes "files") (view value.now) ≡ Some fs) }
-    ensures err { IfErr result (RefusedFor 2 (shape.array_at (shape.draft_file inline) (codes "files") (view value.now) ≡ None)) }
+    ensures ok { IfOk result (λ fs. drafting.array_at (drafting.draft_file inline) (codes "files") (view value.now) ≡ Some fs) }
+    ensures err { IfErr result (RefusedFor 2 (drafting.array_at (drafting.draft_file inline) (codes "files") (view value.now) ≡ None)) }
 {
     let Some(array) = value.get("files") else {
         return Err(ListFault::Bad(2));
@@ -266,8 +273,8 @@ fn files_of(alloc: Global, value: &Value, inline: bool) -> Result<DraftFiles, Li
 }
 
 fn files_from(alloc: Global, items: &[Value], inline: bool) -> Result<Vec<DraftFile>, ListFault>
-    ensures ok { IfOk result (λ fs. shape.each_item (shape.draft_file inline) (items_view items.now) ≡ Some fs.items) }
-    ensures err { IfErr result (RefusedFor 2 (shape.each_item (shape.draft_file inline) (items_view items.now) ≡ None)) }
+    ensures ok { IfOk result (λ fs. drafting.each_item (drafting.draft_file inline) (items_view items.now) ≡ Some fs.items) }
+    ensures err { IfErr result (RefusedFor 2 (drafting.each_item (drafting.draft_file inline) (items_view items.now) ≡ None)) }
 {
     let mut files = Vec::new(alloc);
     for item in items {
@@ -277,8 +284,8 @@ fn files_from(alloc: Global, items: &[Value], inline: bool) -> Result<Vec<DraftF
 }
 
 fn file_from(alloc: Global, value: &Value, inline: bool) -> Result<DraftFile, ListFault>
-    ensures ok { IfOk result (λ f. shape.draft_file inline (view value.now) ≡ Some f) }
-    ensures err { IfErr result (RefusedFor 2 (shape.draft_file inline (view value.now) ≡ None)) }
+    ensures ok { IfOk result (λ f. drafting.draft_file inline (view value.now) ≡ Some f) }
+    ensures err { IfErr result (RefusedFor 2 (drafting.draft_file inline (view value.now) ≡ None)) }
 {
     if !is_file_object(value, inline) {
         return Err(ListFault::Bad(2));
@@ -300,8 +307,8 @@ fn is_file_object(value: &Value, inline: bool) -> bool
 
 /// The content of a file by exactly one of `text` and `hex`, or nothing where lists hold no contents.
 fn content_of(alloc: Global, value: &Value, inline: bool) -> Result<Content, ListFault>
-    ensures ok { IfOk result (λ c. shape.content_of inline (view value.now) ≡ Some c) }
-    ensures err { IfErr result (RefusedFor 2 (shape.content_of inline (view value.now) ≡ None)) }
+    ensures ok { IfOk result (λ c. drafting.content_of inline (view value.now) ≡ Some c) }
+    ensures err { IfErr result (RefusedFor 2 (drafting.content_of inline (view value.now) ≡ None)) }
 {
     if !inline {
         return Ok(Content::new(Vec::new(alloc)));
@@ -334,8 +341,8 @@ fn hex_content(alloc: Global, value: &Value) -> Result<Content, ListFault>
 }
 
 fn units_of(alloc: Global, value: &Value) -> Result<DraftUnits, ListFault>
-    ensures ok { IfOk result (λ us. shape.array_at shape.draft_unit (codes "units") (view value.now) ≡ Some us) }
-    ensures err { IfErr result (RefusedFor 2 (shape.array_at shape.draft_unit (codes "units") (view value.now) ≡ None)) }
+    ensures ok { IfOk result (λ us. drafting.array_at drafting.draft_unit (codes "units") (view value.now) ≡ Some us) }
+    ensures err { IfErr result (RefusedFor 2 (drafting.array_at drafting.draft_unit (codes "units") (view value.now) ≡ None)) }
 {
     let Some(array) = value.get("units") else {
         return Err(ListFault::Bad(2));
@@ -347,8 +354,8 @@ fn units_of(alloc: Global, value: &Value) -> Result<DraftUnits, ListFault>
 }
 
 fn units_from(alloc: Global, items: &[Value]) -> Result<Vec<DraftUnit>, ListFault>
-    ensures ok { IfOk result (λ us. shape.each_item shape.draft_unit (items_view items.now) ≡ Some us.items) }
-    ensures err { IfErr result (RefusedFor 2 (shape.each_item shape.draft_unit (items_view items.now) ≡ None)) }
+    ensures ok { IfOk result (λ us. drafting.each_item drafting.draft_unit (items_view items.now) ≡ Some us.items) }
+    ensures err { IfErr result (RefusedFor 2 (drafting.each_item drafting.draft_unit (items_view items.now) ≡ None)) }
 {
     let mut units = Vec::new(alloc);
     for item in items {
@@ -358,8 +365,8 @@ fn units_from(alloc: Global, items: &[Value]) -> Result<Vec<DraftUnit>, ListFaul
 }
 
 fn unit_from(alloc: Global, value: &Value) -> Result<DraftUnit, ListFault>
-    ensures ok { IfOk result (λ u. shape.draft_unit (view value.now) ≡ Some u) }
-    ensures err { IfErr result (RefusedFor 2 (shape.draft_unit (view value.now) ≡ None)) }
+    ensures ok { IfOk result (λ u. drafting.draft_unit (view value.now) ≡ Some u) }
+    ensures err { IfErr result (RefusedFor 2 (drafting.draft_unit (view value.now) ≡ None)) }
 {
     if !is_object_of(value, &["file", "define", "search"]) {
         return Err(ListFault::Bad(2));
@@ -375,8 +382,8 @@ fn unit_from(alloc: Global, value: &Value) -> Result<DraftUnit, ListFault>
 }
 
 fn text_at(alloc: Global, value: &Value, name: &str) -> Result<Text, ListFault>
-    ensures ok { IfOk result (λ t. shape.text_at name.now (view value.now) ≡ Some t) }
-    ensures err { IfErr result (RefusedFor 2 (shape.text_at name.now (view value.now) ≡ None)) }
+    ensures ok { IfOk result (λ t. drafting.text_at name.now (view value.now) ≡ Some t) }
+    ensures err { IfErr result (RefusedFor 2 (drafting.text_at name.now (view value.now) ≡ None)) }
 {
     let Some(text) = value.get(name).and_then(Value::as_str) else {
         return Err(ListFault::Bad(2));
@@ -386,8 +393,8 @@ fn text_at(alloc: Global, value: &Value, name: &str) -> Result<Text, ListFault>
 
 /// The texts of an array, and none where it is missing.
 fn texts_at(alloc: Global, value: &Value, name: &str) -> Result<Texts, ListFault>
-    ensures ok { IfOk result (λ ts. shape.texts_at name.now (view value.now) ≡ Some ts) }
-    ensures err { IfErr result (RefusedFor 2 (shape.texts_at name.now (view value.now) ≡ None)) }
+    ensures ok { IfOk result (λ ts. drafting.texts_at name.now (view value.now) ≡ Some ts) }
+    ensures err { IfErr result (RefusedFor 2 (drafting.texts_at name.now (view value.now) ≡ None)) }
 {
     match value.get(name) {
         Some(array) => texts_of(alloc, array),
@@ -396,8 +403,8 @@ fn texts_at(alloc: Global, value: &Value, name: &str) -> Result<Texts, ListFault
 }
 
 fn texts_of(alloc: Global, array: &Value) -> Result<Texts, ListFault>
-    ensures ok { IfOk result (λ ts. shape.each_of as_str (view array.now) ≡ Some ts) }
-    ensures err { IfErr result (RefusedFor 2 (shape.each_of as_str (view array.now) ≡ None)) }
+    ensures ok { IfOk result (λ ts. drafting.each_of as_str (view array.now) ≡ Some ts) }
+    ensures err { IfErr result (RefusedFor 2 (drafting.each_of as_str (view array.now) ≡ None)) }
 {
     let Some(items) = array.as_array() else {
         return Err(ListFault::Bad(2));
@@ -406,8 +413,8 @@ fn texts_of(alloc: Global, array: &Value) -> Result<Texts, ListFault>
 }
 
 fn texts_from(alloc: Global, items: &[Value]) -> Result<Vec<String>, ListFault>
-    ensures ok { IfOk result (λ ts. shape.each_item as_str (items_view items.now) ≡ Some (map string_bytes ts.items)) }
-    ensures err { IfErr result (RefusedFor 2 (shape.each_item as_str (items_view items.now) ≡ None)) }
+    ensures ok { IfOk result (λ ts. drafting.each_item as_str (items_view items.now) ≡ Some (map string_bytes ts.items)) }
+    ensures err { IfErr result (RefusedFor 2 (drafting.each_item as_str (items_view items.now) ≡ None)) }
 {
     let mut texts = Vec::new(alloc);
     for item in items {

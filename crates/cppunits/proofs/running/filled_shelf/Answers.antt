@@ -1,4 +1,4 @@
-use Rattle.std.proofs.Common.{◌≡◌, ◌∙◌, ℕ, List, Vec, Global, ap, sym, subst, length, map, None, replicate}
+use Rattle.std.proofs.Common.{◌≡◌, ◌∙◌, ℕ, List, Vec, Global, ap, sym, subst, length, None, replicate}
 use Rattle.std.proofs.lemmas.List.{length-map}
 use Rattle.cppunits.specs.Contents.{files_of}
 use Rattle.cppunits.proofs.Giving.{filled_files}

@@ -1,4 +1,4 @@
-use Rattle.std.proofs.Common.{◌∙◌, sym, ap, true}
+use Rattle.std.proofs.Common.{◌∙◌, sym, ap}
 use Rattle.cppunits.specs.Listing.{outcome_of}
 use Rattle.cppunits.proofs.serving.receive.Goals as goal
 

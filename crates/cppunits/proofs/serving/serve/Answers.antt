@@ -1,7 +1,6 @@
-use Rattle.std.proofs.Common.{◌≡◌, ◌∙◌, refl, ap, sym, length}
-use Rattle.ppunit.specs.declared.units.Unit.{Unit as UnitOfList}
-use Rattle.ppunit.specs.declared.units.UnitOut.{UnitOut}
+use Rattle.std.proofs.Common.{◌∙◌, refl, ap, sym, length}
 use Rattle.cppunits.specs.Contents.{files_of}
+use Rattle.cppunits.specs.Needed.{needed}
 use Rattle.cppunits.proofs.Giving.{broken_off, can_run, few_units, gives_all, if_ok_then, one_each, served}
 use Rattle.cppunits.proofs.serving.serve.Goals as goal
 
@@ -15,21 +14,21 @@ pub hand_out-answer-requires-clause-counts : goal.hand_out-answer-requires-claus
 hand_out-answer-requires-clause-counts g c =
     let list = c.in_ok-list.list in
     let outs = c.in_ok-outs.outs.items in
-    let gives = gives_all list c.in_ok-shelf.shelf c.as_slice-units.result.now outs c.in_ok-shelf.ensures.names c.in_ok-shelf.ensures.files c.as_slice-units.ensures c.in_ok-outs.ensures in
-    ap length c.as_slice.ensures.value ∙ (one_each list.names (files_of list.contents) list.setting list.units outs gives ∙ sym (ap length c.as_slice-units.ensures))
+    let gives = gives_all (needed c.args.mode) list c.in_ok-shelf.shelf c.as_slice-units.result.now outs c.in_ok-shelf.ensures.names c.in_ok-shelf.ensures.files c.as_slice-units.ensures c.in_ok-outs.ensures in
+    ap length c.as_slice.ensures.value ∙ (one_each (needed c.args.mode) list.names (files_of list.contents) list.setting list.units outs gives ∙ sym (ap length c.as_slice-units.ensures))
 
 pub returns-clause-ok : goal.returns-clause-ok
 returns-clause-ok g c =
     let list = c.in_ok-list.list in
     let outs = c.in_ok-outs.outs.items in
-    let gives = gives_all list c.in_ok-shelf.shelf c.as_slice-units.result.now outs c.in_ok-shelf.ensures.names c.in_ok-shelf.ensures.files c.as_slice-units.ensures c.in_ok-outs.ensures in
+    let gives = gives_all (needed c.args.mode) list c.in_ok-shelf.shelf c.as_slice-units.result.now outs c.in_ok-shelf.ensures.names c.in_ok-shelf.ensures.files c.as_slice-units.ensures c.in_ok-outs.ensures in
     if_ok_then c.hand_out-answer.result c.hand_out-answer.ensures.ok (λ any given. served c.args.mode list c.as_slice-units.result.now c.as_slice.result.now outs _ _ any c.as_slice-units.ensures c.as_slice.ensures.value
-    (record { came = c.in_ok-list.ensures.ok; files = files_of list.contents; such = refl; gives = gives }) given)
+    c.in_ok-list.ensures.ok (files_of list.contents) refl gives given)
 
 pub returns-clause-broken_off : goal.returns-clause-broken_off
 returns-clause-broken_off g c = λ failed.
     let list = c.in_ok-list.list in
     let outs = c.in_ok-outs.outs.items in
-    let gives = gives_all list c.in_ok-shelf.shelf c.as_slice-units.result.now outs c.in_ok-shelf.ensures.names c.in_ok-shelf.ensures.files c.as_slice-units.ensures c.in_ok-outs.ensures in
+    let gives = gives_all (needed c.args.mode) list c.in_ok-shelf.shelf c.as_slice-units.result.now outs c.in_ok-shelf.ensures.names c.in_ok-shelf.ensures.files c.as_slice-units.ensures c.in_ok-outs.ensures in
     broken_off c.args.mode list c.as_slice-units.result.now c.as_slice.result.now outs _ _ c.as_slice-units.ensures c.as_slice.ensures.value
-    (record { came = c.in_ok-list.ensures.ok; files = files_of list.contents; such = refl; gives = gives }) (c.hand_out-answer.ensures.front failed)
+    c.in_ok-list.ensures.ok (files_of list.contents) refl gives (c.hand_out-answer.ensures.front failed)

@@ -1,4 +1,4 @@
-use Rattle.std.proofs.Common.{◌≤◌, length, arith, rules}
+use Rattle.std.proofs.Common.{◌≤◌, length, arith}
 use Rattle.cppunits.proofs.Behind.{take_behind}
 use Rattle.cppunits.proofs.writing.put_front.Goals as goal
 

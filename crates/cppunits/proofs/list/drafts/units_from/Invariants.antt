@@ -1,5 +1,5 @@
 use Rattle.std.proofs.Common.{◌≡◌, drop}
-use Rattle.cppunits.specs.Shape.{draft_unit}
+use Rattle.cppunits.specs.Drafting.{draft_unit}
 use Rattle.cppunits.proofs.Each.{read_from, behind}
 use Rattle.cppunits.proofs.list.drafts.units_from.Given as goal
 
