@@ -66,8 +66,8 @@ items_behind shape hash [] = []
 items_behind shape (Some hash) (t ∷ ts) = stringized_item (parameter_of shape t) hash t ∷ items_behind shape None ts
 items_behind shape None (t ∷ ts) =
     items_at (is_paste t) (is_operator_hash shape t) (plain_item (parameter_of shape t) t)
-        (items_behind shape None ts)
-        (items_behind shape (Some (hash_sign t)) ts)
+    (items_behind shape None ts)
+    (items_behind shape (Some (hash_sign t)) ts)
 
 -- the items where this one is the next, or none at a `#`
 abbrev pub led_by : Shape → Token → Option Item → List Token → List Item

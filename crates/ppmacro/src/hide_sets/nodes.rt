@@ -145,11 +145,7 @@ pub(crate) fn has(nodes: &IndexSet<Node>, set: u32, number: usize) -> bool
 }
 
 /// The number of a set with one member more.
-pub(crate) fn insert(
-    nodes: &mut IndexSet<Node>,
-    set: u32,
-    number: usize,
-) -> Result<u32, AllocError>
+pub(crate) fn insert(nodes: &mut IndexSet<Node>, set: u32, number: usize) -> Result<u32, AllocError>
     requires pool { IsPool nodes.old.keys }
     requires known { set < length nodes.old.keys }
     ensures pool { IsPool nodes.new.keys }

@@ -158,10 +158,10 @@ expand_arguments-loop-parameter-preserved-then-not-index m c =
     let less : i < length vs = subst (λ xs. i < length xs) c.deref-argument-items.ensures.value c.loop-parameter-test.true in
     let is : c.argument-item.result ≡ get_or vs i c.argument-item.result = c.argument-item.is ∙ ap (λ xs. get_or xs i c.argument-item.result) c.deref-argument-items.ensures.value in
     let unused : uses_alone i cs ≡ false = ap (uses_alone i) (sym c.requires.chains)
-        ∙ marked-alone c.in_ok-used.used.items c.len-count.result i c.args.chains.now c.index.result.now
-            (subst (λ n. i < n) (c.deref-argument-items.ensures.len ∙ sym c.len-count.ensures) c.loop-parameter-test.true)
-            c.in_ok-used.ensures.len c.in_ok-used.ensures.used c.index.ensures
-        ∙ c.if-not-index.true in
+    ∙ marked-alone c.in_ok-used.used.items c.len-count.result i c.args.chains.now c.index.result.now
+    (subst (λ n. i < n) (c.deref-argument-items.ensures.len ∙ sym c.len-count.ensures) c.loop-parameter-test.true)
+    c.in_ok-used.ensures.len c.in_ok-used.ensures.used c.index.ensures
+    ∙ c.if-not-index.true in
     let next = rest-unused s vs cs i c.argument-item.result less is unused in
     let made = c.in_ok-push_expansion.ensures in
     let done = c.loop-parameter.expanded.items in
@@ -208,10 +208,10 @@ expand_arguments-returns-in-None-clause-is m c =
     let less : i < length vs = subst (λ xs. i < length xs) c.deref-argument-items.ensures.value c.loop-parameter-test.true in
     let is : c.argument-item.result ≡ get_or vs i c.argument-item.result = c.argument-item.is ∙ ap (λ xs. get_or xs i c.argument-item.result) c.deref-argument-items.ensures.value in
     let is_used : uses_alone i cs ≡ true = ap (uses_alone i) (sym c.requires.chains)
-        ∙ marked-alone c.in_ok-used.used.items c.len-count.result i c.args.chains.now c.index.result.now
-            (subst (λ n. i < n) (c.deref-argument-items.ensures.len ∙ sym c.len-count.ensures) c.loop-parameter-test.true)
-            c.in_ok-used.ensures.len c.in_ok-used.ensures.used c.index.ensures
-        ∙ c.if-not-index.false in
+    ∙ marked-alone c.in_ok-used.used.items c.len-count.result i c.args.chains.now c.index.result.now
+    (subst (λ n. i < n) (c.deref-argument-items.ensures.len ∙ sym c.len-count.ensures) c.loop-parameter-test.true)
+    c.in_ok-used.ensures.len c.in_ok-used.ensures.used c.index.ensures
+    ∙ c.if-not-index.false in
     let next = rest-used s vs cs i v less is is_used in
     let argument : hidings u c.as_slice-tokens.result.now ≡ hidings s v.items = ap (hidings u) c.as_slice-tokens.ensures.value ∙ hidings-keeps v.items c.loop-parameter.invariant.keeps (known-item s vs i v less is c.requires.known.arguments) in
     let raised = rw c.in-None.is at c.in_ok-expansion.ensures.is in
@@ -241,10 +241,10 @@ expand_arguments-loop-parameter-preserved m c =
     let less : i < length vs = subst (λ xs. i < length xs) c.deref-argument-items.ensures.value c.loop-parameter-test.true in
     let is : c.argument-item.result ≡ get_or vs i c.argument-item.result = c.argument-item.is ∙ ap (λ xs. get_or xs i c.argument-item.result) c.deref-argument-items.ensures.value in
     let is_used : uses_alone i cs ≡ true = ap (uses_alone i) (sym c.requires.chains)
-        ∙ marked-alone c.in_ok-used.used.items c.len-count.result i c.args.chains.now c.index.result.now
-            (subst (λ n. i < n) (c.deref-argument-items.ensures.len ∙ sym c.len-count.ensures) c.loop-parameter-test.true)
-            c.in_ok-used.ensures.len c.in_ok-used.ensures.used c.index.ensures
-        ∙ c.if-not-index.false in
+    ∙ marked-alone c.in_ok-used.used.items c.len-count.result i c.args.chains.now c.index.result.now
+    (subst (λ n. i < n) (c.deref-argument-items.ensures.len ∙ sym c.len-count.ensures) c.loop-parameter-test.true)
+    c.in_ok-used.ensures.len c.in_ok-used.ensures.used c.index.ensures
+    ∙ c.if-not-index.false in
     let next = rest-used s vs cs i v less is is_used in
     let argument : hidings u c.as_slice-tokens.result.now ≡ hidings s v.items = ap (hidings u) c.as_slice-tokens.ensures.value ∙ hidings-keeps v.items c.loop-parameter.invariant.keeps (known-item s vs i v less is c.requires.known.arguments) in
     let made_is = rw c.in-Some.is at c.in_ok-expansion.ensures.is in
