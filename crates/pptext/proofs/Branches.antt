@@ -3,10 +3,8 @@ use Rattle.std.proofs.Common.{◌≡◌, ℕ, zero, suc, ◌+◌, ◌<◌, ◌�
 use Rattle.std.proofs.lemmas.List.{at_drop_more, take_more, set_at, get_or_at, length-take-le, take_all, drop_all, append-nil}
 use Rattle.pptext.specs.declared.tokens.Token.{Token}
 use Rattle.pptext.specs.declared.sources.Line.{Line}
-use Rattle.pptext.specs.declared.directives.Role.{Role}
-use Rattle.pptext.specs.declared.directives.Role.TheVariants.{Text as IsText, Control as IsControl, Opens, Elses, Closes}
 use Rattle.pptext.specs.Lines.{LogicalLine}
-use Rattle.pptext.specs.Tree.{role, branch_behind}
+use Rattle.pptext.specs.Tree.{Role, TextLine, ControlLine, Opens, Elses, Closes, role, branch_behind}
 use Rattle.pptext.specs.Sources.{next_branch, spans, tokens_of, lines_from}
 use Rattle.pptext.specs.Grouping.{drafts, AreDirected, AreDrafts, AreLines, line_role, branch_of, linked, first, step_back}
 use Rattle.pptext.proofs.Spans.{row_of}
@@ -31,15 +29,15 @@ branch_is zero k (Closes ∷ ss) = refl
 branch_is (suc j) k (Closes ∷ ss) = branch_is j (k + 1) ss
 branch_is zero k (Elses final ∷ ss) = refl
 branch_is (suc j) k (Elses final ∷ ss) = branch_is (suc j) (k + 1) ss ∙ ap first (sym (drop_one_more j (branches (k + 1) ss)))
-branch_is j k (IsText ∷ ss) = branch_is j (k + 1) ss
-branch_is j k (IsControl ∷ ss) = branch_is j (k + 1) ss
+branch_is j k (TextLine ∷ ss) = branch_is j (k + 1) ss
+branch_is j k (ControlLine ∷ ss) = branch_is j (k + 1) ss
 
 pub step_is : (k : ℕ) (s : Role) (ss : List Role) → (step_back k s (branches (k + 1) ss)).0 ≡ branch_of k s ss
 step_is k Opens ss = sym (branch_is 0 (k + 1) ss)
 step_is k (Elses final) ss = sym (branch_is 0 (k + 1) ss)
 step_is k Closes ss = refl
-step_is k IsText ss = refl
-step_is k IsControl ss = refl
+step_is k TextLine ss = refl
+step_is k ControlLine ss = refl
 
 -- The lines with the next branch lines filled in from this index on, and the stack.
 pub record LinkedFrom (ls : List Line) (at : ℕ) (now : List Line) (behind : List ℕ) : Type 0 where
@@ -88,8 +86,8 @@ branch_next : (k : ℕ) (s : Role) (rs : List LogicalLine) → branch_of k s (ma
 branch_next k Opens rs = refl
 branch_next k (Elses final) rs = refl
 branch_next k Closes rs = refl
-branch_next k IsText rs = refl
-branch_next k IsControl rs = refl
+branch_next k TextLine rs = refl
+branch_next k ControlLine rs = refl
 
 draft_roles : (start : ℕ) (rs : List LogicalLine) → map line_role (drafts start rs) ≡ map role rs
 draft_roles start [] = refl

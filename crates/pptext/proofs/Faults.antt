@@ -8,13 +8,11 @@ use Rattle.pptext.specs.declared.tokens.Fault.{Fault}
 use Rattle.pptext.specs.declared.sources.Line.{Line}
 use Rattle.pptext.specs.declared.sources.Directive.{Directive}
 use Rattle.pptext.specs.declared.sources.Directive.TheVariants.{Null}
-use Rattle.pptext.specs.declared.directives.Role.{Role}
-use Rattle.pptext.specs.declared.directives.Role.TheVariants.{Text as IsText, Control as IsControl, Opens, Elses, Closes}
 use Rattle.pptext.specs.declared.tokens.Kind.TheVariants.{Ident}
 use Rattle.pptext.specs.declared.sources.Profile.{Profile}
 use Rattle.pptext.specs.Clean.{place}
 use Rattle.pptext.specs.Lines.{LogicalLine, directive_of}
-use Rattle.pptext.specs.Tree.{role, role_by, Open, opened, fault_at, fault_at_end, fault_or, group_fault, sign_place, name_of}
+use Rattle.pptext.specs.Tree.{Role, TextLine, ControlLine, Opens, Elses, Closes, role, role_by, Open, opened, fault_at, fault_at_end, fault_or, group_fault, sign_place, name_of}
 use Rattle.pptext.specs.Sources.{lines_from}
 use Rattle.pptext.specs.Grouping.{AreLines, line_role, IsBranching, sections}
 use Rattle.pptext.specs.declared.grouping.faults.Section.{Section}
@@ -47,8 +45,8 @@ opened_rows rs (Elses final) at ((o, true) ∷ os) = refl
 opened_rows rs (Elses final) at ((o, false) ∷ os) = refl
 opened_rows rs Closes at [] = refl
 opened_rows rs Closes at (o ∷ os) = refl
-opened_rows rs IsText at os = refl
-opened_rows rs IsControl at os = refl
+opened_rows rs TextLine at os = refl
+opened_rows rs ControlLine at os = refl
 
 opened_all : (Q : ℕ → Type 0) (s : Role) (at : ℕ) (os : List (ℕ × Bool)) → AllByRecursion (λ o. Q o.0) os → (s ≡ Opens → Q at) → AllByRecursion (λ o. Q o.0) (opened s at os).1
 opened_all Q Opens at os all here = (here refl, all)
@@ -57,15 +55,15 @@ opened_all Q (Elses final) at ((o, true) ∷ os) all here = tt
 opened_all Q (Elses final) at ((o, false) ∷ os) all here = (all.0, all.1)
 opened_all Q Closes at [] all here = tt
 opened_all Q Closes at (o ∷ os) all here = all.1
-opened_all Q IsText at os all here = all
-opened_all Q IsControl at os all here = all
+opened_all Q TextLine at os all here = all
+opened_all Q ControlLine at os all here = all
 
 faulty_branches : (s : Role) (at n : ℕ) (os : List (ℕ × Bool)) → (opened s at os).0 ≡ Some n → IsBranching s
 faulty_branches Opens at n os e = tt
 faulty_branches (Elses final) at n os e = tt
 faulty_branches Closes at n os e = tt
-faulty_branches IsText at n os e = absurd (cc)
-faulty_branches IsControl at n os e = absurd (cc)
+faulty_branches TextLine at n os e = absurd (cc)
+faulty_branches ControlLine at n os e = absurd (cc)
 
 -- the line at an index opens a section
 pub record OpensAt (ls : List Line) (at : ℕ) : Type 0 where

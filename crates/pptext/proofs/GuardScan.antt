@@ -4,10 +4,8 @@ use Rattle.std.specs.List.{AllByRecursion}
 use Rattle.std.proofs.lemmas.List.{drop_all, drop_more, drop-drop, length-append, length-map, length-drop, length-take-le, nil_from_length, get_or-take, get_or-drop}
 use Rattle.pptext.specs.declared.tokens.Token.{Token}
 use Rattle.pptext.specs.declared.sources.Line.{Line}
-use Rattle.pptext.specs.declared.directives.Role.{Role}
-use Rattle.pptext.specs.declared.directives.Role.TheVariants.{Text as IsText, Control as IsControl, Opens, Elses, Closes}
 use Rattle.pptext.specs.Lines.{LogicalLine}
-use Rattle.pptext.specs.Tree.{role, branch_behind, group_fault}
+use Rattle.pptext.specs.Tree.{Role, TextLine, ControlLine, Opens, Elses, Closes, role, branch_behind, group_fault}
 use Rattle.pptext.specs.Sources.{next_branch, tokens_of, lines_from}
 use Rattle.pptext.specs.Guard.{IsBlankLine, GuardedBy, guard_name}
 use Rattle.pptext.specs.Grouping.{AreDirected, AreLines, line_role, ClosedAtOnce, FlatGuard}
@@ -23,8 +21,8 @@ branch_within zero k (Closes ∷ ss) j e = let same : k ≡ j = cc in (omega ari
 branch_within (suc depth) k (Closes ∷ ss) j e = let w = branch_within depth (k + 1) ss j e in (omega (arith, w.0), omega (arith, w.1))
 branch_within zero k (Elses final ∷ ss) j e = let same : k ≡ j = cc in (omega arith, omega arith)
 branch_within (suc depth) k (Elses final ∷ ss) j e = let w = branch_within (suc depth) (k + 1) ss j e in (omega (arith, w.0), omega (arith, w.1))
-branch_within depth k (IsText ∷ ss) j e = let w = branch_within depth (k + 1) ss j e in (omega (arith, w.0), omega (arith, w.1))
-branch_within depth k (IsControl ∷ ss) j e = let w = branch_within depth (k + 1) ss j e in (omega (arith, w.0), omega (arith, w.1))
+branch_within depth k (TextLine ∷ ss) j e = let w = branch_within depth (k + 1) ss j e in (omega (arith, w.0), omega (arith, w.1))
+branch_within depth k (ControlLine ∷ ss) j e = let w = branch_within depth (k + 1) ss j e in (omega (arith, w.0), omega (arith, w.1))
 
 no_tokens : (rs : List LogicalLine) → AllByRecursion IsBlankLine rs → length (tokens_of rs) ≡ 0
 no_tokens [] all = refl

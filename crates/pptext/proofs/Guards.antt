@@ -4,10 +4,8 @@ use Rattle.std.specs.List.{AllByRecursion}
 use Rattle.std.proofs.lemmas.List.{drop_at, length-append}
 use Rattle.pptext.specs.declared.tokens.Token.{Token}
 use Rattle.pptext.specs.declared.sources.Profile.{Profile}
-use Rattle.pptext.specs.declared.directives.Role.{Role}
-use Rattle.pptext.specs.declared.directives.Role.TheVariants.{Text as IsText, Control as IsControl, Opens, Elses, Closes}
 use Rattle.pptext.specs.Lines.{LogicalLine, directive_of, IsDirected}
-use Rattle.pptext.specs.Tree.{Parts, Done, Run, Control, Section, Branches, End, Branch, part_lines, branch_lines, AreParts, AreBranches, role, role_by, branch_behind, group_fault}
+use Rattle.pptext.specs.Tree.{Role, TextLine, ControlLine, Opens, Elses, Closes, Parts, Done, Run, Control, Section, Branches, End, Branch, part_lines, branch_lines, AreParts, AreBranches, role, role_by, branch_behind, group_fault}
 use Rattle.pptext.specs.Guard.{IsBlankLine, AreBlank, guard_name, GuardedParts, GuardedBy}
 use Rattle.pptext.specs.Grouping.{AreDirected, ClosedAtOnce, FlatGuard}
 use Rattle.pptext.proofs.Trees.{section_lines, branch_line, a_tree}
@@ -17,10 +15,10 @@ use Rattle.pptext.proofs.Trees.{section_lines, branch_line, a_tree}
 one_role : (depth k : ℕ) (r : LogicalLine) (rs : List LogicalLine) (s : Role) → role r ≡ s → branch_behind depth k (map role (r ∷ rs)) ≡ branch_behind depth k (s ∷ map role rs)
 one_role depth k r rs s e = ap (λ (z : Role). branch_behind depth k (z ∷ map role rs)) e
 
-text_roles : (rs : List LogicalLine) (depth k : ℕ) (rest : List LogicalLine) → AllByRecursion (λ r. role r ≡ IsText) rs → branch_behind depth k (map role (rs ++ rest)) ≡ branch_behind depth (k + length rs) (map role rest)
+text_roles : (rs : List LogicalLine) (depth k : ℕ) (rest : List LogicalLine) → AllByRecursion (λ r. role r ≡ TextLine) rs → branch_behind depth k (map role (rs ++ rest)) ≡ branch_behind depth (k + length rs) (map role rest)
 text_roles [] depth k rest all = ap (λ (z : ℕ). branch_behind depth z (map role rest)) (omega arith)
 text_roles (r ∷ rs) depth k rest all =
-    one_role depth k r (rs ++ rest) IsText all.0 ∙ text_roles rs depth (k + 1) rest all.1 ∙ ap (λ (z : ℕ). branch_behind depth z (map role rest)) (omega arith)
+    one_role depth k r (rs ++ rest) TextLine all.0 ∙ text_roles rs depth (k + 1) rest all.1 ∙ ap (λ (z : ℕ). branch_behind depth z (map role rest)) (omega arith)
 
 mutual
   pub behind_parts : (ps : Parts) (depth k : ℕ) (rest : List LogicalLine) → AreParts ps → branch_behind depth k (map role (part_lines ps ++ rest)) ≡ branch_behind depth (k + length (part_lines ps)) (map role rest)
@@ -28,7 +26,7 @@ mutual
   behind_parts (Run rs ps) depth k rest are =
       ap (λ (z : List LogicalLine). branch_behind depth k (map role z)) (append_assoc rs (part_lines ps) rest) ∙ text_roles rs depth k (part_lines ps ++ rest) are.1 ∙ behind_parts ps depth (k + length rs) rest are.3 ∙ ap (λ (z : ℕ). branch_behind depth z (map role rest)) (omega (arith, length-append rs (part_lines ps)))
   behind_parts (Control r ps) depth k rest are =
-      one_role depth k r (part_lines ps ++ rest) IsControl are.0 ∙ behind_parts ps depth (k + 1) rest are.1 ∙ ap (λ (z : ℕ). branch_behind depth z (map role rest)) (omega arith)
+      one_role depth k r (part_lines ps ++ rest) ControlLine are.0 ∙ behind_parts ps depth (k + 1) rest are.1 ∙ ap (λ (z : ℕ). branch_behind depth z (map role rest)) (omega arith)
   behind_parts (Section r ps bs qs) depth k rest are =
       ap (λ (z : List LogicalLine). branch_behind depth k (map role z)) (section_lines r ps qs bs rest) ∙ one_role depth k r (part_lines ps ++ (branch_lines bs ++ (part_lines qs ++ rest))) Opens are.0 ∙ behind_parts ps (suc depth) (k + 1) (branch_lines bs ++ (part_lines qs ++ rest)) are.1 ∙ behind_branches bs false depth (k + 1 + length (part_lines ps)) (part_lines qs ++ rest) are.2 ∙ behind_parts qs depth (k + 1 + length (part_lines ps) + length (branch_lines bs)) rest are.3 ∙ ap (λ (z : ℕ). branch_behind depth z (map role rest)) (omega (arith, length-append (part_lines ps ++ branch_lines bs) (part_lines qs), length-append (part_lines ps) (branch_lines bs)))
 
@@ -41,7 +39,7 @@ mutual
 
 -- a line without tokens is text, since its directive is that of its tokens
 abbrev pub IsTextIfBlank : LogicalLine → Type 0
-IsTextIfBlank r = IsBlankLine r → role r ≡ IsText
+IsTextIfBlank r = IsBlankLine r → role r ≡ TextLine
 
 pub blank_role : (profile : Profile) (r : LogicalLine) → IsDirected profile r → IsTextIfBlank r
 blank_role profile r directed blank = ap role_by directed ∙ ap (λ (z : List Token). role_by (directive_of profile z)) blank
@@ -99,7 +97,7 @@ guarded_flat (Section r ps (Branch e ps' bs) qs) x k are g = absurd g
 
 -- from the flat form to the tree
 
-text_front : (rs rest : List LogicalLine) (k : ℕ) (x : List ℕ) → AllByRecursion (λ r. role r ≡ IsText) rs → FlatGuard k (rs ++ rest) x → AllByRecursion IsBlankLine rs × ((j : ℕ) × FlatGuard j rest x)
+text_front : (rs rest : List LogicalLine) (k : ℕ) (x : List ℕ) → AllByRecursion (λ r. role r ≡ TextLine) rs → FlatGuard k (rs ++ rest) x → AllByRecursion IsBlankLine rs × ((j : ℕ) × FlatGuard j rest x)
 text_front [] rest k x all flat = (tt, (k, flat))
 text_front (r ∷ rs) rest k x all (inl here) = let later = text_front rs rest (k + 1) x all.1 here.1 in ((here.0, later.0), later.1)
 text_front (r ∷ rs) rest k x all (inr here) = let opens = here.0 in let text = all.0 in absurd (cc)

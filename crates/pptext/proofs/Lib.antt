@@ -25,6 +25,7 @@ pub mod LastLine
 pub mod LoneQuotes
 pub mod Spans
 pub mod Directed
+pub mod Roles
 pub mod Faults
 pub mod Branches
 pub mod Trees

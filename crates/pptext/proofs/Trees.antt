@@ -2,19 +2,17 @@
 use Rattle.std.proofs.Common.{◌≡◌, ◌↔◌, Bool, true, false, List, [], ◌∷◌, ◌++◌, refl, sym, ap, ◌∙◌, append_assoc, None}
 use Rattle.std.specs.List.{AllByRecursion}
 use Rattle.std.proofs.lemmas.List.{append-nil}
-use Rattle.pptext.specs.declared.directives.Role.{Role}
-use Rattle.pptext.specs.declared.directives.Role.TheVariants.{Text as IsText, Control as IsControl, Opens, Elses, Closes}
 use Rattle.pptext.specs.Lines.{LogicalLine}
-use Rattle.pptext.specs.Tree.{Parts, Done, Run, Control, Section, Branches, End, Branch, part_lines, branch_lines, BeginsRun, AreParts, AreBranches, Tree, role, Open, opened, fault_or, group_fault}
+use Rattle.pptext.specs.Tree.{Role, TextLine, ControlLine, Opens, Elses, Closes, Parts, Done, Run, Control, Section, Branches, End, Branch, part_lines, branch_lines, BeginsRun, AreParts, AreBranches, Tree, role, Open, opened, fault_or, group_fault}
 
 -- a tree has no fault
 
 one_line : (os : List Open) (r : LogicalLine) (rs : List LogicalLine) (s : Role) → role r ≡ s → group_fault os (r ∷ rs) ≡ fault_or r (opened s r os).0 (group_fault (opened s r os).1 rs)
 one_line os r rs s e = ap (λ (z : Role). fault_or r (opened z r os).0 (group_fault (opened z r os).1 rs)) e
 
-text_lines : (os : List Open) (rs rest : List LogicalLine) → AllByRecursion (λ r. role r ≡ IsText) rs → group_fault os (rs ++ rest) ≡ group_fault os rest
+text_lines : (os : List Open) (rs rest : List LogicalLine) → AllByRecursion (λ r. role r ≡ TextLine) rs → group_fault os (rs ++ rest) ≡ group_fault os rest
 text_lines os [] rest all = refl
-text_lines os (r ∷ rs) rest all = one_line os r (rs ++ rest) IsText all.0 ∙ text_lines os rs rest all.1
+text_lines os (r ∷ rs) rest all = one_line os r (rs ++ rest) TextLine all.0 ∙ text_lines os rs rest all.1
 
 pub section_lines : (r : LogicalLine) (ps qs : Parts) (bs : Branches) (rest : List LogicalLine) → part_lines (Section r ps bs qs) ++ rest ≡ r ∷ part_lines ps ++ (branch_lines bs ++ (part_lines qs ++ rest))
 section_lines r ps qs bs rest = simp append_assoc
@@ -27,7 +25,7 @@ mutual
   parts_pass Done os rest are = refl
   parts_pass (Run rs ps) os rest are =
       ap (group_fault os) (append_assoc rs (part_lines ps) rest) ∙ text_lines os rs (part_lines ps ++ rest) are.1 ∙ parts_pass ps os rest are.3
-  parts_pass (Control r ps) os rest are = one_line os r (part_lines ps ++ rest) IsControl are.0 ∙ parts_pass ps os rest are.1
+  parts_pass (Control r ps) os rest are = one_line os r (part_lines ps ++ rest) ControlLine are.0 ∙ parts_pass ps os rest are.1
   parts_pass (Section r ps bs qs) os rest are =
       ap (group_fault os) (section_lines r ps qs bs rest) ∙ one_line os r (part_lines ps ++ (branch_lines bs ++ (part_lines qs ++ rest))) Opens are.0 ∙ parts_pass ps ((r, false) ∷ os) (branch_lines bs ++ (part_lines qs ++ rest)) are.1 ∙ branches_pass bs r false os (part_lines qs ++ rest) are.2 ∙ parts_pass qs os rest are.3
 
@@ -53,7 +51,7 @@ abbrev Behind : List Open → List LogicalLine → Type 0
 Behind [] rest = rest ≡ []
 Behind (o ∷ os) rest = (bs : Branches) × (more : List LogicalLine) × AreBranches o.1 bs × (branch_lines bs ++ more ≡ rest) × Front (Behind os) more
 
-with_text : (r : LogicalLine) (ps : Parts) → role r ≡ IsText → AreParts ps → (qs : Parts) × AreParts qs × (part_lines qs ≡ r ∷ part_lines ps)
+with_text : (r : LogicalLine) (ps : Parts) → role r ≡ TextLine → AreParts ps → (qs : Parts) × AreParts qs × (part_lines qs ≡ r ∷ part_lines ps)
 with_text r Done is are = (Run (r ∷ []) Done, ((λ (e : r ∷ [] ≡ []). cc), (is, tt), (λ (e : ⊥). e), tt), refl)
 with_text r (Run rs ps) is are = (Run (r ∷ rs) ps, ((λ (e : r ∷ rs ≡ []). cc), (is, are.1), are.2, are.3), refl)
 with_text r (Control q ps) is are = (Run (r ∷ []) (Control q ps), ((λ (e : r ∷ [] ≡ []). cc), (is, tt), (λ (e : ⊥). e), are), refl)
@@ -61,11 +59,11 @@ with_text r (Section q ps bs qs) is are = (Run (r ∷ []) (Section q ps bs qs), 
 
 -- what a line adds to the fronts of the later lines
 front_at : (r : LogicalLine) (rs : List LogicalLine) (os : List Open) (s : Role) → role r ≡ s → ((before : List Open) → group_fault before rs ≡ None → Front (Behind before) rs) → fault_or r (opened s r os).0 (group_fault (opened s r os).1 rs) ≡ None → Front (Behind os) (r ∷ rs)
-front_at r rs os IsText is later e =
+front_at r rs os TextLine is later e =
     let f = later os e in
     let w = with_text r f.parts is f.are in
     record { parts = w.0; rest = f.rest; are = w.1; whole = ap (λ (z : List LogicalLine). z ++ f.rest) w.2 ∙ ap (λ (z : List LogicalLine). r ∷ z) f.whole; behind = f.behind }
-front_at r rs os IsControl is later e =
+front_at r rs os ControlLine is later e =
     let f = later os e in
     record { parts = Control r f.parts; rest = f.rest; are = (is, f.are); whole = ap (λ (z : List LogicalLine). r ∷ z) f.whole; behind = f.behind }
 front_at r rs os Opens is later e =
@@ -120,8 +118,8 @@ text_before r (Run rs ps) = Run (r ∷ rs) ps
 text_before r ps = Run (r ∷ []) ps
 
 abbrev line_before : Role → LogicalLine → Reading → Reading
-line_before IsText r (ps, bs) = (text_before r ps, bs)
-line_before IsControl r (ps, bs) = (Control r ps, bs)
+line_before TextLine r (ps, bs) = (text_before r ps, bs)
+line_before ControlLine r (ps, bs) = (Control r ps, bs)
 line_before Opens r (ps, []) = (Done, [])
 line_before Opens r (ps, (b, qs) ∷ bs) = (Section r ps b qs, bs)
 line_before (Elses final) r (ps, []) = (Done, [])
@@ -141,10 +139,10 @@ text_first r (Run rs ps) alone = absurd (alone tt)
 text_first r (Control q ps) alone = refl
 text_first r (Section q ps bs qs) alone = refl
 
-read_run : (r : LogicalLine) (rs rest : List LogicalLine) (ps : Parts) (bs : List (Branches × Parts)) → role r ≡ IsText → AllByRecursion (λ r. role r ≡ IsText) rs → (¬ BeginsRun ps) → read rest ≡ (ps, bs) → read (r ∷ rs ++ rest) ≡ (Run (r ∷ rs) ps, bs)
-read_run r [] rest ps bs is all alone e = read_line r rest IsText (ps, bs) is e ∙ ap (λ (z : Parts). (z, bs)) (text_first r ps alone)
+read_run : (r : LogicalLine) (rs rest : List LogicalLine) (ps : Parts) (bs : List (Branches × Parts)) → role r ≡ TextLine → AllByRecursion (λ r. role r ≡ TextLine) rs → (¬ BeginsRun ps) → read rest ≡ (ps, bs) → read (r ∷ rs ++ rest) ≡ (Run (r ∷ rs) ps, bs)
+read_run r [] rest ps bs is all alone e = read_line r rest TextLine (ps, bs) is e ∙ ap (λ (z : Parts). (z, bs)) (text_first r ps alone)
 read_run r (q ∷ rs) rest ps bs is all alone e =
-    read_line r (q ∷ rs ++ rest) IsText (Run (q ∷ rs) ps, bs) is (read_run q rs rest ps bs all.0 all.1 alone e)
+    read_line r (q ∷ rs ++ rest) TextLine (Run (q ∷ rs) ps, bs) is (read_run q rs rest ps bs all.0 all.1 alone e)
 
 mutual
   read_parts : (ps : Parts) (rest : List LogicalLine) (bs : List (Branches × Parts)) → AreParts ps → read rest ≡ (Done, bs) → read (part_lines ps ++ rest) ≡ (ps, bs)
@@ -152,7 +150,7 @@ mutual
   read_parts (Run [] ps) rest bs are e = absurd (are.0 refl)
   read_parts (Run (r ∷ rs) ps) rest bs are e =
       ap read (append_assoc (r ∷ rs) (part_lines ps) rest) ∙ read_run r rs (part_lines ps ++ rest) ps bs are.1.0 are.1.1 are.2 (read_parts ps rest bs are.3 e)
-  read_parts (Control r ps) rest bs are e = read_line r (part_lines ps ++ rest) IsControl (ps, bs) are.0 (read_parts ps rest bs are.1 e)
+  read_parts (Control r ps) rest bs are e = read_line r (part_lines ps ++ rest) ControlLine (ps, bs) are.0 (read_parts ps rest bs are.1 e)
   read_parts (Section r ps b qs) rest bs are e =
       ap read (section_lines r ps qs b rest) ∙ read_line r (part_lines ps ++ (branch_lines b ++ (part_lines qs ++ rest))) Opens (ps, (b, qs) ∷ bs) are.0 (read_parts ps (branch_lines b ++ (part_lines qs ++ rest)) ((b, qs) ∷ bs) are.1 (read_branches b false (part_lines qs ++ rest) qs bs are.2 (read_parts qs rest bs are.3 e)))
 

@@ -1,10 +1,8 @@
 -- What a walk over the lines of a file knows of the next branch lines.
 use Rattle.std.proofs.Common.{◌≡◌, ℕ, zero, suc, ◌+◌, ◌<◌, ◌≤◌, Bool, List, [], ◌∷◌, ◌++◌, map, length, ap, ◌∙◌, arith, None, Some}
 use Rattle.std.proofs.lemmas.List.{length-map}
-use Rattle.pptext.specs.declared.directives.Role.{Role}
-use Rattle.pptext.specs.declared.directives.Role.TheVariants.{Text as IsText, Control as IsControl, Opens, Elses, Closes}
 use Rattle.pptext.specs.Lines.{LogicalLine}
-use Rattle.pptext.specs.Tree.{Parts, Branches, End, Branch, part_lines, branch_lines, AreParts, AreBranches, role, branch_behind}
+use Rattle.pptext.specs.Tree.{Role, TextLine, ControlLine, Opens, Elses, Closes, Parts, Branches, End, Branch, part_lines, branch_lines, AreParts, AreBranches, role, branch_behind}
 use Rattle.pptext.specs.Sources.{next_branch}
 use Rattle.pptext.proofs.Guards.{behind_parts}
 
@@ -18,15 +16,15 @@ behind_within zero k (Closes ∷ ss) n e = let same : k ≡ n = cc in (omega ari
 behind_within (suc depth) k (Closes ∷ ss) n e = let h = behind_within depth (k + 1) ss n e in (omega (arith, h.0), omega (arith, h.1))
 behind_within zero k (Elses final ∷ ss) n e = let same : k ≡ n = cc in (omega arith, omega arith)
 behind_within (suc depth) k (Elses final ∷ ss) n e = let h = behind_within (suc depth) (k + 1) ss n e in (omega (arith, h.0), omega (arith, h.1))
-behind_within depth k (IsText ∷ ss) n e = let h = behind_within depth (k + 1) ss n e in (omega (arith, h.0), omega (arith, h.1))
-behind_within depth k (IsControl ∷ ss) n e = let h = behind_within depth (k + 1) ss n e in (omega (arith, h.0), omega (arith, h.1))
+behind_within depth k (TextLine ∷ ss) n e = let h = behind_within depth (k + 1) ss n e in (omega (arith, h.0), omega (arith, h.1))
+behind_within depth k (ControlLine ∷ ss) n e = let h = behind_within depth (k + 1) ss n e in (omega (arith, h.0), omega (arith, h.1))
 
 next_role_within : (s : Role) (k : ℕ) (rows : List LogicalLine) (n : ℕ) → next_branch k s rows ≡ Some n → (k < n) × (n < k + 1 + length rows)
 next_role_within Opens k rows n e = let h = behind_within 0 (k + 1) (map role rows) n e in (omega (arith, h.0), omega (arith, h.1, length-map rows role))
 next_role_within (Elses final) k rows n e = let h = behind_within 0 (k + 1) (map role rows) n e in (omega (arith, h.0), omega (arith, h.1, length-map rows role))
 next_role_within Closes k rows n e = absurd (cc)
-next_role_within IsText k rows n e = absurd (cc)
-next_role_within IsControl k rows n e = absurd (cc)
+next_role_within TextLine k rows n e = absurd (cc)
+next_role_within ControlLine k rows n e = absurd (cc)
 
 -- the next branch line stands behind the line, in the file
 pub next_within : (r : LogicalLine) (k : ℕ) (rows : List LogicalLine) (n : ℕ) → next_branch k (role r) rows ≡ Some n → (k < n) × (n < k + 1 + length rows)

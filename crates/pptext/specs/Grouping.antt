@@ -5,11 +5,9 @@ use Rattle.std.specs.List.{AllByRecursion}
 use Rattle.pptext.specs.declared.tokens.Token.{Token}
 use Rattle.pptext.specs.declared.sources.Line.{Line}
 use Rattle.pptext.specs.declared.sources.Profile.{Profile}
-use Rattle.pptext.specs.declared.directives.Role.{Role}
-use Rattle.pptext.specs.declared.directives.Role.TheVariants.{Opens, Elses, Closes}
 use Rattle.pptext.specs.declared.grouping.faults.Section.{Section}
 use Rattle.pptext.specs.Lines.{LogicalLine, IsDirected}
-use Rattle.pptext.specs.Tree.{role, role_by, branch_behind}
+use Rattle.pptext.specs.Tree.{Role, Opens, Elses, Closes, role, role_by, branch_behind}
 use Rattle.pptext.specs.Sources.{lines_from, tokens_of, spans}
 use Rattle.pptext.specs.Guard.{IsBlankLine, guard_name}
 

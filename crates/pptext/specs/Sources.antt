@@ -11,9 +11,7 @@ use Rattle.pptext.specs.declared.characters.Char.{Char}
 use Rattle.pptext.specs.Clean.{cleaned, placed}
 use Rattle.pptext.specs.Cut.{Piece, Spelled, Cut, Unclosed}
 use Rattle.pptext.specs.Lines.{LogicalLine, lines_of}
-use Rattle.pptext.specs.declared.directives.Role.{Role}
-use Rattle.pptext.specs.declared.directives.Role.TheVariants.{Opens, Elses}
-use Rattle.pptext.specs.Tree.{role, branch_behind, group_fault}
+use Rattle.pptext.specs.Tree.{Role, Opens, Elses, role, branch_behind, group_fault}
 
 -- in an if-section the next branch line, of a line at place k before these
 abbrev pub next_branch : ℕ → Role → List LogicalLine → Option ℕ

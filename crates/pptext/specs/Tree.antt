@@ -6,8 +6,6 @@ use Rattle.pptext.specs.declared.tokens.Token.{Token}
 use Rattle.pptext.specs.declared.tokens.Fault.{Fault}
 use Rattle.pptext.specs.declared.sources.Directive.{Directive}
 use Rattle.pptext.specs.declared.sources.Directive.TheVariants.{If, Ifdef, Ifndef, Elif, Elifdef, Elifndef, Else, Endif}
-use Rattle.pptext.specs.declared.directives.Role.{Role}
-use Rattle.pptext.specs.declared.directives.Role.TheVariants.{Text as IsText, Control as IsControl, Opens, Elses, Closes}
 use Rattle.pptext.specs.Clean.{place}
 use Rattle.pptext.specs.Lines.{LogicalLine}
 
@@ -34,7 +32,15 @@ ends_group Else = true
 ends_group Endif = true
 ends_group d = false
 
--- What a line with this directive does to the groups. `Elses true` is `#else`, `Elses false` a branch with a condition.
+-- What a line does to the groups. `Elses true` is `#else`, `Elses false` a branch with a condition.
+pub data Role : Type 0 where
+  TextLine : Role
+  ControlLine : Role
+  Opens : Role
+  Elses : Bool → Role
+  Closes : Role
+
+-- the role of a line with this directive
 abbrev pub role_named : Directive → Role
 role_named If = Opens
 role_named Ifdef = Opens
@@ -44,10 +50,10 @@ role_named Elifdef = Elses false
 role_named Elifndef = Elses false
 role_named Else = Elses true
 role_named Endif = Closes
-role_named d = IsControl
+role_named d = ControlLine
 
 abbrev pub role_by : Option Directive → Role
-role_by None = IsText
+role_by None = TextLine
 role_by (Some d) = role_named d
 
 abbrev pub role : LogicalLine → Role
@@ -86,8 +92,8 @@ BeginsRun ps = ⊥
 abbrev mutual
   pub AreParts : Parts → Type 0
   AreParts Done = Unit {0}
-  AreParts (Run rs ps) = (rs ≢ []) × AllByRecursion (λ r. role r ≡ IsText) rs × (¬ BeginsRun ps) × AreParts ps
-  AreParts (Control r ps) = (role r ≡ IsControl) × AreParts ps
+  AreParts (Run rs ps) = (rs ≢ []) × AllByRecursion (λ r. role r ≡ TextLine) rs × (¬ BeginsRun ps) × AreParts ps
+  AreParts (Control r ps) = (role r ≡ ControlLine) × AreParts ps
   AreParts (Section r ps bs qs) = (role r ≡ Opens) × AreParts ps × AreBranches false bs × AreParts qs
 
   pub AreBranches : Bool → Branches → Type 0

@@ -3,6 +3,7 @@ ghost use Rattle.std.specs.Prelude.{◌≡◌, codes, ◌||◌};
 ghost use Rattle.std.specs.Str.{bytes_eq};
 ghost use Rattle.pptext.specs.Lines.{directive_names, later_names, named_in, directive_named, directive_of};
 ghost use Rattle.pptext.specs.Tree.{opens_section, has_condition, ends_group, role_named, role_by};
+ghost use Rattle.pptext.specs.Roles.{role_meant};
 
 use crate::sources::{Directive, Profile};
 use crate::tokens::Token;
@@ -50,7 +51,7 @@ pub(crate) enum Role {
 
 /// The role of a directive.
 fn role_named(directive: Directive) -> Role
-    ensures { result ≡ role_named directive }
+    ensures { role_meant result ≡ role_named directive }
 {
     match directive {
         Directive::If | Directive::Ifdef | Directive::Ifndef => Role::Opens,
@@ -63,7 +64,7 @@ fn role_named(directive: Directive) -> Role
 
 /// The role of a line by its directive.
 pub(crate) fn role_of(directive: Option<Directive>) -> Role
-    ensures { result ≡ role_by directive }
+    ensures { role_meant result ≡ role_by directive }
 {
     match directive {
         None => Role::Text,

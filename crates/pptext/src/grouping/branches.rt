@@ -1,5 +1,6 @@
 // The next branch line of each line that opens or branches an if-section (6.10.1).
 ghost use Rattle.std.specs.Prelude.{◌≡◌, reverse, IfOk, MatchResult};
+ghost use Rattle.pptext.specs.Roles.{role_meant};
 ghost use Rattle.pptext.specs.Grouping.{step_back, linked};
 
 use crate::directives::{Role, role_of};
@@ -12,7 +13,7 @@ fn step_back(
     at: usize,
     role: Role,
 ) -> Result<Option<usize>, AllocFailed<usize>>
-    ensures { IfOk result (λ next. (next, reverse behind.new.items) ≡ step_back at role (reverse behind.old.items)) }
+    ensures { IfOk result (λ next. (next, reverse behind.new.items) ≡ step_back at (role_meant role) (reverse behind.old.items)) }
 {
     match role {
         Role::Opens => Ok(behind.pop()),

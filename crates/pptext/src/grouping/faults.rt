@@ -5,6 +5,7 @@ ghost use Rattle.pptext.specs.declared.tokens.Token.{Token};
 ghost use Rattle.pptext.specs.Lines.{LogicalLine};
 ghost use Rattle.pptext.specs.Sources.{lines_from};
 ghost use Rattle.pptext.specs.Tree.{opened, fault_at, group_fault};
+ghost use Rattle.pptext.specs.Roles.{role_meant};
 ghost use Rattle.pptext.specs.Grouping.{AreLines, line_role, IsBranching, sections, Takes};
 
 use crate::directives::{Role, role_of};
@@ -26,7 +27,7 @@ fn take_line(
     role: Role,
 ) -> Result<Option<u8>, AllocFailed<Section>>
     requires { at < 2 ^ 32 }
-    ensures { IfOk result (λ n. Takes (opened role at (sections open_sections.old.items)) n (sections open_sections.new.items)) }
+    ensures { IfOk result (λ n. Takes (opened (role_meant role) at (sections open_sections.old.items)) n (sections open_sections.new.items)) }
 {
     match role {
         Role::Opens => {

@@ -5,6 +5,7 @@ ghost use Rattle.pptext.specs.declared.sources.Line.{Line};
 ghost use Rattle.pptext.specs.declared.tokens.Token.{Token};
 ghost use Rattle.pptext.specs.Sources.{lines_from};
 ghost use Rattle.pptext.specs.Guard.{are_parentheses, guard_name, ident_if, is_ident, is_not_defined};
+ghost use Rattle.pptext.specs.Tree.{Opens, Closes};
 ghost use Rattle.pptext.specs.Grouping.{AreLines, line_role, ClosedAtOnce, FlatGuard};
 
 use crate::directives::{Role, role_of};
@@ -85,7 +86,7 @@ fn guard_index(tokens: &[Token], line: Line) -> Option<usize>
 /// Whether the line at this index is an `#endif`, and the file's last with tokens.
 fn ends_file(tokens: &[Token], lines: &[Line], last: usize) -> bool
     requires { last < length lines.now }
-    ensures { (d : Line) → IsTrue result ↔ (line_role (slice_index_or lines.now last d) ≡ Role.Closes) × ((slice_index_or lines.now last d).end ≡ length tokens.now) }
+    ensures { (d : Line) → IsTrue result ↔ (line_role (slice_index_or lines.now last d) ≡ Closes) × ((slice_index_or lines.now last d).end ≡ length tokens.now) }
 {
     let line = lines[last];
     match role_of(line.directive) {
@@ -98,7 +99,7 @@ fn ends_file(tokens: &[Token], lines: &[Line], last: usize) -> bool
 fn closes_file(tokens: &[Token], lines: &[Line], at: usize) -> bool
     requires are_lines { AreLines tokens.now lines.now }
     requires within { at < length lines.now }
-    requires opens { (d : Line) → line_role (slice_index_or lines.now at d) ≡ Role.Opens }
+    requires opens { (d : Line) → line_role (slice_index_or lines.now at d) ≡ Opens }
     ensures { IsTrue result ↔ ClosedAtOnce (at + 1) (drop (at + 1) (lines_from tokens.now lines.now)) }
 {
     match lines[at].next_branch {

@@ -1,5 +1,5 @@
 use Rattle.std.proofs.Common.{◌≡◌, ◌+◌, ◌-◌, ℕ, length, reverse, subst, ap, ◌∙◌, arith}
-use Rattle.pptext.specs.declared.directives.Role.{Role}
+use Rattle.pptext.specs.Tree.{Role}
 use Rattle.pptext.specs.Grouping.{step_back}
 use Rattle.pptext.proofs.Spans.{no_line}
 use Rattle.pptext.proofs.Branches.{LinkedFrom, linked_start, linked_step, linked_all}

@@ -1,16 +1,17 @@
 use Rattle.std.proofs.Common.{◌≡◌, ◌∙◌, ℕ, List, None, Some, true, sym, arith, drop, get_or, length, ◌<◌}
 use Rattle.pptext.specs.declared.tokens.Token.{Token}
-use Rattle.pptext.specs.declared.directives.Role.TheVariants.{Opens}
+use Rattle.pptext.specs.Tree.{Opens}
 use Rattle.pptext.specs.Sources.{lines_from}
 use Rattle.pptext.specs.Guard.{guard_name}
 use Rattle.pptext.specs.Grouping.{line_role, FlatGuard}
 use Rattle.pptext.proofs.Spans.{no_line, line_at, row_of}
+use Rattle.pptext.proofs.Roles.{opens_meant}
 use Rattle.pptext.proofs.GuardScan.{flat_here, only_here, if_none, if_some}
 use Rattle.pptext.proofs.grouping.guards.guard_at.Goals as goal
 
 pub returns-in_default : goal.returns-in_default
 returns-in_default c = record {
-  none = λ x flat. c.in_default.not-Opens (c.role_of.ensures ∙ (only_here c.args.tokens.now c.args.lines.now c.requires.are_lines c.args.at no_line x c.requires.within (c.requires.some no_line) flat).0);
+  none = λ x flat. c.in_default.not-Opens (opens_meant c.role_of.result (c.role_of.ensures ∙ (only_here c.args.tokens.now c.args.lines.now c.requires.are_lines c.args.at no_line x c.requires.within (c.requires.some no_line) flat).0));
   some = tt;
 }
 
