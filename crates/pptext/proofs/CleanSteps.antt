@@ -1,6 +1,7 @@
 -- One step of phases 1 and 2 in one reading, against the three passes.
 use Rattle.std.proofs.Common.{◌≡◌, ℕ, zero, suc, ◌+◌, ◌<◌, ◌≤◌, Bool, true, false, ◌==◌, ◌&&◌, if◌then◌else◌, List, [], ◌∷◌, ◌++◌, length, take, drop, refl, sym, ap, ◌∙◌, subst, arith, Option, None, Some, length-append, length-drop}
-use Rattle.std.proofs.lemmas.Bool.{false≢true}
+use Rattle.std.proofs.lemmas.Bool.{false≢true, and_parts, eqb-true, ne_eqb}
+use Rattle.std.proofs.Math.Bool.{and-false}
 use Rattle.std.proofs.lemmas.Bool.Decides.{nat_tests}
 use Rattle.std.proofs.lemmas.List.{drop-map, drop-drop, drop_all, length-map}
 use Rattle.pptext.specs.declared.tokens.Place.{Place}
@@ -11,24 +12,10 @@ use Rattle.pptext.specs.Clean.{codes_of, head_code, is_return_at, without_return
 use Rattle.pptext.specs.Steps.{open_end, trigraph_front, return_front, newline_front, spliced, coded, step_of}
 use Rattle.pptext.specs.Texts.{supply, logical}
 
-pub and_false : (b : Bool) → (b && false) ≡ false
-and_false true = refl
-and_false false = refl
-
-test_is : (n m : ℕ) → (n == m) ≡ true → n ≡ m
-test_is n m e = grind (arith, nat_tests)
-
-test_not : (n m : ℕ) → (n ≡ m → ⊥) → (n == m) ≡ false
-test_not n m e = grind (arith, nat_tests)
-
-both : (a b : Bool) → (a && b) ≡ true → (a ≡ true) × (b ≡ true)
-both true b e = (refl, e)
-both false b e = absurd (false≢true e)
-
 -- The tests on bytes are those on characters.
 pub return_same : (cs : List Char) → return_front (codes_of cs) ≡ is_return_at cs
 return_same [] = refl
-return_same (c ∷ []) = sym (and_false (c.code == 13))
+return_same (c ∷ []) = sym (and-false (c.code == 13))
 return_same (c ∷ d ∷ cs) = refl
 
 pub trigraph_same : (cs : List Char) → trigraph_front (codes_of cs) ≡ trigraph_at cs
@@ -48,10 +35,10 @@ lf_kept : (c : Char) (cs : List Char) → c.code ≡ 10 → is_return_at (c ∷ 
 lf_kept c cs e = rw e refl
 
 return_is : (a : Char) (cs : List Char) → is_return_at (a ∷ cs) ≡ true → Return a cs
-return_is a [] h = absurd (false≢true (sym (and_false (a.code == 13)) ∙ h))
+return_is a [] h = absurd (false≢true (sym (and-false (a.code == 13)) ∙ h))
 return_is a (b ∷ cs) h =
-    let parts = both (a.code == 13) (b.code == 10) h in
-    record { cr = test_is a.code 13 parts.0; lf = test_is b.code 10 parts.1; room = omega arith; kept = lf_kept b cs (test_is b.code 10 parts.1) }
+    let parts = and_parts (a.code == 13) (b.code == 10) h in
+    record { cr = eqb-true a.code 13 parts.0; lf = eqb-true b.code 10 parts.1; room = omega arith; kept = lf_kept b cs (eqb-true b.code 10 parts.1) }
 
 pub kept : (c : Char) (cs : List Char) → is_return_at (c ∷ cs) ≡ false → without_returns (c ∷ cs) ≡ c ∷ without_returns cs
 kept c cs h = rw h refl
@@ -71,7 +58,7 @@ third c a (x ∷ xs) = refl
 
 no_second : (c : Char) (xs : List Char) → (head_code xs ≡ 63 → ⊥) → trigraph_at (c ∷ xs) ≡ 0
 no_second c [] h = refl
-no_second c (a ∷ xs) h = third c a xs ∙ rw (test_not a.code 63 h, and_false (c.code == 63)) refl
+no_second c (a ∷ xs) h = third c a xs ∙ rw (ne_eqb a.code 63 h, and-false (c.code == 63)) refl
 
 third_same : (s : Bool) (e : Place) (cs : List Char) → trigraph (head_code (without_returns cs ++ supply s e)) ≡ trigraph (head_code cs)
 third_same true e [] = refl
@@ -117,11 +104,8 @@ record Three (c : Char) (cs : List Char) : Type 0 where
   room : 2 ≤ length cs
   kept : without_returns (c ∷ cs) ≡ c ∷ take 2 cs ++ without_returns (drop 2 cs)
 
-not_zero : (n : ℕ) → (n ≡ 0 → ⊥) → (n == 0) ≡ false
-not_zero n h = test_not n 0 h
-
 no_return : (c : Char) (cs : List Char) → (c.code ≡ 13 → ⊥) → is_return_at (c ∷ cs) ≡ false
-no_return c cs h = rw (test_not c.code 13 h) refl
+no_return c cs h = rw (ne_eqb c.code 13 h) refl
 
 mark_kept : (c : Char) (cs : List Char) → c.code ≡ 63 → without_returns (c ∷ cs) ≡ c ∷ without_returns cs
 mark_kept c cs h = kept c cs (no_return c cs (λ q. cc))
@@ -138,10 +122,10 @@ three a [] h = absurd (h refl)
 three a (b ∷ []) h = absurd (h refl)
 three a (b ∷ c ∷ cs) h =
     let m = marks (a.code == 63 && b.code == 63) (trigraph c.code) h in
-    let q = both (a.code == 63) (b.code == 63) m.0 in
+    let q = and_parts (a.code == 63) (b.code == 63) m.0 in
     record {
       room = omega arith;
-      kept = mark_kept a (b ∷ c ∷ cs) (test_is a.code 63 q.0) ∙ ap (λ z. a ∷ z) (mark_kept b (c ∷ cs) (test_is b.code 63 q.1) ∙ ap (λ z. b ∷ z) (kept c cs (no_return c cs (no_trigraph_cr c.code m.1))));
+      kept = mark_kept a (b ∷ c ∷ cs) (eqb-true a.code 63 q.0) ∙ ap (λ z. a ∷ z) (mark_kept b (c ∷ cs) (eqb-true b.code 63 q.1) ∙ ap (λ z. b ∷ z) (kept c cs (no_return c cs (no_trigraph_cr c.code m.1))));
     }
 
 trigraph_step : (s : Bool) (e : Place) (a : Char) (cs : List Char) → (trigraph_at (a ∷ cs) ≡ 0 → ⊥) → logical s e (a ∷ cs) ≡ record { code = trigraph_at (a ∷ cs); at = a.at } ∷ logical s e (drop 2 cs)
@@ -149,7 +133,7 @@ trigraph_step s e a [] h = absurd (h refl)
 trigraph_step s e a (b ∷ []) h = absurd (h refl)
 trigraph_step s e a (b ∷ c ∷ cs) h =
     let t = three a (b ∷ c ∷ cs) h in
-    ap (λ z. trigraphs (z ++ supply s e)) t.kept ∙ rw (not_zero (trigraph_at (a ∷ b ∷ c ∷ cs)) h) refl
+    ap (λ z. trigraphs (z ++ supply s e)) t.kept ∙ rw (ne_eqb (trigraph_at (a ∷ b ∷ c ∷ cs)) 0 h) refl
 
 -- a new-line of this length in front, or the supplied one
 record NewLine (s : Bool) (e : Place) (cs : List Char) (m : ℕ) : Type 0 where
@@ -167,7 +151,7 @@ plain_lf s e c cs h = own_step s e c cs (lf_kept c cs h) (no_mark c cs (λ q. cc
     no_mark : (a : Char) (xs : List Char) → (a.code ≡ 63 → ⊥) → trigraph_at (a ∷ xs) ≡ 0
     no_mark a [] k = refl
     no_mark a (b ∷ []) k = refl
-    no_mark a (b ∷ x ∷ xs) k = rw (test_not a.code 63 k) refl
+    no_mark a (b ∷ x ∷ xs) k = rw (ne_eqb a.code 63 k) refl
 
 last_lf : (y : Char) (ys : List Char) → y.code ≡ 10 → length ys ≡ 0 → open_end (codes_of (y ∷ ys)) ≡ false
 last_lf y [] p l0 = rw p refl
@@ -187,7 +171,7 @@ newline_at s e (c ∷ cs) m h = by (c.code == 10) refl
         crlf cs z (sym (return_same (c ∷ cs)) ∙ q)
       where
         crlf : (xs : List Char) → 2 ≡ m → is_return_at (c ∷ xs) ≡ true → NewLine s e (c ∷ xs) m
-        crlf [] z r = absurd (false≢true (sym (and_false (c.code == 13)) ∙ r))
+        crlf [] z r = absurd (false≢true (sym (and-false (c.code == 13)) ∙ r))
         crlf (b ∷ xs) z r =
             let lf = (return_is c (b ∷ xs) r).lf in
             record {
@@ -199,7 +183,7 @@ newline_at s e (c ∷ cs) m h = by (c.code == 10) refl
 
     by : (t : Bool) → (c.code == 10) ≡ t → NewLine s e (c ∷ cs) m
     by true q =
-        let lf = test_is c.code 10 q in
+        let lf = eqb-true c.code 10 q in
         let z = some_is 1 m (rw q at h) in
         record {
           fits = omega arith;
@@ -235,7 +219,7 @@ no_newline false e [] h = refl
 no_newline s e (c ∷ cs) h = by (c.code == 10) refl
   where
     own : (n : ℕ) → trigraph_at (c ∷ cs) ≡ n → (n == 0) ≡ true → (c.code == 10) ≡ false → is_return_at (c ∷ cs) ≡ false → (head_code (logical s e (c ∷ cs)) == 10) ≡ false
-    own n t z q r = rw (own_step s e c cs r (t ∙ test_is n 0 z)) q
+    own n t z q r = rw (own_step s e c cs r (t ∙ eqb-true n 0 z)) q
 
     three_bytes : (trigraph_at (c ∷ cs) == 0) ≡ false → (head_code (logical s e (c ∷ cs)) == 10) ≡ false
     three_bytes z = rw (trigraph_step s e c cs (λ k. false≢true (sym z ∙ rw k refl))) (trigraph_at_not (c ∷ cs))
@@ -261,7 +245,7 @@ not_one : (n : ℕ) → 0 < n → (suc n == 1) ≡ false
 not_one n h = grind (arith, nat_tests)
 
 end_more : (x nl : Char) (ys : List Char) → nl.code ≡ 10 → 0 < length ys → splice_at_end (x ∷ nl ∷ ys) ≡ splice_at_end ys
-end_more x nl ys q lt = rw (not_one (length ys) lt, q, and_false (length ys == 1)) refl
+end_more x nl ys q lt = rw (not_one (length ys) lt, q, and-false (length ys == 1)) refl
 
 end_here : (x nl : Char) → x.code ≡ 92 → nl.code ≡ 10 → splice_at_end (x ∷ nl ∷ []) ≡ Some x.at
 end_here x nl p q = rw (p, q) refl
@@ -270,7 +254,7 @@ not_splice : (x : Char) (ys : List Char) → (x.code == 92 && head_code ys == 10
 not_splice x ys h = rw h refl
 
 not_end : (x : Char) (ys : List Char) → (x.code == 92 && head_code ys == 10) ≡ false → splice_at_end (x ∷ ys) ≡ splice_at_end ys
-not_end x ys h = rw (h, and_false (length ys == 1)) refl
+not_end x ys h = rw (h, and-false (length ys == 1)) refl
 
 -- What a step leaves: a character and the rest, or the rest alone.
 pub record CodeStep (s : Bool) (e : Place) (c : Char) (cs : List Char) (code n : ℕ) : Type 0 where
@@ -320,7 +304,7 @@ no_code : (x : Char) (ys : List Char) → (x.code == 92) ≡ false → (x.code =
 no_code x ys h = rw h refl
 
 no_line : (x : Char) (ys : List Char) → (head_code ys == 10) ≡ false → (x.code == 92 && head_code ys == 10) ≡ false
-no_line x ys h = rw (h, and_false (x.code == 92)) refl
+no_line x ys h = rw (h, and-false (x.code == 92)) refl
 
 -- a character that a backslash or no new-line keeps
 as_code : (s : Bool) (e : Place) (c : Char) (cs : List Char) (code k : ℕ) → 0 < k → k ≤ suc (length cs) → logical s e (c ∷ cs) ≡ record { code = code; at = c.at } ∷ logical s e (drop k (c ∷ cs))
@@ -400,7 +384,7 @@ as_coded s e c cs code k lt fits is = by (code == 92) refl
     line p (Some m) h = as_splice s e c cs code k m lt fits is p (newline_at s e rest m (ap (newline_front s) (sym (drop-map (λ (y : Char). y.code) k (c ∷ cs))) ∙ h))
 
     by : (t : Bool) → (code == 92) ≡ t → Outcome s e c cs (if t then spliced (newline_front s (drop k (codes_of (c ∷ cs)))) code k else Code code k)
-    by true h = line (test_is code 92 h) (newline_front s (drop k (codes_of (c ∷ cs)))) refl
+    by true h = line (eqb-true code 92 h) (newline_front s (drop k (codes_of (c ∷ cs)))) refl
     by false h = as_code s e c cs code k lt fits is (no_code x (logical s e rest) h)
 
 -- a CR directly before an LF
@@ -422,7 +406,7 @@ pub outcome : (s : Bool) (e : Place) (c : Char) (cs : List Char) → Outcome s e
 outcome s e c cs = first (return_front (codes_of (c ∷ cs))) refl
   where
     one : is_return_at (c ∷ cs) ≡ false → (trigraph_at (c ∷ cs) == 0) ≡ true → Outcome s e c cs (coded s (codes_of (c ∷ cs)) c.code 1)
-    one r z = as_coded s e c cs c.code 1 (omega arith) (omega arith) (own_step s e c cs r (test_is (trigraph_at (c ∷ cs)) 0 z))
+    one r z = as_coded s e c cs c.code 1 (omega arith) (omega arith) (own_step s e c cs r (eqb-true (trigraph_at (c ∷ cs)) 0 z))
 
     three_bytes : (trigraph_at (c ∷ cs) == 0) ≡ false → Outcome s e c cs (coded s (codes_of (c ∷ cs)) (trigraph_at (c ∷ cs)) 3)
     three_bytes z =

@@ -7,8 +7,8 @@ use Rattle.std.proofs.lemmas.Bool.Decides.{nat_tests}
 use Rattle.pptext.specs.Languages.{Exactly, One, Then, Repeated, NoFront, IsOnly, OnlyPart}
 use Rattle.pptext.specs.Spellings.{IsBetween, IsHeader}
 use Rattle.pptext.proofs.Parts.{front_of, front_length, behind_front}
-use Rattle.pptext.proofs.Fronts.{one_here, one_lacks, one_empty, only_zero, exactly_then, either_left, either_right}
-use Rattle.pptext.proofs.Combine.{begins_one, one_begins, then_only, only_some, then_lacks, then_lacks_rest, exactly_here, exactly_lacks, head_behind}
+use Rattle.pptext.proofs.Fronts.{one_here, one_lacks, one_empty, only_zero, exactly_then, either_left, either_right, only_some}
+use Rattle.pptext.proofs.Combine.{begins_one, one_begins, then_only, then_lacks, then_lacks_rest, exactly_here, exactly_lacks, head_behind}
 
 -- any number of these, and then this character
 abbrev pub Closed : (List ℕ → Type 0) → ℕ → List ℕ → Type 0

@@ -36,9 +36,6 @@ then_only P Q text n k p q =
 pub then_lacks_rest : (P Q : List ℕ → Type 0) (text : List ℕ) (n : ℕ) → IsOnly P text n → NoFront Q (drop n text) → NoFront (Then P Q) text
 then_lacks_rest P Q text n p none m fits t = let h = after_only P Q text n p m fits t in none (m - n) h.1 h.2
 
-pub only_some : (P : List ℕ → Type 0) (text : List ℕ) (n : ℕ) → IsOnly P text n → OnlyPart P text n
-only_some P text n p = (λ z. absurd (omega (arith, p.positive)), λ _. p)
-
 pub next_some : (P : List ℕ → Type 0) (text : List ℕ) (n : ℕ) → IsNext P text n → NextPart P text n
 next_some P text n p = (λ z. absurd (omega (arith, p.positive)), λ _. p)
 

@@ -1,5 +1,6 @@
 -- A file's text from an offset on, one step of the reading after another, and the copy made of it.
 use Rattle.std.proofs.Common.{◌≡◌, ℕ, zero, suc, ◌+◌, ◌<◌, ◌≤◌, Bool, true, false, not, ◌==◌, if◌then◌else◌, List, [], ◌∷◌, ◌++◌, length, take, drop, get_or, refl, sym, ap, ◌∙◌, subst, arith, None, Some, Ok, Err, length-drop, append_assoc, length-append, add-zero, zero-add}
+use Rattle.std.proofs.Math.Bool.{and-false}
 use Rattle.std.proofs.lemmas.List.{drop_more, drop-drop, drop_all, take_all, length-map, append-nil}
 use Rattle.pptext.specs.declared.tokens.Place.{Place}
 use Rattle.pptext.specs.declared.characters.Char.{Char}
@@ -9,7 +10,7 @@ use Rattle.pptext.specs.Clean.{cleaned, codes_of, newline, placed, place, next_c
 use Rattle.pptext.specs.Breaks.{IsTable, OwnFront, Stretch, step_len}
 use Rattle.pptext.specs.Steps.{open_end, step_of, behind_byte, place_behind}
 use Rattle.pptext.specs.Texts.{supply, logical, start, logical_from, text_from, end_from, Copied, EndsAt, HasBreaks, Whole}
-use Rattle.pptext.proofs.CleanSteps.{CodeStep, RemovedStep, Outcome, outcome, open_end_drop, and_false, dropped, kept, returns_some}
+use Rattle.pptext.proofs.CleanSteps.{CodeStep, RemovedStep, Outcome, outcome, open_end_drop, dropped, kept, returns_some}
 use Rattle.pptext.proofs.Breaks.{Begun, begun_all, begun_more, begun_none}
 use Rattle.pptext.proofs.Offsets.{Here, here, placed_at, placed_codes, placed_tail}
 
@@ -172,7 +173,7 @@ missing_is : (bs : List ℕ) (p : Place) → missing_newline (without_returns (p
 missing_is [] p = refl
 missing_is (b ∷ []) p =
     ap (λ z. missing_newline (without_returns z)) (placed_tail p b [])
-    ∙ ap missing_newline (kept (record { code = b; at = p }) [] (and_false (b == 13)))
+    ∙ ap missing_newline (kept (record { code = b; at = p }) [] (and-false (b == 13)))
     ∙ elim (b == newline) as (λ t. (if t then [] else record { code = newline; at = next_col p } ∷ []) ≡ supply (not t) (if t then place p.file (p.line + 1) 1 else next_col p)) [ true ↦ refl | false ↦ refl ]
 missing_is (b ∷ d ∷ bs) p =
     let q = behind_byte b p in

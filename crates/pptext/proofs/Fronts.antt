@@ -166,7 +166,7 @@ either_right P Q text n p q = (λ z. either_lacks P Q text p (q.0 z), λ s. reco
 pub either_left_part : (P Q : List ℕ → Type 0) (text : List ℕ) (n : ℕ) → OnlyPart P text n → NoFront Q text → OnlyPart (Either P Q) text n
 either_left_part P Q text n p q = (λ z. either_lacks P Q text (p.0 z) q, λ s. either_left P Q text n (p.1 s) q)
 
-only_some : (P : List ℕ → Type 0) (text : List ℕ) (n : ℕ) → IsOnly P text n → OnlyPart P text n
+pub only_some : (P : List ℕ → Type 0) (text : List ℕ) (n : ℕ) → IsOnly P text n → OnlyPart P text n
 only_some P text n p = (λ z. absurd (omega (arith, p.positive)), λ _. p)
 
 -- the three cases of a nondigit

@@ -14,7 +14,7 @@ use Rattle.pptext.proofs.Faults.{blank_line}
 use Rattle.pptext.proofs.Guards.{blank_role, guarded_by_flat, flat_by_guarded}
 
 -- a next branch line is a later line
-branch_within : (depth k : ℕ) (ss : List Role) (j : ℕ) → branch_behind depth k ss ≡ Some j → (k ≤ j) × (j < k + length ss)
+pub branch_within : (depth k : ℕ) (ss : List Role) (j : ℕ) → branch_behind depth k ss ≡ Some j → (k ≤ j) × (j < k + length ss)
 branch_within depth k [] j e = absurd (cc)
 branch_within depth k (Opens ∷ ss) j e = let w = branch_within (suc depth) (k + 1) ss j e in (omega (arith, w.0), omega (arith, w.1))
 branch_within zero k (Closes ∷ ss) j e = let same : k ≡ j = cc in (omega arith, omega arith)

@@ -5,8 +5,8 @@ use Rattle.std.proofs.lemmas.Bool.Decides.{nat_tests}
 use Rattle.pptext.specs.Languages.{Exactly, One, Then, Repeated, NoFront, IsOnly, OnlyPart}
 use Rattle.pptext.specs.Spellings.{IsElement, IsCharConst, IsStr, char_prefixes, str_prefixes}
 use Rattle.pptext.proofs.Parts.{front_of, front_length}
-use Rattle.pptext.proofs.Fronts.{one_here, one_lacks, either_lacks, either_right, only_zero}
-use Rattle.pptext.proofs.Combine.{begins_one, begins_two, begins_three, one_begins, three_begins, then_lacks, then_lacks_rest, then_only, only_some, exactly_lacks, exactly_here, head_behind, part_along, then_left, then_right}
+use Rattle.pptext.proofs.Fronts.{one_here, one_lacks, either_lacks, either_right, only_zero, only_some}
+use Rattle.pptext.proofs.Combine.{begins_one, begins_two, begins_three, one_begins, three_begins, then_lacks, then_lacks_rest, then_only, exactly_lacks, exactly_here, head_behind, part_along, then_left, then_right}
 
 abbrev pub plain : ℕ → ℕ → Bool
 plain quote c = not (c == quote || (c == 92 || c == 10))

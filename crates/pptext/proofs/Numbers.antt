@@ -4,9 +4,9 @@ use Rattle.std.proofs.lemmas.Bool.{false≢true}
 use Rattle.std.proofs.lemmas.Bool.Decides.{nat_tests}
 use Rattle.pptext.specs.Languages.{Exactly, One, Then, Either, NoFront, NextPart, IsOnly, OnlyPart}
 use Rattle.pptext.specs.Spellings.{is_digit, is_nondigit, is_exponent, is_sign, IsUniversal, IsNondigit, IsNumberPart}
-use Rattle.pptext.proofs.Fronts.{next_from_only, one_here, one_lacks, universal_lacks, either_lacks, either_left, either_right, either_left_part, nondigit_here, only_zero}
+use Rattle.pptext.proofs.Fronts.{next_from_only, one_here, one_lacks, universal_lacks, either_lacks, either_left, either_right, either_left_part, nondigit_here, only_zero, only_some}
 use Rattle.pptext.proofs.Parts.{front_of}
-use Rattle.pptext.proofs.Combine.{begins_two, then_lacks, then_only, only_some, next_some, two_front, two_here, head_behind, exactly_here, one_begins}
+use Rattle.pptext.proofs.Combine.{begins_two, then_lacks, then_only, next_some, two_front, two_here, head_behind, exactly_here, one_begins}
 
 abbrev digit_or_period : ℕ → Bool
 digit_or_period c = is_digit c || c == 46

@@ -12,6 +12,7 @@ use Rattle.pptext.specs.declared.tokens.Kind.{Kind}
 use Rattle.pptext.specs.declared.tokens.Kind.TheVariants.{Ident, Number, CharConst, Str, Punct, Header, Other}
 use Rattle.pptext.specs.Languages.{Exactly, One, Then, Either, IsRun, Repeated}
 use Rattle.pptext.specs.Spellings.{is_digit, is_hex, is_nondigit, is_blank, is_exponent, is_sign, IsUniversal, IsNondigit, IsIdent, IsNumberPart, IsNumber, char_prefixes, str_prefixes, IsCharConst, IsStr, punctuators, IsPunct, Spells}
+use Rattle.pptext.proofs.Table.{any_passes}
 
 -- the first character passes the test
 abbrev pub begins : (ℕ → Bool) → List ℕ → Bool
@@ -127,15 +128,6 @@ number_plain : Plain IsNumber
 unfolding is_plain
 number_plain =
     then_plain (Either (One is_digit) (Then (Exactly (46 ∷ [])) (One is_digit))) (Repeated IsNumberPart) (either_plain (One is_digit) (Then (Exactly (46 ∷ [])) (One is_digit)) (one_plain is_digit digit_passes) (then_plain (Exactly (46 ∷ [])) (One is_digit) (exactly_plain (46 ∷ []) refl) (one_plain is_digit digit_passes))) (repeated_plain IsNumberPart number_part_plain)
-
--- what every entry of a list passes, what equals an entry passes
-any_passes : (test : List ℕ → Bool) (ps : List (List ℕ)) (s : List ℕ) → list_all test ps ≡ true → list_any (λ p. bytes_eq p s) ps ≡ true → test s ≡ true
-any_passes test [] s a b = absurd (false≢true b)
-any_passes test (p ∷ ps) s a b = go (bytes_eq p s) refl b (any_passes test ps s (and_parts (test p) (list_all test ps) a).1)
-  where
-    go : (x : Bool) → bytes_eq p s ≡ x → x || list_any (λ q. bytes_eq q s) ps ≡ true → (list_any (λ q. bytes_eq q s) ps ≡ true → test s ≡ true) → test s ≡ true
-    go true e h later = subst (λ z. test z ≡ true) ((bytes_eq-Decides p s).0 e) (and_parts (test p) (list_all test ps) a).0
-    go false e h later = later h
 
 punct_passes : (test : List ℕ → Bool) → list_all test punctuators ≡ true → (s : List ℕ) → IsPunct s → test s ≡ true
 punct_passes test all s p = any_passes test punctuators s all p

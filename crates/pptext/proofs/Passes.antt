@@ -1,24 +1,21 @@
 -- One step of each pass of phases 1 and 2.
 use Rattle.std.proofs.Common.{◌≡◌, ℕ, zero, suc, ◌+◌, ◌-◌, ◌<◌, ◌≤◌, Bool, true, false, cond, ◌==◌, ◌&&◌, List, [], ◌∷◌, ◌++◌, length, drop, refl, sym, ap, ◌∙◌, arith, get_or, append_assoc, add-zero, Some, None}
-use Rattle.std.proofs.lemmas.Bool.{false≢true}
+use Rattle.std.proofs.lemmas.Bool.{false≢true, ne_eqb}
+use Rattle.std.proofs.Math.Bool.{and-false}
 use Rattle.std.proofs.lemmas.Bool.Decides.{nat_tests}
 use Rattle.std.proofs.lemmas.List.{drop-drop, length-drop, get_or-drop, get_or_default}
 use Rattle.pptext.specs.declared.tokens.Place.{Place}
 use Rattle.pptext.specs.declared.characters.Char.{Char}
 use Rattle.pptext.specs.Clean.{splice_at, splices_behind, trigraph_at, trigraphs_behind, is_return_at, without_returns, place, missing_newline, next_col, splice_at_end}
 
-and_false : (b : Bool) → b && false ≡ true → ⊥
-and_false true e = false≢true e
-and_false false e = false≢true e
-
 splice_room : (xs : List Char) → splice_at xs ≡ true → 2 ≤ length xs
 splice_room [] e = absurd (false≢true e)
-splice_room (c ∷ []) e = absurd (and_false (c.code == 92) e)
+splice_room (c ∷ []) e = absurd (false≢true (sym (and-false (c.code == 92)) ∙ e))
 splice_room (c ∷ d ∷ xs) e = omega arith
 
 splice_step : (xs : List Char) → splice_at xs ≡ true → splices_behind 0 xs ≡ splices_behind 0 (drop 2 xs)
 splice_step [] e = absurd (false≢true e)
-splice_step (c ∷ []) e = absurd (and_false (c.code == 92) e)
+splice_step (c ∷ []) e = absurd (false≢true (sym (and-false (c.code == 92)) ∙ e))
 splice_step (c ∷ d ∷ xs) e = rw e refl
 
 pub splice_more : (cs : List Char) (i : ℕ) → splice_at (drop i cs) ≡ true → (i + 2 ≤ length cs) × (splices_behind 0 (drop i cs) ≡ splices_behind 0 (drop (i + 2) cs))
@@ -36,14 +33,11 @@ trigraph_room (a ∷ b ∷ c ∷ xs) h = omega arith
 abbrev char_at : List Char → Char
 char_at xs = get_or xs 0 (record { code = 0; at = place 0 0 0 })
 
-nonzero_test : (n : ℕ) → (n ≡ 0 → ⊥) → (n == 0) ≡ false
-nonzero_test n h = grind (arith, nat_tests)
-
 trigraph_step : (xs : List Char) (c : Char) → c.at ≡ (char_at xs).at → c.code ≡ trigraph_at xs → (trigraph_at xs ≡ 0 → ⊥) → trigraphs_behind 0 xs ≡ c ∷ trigraphs_behind 0 (drop 3 xs)
 trigraph_step [] c p q h = absurd (h refl)
 trigraph_step (a ∷ []) c p q h = absurd (h refl)
 trigraph_step (a ∷ b ∷ []) c p q h = absurd (h refl)
-trigraph_step (x ∷ y ∷ z ∷ xs) c p q h = rw (nonzero_test (trigraph_at (x ∷ y ∷ z ∷ xs)) h) (ap (λ (d : Char). d ∷ trigraphs_behind 0 xs) same)
+trigraph_step (x ∷ y ∷ z ∷ xs) c p q h = rw (ne_eqb (trigraph_at (x ∷ y ∷ z ∷ xs)) 0 h) (ap (λ (d : Char). d ∷ trigraphs_behind 0 xs) same)
   where
     same : record { code = trigraph_at (x ∷ y ∷ z ∷ xs); at = x.at } ≡ c
     same = ap (λ (n : ℕ). record { code = n; at = x.at }) (sym q) ∙ ap (λ (a : Place). record { code = c.code; at = a }) (sym p)

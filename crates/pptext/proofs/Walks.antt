@@ -5,23 +5,11 @@ use Rattle.pptext.specs.Lines.{LogicalLine}
 use Rattle.pptext.specs.Tree.{Role, TextLine, ControlLine, Opens, Elses, Closes, Parts, Branches, End, Branch, part_lines, branch_lines, AreParts, AreBranches, role, branch_behind}
 use Rattle.pptext.specs.Sources.{next_branch}
 use Rattle.pptext.proofs.Guards.{behind_parts}
-
-behind_within : (depth k : ℕ) (ss : List Role) (n : ℕ) → branch_behind depth k ss ≡ Some n → (k ≤ n) × (n < k + length ss)
-behind_within depth k [] n e = absurd (cc)
-behind_within depth k (Opens ∷ ss) n e = later k ss n (behind_within (suc depth) (k + 1) ss n e)
-  where
-    later : (k : ℕ) (ss : List Role) (n : ℕ) → (k + 1 ≤ n) × (n < k + 1 + length ss) → (k ≤ n) × (n < k + suc (length ss))
-    later k ss n (a, b) = (omega arith, omega arith)
-behind_within zero k (Closes ∷ ss) n e = let same : k ≡ n = cc in (omega arith, omega arith)
-behind_within (suc depth) k (Closes ∷ ss) n e = let h = behind_within depth (k + 1) ss n e in (omega (arith, h.0), omega (arith, h.1))
-behind_within zero k (Elses final ∷ ss) n e = let same : k ≡ n = cc in (omega arith, omega arith)
-behind_within (suc depth) k (Elses final ∷ ss) n e = let h = behind_within (suc depth) (k + 1) ss n e in (omega (arith, h.0), omega (arith, h.1))
-behind_within depth k (TextLine ∷ ss) n e = let h = behind_within depth (k + 1) ss n e in (omega (arith, h.0), omega (arith, h.1))
-behind_within depth k (ControlLine ∷ ss) n e = let h = behind_within depth (k + 1) ss n e in (omega (arith, h.0), omega (arith, h.1))
+use Rattle.pptext.proofs.GuardScan.{branch_within}
 
 next_role_within : (s : Role) (k : ℕ) (rows : List LogicalLine) (n : ℕ) → next_branch k s rows ≡ Some n → (k < n) × (n < k + 1 + length rows)
-next_role_within Opens k rows n e = let h = behind_within 0 (k + 1) (map role rows) n e in (omega (arith, h.0), omega (arith, h.1, length-map rows role))
-next_role_within (Elses final) k rows n e = let h = behind_within 0 (k + 1) (map role rows) n e in (omega (arith, h.0), omega (arith, h.1, length-map rows role))
+next_role_within Opens k rows n e = let h = branch_within 0 (k + 1) (map role rows) n e in (omega (arith, h.0), omega (arith, h.1, length-map rows role))
+next_role_within (Elses final) k rows n e = let h = branch_within 0 (k + 1) (map role rows) n e in (omega (arith, h.0), omega (arith, h.1, length-map rows role))
 next_role_within Closes k rows n e = absurd (cc)
 next_role_within TextLine k rows n e = absurd (cc)
 next_role_within ControlLine k rows n e = absurd (cc)
