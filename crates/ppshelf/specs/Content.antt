@@ -1,5 +1,6 @@
 -- What a row of the shelf may contain, and when a content is lawful.
 use Rattle.std.specs.Prelude.{ℕ, ◌<◌, ◌≤◌, List, length, ◌⊎◌, Option, None, Some, Result}
+pub use Rattle.pptext.specs.Clean.{longest}
 use Rattle.pptext.specs.Lines.{LogicalLine}
 use Rattle.pptext.specs.Sources.{Reads}
 use Rattle.pptext.specs.declared.tokens.Fault.{Fault}
@@ -9,10 +10,6 @@ use Rattle.pptext.specs.declared.sources.Profile.{Profile}
 pub data Content : Type 0 where
   unreadable : Content
   readable : List ℕ → Content
-
--- The longest content
-abbrev pub longest : ℕ
-longest = 16777216
 
 -- A content is lawful for a name by a relation where it is bytes that the relation allows, or unreadable and the relation allows unreadable or too many bytes
 abbrev pub Lawful : (List ℕ → Content → Type 0) → List ℕ → Content → Type 0

@@ -4,7 +4,7 @@ ghost use Rattle.std.specs.String.{string_bytes};
 ghost use Rattle.ppshelf.specs.Content.{longest};
 
 use crate::disk::{Disk, ReadFault};
-use crate::loaded::LONGEST;
+use pptext::LONGEST;
 use std::alloc::{AllocError, Global};
 use std::fs;
 use std::io::{ErrorKind, Read};

@@ -8,12 +8,9 @@ ghost use Rattle.ppshelf.specs.Parsed.{parsed_content, HasReading};
 ghost use Rattle.ppshelf.specs.Shelved.{Held, IsPlaced};
 
 use crate::disk::{Disk, ReadFault};
-use pptext::{Fault, Memory, Profile, Source, SourceFault, read_source};
+use pptext::{Fault, LONGEST, Memory, Profile, Source, SourceFault, read_source};
 use std::alloc::Global;
 use std::marker::{Model, PhantomData};
-
-/// The most bytes that a file may have.
-pub const LONGEST: usize = 16_777_216;
 
 /// The bytes of a file, with its lines or its first fault.
 #[derive(Drop)]

@@ -18,6 +18,10 @@ abbrev pub head_code : List Char → ℕ
 head_code [] = 0
 head_code (c ∷ cs) = c.code
 
+-- the most bytes that a file may have
+abbrev pub longest : ℕ
+longest = 16777216
+
 abbrev pub newline : ℕ
 newline = 10
 

@@ -1,5 +1,6 @@
 // A file's bytes as the text behind phases 1 and 2.
 ghost use Rattle.std.specs.Prelude.{◌≡◌, ◌<◌, ◌≤◌, length, IfOk, MatchOption, MatchResult};
+ghost use Rattle.pptext.specs.Clean.{longest};
 ghost use Rattle.pptext.specs.Breaks.{Stretch};
 ghost use Rattle.pptext.specs.Steps.{open_end};
 ghost use Rattle.pptext.specs.Texts.{Cleans, EndsAt, HasBreaks, Whole};
@@ -56,7 +57,7 @@ fn copy_cleaned(
     supplied: bool,
     count: usize,
 ) -> Result<Cleaned, AllocError>
-    requires small { length raw.now ≤ 16_777_216 }
+    requires small { length raw.now ≤ longest }
     requires supplied { supplied ≡ open_end raw.now }
     requires breaks { HasBreaks raw.now count }
     ensures { IfOk result (λ c. Whole raw.now c.codes.items c.breaks.items) }
@@ -90,7 +91,7 @@ pub(crate) fn clean_text<'a>(
     bytes: &'a [u8],
     file: u32,
 ) -> Result<Result<Text<'a>, Place>, AllocError>
-    requires { length bytes.now ≤ 16_777_216 }
+    requires { length bytes.now ≤ longest }
     ensures { IfOk result (Cleans file bytes.now) }
 {
     let raw = unmarked(bytes);

@@ -26,5 +26,5 @@ pub use laws::{
 };
 pub use reading::{read_source, relex};
 pub use scanning::carries_on;
-pub use sources::{Directive, Line, Profile, Source, SourceFault};
+pub use sources::{Directive, LONGEST, Line, Profile, Source, SourceFault};
 pub use tokens::{Fault, Kind, Memory, Place, Spelling, Token, Tokens};

@@ -1,5 +1,6 @@
 // Reading a file.
 ghost use Rattle.std.specs.Prelude.{◌≡◌, ◌↔◌, ◌≤◌, ℕ, List, length, IsTrue, IfSome, IfNone};
+ghost use Rattle.pptext.specs.Clean.{longest};
 ghost use Rattle.pptext.specs.declared.tokens.Kind.{Kind};
 ghost use Rattle.pptext.specs.declared.sources.SourceFault.TheVariants.{Bad};
 ghost use Rattle.pptext.specs.Guard.{GuardedBy};
@@ -40,7 +41,7 @@ fn fault_at(number: u8, at: Place) -> SourceFault
     })
 }
 
-/// Reads a file of at most 16,777,216 bytes: its lines of preprocessing tokens behind translation phases 1 to 3 (5.1.1.2, 6.4),
+/// Reads a file of at most `LONGEST` bytes: its lines of preprocessing tokens behind translation phases 1 to 3 (5.1.1.2, 6.4),
 /// and its groups (6.10) by the directives of this profile. Every place has this file number, and the line and the byte, both
 /// from 1, at which the character was spelled in the file; a byte order mark has no place.
 ///
@@ -59,7 +60,7 @@ pub fn read_source(
     file: u32,
     profile: Profile,
 ) -> Result<Source, SourceFault>
-    requires { length bytes.now ≤ 16_777_216 }
+    requires { length bytes.now ≤ longest }
     ensures { Answers result (Reads profile file bytes.now) }
 {
     let mut text = match clean_text(alloc, bytes, file)? {

@@ -5,6 +5,9 @@ use crate::tokens::{Fault, Token};
 use std::alloc::{AllocError, AllocFailed};
 use std::marker::Model;
 
+/// The most bytes that a file may have.
+pub const LONGEST: usize = 16_777_216;
+
 /// Which directives there are.
 #[derive(Clone, Copy, PartialEq, Eq, Debug)]
 pub enum Profile {

@@ -1,6 +1,6 @@
 // A cleaned text: its characters, and where each was spelled.
 ghost use Rattle.std.specs.Prelude.{◌≡◌, ◌+◌, ◌-◌, ◌<◌, ◌≤◌, ◌^◌, length, slice_index_or, take, drop};
-ghost use Rattle.pptext.specs.Clean.{codes_of};
+ghost use Rattle.pptext.specs.Clean.{longest, codes_of};
 ghost use Rattle.pptext.specs.Steps.{place_behind};
 ghost use Rattle.pptext.specs.Texts.{MadeOf, Stands, breaks_of, text_from};
 ghost use Rattle.pptext.specs.declared.characters.Char.{Char};
@@ -34,7 +34,7 @@ pub(crate) struct Cursor {
 impl Cursor {
     /// The cursor behind so many of the bytes in front of the next break.
     fn pass(self, raw: &[u8], len: usize) -> Cursor
-        requires small { length raw.now ≤ 16_777_216 }
+        requires small { length raw.now ≤ longest }
         requires fits { self.offset + len ≤ length raw.now }
         requires plain { len ≤ self.plain }
         requires counts { self.passed + len < 2 ^ 64 }
@@ -54,7 +54,7 @@ impl Cursor {
 
     /// The cursor behind a break of this length.
     fn skip(self, raw: &[u8], breaks: &[u32], len: usize) -> Cursor
-        requires small { length raw.now ≤ 16_777_216 }
+        requires small { length raw.now ≤ longest }
         requires fits { self.offset + len ≤ length raw.now }
         requires next { self.next ≤ self.offset + 1 }
         requires line { self.at.line ≤ self.offset + 1 }
@@ -73,7 +73,7 @@ impl Cursor {
 
     /// The cursor in front of this character.
     fn seek(self, raw: &[u8], breaks: &[u32], to: usize) -> Cursor
-        requires small { length raw.now ≤ 16_777_216 }
+        requires small { length raw.now ≤ longest }
         requires stands { Stands self.at.file raw.now breaks.now self }
         requires forward { self.passed ≤ to }
         requires within { to < length (text_from self.at.file raw.now 0) }
@@ -92,7 +92,7 @@ impl Cursor {
     /// The same for a character that may stand behind breaks.
     #[inline(never)]
     fn walk(self, raw: &[u8], breaks: &[u32], to: usize) -> Cursor
-        requires small { length raw.now ≤ 16_777_216 }
+        requires small { length raw.now ≤ longest }
         requires stands { Stands self.at.file raw.now breaks.now self }
         requires forward { self.passed ≤ to }
         requires within { to < length (text_from self.at.file raw.now 0) }
@@ -159,6 +159,7 @@ pub(crate) struct Text<'a> {
 
 impl<'a> Model for Text<'a> {
     ghost use Rattle.std.specs.Prelude.{◌≤◌, length};
+    ghost use Rattle.pptext.specs.Clean.{longest};
     ghost use Rattle.pptext.specs.Texts.{Reading};
 
     ghost Value = { Reading };
@@ -167,13 +168,13 @@ impl<'a> Model for Text<'a> {
 
     ghost view = { λ t. record { chars = text_from t.cursor.at.file t.raw.now 0; passed = t.cursor.passed } };
 
-    ghost invariant = { λ t. (length t.raw.now ≤ 16_777_216) × MadeOf t.raw.now t.cleaned × Stands t.cursor.at.file t.raw.now (breaks_of t.cleaned) t.cursor };
+    ghost invariant = { λ t. (length t.raw.now ≤ longest) × MadeOf t.raw.now t.cleaned × Stands t.cursor.at.file t.raw.now (breaks_of t.cleaned) t.cursor };
 }
 
 impl<'a> Text<'a> {
     /// The text of a file's bytes behind its byte order mark, with what phases 1 and 2 make of them unless they are clean.
     pub(crate) fn new(file: u32, raw: &'a [u8], cleaned: Option<Cleaned>) -> Text<'a>
-        requires small { length raw.now ≤ 16_777_216 }
+        requires small { length raw.now ≤ longest }
         requires made { MadeOf raw.now cleaned }
         ensures { result ≡ record { chars = text_from file raw.now 0; passed = 0 } }
     {

@@ -1,6 +1,6 @@
 // Phases 1 and 2 as plain passes over lists of characters: what the tests compare the cleaned text with.
 ghost use Rattle.std.specs.Prelude.{◌≡◌, ◌+◌, ◌<◌, ◌≤◌, ℕ, List, length, IfOk, OnOk, OnErr, Some, None, All, ◌-◌, ◌^◌};
-ghost use Rattle.pptext.specs.Clean.{placed, is_return_at, without_returns, terminated, trigraphs, trigraph_at, trigraph, splice_at, splices, unmarked, splice_at_end};
+ghost use Rattle.pptext.specs.Clean.{longest, placed, is_return_at, without_returns, terminated, trigraphs, trigraph_at, trigraph, splice_at, splices, unmarked, splice_at_end};
 
 use crate::characters::Char;
 use crate::characters::steps::trigraph;
@@ -9,7 +9,7 @@ use std::alloc::{AllocError, Global};
 
 /// Each byte with its place.
 pub(crate) fn place_bytes(alloc: Global, file: u32, bytes: &[u8]) -> Result<Vec<Char>, AllocError>
-    requires { length bytes.now ≤ 16_777_216 }
+    requires { length bytes.now ≤ longest }
     ensures { IfOk result (λ v. v.items ≡ placed file 1 1 bytes.now) }
 {
     let mut chars = Vec::new(alloc);

@@ -1,5 +1,6 @@
 // The cleaned text beside the plain passes.
 ghost use Rattle.std.specs.Prelude.{◌≤◌, length};
+ghost use Rattle.pptext.specs.Clean.{longest};
 
 use super::*;
 use crate::characters::Char;
@@ -14,7 +15,7 @@ fn clean_slowly(
     bytes: &[u8],
     file: u32,
 ) -> Result<Result<Vec<Char>, Place>, AllocError>
-    requires { length bytes.now ≤ 16_777_216 }
+    requires { length bytes.now ≤ longest }
 {
     let placed = place_bytes(alloc, file, unmarked(bytes))?;
     let mut ended = drop_returns(alloc, placed.as_slice())?;
@@ -28,7 +29,7 @@ fn clean_slowly(
 
 /// Whether both programs give the same characters with the same places, or the same fault.
 fn agree(alloc: Global, bytes: &[u8]) -> Result<bool, AllocError>
-    requires { length bytes.now ≤ 16_777_216 }
+    requires { length bytes.now ≤ longest }
 {
     let slow = match clean_slowly(alloc, bytes, 7)? {
         Ok(chars) => chars,
@@ -56,7 +57,7 @@ fn agree(alloc: Global, bytes: &[u8]) -> Result<bool, AllocError>
 
 /// Whether each place agrees that is asked for at once, over all that stands in front of it.
 fn agree_at_once(alloc: Global, bytes: &[u8]) -> Result<bool, AllocError>
-    requires { length bytes.now ≤ 16_777_216 }
+    requires { length bytes.now ≤ longest }
 {
     let slow = match clean_slowly(alloc, bytes, 7)? {
         Ok(chars) => chars,
