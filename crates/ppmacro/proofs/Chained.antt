@@ -1,8 +1,9 @@
 -- The chains of a replacement list, laid end to end, are the list.
 use Rattle.std.proofs.Common.{◌≡◌, ℕ, zero, suc, ◌<◌, Bool, true, false, not, ◌&&◌, ◌||◌, List, [], ◌∷◌, ◌++◌, length, Option, Some, None, is_some, codes, if◌then◌else◌, refl, sym, ap, ◌∙◌, subst, true≢false, arith, append_assoc}
+use Rattle.std.proofs.lemmas.Bool.{and_parts, and_right, or_parts, not-true}
 use Rattle.pptext.specs.declared.tokens.Token.{Token}
 use Rattle.ppmacro.specs.Spellings.{is_identifier, is_punct, is_hash, is_paste}
-use Rattle.ppmacro.specs.Chains.{parameter_named, parameter_of, is_function_like, is_operator_hash, items_behind, begins_joined, join_first, grouped, chains_of}
+use Rattle.ppmacro.specs.Chains.{Item, Operates, Joins, parameter_named, parameter_of, is_function_like, is_operator_hash, items_behind, begins_joined, join_first, grouped, chains_of}
 use Rattle.ppmacro.specs.Define.{is_empty, misplaces_paste, begins_with_parameter, misplaces_hash}
 use Rattle.ppmacro.specs.Laws.{IsOperand, token, parameter, stringized, AreJoined, last, pasted, AreChains, none, chain, places_operators}
 use Rattle.ppmacro.specs.declared.macros.Shape.{Shape}
@@ -10,15 +11,9 @@ use Rattle.ppmacro.specs.declared.macros.Definition.{Definition}
 use Rattle.ppmacro.specs.declared.macros.Chain.{Chain}
 use Rattle.ppmacro.specs.declared.macros.Operand.{Operand}
 use Rattle.ppmacro.specs.declared.macros.Operand.TheVariants.{Tok, Param, Str}
-use Rattle.ppmacro.specs.declared.chains.Item.{Item}
-use Rattle.ppmacro.specs.declared.chains.Item.TheVariants.{Operates, Joins}
 use Rattle.ppmacro.proofs.Layouts.{no_punct, other_punct}
 
 -- ---- parameters and `#` are no `##`
-
-neither : (a b : Bool) → (a || b) ≡ false → (a ≡ false) × (b ≡ false)
-neither true b e = absurd (true≢false e)
-neither false b e = (refl, e)
 
 identifier_by : (b : Bool) (o : Option ℕ) (i : ℕ) → (if b then o else None) ≡ Some i → b ≡ true
 identifier_by true o i e = refl
@@ -32,22 +27,14 @@ parameter_no_paste shape t i e =
     let is : is_identifier t ≡ true = parameter_identifier shape t i e in
     rw (no_punct (codes "##") t is, no_punct (codes "%:%:") t is) refl
 
-and_false : (b : Bool) → (b && false) ≡ false
-and_false true = refl
-and_false false = refl
-
 parameter_no_hash : (shape : Shape) (t : Token) (i : ℕ) → parameter_of shape t ≡ Some i → is_operator_hash shape t ≡ false
 parameter_no_hash shape t i e =
     let is : is_identifier t ≡ true = parameter_identifier shape t i e in
     let no_hash : is_hash t ≡ false = rw (no_punct (codes "#") t is, no_punct (codes "%:") t is) refl in
-    rw no_hash (and_false (is_function_like shape))
-
-both : (a b : Bool) → (a && b) ≡ true → (a ≡ true) × (b ≡ true)
-both true b e = (refl, e)
-both false b e = absurd (true≢false (sym e))
+    and_right (is_function_like shape) (is_hash t) no_hash
 
 hash_no_paste : (shape : Shape) (t : Token) → is_operator_hash shape t ≡ true → is_paste t ≡ false
-hash_no_paste shape t e = by_spelling (is_punct (codes "#") t) refl (both (is_function_like shape) (is_hash t) e).1
+hash_no_paste shape t e = by_spelling (is_punct (codes "#") t) refl (and_parts (is_function_like shape) (is_hash t) e).1
   where
     by_spelling : (b : Bool) → is_punct (codes "#") t ≡ b → (b || is_punct (codes "%:") t) ≡ true → is_paste t ≡ false
     by_spelling true s h = rw (other_punct (codes "#") (codes "##") t refl s, other_punct (codes "#") (codes "%:%:") t refl s) refl
@@ -108,7 +95,7 @@ module _ (shape : Shape) where
   HashesStand ts = (is_function_like shape && misplaces_hash shape ts) ≡ false
 
   hashes_behind : (f a m : Bool) → (f && (a || m)) ≡ false → (f && m) ≡ false
-  hashes_behind true a m e = (neither a m e).1
+  hashes_behind true a m e = (or_parts a m e).1
   hashes_behind false a m e = refl
 
   hash_named : (f h b m : Bool) → (f && h) ≡ true → (f && ((h && not b) || m)) ≡ false → b ≡ true
@@ -174,7 +161,7 @@ module _ (shape : Shape) where
   lay_behind front [] is on m s = operand_before front [] is ([], none)
   lay_behind front (p ∷ more) is on m s = elim (is_paste p) as (λ b. is_paste p ≡ b → (if b then (false || (is_empty more || misplaces_paste true more)) else misplaces_paste false more) ≡ false → Laid (front ++ p ∷ more)) [
     | true ↦ λ e m.
-        let parts : (is_empty more ≡ false) × (misplaces_paste true more ≡ false) = neither (is_empty more) (misplaces_paste true more) m in
+        let parts : (is_empty more ≡ false) × (misplaces_paste true more ≡ false) = or_parts (is_empty more) (misplaces_paste true more) m in
         let l : Laid more = on more (omega arith) parts.1 (hashes_behind (is_function_like shape) (is_hash p && not (begins_with_parameter shape more)) (misplaces_hash shape more) s) in
         paste_before front p is e l.1 parts.0
     | false ↦ λ e m.
@@ -190,14 +177,10 @@ module _ (shape : Shape) where
       let less : length f.rest < length (t ∷ ts) = f.less in
       subst Laid (sym f.laid_out) (lay_behind f.front f.rest f.is (λ us short' m' s'. lay n us (omega arith) m' s') f.pastes f.hashes)
 
-no : (b : Bool) → not b ≡ true → b ≡ false
-no true e = absurd (true≢false (sym e))
-no false e = refl
-
 pub lays_out : (d : Definition) → places_operators d ≡ true → AreChains d.shape d.body (chains_of d)
 lays_out d e =
-    let parts = both (not (misplaces_paste true d.body)) (not (is_function_like d.shape && misplaces_hash d.shape d.body)) e in
-    let l : Laid d.shape d.body = lay d.shape (suc (length d.body)) d.body (omega arith) (no _ parts.0) (no _ parts.1) in
+    let parts = and_parts (not (misplaces_paste true d.body)) (not (is_function_like d.shape && misplaces_hash d.shape d.body)) e in
+    let l : Laid d.shape d.body = lay d.shape (suc (length d.body)) d.body (omega arith) (not-true _ parts.0) (not-true _ parts.1) in
     subst (AreChains d.shape d.body) (sym (laid d.shape l.1)) l.1
 
 pub only_chains : (d : Definition) (cs : List Chain) → AreChains d.shape d.body cs → chains_of d ≡ cs

@@ -1,6 +1,7 @@
 -- The replacement list as a list of chains, whose operands `##` joins (6.10.3.3).
 use Rattle.std.specs.Prelude.{ℕ, Bool, true, false, ◌&&◌, ◌||◌, List, [], ◌∷◌, ◌++◌, Option, Some, None, codes, length, position, if◌then◌else◌}
 use Rattle.std.specs.Str.{bytes_eq}
+use Rattle.pptext.specs.declared.tokens.Place.{Place}
 use Rattle.pptext.specs.declared.tokens.Token.{Token}
 use Rattle.ppmacro.specs.Spellings.{is_identifier, is_hash, is_paste}
 use Rattle.ppmacro.specs.Names.{Name}
@@ -10,9 +11,16 @@ use Rattle.ppmacro.specs.declared.macros.Definition.{Definition}
 use Rattle.ppmacro.specs.declared.macros.Chain.{Chain}
 use Rattle.ppmacro.specs.declared.macros.Operand.{Operand}
 use Rattle.ppmacro.specs.declared.macros.Operand.TheVariants.{Tok, Param, Str}
-use Rattle.ppmacro.specs.declared.chains.HashSign.{HashSign}
-use Rattle.ppmacro.specs.declared.chains.Item.{Item}
-use Rattle.ppmacro.specs.declared.chains.Item.TheVariants.{Operates, Joins}
+
+-- a `#`: its space mark, and where it stands
+pub record HashSign : Type 0 where
+  pub mark : Bool
+  pub at : Place
+
+-- a part of a replacement list: an operand with the space mark of its first token, or `##`
+pub data Item : Type 0 where
+  Operates : Bool → Operand → Item
+  Joins : Item
 
 abbrev pub or_at : Option ℕ → Bool → ℕ → Option ℕ
 or_at (Some i) last n = Some i

@@ -8,6 +8,7 @@ pub mod Operations
 pub mod Remembered
 pub mod Spellings
 pub mod Chains
+pub mod Items
 pub mod HideSets
 pub mod Define
 pub mod Headings

@@ -1,9 +1,10 @@
 // The chains of a replacement list, whose operands `##` joins (6.10.3.2, 6.10.3.3).
 ghost use Rattle.std.specs.Prelude.{◌≡◌, IfOk, OnOk, None, List, [], ◌∷◌, ◌++◌, false, position, codes};
 ghost use Rattle.std.specs.Str.{bytes_eq};
+ghost use Rattle.std.specs.Option.{option_map};
+ghost use Rattle.ppmacro.specs.Chains as definitions;
 ghost use Rattle.ppmacro.specs.Chains.{names_in, or_at, parameter_named, parameter_of, is_function_like, is_operator_hash, plain_item, stringized_item, items_behind, led_by, grouped, resumed, chains_of};
-ghost use Rattle.ppmacro.specs.declared.chains.Item.{Item};
-ghost use Rattle.ppmacro.specs.declared.chains.Item.TheVariants.{Operates};
+ghost use Rattle.ppmacro.specs.Items.{meant};
 ghost use Rattle.pptext.specs.declared.tokens.Token.{Token};
 
 use crate::borrowed::Leaf;
@@ -21,6 +22,16 @@ use std::marker::Model;
 pub(crate) struct HashSign {
     mark: bool,
     at: Place,
+}
+
+impl Model for HashSign {
+    ghost use Rattle.ppmacro.specs.Chains.{HashSign};
+
+    ghost Value = { HashSign };
+
+    ghost view = { λ h. record { mark = h.mark; at = h.at } };
+
+    ghost inverse = { λ h. record { mark = h.mark; at = h.at } };
 }
 
 /// A part of a replacement list: an operand with the space mark of its first token, or `##`.
@@ -159,7 +170,7 @@ pub(crate) fn is_operator_hash(shape: &Parameters, token: &Token) -> bool
 
 // A token as an operand.
 fn plain_item<'a>(shape: &Parameters, token: &'a Token) -> Item<'a>
-    ensures { result ≡ plain_item (parameter_of shape.now token.now) token.now }
+    ensures { meant result ≡ plain_item (parameter_of shape.now token.now) token.now }
 {
     let Some(index) = parameter_of(shape, token) else {
         return Item::Operates(token.space, Operand::Tok(Leaf::new(token)));
@@ -169,7 +180,7 @@ fn plain_item<'a>(shape: &Parameters, token: &'a Token) -> Item<'a>
 
 // A token behind `#` as an operand.
 fn stringized_item<'a>(shape: &Parameters, hash: HashSign, token: &'a Token) -> Item<'a>
-    ensures { result ≡ stringized_item (parameter_of shape.now token.now) hash token.now }
+    ensures { meant result ≡ stringized_item (parameter_of shape.now token.now) hash token.now }
 {
     let Some(index) = parameter_of(shape, token) else {
         return Item::Operates(token.space, Operand::Tok(Leaf::new(token)));
@@ -179,7 +190,7 @@ fn stringized_item<'a>(shape: &Parameters, hash: HashSign, token: &'a Token) -> 
 
 // The next part, or none at a `#`, which goes with the token behind it.
 fn next_item<'a>(shape: &Parameters, hash: Option<HashSign>, token: &'a Token) -> Option<Item<'a>>
-    ensures { (ts : List Token) → items_behind shape.now hash (token.now ∷ ts) ≡ led_by shape.now token.now result ts }
+    ensures { (ts : List Token) → items_behind shape.now hash (token.now ∷ ts) ≡ led_by shape.now token.now (option_map meant result) ts }
 {
     if let Some(sign) = hash {
         return Some(stringized_item(shape, sign, token));
@@ -213,7 +224,8 @@ fn put<'a>(
     mark: bool,
     operand: Operand<'a>,
 ) -> Result<(), AllocError>
-    ensures { OnOk result ((is : List Item) → resumed false chains.new.items is ≡ resumed joined chains.old.items (Operates mark operand.entry ∷ is)) }
+    ensures { OnOk result ((is : List definitions.Item) →
+        resumed false chains.new.items is ≡ resumed joined chains.old.items (definitions.Operates mark operand.entry ∷ is)) }
 {
     if !joined {
         return begin_chain(chains, mark, operand);

@@ -1,5 +1,5 @@
 // `#` (6.10.3.2).
-ghost use Rattle.std.specs.Prelude.{◌≡◌, ◌++◌, IfOk, OnOk};
+ghost use Rattle.std.specs.Prelude.{◌≡◌, ℕ, [], ◌∷◌, ◌++◌, take, IfOk, OnOk, OnErr};
 ghost use Rattle.ppmacro.specs.HideSets.{IsKnown};
 ghost use Rattle.ppmacro.specs.Substitution.{escaped, spelled_space, spelled_in_string, string_text, stringized};
 ghost use Rattle.ppmacro.specs.Substituting.{tokens_of, hidden_in};
@@ -11,15 +11,26 @@ use crate::substituting::lexing::kind_of;
 use pptext::{Fault, Kind, Memory, Place, Spelling, Token};
 use std::alloc::{AllocError, Global};
 
-/// Puts a literal's spelling behind a text, with `\` before each `"` and `\`.
+// Puts a byte of a literal behind a text, with `\` before `"` and `\`. Where memory is refused, the text stays as it was.
+fn push_escaped_byte(text: &mut Vec<u8>, byte: u8) -> Result<(), AllocError>
+    ensures put { OnOk result (text.new.items ≡ text.old.items ++ escaped (byte ∷ [])) }
+    ensures refused { OnErr result (text.new.items ≡ text.old.items) }
+{
+    if byte == b'"' || byte == b'\\' {
+        return text.extend_from_slice(&[b'\\', byte]);
+    }
+    text.push(byte)?;
+    Ok(())
+}
+
+/// Puts a literal's spelling behind a text, with `\` before each `"` and `\`. Where memory is refused, that of some first bytes
+/// stands there.
 pub fn push_escaped(text: &mut Vec<u8>, spelling: &[u8]) -> Result<(), AllocError>
-    ensures { OnOk result (text.new.items ≡ text.old.items ++ escaped spelling.now) }
+    ensures put { OnOk result (text.new.items ≡ text.old.items ++ escaped spelling.now) }
+    ensures refused { OnErr result ((n : ℕ) × (text.new.items ≡ text.old.items ++ escaped (take n spelling.now))) }
 {
     for byte in spelling {
-        if *byte == b'"' || *byte == b'\\' {
-            text.push(b'\\')?;
-        }
-        text.push(*byte)?;
+        push_escaped_byte(text, *byte)?;
     }
     Ok(())
 }
