@@ -7,9 +7,9 @@ mod ending;
 mod list;
 mod output;
 mod page;
+mod room;
 mod running;
 mod serving;
-mod stack;
 mod streams;
 #[cfg(test)]
 mod tests;
@@ -19,8 +19,8 @@ use command_line::{Asked, Options};
 use ending::{status, words};
 use ppshelf::FolderDisk;
 use pptext::Hashing;
+use room::{keep_pages, reserve};
 use serving::{RunFault, serve, serve_from};
-use stack::reserve;
 use std::hash::RandomState;
 use std::process::ExitCode;
 use std::random::RandomSource;
@@ -46,6 +46,7 @@ fn main(rt: HostRuntime) -> ExitCode {
     if reserve(rt.alloc()).is_err() {
         return ended(&rt, &Err(RunFault::Memory));
     }
+    keep_pages(rt.alloc());
     let Options {
         mode,
         workers,

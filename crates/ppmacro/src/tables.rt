@@ -14,6 +14,9 @@ use pptext::{Hashing, Memory};
 use std::alloc::{AllocError, Global};
 use std::marker::Model;
 
+// So many macros have room from the start; most units of a large project have more, and a table that grows moves what it has.
+const USUAL: usize = 1_024;
+
 /// The macros of a unit, which contracts see as a finite map from names to definitions.
 ///
 /// Most identifiers are names of no macro, and most of those have a mark that no name in the table ever had.
@@ -79,11 +82,9 @@ impl<'a> Table<'a> {
     fn empty(alloc: Global, hashing: Hashing) -> Result<Table<'a>, Memory>
         ensures { IfOk result (λ t. t ≡ table.empty) }
     {
-        let table = Table {
-            macros: IndexMap::with_hasher(alloc, hashing),
-            marks: Marks::new(alloc)?,
-        };
-        Ok(table)
+        let macros = IndexMap::with_capacity_and_hasher(alloc, USUAL, hashing)?;
+        let marks = Marks::new(alloc)?;
+        Ok(Table { macros, marks })
     }
 
     // Puts the predefined names into a table without names.

@@ -8,6 +8,7 @@ ghost use Rattle.pppool.specs.Workers.{AreAnswers, AllAnswered, IsDone, answered
 use crate::desk::{Desk, DeskSeat};
 use crate::gate::Gate;
 use crate::keeping::{Keep, kept};
+use crate::room::grow;
 use ppshelf::{Disk, Pass, Shelf};
 use pptext::Memory;
 use ppunit::{Setting, Unit, UnitOut, growth, preprocess};
@@ -142,6 +143,7 @@ impl<'a, D: Disk> Worker<'a, D> {
         requires rows { All (IsUnitOf (length job.now.shelf.now.names) job.now.setting.now.profile) job.now.units.now }
         ensures { IfOk result (λ w. IsDone job.now.keep job.now.desk.now job.now.shelf.now job.now.setting.now job.now.units.now job.now.block w.seat w.pass w.answers.items) }
     {
+        grow(job.alloc);
         let mut worker = Worker {
             seat,
             pass: job.shelf.pass()?,

@@ -38,20 +38,23 @@ impl<R: Files> Disk for FolderDisk<'_, R> {
         let Ok(path) = path_under(alloc, self.folder, name) else {
             return Err(ReadFault::Memory);
         };
-        let file = open_plain(self.files, path.as_str())?;
-        read_start(alloc, file)
+        let (file, len) = open_plain(self.files, path.as_str())?;
+        read_start(alloc, file, len)
     }
 }
 
-// Opens a plain file, to which a link may lead, and nothing else: to open a named pipe waits until somebody writes to it.
-fn open_plain<R: Files>(files: &R, path: &str) -> Result<R::File, ReadFault> {
-    match fs::metadata(files, path) {
-        Ok(found) if found.is_file() => {}
+// Opens a plain file, to which a link may lead, and nothing else: to open a named pipe waits until somebody writes to it. With it comes how
+// long it is just now, or what it may have if it is longer.
+fn open_plain<R: Files>(files: &R, path: &str) -> Result<(R::File, usize), ReadFault>
+    ensures { IfOk result (λ r. r.1 ≤ longest) }
+{
+    let len = match fs::metadata(files, path) {
+        Ok(found) if found.is_file() => found.len().min(LONGEST as u64) as usize,
         Ok(_) => return Err(ReadFault::Unreadable),
         Err(error) => return Err(fault_of(error.kind())),
-    }
+    };
     match fs::open(files, path) {
-        Ok(file) => Ok(file),
+        Ok(file) => Ok((file, len)),
         Err(error) => Err(fault_of(error.kind())),
     }
 }
@@ -65,11 +68,15 @@ fn path_under(alloc: Global, folder: &str, name: &str) -> Result<String, AllocEr
     Ok(path)
 }
 
-// Reads a file, but no more than one byte above the longest content.
-fn read_start<F: Read + Drop>(alloc: Global, file: F) -> Result<Vec<u8>, ReadFault>
+// Reads a file, but no more than one byte above the longest content. It has room for so many bytes from the start, and for one more, by which a
+// read sees the end.
+fn read_start<F: Read + Drop>(alloc: Global, file: F, len: usize) -> Result<Vec<u8>, ReadFault>
+    requires { len ≤ longest }
     ensures { IfOk result (λ bytes. IfSome (F.remaining file) (λ all. bytes.items ≡ take (suc longest) all)) }
 {
-    let mut bytes = Vec::new(alloc);
+    let Ok(mut bytes) = Vec::with_capacity(alloc, len + 1) else {
+        return Err(ReadFault::Memory);
+    };
     match file.take(LONGEST as u64 + 1).read_to_end(&mut bytes) {
         Ok(_) => Ok(bytes),
         Err(error) => Err(fault_of(error.kind())),

@@ -88,6 +88,10 @@ fn nondigit_len(text: &[u8]) -> usize
 fn is_ident_byte(c: u8) -> bool
     ensures { result ≡ is_ident_byte c }
 {
+    // Most are small letters.
+    if b'a' <= c && c <= b'z' {
+        return true;
+    }
     is_nondigit(c) || is_digit(c)
 }
 

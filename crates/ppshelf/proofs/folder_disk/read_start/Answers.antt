@@ -10,5 +10,5 @@ start_of (Some ys) (Some xs) bytes before limit most same none is h =
     let e : ys ≡ xs = cc in
     h ∙ (ap (λ (b : List ℕ). b ++ take limit ys) none ∙ (ap (λ n. take n ys) is ∙ ap (take most) e))
 
-pub returns-in-Ok : goal.returns-in-Ok
-returns-in-Ok g c = start_of (g.F.Read.remaining c.take.result.inner) (g.F.Read.remaining c.args.file) _ c.new-bytes.result.items c.take.result.limit _ (ap g.F.Read.remaining c.take.ensures.inner) c.new-bytes.ensures.items c.take.ensures.limit c.in-Ok.ensures.bytes
+pub returns-in-Ok-read_to_end : goal.returns-in-Ok-read_to_end
+returns-in-Ok-read_to_end g c = start_of (g.F.Read.remaining c.take.result.inner) (g.F.Read.remaining c.args.file) _ c.in-Ok.bytes.items c.take.result.limit _ (ap g.F.Read.remaining c.take.ensures.inner) c.in-Ok.ensures.items c.take.ensures.limit c.in-Ok-read_to_end.ensures.bytes
