@@ -7,7 +7,6 @@ use Rattle.pptext.proofs.Lexer.{lexer_is, one_kind}
 use Rattle.ppmacro.specs.Lexing.{kind_of}
 
 pub kind_of_is : IsLexer kind_of
-unfolding kind_of
 kind_of_is = lexer_is
 
 lexed : (text : List ℕ) (r : Option Kind) → IfNone r ((k : Kind) → IsOneToken text k → IsLoneQuote text) → IfSome r (λ k. IsOneToken text k × (¬ IsLoneQuote text)) → Lexes text r

@@ -1,5 +1,5 @@
 -- What carries on an identifier or a number.
-use Rattle.std.proofs.Common.{◌≡◌, ℕ, Bool, true, false, ◌||◌, ◌==◌, List, [], ◌∷◌, ◌++◌, length, take, refl, sym, ap, ◌∙◌, subst, inl, inr, ◌⊎◌, Some, arith, append_assoc}
+use Rattle.std.proofs.Common.{◌≡◌, ℕ, Bool, true, false, ◌||◌, ◌==◌, List, [], ◌∷◌, ◌++◌, length, refl, sym, ap, ◌∙◌, subst, inl, inr, ◌⊎◌, arith, append_assoc}
 use Rattle.std.specs.List.{list_all, AllPass, AllByRecursion, flat_map}
 use Rattle.std.proofs.lemmas.Bool.{false≢true, and_parts}
 use Rattle.std.proofs.lemmas.Bool.Decides.{nat_tests}
@@ -11,7 +11,6 @@ use Rattle.pptext.specs.Languages.{One, Then, Either, Repeated}
 use Rattle.pptext.specs.Spellings.{is_digit, is_nondigit, is_ident_byte, IsNondigit, IsNumberPart, Spells}
 use Rattle.pptext.specs.Cut.{OpensBlock, OpensLine}
 use Rattle.pptext.specs.Sources.{IsOneToken, IsLoneQuote}
-use Rattle.pptext.specs.Lexing.{Lexes}
 use Rattle.pptext.proofs.OneKind.{begins, begins_apart, begins_also, is_ident_head, is_number_head, ident_begins, number_begins, number_head}
 use Rattle.pptext.proofs.OnePiece.{opening_begins}
 use Rattle.pptext.proofs.Lexer.{plain_token, spelled_whole}

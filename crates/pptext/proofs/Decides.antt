@@ -1,62 +1,43 @@
--- Whether a text is in a language can be decided, for the languages of the grammar of preprocessing tokens (6.4).
-use Rattle.std.proofs.Common.{◌≡◌, ℕ, zero, suc, ◌≤◌, Bool, true, false, not, ◌||◌, ◌==◌, List, [], ◌∷◌, ◌++◌, length, refl, sym, ap, ◌∙◌, subst, inl, inr, ◌⊎◌, arith}
-use Rattle.std.specs.Prelude.{Contains, IsTrue}
+-- Each test of `Kinds` passes the texts of its language (6.4), and no others.
+use Rattle.std.proofs.Common.{◌≡◌, ℕ, zero, suc, Bool, true, false, not, ◌||◌, ◌&&◌, ◌==◌, List, [], ◌∷◌, ◌++◌, length, refl, sym, ap, ◌∙◌, subst, inl, inr, ◌⊎◌, arith, Option, Some, None, if◌then◌else◌}
+use Rattle.std.specs.Prelude.{Contains, Decides}
 use Rattle.std.specs.List.{AllByRecursion, list_all, flat_map}
 use Rattle.std.specs.Str.{bytes_eq}
-use Rattle.std.proofs.lemmas.Bool.{false≢true, cases_eq}
+use Rattle.std.proofs.lemmas.Bool.{false≢true}
+use Rattle.std.proofs.lemmas.Bool.Decides.{Decides-eqb, Decides-and, Decides-or, Decides-not, Decides-like, not_from_Decides}
 use Rattle.std.proofs.lemmas.List.Sums.{AllPass-from_list_all, list_all-from_AllPass}
 use Rattle.std.proofs.lemmas.Slice.Eq.{bytes_eq-Decides}
 use Rattle.pptext.specs.Languages.{Exactly, One, Then, Either, IsRun, Repeated}
-use Rattle.pptext.specs.Spellings.{is_blank, is_hex, IsNondigit, IsIdent, IsNumber, IsElement, IsPunct, char_prefixes, str_prefixes, is_punctuator, IsOther, Spells, IsSpelling}
+use Rattle.pptext.specs.Spellings.{is_digit, is_hex, is_nondigit, is_blank, is_exponent, is_sign, char_prefixes, str_prefixes, is_punctuator}
+use Rattle.pptext.specs.Spellings.{IsUniversal, IsNondigit, IsIdent, IsNumberPart, IsNumber, IsElement, IsCharConst, IsStr, IsPunct, IsOther, Spells}
+use Rattle.pptext.specs.Kinds.{exactly_test, among_test, one_test, either_test, then_test, run_test, then_repeated_test, repeated_test}
+use Rattle.pptext.specs.Kinds.{universal_test, nondigit_test, ident_test, number_part_test, number_test, element_test, char_const_test, str_test, other_test, spelled_kind}
 use Rattle.pptext.specs.declared.tokens.Kind.{Kind}
 use Rattle.pptext.specs.declared.tokens.Kind.TheVariants.{Ident, Number, CharConst, Str, Punct, Header, Other}
 
--- a fact that holds, or that does not
-abbrev pub Decided : Type 0 → Type 0
-Decided A = A ⊎ (¬ A)
-
-pub record Decides (P : List ℕ → Type 0) : Type 0 where
-  pub at : (s : List ℕ) → Decided (P s)
-
--- ---- facts
-
-by_test : (b : Bool) → Decided (IsTrue b)
-by_test true = inl refl
-by_test false = inr false≢true
-
-both : {A B : Type 0} → Decided A → Decided B → Decided (A × B)
-both (inl a) (inl b) = inl (a, b)
-both (inl a) (inr n) = inr (λ e. n e.1)
-both (inr n) d = inr (λ e. n e.0)
-
-pub any : {A B : Type 0} → Decided A → Decided B → Decided (A ⊎ B)
-any (inl a) d = inl (inl a)
-any (inr n) (inl b) = inl (inr b)
-any (inr n) (inr m) = inr (λ e. elim e [ inl a ↦ n a | inr b ↦ m b ])
-
-unless : {A : Type 0} → Decided A → Decided (¬ A)
-unless (inl a) = inr (λ n. n a)
-unless (inr n) = inl n
-
-same : {A B : Type 0} → (A → B) → (B → A) → Decided A → Decided B
-same f g (inl a) = inl (f a)
-same f g (inr n) = inr (λ b. n (g b))
+-- the test passes the texts of the language, and no others
+pub record Tests (P : List ℕ → Type 0) (p : List ℕ → Bool) : Type 0 where
+  pub at : (s : List ℕ) → Decides (p s) (P s)
 
 -- ---- languages
 
-pub exactly : (text : List ℕ) → Decides (Exactly text)
-exactly text = record { at = λ s. same (bytes_eq-Decides s text).0 (bytes_eq-Decides s text).1 (by_test (bytes_eq s text)) }
+pub exactly : (text : List ℕ) → Tests (Exactly text) (exactly_test text)
+exactly text = record { at = λ s. bytes_eq-Decides s text }
 
-one : (test : ℕ → Bool) → Decides (One test)
+one : (test : ℕ → Bool) → Tests (One test) (one_test test)
 one test = record { at = at }
   where
-    at : (s : List ℕ) → Decided (One test s)
-    at [] = inr (λ h. let e = h.1 in cc)
-    at (c ∷ []) = same (λ t. (c, refl, t)) (λ h. let e = h.1 in let head : c ≡ h.0 = cc in ap test head ∙ h.2) (by_test (test c))
-    at (c ∷ d ∷ s) = inr (λ h. let e = h.1 in cc)
+    at : (s : List ℕ) → Decides (one_test test s) (One test s)
+    at [] = (λ e. absurd (false≢true e), λ h. let e = h.1 in cc)
+    at (c ∷ []) = (λ t. (c, refl, t), λ h. let e = h.1 in let head : c ≡ h.0 = cc in ap test head ∙ h.2)
+    at (c ∷ d ∷ s) = (λ e. absurd (false≢true e), λ h. let e = h.1 in cc)
 
-either : {P Q : List ℕ → Type 0} → Decides P → Decides Q → Decides (Either P Q)
-either p q = record { at = λ s. any (p.at s) (q.at s) }
+pub either : {P Q : List ℕ → Type 0} {p q : List ℕ → Bool} → Tests P p → Tests Q q → Tests (Either P Q) (either_test p q)
+either {P} {Q} {p} {q} of_p of_q = record { at = λ s. Decides-or (p s) (q s) (of_p.at s) (of_q.at s) }
+
+-- behind a first character
+behind : {P : List ℕ → Type 0} {p : List ℕ → Bool} (c : ℕ) → Tests P p → Tests (λ a. P (c ∷ a)) (λ a. p (c ∷ a))
+behind c of_p = record { at = λ a. of_p.at (c ∷ a) }
 
 -- both parts of nothing are nothing
 no_split : (P Q : List ℕ → Type 0) → Then P Q [] → P [] × Q []
@@ -76,14 +57,19 @@ unsplit : (P Q : List ℕ → Type 0) (c : ℕ) (s : List ℕ) → (P [] × Q (c
 unsplit P Q c s (inl h) = ([], c ∷ s, refl, h.0, h.1)
 unsplit P Q c s (inr (a, b, e, p, q)) = (c ∷ a, b, ap (λ z. c ∷ z) e, p, q)
 
--- by all splits; the second language need be decided at no longer texts only
-splits : (n : ℕ) (s : List ℕ) (P Q : List ℕ → Type 0) → Decides P → ((t : List ℕ) → length t ≤ n → Decided (Q t)) → length s ≤ n → Decided (Then P Q s)
-splits n [] P Q p q fits = same (λ h. ([], [], refl, h.0, h.1)) (no_split P Q) (both (p.at []) (q [] fits))
-splits n (c ∷ s) P Q p q fits =
-    same (unsplit P Q c s) (split P Q c s) (any (both (p.at []) (q (c ∷ s) fits)) (splits n s (λ a. P (c ∷ a)) Q (record { at = λ a. p.at (c ∷ a) }) q (omega arith)))
+then_at : (P Q : List ℕ → Type 0) (p q : List ℕ → Bool) → Tests P p → Tests Q q → (s : List ℕ) → Decides (then_test p q s) (Then P Q s)
+then_at P Q p q of_p of_q [] =
+    Decides-like (p [] && q []) (λ h. ([], [], refl, h.0, h.1)) (no_split P Q) (Decides-and (p []) (q []) (of_p.at []) (of_q.at []))
+then_at P Q p q of_p of_q (c ∷ s) =
+    let here = p [] && q (c ∷ s) in
+    let later = then_test (λ a. p (c ∷ a)) q s in
+    Decides-like (here || later) (unsplit P Q c s) (split P Q c s) (Decides-or here later (Decides-and (p []) (q (c ∷ s)) (of_p.at []) (of_q.at (c ∷ s))) (then_at (λ a. P (c ∷ a)) Q (λ a. p (c ∷ a)) q (behind c of_p) of_q s))
 
-then : {P Q : List ℕ → Type 0} → Decides P → Decides Q → Decides (Then P Q)
-then {P} {Q} p q = record { at = λ s. splits (length s) s P Q p (λ t le. q.at t) (omega arith) }
+followed : {P Q : List ℕ → Type 0} {p q : List ℕ → Bool} → Tests P p → Tests Q q → Tests (Then P Q) (then_test p q)
+followed {P} {Q} {p} {q} of_p of_q = record { at = then_at P Q p q of_p of_q }
+
+run : (n : ℕ) (test : ℕ → Bool) → Tests (IsRun n test) (run_test n test)
+run n test = record { at = λ s. Decides-and (length s == n) (list_all test s) (Decides-eqb (length s) n) (AllPass-from_list_all test s, list_all-from_AllPass test s) }
 
 -- the first part that is not empty, and the others
 first_part : (P : List ℕ → Type 0) (c : ℕ) (s : List ℕ) (parts : List (List ℕ)) → AllByRecursion P parts → c ∷ s ≡ flat_map (λ p. p) parts → Then (λ a. P (c ∷ a)) (Repeated P) s
@@ -97,81 +83,102 @@ first_part P c s ((d ∷ a) ∷ ps) all e =
 with_part : (P : List ℕ → Type 0) (c : ℕ) (s : List ℕ) → Then (λ a. P (c ∷ a)) (Repeated P) s → Repeated P (c ∷ s)
 with_part P c s (a, b, e, p, (ps, all, f)) = ((c ∷ a) ∷ ps, (p, all), ap (λ z. c ∷ z) (e ∙ ap (λ z. a ++ z) f))
 
-repeats : (n : ℕ) (s : List ℕ) (P : List ℕ → Type 0) → Decides P → length s ≤ n → Decided (Repeated P s)
-repeats zero [] P p fits = inl ([], tt, refl)
-repeats (suc n) [] P p fits = inl ([], tt, refl)
-repeats zero (c ∷ s) P p fits = absurd (omega arith)
-repeats (suc n) (c ∷ s) P p fits =
-    same (with_part P c s) (λ h. first_part P c s h.0 h.1 h.2) (splits n s (λ a. P (c ∷ a)) (Repeated P) (record { at = λ a. p.at (c ∷ a) }) (λ t le. repeats n t P p le) (omega arith))
+then_repeated_at : (P Q : List ℕ → Type 0) (p q : List ℕ → Bool) → Tests P p → Tests Q q → (s : List ℕ) → Decides (then_repeated_test p q s) (Then P (Repeated Q) s)
+then_repeated_at P Q p q of_p of_q [] =
+    Decides-like (p []) (λ h. ([], [], refl, h, ([], tt, refl))) (λ h. (no_split P (Repeated Q) h).0) (of_p.at [])
+then_repeated_at P Q p q of_p of_q (c ∷ s) =
+    let parts = then_repeated_test (λ a. q (c ∷ a)) q s in
+    let here = p [] && parts in
+    let later = then_repeated_test (λ a. p (c ∷ a)) q s in
+    let of_parts = then_repeated_at (λ a. Q (c ∷ a)) Q (λ a. q (c ∷ a)) q (behind c of_q) of_q s in
+    let of_later = then_repeated_at (λ a. P (c ∷ a)) Q (λ a. p (c ∷ a)) q (behind c of_p) of_q s in
+    let repeats = Decides-like parts (with_part Q c s) (λ h. first_part Q c s h.0 h.1 h.2) of_parts in
+    Decides-like (here || later) (unsplit P (Repeated Q) c s) (split P (Repeated Q) c s) (Decides-or here later (Decides-and (p []) parts (of_p.at []) repeats) of_later)
 
-repeated : {P : List ℕ → Type 0} → Decides P → Decides (Repeated P)
-repeated {P} p = record { at = λ s. repeats (length s) s P p (omega arith) }
+behind_nothing : (P : List ℕ → Type 0) (s : List ℕ) → Then (Exactly []) P s → P s
+behind_nothing P s (a, b, e, none, p) = subst P (sym (e ∙ ap (λ z. z ++ b) none)) p
 
-run : (n : ℕ) (test : ℕ → Bool) → Decides (IsRun n test)
-run n test = record { at = λ s. both (cases_eq (length s) n) (same (AllPass-from_list_all test s) (list_all-from_AllPass test s) (by_test (list_all test s))) }
+repeated : {P : List ℕ → Type 0} {p : List ℕ → Bool} → Tests P p → Tests (Repeated P) (repeated_test p)
+repeated {P} {p} of_p = record {
+  at = λ s. Decides-like (repeated_test p s) (behind_nothing (Repeated P) s) (λ h. ([], s, refl, refl, h)) (then_repeated_at (Exactly []) P (exactly_test []) p (exactly []) of_p s);
+}
 
-among : (texts : List (List ℕ)) → Decides (Contains texts)
+among : (texts : List (List ℕ)) → Tests (Contains texts) (among_test texts)
 among texts = record { at = at texts }
   where
-    parts : (t : List ℕ) (ts : List (List ℕ)) (s : List ℕ) → Contains (t ∷ ts) s → (s ≡ t) ⊎ Contains ts s
-    parts t ts s (zero, lt, e) = inl (sym e)
+    parts : (t : List ℕ) (ts : List (List ℕ)) (s : List ℕ) → Contains (t ∷ ts) s → (t ≡ s) ⊎ Contains ts s
+    parts t ts s (zero, lt, e) = inl e
     parts t ts s (suc k, lt, e) = inr (k, omega arith, e)
 
-    whole : (t : List ℕ) (ts : List (List ℕ)) (s : List ℕ) → (s ≡ t) ⊎ Contains ts s → Contains (t ∷ ts) s
-    whole t ts s (inl e) = (zero, omega arith, sym e)
+    whole : (t : List ℕ) (ts : List (List ℕ)) (s : List ℕ) → (t ≡ s) ⊎ Contains ts s → Contains (t ∷ ts) s
+    whole t ts s (inl e) = (zero, omega arith, e)
     whole t ts s (inr (k, lt, e)) = (suc k, omega arith, e)
 
-    at : (ts : List (List ℕ)) (s : List ℕ) → Decided (Contains ts s)
-    at [] s = inr (λ h. let lt = h.1 in absurd (omega arith))
-    at (t ∷ ts) s = same (whole t ts s) (parts t ts s) (any ((exactly t).at s) (at ts s))
+    at : (ts : List (List ℕ)) (s : List ℕ) → Decides (among_test ts s) (Contains ts s)
+    at [] s = (λ e. absurd (false≢true e), λ h. let lt = h.1 in absurd (omega arith))
+    at (t ∷ ts) s = Decides-like (among_test (t ∷ ts) s) (whole t ts s) (parts t ts s) (Decides-or (bytes_eq t s) (among_test ts s) (bytes_eq-Decides t s) (at ts s))
 
 -- ---- the kinds' spellings
 
-nondigit : Decides IsNondigit
-nondigit = either (one _) (either (then (exactly _) (run 4 is_hex)) (then (exactly _) (run 8 is_hex)))
+universal : Tests IsUniversal universal_test
+universal = either (followed (exactly (92 ∷ 117 ∷ [])) (run 4 is_hex)) (followed (exactly (92 ∷ 85 ∷ [])) (run 8 is_hex))
 
-ident : Decides IsIdent
-ident = then nondigit (repeated (either nondigit (one _)))
+nondigit : Tests IsNondigit nondigit_test
+nondigit = either (one is_nondigit) universal
 
-number : Decides IsNumber
-number = then (either (one _) (then (exactly _) (one _))) (repeated (either nondigit (either (one _) (then (one _) (one _)))))
+ident : Tests IsIdent ident_test
+ident = followed nondigit (repeated (either nondigit (one is_digit)))
 
-element : (quote : ℕ) → Decides (IsElement quote)
-element quote = either (one _) (then (exactly _) (one _))
+number_part : Tests IsNumberPart number_part_test
+number_part = either nondigit (either (one (λ c. is_digit c || c == 46)) (followed (one is_exponent) (one is_sign)))
 
-punct : Decides IsPunct
-punct = record { at = λ s. by_test (is_punctuator s) }
+number : Tests IsNumber number_test
+number = followed (either (one is_digit) (followed (exactly (46 ∷ [])) (one is_digit))) (repeated number_part)
 
-other : Decides IsOther
-other = record {
-  at = λ s. same (λ h. (h.0, h.1.0, h.1.1.0, h.1.1.1)) (λ h. (h.0, (h.1, (h.2, h.3)))) (both ((one (λ c. not (is_blank c || c == 10))).at s) (both (unless (ident.at s)) (both (unless (number.at s)) (unless (punct.at s)))));
-}
+element : (quote : ℕ) → Tests (IsElement quote) (element_test quote)
+element quote = either (one (λ c. not (c == quote || (c == 92 || c == 10)))) (followed (exactly (92 ∷ [])) (one (λ c. not (c == 10))))
 
-pub spells : (k : Kind) → Decides (Spells k)
-spells Ident = ident
-spells Number = number
-spells CharConst = then (among char_prefixes) (then (exactly _) (then (element 39) (then (repeated (element 39)) (exactly _))))
-spells Str = then (among str_prefixes) (then (exactly _) (then (repeated (element 34)) (exactly _)))
-spells Punct = punct
-spells Header = record { at = λ s. inr (λ e. e) }
-spells Other = other
+char_const : Tests IsCharConst char_const_test
+char_const = followed (among char_prefixes) (followed (exactly (39 ∷ [])) (followed (element 39) (followed (repeated (element 39)) (exactly (39 ∷ [])))))
 
-try_kind : (s : List ℕ) (k : Kind) → Decided (Spells k s) → ((¬ Spells k s) → Decided (IsSpelling s)) → Decided (IsSpelling s)
-try_kind s k (inl h) others = inl (k, h)
-try_kind s k (inr n) others = others n
+str : Tests IsStr str_test
+str = followed (among str_prefixes) (followed (exactly (34 ∷ [])) (followed (repeated (element 34)) (exactly (34 ∷ []))))
 
-pub spelling : (s : List ℕ) → Decided (IsSpelling s)
-spelling s =
-    try Ident (λ a. try Number (λ b. try CharConst (λ c. try Str (λ d. try Punct (λ e. try Other (λ f. inr (λ h. none a b c d e f h.0 h.1)))))))
+punct : Tests IsPunct is_punctuator
+punct = record { at = λ s. (λ e. e, λ e. e) }
+
+visible : Tests (One (λ c. not (is_blank c || c == 10))) (one_test (λ c. not (is_blank c || c == 10)))
+visible = one (λ c. not (is_blank c || c == 10))
+
+other : Tests IsOther other_test
+other = record { at = at }
   where
-    try : (k : Kind) → ((¬ Spells k s) → Decided (IsSpelling s)) → Decided (IsSpelling s)
-    try k others = try_kind s k ((spells k).at s) others
+    at : (s : List ℕ) → Decides (other_test s) (IsOther s)
+    at s =
+        let lacks = Decides-and _ _ (Decides-not _ (ident.at s)) (Decides-and _ _ (Decides-not _ (number.at s)) (Decides-not _ (punct.at s))) in
+        Decides-like (other_test s) (λ h. (h.0, h.1.0, h.1.1.0, h.1.1.1)) (λ h. (h.0, (h.1, (h.2, h.3)))) (Decides-and _ _ (visible.at s) lacks)
 
-    none : (¬ Spells Ident s) → (¬ Spells Number s) → (¬ Spells CharConst s) → (¬ Spells Str s) → (¬ Spells Punct s) → (¬ Spells Other s) → (k : Kind) → Spells k s → ⊥
-    none a b c d e f Ident h = a h
-    none a b c d e f Number h = b h
-    none a b c d e f CharConst h = c h
-    none a b c d e f Str h = d h
-    none a b c d e f Punct h = e h
-    none a b c d e f Header h = h
-    none a b c d e f Other h = f h
+-- the kind spells the text, or none does
+abbrev pub HasKind : List ℕ → Option Kind → Type 0
+HasKind s None = (k : Kind) → ¬ Spells k s
+HasKind s (Some k) = Spells k s
+
+try : (s : List ℕ) (k : Kind) {b : Bool} (others : Option Kind) → Decides b (Spells k s) → ((¬ Spells k s) → HasKind s others) → HasKind s (if b then Some k else others)
+try s k {b} others d h = by b d
+  where
+    by : (b : Bool) → Decides b (Spells k s) → HasKind s (if b then Some k else others)
+    by true d = d.0 refl
+    by false d = h (not_from_Decides false d refl)
+
+no_kind : (s : List ℕ) → (¬ Spells Ident s) → (¬ Spells Number s) → (¬ Spells CharConst s) → (¬ Spells Str s) → (¬ Spells Punct s) → (¬ Spells Other s) → (k : Kind) → ¬ Spells k s
+no_kind s a b c d e f Ident h = a h
+no_kind s a b c d e f Number h = b h
+no_kind s a b c d e f CharConst h = c h
+no_kind s a b c d e f Str h = d h
+no_kind s a b c d e f Punct h = e h
+no_kind s a b c d e f Header h = h
+no_kind s a b c d e f Other h = f h
+
+pub spelled_kind_is : (s : List ℕ) → HasKind s (spelled_kind s)
+spelled_kind_is s =
+    try s Ident _ (ident.at s) (λ a. try s Number _ (number.at s) (λ b. try s CharConst _ (char_const.at s) (λ c. try s Str _ (str.at s) (λ d. try s Punct _ (punct.at s) (λ e. try s Other _ (other.at s) (λ f. no_kind s a b c d e f))))))

@@ -1,15 +1,17 @@
 -- Each text's kind can be told, and in one way.
-use Rattle.std.proofs.Common.{◌≡◌, ℕ, List, [], ◌∷◌, length, take, Option, Some, None, refl, sym, ap, subst, inl, inr, ◌⊎◌, arith}
-use Rattle.std.specs.Prelude.{codes}
+use Rattle.std.proofs.Common.{◌≡◌, ℕ, Bool, true, false, ◌||◌, if◌then◌else◌, List, [], ◌∷◌, length, take, Option, Some, None, refl, sym, ap, subst, inl, inr, ◌⊎◌, arith}
+use Rattle.std.specs.Prelude.{codes, Decides}
+use Rattle.std.proofs.lemmas.Bool.Decides.{Decides-or, not_from_Decides}
 use Rattle.std.proofs.lemmas.List.{take_all}
 use Rattle.pptext.specs.declared.tokens.Kind.{Kind}
-use Rattle.pptext.specs.Spellings.{Spells, IsSpelling}
+use Rattle.pptext.specs.Spellings.{Spells}
+use Rattle.pptext.specs.Kinds.{lone_quote_test, comment_test, spelled_kind, kind_of}
 use Rattle.pptext.specs.Cut.{Sort, Piece, Spelled, OpensBlock, OpensLine, AwaitsHeader, PlainTokenAt}
 use Rattle.pptext.specs.Sources.{IsOneToken, IsLoneQuote}
 use Rattle.pptext.specs.Lexing.{Lexes, IsLexer, HasOneLexer}
 use Rattle.pptext.proofs.OneCut.{one_cut}
 use Rattle.pptext.proofs.OneToken.{one_token_stands, stands_one_token}
-use Rattle.pptext.proofs.Decides.{Decided, any, exactly, spelling}
+use Rattle.pptext.proofs.Decides.{HasKind, exactly, either, spelled_kind_is}
 
 no_header : AwaitsHeader [] → ⊥
 no_header (inl e) = cc
@@ -29,23 +31,24 @@ spelled_whole text k opens h =
       spelled = subst (Spells k) whole h;
     }))
 
-tell : (text : List ℕ) → Decided (IsLoneQuote text) → Decided (OpensBlock text ⊎ OpensLine text) → Decided (IsSpelling text) → (o : Option Kind) × Lexes text o
-tell text (inl lone) opens spelled = (None, λ k one. lone)
-tell text (inr n) (inl opens) spelled = (None, λ k one. absurd ((plain_token text k one).no_comment opens))
-tell text (inr n) (inr plain) (inl (k, h)) = (Some k, (spelled_whole text k plain h, n))
-tell text (inr n) (inr plain) (inr none) = (None, λ k one. absurd (none (k, subst (Spells k) (take_all (length text) text (omega arith)) (plain_token text k one).spelled)))
+tell : (text : List ℕ) (b : Bool) (o : Option Kind) → Decides b (IsLoneQuote text ⊎ (OpensBlock text ⊎ OpensLine text)) → HasKind text o → Lexes text (if b then None else o)
+tell text true o d h = λ k one. elim (d.0 refl) [ inl lone ↦ lone | inr opens ↦ absurd ((plain_token text k one).no_comment opens) ]
+tell text false None d h = λ k one. absurd (h k (subst (Spells k) (take_all (length text) text (omega arith)) (plain_token text k one).spelled))
+tell text false (Some k) d h =
+    let n = not_from_Decides false d refl in
+    (spelled_whole text k (λ opens. n (inr opens)) h, λ lone. n (inl lone))
 
-pub lexed : (text : List ℕ) → (o : Option Kind) × Lexes text o
-lexed text =
-    tell text (any ((exactly (39 ∷ [])).at text) ((exactly (34 ∷ [])).at text)) (any ((exactly (codes "/*")).at (take 2 text)) ((exactly (codes "//")).at (take 2 text))) (spelling text)
+none_stands : (text : List ℕ) → Decides (lone_quote_test text || comment_test text) (IsLoneQuote text ⊎ (OpensBlock text ⊎ OpensLine text))
+none_stands text =
+    let lone = either (exactly (39 ∷ [])) (exactly (34 ∷ [])) in
+    let opens = either (exactly (codes "/*")) (exactly (codes "//")) in
+    Decides-or (lone_quote_test text) (comment_test text) (lone.at text) (opens.at (take 2 text))
 
--- the kind of the one token that a text is, but for a lone quote
-pub lexer : List ℕ → Option Kind
-lexer text = (lexed text).0
-
-pub lexer_is : IsLexer lexer
-unfolding lexer
-lexer_is = record { each = λ text. (lexed text).1 }
+pub lexer_is : IsLexer kind_of
+unfolding kind_of
+lexer_is = record {
+  each = λ text. tell text (lone_quote_test text || comment_test text) (spelled_kind text) (none_stands text) (spelled_kind_is text);
+}
 
 -- ---- one way
 
@@ -65,4 +68,4 @@ one_kind text (Some k) None h g = absurd (h.1 (g k h.0))
 one_kind text (Some k) (Some l) h g = ap first_kind (one_cut _ _ _ h.0 g.0)
 
 pub has_one_lexer : HasOneLexer
-has_one_lexer = ((lexer, lexer_is), λ a b x y text. one_kind text (a text) (b text) (x.each text) (y.each text))
+has_one_lexer = ((kind_of, lexer_is), λ a b x y text. one_kind text (a text) (b text) (x.each text) (y.each text))
