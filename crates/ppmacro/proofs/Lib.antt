@@ -3,6 +3,7 @@ pub mod Marked
 pub mod ChainLemmas
 pub mod LexerLemmas
 pub mod KeepLemmas
+pub mod StopLemmas
 pub mod JoinLemmas
 pub mod WholeLemmas
 pub mod WalkLemmas

@@ -7,7 +7,6 @@ use Rattle.pptext.specs.declared.tokens.Kind.{Kind}
 use Rattle.pptext.specs.declared.tokens.Kind.TheVariants.{Ident, Number}
 use Rattle.pptext.specs.declared.tokens.Place.{Place}
 use Rattle.pptext.specs.declared.tokens.Fault.{Fault}
-use Rattle.pptext.specs.declared.tokens.Memory.{Memory}
 use Rattle.pptext.specs.Spellings.{is_ident_byte}
 use Rattle.pptext.specs.Lexing.{Lexes}
 use Rattle.pptext.proofs.Lexer.{one_kind}
@@ -17,8 +16,10 @@ use Rattle.ppmacro.specs.HideSets.{set_at, Hiding, hiding}
 use Rattle.ppmacro.specs.Flying.{extended}
 use Rattle.ppmacro.specs.Lexing.{kind_of}
 use Rattle.ppmacro.specs.Substitution.{pasted, pasted_as}
-use Rattle.ppmacro.specs.Substituting.{hidden_in, IsWhole, EndsWhole}
+use Rattle.ppmacro.specs.Substituting.{IsWhole, EndsWhole}
+use Rattle.ppmacro.specs.Stops.{Answers}
 use Rattle.ppmacro.specs.declared.flying.Hidden.{Hidden}
+use Rattle.ppmacro.specs.declared.stops.Stop.{Stop}
 use Rattle.ppmacro.proofs.LexerLemmas.{kind_of_is}
 
 ok-same : {x y : Hiding} → ◌≡◌ {A = Result Hiding Fault} (Ok x) (Ok y) → x ≡ y
@@ -50,12 +51,8 @@ pasted-whole : (k : Option Kind) (l r h : Hiding) (used : Place) → k ≡ kind_
 pasted-whole None l r h used is e = absurd (cc e)
 pasted-whole (Some k) l r h used is e = subst (λ t. kind_of t.token.text ≡ Some t.token.kind) (sym (ok-same e)) (sym is)
 
-made-whole : (s t : Numbered) (l r : Hidden) (used : Place) (m : Result Hidden Fault) → hidden_in t m ≡ pasted (hiding s l) (hiding s r) used → IfOk m IsWhole
-made-whole s t l r used (Ok h) e = pasted-whole _ (hiding s l) (hiding s r) (hiding t h) used refl e
-made-whole s t l r used (Err f) e = tt
-
-pub paste-whole : (s t : Numbered) (l r : Hidden) (used : Place) (m : Result (Result Hidden Fault) Memory) → IfOk m (λ x. hidden_in t x ≡ pasted (hiding s l) (hiding s r) used) → IfOk m (λ x. IfOk x IsWhole)
-paste-whole s t l r used (Ok x) e = made-whole s t l r used x e
+pub paste-whole : (s t : Numbered) (l r : Hidden) (used : Place) (m : Result Hidden Stop) → Answers m (hiding t) (pasted (hiding s l) (hiding s r) used) → IfOk m IsWhole
+paste-whole s t l r used (Ok h) e = pasted-whole _ (hiding s l) (hiding s r) (hiding t h) used refl e
 paste-whole s t l r used (Err m) e = tt
 
 -- ---- the last token of a list

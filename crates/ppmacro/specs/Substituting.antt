@@ -21,15 +21,6 @@ abbrev pub hidden_in : Numbered → Result Hidden Fault → Result Hiding Fault
 hidden_in sets (Ok h) = Ok (hiding sets h)
 hidden_in sets (Err f) = Err f
 
-abbrev pub list_in : Numbered → Result (Vec Hidden Global) Fault → Result (List Hiding) Fault
-list_in sets (Ok v) = Ok (hidings sets v.items)
-list_in sets (Err f) = Err f
-
--- a list that a call changed, unless it raised a fault
-abbrev pub left_in : {A : Type 0} → Numbered → List Hidden → Result A Fault → Result (List Hiding) Fault
-left_in sets hs (Ok u) = Ok (hidings sets hs)
-left_in sets hs (Err f) = Err f
-
 -- the token's kind is that of its spelling
 abbrev pub IsWhole : Hidden → Type 0
 IsWhole h = kind_of h.token.text ≡ Some h.token.kind
@@ -65,10 +56,6 @@ pub record ArgumentsKnown (sets : Numbered) (given : List (Vec Hidden Global)) (
 abbrev pub arguments_in : Numbered → List (Vec Hidden Global) → List Expansion → Arguments
 arguments_in sets given expanded = record { given = map (hidings sets) (lists_of given); expanded = map (λ o. option_map (hidings sets) o) (options_of given expanded) }
 
-abbrev pub lists_in : Numbered → Result (Vec (Vec Hidden Global) Global) Fault → Result (List (List Hiding)) Fault
-lists_in sets (Ok v) = Ok (map (hidings sets) (lists_of v.items))
-lists_in sets (Err f) = Err f
-
 -- these before what comes of the rest
 abbrev pub behind : {A : Type 0} → List A → Result (List A) Fault → Result (List A) Fault
 behind xs (Ok ys) = Ok (xs ++ ys)
@@ -88,10 +75,9 @@ abbrev pub pushed : List Hiding → Bool → Result (List Hiding) Fault → Resu
 pushed front mark (Ok ts) = Ok (record { tokens = front ++ (mark_first mark ts).tokens; pending = (mark_first mark ts).pending })
 pushed front mark (Err f) = Err f
 
--- the same in a list that a call changed, with the mark that it answers
-abbrev pub pushed_in : Numbered → List Hidden → Result Bool Fault → Result Marked Fault
-pushed_in sets hs (Ok pending) = Ok (record { tokens = hidings sets hs; pending = pending })
-pushed_in sets hs (Err f) = Err f
+-- tokens that a call left, and the mark that it answers
+abbrev pub left_with : Numbered → List Hidden → Bool → Marked
+left_with sets hs pending = record { tokens = hidings sets hs; pending = pending }
 
 -- a set, and what it becomes where it gains names
 pub record HasGained (sets : Numbered) (gain from to : ℕ) : Type 0 where

@@ -12,6 +12,7 @@ mod macros;
 mod marks;
 mod places;
 mod spellings;
+mod stops;
 mod substituting;
 mod tables;
 #[cfg(test)]

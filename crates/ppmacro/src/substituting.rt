@@ -4,7 +4,8 @@ ghost use Rattle.std.specs.FinSet as set;
 ghost use Rattle.ppmacro.specs.Numbered.{Numbered};
 ghost use Rattle.ppmacro.specs.HideSets.{set_at, IsKnown, hiding, hidings, AllKnown, Keeps};
 ghost use Rattle.ppmacro.specs.Substitution.{is_joined, chain_tokens, mark_first, with_mark, plain, chains_tokens, gained, substituted_by};
-ghost use Rattle.ppmacro.specs.Substituting.{ArgumentsKnown, arguments_in, list_in, marked_in, pushed, pushed_in, HasGained};
+ghost use Rattle.ppmacro.specs.Stops.{Answers};
+ghost use Rattle.ppmacro.specs.Substituting.{ArgumentsKnown, arguments_in, marked_in, pushed, left_with, HasGained};
 
 mod joining;
 mod lexing;
@@ -20,6 +21,7 @@ pub use self::stringizing::{push_escaped, stringize};
 use crate::flying::{Expansion, Hidden};
 use crate::hide_sets::{HideSets, Set};
 use crate::macros::{Chain, Operand};
+use crate::stops::{Stop, settled};
 use pptext::{Fault, Memory, Place, Token};
 use std::alloc::{AllocError, Global};
 
@@ -38,21 +40,16 @@ fn chain_tokens<'x, 'a: 'x>(
     expanded: &[Expansion<'x>],
     used: Place,
     chain: &Chain<'a>,
-) -> Result<Result<Vec<Hidden<'x>>, Fault>, Memory>
+) -> Result<Vec<Hidden<'x>>, Stop>
     requires { ArgumentsKnown sets.old given.now expanded.now }
-    ensures is { IfOk result (λ r. list_in sets.new r ≡ chain_tokens (arguments_in sets.old given.now expanded.now) used chain.now) }
-    ensures known { IfOk result (λ r. IfOk r (λ v. AllKnown sets.new v.items)) }
+    ensures is { Answers result (λ v. hidings sets.new v.items) (chain_tokens (arguments_in sets.old given.now expanded.now) used chain.now) }
+    ensures known { IfOk result (λ v. AllKnown sets.new v.items) }
     ensures keeps { Keeps sets.old sets.new }
 {
     let operands = chain.operands.as_slice();
     let beside = is_joined(operands);
-    match operands_tokens(alloc, sets, beside, given, expanded, used, operands)? {
-        Ok(lists) => {
-            let joined = join_all(alloc, sets, lists.as_slice(), used)?;
-            Ok(joined)
-        }
-        Err(fault) => Ok(Err(fault)),
-    }
+    let lists = operands_tokens(alloc, sets, beside, given, expanded, used, operands)?;
+    join_all(alloc, sets, lists.as_slice(), used)
 }
 
 // Puts a chain's tokens behind the others, the first with the pending mark. The mark that is pending then.
@@ -102,11 +99,12 @@ fn push_chain_tokens<'x, 'a: 'x>(
     mark: bool,
     chain: &Chain<'a>,
     tokens: &mut Vec<Hidden<'x>>,
-) -> Result<Result<bool, Fault>, Memory>
+) -> Result<bool, Stop>
     requires arguments { ArgumentsKnown sets.old given.now expanded.now }
     requires tokens { AllKnown sets.old tokens.old.items }
-    ensures is { IfOk result (λ r. pushed_in sets.new tokens.new.items r ≡ pushed (hidings sets.old tokens.old.items) mark (chain_tokens (arguments_in sets.old given.now expanded.now) used chain.now)) }
-    ensures known { IfOk result (λ r. IfOk r (λ p. AllKnown sets.new tokens.new.items)) }
+    ensures is { Answers result (left_with sets.new tokens.new.items)
+        (pushed (hidings sets.old tokens.old.items) mark (chain_tokens (arguments_in sets.old given.now expanded.now) used chain.now)) }
+    ensures known { OnOk result (AllKnown sets.new tokens.new.items) }
     ensures keeps { Keeps sets.old sets.new }
 {
     // Most chains are a token or a parameter alone, whose tokens need no list of their own.
@@ -114,22 +112,18 @@ fn push_chain_tokens<'x, 'a: 'x>(
         match operand {
             Operand::Tok(token) => {
                 push_token(sets, tokens, mark, token.token())?;
-                return Ok(Ok(false));
+                return Ok(false);
             }
             Operand::Param(index) => {
                 let pending = push_chain(tokens, mark, expansion(given, expanded, *index))?;
-                return Ok(Ok(pending));
+                return Ok(pending);
             }
             Operand::Str(_, _) => {}
         }
     }
-    match chain_tokens(alloc, sets, given, expanded, used, chain)? {
-        Ok(more) => {
-            let pending = push_chain(tokens, mark, more.as_slice())?;
-            Ok(Ok(pending))
-        }
-        Err(fault) => Ok(Err(fault)),
-    }
+    let more = chain_tokens(alloc, sets, given, expanded, used, chain)?;
+    let pending = push_chain(tokens, mark, more.as_slice())?;
+    Ok(pending)
 }
 
 // The mark before a chain; the first chain's own does not count.
@@ -148,10 +142,11 @@ fn chains_tokens<'x, 'a: 'x>(
     used: Place,
     space: bool,
     chains: &[Chain<'a>],
-) -> Result<Result<(Vec<Hidden<'x>>, bool), Fault>, Memory>
+) -> Result<(Vec<Hidden<'x>>, bool), Stop>
     requires { ArgumentsKnown sets.old given.now expanded.now }
-    ensures is { IfOk result (λ r. marked_in sets.new r ≡ chains_tokens (arguments_in sets.old given.now expanded.now) used space true chains.now) }
-    ensures known { IfOk result (λ r. IfOk r (λ m. AllKnown sets.new m.0.items)) }
+    ensures is { Answers result (λ m. left_with sets.new m.0.items m.1)
+        (chains_tokens (arguments_in sets.old given.now expanded.now) used space true chains.now) }
+    ensures known { IfOk result (λ m. AllKnown sets.new m.0.items) }
     ensures keeps { Keeps sets.old sets.new }
 {
     let mut tokens = Vec::with_capacity(alloc, chains.len())?;
@@ -159,13 +154,10 @@ fn chains_tokens<'x, 'a: 'x>(
     let mut first = true;
     for chain in chains {
         let mark = mark_before(pending, first, chain.mark);
-        match push_chain_tokens(alloc, sets, given, expanded, used, mark, chain, &mut tokens)? {
-            Ok(left) => pending = left,
-            Err(fault) => return Ok(Err(fault)),
-        }
+        pending = push_chain_tokens(alloc, sets, given, expanded, used, mark, chain, &mut tokens)?;
         first = false;
     }
-    Ok(Ok((tokens, pending)))
+    Ok((tokens, pending))
 }
 
 // A set, and what it becomes where it gains names.
@@ -290,7 +282,7 @@ pub fn substitute<'x, 'a: 'x>(
     ensures known { IfOk result (λ r. IfOk r (λ m. AllKnown sets.new m.0.items)) }
     ensures keeps { Keeps sets.old sets.new }
 {
-    match chains_tokens(alloc, sets, given, expanded, used, space, chains)? {
+    match settled(chains_tokens(alloc, sets, given, expanded, used, space, chains))? {
         Ok((mut tokens, pending)) => {
             gain_names(sets, &mut tokens, base, name, used)?;
             Ok(Ok((tokens, pending)))

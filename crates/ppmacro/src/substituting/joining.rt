@@ -5,12 +5,14 @@ ghost use Rattle.pptext.specs.declared.tokens.Kind.TheVariants.{Ident, Number};
 ghost use Rattle.pptext.specs.Spellings.{is_ident_byte};
 ghost use Rattle.ppmacro.specs.HideSets.{hiding, hidings, IsKnown, AllKnown, Keeps};
 ghost use Rattle.ppmacro.specs.Substitution.{pasted, join, join_all};
-ghost use Rattle.ppmacro.specs.Substituting.{lists_of, ListsKnown, hidden_in, list_in, left_in, IsWhole, EndsWhole};
+ghost use Rattle.ppmacro.specs.Stops.{Answers};
+ghost use Rattle.ppmacro.specs.Substituting.{lists_of, ListsKnown, IsWhole, EndsWhole};
 
 use crate::flying::Hidden;
 use crate::hide_sets::HideSets;
-use crate::substituting::pasting::paste;
-use pptext::{Fault, Kind, Memory, Place, carries_on};
+use crate::stops::Stop;
+use crate::substituting::pasting::pasted;
+use pptext::{Kind, Place, carries_on};
 use std::alloc::{AllocError, Global};
 
 /// Puts tokens behind others.
@@ -53,22 +55,22 @@ fn paste_onto<'a>(
     whole: bool,
     first: &Hidden,
     used: Place,
-) -> Result<Result<Hidden<'a>, Fault>, Memory>
+) -> Result<Hidden<'a>, Stop>
     requires last { IsKnown sets.old last.hide }
     requires first { IsKnown sets.old first.now.hide }
     requires whole { IsTrue whole → IsWhole last }
-    ensures is { IfOk result (λ r. hidden_in sets.new r ≡ pasted (hiding sets.old last.entry) (hiding sets.old first.now) used) }
-    ensures known { IfOk result (λ r. IfOk r (λ h. IsKnown sets.new h.hide)) }
-    ensures whole { IfOk result (λ r. IfOk r IsWhole) }
+    ensures is { Answers result (hiding sets.new) (pasted (hiding sets.old last.entry) (hiding sets.old first.now) used) }
+    ensures known { IfOk result (λ h. IsKnown sets.new h.hide) }
+    ensures whole { IfOk result IsWhole }
     ensures keeps { Keeps sets.old sets.new }
 {
     let mut last = last;
     if is_carried_on(&last, whole, first.text()) && last.extend(alloc, first.text())? {
         let hide = sets.meet(last.hide(), first.hide())?;
         last.turn(used, hide);
-        return Ok(Ok(last));
+        return Ok(last);
     }
-    paste(alloc, sets, &last, first, used)
+    pasted(alloc, sets, &last, first, used)
 }
 
 // Joins the last token of one list with the first of the other, or raises fault 19. `whole`, here and in the answer: `##` made
@@ -80,33 +82,29 @@ fn join<'a>(
     whole: bool,
     right: &[Hidden<'a>],
     used: Place,
-) -> Result<Result<bool, Fault>, Memory>
+) -> Result<bool, Stop>
     requires left { AllKnown sets.old left.old.items }
     requires whole { IsTrue whole → EndsWhole left.old.items }
     requires right { AllKnown sets.old right.now }
-    ensures is { IfOk result (λ r. left_in sets.new left.new.items r ≡ join (hidings sets.old left.old.items) (hidings sets.old right.now) used) }
-    ensures known { IfOk result (λ r. IfOk r (λ w. AllKnown sets.new left.new.items)) }
-    ensures whole { IfOk result (λ r. IfOk r (λ w. IsTrue w → EndsWhole left.new.items)) }
+    ensures is { Answers result (λ _. hidings sets.new left.new.items) (join (hidings sets.old left.old.items) (hidings sets.old right.now) used) }
+    ensures known { OnOk result (AllKnown sets.new left.new.items) }
+    ensures whole { IfOk result (λ w. IsTrue w → EndsWhole left.new.items) }
     ensures keeps { Keeps sets.old sets.new }
 {
     let first = match right.first() {
         Some(first) => first,
-        None => return Ok(Ok(whole)),
+        None => return Ok(whole),
     };
     let last = match left.pop() {
         Some(last) => last,
         None => {
             push_all(left, right)?;
-            return Ok(Ok(false));
+            return Ok(false);
         }
     };
-    match paste_onto(alloc, sets, last, whole, first, used)? {
-        Ok(hidden) => {
-            push_joined(left, hidden, &right[1..])?;
-            Ok(Ok(right.len() == 1))
-        }
-        Err(fault) => Ok(Err(fault)),
-    }
+    let hidden = paste_onto(alloc, sets, last, whole, first, used)?;
+    push_joined(left, hidden, &right[1..])?;
+    Ok(right.len() == 1)
 }
 
 /// Joins lists from the left, or raises fault 19.
@@ -115,19 +113,16 @@ pub(crate) fn join_all<'a>(
     sets: &mut HideSets,
     lists: &[Vec<Hidden<'a>>],
     used: Place,
-) -> Result<Result<Vec<Hidden<'a>>, Fault>, Memory>
+) -> Result<Vec<Hidden<'a>>, Stop>
     requires { ListsKnown sets.old lists.now }
-    ensures is { IfOk result (λ r. list_in sets.new r ≡ join_all [] (map (hidings sets.old) (lists_of lists.now)) used) }
-    ensures known { IfOk result (λ r. IfOk r (λ v. AllKnown sets.new v.items)) }
+    ensures is { Answers result (λ v. hidings sets.new v.items) (join_all [] (map (hidings sets.old) (lists_of lists.now)) used) }
+    ensures known { IfOk result (λ v. AllKnown sets.new v.items) }
     ensures keeps { Keeps sets.old sets.new }
 {
     let mut left = Vec::new(alloc);
     let mut whole = false;
     for right in lists {
-        match join(alloc, sets, &mut left, whole, right.as_slice(), used)? {
-            Ok(then) => whole = then,
-            Err(fault) => return Ok(Err(fault)),
-        }
+        whole = join(alloc, sets, &mut left, whole, right.as_slice(), used)?;
     }
-    Ok(Ok(left))
+    Ok(left)
 }

@@ -1,14 +1,16 @@
 // What an operand stands for (6.10.3.1, 6.10.3.2).
-ghost use Rattle.std.specs.Prelude.{◌≡◌, ◌++◌, IfOk, OnOk, [], ◌∷◌, Ok, unwrap_or};
+ghost use Rattle.std.specs.Prelude.{◌≡◌, ◌++◌, IfOk, OnOk, [], ◌∷◌, map, Ok, unwrap_or};
 ghost use Rattle.ppmacro.specs.HideSets.{hidings, AllKnown};
 ghost use Rattle.ppmacro.specs.Substitution.{argument_at, expanded_at, plain, after_ok, stringized, operand_tokens, operands_tokens};
-ghost use Rattle.ppmacro.specs.Substituting.{lists_of, option_of, options_of, ArgumentsKnown, arguments_in, tokens_of, list_in, lists_in, ListsKnown};
+ghost use Rattle.ppmacro.specs.Stops.{Answers};
+ghost use Rattle.ppmacro.specs.Substituting.{lists_of, option_of, options_of, ArgumentsKnown, arguments_in, tokens_of, ListsKnown};
 
 use crate::flying::{Expansion, Hidden};
 use crate::hide_sets::HideSets;
 use crate::macros::Operand;
-use crate::substituting::stringizing::stringize;
-use pptext::{Fault, Memory, Place, Token};
+use crate::stops::Stop;
+use crate::substituting::stringizing::stringized;
+use pptext::{Place, Token};
 use std::alloc::{AllocError, Global};
 
 // The tokens of an argument.
@@ -79,14 +81,12 @@ fn literal<'a>(
     argument: &[Hidden],
     at: Place,
     used: Place,
-) -> Result<Result<Vec<Hidden<'a>>, Fault>, Memory>
-    ensures is { IfOk result (λ r. list_in sets.now r ≡ after_ok (stringized (tokens_of argument.now) at used) (λ t. Ok (t ∷ []))) }
-    ensures known { IfOk result (λ r. IfOk r (λ v. AllKnown sets.now v.items)) }
+) -> Result<Vec<Hidden<'a>>, Stop>
+    ensures is { Answers result (λ v. hidings sets.now v.items) (after_ok (stringized (tokens_of argument.now) at used) (λ t. Ok (t ∷ []))) }
+    ensures known { IfOk result (λ v. AllKnown sets.now v.items) }
 {
-    match stringize(alloc, sets, argument, at, used)? {
-        Ok(hidden) => Ok(Ok(lone(alloc, hidden)?)),
-        Err(fault) => Ok(Err(fault)),
-    }
+    let hidden = stringized(alloc, sets, argument, at, used)?;
+    Ok(lone(alloc, hidden)?)
 }
 
 /// The tokens of an operand, or fault 20. `beside`: it stands beside `##`, where an argument stays unexpanded.
@@ -98,22 +98,20 @@ pub(crate) fn operand_tokens<'x, 'a: 'x>(
     expanded: &[Expansion<'x>],
     used: Place,
     operand: &Operand<'a>,
-) -> Result<Result<Vec<Hidden<'x>>, Fault>, Memory>
+) -> Result<Vec<Hidden<'x>>, Stop>
     requires { ArgumentsKnown sets.now given.now expanded.now }
-    ensures is { IfOk result (λ r. list_in sets.now r ≡ operand_tokens beside (arguments_in sets.now given.now expanded.now) used operand.now) }
-    ensures known { IfOk result (λ r. IfOk r (λ v. AllKnown sets.now v.items)) }
+    ensures is { Answers result (λ v. hidings sets.now v.items)
+        (operand_tokens beside (arguments_in sets.now given.now expanded.now) used operand.now) }
+    ensures known { IfOk result (λ v. AllKnown sets.now v.items) }
 {
     match operand {
-        Operand::Tok(token) => Ok(Ok(plain(alloc, sets, token.token())?)),
-        Operand::Str(index, at) => {
-            let literal = literal(alloc, sets, argument(given, *index), *at, used)?;
-            Ok(literal)
-        }
+        Operand::Tok(token) => Ok(plain(alloc, sets, token.token())?),
+        Operand::Str(index, at) => literal(alloc, sets, argument(given, *index), *at, used),
         Operand::Param(index) => {
             if beside {
-                return Ok(Ok(Vec::from_clones(alloc, argument(given, *index))?));
+                return Ok(Vec::from_clones(alloc, argument(given, *index))?);
             }
-            Ok(Ok(Vec::from_clones(alloc, expansion(given, expanded, *index))?))
+            Ok(Vec::from_clones(alloc, expansion(given, expanded, *index))?)
         }
     }
 }
@@ -138,17 +136,16 @@ pub(crate) fn operands_tokens<'x, 'a: 'x>(
     expanded: &[Expansion<'x>],
     used: Place,
     operands: &[Operand<'a>],
-) -> Result<Result<Vec<Vec<Hidden<'x>>>, Fault>, Memory>
+) -> Result<Vec<Vec<Hidden<'x>>>, Stop>
     requires { ArgumentsKnown sets.now given.now expanded.now }
-    ensures is { IfOk result (λ r. lists_in sets.now r ≡ operands_tokens beside (arguments_in sets.now given.now expanded.now) used operands.now) }
-    ensures known { IfOk result (λ r. IfOk r (λ v. ListsKnown sets.now v.items)) }
+    ensures is { Answers result (λ v. map (hidings sets.now) (lists_of v.items))
+        (operands_tokens beside (arguments_in sets.now given.now expanded.now) used operands.now) }
+    ensures known { IfOk result (λ v. ListsKnown sets.now v.items) }
 {
     let mut lists = Vec::new(alloc);
     for operand in operands {
-        match operand_tokens(alloc, sets, beside, given, expanded, used, operand)? {
-            Ok(tokens) => push_list(&mut lists, tokens)?,
-            Err(fault) => return Ok(Err(fault)),
-        }
+        let tokens = operand_tokens(alloc, sets, beside, given, expanded, used, operand)?;
+        push_list(&mut lists, tokens)?;
     }
-    Ok(Ok(lists))
+    Ok(lists)
 }

@@ -3,10 +3,12 @@ ghost use Rattle.std.specs.Prelude.{◌≡◌, ◌++◌, IfOk};
 ghost use Rattle.ppmacro.specs.HideSets.{hiding, IsKnown, Keeps};
 ghost use Rattle.ppmacro.specs.Substitution.{pasted};
 ghost use Rattle.ppmacro.specs.Substituting.{hidden_in};
+ghost use Rattle.ppmacro.specs.Stops.{Answers};
 
 use crate::flying::Hidden;
 use crate::hide_sets::HideSets;
 use crate::spellings::fault;
+use crate::stops::{Stop, settled};
 use crate::substituting::lexing::kind_of;
 use pptext::{Fault, Memory, Place, Spelling, Token};
 use std::alloc::{AllocError, Global};
@@ -18,6 +20,35 @@ fn both(alloc: Global, left: &Hidden, right: &Hidden) -> Result<Vec<u8>, AllocEr
     let mut text = Vec::from_slice(alloc, left.text())?;
     text.extend_from_slice(right.text())?;
     Ok(text)
+}
+
+// Two tokens as one, or fault 19.
+pub(crate) fn pasted<'a>(
+    alloc: Global,
+    sets: &mut HideSets,
+    left: &Hidden,
+    right: &Hidden,
+    used: Place,
+) -> Result<Hidden<'a>, Stop>
+    requires left { IsKnown sets.old left.now.hide }
+    requires right { IsKnown sets.old right.now.hide }
+    ensures is { Answers result (hiding sets.new) (pasted (hiding sets.old left.now) (hiding sets.old right.now) used) }
+    ensures known { IfOk result (λ h. IsKnown sets.new h.hide) }
+    ensures keeps { Keeps sets.old sets.new }
+{
+    let text = both(alloc, left, right)?;
+    let Some(kind) = kind_of(text.as_slice()) else {
+        return Err(Stop::Fault(fault(alloc, 19, used, text.as_slice())?));
+    };
+    let hide = sets.meet(left.hide(), right.hide())?;
+    let token = Token {
+        kind,
+        text: Spelling::new(text)?,
+        space: left.space(),
+        at: left.at(),
+        used,
+    };
+    Ok(Hidden::made(alloc, token, hide)?)
 }
 
 /// Two tokens as one (6.10.3.3), with the left one's place and space mark, and with the names that both are not replaced by.
@@ -36,17 +67,5 @@ pub fn paste<'a>(
     ensures known { IfOk result (λ r. IfOk r (λ h. IsKnown sets.new h.hide)) }
     ensures keeps { Keeps sets.old sets.new }
 {
-    let text = both(alloc, left, right)?;
-    let Some(kind) = kind_of(text.as_slice()) else {
-        return Ok(Err(fault(alloc, 19, used, text.as_slice())?));
-    };
-    let hide = sets.meet(left.hide(), right.hide())?;
-    let token = Token {
-        kind,
-        text: Spelling::new(text)?,
-        space: left.space(),
-        at: left.at(),
-        used,
-    };
-    Ok(Ok(Hidden::made(alloc, token, hide)?))
+    settled(pasted(alloc, sets, left, right, used))
 }

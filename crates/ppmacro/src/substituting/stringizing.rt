@@ -1,12 +1,14 @@
 // `#` (6.10.3.2).
 ghost use Rattle.std.specs.Prelude.{◌≡◌, ℕ, [], ◌∷◌, ◌++◌, take, IfOk, OnOk, OnErr};
-ghost use Rattle.ppmacro.specs.HideSets.{IsKnown};
+ghost use Rattle.ppmacro.specs.HideSets.{IsKnown, hiding};
+ghost use Rattle.ppmacro.specs.Stops.{Answers};
 ghost use Rattle.ppmacro.specs.Substitution.{escaped, spelled_space, spelled_in_string, string_text, stringized};
 ghost use Rattle.ppmacro.specs.Substituting.{tokens_of, hidden_in};
 
 use crate::flying::Hidden;
 use crate::hide_sets::HideSets;
 use crate::spellings::fault;
+use crate::stops::{Stop, settled};
 use crate::substituting::lexing::kind_of;
 use pptext::{Fault, Kind, Memory, Place, Spelling, Token};
 use std::alloc::{AllocError, Global};
@@ -70,6 +72,32 @@ fn string_text(alloc: Global, argument: &[Hidden]) -> Result<Vec<u8>, AllocError
     Ok(text)
 }
 
+// The string literal of an argument, or fault 20.
+pub(crate) fn stringized<'a>(
+    alloc: Global,
+    sets: &HideSets,
+    argument: &[Hidden],
+    at: Place,
+    used: Place,
+) -> Result<Hidden<'a>, Stop>
+    ensures is { Answers result (hiding sets.now) (stringized (tokens_of argument.now) at used) }
+    ensures known { IfOk result (λ h. IsKnown sets.now h.hide) }
+{
+    let text = string_text(alloc, argument)?;
+    let kind = kind_of(text.as_slice());
+    if !matches!(kind, Some(Kind::Str)) {
+        return Err(Stop::Fault(fault(alloc, 20, used, text.as_slice())?));
+    }
+    let token = Token {
+        kind: Kind::Str,
+        text: Spelling::new(text)?,
+        space: false,
+        at,
+        used,
+    };
+    Ok(Hidden::made(alloc, token, sets.empty())?)
+}
+
 /// The string literal of an argument (6.10.3.2), without space mark and with the empty set. `at` is the place of `#`, `used`
 /// that of the macro's name. Fault 20, at that place with the text, where the text is no string literal.
 pub fn stringize<'a>(
@@ -82,17 +110,5 @@ pub fn stringize<'a>(
     ensures is { IfOk result (λ r. hidden_in sets.now r ≡ stringized (tokens_of argument.now) at used) }
     ensures known { IfOk result (λ r. IfOk r (λ h. IsKnown sets.now h.hide)) }
 {
-    let text = string_text(alloc, argument)?;
-    let kind = kind_of(text.as_slice());
-    if !matches!(kind, Some(Kind::Str)) {
-        return Ok(Err(fault(alloc, 20, used, text.as_slice())?));
-    }
-    let token = Token {
-        kind: Kind::Str,
-        text: Spelling::new(text)?,
-        space: false,
-        at,
-        used,
-    };
-    Ok(Ok(Hidden::made(alloc, token, sets.empty())?))
+    settled(stringized(alloc, sets, argument, at, used))
 }

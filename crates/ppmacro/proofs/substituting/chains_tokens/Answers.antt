@@ -1,17 +1,16 @@
 use Rattle.std.proofs.Common.{◌≡◌, ◌∙◌, ◌+◌, refl, sym, ap, ◌∷◌, drop, not, ◌||◌, ◌&&◌, Ok, Err}
-use Rattle.std.proofs.lemmas.Result.{IfOk-at_ok}
-use Rattle.ppmacro.specs.HideSets.{hidings, AllKnown}
+use Rattle.ppmacro.specs.HideSets.{hidings}
 use Rattle.ppmacro.specs.Substitution.{chain_tokens, chains_tokens}
-use Rattle.ppmacro.specs.Substituting.{marked_behind, pushed, pushed_in, arguments_in}
+use Rattle.ppmacro.specs.Substituting.{marked_behind, pushed, arguments_in}
+use Rattle.ppmacro.proofs.StopLemmas.{stops}
 use Rattle.ppmacro.proofs.KeepLemmas.{keeps-after}
 use Rattle.ppmacro.proofs.WalkLemmas.{drop-item, arguments-keeps, arguments-known, chains-pushed, chains-refused-pushed}
 use Rattle.ppmacro.proofs.substituting.chains_tokens.Goals as goal
 
-pub returns-in-Err-clause-is : goal.returns-in-Err-clause-is
-returns-in-Err-clause-is c =
+pub returns-in_err-pending-clause-is : goal.returns-in_err-pending-clause-is
+returns-in_err-pending-clause-is c =
     let s = c.args.sets.now in
     let t = c.loop-chain.sets in
-    let u = c.push_chain_tokens.new.sets in
     let i = c.loop-chain.chain-index in
     let cs = c.args.chains.now in
     let chain = c.chain-item.result in
@@ -20,11 +19,11 @@ returns-in-Err-clause-is c =
     let mark = c.loop-chain.pending || (not c.loop-chain.first && chain.mark) in
     let next : drop i cs ≡ chain ∷ drop (i + 1) cs = drop-item cs i chain c.loop-chain-test.true c.chain-item.is in
     let kept = arguments-keeps c.args.given.now c.args.expanded.now c.loop-chain.invariant.keeps c.requires in
-    let refused : Err c.in-Err.fault ≡ pushed front mark (chain_tokens args c.args.used chain) =
-    ap (pushed_in u c.push_chain_tokens.new.tokens.items) (sym c.in-Err.is) ∙ c.in_ok-left.ensures.is ∙ (λ j. pushed front (c.mark_before-mark.ensures j) (chain_tokens (kept j) c.args.used chain)) in
-    chains-refused-pushed args c.args.used c.loop-chain.pending c.loop-chain.first chain (drop (i + 1) cs) front c.in-Err.fault (chain_tokens args c.args.used chain) refl refused
+    stops _ _ _ _ _ _ c.from_residual-in_err-pending.ensures.1 c.in_err-pending.ensures.is (λ fault e.
+    let refused : Err fault ≡ pushed front mark (chain_tokens args c.args.used chain) = e ∙ (λ j. pushed front (c.mark_before-mark.ensures j) (chain_tokens (kept j) c.args.used chain)) in
+    chains-refused-pushed args c.args.used c.loop-chain.pending c.loop-chain.first chain (drop (i + 1) cs) front fault (chain_tokens args c.args.used chain) refl refused
     ∙ ap (λ ds. marked_behind front (chains_tokens args c.args.used c.loop-chain.pending c.loop-chain.first ds)) (sym next)
-    ∙ c.loop-chain.invariant.same
+    ∙ c.loop-chain.invariant.same)
 
 pub loop-chain-preserved : goal.loop-chain-preserved
 loop-chain-preserved c =
@@ -40,15 +39,15 @@ loop-chain-preserved c =
     let mark = c.loop-chain.pending || (not c.loop-chain.first && chain.mark) in
     let next : drop i cs ≡ chain ∷ drop (i + 1) cs = drop-item cs i chain c.loop-chain-test.true c.chain-item.is in
     let kept = arguments-keeps c.args.given.now c.args.expanded.now c.loop-chain.invariant.keeps c.requires in
-    let made : Ok (record { tokens = hidings u new; pending = c.in-Ok.left }) ≡ pushed front mark (chain_tokens args c.args.used chain) =
-    ap (pushed_in u new) (sym c.in-Ok.is) ∙ c.in_ok-left.ensures.is ∙ (λ j. pushed front (c.mark_before-mark.ensures j) (chain_tokens (kept j) c.args.used chain)) in
+    let made : Ok (record { tokens = hidings u new; pending = c.in_ok-pending.pending }) ≡ pushed front mark (chain_tokens args c.args.used chain) =
+    c.in_ok-pending.ensures.is ∙ (λ j. pushed front (c.mark_before-mark.ensures j) (chain_tokens (kept j) c.args.used chain)) in
     record {
       same =
-          chains-pushed args c.args.used c.loop-chain.pending c.loop-chain.first chain (drop (i + 1) cs) front (hidings u new) c.in-Ok.left (chain_tokens args c.args.used chain) refl made
+          chains-pushed args c.args.used c.loop-chain.pending c.loop-chain.first chain (drop (i + 1) cs) front (hidings u new) c.in_ok-pending.pending (chain_tokens args c.args.used chain) refl made
           ∙ ap (λ ds. marked_behind front (chains_tokens args c.args.used c.loop-chain.pending c.loop-chain.first ds)) (sym next)
           ∙ c.loop-chain.invariant.same;
-      tokens_known = IfOk-at_ok (λ p. AllKnown u new) c.in-Ok.is c.in_ok-left.ensures.known;
-      keeps = keeps-after c.loop-chain.invariant.keeps c.in_ok-left.ensures.keeps;
+      tokens_known = c.in_ok-pending.ensures.known;
+      keeps = keeps-after c.loop-chain.invariant.keeps c.in_ok-pending.ensures.keeps;
     }
 
 pub push_chain_tokens-requires-clause-arguments : goal.push_chain_tokens-requires-clause-arguments

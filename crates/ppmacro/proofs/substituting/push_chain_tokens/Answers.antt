@@ -1,8 +1,7 @@
 use Rattle.std.proofs.Common.{◌≡◌, ◌∙◌, sym, ap, subst, ◌++◌, Ok}
-use Rattle.std.proofs.lemmas.Result.{IfOk-at_ok}
 use Rattle.ppmacro.specs.HideSets.{hidings, AllKnown}
 use Rattle.ppmacro.specs.Substitution.{chain_tokens, mark_first}
-use Rattle.ppmacro.specs.Substituting.{list_in, arguments_in, pushed}
+use Rattle.ppmacro.specs.Substituting.{arguments_in, pushed}
 use Rattle.ppmacro.proofs.KeepLemmas.{hidings-keeps, known-keeps}
 use Rattle.ppmacro.proofs.substituting.push_chain_tokens.Goals as goal
 
@@ -11,23 +10,22 @@ returns-in-Param-clause-known c =
     let s = c.args.sets.now in
     c.in_ok-pending-in-Param.ensures.known s c.requires.tokens (subst (AllKnown s) (sym c.expansion.ensures) (c.requires.arguments.expanded_known _))
 
-pub returns-in_ok-pending-in-Ok-clause-is : goal.returns-in_ok-pending-in-Ok-clause-is
-returns-in_ok-pending-in-Ok-clause-is c =
+pub returns-clause-is : goal.returns-clause-is
+returns-clause-is c =
     let s = c.args.sets.now in
     let u = c.chain_tokens.new.sets in
     let front = c.args.tokens.now.items in
-    let more = c.in-Ok.more.items in
+    let more = c.in_ok-more.more.items in
     let mark = c.args.mark in
     let args = arguments_in s c.args.given.now c.args.expanded.now in
-    let made : Ok (hidings u more) ≡ chain_tokens args c.args.used c.args.chain.now = ap (list_in u) (sym c.in-Ok.is) ∙ c.in_ok-more.ensures.is in
-    let tokens : hidings u c.push_chain-in-Ok.new.tokens.items ≡ hidings s front ++ (mark_first mark (hidings u more)).tokens =
-    c.in_ok-pending-in-Ok.ensures.tokens u ∙ (λ i. hidings-keeps front c.in_ok-more.ensures.keeps c.requires.tokens i ++ (mark_first mark (hidings u (c.as_slice-in-Ok.ensures.value i))).tokens) in
-    let pending : c.in_ok-pending-in-Ok.pending ≡ (mark_first mark (hidings u more)).pending =
-    c.in_ok-pending-in-Ok.ensures.pending u ∙ ap (λ hs. (mark_first mark (hidings u hs)).pending) c.as_slice-in-Ok.ensures.value in
+    let made : Ok (hidings u more) ≡ chain_tokens args c.args.used c.args.chain.now = c.in_ok-more.ensures.is in
+    let tokens : hidings u c.push_chain-2.new.tokens.items ≡ hidings s front ++ (mark_first mark (hidings u more)).tokens =
+    c.in_ok-pending.ensures.tokens u ∙ (λ i. hidings-keeps front c.in_ok-more.ensures.keeps c.requires.tokens i ++ (mark_first mark (hidings u (c.as_slice-2.ensures.value i))).tokens) in
+    let pending : c.in_ok-pending.pending ≡ (mark_first mark (hidings u more)).pending =
+    c.in_ok-pending.ensures.pending u ∙ ap (λ hs. (mark_first mark (hidings u hs)).pending) c.as_slice-2.ensures.value in
     (λ i. Ok (record { tokens = tokens i; pending = pending i })) ∙ ap (pushed (hidings s front) mark) made
 
-pub returns-in_ok-pending-in-Ok-clause-known : goal.returns-in_ok-pending-in-Ok-clause-known
-returns-in_ok-pending-in-Ok-clause-known c =
+pub returns-clause-known : goal.returns-clause-known
+returns-clause-known c =
     let u = c.chain_tokens.new.sets in
-    let more : AllKnown u c.in-Ok.more.items = IfOk-at_ok (λ v. AllKnown u v.items) c.in-Ok.is c.in_ok-more.ensures.known in
-    c.in_ok-pending-in-Ok.ensures.known u (known-keeps c.args.tokens.now.items c.in_ok-more.ensures.keeps c.requires.tokens) (subst (AllKnown u) (sym c.as_slice-in-Ok.ensures.value) more)
+    c.in_ok-pending.ensures.known u (known-keeps c.args.tokens.now.items c.in_ok-more.ensures.keeps c.requires.tokens) (subst (AllKnown u) (sym c.as_slice-2.ensures.value) c.in_ok-more.ensures.known)

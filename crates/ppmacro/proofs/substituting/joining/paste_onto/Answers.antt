@@ -31,4 +31,4 @@ returns-then-branch-clause-whole c =
     carried-whole c.args.last c.args.first.now c.extend.new.self c.turn.new.self c.in_ok-hide.hide c.args.used (c.requires.whole (c.if-is_carried_on.ensures.whole refl)) (c.if-is_carried_on.ensures.kind refl) (more c) (grown c) c.turn.ensures
 
 pub returns-clause-whole : goal.returns-clause-whole
-returns-clause-whole c = paste-whole c.args.sets.now c.paste.new.sets _ c.args.first.now c.args.used c.paste.result c.paste.ensures.is
+returns-clause-whole c = paste-whole c.args.sets.now c.pasted.new.sets _ c.args.first.now c.args.used c.pasted.result c.pasted.ensures.is

@@ -1,6 +1,7 @@
-use Rattle.std.proofs.Common.{◌≡◌, ◌∙◌, ap, [], ◌∷◌, Ok, rules, map}
+use Rattle.std.proofs.Common.{◌≡◌, ◌∙◌, ap, subst, [], ◌∷◌, Ok, rules, map}
 use Rattle.ppmacro.specs.HideSets.{hidings}
 use Rattle.ppmacro.specs.Substitution.{after_ok, stringized}
+use Rattle.ppmacro.specs.Stops.{Answers}
 use Rattle.ppmacro.specs.Substituting.{tokens_of, options_of}
 use Rattle.ppmacro.proofs.JoinLemmas.{tokens-in, argument-in, expansion-in}
 use Rattle.ppmacro.proofs.substituting.operands.operand_tokens.Goals as goal
@@ -10,8 +11,8 @@ returns-in_ok-from_clones-in-Param-2-clause-is c =
     let same : c.in_ok-from_clones-in-Param-2.field-0.items ≡ c.expansion.result.now = c.in_ok-from_clones-in-Param-2.ensures.items_if_clones_equal (λ x y h. search rules) in
     rw (c.in-Param.is, c.if-beside.false) (ap (λ hs. Ok (hidings c.args.sets.now hs)) (same ∙ c.expansion.ensures) ∙ ap Ok (expansion-in c.args.sets.now (options_of c.args.given.now c.args.expanded.now) c.in-Param.index))
 
-pub returns-in_ok-literal-in-Str-clause-is : goal.returns-in_ok-literal-in-Str-clause-is
-returns-in_ok-literal-in-Str-clause-is c =
+pub returns-in-Str-clause-is : goal.returns-in-Str-clause-is
+returns-in-Str-clause-is c =
     let s = c.args.sets.now in
     let tokens = ap tokens_of c.argument.ensures ∙ tokens-in s _ ∙ ap (λ hs. map (λ t. t.token) hs) (argument-in s c.args.given.now c.in-Str.index) in
-    rw c.in-Str.is (c.in_ok-literal-in-Str.ensures.is ∙ ap (λ ts. after_ok (stringized ts c.in-Str.at c.args.used) (λ t. Ok (t ∷ []))) tokens)
+    rw c.in-Str.is (subst (λ ts. Answers c.literal.result (λ v. hidings s v.items) (after_ok (stringized ts c.in-Str.at c.args.used) (λ t. Ok (t ∷ [])))) tokens c.literal.ensures.is)

@@ -1,0 +1,18 @@
+-- What a step answers, or why it gives no value.
+use Rattle.std.specs.Prelude.{◌≡◌, Result, Ok, Err}
+use Rattle.pptext.specs.declared.tokens.Fault.{Fault}
+use Rattle.pptext.specs.declared.tokens.Memory.{Memory}
+use Rattle.ppmacro.specs.declared.stops.Stop.{Stop}
+use Rattle.ppmacro.specs.declared.stops.Stop.TheVariants.{Fault as Faulted, Memory as OutOfMemory}
+
+-- an answer means this value, and a fault is its fault; want of memory says nothing
+abbrev pub Answers : {A B : Type 0} → Result A Stop → (A → B) → Result B Fault → Type 0
+Answers (Ok a) meaning value = Ok (meaning a) ≡ value
+Answers (Err (Faulted f)) meaning value = Err f ≡ value
+Answers (Err OutOfMemory) meaning value = Unit {0}
+
+-- the same with want of memory above
+abbrev pub settled : {A : Type 0} → Result A Stop → Result (Result A Fault) Memory
+settled (Ok a) = Ok (Ok a)
+settled (Err (Faulted f)) = Ok (Err f)
+settled (Err OutOfMemory) = Err (record {})
