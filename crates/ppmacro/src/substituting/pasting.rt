@@ -56,10 +56,10 @@ pub(crate) fn pasted<'a>(
 /// quote. Whatever the answer is, sets that were there keep their names.
 pub fn paste<'a>(
     alloc: Global,
-    sets: &mut HideSets,
     left: &Hidden,
     right: &Hidden,
     used: Place,
+    sets: &mut HideSets,
 ) -> Result<Result<Hidden<'a>, Fault>, Memory>
     requires left { IsKnown sets.old left.now.hide }
     requires right { IsKnown sets.old right.now.hide }

@@ -102,10 +102,10 @@ pub(crate) fn stringized<'a>(
 /// that of the macro's name. Fault 20, at that place with the text, where the text is no string literal.
 pub fn stringize<'a>(
     alloc: Global,
-    sets: &HideSets,
     argument: &[Hidden],
     at: Place,
     used: Place,
+    sets: &HideSets,
 ) -> Result<Result<Hidden<'a>, Fault>, Memory>
     ensures is { IfOk result (λ r. hidden_in sets.now r ≡ stringized (tokens_of argument.now) at used) }
     ensures known { IfOk result (λ r. IfOk r (λ h. IsKnown sets.now h.hide)) }

@@ -467,7 +467,7 @@ fn assert_stringized<R: Abort>(
     tokens: &[Token],
 ) -> Result<(), Fail> {
     let argument = hiding_a(rt, alloc, sets, tokens)?;
-    let Ok(literal) = stringize(alloc, sets, argument.as_slice(), HASH, USED)? else {
+    let Ok(literal) = stringize(alloc, argument.as_slice(), HASH, USED, sets)? else {
         return Err(Fail::new("no literal"));
     };
     assert_literal(rt, sets, &literal);
@@ -511,10 +511,10 @@ fn pasted<'a, R: Abort>(
     assert!(rt; sets.knows(a) && sets.knows(ab));
     paste(
         alloc,
-        sets,
         &Hidden::new(left, ab),
         &Hidden::new(right, a),
         USED,
+        sets,
     )
 }
 
