@@ -42,7 +42,8 @@ module _ (macros : Macros) (env : Env) (level : ℕ) (head : Token) (left after 
   at_level : (p : Option Fault) → o ≡ p → (one : ExpandsTo macros env (level + 1) left list (record { tokens = tokens; fault = o; left = after }))
       → Expands macros env (suc level) left one.0 list (record { tokens = tokens; fault = p; left = after })
   at_level p e one =
-      subst (λ n. Expands macros env n left one.0 list (record { tokens = tokens; fault = p; left = after })) (add-one level) (subst (λ q. Expands macros env (level + 1) left one.0 list (record { tokens = tokens; fault = q; left = after })) e one.1)
+      let one_is = subst (λ q. Expands macros env (level + 1) left one.0 list (record { tokens = tokens; fault = q; left = after })) e one.1 in
+      subst (λ n. Expands macros env n left one.0 list (record { tokens = tokens; fault = p; left = after })) (add-one level) one_is
 
   pub argument_expands : level < 256 → o ≡ None → ExpandsTo macros env (level + 1) left list (record { tokens = tokens; fault = o; left = after }) → ExpandsArgument macros env level head left list after (Ok tokens)
   argument_expands low e one = expands low (at_level None e one)
@@ -75,11 +76,22 @@ known-item s (x ∷ vs) zero v h e known = rw e known.each.0
 known-item s (x ∷ vs) (suc i) v h e known = known-item s vs i v (omega arith) e (record { each = known.each.1 })
 
 -- what is left to expand, where this argument is next
-pub rest-unused : (s : Numbered) (vs : List (Vec Hidden Global)) (cs : List Chain) (i : ℕ) (v : Vec Hidden Global) → i < length vs → v ≡ get_or vs i v → uses_alone i cs ≡ false → to_expand i cs (drop i (given_in s vs)) ≡ None ∷ to_expand (i + 1) cs (drop (i + 1) (given_in s vs))
+pub rest-unused : (s : Numbered) (vs : List (Vec Hidden Global)) (cs : List Chain) (i : ℕ) (v : Vec Hidden Global)
+    → i < length vs
+    → v ≡ get_or vs i v
+    → uses_alone i cs ≡ false
+    → to_expand i cs (drop i (given_in s vs)) ≡ None ∷ to_expand (i + 1) cs (drop (i + 1) (given_in s vs))
 rest-unused s vs cs i v h e u = ap (to_expand i cs) (given-item s vs i v h e) ∙ to_expand-unused i cs (hidings s v.items) (drop (i + 1) (given_in s vs)) u ∙ ap (λ n. None ∷ to_expand n cs (drop (i + 1) (given_in s vs))) (sym (add-one i))
 
-pub rest-used : (s : Numbered) (vs : List (Vec Hidden Global)) (cs : List Chain) (i : ℕ) (v : Vec Hidden Global) → i < length vs → v ≡ get_or vs i v → uses_alone i cs ≡ true → to_expand i cs (drop i (given_in s vs)) ≡ Some (hidings s v.items) ∷ to_expand (i + 1) cs (drop (i + 1) (given_in s vs))
-rest-used s vs cs i v h e u = ap (to_expand i cs) (given-item s vs i v h e) ∙ to_expand-used i cs (hidings s v.items) (drop (i + 1) (given_in s vs)) u ∙ ap (λ n. Some (hidings s v.items) ∷ to_expand n cs (drop (i + 1) (given_in s vs))) (sym (add-one i))
+pub rest-used : (s : Numbered) (vs : List (Vec Hidden Global)) (cs : List Chain) (i : ℕ) (v : Vec Hidden Global)
+    → i < length vs
+    → v ≡ get_or vs i v
+    → uses_alone i cs ≡ true
+    → to_expand i cs (drop i (given_in s vs)) ≡ Some (hidings s v.items) ∷ to_expand (i + 1) cs (drop (i + 1) (given_in s vs))
+rest-used s vs cs i v h e u =
+    ap (to_expand i cs) (given-item s vs i v h e)
+    ∙ to_expand-used i cs (hidings s v.items) (drop (i + 1) (given_in s vs)) u
+    ∙ ap (λ n. Some (hidings s v.items) ∷ to_expand n cs (drop (i + 1) (given_in s vs))) (sym (add-one i))
 
 pub rest-end : (s : Numbered) (vs : List (Vec Hidden Global)) (cs : List Chain) (i : ℕ) → length vs ≤ i → to_expand i cs (drop i (given_in s vs)) ≡ []
 rest-end s vs cs i h = ap (to_expand i cs) (given-end s vs i h)

@@ -8,7 +8,8 @@ use Rattle.ppmacro.specs.Names.{Macros}
 use Rattle.ppmacro.specs.HideSets.{Hiding}
 use Rattle.ppexpand.specs.declared.env.Env.{Env}
 use Rattle.ppexpand.specs.Turn.{Call, Turn, Done, Refused, Passes, Failed, Replaced, Called, turn, within, over, less_one, wanted, fault_at_use}
-use Rattle.ppexpand.specs.Expansion.{Outcome, ExpandedArguments, turn_within, Expands, done, refused, passes, failed, replaced, argument_refused, call_failed, call_replaced, ExpandsArguments, none, unused, too_deep, used, used_refused, count, count_arguments, IsExpansion, count_expansion}
+use Rattle.ppexpand.specs.Expansion.{Outcome, ExpandedArguments, turn_within, Expands, done, refused, passes, failed, replaced, argument_refused, call_failed, call_replaced, ExpandsArguments, none, unused, too_deep, used, used_refused}
+use Rattle.ppexpand.specs.Expansion.{count, count_arguments, IsExpansion, count_expansion}
 use Rattle.ppexpand.specs.Laws.{plus, IsBeginning, IsOver, IsCapped}
 use Rattle.ppexpand.proofs.Unique.{same_outcome}
 use native.Mathlib.Decide.{dec_lt}
@@ -103,7 +104,8 @@ module _ (macros : Macros) (env : Env) where
         paid_then left list (Called call) tt e (count_arguments macros env a + count macros env more) out.left
         (spends_arguments a ∙ ap (plus (count_arguments macros env a)) (spends more) ∙ plus-plus (count_arguments macros env a) (count macros env more) out.left)
 
-    pub spends_arguments : {level : ℕ} {call : Call} {left after : Option ℕ} {as' : List (Option (List Hiding))} {r : ExpandedArguments} (a : ExpandsArguments macros env level call left as' after r) → left ≡ plus (count_arguments macros env a) after
+    pub spends_arguments : {level : ℕ} {call : Call} {left after : Option ℕ} {as' : List (Option (List Hiding))} {r : ExpandedArguments} (a : ExpandsArguments macros env level call left as' after r)
+        → left ≡ plus (count_arguments macros env a) after
     spends_arguments {left = left} none = plus-nothing left
     spends_arguments (unused more) = spends_arguments more
     spends_arguments {left = left} (too_deep h) = plus-nothing left
@@ -131,7 +133,11 @@ module _ (macros : Macros) (env : Env) where
 
   mutual
     -- with as much as an expansion without a budget costs, and more, it is the same, and the rest is left
-    pub enough : {level turns : ℕ} {left : Option ℕ} {list : List Hiding} {out : Outcome} → left ≡ None → (d : Expands macros env level left turns list out) (b n : ℕ) → b ≡ count macros env d + n → Expands macros env level (Some b) turns list (leaving n out)
+    pub enough : {level turns : ℕ} {left : Option ℕ} {list : List Hiding} {out : Outcome}
+        → left ≡ None
+        → (d : Expands macros env level left turns list out) (b n : ℕ)
+        → b ≡ count macros env d + n
+        → Expands macros env level (Some b) turns list (leaving n out)
     enough {level = level} {list = list} is (done e) b n sum =
         let same : b ≡ n = omega arith in
         subst (λ x. Expands macros env level (Some b) 0 list (record { tokens = []; fault = None; left = Some x })) same (done (free_turn list is e tt b))
@@ -154,7 +160,11 @@ module _ (macros : Macros) (env : Env) where
         let k = count macros env more in
         call_replaced (free list is e) (enough_arguments (ap less_one is) a b (k + n) (omega arith)) f (enough (arguments_none (ap less_one is) a) more (k + n) n refl)
 
-    pub enough_arguments : {level : ℕ} {call : Call} {left after : Option ℕ} {as' : List (Option (List Hiding))} {r : ExpandedArguments} → left ≡ None → (a : ExpandsArguments macros env level call left as' after r) (b n : ℕ) → b ≡ count_arguments macros env a + n → ExpandsArguments macros env level call (Some b) as' (Some n) r
+    pub enough_arguments : {level : ℕ} {call : Call} {left after : Option ℕ} {as' : List (Option (List Hiding))} {r : ExpandedArguments}
+        → left ≡ None
+        → (a : ExpandsArguments macros env level call left as' after r) (b n : ℕ)
+        → b ≡ count_arguments macros env a + n
+        → ExpandsArguments macros env level call (Some b) as' (Some n) r
     enough_arguments {level = level} {call = call} is none b n sum =
         let same : b ≡ n = omega arith in
         subst (λ x. ExpandsArguments macros env level call (Some b) [] (Some x) (Ok [])) same none
@@ -186,7 +196,10 @@ module _ (macros : Macros) (env : Env) where
     record { fault = record { number = 35; at = x.token.used; text = [] }; is = refl; number = refl; left = refl },
   )
 
-  stops_passed : {level b : ℕ} {list rest : List Hiding} {t : Hiding} (whole : Outcome) → turn_within macros env (Some b) list ≡ Passes t rest → Stops level b rest whole → Stops level b list (record { tokens = t ∷ whole.tokens; fault = whole.fault; left = whole.left })
+  stops_passed : {level b : ℕ} {list rest : List Hiding} {t : Hiding} (whole : Outcome)
+      → turn_within macros env (Some b) list ≡ Passes t rest
+      → Stops level b rest whole
+      → Stops level b list (record { tokens = t ∷ whole.tokens; fault = whole.fault; left = whole.left })
   stops_passed {t = t} whole e s =
       (suc s.0, record { tokens = t ∷ s.1.tokens; fault = s.1.fault; left = s.1.left }, passes e s.2, (s.3.0, ap (λ xs. t ∷ xs) s.3.1), record { fault = s.4.fault; is = s.4.is; number = s.4.number; left = s.4.left })
 
@@ -226,7 +239,11 @@ module _ (macros : Macros) (env : Env) where
               (suc s.0, s.1, call_replaced (free list is e) (enough_arguments (ap less_one is) a b n (sym sum)) f s.2, s.3, s.4))
         ]
 
-    pub short_arguments : {level : ℕ} {call : Call} {left after : Option ℕ} {as' : List (Option (List Hiding))} {r : ExpandedArguments} → left ≡ None → (a : ExpandsArguments macros env level call left as' after r) (b : ℕ) → b < count_arguments macros env a → ArgumentsStop level call b as'
+    pub short_arguments : {level : ℕ} {call : Call} {left after : Option ℕ} {as' : List (Option (List Hiding))} {r : ExpandedArguments}
+        → left ≡ None
+        → (a : ExpandsArguments macros env level call left as' after r) (b : ℕ)
+        → b < count_arguments macros env a
+        → ArgumentsStop level call b as'
     short_arguments is none b h = absurd (omega arith)
     short_arguments is (unused more) b h =
         let s = short_arguments is more b h in
@@ -245,7 +262,9 @@ module _ (macros : Macros) (env : Env) where
     short_arguments is (used_refused {after = after} {tokens = tokens} {f = f} low one) b h = stops_used (record { tokens = tokens; fault = Some f; left = after }) low (short is one b h)
 
   -- an expansion within a budget, beside the one without
-  pub capped : {level turns : ℕ} {list : List Hiding} {whole : Outcome} (d : Expands macros env level None turns list whole) (b n : ℕ) (out : Outcome) → Expands macros env level (Some b) n list out → IsCapped b (count macros env d) whole out
+  pub capped : {level turns : ℕ} {list : List Hiding} {whole : Outcome} (d : Expands macros env level None turns list whole) (b n : ℕ) (out : Outcome)
+      → Expands macros env level (Some b) n list out
+      → IsCapped b (count macros env d) whole out
   capped {level = level} {turns = turns} {list = list} {whole = whole} d b n out o =
       let c = count macros env d in
       elim (dec_lt b c) [
@@ -268,7 +287,11 @@ module _ (macros : Macros) (env : Env) where
   pub expansion_spends : {left : Option ℕ} {tokens : List Token} {e : Expanded} (x : IsExpansion macros env left tokens e) → left ≡ plus (count_expansion x) e.left
   expansion_spends x = spends x.expands.1 ∙ ap (plus (count_expansion x)) (sym x.left_over)
 
-  pub expansion_enough : {left : Option ℕ} {tokens : List Token} {e : Expanded} → left ≡ None → (x : IsExpansion macros env left tokens e) (b n : ℕ) → b ≡ count_expansion x + n → IsExpansion macros env (Some b) tokens (record e { left = Some n })
+  pub expansion_enough : {left : Option ℕ} {tokens : List Token} {e : Expanded}
+      → left ≡ None
+      → (x : IsExpansion macros env left tokens e) (b n : ℕ)
+      → b ≡ count_expansion x + n
+      → IsExpansion macros env (Some b) tokens (record e { left = Some n })
   expansion_enough is x b n sum = record { outcome = leaving n x.outcome; expands = (x.expands.0, enough is x.expands.1 b n sum); passed = x.passed; ended = x.ended; left_over = refl }
 
   -- a list of tokens that stops by fault 35

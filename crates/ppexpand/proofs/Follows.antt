@@ -32,12 +32,18 @@ module _ (macros : Macros) (env : Env) (level : ℕ) where
       let same = (same_outcome macros env more here.0 here.1 here.2).0 in
       rw (← same) (omega arith)
 
-  pub follows_on : (first : Option ℕ) (start passed : List Hiding) (left : Option ℕ) (list : List Hiding) (after : Option ℕ) (next tokens : List Hiding) → Follows first start passed left list → Advances macros env level left list after next tokens → Follows first start (passed ++ tokens) after next
+  pub follows_on : (first : Option ℕ) (start passed : List Hiding) (left : Option ℕ) (list : List Hiding) (after : Option ℕ) (next tokens : List Hiding)
+      → Follows first start passed left list
+      → Advances macros env level left list after next tokens
+      → Follows first start (passed ++ tokens) after next
   follows_on first start passed left list after next tokens so_far step n out d =
       let whole = so_far (suc n) _ (step.turn n out d) in
       (whole.0, rw append_assoc whole.1)
 
-  pub follows_end : (first : Option ℕ) (start passed : List Hiding) (left : Option ℕ) (list : List Hiding) (fault : Option Fault) (after : Option ℕ) → Follows first start passed left list → EndsWith macros env level left list fault after → ExpandsTo macros env level first start (record { tokens = passed; fault = fault; left = after })
+  pub follows_end : (first : Option ℕ) (start passed : List Hiding) (left : Option ℕ) (list : List Hiding) (fault : Option Fault) (after : Option ℕ)
+      → Follows first start passed left list
+      → EndsWith macros env level left list fault after
+      → ExpandsTo macros env level first start (record { tokens = passed; fault = fault; left = after })
   follows_end first start passed left list fault after so_far d =
       let whole = so_far 0 _ d in
       (whole.0, rw (append-nil passed) at whole.1)
@@ -81,13 +87,22 @@ module _ (macros : Macros) (env : Env) (level : ℕ) (call : Call) where
   arguments_start left all after (Ok as') d = d
   arguments_start left all after (Err f) d = d
 
-  pub arguments_unused : (first : Option ℕ) (all so_far : List (Option (List Hiding))) (left : Option ℕ) (rest : List (Option (List Hiding))) → ArgumentsFollow first all so_far left (None ∷ rest) → ArgumentsFollow first all (so_far ++ None ∷ []) left rest
+  pub arguments_unused : (first : Option ℕ) (all so_far : List (Option (List Hiding))) (left : Option ℕ) (rest : List (Option (List Hiding)))
+      → ArgumentsFollow first all so_far left (None ∷ rest)
+      → ArgumentsFollow first all (so_far ++ None ∷ []) left rest
   arguments_unused first all so_far left rest h after r d = subst (ExpandsArguments macros env level call first all after) (before_rest-more so_far None r) (h after (with_expanded None r) (unused d))
 
-  pub arguments_used : (first : Option ℕ) (all so_far : List (Option (List Hiding))) (left between : Option ℕ) (rest : List (Option (List Hiding))) (list tokens : List Hiding) → ArgumentsFollow first all so_far left (Some list ∷ rest) → ExpandsArgument macros env level call.head.token left list between (Ok tokens) → ArgumentsFollow first all (so_far ++ Some tokens ∷ []) between rest
-  arguments_used first all so_far left between rest list tokens h (expands low one) after r d = subst (ExpandsArguments macros env level call first all after) (before_rest-more so_far (Some tokens) r) (h after (with_expanded (Some tokens) r) (used low one d))
+  pub arguments_used : (first : Option ℕ) (all so_far : List (Option (List Hiding))) (left between : Option ℕ) (rest : List (Option (List Hiding))) (list tokens : List Hiding)
+      → ArgumentsFollow first all so_far left (Some list ∷ rest)
+      → ExpandsArgument macros env level call.head.token left list between (Ok tokens)
+      → ArgumentsFollow first all (so_far ++ Some tokens ∷ []) between rest
+  arguments_used first all so_far left between rest list tokens h (expands low one) after r d =
+      subst (ExpandsArguments macros env level call first all after) (before_rest-more so_far (Some tokens) r) (h after (with_expanded (Some tokens) r) (used low one d))
 
-  pub arguments_refused : (first : Option ℕ) (all so_far : List (Option (List Hiding))) (left after : Option ℕ) (rest : List (Option (List Hiding))) (list : List Hiding) (f : Fault) → ArgumentsFollow first all so_far left (Some list ∷ rest) → ExpandsArgument macros env level call.head.token left list after (Err f) → ExpandsArguments macros env level call first all after (Err f)
+  pub arguments_refused : (first : Option ℕ) (all so_far : List (Option (List Hiding))) (left after : Option ℕ) (rest : List (Option (List Hiding))) (list : List Hiding) (f : Fault)
+      → ArgumentsFollow first all so_far left (Some list ∷ rest)
+      → ExpandsArgument macros env level call.head.token left list after (Err f)
+      → ExpandsArguments macros env level call first all after (Err f)
   arguments_refused first all so_far left after rest list f h (raises low one) = h after (Err f) (used_refused low one)
   arguments_refused first all so_far left after rest list f h (deep high) = h left (Err f) (too_deep high)
 

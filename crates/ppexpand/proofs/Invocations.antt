@@ -187,7 +187,8 @@ laid_by c t ts on closed Quote e = absurd (subst IsClosed (at_quote 0 c t ts e) 
 laid_by c t ts on closed Open e =
     let m : Matched 0 c ts = matched (suc (length ts)) 0 c ts (omega arith) (closed-token t _ (subst IsClosed (at_open 0 c t ts e) closed)) in
     let less : length m.rest < length ts = shorter ts m.inside m.mate m.rest m.laid_out in
-    let wraps : (b : Bool) (xs : List Hiding) → Nested b xs → Nested b ((t ∷ (m.inside ++ m.mate ∷ [])) ++ xs) = λ b xs n. subst (λ ys. Nested b (t ∷ ys)) (sym (append_assoc m.inside (m.mate ∷ []) xs)) (pair t m.inside m.mate xs e m.nested m.mates n) in
+    let wraps : (b : Bool) (xs : List Hiding) → Nested b xs → Nested b ((t ∷ (m.inside ++ m.mate ∷ [])) ++ xs) =
+    λ b xs n. subst (λ ys. Nested b (t ∷ ys)) (sym (append_assoc m.inside (m.mate ∷ []) xs)) (pair t m.inside m.mate xs e m.nested m.mates n) in
     let whole : (t ∷ (m.inside ++ m.mate ∷ [])) ++ m.rest ≡ t ∷ ts = ap (λ xs. t ∷ xs) (append_assoc m.inside (m.mate ∷ []) m.rest ∙ sym m.laid_out) in
     subst (LaidOut c) whole (laid_behind (t ∷ (m.inside ++ m.mate ∷ [])) (wraps (not (separates 0 c))) (λ _. wraps false) (on c m.rest (omega arith) m.on))
 laid_by c t ts on closed Close e = record { arguments = [] ∷ []; close = t; behind = ts; is = record { inside = []; laid_out = refl; closes = e; separated = last nothing } }

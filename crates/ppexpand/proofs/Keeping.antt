@@ -47,7 +47,9 @@ expanded_known-push (x ∷ es) e h here =
     record { each = (h.each.0, rest.each) }
 
 -- one more, of the argument that is next
-pub expanded_in-push : (s : Numbered) (vs : List (Vec Hidden Global)) (es : List Expansion) (e : Expansion) (v : Vec Hidden Global) (rest : List (Vec Hidden Global)) → drop (length es) vs ≡ v ∷ rest → expanded_in s vs (es ++ e ∷ []) ≡ expanded_in s vs es ++ option_map (hidings s) (option_of v.items e) ∷ []
+pub expanded_in-push : (s : Numbered) (vs : List (Vec Hidden Global)) (es : List Expansion) (e : Expansion) (v : Vec Hidden Global) (rest : List (Vec Hidden Global))
+    → drop (length es) vs ≡ v ∷ rest
+    → expanded_in s vs (es ++ e ∷ []) ≡ expanded_in s vs es ++ option_map (hidings s) (option_of v.items e) ∷ []
 expanded_in-push s [] [] e v rest h = absurd (cc h)
 expanded_in-push s (w ∷ vs) [] e v rest h =
     let same : w ≡ v = cc h in
@@ -90,7 +92,13 @@ call_in-keeps {s} {t} c behind k h rest =
     λ i. record { head = heads i; macro = c.replaced.now; arguments = lists i; gain = set.insert (sets i) c.head.token.text; behind = rests i }
 
 -- an invocation that was made while sets were added
-pub call_made : {s t : Numbered} (c : Invocation) (behind : List Hidden) (gain : HideSet) → Keeps s t → IsKnown s c.head.hide → ListsKnown s c.arguments.items → AllKnown s behind → set.insert (set_at t c.both) c.head.token.text ≡ gain → call_in t c behind ≡ record { head = hiding s c.head; macro = c.replaced.now; arguments = given_in s c.arguments.items; gain = gain; behind = hidings s behind }
+pub call_made : {s t : Numbered} (c : Invocation) (behind : List Hidden) (gain : HideSet)
+    → Keeps s t
+    → IsKnown s c.head.hide
+    → ListsKnown s c.arguments.items
+    → AllKnown s behind
+    → set.insert (set_at t c.both) c.head.token.text ≡ gain
+    → call_in t c behind ≡ record { head = hiding s c.head; macro = c.replaced.now; arguments = given_in s c.arguments.items; gain = gain; behind = hidings s behind }
 call_made {s} {t} c behind gain k head lists rest gains =
     let heads : hiding t c.head ≡ hiding s c.head = hiding-keeps c.head k head in
     let arguments : given_in t c.arguments.items ≡ given_in s c.arguments.items = given-keeps c.arguments.items k lists in

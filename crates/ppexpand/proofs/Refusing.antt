@@ -16,12 +16,14 @@ use Rattle.ppmacro.specs.declared.macros.Definition.{Definition}
 use Rattle.ppmacro.specs.declared.macros.Chain.{Chain}
 use Rattle.ppmacro.specs.declared.macros.Operand.{Operand}
 use Rattle.ppmacro.specs.declared.macros.Operand.TheVariants.{Tok, Param, Str}
-use Rattle.ppmacro.specs.Substitution.{string_text, string_token, is_string_literal, stringized, pasted_as, pasted, after_ok, join, join_all, Arguments, argument_at, operand_tokens, operands_tokens, is_joined, chain_tokens, Marked, chains_tokens, substituted}
+use Rattle.ppmacro.specs.Substitution.{string_text, string_token, is_string_literal, stringized, pasted_as, pasted, after_ok, join, join_all, Arguments, argument_at, operand_tokens, operands_tokens, is_joined, chain_tokens, Marked}
+use Rattle.ppmacro.specs.Substitution.{chains_tokens, substituted}
 use Rattle.ppexpand.specs.declared.env.Env.{Env}
 use Rattle.ppexpand.specs.declared.expansion.Expanded.{Expanded}
 use Rattle.ppexpand.specs.Arguments.{is_lone_quote, is_open, Gathered, Closed, Quoted, Unclosed, gather, separators, fitted}
 use Rattle.ppexpand.specs.Turn.{Call, Turn, Refused, Passes, Failed, replaced_by, quote_fault, called, invoked, function_turn, no_arguments, macro_turn, named_turn, macro_of, turn, less_one, finished}
-use Rattle.ppexpand.specs.Expansion.{Outcome, ExpandedArguments, with_expanded, turn_within, Expands, done, refused, passes, failed, replaced, argument_refused, call_failed, call_replaced, ExpandsArguments, none, unused, too_deep, used as was_used, used_refused, count, count_arguments, ExpandsTo, IsExpansion}
+use Rattle.ppexpand.specs.Expansion.{Outcome, ExpandedArguments, with_expanded, turn_within, Expands, done, refused, passes, failed, replaced, argument_refused, call_failed, call_replaced, ExpandsArguments, none, unused, too_deep}
+use Rattle.ppexpand.specs.Expansion.{used as was_used, used_refused, count, count_arguments, ExpandsTo, IsExpansion}
 use Rattle.ppexpand.specs.Laws.{plus}
 use Rattle.ppexpand.proofs.Budget.{spends, spends_arguments}
 

@@ -90,7 +90,9 @@ module _ (macros : Macros) (env : Env) where
   pub all_settled : {level n : ℕ} {left : Option ℕ} {list : List Hiding} {out : Outcome} → Expands macros env level left n list out → AllPass (is_settled macros) out.tokens
   all_settled (done e) = All-nil (λ x. is_settled macros x ≡ true)
   all_settled (refused e) = All-nil (λ x. is_settled macros x ≡ true)
-  all_settled (passes {left = left} {list = list} {t = t} {rest = rest} {out = out} e d) = All-cons (λ x. is_settled macros x ≡ true) t out.tokens (let settled : Settles (Passes t rest) = subst (λ x. Settles x) e (within_settles left list (turn macros env list) (turn_settles list)) in settled) (all_settled d)
+  all_settled (passes {left = left} {list = list} {t = t} {rest = rest} {out = out} e d) =
+      let settled : Settles (Passes t rest) = subst (λ x. Settles x) e (within_settles left list (turn macros env list) (turn_settles list)) in
+      All-cons (λ x. is_settled macros x ≡ true) t out.tokens settled (all_settled d)
   all_settled (failed e) = All-nil (λ x. is_settled macros x ≡ true)
   all_settled (replaced e d) = all_settled d
   all_settled (argument_refused e a) = All-nil (λ x. is_settled macros x ≡ true)

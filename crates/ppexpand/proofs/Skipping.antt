@@ -168,7 +168,9 @@ expansion-behind macros env left tokens front rest e out laid_out h d is ends le
     }
 
 -- tokens that all pass are expanded to themselves
-pub plain-expands : (macros : Macros) (env : Env) (level : ℕ) (left : Option ℕ) (s : Numbered) (hs : List Hidden) → ArePlain macros hs → ExpandsTo macros env level left (hidings s hs) (record { tokens = hidings s hs; fault = None; left = left })
+pub plain-expands : (macros : Macros) (env : Env) (level : ℕ) (left : Option ℕ) (s : Numbered) (hs : List Hidden)
+    → ArePlain macros hs
+    → ExpandsTo macros env level left (hidings s hs) (record { tokens = hidings s hs; fault = None; left = left })
 plain-expands macros env level left s [] h = expands-nothing macros env level left
 plain-expands macros env level left s (t ∷ ts) h =
     let after = plain-expands macros env level left s ts (record { each = h.each.1 }) in

@@ -13,7 +13,8 @@ use Rattle.ppmacro.specs.declared.macros.Shape.TheVariants.{Predefined, ObjectLi
 use Rattle.ppexpand.specs.declared.env.Env.{Env}
 use Rattle.ppexpand.specs.declared.expansion.Expanded.{Expanded}
 use Rattle.ppexpand.specs.Arguments.{is_lone_quote, is_open, Gathered, Closed, Quoted, Unclosed, gather, separators, fitted}
-use Rattle.ppexpand.specs.Turn.{predefined_value, Call, Turn, Done, Refused, Passes, Failed, Replaced, Called, followed_by, replaced_by, fault_at_use, quote_fault, gain_of, called, invoked, function_turn, macro_turn, named_turn, macro_of, turn, less_one, wanted, finished}
+use Rattle.ppexpand.specs.Turn.{predefined_value, Call, Turn, Done, Refused, Passes, Failed, Replaced, Called, followed_by, replaced_by, fault_at_use, quote_fault, gain_of, called, invoked, function_turn, macro_turn, named_turn, macro_of}
+use Rattle.ppexpand.specs.Turn.{turn, less_one, wanted, finished}
 use Rattle.ppexpand.specs.Expansion.{Outcome, ExpandedArguments, turn_within, Expands, ExpandsTo, ExpandsArguments, IsExpansion}
 use Rattle.ppexpand.specs.Expansion as within
 use Rattle.ppexpand.specs.Standard.{NamesMacro, Opens, Invokes, opens_next, object_result, invocation_result, StandardExpands, StandardExpandsArguments, IsStandardExpansion}
@@ -39,19 +40,38 @@ module _ (macros : Macros) (env : Env) where
     object_like : {t : Hiding} {rest : List Hiding} {d : Definition} {m : Marked} → NamesMacro macros t d → d.shape ≡ ObjectLike → object_result t d ≡ Ok m → Means (t ∷ rest) (Replaced (followed_by rest m))
     object_refused : {t : Hiding} {rest : List Hiding} {d : Definition} {f : Fault} → NamesMacro macros t d → d.shape ≡ ObjectLike → object_result t d ≡ Err f → Means (t ∷ rest) (Failed f)
     not_invoked : {t : Hiding} {rest : List Hiding} {d : Definition} {names : List Name} {variadic : Bool} → NamesMacro macros t d → d.shape ≡ FunctionLike names variadic → opens_next rest ≡ false → Means (t ∷ rest) (Passes t rest)
-    quote_inside : {t paren quote : Hiding} {inside : List Hiding} {d : Definition} {names : List Name} {variadic : Bool} → Opens macros t paren d names variadic → gather 0 (separators names variadic) inside ≡ Quoted quote → Means (t ∷ paren ∷ inside) (Failed (quote_fault quote))
-    unclosed : {t paren : Hiding} {inside : List Hiding} {d : Definition} {names : List Name} {variadic : Bool} → Opens macros t paren d names variadic → gather 0 (separators names variadic) inside ≡ Unclosed → Means (t ∷ paren ∷ inside) (Failed (fault_at_use 17 t))
-    wrong_number : {t paren close : Hiding} {inside behind : List Hiding} {d : Definition} {names : List Name} {variadic : Bool} {arguments : List (List Hiding)} → Opens macros t paren d names variadic → gather 0 (separators names variadic) inside ≡ Closed arguments close behind → fitted names variadic arguments ≡ None → Means (t ∷ paren ∷ inside) (Failed (fault_at_use 18 t))
+    quote_inside : {t paren quote : Hiding} {inside : List Hiding} {d : Definition} {names : List Name} {variadic : Bool}
+        → Opens macros t paren d names variadic
+        → gather 0 (separators names variadic) inside ≡ Quoted quote
+        → Means (t ∷ paren ∷ inside) (Failed (quote_fault quote))
+    unclosed : {t paren : Hiding} {inside : List Hiding} {d : Definition} {names : List Name} {variadic : Bool}
+        → Opens macros t paren d names variadic
+        → gather 0 (separators names variadic) inside ≡ Unclosed
+        → Means (t ∷ paren ∷ inside) (Failed (fault_at_use 17 t))
+    wrong_number : {t paren close : Hiding} {inside behind : List Hiding} {d : Definition} {names : List Name} {variadic : Bool} {arguments : List (List Hiding)}
+        → Opens macros t paren d names variadic
+        → gather 0 (separators names variadic) inside ≡ Closed arguments close behind
+        → fitted names variadic arguments ≡ None
+        → Means (t ∷ paren ∷ inside) (Failed (fault_at_use 18 t))
     begins : {list : List Hiding} {call : Call} → Invokes macros list call → Means list (Called call)
 
   -- ---- the turn of a list is by one of the rules
 
-  by_number : (t paren close : Hiding) (inside behind : List Hiding) (d : Definition) (names : List Name) (variadic : Bool) (arguments : List (List Hiding)) → Opens macros t paren d names variadic → gather 0 (separators names variadic) inside ≡ Closed arguments close behind → (o : Option (List (List Hiding))) → fitted names variadic arguments ≡ o → Means (t ∷ paren ∷ inside) (called t d o close behind)
+  by_number : (t paren close : Hiding) (inside behind : List Hiding) (d : Definition) (names : List Name) (variadic : Bool) (arguments : List (List Hiding))
+      → Opens macros t paren d names variadic
+      → gather 0 (separators names variadic) inside ≡ Closed arguments close behind
+      → (o : Option (List (List Hiding)))
+      → fitted names variadic arguments ≡ o
+      → Means (t ∷ paren ∷ inside) (called t d o close behind)
   by_number t paren close inside behind d names variadic arguments i g None e = Means.wrong_number i g e
   by_number t paren close inside behind d names variadic arguments i g (Some given) e =
       Means.begins (record { paren = paren; inside = inside; names = names; variadic = variadic; arguments = arguments; close = close; laid_out = refl; opens = i; closed = g; fits = e; gains = refl })
 
-  by_gathered : (t paren : Hiding) (inside : List Hiding) (d : Definition) (names : List Name) (variadic : Bool) → Opens macros t paren d names variadic → (g : Gathered) → gather 0 (separators names variadic) inside ≡ g → Means (t ∷ paren ∷ inside) (invoked t d names variadic g)
+  by_gathered : (t paren : Hiding) (inside : List Hiding) (d : Definition) (names : List Name) (variadic : Bool)
+      → Opens macros t paren d names variadic
+      → (g : Gathered)
+      → gather 0 (separators names variadic) inside ≡ g
+      → Means (t ∷ paren ∷ inside) (invoked t d names variadic g)
   by_gathered t paren inside d names variadic i (Closed arguments close behind) e = by_number t paren close inside behind d names variadic arguments i e (fitted names variadic arguments) refl
   by_gathered t paren inside d names variadic i (Quoted q) e = Means.quote_inside i e
   by_gathered t paren inside d names variadic i Unclosed e = Means.unclosed i e
@@ -97,7 +117,11 @@ module _ (macros : Macros) (env : Env) where
   not_opened t d names variadic [] e = refl
   not_opened t d names variadic (p ∷ rest) e = rw e refl
 
-  invokes_turn : {t paren : Hiding} {d : Definition} {names : List Name} {variadic : Bool} (inside : List Hiding) → Opens macros t paren d names variadic → (g : Gathered) → gather 0 (separators names variadic) inside ≡ g → turn macros env (t ∷ paren ∷ inside) ≡ invoked t d names variadic g
+  invokes_turn : {t paren : Hiding} {d : Definition} {names : List Name} {variadic : Bool} (inside : List Hiding)
+      → Opens macros t paren d names variadic
+      → (g : Gathered)
+      → gather 0 (separators names variadic) inside ≡ g
+      → turn macros env (t ∷ paren ∷ inside) ≡ invoked t d names variadic g
   invokes_turn {t = t} {paren = paren} {d = d} {names = names} {variadic = variadic} inside i g e =
       let opened : function_turn t d names variadic (paren ∷ inside) ≡ invoked t d names variadic (gather 0 (separators names variadic) inside) = rw (i.paren_opens) refl in
       calls_turn (paren ∷ inside) i.names_macro (FunctionLike names variadic) i.shape ∙ opened ∙ ap (invoked t d names variadic) e
@@ -157,7 +181,12 @@ module _ (macros : Macros) (env : Env) where
   result_replaced behind next (Ok m) e = let same : followed_by behind m ≡ next = cc in (m, refl, same)
   result_replaced behind next (Err f) e = absurd (cc)
 
-  at_next : {level : ℕ} {list next tokens : List Hiding} {fault : Option Fault} {call : Call} {expanded : List (Option (List Hiding))} → Invokes macros list call → StandardExpandsArguments macros env level call (wanted call) (Ok expanded) → finished call expanded ≡ Replaced next → StandardExpands macros env level next tokens fault → StandardExpands macros env level list tokens fault
+  at_next : {level : ℕ} {list next tokens : List Hiding} {fault : Option Fault} {call : Call} {expanded : List (Option (List Hiding))}
+      → Invokes macros list call
+      → StandardExpandsArguments macros env level call (wanted call) (Ok expanded)
+      → finished call expanded ≡ Replaced next
+      → StandardExpands macros env level next tokens fault
+      → StandardExpands macros env level list tokens fault
   at_next {level = level} {next = next} {tokens = tokens} {fault = fault} {call = call} {expanded = expanded} b a e more =
       let r = result_replaced call.behind next (invocation_result call expanded) (sym (finished-is call expanded) ∙ e) in
       StandardExpands.invocation b a r.1 (subst (λ x. StandardExpands macros env level x tokens fault) (sym r.2) more)
@@ -180,7 +209,10 @@ module _ (macros : Macros) (env : Env) where
     standard {list = list} is (within.call_replaced e a h more) =
         at_next (at_called (by_rule list is e)) (standard_arguments (ap less_one is) a) h (standard (arguments_none macros env (ap less_one is) a) more)
 
-    standard_arguments : {level : ℕ} {call : Call} {left after : Option ℕ} {as' : List (Option (List Hiding))} {r : ExpandedArguments} → left ≡ None → ExpandsArguments macros env level call left as' after r → StandardExpandsArguments macros env level call as' r
+    standard_arguments : {level : ℕ} {call : Call} {left after : Option ℕ} {as' : List (Option (List Hiding))} {r : ExpandedArguments}
+        → left ≡ None
+        → ExpandsArguments macros env level call left as' after r
+        → StandardExpandsArguments macros env level call as' r
     standard_arguments is within.none = StandardExpandsArguments.none
     standard_arguments is (within.unused more) = StandardExpandsArguments.unused (standard_arguments is more)
     standard_arguments is (within.too_deep h) = StandardExpandsArguments.too_deep h

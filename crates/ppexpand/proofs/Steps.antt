@@ -20,7 +20,8 @@ use Rattle.ppmacro.specs.Spellings.{is_identifier}
 use Rattle.ppmacro.specs.Substitution.{Arguments, Marked, substituted, after_ok, chains_tokens, gained}
 use Rattle.ppexpand.specs.Arguments.{Gathered, Closed, Quoted, Unclosed, mark_of, gather, separators, fitted, separates, fewer, with_token, with_argument, is_open, is_lone_quote, Quote, Open, Close, Comma, Inner}
 use Rattle.ppexpand.specs.declared.env.Env.{Env}
-use Rattle.ppexpand.specs.Turn.{Call, Turn, Done, Refused, Passes, Failed, Replaced, Called, turn, over, within, finished, mark_next, followed_by, replaced_by, gain_of, quote_fault, called, invoked, function_turn, macro_turn, named_turn, macro_of}
+use Rattle.ppexpand.specs.Turn.{Call, Turn, Done, Refused, Passes, Failed, Replaced, Called, turn, over, within, finished, mark_next, followed_by, replaced_by, gain_of, quote_fault, called, invoked, function_turn, macro_turn, named_turn}
+use Rattle.ppexpand.specs.Turn.{macro_of}
 use Rattle.ppexpand.specs.Expansion.{turn_within}
 use Rattle.ppexpand.proofs.Termination.{Each, Among, Step, object, function}
 
@@ -150,7 +151,11 @@ module _ (macros : Macros) (env : Env) where
   StepsTo list (Called call) = Found list call
 
   -- each of these sets has all that the gain has, so h and h' both and k
-  gains_sets : (h h' : HideSet) (k : Name) (gain : HideSet) → gain ≡ gain_of h h' k → (ts : List Hiding) → Each (HasGain gain) ts → Each (λ r. ((q : Name) → set.contains h q ≡ true → set.contains h' q ≡ true → set.contains r q ≡ true) × (set.contains r k ≡ true)) (hides ts)
+  gains_sets : (h h' : HideSet) (k : Name) (gain : HideSet)
+      → gain ≡ gain_of h h' k
+      → (ts : List Hiding)
+      → Each (HasGain gain) ts
+      → Each (λ r. ((q : Name) → set.contains h q ≡ true → set.contains h' q ≡ true → set.contains r q ≡ true) × (set.contains r k ≡ true)) (hides ts)
   gains_sets h h' k gain is [] all = tt
   gains_sets h h' k gain is (t ∷ ts) all = (
     (
@@ -160,7 +165,9 @@ module _ (macros : Macros) (env : Env) where
     gains_sets h h' k gain is ts all.1,
   )
 
-  gains_object : (h : HideSet) (k : Name) (ts : List Hiding) → Each (HasGain (set.insert h k)) ts → Each (λ r. ((q : Name) → set.contains h q ≡ true → set.contains h q ≡ true → set.contains r q ≡ true) × (set.contains r k ≡ true)) (hides ts)
+  gains_object : (h : HideSet) (k : Name) (ts : List Hiding)
+      → Each (HasGain (set.insert h k)) ts
+      → Each (λ r. ((q : Name) → set.contains h q ≡ true → set.contains h q ≡ true → set.contains r q ≡ true) × (set.contains r k ≡ true)) (hides ts)
   gains_object h k [] all = tt
   gains_object h k (t ∷ ts) all = (
     (
@@ -173,11 +180,21 @@ module _ (macros : Macros) (env : Env) where
   hides-followed_by : (behind : List Hiding) (m : Marked) → hides (followed_by behind m) ≡ hides m.tokens ++ hides behind
   hides-followed_by behind m = hides-append m.tokens (mark_next m.pending behind) ∙ ap (λ hs. hides m.tokens ++ hs) (hides-mark_next m.pending behind)
 
-  object_steps : (t : Hiding) (rest : List Hiding) → Among t.token.text (table.keys macros) → set.contains t.hide t.token.text ≡ false → (r : Result Marked Fault) → ((m : Marked) → r ≡ Ok m → Each (HasGain (set.insert t.hide t.token.text)) m.tokens) → StepsTo (t ∷ rest) (replaced_by r rest)
+  object_steps : (t : Hiding) (rest : List Hiding)
+      → Among t.token.text (table.keys macros)
+      → set.contains t.hide t.token.text ≡ false
+      → (r : Result Marked Fault)
+      → ((m : Marked) → r ≡ Ok m → Each (HasGain (set.insert t.hide t.token.text)) m.tokens)
+      → StepsTo (t ∷ rest) (replaced_by r rest)
   object_steps t rest named free (Ok m) gain = object t.token.text named free (hides m.tokens) (gains_object t.hide t.token.text m.tokens (gain m refl)) (hides-followed_by rest m)
   object_steps t rest named free (Err f) gain = tt
 
-  call_steps : (t p : Hiding) (rest : List Hiding) → Among t.token.text (table.keys macros) → set.contains t.hide t.token.text ≡ false → (d : Definition) (names : List Name) (variadic : Bool) (g : Gathered) → Stands rest g → StepsTo (t ∷ (p ∷ rest)) (invoked t d names variadic g)
+  call_steps : (t p : Hiding) (rest : List Hiding)
+      → Among t.token.text (table.keys macros)
+      → set.contains t.hide t.token.text ≡ false
+      → (d : Definition) (names : List Name) (variadic : Bool) (g : Gathered)
+      → Stands rest g
+      → StepsTo (t ∷ (p ∷ rest)) (invoked t d names variadic g)
   call_steps t p rest named free d names variadic (Closed as' close behind) stands = by_count (fitted names variadic as')
     where
       by_count : (o : Option (List (List Hiding))) → StepsTo (t ∷ (p ∷ rest)) (called t d o close behind)
@@ -186,7 +203,11 @@ module _ (macros : Macros) (env : Env) where
   call_steps t p rest named free d names variadic (Quoted q) stands = tt
   call_steps t p rest named free d names variadic Unclosed stands = tt
 
-  function_steps : (t : Hiding) (rest : List Hiding) → Among t.token.text (table.keys macros) → set.contains t.hide t.token.text ≡ false → (d : Definition) (names : List Name) (variadic : Bool) → StepsTo (t ∷ rest) (function_turn t d names variadic rest)
+  function_steps : (t : Hiding) (rest : List Hiding)
+      → Among t.token.text (table.keys macros)
+      → set.contains t.hide t.token.text ≡ false
+      → (d : Definition) (names : List Name) (variadic : Bool)
+      → StepsTo (t ∷ rest) (function_turn t d names variadic rest)
   function_steps t [] named free d names variadic = refl
   function_steps t (p ∷ rest) named free d names variadic =
       elim (is_open p.token) as (λ b. StepsTo (t ∷ (p ∷ rest)) (if b then invoked t d names variadic (gather 0 (separators names variadic) rest) else Passes t (p ∷ rest))) [

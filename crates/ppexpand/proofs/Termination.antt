@@ -82,7 +82,15 @@ module _ {K Set : Type 0} (has : Set → K → Bool) (same : K → K → Bool) (
   pub data Step : List Set → List Set → Type 0 where
     passes : {h : Set} {rest : List Set} → Step (h ∷ rest) rest
     object : {h : Set} {rest : List Set} {after : List Set} (k : K) → Among k names → has h k ≡ false → (result : List Set) → Each (Gains h h k) result → after ≡ result ++ rest → Step (h ∷ rest) after
-    function : {h : Set} {rest : List Set} {after : List Set} (k : K) → Among k names → has h k ≡ false → (inside : List Set) (close : Set) (behind : List Set) → rest ≡ inside ++ close ∷ behind → (result : List Set) → Each (Gains h close k) result → after ≡ result ++ behind → Step (h ∷ rest) after
+    function : {h : Set} {rest : List Set} {after : List Set} (k : K)
+        → Among k names
+        → has h k ≡ false
+        → (inside : List Set) (close : Set) (behind : List Set)
+        → rest ≡ inside ++ close ∷ behind
+        → (result : List Set)
+        → Each (Gains h close k) result
+        → after ≡ result ++ behind
+        → Step (h ∷ rest) after
 
   -- each run of steps from this list ends
   pub data Ends : List Set → Type 0 where
@@ -108,7 +116,21 @@ module _ {K Set : Type 0} (has : Set → K → Bool) (same : K → K → Bool) (
 
   -- the same below a result whose sets have one more
   abbrev ResultEnds : ℕ → ℕ → Type 0
-  ResultEnds n k = (S : K → Bool) → missing S names < n → (name : K) → Among name names → S name ≡ false → (result : List Set) → Each (Above (extend S name)) result → (front : List Set) → length front ≤ k → Each (Above S) front → (behind : List Set) → Ends behind → EndsAfter S behind → Ends (result ++ (front ++ behind))
+  ResultEnds n k =
+      (S : K → Bool)
+      → missing S names < n
+      → (name : K)
+      → Among name names
+      → S name ≡ false
+      → (result : List Set)
+      → Each (Above (extend S name)) result
+      → (front : List Set)
+      → length front ≤ k
+      → Each (Above S) front
+      → (behind : List Set)
+      → Ends behind
+      → EndsAfter S behind
+      → Ends (result ++ (front ++ behind))
 
   module _ (same_is : (x y : K) → same x y ≡ true → x ≡ y) (same_self : (x : K) → same x x ≡ true) where
     extended : (S : K → Bool) (k : K) (r : Set) → ((q : K) → S q ≡ true → has r q ≡ true) → has r k ≡ true → Above (extend S k) r

@@ -7,7 +7,8 @@ use Rattle.ppmacro.specs.Names.{HideSet, Macros}
 use Rattle.ppmacro.specs.HideSets.{Hiding}
 use Rattle.ppexpand.specs.declared.env.Env.{Env}
 use Rattle.ppexpand.specs.Turn.{Call, Turn, Done, Refused, Passes, Failed, Replaced, Called, less_one, wanted, finished, fault_at_use}
-use Rattle.ppexpand.specs.Expansion.{Outcome, ExpandedArguments, with_expanded, turn_within, Expands, done, refused, passes, failed, replaced, argument_refused, call_failed, call_replaced, ExpandsArguments, none, unused, too_deep, used, used_refused}
+use Rattle.ppexpand.specs.Expansion.{Outcome, ExpandedArguments, with_expanded, turn_within, Expands, done, refused, passes, failed, replaced, argument_refused, call_failed, call_replaced, ExpandsArguments, none, unused, too_deep, used}
+use Rattle.ppexpand.specs.Expansion.{used_refused}
 use Rattle.ppexpand.proofs.Termination as ending
 use Rattle.ppexpand.proofs.Steps as steps
 use native.Mathlib.Decide.{dec_lt}
@@ -23,7 +24,12 @@ module _ (macros : Macros) (env : Env) where
   abbrev Deeper : ℕ → Type 0
   Deeper level = level < 256 → (left : Option ℕ) (list : List Hiding) → HasOutcome (suc level) left list
 
-  by_outcome : (level : ℕ) (call : Call) (left : Option ℕ) (list : List Hiding) (rest : List (Option (List Hiding))) → level < 256 → ((between : Option ℕ) → HasExpanded level call between rest) → (n : ℕ) (tokens : List Hiding) (fault : Option Fault) (between : Option ℕ) → Expands macros env (suc level) left n list (record { tokens = tokens; fault = fault; left = between }) → HasExpanded level call left (Some list ∷ rest)
+  by_outcome : (level : ℕ) (call : Call) (left : Option ℕ) (list : List Hiding) (rest : List (Option (List Hiding)))
+      → level < 256
+      → ((between : Option ℕ) → HasExpanded level call between rest)
+      → (n : ℕ) (tokens : List Hiding) (fault : Option Fault) (between : Option ℕ)
+      → Expands macros env (suc level) left n list (record { tokens = tokens; fault = fault; left = between })
+      → HasExpanded level call left (Some list ∷ rest)
   by_outcome level call left list rest h more n tokens None between d = let m = more between in (m.0, with_expanded (Some tokens) m.1, used h d m.2)
   by_outcome level call left list rest h more n tokens (Some f) between d = (between, Err f, used_refused h d)
 
@@ -44,7 +50,14 @@ module _ (macros : Macros) (env : Env) where
   abbrev Later : ℕ → List Hiding → Type 0
   Later level list = (left : Option ℕ) (next : List Hiding) → steps.HideStep macros env (steps.hides list) (steps.hides next) → HasOutcome level left next
 
-  after_call : (level : ℕ) (left : Option ℕ) (list : List Hiding) → Later level list → (call : Call) → turn_within macros env left list ≡ Called call → (after : Option ℕ) (r : ExpandedArguments) → ExpandsArguments macros env level call (less_one left) (wanted call) after r → ((as' : List (Option (List Hiding))) → steps.FinishesTo macros env list (finished call as')) → HasOutcome level left list
+  after_call : (level : ℕ) (left : Option ℕ) (list : List Hiding)
+      → Later level list
+      → (call : Call)
+      → turn_within macros env left list ≡ Called call
+      → (after : Option ℕ) (r : ExpandedArguments)
+      → ExpandsArguments macros env level call (less_one left) (wanted call) after r
+      → ((as' : List (Option (List Hiding))) → steps.FinishesTo macros env list (finished call as'))
+      → HasOutcome level left list
   after_call level left list later call e after (Err fault) a ends = (0, record { tokens = []; fault = Some fault; left = after }, argument_refused e a)
   after_call level left list later call e after (Ok as') a ends = by_end (finished call as') refl (ends as')
     where
@@ -76,7 +89,10 @@ module _ (macros : Macros) (env : Env) where
   list_total : (level : ℕ) → Deeper level → (hs : List HideSet) → Ends hs → (left : Option ℕ) (list : List Hiding) → steps.hides list ≡ hs → HasOutcome level left list
   unfolding Ends
   list_total level deeper hs (ending.ends more) left list e =
-      by_turn level deeper left list (λ after next step. list_total level deeper (steps.hides next) (more (steps.hides next) (subst (λ x. steps.HideStep macros env x (steps.hides next)) e step)) after next refl) (turn_within macros env left list) refl (steps.turn_within_steps macros env left list)
+      by_turn level deeper left list
+      (λ after next step. list_total level deeper (steps.hides next)
+      (more (steps.hides next) (subst (λ x. steps.HideStep macros env x (steps.hides next)) e step)) after next refl)
+      (turn_within macros env left list) refl (steps.turn_within_steps macros env left list)
 
   all_end : (xs : List Hiding) → Ends (steps.hides xs)
   unfolding Ends

@@ -5,7 +5,8 @@ use Rattle.ppmacro.specs.Names.{Macros}
 use Rattle.ppmacro.specs.HideSets.{Hiding}
 use Rattle.ppexpand.specs.declared.env.Env.{Env}
 use Rattle.ppexpand.specs.Turn.{Call, Done, Refused, Passes, Failed, Replaced, Called, less_one, wanted, finished, fault_at_use}
-use Rattle.ppexpand.specs.Expansion.{Outcome, ExpandedArguments, with_expanded, turn_within, Expands, done, refused, passes, failed, replaced, argument_refused, call_failed, call_replaced, ExpandsArguments, none, unused, too_deep, used, used_refused}
+use Rattle.ppexpand.specs.Expansion.{Outcome, ExpandedArguments, with_expanded, turn_within, Expands, done, refused, passes, failed, replaced, argument_refused, call_failed, call_replaced, ExpandsArguments, none, unused, too_deep, used}
+use Rattle.ppexpand.specs.Expansion.{used_refused}
 
 module _ (macros : Macros) (env : Env) where
   -- what a list's outcome is, by its turn
@@ -41,7 +42,10 @@ module _ (macros : Macros) (env : Env) where
   at_refused e (call_failed e' a f) = absurd (cc)
   at_refused e (call_replaced e' a f d) = absurd (cc)
 
-  pub at_failed : {level turns : ℕ} {left : Option ℕ} {list : List Hiding} {out : Outcome} {fault : Fault} → turn_within macros env left list ≡ Failed fault → Expands macros env level left turns list out → IsRefused fault (less_one left) turns out
+  pub at_failed : {level turns : ℕ} {left : Option ℕ} {list : List Hiding} {out : Outcome} {fault : Fault}
+      → turn_within macros env left list ≡ Failed fault
+      → Expands macros env level left turns list out
+      → IsRefused fault (less_one left) turns out
   at_failed e (done e') = absurd (cc)
   at_failed e (refused e') = absurd (cc)
   at_failed e (passes e' d) = absurd (cc)
@@ -51,7 +55,10 @@ module _ (macros : Macros) (env : Env) where
   at_failed e (call_failed e' a f) = absurd (cc)
   at_failed e (call_replaced e' a f d) = absurd (cc)
 
-  pub at_passes : {level turns : ℕ} {left : Option ℕ} {list : List Hiding} {out : Outcome} {t : Hiding} {rest : List Hiding} → turn_within macros env left list ≡ Passes t rest → Expands macros env level left turns list out → IsPassed level left t rest turns out
+  pub at_passes : {level turns : ℕ} {left : Option ℕ} {list : List Hiding} {out : Outcome} {t : Hiding} {rest : List Hiding}
+      → turn_within macros env left list ≡ Passes t rest
+      → Expands macros env level left turns list out
+      → IsPassed level left t rest turns out
   at_passes e (done e') = absurd (cc)
   at_passes e (refused e') = absurd (cc)
   at_passes {level = level} {left = left} {t = t} {rest = rest} e (passes {turns = n} {t = t'} {rest = rest'} {out = o} e' d) =
@@ -64,7 +71,10 @@ module _ (macros : Macros) (env : Env) where
   at_passes e (call_failed e' a f) = absurd (cc)
   at_passes e (call_replaced e' a f d) = absurd (cc)
 
-  pub at_replaced : {level turns : ℕ} {left : Option ℕ} {list next : List Hiding} {out : Outcome} → turn_within macros env left list ≡ Replaced next → Expands macros env level left turns list out → IsReplaced level (less_one left) next turns out
+  pub at_replaced : {level turns : ℕ} {left : Option ℕ} {list next : List Hiding} {out : Outcome}
+      → turn_within macros env left list ≡ Replaced next
+      → Expands macros env level left turns list out
+      → IsReplaced level (less_one left) next turns out
   at_replaced e (done e') = absurd (cc)
   at_replaced e (refused e') = absurd (cc)
   at_replaced e (passes e' d) = absurd (cc)
@@ -80,12 +90,18 @@ module _ (macros : Macros) (env : Env) where
   pub data AfterCall (level : ℕ) (call : Call) : Option ℕ → ExpandedArguments → ℕ → Outcome → Type 0 where
     by_argument : {after : Option ℕ} {fault : Fault} {turns : ℕ} {out : Outcome} → IsRefused fault after turns out → AfterCall level call after (Err fault) turns out
     by_fault : {after : Option ℕ} {as' : List (Option (List Hiding))} {fault : Fault} {turns : ℕ} {out : Outcome} → finished call as' ≡ Failed fault → IsRefused fault after turns out → AfterCall level call after (Ok as') turns out
-    by_next : {after : Option ℕ} {as' : List (Option (List Hiding))} {next : List Hiding} {turns : ℕ} {out : Outcome} → finished call as' ≡ Replaced next → IsReplaced level after next turns out → AfterCall level call after (Ok as') turns out
+    by_next : {after : Option ℕ} {as' : List (Option (List Hiding))} {next : List Hiding} {turns : ℕ} {out : Outcome}
+        → finished call as' ≡ Replaced next
+        → IsReplaced level after next turns out
+        → AfterCall level call after (Ok as') turns out
 
   abbrev pub IsCalled : ℕ → Option ℕ → Call → ℕ → Outcome → Type 0
   IsCalled level left call turns out = (after : Option ℕ) × (expanded : ExpandedArguments) × ExpandsArguments macros env level call left (wanted call) after expanded × AfterCall level call after expanded turns out
 
-  pub at_called : {level turns : ℕ} {left : Option ℕ} {list : List Hiding} {out : Outcome} {call : Call} → turn_within macros env left list ≡ Called call → Expands macros env level left turns list out → IsCalled level (less_one left) call turns out
+  pub at_called : {level turns : ℕ} {left : Option ℕ} {list : List Hiding} {out : Outcome} {call : Call}
+      → turn_within macros env left list ≡ Called call
+      → Expands macros env level left turns list out
+      → IsCalled level (less_one left) call turns out
   at_called e (done e') = absurd (cc)
   at_called e (refused e') = absurd (cc)
   at_called e (passes e' d) = absurd (cc)
@@ -101,16 +117,27 @@ module _ (macros : Macros) (env : Env) where
       let calls : call' ≡ call = cc in
       subst (λ c. IsCalled level (less_one left) c (suc n) out) calls (after, Ok as', a, by_next f (n, refl, d))
 
-  at_unused : {level : ℕ} {call : Call} {left after : Option ℕ} {rest : List (Option (List Hiding))} {r : ExpandedArguments} → ExpandsArguments macros env level call left (None ∷ rest) after r → (r' : ExpandedArguments) × (r ≡ with_expanded None r') × ExpandsArguments macros env level call left rest after r'
+  at_unused : {level : ℕ} {call : Call} {left after : Option ℕ} {rest : List (Option (List Hiding))} {r : ExpandedArguments}
+      → ExpandsArguments macros env level call left (None ∷ rest) after r
+      → (r' : ExpandedArguments) × (r ≡ with_expanded None r') × ExpandsArguments macros env level call left rest after r'
   at_unused (unused {out = out} a) = (out, refl, a)
 
   -- the expansion of an argument that is used
   data AfterUse (level : ℕ) (call : Call) (left : Option ℕ) (list : List Hiding) (rest : List (Option (List Hiding))) : Option ℕ → ExpandedArguments → Type 0 where
     is_deep : 256 ≤ level → AfterUse level call left list rest left (Err (fault_at_use 21 call.head))
-    is_used : {turns : ℕ} {between after : Option ℕ} {tokens : List Hiding} {out : ExpandedArguments} → level < 256 → Expands macros env (suc level) left turns list (record { tokens = tokens; fault = None; left = between }) → ExpandsArguments macros env level call between rest after out → AfterUse level call left list rest after (with_expanded (Some tokens) out)
-    is_refused : {turns : ℕ} {after : Option ℕ} {tokens : List Hiding} {fault : Fault} → level < 256 → Expands macros env (suc level) left turns list (record { tokens = tokens; fault = Some fault; left = after }) → AfterUse level call left list rest after (Err fault)
+    is_used : {turns : ℕ} {between after : Option ℕ} {tokens : List Hiding} {out : ExpandedArguments}
+        → level < 256
+        → Expands macros env (suc level) left turns list (record { tokens = tokens; fault = None; left = between })
+        → ExpandsArguments macros env level call between rest after out
+        → AfterUse level call left list rest after (with_expanded (Some tokens) out)
+    is_refused : {turns : ℕ} {after : Option ℕ} {tokens : List Hiding} {fault : Fault}
+        → level < 256
+        → Expands macros env (suc level) left turns list (record { tokens = tokens; fault = Some fault; left = after })
+        → AfterUse level call left list rest after (Err fault)
 
-  at_used : {level : ℕ} {call : Call} {left after : Option ℕ} {list : List Hiding} {rest : List (Option (List Hiding))} {r : ExpandedArguments} → ExpandsArguments macros env level call left (Some list ∷ rest) after r → AfterUse level call left list rest after r
+  at_used : {level : ℕ} {call : Call} {left after : Option ℕ} {list : List Hiding} {rest : List (Option (List Hiding))} {r : ExpandedArguments}
+      → ExpandsArguments macros env level call left (Some list ∷ rest) after r
+      → AfterUse level call left list rest after r
   at_used (too_deep h) = is_deep h
   at_used (used h d a) = is_used h d a
   at_used (used_refused h d) = is_refused h d
@@ -122,7 +149,10 @@ module _ (macros : Macros) (env : Env) where
   abbrev Given : Type 0
   Given = Option ℕ × ExpandedArguments
 
-  after_argument : {level : ℕ} {call : Call} {fault : Fault} {left after : Option ℕ} {r : ExpandedArguments} {n : ℕ} {p : Outcome} → ◌≡◌ {A = Given} (left, Err fault) (after, r) → AfterCall level call after r n p → (0 ≡ n) × (◌≡◌ {A = Outcome} (record { tokens = []; fault = Some fault; left = left }) p)
+  after_argument : {level : ℕ} {call : Call} {fault : Fault} {left after : Option ℕ} {r : ExpandedArguments} {n : ℕ} {p : Outcome}
+      → ◌≡◌ {A = Given} (left, Err fault) (after, r)
+      → AfterCall level call after r n p
+      → (0 ≡ n) × (◌≡◌ {A = Outcome} (record { tokens = []; fault = Some fault; left = left }) p)
   after_argument {fault = fault} {left = left} {n = n} {p = p} e (by_argument {after = after} {fault = fault'} h) =
       let same : fault' ≡ fault = let rs : Err fault ≡ Err fault' = λ i. (e i).1 in cc in
       let lefts : left ≡ after = λ i. (e i).0 in
@@ -131,7 +161,11 @@ module _ (macros : Macros) (env : Env) where
   after_argument {fault = fault} e (by_fault {as' = bs} f h) = let rs : Err fault ≡ Ok bs = λ i. (e i).1 in absurd (cc)
   after_argument {fault = fault} e (by_next {as' = bs} f h) = let rs : Err fault ≡ Ok bs = λ i. (e i).1 in absurd (cc)
 
-  after_fault : {level : ℕ} {call : Call} {as' : List (Option (List Hiding))} {fault : Fault} {left after : Option ℕ} {r : ExpandedArguments} {n : ℕ} {p : Outcome} → finished call as' ≡ Failed fault → ◌≡◌ {A = Given} (left, Ok as') (after, r) → AfterCall level call after r n p → (0 ≡ n) × (◌≡◌ {A = Outcome} (record { tokens = []; fault = Some fault; left = left }) p)
+  after_fault : {level : ℕ} {call : Call} {as' : List (Option (List Hiding))} {fault : Fault} {left after : Option ℕ} {r : ExpandedArguments} {n : ℕ} {p : Outcome}
+      → finished call as' ≡ Failed fault
+      → ◌≡◌ {A = Given} (left, Ok as') (after, r)
+      → AfterCall level call after r n p
+      → (0 ≡ n) × (◌≡◌ {A = Outcome} (record { tokens = []; fault = Some fault; left = left }) p)
   after_fault {as' = as'} f e (by_argument {fault = fault'} h) = let rs : Ok as' ≡ Err fault' = λ i. (e i).1 in absurd (cc)
   after_fault {call = call} {as' = as'} {fault = fault} {left = left} {n = n} {p = p} f e (by_fault {after = after} {as' = bs} {fault = fault'} f' h) =
       let rs : Ok as' ≡ Ok bs = λ i. (e i).1 in
@@ -145,7 +179,12 @@ module _ (macros : Macros) (env : Env) where
       let bodies : as' ≡ bs = cc in
       let turns : Failed fault ≡ Replaced next = sym f ∙ ap (finished call) bodies ∙ f' in absurd (cc)
 
-  after_next : {level m : ℕ} {call : Call} {as' : List (Option (List Hiding))} {next : List Hiding} {o : Outcome} {left after : Option ℕ} {r : ExpandedArguments} {n : ℕ} {p : Outcome} → finished call as' ≡ Replaced next → ((k : ℕ) (q : Outcome) → Expands macros env level left k next q → (m ≡ k) × (o ≡ q)) → ◌≡◌ {A = Given} (left, Ok as') (after, r) → AfterCall level call after r n p → (suc m ≡ n) × (o ≡ p)
+  after_next : {level m : ℕ} {call : Call} {as' : List (Option (List Hiding))} {next : List Hiding} {o : Outcome} {left after : Option ℕ} {r : ExpandedArguments} {n : ℕ} {p : Outcome}
+      → finished call as' ≡ Replaced next
+      → ((k : ℕ) (q : Outcome) → Expands macros env level left k next q → (m ≡ k) × (o ≡ q))
+      → ◌≡◌ {A = Given} (left, Ok as') (after, r)
+      → AfterCall level call after r n p
+      → (suc m ≡ n) × (o ≡ p)
   after_next {as' = as'} f ih e (by_argument {fault = fault'} h) = let rs : Ok as' ≡ Err fault' = λ i. (e i).1 in absurd (cc)
   after_next {call = call} {as' = as'} {next = next} f ih e (by_fault {as' = bs} {fault = fault} f' h) =
       let rs : Ok as' ≡ Ok bs = λ i. (e i).1 in
@@ -163,12 +202,20 @@ module _ (macros : Macros) (env : Env) where
   at_none : {level : ℕ} {call : Call} {left after : Option ℕ} {s : ExpandedArguments} → ExpandsArguments macros env level call left [] after s → ◌≡◌ {A = Given} (left, Ok []) (after, s)
   at_none none = refl
 
-  deep_same : {level : ℕ} {call : Call} {left after : Option ℕ} {list : List Hiding} {rest : List (Option (List Hiding))} {s : ExpandedArguments} → 256 ≤ level → AfterUse level call left list rest after s → ◌≡◌ {A = Given} (left, Err (fault_at_use 21 call.head)) (after, s)
+  deep_same : {level : ℕ} {call : Call} {left after : Option ℕ} {list : List Hiding} {rest : List (Option (List Hiding))} {s : ExpandedArguments}
+      → 256 ≤ level
+      → AfterUse level call left list rest after s
+      → ◌≡◌ {A = Given} (left, Err (fault_at_use 21 call.head)) (after, s)
   deep_same h (is_deep h') = refl
   deep_same h (is_used h' d a) = absurd (omega arith)
   deep_same h (is_refused h' d) = absurd (omega arith)
 
-  used_same : {level m : ℕ} {call : Call} {list tokens : List Hiding} {rest : List (Option (List Hiding))} {left between first after : Option ℕ} {out s : ExpandedArguments} → level < 256 → ((n : ℕ) (p : Outcome) → Expands macros env (suc level) left n list p → (m ≡ n) × (◌≡◌ {A = Outcome} (record { tokens = tokens; fault = None; left = between }) p)) → ((l : Option ℕ) (s' : ExpandedArguments) → ExpandsArguments macros env level call between rest l s' → ◌≡◌ {A = Given} (first, out) (l, s')) → AfterUse level call left list rest after s → ◌≡◌ {A = Given} (first, with_expanded (Some tokens) out) (after, s)
+  used_same : {level m : ℕ} {call : Call} {list tokens : List Hiding} {rest : List (Option (List Hiding))} {left between first after : Option ℕ} {out s : ExpandedArguments}
+      → level < 256
+      → ((n : ℕ) (p : Outcome) → Expands macros env (suc level) left n list p → (m ≡ n) × (◌≡◌ {A = Outcome} (record { tokens = tokens; fault = None; left = between }) p))
+      → ((l : Option ℕ) (s' : ExpandedArguments) → ExpandsArguments macros env level call between rest l s' → ◌≡◌ {A = Given} (first, out) (l, s'))
+      → AfterUse level call left list rest after s
+      → ◌≡◌ {A = Given} (first, with_expanded (Some tokens) out) (after, s)
   used_same h ih more (is_deep h') = absurd (omega arith)
   used_same {level = level} {call = call} {tokens = tokens} {rest = rest} {between = between} {out = out} h ih more (is_used {turns = n} {between = other} {after = after} {tokens = ts} {out = out'} h' d a) =
       let both = (ih n (record { tokens = ts; fault = None; left = other }) d).1 in
@@ -179,7 +226,11 @@ module _ (macros : Macros) (env : Env) where
       let both = (ih n (record { tokens = ts; fault = Some fault; left = after }) d).1 in
       let faults : None ≡ Some fault = λ i. (both i).fault in absurd (cc)
 
-  refused_argument_same : {level m : ℕ} {call : Call} {list tokens : List Hiding} {fault : Fault} {rest : List (Option (List Hiding))} {left first after : Option ℕ} {s : ExpandedArguments} → level < 256 → ((n : ℕ) (p : Outcome) → Expands macros env (suc level) left n list p → (m ≡ n) × (◌≡◌ {A = Outcome} (record { tokens = tokens; fault = Some fault; left = first }) p)) → AfterUse level call left list rest after s → ◌≡◌ {A = Given} (first, Err fault) (after, s)
+  refused_argument_same : {level m : ℕ} {call : Call} {list tokens : List Hiding} {fault : Fault} {rest : List (Option (List Hiding))} {left first after : Option ℕ} {s : ExpandedArguments}
+      → level < 256
+      → ((n : ℕ) (p : Outcome) → Expands macros env (suc level) left n list p → (m ≡ n) × (◌≡◌ {A = Outcome} (record { tokens = tokens; fault = Some fault; left = first }) p))
+      → AfterUse level call left list rest after s
+      → ◌≡◌ {A = Given} (first, Err fault) (after, s)
   refused_argument_same h ih (is_deep h') = absurd (omega arith)
   refused_argument_same {fault = fault} h ih (is_used {turns = n} {between = other} {tokens = ts} h' d a) =
       let both = (ih n (record { tokens = ts; fault = None; left = other }) d).1 in
@@ -213,7 +264,11 @@ module _ (macros : Macros) (env : Env) where
         let h = at_called e d' in
         after_next f (λ k o. same_outcome d k o) (same_expanded a h.0 h.1 h.2) h.3
 
-    pub same_expanded : {level : ℕ} {call : Call} {left first : Option ℕ} {as' : List (Option (List Hiding))} {r : ExpandedArguments} → ExpandsArguments macros env level call left as' first r → (after : Option ℕ) (s : ExpandedArguments) → ExpandsArguments macros env level call left as' after s → ◌≡◌ {A = Given} (first, r) (after, s)
+    pub same_expanded : {level : ℕ} {call : Call} {left first : Option ℕ} {as' : List (Option (List Hiding))} {r : ExpandedArguments}
+        → ExpandsArguments macros env level call left as' first r
+        → (after : Option ℕ) (s : ExpandedArguments)
+        → ExpandsArguments macros env level call left as' after s
+        → ◌≡◌ {A = Given} (first, r) (after, s)
     same_expanded none l s a = at_none a
     same_expanded (unused a) l s a' =
         let h = at_unused a' in

@@ -65,7 +65,8 @@ module _ (macros : Macros) (env : Env) where
           → ExpandsArguments level call (less_one left) (wanted call) after (Ok expanded)
           → finished call expanded ≡ Failed f
           → Expands level left 0 list (ended after (Some f))
-      call_replaced : {level turns : ℕ} {left after : Option ℕ} {list next : List Hiding} {call : Call} {expanded : List (Option (List Hiding))} {out : Outcome}
+      call_replaced : {level turns : ℕ} {left after : Option ℕ} {list next : List Hiding} {call : Call}
+          {expanded : List (Option (List Hiding))} {out : Outcome}
           → turn_within left list ≡ Called call
           → ExpandsArguments level call (less_one left) (wanted call) after (Ok expanded)
           → finished call expanded ≡ Replaced next
@@ -83,12 +84,14 @@ module _ (macros : Macros) (env : Env) where
       too_deep : {level : ℕ} {call : Call} {left : Option ℕ} {list : List Hiding} {rest : List (Option (List Hiding))}
           → 256 ≤ level
           → ExpandsArguments level call left (Some list ∷ rest) left (Err (fault_at_use 21 call.head))
-      used : {level turns : ℕ} {call : Call} {left between after : Option ℕ} {list tokens : List Hiding} {rest : List (Option (List Hiding))} {out : ExpandedArguments}
+      used : {level turns : ℕ} {call : Call} {left between after : Option ℕ} {list tokens : List Hiding}
+          {rest : List (Option (List Hiding))} {out : ExpandedArguments}
           → level < 256
           → Expands (suc level) left turns list (record { tokens = tokens; fault = None; left = between })
           → ExpandsArguments level call between rest after out
           → ExpandsArguments level call left (Some list ∷ rest) after (with_expanded (Some tokens) out)
-      used_refused : {level turns : ℕ} {call : Call} {left after : Option ℕ} {list tokens : List Hiding} {rest : List (Option (List Hiding))} {f : Fault}
+      used_refused : {level turns : ℕ} {call : Call} {left after : Option ℕ} {list tokens : List Hiding}
+          {rest : List (Option (List Hiding))} {f : Fault}
           → level < 256
           → Expands (suc level) left turns list (record { tokens = tokens; fault = Some f; left = after })
           → ExpandsArguments level call left (Some list ∷ rest) after (Err f)
@@ -105,7 +108,9 @@ module _ (macros : Macros) (env : Env) where
     count (call_failed e arguments f) = suc (count_arguments arguments)
     count (call_replaced e arguments f more) = suc (count_arguments arguments + count more)
 
-    pub count_arguments : {level : ℕ} {call : Call} {left after : Option ℕ} {as' : List (Option (List Hiding))} {out : ExpandedArguments} → ExpandsArguments level call left as' after out → ℕ
+    pub count_arguments : {level : ℕ} {call : Call} {left after : Option ℕ} {as' : List (Option (List Hiding))} {out : ExpandedArguments}
+        → ExpandsArguments level call left as' after out
+        → ℕ
     count_arguments none = 0
     count_arguments (unused more) = count_arguments more
     count_arguments (too_deep h) = 0
@@ -125,5 +130,7 @@ pub record IsExpansion (macros : Macros) (env : Env) (left : Option ℕ) (tokens
   pub left_over : e.left ≡ outcome.left
 
 -- the number of replacements in an expansion
-abbrev pub count_expansion : {macros : Macros} {env : Env} {left : Option ℕ} {tokens : List Token} {e : Expanded} → IsExpansion macros env left tokens e → ℕ
+abbrev pub count_expansion : {macros : Macros} {env : Env} {left : Option ℕ} {tokens : List Token} {e : Expanded}
+    → IsExpansion macros env left tokens e
+    → ℕ
 count_expansion {macros} {env} x = count macros env x.expands.1

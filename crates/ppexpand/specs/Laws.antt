@@ -44,11 +44,17 @@ pub data Leads (macros : Macros) (env : Env) (level : ℕ) : Option ℕ → List
 -- so many turns lead from a list to another
 pub data LeadsOn (macros : Macros) (env : Env) (level : ℕ) : ℕ → Option ℕ → List Hiding → Option ℕ → List Hiding → Type 0 where
   stays : {left : Option ℕ} {list : List Hiding} → LeadsOn macros env level 0 left list left list
-  turns : {n : ℕ} {left between after : Option ℕ} {list next last : List Hiding} → Leads macros env level left list between next → LeadsOn macros env level n between next after last → LeadsOn macros env level (suc n) left list after last
+  turns : {n : ℕ} {left between after : Option ℕ} {list next last : List Hiding}
+      → Leads macros env level left list between next
+      → LeadsOn macros env level n between next after last
+      → LeadsOn macros env level (suc n) left list after last
 
 -- a list takes no more turns than this
 abbrev pub EndsWithin : Macros → Env → ℕ → ℕ → Option ℕ → List Hiding → Type 0
-EndsWithin macros env level most left list = (n : ℕ) (after : Option ℕ) (last : List Hiding) → LeadsOn macros env level n left list after last → n ≤ most
+EndsWithin macros env level most left list =
+    (n : ℕ) (after : Option ℕ) (last : List Hiding)
+    → LeadsOn macros env level n left list after last
+    → n ≤ most
 
 -- ---- the budget
 
@@ -76,7 +82,11 @@ pub record IsCapped (b replacements : ℕ) (whole out : Outcome) : Type 0 where
 
 -- without a budget no expansion ends in fault 35
 abbrev pub OnlyBudgetsRefuse : Type 0
-OnlyBudgetsRefuse = (macros : Macros) (env : Env) (level : ℕ) (list : List Hiding) (out : Outcome) (f : Fault) → ExpandsTo macros env level None list out → out.fault ≡ Some f → f.number ≢ 35
+OnlyBudgetsRefuse =
+    (macros : Macros) (env : Env) (level : ℕ) (list : List Hiding) (out : Outcome) (f : Fault)
+    → ExpandsTo macros env level None list out
+    → out.fault ≡ Some f
+    → f.number ≢ 35
 
 -- ---- what comes out
 
@@ -122,7 +132,8 @@ pub data Separated : Option ℕ → List Hiding → List (List Hiding) → Type 
       → Separated commas (a ++ t ∷ rest) (a ∷ as')
 
 -- behind `(` stand these arguments, this `)` and this
-pub record IsInvocation (commas : Option ℕ) (list : List Hiding) (arguments : List (List Hiding)) (close : Hiding) (behind : List Hiding) : Type 0 where
+pub record IsInvocation (commas : Option ℕ) (list : List Hiding) (arguments : List (List Hiding)) (close : Hiding)
+    (behind : List Hiding) : Type 0 where
   pub inside : List Hiding
   pub laid_out : list ≡ inside ++ close ∷ behind
   pub closes : mark_of close.token ≡ Close

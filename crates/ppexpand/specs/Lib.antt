@@ -6,4 +6,5 @@ pub mod Shown
 pub mod Laws
 pub mod Lists
 pub mod Pieces
+pub mod Unread
 pub mod Skipping

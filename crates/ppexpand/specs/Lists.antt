@@ -1,4 +1,4 @@
--- Lists of tokens in flight, by their parts.
+-- Lists of tokens in flight, by their parts: what the code says of its own lists. No definition rests on this file.
 use Rattle.std.specs.Prelude.{◌≡◌, ℕ, Bool, true, false, not, ◌&&◌, List, [], ◌∷◌, is_some}
 use Rattle.std.specs.List.{AllByRecursion}
 use Rattle.pptext.specs.declared.tokens.Token.{Token}

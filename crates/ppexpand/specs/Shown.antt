@@ -1,5 +1,6 @@
--- What the program's values stand for.
-use Rattle.std.specs.Prelude.{◌≡◌, ℕ, suc, ◌<◌, ◌≤◌, List, [], ◌∷◌, ◌++◌, map, Bool, true, false, length, ◌==◌, Option, Some, None, Result, Ok, Err, Vec}
+-- What the program's values stand for: words of contracts inside the crate. No definition rests on this file.
+use Rattle.std.specs.Prelude.{◌≡◌, ℕ, suc, ◌<◌, ◌≤◌, List, [], ◌∷◌, ◌++◌, map, Bool, true, false, length, ◌==◌, Option, Some, None, Result, Ok, Err}
+use Rattle.std.specs.Prelude.{Vec}
 use Rattle.std.specs.Global.{Global}
 use Rattle.std.specs.FinSet as set
 use Rattle.std.specs.List.{AllByRecursion}
@@ -78,7 +79,13 @@ GatheredKnown sets left _ = Unit {0}
 
 -- an invocation with what stands behind its `)`
 abbrev pub call_in : Numbered → Invocation → List Hidden → Call
-call_in sets c behind = record { head = hiding sets c.head; macro = c.replaced.now; arguments = given_in sets c.arguments.items; gain = set.insert (set_at sets c.both) c.head.token.text; behind = hidings sets behind }
+call_in sets c behind = record {
+  head = hiding sets c.head;
+  macro = c.replaced.now;
+  arguments = given_in sets c.arguments.items;
+  gain = set.insert (set_at sets c.both) c.head.token.text;
+  behind = hidings sets behind;
+}
 
 -- the sets of an invocation are there
 pub record CallKnown (sets : Numbered) (c : Invocation) : Type 0 where
@@ -118,23 +125,39 @@ abbrev pub Raises : Option Fault → (Fault → Type 0) → Type 0
 Raises raised holds = (f : Fault) × (raised ≡ Some f) × holds f
 
 -- an argument used by an invocation at this level has this expansion, or this fault, and leaves so much
-pub data ExpandsArgument (macros : Macros) (env : Env) (level : ℕ) (head : Token) (left : Option ℕ) (list : List Hiding) : Option ℕ → Result (List Hiding) Fault → Type 0 where
-  expands : {turns : ℕ} {after : Option ℕ} {tokens : List Hiding} → level < 256 → Expands macros env (suc level) left turns list (record { tokens = tokens; fault = None; left = after }) → ExpandsArgument macros env level head left list after (Ok tokens)
-  raises : {turns : ℕ} {after : Option ℕ} {tokens : List Hiding} {f : Fault} → level < 256 → Expands macros env (suc level) left turns list (record { tokens = tokens; fault = Some f; left = after }) → ExpandsArgument macros env level head left list after (Err f)
+pub data ExpandsArgument (macros : Macros) (env : Env) (level : ℕ) (head : Token) (left : Option ℕ) (list : List Hiding)
+    : Option ℕ → Result (List Hiding) Fault → Type 0 where
+  expands : {turns : ℕ} {after : Option ℕ} {tokens : List Hiding}
+      → level < 256
+      → Expands macros env (suc level) left turns list (record { tokens = tokens; fault = None; left = after })
+      → ExpandsArgument macros env level head left list after (Ok tokens)
+  raises : {turns : ℕ} {after : Option ℕ} {tokens : List Hiding} {f : Fault}
+      → level < 256
+      → Expands macros env (suc level) left turns list (record { tokens = tokens; fault = Some f; left = after })
+      → ExpandsArgument macros env level head left list after (Err f)
   deep : 256 ≤ level → ExpandsArgument macros env level head left list left (Err (fault 21 head.used head.text))
 
 -- an argument used by an invocation at this level is expanded to this, which stands for its expansion
 abbrev pub HasExpanded : Macros → Env → ℕ → Token → Option ℕ → Option ℕ → Numbered → Numbered → List Hidden → Expansion → Type 0
-HasExpanded macros env level head left after before sets given e = (tokens : List Hiding) × (option_map (hidings sets) (option_of given e) ≡ Some tokens) × ExpandsArgument macros env level head left (hidings before given) after (Ok tokens)
+HasExpanded macros env level head left after before sets given e = (tokens : List Hiding)
+    × (option_map (hidings sets) (option_of given e) ≡ Some tokens)
+    × ExpandsArgument macros env level head left (hidings before given) after (Ok tokens)
 
 -- a call at this level, where so much is left, comes to this turn: its arguments are expanded, and then it is replaced
 pub data Invokes (macros : Macros) (env : Env) (level : ℕ) (call : Call) (left : Option ℕ) : Option ℕ → Turn → Type 0 where
-  refuses : {after : Option ℕ} {f : Fault} → ExpandsArguments macros env level call left (wanted call) after (Err f) → Invokes macros env level call left after (Failed f)
-  finishes : {after : Option ℕ} {expanded : List (Option (List Hiding))} → ExpandsArguments macros env level call left (wanted call) after (Ok expanded) → Invokes macros env level call left after (finished call expanded)
+  refuses : {after : Option ℕ} {f : Fault}
+      → ExpandsArguments macros env level call left (wanted call) after (Err f)
+      → Invokes macros env level call left after (Failed f)
+  finishes : {after : Option ℕ} {expanded : List (Option (List Hiding))}
+      → ExpandsArguments macros env level call left (wanted call) after (Ok expanded)
+      → Invokes macros env level call left after (finished call expanded)
 
 -- one turn led from the first list to the second, and these tokens passed
-pub record Advances (macros : Macros) (env : Env) (level : ℕ) (left : Option ℕ) (list : List Hiding) (after : Option ℕ) (next : List Hiding) (tokens : List Hiding) : Type 0 where
-  pub turn : (n : ℕ) (out : Outcome) → Expands macros env level after n next out → Expands macros env level left (suc n) list (record { tokens = tokens ++ out.tokens; fault = out.fault; left = out.left })
+pub record Advances (macros : Macros) (env : Env) (level : ℕ) (left : Option ℕ) (list : List Hiding) (after : Option ℕ)
+    (next : List Hiding) (tokens : List Hiding) : Type 0 where
+  pub turn : (n : ℕ) (out : Outcome)
+      → Expands macros env level after n next out
+      → Expands macros env level left (suc n) list (record { tokens = tokens ++ out.tokens; fault = out.fault; left = out.left })
 
 -- the list ends here, with this fault or none, and so much is left
 abbrev pub EndsWith : Macros → Env → ℕ → Option ℕ → List Hiding → Option Fault → Option ℕ → Type 0
@@ -142,7 +165,9 @@ EndsWith macros env level left list f after = Expands macros env level left 0 li
 
 -- one turn led from a list, behind these tokens that passed, to another behind more of them
 abbrev pub HasAdvanced : Macros → Env → ℕ → Option ℕ → List Hiding → List Hiding → Option ℕ → List Hiding → List Hiding → Type 0
-HasAdvanced macros env level left list passed after next more = (tokens : List Hiding) × (more ≡ passed ++ tokens) × Advances macros env level left list after next tokens
+HasAdvanced macros env level left list passed after next more = (tokens : List Hiding)
+    × (more ≡ passed ++ tokens)
+    × Advances macros env level left list after next tokens
 
 -- a list ended behind these tokens that passed, with this fault or none, and they stayed
 abbrev pub HasEnded : Macros → Env → ℕ → Option ℕ → List Hiding → List Hiding → Option Fault → Option ℕ → List Hiding → Type 0
@@ -155,4 +180,5 @@ HasTaken macros env level left list passed false f after next more = HasEnded ma
 
 -- the head of a list is invoked, which is counted; nothing passed, and there was no fault
 abbrev pub HasCalled : Macros → Env → Option ℕ → List Hiding → List Hiding → Call → Option Fault → Option ℕ → List Hiding → Type 0
-HasCalled macros env left list passed call f after more = (turn_within macros env left list ≡ Called call) × (f ≡ None) × (after ≡ less_one left) × (more ≡ passed)
+HasCalled macros env left list passed call f after more =
+    (turn_within macros env left list ≡ Called call) × (f ≡ None) × (after ≡ less_one left) × (more ≡ passed)

@@ -1,4 +1,4 @@
--- Tokens that pass in a row.
+-- Tokens that pass in a row: words of contracts inside the crate. No definition rests on this file.
 use Rattle.std.specs.Prelude.{◌≡◌, List, ◌++◌}
 use Rattle.ppmacro.specs.Names.{Macros}
 use Rattle.ppmacro.specs.declared.flying.Hidden.{Hidden}

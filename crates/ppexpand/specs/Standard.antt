@@ -1,4 +1,5 @@
--- Expansion as the standard has it, which knows no budget (6.10.3, 6.10.3.1, 6.10.3.4, 6.10.8.1): a rule for each way to go on, and one for each fault.
+-- Expansion as the standard has it, which knows no budget (6.10.3, 6.10.3.1, 6.10.3.4, 6.10.8.1): a rule for each way to go on, and one for
+-- each fault.
 use Rattle.std.specs.Prelude.{◌≡◌, ℕ, suc, ◌<◌, ◌≤◌, Bool, true, false, List, [], ◌∷◌, map, Option, Some, None, Result, Ok, Err}
 use Rattle.std.specs.FinSet as set
 use Rattle.pptext.specs.declared.tokens.Token.{Token}
@@ -51,7 +52,8 @@ object_result t d = substituted d no_arguments (set.insert t.hide t.token.text) 
 
 -- what an invocation is replaced by once its arguments are expanded (6.10.3.1), or the fault
 abbrev pub invocation_result : Call → List (Option (List Hiding)) → Result Marked Fault
-invocation_result call expanded = substituted call.macro (record { given = call.arguments; expanded = expanded }) call.gain call.head.token.used call.head.token.space
+invocation_result call expanded =
+    substituted call.macro (record { given = call.arguments; expanded = expanded }) call.gain call.head.token.used call.head.token.space
 
 mutual
   -- at this level a list expands to these tokens, up to its end or to this fault
@@ -103,7 +105,8 @@ mutual
         → Opens macros t paren d names variadic
         → gather 0 (separators names variadic) inside ≡ Unclosed
         → StandardExpands macros env level (t ∷ paren ∷ inside) [] (Some (fault_at_use 17 t))
-    wrong_number : {level : ℕ} {t paren close : Hiding} {inside behind : List Hiding} {d : Definition} {names : List Name} {variadic : Bool} {arguments : List (List Hiding)}
+    wrong_number : {level : ℕ} {t paren close : Hiding} {inside behind : List Hiding} {d : Definition} {names : List Name}
+        {variadic : Bool} {arguments : List (List Hiding)}
         → Opens macros t paren d names variadic
         → gather 0 (separators names variadic) inside ≡ Closed arguments close behind
         → fitted names variadic arguments ≡ None
@@ -124,8 +127,8 @@ mutual
         → StandardExpands macros env level (followed_by call.behind m) tokens fault
         → StandardExpands macros env level list tokens fault
 
-  -- The arguments of an invocation in a list at this level, each expanded as if it were all of a file, one level deeper (6.10.3.1), in order, up to the
-  -- first fault; level 256 is the deepest.
+  -- The arguments of an invocation in a list at this level, each expanded as if it were all of a file, one level deeper (6.10.3.1), in order,
+  -- up to the first fault; level 256 is the deepest.
   pub data StandardExpandsArguments (macros : Macros) (env : Env) : ℕ → Call → List (Option (List Hiding)) → ExpandedArguments → Type 0 where
     none : {level : ℕ} {call : Call} → StandardExpandsArguments macros env level call [] (Ok [])
     unused : {level : ℕ} {call : Call} {rest : List (Option (List Hiding))} {out : ExpandedArguments}

@@ -1,6 +1,7 @@
 -- What the head of a list calls for: the rules of macro replacement (6.10.3, 6.10.3.1, 6.10.3.4), by cases on whole
 -- lists whose tokens carry hide sets.
-use Rattle.std.specs.Prelude.{ℕ, zero, suc, ℤ, pos, ◌+ℤ◌, nat_abs, decimal, Bool, true, false, List, [], ◌∷◌, ◌++◌, Option, Some, None, Result, Ok, Err, codes, ◌==◌, if◌then◌else◌}
+use Rattle.std.specs.Prelude.{ℕ, zero, suc, ℤ, pos, ◌+ℤ◌, nat_abs, decimal, Bool, true, false, List, [], ◌∷◌, ◌++◌, Option, Some, None, Result, Ok}
+use Rattle.std.specs.Prelude.{Err, codes, ◌==◌, if◌then◌else◌}
 use Rattle.std.specs.List.{list_any}
 use Rattle.std.specs.FinSet as set
 use Rattle.std.specs.FinMap as table
@@ -105,7 +106,8 @@ abbrev pub gain_of : HideSet → HideSet → Name → HideSet
 gain_of hide close name = set.insert (set.intersection hide close) name
 
 abbrev pub called : Hiding → Definition → Option (List (List Hiding)) → Hiding → List Hiding → Turn
-called t d (Some as') close behind = Called (record { head = t; macro = d; arguments = as'; gain = gain_of t.hide close.hide t.token.text; behind = behind })
+called t d (Some as') close behind =
+    Called (record { head = t; macro = d; arguments = as'; gain = gain_of t.hide close.hide t.token.text; behind = behind })
 called t d None close behind = Failed (fault_at_use 18 t)
 
 abbrev pub invoked : Hiding → Definition → List Name → Bool → Gathered → Turn
@@ -116,7 +118,8 @@ invoked t d names variadic Unclosed = Failed (fault_at_use 17 t)
 -- a function-like macro's name is invoked where `(` is next, and else passes (6.10.3, paragraph 10)
 abbrev pub function_turn : Hiding → Definition → List Name → Bool → List Hiding → Turn
 function_turn t d names variadic [] = Passes t []
-function_turn t d names variadic (p ∷ rest) = if is_open p.token then invoked t d names variadic (gather 0 (separators names variadic) rest) else Passes t (p ∷ rest)
+function_turn t d names variadic (p ∷ rest) =
+    if is_open p.token then invoked t d names variadic (gather 0 (separators names variadic) rest) else Passes t (p ∷ rest)
 
 abbrev pub no_arguments : Arguments
 no_arguments = record { given = []; expanded = [] }
@@ -185,4 +188,6 @@ wanted call = to_expand 0 (chains_of call.macro) call.arguments
 
 -- the turn once they are expanded
 unfoldable pub finished : Call → List (Option (List Hiding)) → Turn
-finished call expanded = replaced_by (substituted call.macro (record { given = call.arguments; expanded = expanded }) call.gain call.head.token.used call.head.token.space) call.behind
+finished call expanded = replaced_by
+    (substituted call.macro (record { given = call.arguments; expanded = expanded }) call.gain call.head.token.used call.head.token.space)
+    call.behind

@@ -10,7 +10,8 @@ ghost use Rattle.ppexpand.specs.Turn.{wanted};
 ghost use Rattle.ppexpand.specs.Expansion.{ExpandsTo, ExpandsArguments, IsExpansion};
 ghost use Rattle.ppexpand.specs.Lists.{ArePlain};
 ghost use Rattle.ppexpand.specs.Skipping.{HasSkipped};
-ghost use Rattle.ppexpand.specs.Shown.{expanded_in, ExpansionsKnown, call_in, CallKnown, finished_in, Raises, held, ExpandsArgument, HasExpanded, Invokes, HasTaken, HasCalled};
+ghost use Rattle.ppexpand.specs.Shown.{expanded_in, ExpansionsKnown, call_in, CallKnown, finished_in, Raises, held, ExpandsArgument, HasExpanded};
+ghost use Rattle.ppexpand.specs.Shown.{Invokes, HasTaken, HasCalled};
 
 use crate::alone::used_alone;
 use crate::cursor::Cursor;
@@ -103,8 +104,10 @@ fn take_turn<'t, 'x, 'a: 'x>(
     requires list_known { AllKnown sets.old list.old }
     requires passed_known { AllKnown sets.old passed.old }
     ensures on { IfOk result (λ goes. MatchOption call.new
-        ((level : ℕ) → HasTaken table.now env.now level left.old (hidings sets.old list.old) (hidings sets.old passed.old) goes fault.new left.new (hidings sets.new list.new) (hidings sets.new passed.new))
-        (λ c. HasCalled table.now env.now left.old (hidings sets.old list.old) (hidings sets.old passed.old) (call_in sets.new c list.new) fault.new left.new (hidings sets.new passed.new))) }
+        ((level : ℕ) → HasTaken table.now env.now level left.old (hidings sets.old list.old) (hidings sets.old passed.old)
+        goes fault.new left.new (hidings sets.new list.new) (hidings sets.new passed.new))
+        (λ c. HasCalled table.now env.now left.old (hidings sets.old list.old) (hidings sets.old passed.old)
+        (call_in sets.new c list.new) fault.new left.new (hidings sets.new passed.new))) }
     ensures call_known { OnOk result (IfSome call.new (λ c. CallKnown sets.new c × AllKnown sets.new list.new)) }
     ensures list_known { IfOk result (λ goes. goes ≡ true → AllKnown sets.new list.new) }
     ensures passed_known { OnOk result (AllKnown sets.new passed.new) }
@@ -207,8 +210,11 @@ fn expand_arguments<'x, 'a: 'x>(
     requires chains { chains.now ≡ chains_of call.now.replaced.now }
     requires no_fault { fault.old ≡ None }
     ensures is { IfOk result (λ r. MatchOption r
-        (Raises fault.new (λ f. (behind : List Hidden) → ExpandsArguments table.now env.now level (call_in sets.old call.now behind) left.old (wanted (call_in sets.old call.now behind)) left.new (Err f)))
-        (λ v. (fault.new ≡ None) × ((behind : List Hidden) → ExpandsArguments table.now env.now level (call_in sets.old call.now behind) left.old (wanted (call_in sets.old call.now behind)) left.new (Ok (expanded_in sets.new call.now.arguments.items v.items))))) }
+        (Raises fault.new (λ f. (behind : List Hidden) → ExpandsArguments table.now env.now level
+        (call_in sets.old call.now behind) left.old (wanted (call_in sets.old call.now behind)) left.new (Err f)))
+        (λ v. (fault.new ≡ None) × ((behind : List Hidden) → ExpandsArguments table.now env.now level
+        (call_in sets.old call.now behind) left.old (wanted (call_in sets.old call.now behind)) left.new
+        (Ok (expanded_in sets.new call.now.arguments.items v.items))))) }
     ensures known { IfOk result (λ r. IfSome r (λ v. ExpansionsKnown sets.new v.items)) }
     ensures keeps { Keeps sets.old sets.new }
 {
@@ -248,7 +254,8 @@ fn follow<'x, 'a: 'x>(
     requires call_known { CallKnown sets.old call.now }
     requires list_known { AllKnown sets.old list.old }
     requires no_fault { fault.old ≡ None }
-    ensures is { OnOk result (Invokes table.now env.now level (call_in sets.old call.now list.old) left.old left.new (finished_in sets.new list.new fault.new)) }
+    ensures is { OnOk result (Invokes table.now env.now level (call_in sets.old call.now list.old) left.old left.new
+        (finished_in sets.new list.new fault.new)) }
     ensures known { OnOk result (fault.new ≡ None → AllKnown sets.new list.new) }
     ensures keeps { Keeps sets.old sets.new }
 {
@@ -281,7 +288,9 @@ fn advance<'x, 'a: 'x>(
     requires list_known { AllKnown sets.old list.old }
     requires passed_known { AllKnown sets.old passed.old }
     requires no_fault { fault.old ≡ None }
-    ensures on { IfOk result (λ goes. HasTaken table.now env.now level left.old (hidings sets.old list.old) (hidings sets.old passed.old) goes fault.new left.new (hidings sets.new list.new) (hidings sets.new passed.new)) }
+    ensures on { IfOk result (λ goes.
+        HasTaken table.now env.now level left.old (hidings sets.old list.old) (hidings sets.old passed.old)
+        goes fault.new left.new (hidings sets.new list.new) (hidings sets.new passed.new)) }
     ensures list_known { IfOk result (λ goes. goes ≡ true → AllKnown sets.new list.new) }
     ensures passed_known { OnOk result (AllKnown sets.new passed.new) }
     ensures keeps { Keeps sets.old sets.new }
@@ -315,7 +324,8 @@ fn expand_list<'x, 'a: 'x>(
     requires known { AllKnown sets.old list.old }
     requires none { passed.old ≡ [] }
     requires no_fault { fault.old ≡ None }
-    ensures outcome { OnOk result (ExpandsTo table.now env.now level left.old (hidings sets.old list.old) (record { tokens = hidings sets.new passed.new; fault = fault.new; left = left.new })) }
+    ensures outcome { OnOk result (ExpandsTo table.now env.now level left.old (hidings sets.old list.old)
+        (record { tokens = hidings sets.new passed.new; fault = fault.new; left = left.new })) }
     ensures known { OnOk result (AllKnown sets.new passed.new) }
     ensures keeps { Keeps sets.old sets.new }
 {

@@ -10,7 +10,8 @@ ghost use Rattle.ppexpand.specs.Turn.{turn};
 ghost use Rattle.ppexpand.specs.declared.expansion.Expanded.{Expanded};
 ghost use Rattle.ppexpand.specs.Expansion.{Outcome, turn_within, Expands, ExpandsTo, IsExpansion, count};
 ghost use Rattle.ppexpand.specs.Standard.{StandardExpands, IsStandardExpansion};
-ghost use Rattle.ppexpand.specs.Laws.{HasOneOutcome, HasOneExpansion, EndsWithin, plus, IsCapped, OnlyBudgetsRefuse, is_settled, IsInvocation, IsQuoted, NeverClosed};
+ghost use Rattle.ppexpand.specs.Laws.{HasOneOutcome, HasOneExpansion, EndsWithin, plus, IsCapped, OnlyBudgetsRefuse, is_settled, IsInvocation};
+ghost use Rattle.ppexpand.specs.Laws.{IsQuoted, NeverClosed};
 
 /// With any macros, each list of tokens with hide sets has exactly one outcome, at each level of arguments.
 pub fn one_outcome()
@@ -24,17 +25,22 @@ pub fn one_expansion()
 
 /// Expansion ends: with any macros, from each list only so many turns can be made.
 pub fn expansion_ends()
-    ensures { (macros : Macros) (env : Env) (level : ℕ) (left : Option ℕ) (list : List Hiding) → (most : ℕ) × EndsWithin macros env level most left list }
+    ensures { (macros : Macros) (env : Env) (level : ℕ) (left : Option ℕ) (list : List Hiding)
+        → (most : ℕ) × EndsWithin macros env level most left list }
 {}
 
 /// A token that comes out of expansion is no lone quote, and no name of an object-like or predefined macro outside its hide set (6.10.3.4).
 pub fn leaves_settled_tokens()
-    ensures { (macros : Macros) (env : Env) (level : ℕ) (left : Option ℕ) (list : List Hiding) (out : Outcome) → ExpandsTo macros env level left list out → AllPass (is_settled macros) out.tokens }
+    ensures { (macros : Macros) (env : Env) (level : ℕ) (left : Option ℕ) (list : List Hiding) (out : Outcome)
+        → ExpandsTo macros env level left list out
+        → AllPass (is_settled macros) out.tokens }
 {}
 
-/// An invocation's arguments are found exactly where the list behind `(` is laid out as these arguments, their `)` and what stands behind it (6.10.3).
+/// An invocation's arguments are found exactly where the list behind `(` is laid out as these arguments, their `)` and what stands behind it
+/// (6.10.3).
 pub fn finds_arguments()
-    ensures { (commas : Option ℕ) (list : List Hiding) (arguments : List (List Hiding)) (close : Hiding) (behind : List Hiding) → (gather 0 commas list ≡ Closed arguments close behind) ↔ IsInvocation commas list arguments close behind }
+    ensures { (commas : Option ℕ) (list : List Hiding) (arguments : List (List Hiding)) (close : Hiding) (behind : List Hiding)
+        → (gather 0 commas list ≡ Closed arguments close behind) ↔ IsInvocation commas list arguments close behind }
 {}
 
 /// An invocation stops at a lone quote exactly where this quote stands before any `)` that would match, and has no end exactly where no
@@ -44,23 +50,34 @@ pub fn finds_no_arguments()
     ensures no_end { (commas : Option ℕ) (list : List Hiding) → (gather 0 commas list ≡ Unclosed) ↔ NeverClosed list }
 {}
 
-/// Without a budget nothing is refused for it, and nothing is counted: a turn is what the rules of macro replacement call for (6.10.3, 6.10.3.4), there is no
-/// budget behind an expansion either, and what a list expands to is what it expands to by the standard's rules, which know no budget.
+/// Without a budget nothing is refused for it, and nothing is counted: a turn is what the rules of macro replacement call for (6.10.3,
+/// 6.10.3.4), there is no budget behind an expansion either, and what a list expands to is what it expands to by the standard's rules, which
+/// know no budget.
 pub fn without_a_budget()
     ensures turns { (macros : Macros) (env : Env) (list : List Hiding) → turn_within macros env None list ≡ turn macros env list }
-    ensures left { (macros : Macros) (env : Env) (level : ℕ) (list : List Hiding) (out : Outcome) → ExpandsTo macros env level None list out → out.left ≡ None }
-    ensures rules { (macros : Macros) (env : Env) (level : ℕ) (list : List Hiding) (out : Outcome) → ExpandsTo macros env level None list out ↔ ((out.left ≡ None) × StandardExpands macros env level list out.tokens out.fault) }
-    ensures expansions { (macros : Macros) (env : Env) (tokens : List Token) (e : Expanded) → IsExpansion macros env None tokens e ↔ ((e.left ≡ None) × IsStandardExpansion macros env tokens e.tokens e.fault) }
+    ensures left { (macros : Macros) (env : Env) (level : ℕ) (list : List Hiding) (out : Outcome)
+        → ExpandsTo macros env level None list out
+        → out.left ≡ None }
+    ensures rules { (macros : Macros) (env : Env) (level : ℕ) (list : List Hiding) (out : Outcome)
+        → ExpandsTo macros env level None list out ↔ ((out.left ≡ None) × StandardExpands macros env level list out.tokens out.fault) }
+    ensures expansions { (macros : Macros) (env : Env) (tokens : List Token) (e : Expanded)
+        → IsExpansion macros env None tokens e ↔ ((e.left ≡ None) × IsStandardExpansion macros env tokens e.tokens e.fault) }
 {}
 
 /// What an expansion costs and what is left make up the budget.
 pub fn budget_is_spent()
-    ensures { (macros : Macros) (env : Env) (level turns : ℕ) (left : Option ℕ) (list : List Hiding) (out : Outcome) (d : Expands macros env level left turns list out) → left ≡ plus (count macros env d) out.left }
+    ensures { (macros : Macros) (env : Env) (level turns : ℕ) (left : Option ℕ) (list : List Hiding) (out : Outcome)
+        → (d : Expands macros env level left turns list out)
+        → left ≡ plus (count macros env d) out.left }
 {}
 
-/// An expansion within a budget is the one without, where that costs no more; otherwise it ends in fault 35 and leaves nothing, and what passed is a beginning.
+/// An expansion within a budget is the one without, where that costs no more; otherwise it ends in fault 35 and leaves nothing, and what
+/// passed is a beginning.
 pub fn budget_caps()
-    ensures { (macros : Macros) (env : Env) (level turns : ℕ) (list : List Hiding) (whole : Outcome) (d : Expands macros env level None turns list whole) (b : ℕ) (out : Outcome) → ExpandsTo macros env level (Some b) list out → IsCapped b (count macros env d) whole out }
+    ensures { (macros : Macros) (env : Env) (level turns : ℕ) (list : List Hiding) (whole : Outcome)
+        → (d : Expands macros env level None turns list whole) (b : ℕ) (out : Outcome)
+        → ExpandsTo macros env level (Some b) list out
+        → IsCapped b (count macros env d) whole out }
 {}
 
 /// Without a budget no expansion ends in fault 35.

@@ -2,7 +2,8 @@
 ghost use Rattle.std.specs.Prelude.{◌≡◌, ◌<◌, ◌∷◌, [], flat_map, length, IfOk, IfSome, IfNone, MatchOption};
 ghost use Rattle.std.specs.Iterator.{YieldsFirstBy, item_count};
 ghost use Rattle.ppmacro.specs.Substituting.{tokens_of};
-ghost use Rattle.ppexpand.specs.Pieces.{piece_list, ref_token, unread_list, left_list};
+ghost use Rattle.ppexpand.specs.Pieces.{piece_list, ref_token};
+ghost use Rattle.ppexpand.specs.Unread.{unread_list, left_list};
 
 use crate::passed::{Piece, Run};
 use ppmacro::Hidden;
@@ -173,7 +174,7 @@ impl<'r, 'a> Model for RunIter<'r, 'a> {
 
     ghost Value = { List Token };
 
-    ghost use Rattle.ppexpand.specs.Pieces.{unread_list, left_list};
+    ghost use Rattle.ppexpand.specs.Unread.{unread_list, left_list};
 
     ghost view = { λ i. left_list i.left ++ unread_list i.singles };
 }

@@ -9,9 +9,11 @@ ghost use Rattle.ppmacro.specs.Chains.{chains_of};
 ghost use Rattle.ppmacro.specs.Substitution.{substituted, substituted_by};
 ghost use Rattle.ppexpand.specs.Arguments.{gather, separators};
 ghost use Rattle.ppexpand.specs.declared.env.Env.{Env};
-ghost use Rattle.ppexpand.specs.Turn.{Replaced, macro_of, replaced_by, no_arguments, predefined_value, called, invoked, function_turn, macro_turn, within, finished};
+ghost use Rattle.ppexpand.specs.Turn.{Replaced, macro_of, replaced_by, no_arguments, predefined_value, called, invoked, function_turn, macro_turn};
+ghost use Rattle.ppexpand.specs.Turn.{within, finished};
 ghost use Rattle.ppexpand.specs.Expansion.{turn_within};
-ghost use Rattle.ppexpand.specs.Shown.{expanded_in, fitting_in, FittingKnown, ExpansionsKnown, call_in, CallKnown, turn_in, NextKnown, replaced_in, finished_in};
+ghost use Rattle.ppexpand.specs.Shown.{expanded_in, fitting_in, FittingKnown, ExpansionsKnown, call_in, CallKnown, turn_in, NextKnown, replaced_in};
+ghost use Rattle.ppexpand.specs.Shown.{finished_in};
 
 use crate::arguments::{Gathered, fit, gather, separators};
 use crate::cursor::Cursor;
@@ -87,7 +89,10 @@ fn replace<'x, 'a: 'x>(
     requires arguments { ArgumentsKnown sets.old given.now expanded.now }
     requires base { IsKnown sets.old base }
     requires list { AllKnown sets.old list.old }
-    ensures is { IfOk result (λ r. replaced_in sets.new list.new r ≡ replaced_by (substituted_by chains.now (arguments_in sets.old given.now expanded.now) (set.insert (set_at sets.old base) head.now.token.text) head.now.token.used head.now.token.space) (hidings sets.old list.old)) }
+    ensures is { IfOk result (λ r. replaced_in sets.new list.new r
+        ≡ replaced_by (substituted_by chains.now (arguments_in sets.old given.now expanded.now)
+        (set.insert (set_at sets.old base) head.now.token.text) head.now.token.used head.now.token.space)
+        (hidings sets.old list.old)) }
     ensures known { IfOk result (λ r. OnOk r (AllKnown sets.new list.new)) }
     ensures keeps { Keeps sets.old sets.new }
 {
@@ -122,7 +127,9 @@ fn predefined_turn<'t, 'x, 'a: 'x>(
 ) -> Result<Next<'t, 'x, 'a>, Memory>
     requires head { IsKnown sets.old head.hide }
     requires list { AllKnown sets.old list.old }
-    ensures is { IfOk result (λ n. turn_in sets.new list.new n ≡ Replaced (predefined_value builtin env.now (hiding sets.old head.entry) (set.insert (set_at sets.old head.entry.hide) head.entry.token.text) ∷ hidings sets.old list.old)) }
+    ensures is { IfOk result (λ n. turn_in sets.new list.new n
+        ≡ Replaced (predefined_value builtin env.now (hiding sets.old head.entry)
+        (set.insert (set_at sets.old head.entry.hide) head.entry.token.text) ∷ hidings sets.old list.old)) }
     ensures known { IfOk result (λ n. NextKnown sets.new list.new n) }
     ensures keeps { Keeps sets.old sets.new }
 {
@@ -141,7 +148,10 @@ fn object_turn<'t, 'x, 'a: 'x>(
 ) -> Result<Next<'t, 'x, 'a>, Memory>
     requires head { IsKnown sets.old head.hide }
     requires list { AllKnown sets.old list.old }
-    ensures is { IfOk result (λ n. turn_in sets.new list.new n ≡ replaced_by (substituted replaced.now no_arguments (set.insert (set_at sets.old head.entry.hide) head.entry.token.text) head.entry.token.used head.entry.token.space) (hidings sets.old list.old)) }
+    ensures is { IfOk result (λ n. turn_in sets.new list.new n
+        ≡ replaced_by (substituted replaced.now no_arguments
+        (set.insert (set_at sets.old head.entry.hide) head.entry.token.text) head.entry.token.used head.entry.token.space)
+        (hidings sets.old list.old)) }
     ensures known { IfOk result (λ n. NextKnown sets.new list.new n) }
     ensures keeps { Keeps sets.old sets.new }
 {
@@ -166,7 +176,9 @@ fn called<'t, 'x, 'a: 'x>(
     requires arguments { FittingKnown sets.old arguments }
     requires close { IsKnown sets.old close.now.hide }
     requires list { AllKnown sets.old list.now }
-    ensures is { IfOk result (λ n. turn_in sets.new list.now n ≡ called (hiding sets.old head.entry) replaced.now (fitting_in sets.old arguments.entry) (hiding sets.old close.now) (hidings sets.old list.now)) }
+    ensures is { IfOk result (λ n. turn_in sets.new list.now n
+        ≡ called (hiding sets.old head.entry) replaced.now (fitting_in sets.old arguments.entry) (hiding sets.old close.now)
+        (hidings sets.old list.now)) }
     ensures known { IfOk result (λ n. NextKnown sets.new list.now n) }
     ensures keeps { Keeps sets.old sets.new }
 {
@@ -195,7 +207,9 @@ fn invoked<'t, 'x, 'a: 'x>(
 ) -> Result<Next<'t, 'x, 'a>, Memory>
     requires head { IsKnown sets.old head.hide }
     requires list { AllKnown sets.old list.old }
-    ensures is { IfOk result (λ n. turn_in sets.new list.new n ≡ invoked (hiding sets.old head.entry) replaced.now names.now variadic (gather 0 (separators names.now variadic) (hidings sets.old list.old))) }
+    ensures is { IfOk result (λ n. turn_in sets.new list.new n
+        ≡ invoked (hiding sets.old head.entry) replaced.now names.now variadic
+        (gather 0 (separators names.now variadic) (hidings sets.old list.old))) }
     ensures known { IfOk result (λ n. NextKnown sets.new list.new n) }
     ensures keeps { Keeps sets.old sets.new }
 {
@@ -221,7 +235,8 @@ fn function_turn<'t, 'x, 'a: 'x>(
 ) -> Result<Next<'t, 'x, 'a>, Memory>
     requires head { IsKnown sets.old head.hide }
     requires list { AllKnown sets.old list.old }
-    ensures is { IfOk result (λ n. turn_in sets.new list.new n ≡ function_turn (hiding sets.old head.entry) replaced.now names.now variadic (hidings sets.old list.old)) }
+    ensures is { IfOk result (λ n. turn_in sets.new list.new n
+        ≡ function_turn (hiding sets.old head.entry) replaced.now names.now variadic (hidings sets.old list.old)) }
     ensures known { IfOk result (λ n. NextKnown sets.new list.new n) }
     ensures keeps { Keeps sets.old sets.new }
 {
@@ -246,7 +261,8 @@ fn macro_turn<'t, 'x, 'a: 'x>(
 ) -> Result<Next<'t, 'x, 'a>, Memory>
     requires head { IsKnown sets.old head.hide }
     requires list { AllKnown sets.old list.old }
-    ensures is { IfOk result (λ n. turn_in sets.new list.new n ≡ macro_turn env.now (hiding sets.old head.entry) (hidings sets.old list.old) replaced.now replaced.now.shape) }
+    ensures is { IfOk result (λ n. turn_in sets.new list.new n
+        ≡ macro_turn env.now (hiding sets.old head.entry) (hidings sets.old list.old) replaced.now replaced.now.shape) }
     ensures known { IfOk result (λ n. NextKnown sets.new list.new n) }
     ensures keeps { Keeps sets.old sets.new }
 {
@@ -271,7 +287,10 @@ fn spent_turn<'t, 'x, 'a: 'x>(
     replaced: &Macro<'a>,
     list: &mut Cursor<'x>,
 ) -> Result<Next<'t, 'x, 'a>, AllocError>
-    ensures is { IfOk result (λ n. (sets : Numbered) (env : Env) → turn_in sets list.new n ≡ within (Some 0) (hiding sets head.entry ∷ hidings sets list.old) (macro_turn env (hiding sets head.entry) (hidings sets list.old) replaced.now replaced.now.shape)) }
+    ensures is { IfOk result (λ n.
+        (sets : Numbered) (env : Env) → turn_in sets list.new n
+        ≡ within (Some 0) (hiding sets head.entry ∷ hidings sets list.old)
+        (macro_turn env (hiding sets head.entry) (hidings sets list.old) replaced.now replaced.now.shape)) }
     ensures known { IfOk result (λ n. (sets : Numbered) → IsKnown sets head.entry.hide → AllKnown sets list.old → NextKnown sets list.new n) }
 {
     if !matches!(replaced.definition().shape, Shape::FunctionLike { .. }) {
@@ -337,7 +356,8 @@ pub(crate) fn finish<'x, 'a: 'x>(
     requires expanded { ExpansionsKnown sets.old expanded.now }
     requires list { AllKnown sets.old list.old }
     requires no_fault { fault.old ≡ None }
-    ensures is { OnOk result (finished_in sets.new list.new fault.new ≡ finished (call_in sets.old call.now list.old) (expanded_in sets.old call.now.arguments.items expanded.now)) }
+    ensures is { OnOk result (finished_in sets.new list.new fault.new
+        ≡ finished (call_in sets.old call.now list.old) (expanded_in sets.old call.now.arguments.items expanded.now)) }
     ensures known { OnOk result (fault.new ≡ None → AllKnown sets.new list.new) }
     ensures keeps { Keeps sets.old sets.new }
 {

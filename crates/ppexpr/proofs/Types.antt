@@ -11,10 +11,8 @@ use Rattle.ppexpr.specs.declared.symbols.Unary.TheVariants as unary
 use Rattle.ppexpr.specs.declared.symbols.Binary.{Binary}
 use Rattle.ppexpr.specs.declared.symbols.Binary.TheVariants.{Multiply, Divide, Remainder, Add, Subtract, ShiftLeft, ShiftRight, Less, Greater, LessOrEqual, GreaterOrEqual, Equal, NotEqual, BitAnd, BitXor, BitOr, And, Or}
 use Rattle.ppexpr.specs.declared.symbols.Failure.TheVariants.{ZeroDivisor, Overflow, Shift}
-use Rattle.ppexpr.specs.declared.values.Operands.{Operands}
-use Rattle.ppexpr.specs.declared.values.Operands.TheVariants.{BothSigned, BothUnsigned}
 use Rattle.ppexpr.specs.Trees.{Tree, Leaf, Applied, Joined, Chosen}
-use Rattle.ppexpr.specs.Values.{Answer, is_intmax, whole, has_unsigned_type, is_zero, truth, signed, unsigned, unary_value, converted, arithmetic, division, comparison, bitwise, is_amount, left_shift, right_shift, shift, binary_value, unary_answer, with_right, decides, binary_answer, with_type, choice_answer, unary_unsigned, binary_unsigned, constant_outcome, unary_outcome, binary_outcome, choice_outcome, outcome_of}
+use Rattle.ppexpr.specs.Values.{Answer, Operands, BothSigned, BothUnsigned, is_intmax, whole, has_unsigned_type, is_zero, truth, signed, unsigned, unary_value, converted, arithmetic, division, comparison, bitwise, is_amount, left_shift, right_shift, shift, binary_value, unary_answer, with_right, decides, binary_answer, with_type, choice_answer, unary_unsigned, binary_unsigned, constant_outcome, unary_outcome, binary_outcome, choice_outcome, outcome_of}
 
 -- a value, if there is one, is of this type
 abbrev pub HasType : Bool → Answer → Type 0

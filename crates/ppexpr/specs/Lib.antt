@@ -1,6 +1,7 @@
 pub mod Symbols
 pub mod Trees
 pub mod Values
+pub mod Meant
 pub mod Grammar
 pub mod Pending
 pub mod Frames

@@ -14,8 +14,6 @@ use Rattle.ppexpr.specs.declared.symbols.Binary.TheVariants.{Multiply, Divide, R
 use Rattle.ppexpr.specs.declared.symbols.Failure.{Failure}
 use Rattle.ppexpr.specs.declared.symbols.Failure.TheVariants.{ZeroDivisor, Overflow, Shift}
 use Rattle.ppexpr.specs.declared.symbols.Outcome.{Outcome}
-use Rattle.ppexpr.specs.declared.values.Operands.{Operands}
-use Rattle.ppexpr.specs.declared.values.Operands.TheVariants.{BothSigned, BothUnsigned}
 use Rattle.ppexpr.specs.Trees.{Tree, Leaf, Applied, Joined, Chosen}
 
 -- ---- the two types
@@ -75,6 +73,10 @@ unary_value unary.Complement v = complement v
 unary_value unary.Not v = Ok (truth (is_zero v))
 
 -- ---- operators between two operands of one type (6.3.1.8): unsigned where either is, and the other is then taken modulo 2^64
+
+pub data Operands : Type 0 where
+  BothSigned : ℤ → ℤ → Operands
+  BothUnsigned : ℕ → ℕ → Operands
 
 abbrev pub converted : Value → Value → Operands
 converted (Signed a) (Signed b) = BothSigned a b

@@ -4,6 +4,7 @@ ghost use Rattle.std.specs.Int.{w64, int_bit_and, int_bit_or, int_bit_xor};
 ghost use Rattle.std.specs.Ordering.{int_eq};
 ghost use Rattle.std.specs.Option.{SomeIff};
 ghost use Rattle.ppexpr.specs.declared.symbols.Operator.TheVariants.{Star, Slash, Percent, Plus, Minus, ShiftLeft, ShiftRight};
+ghost use Rattle.ppexpr.specs.Meant.{operands_meant};
 ghost use Rattle.ppexpr.specs.Values.{is_zero, as_unsigned, truth, is_amount, is_intmax, whole, signed, negative, complement, unary_value, converted, arithmetic, division, comparison, bitwise, shift, left_shift, right_shift, binary_value};
 
 use crate::symbols::{Binary, Failure, Operator, Unary, Value};
@@ -88,7 +89,7 @@ pub(crate) fn unary_value(operator: Unary, value: Value) -> Result<Value, Failur
 
 // The usual conversions (6.3.1.8).
 fn converted(left: Value, right: Value) -> Operands
-    ensures { result ≡ converted left right }
+    ensures { operands_meant result ≡ converted left right }
 {
     if let Value::Signed(a) = left {
         if let Value::Signed(b) = right {
@@ -100,7 +101,7 @@ fn converted(left: Value, right: Value) -> Operands
 
 // 6.5.5p3
 fn product(operands: Operands) -> Result<Value, Failure>
-    ensures { result ≡ arithmetic Star (λ a b. a *ℤ b) operands }
+    ensures { result ≡ arithmetic Star (λ a b. a *ℤ b) (operands_meant operands) }
 {
     match operands {
         Operands::BothSigned(a, b) => signed(Operator::Star, a.checked_mul(b)),
@@ -110,7 +111,7 @@ fn product(operands: Operands) -> Result<Value, Failure>
 
 // 6.5.6p5
 fn sum(operands: Operands) -> Result<Value, Failure>
-    ensures { result ≡ arithmetic Plus (λ a b. a +ℤ b) operands }
+    ensures { result ≡ arithmetic Plus (λ a b. a +ℤ b) (operands_meant operands) }
 {
     match operands {
         Operands::BothSigned(a, b) => signed(Operator::Plus, a.checked_add(b)),
@@ -120,7 +121,7 @@ fn sum(operands: Operands) -> Result<Value, Failure>
 
 // 6.5.6p6
 fn difference(operands: Operands) -> Result<Value, Failure>
-    ensures { result ≡ arithmetic Minus (λ a b. a -ℤ b) operands }
+    ensures { result ≡ arithmetic Minus (λ a b. a -ℤ b) (operands_meant operands) }
 {
     match operands {
         Operands::BothSigned(a, b) => signed(Operator::Minus, a.checked_sub(b)),
@@ -130,7 +131,7 @@ fn difference(operands: Operands) -> Result<Value, Failure>
 
 // 6.5.5p5
 fn quotient(operands: Operands) -> Result<Value, Failure>
-    ensures { result ≡ division Slash int_div operands }
+    ensures { result ≡ division Slash int_div (operands_meant operands) }
 {
     match operands {
         Operands::BothSigned(_, 0) | Operands::BothUnsigned(_, 0) => {
@@ -146,7 +147,7 @@ fn quotient(operands: Operands) -> Result<Value, Failure>
 
 // 6.5.5p5, p6
 fn remainder(operands: Operands) -> Result<Value, Failure>
-    ensures { result ≡ division Percent int_rem operands }
+    ensures { result ≡ division Percent int_rem (operands_meant operands) }
 {
     match operands {
         Operands::BothSigned(_, 0) | Operands::BothUnsigned(_, 0) => {
@@ -162,7 +163,7 @@ fn remainder(operands: Operands) -> Result<Value, Failure>
 
 // 6.5.8p6
 fn less(operands: Operands) -> Value
-    ensures { Ok result ≡ comparison int_lt operands }
+    ensures { Ok result ≡ comparison int_lt (operands_meant operands) }
 {
     Value::truth(match operands {
         Operands::BothSigned(a, b) => a < b,
@@ -172,7 +173,7 @@ fn less(operands: Operands) -> Value
 
 // 6.5.8p6
 fn less_or_equal(operands: Operands) -> Value
-    ensures { Ok result ≡ comparison int_le operands }
+    ensures { Ok result ≡ comparison int_le (operands_meant operands) }
 {
     Value::truth(match operands {
         Operands::BothSigned(a, b) => a <= b,
@@ -182,7 +183,7 @@ fn less_or_equal(operands: Operands) -> Value
 
 // 6.5.8p6
 fn greater(operands: Operands) -> Value
-    ensures { Ok result ≡ comparison (λ a b. int_lt b a) operands }
+    ensures { Ok result ≡ comparison (λ a b. int_lt b a) (operands_meant operands) }
 {
     Value::truth(match operands {
         Operands::BothSigned(a, b) => a > b,
@@ -192,7 +193,7 @@ fn greater(operands: Operands) -> Value
 
 // 6.5.8p6
 fn greater_or_equal(operands: Operands) -> Value
-    ensures { Ok result ≡ comparison (λ a b. int_le b a) operands }
+    ensures { Ok result ≡ comparison (λ a b. int_le b a) (operands_meant operands) }
 {
     Value::truth(match operands {
         Operands::BothSigned(a, b) => a >= b,
@@ -202,7 +203,7 @@ fn greater_or_equal(operands: Operands) -> Value
 
 // 6.5.9p3
 fn equal(operands: Operands) -> Value
-    ensures { Ok result ≡ comparison int_eq operands }
+    ensures { Ok result ≡ comparison int_eq (operands_meant operands) }
 {
     Value::truth(match operands {
         Operands::BothSigned(a, b) => a == b,
@@ -212,7 +213,7 @@ fn equal(operands: Operands) -> Value
 
 // 6.5.9p3
 fn not_equal(operands: Operands) -> Value
-    ensures { Ok result ≡ comparison (λ a b. not (int_eq a b)) operands }
+    ensures { Ok result ≡ comparison (λ a b. not (int_eq a b)) (operands_meant operands) }
 {
     Value::truth(match operands {
         Operands::BothSigned(a, b) => a != b,
@@ -222,7 +223,7 @@ fn not_equal(operands: Operands) -> Value
 
 // 6.5.10p4
 fn bit_and(operands: Operands) -> Value
-    ensures { Ok result ≡ bitwise (int_bit_and w64) bit_and operands }
+    ensures { Ok result ≡ bitwise (int_bit_and w64) bit_and (operands_meant operands) }
 {
     match operands {
         Operands::BothSigned(a, b) => Value::Signed(a & b),
@@ -232,7 +233,7 @@ fn bit_and(operands: Operands) -> Value
 
 // 6.5.11p4
 fn bit_xor(operands: Operands) -> Value
-    ensures { Ok result ≡ bitwise (int_bit_xor w64) bit_xor operands }
+    ensures { Ok result ≡ bitwise (int_bit_xor w64) bit_xor (operands_meant operands) }
 {
     match operands {
         Operands::BothSigned(a, b) => Value::Signed(a ^ b),
@@ -242,7 +243,7 @@ fn bit_xor(operands: Operands) -> Value
 
 // 6.5.12p4
 fn bit_or(operands: Operands) -> Value
-    ensures { Ok result ≡ bitwise (int_bit_or w64) bit_or operands }
+    ensures { Ok result ≡ bitwise (int_bit_or w64) bit_or (operands_meant operands) }
 {
     match operands {
         Operands::BothSigned(a, b) => Value::Signed(a | b),

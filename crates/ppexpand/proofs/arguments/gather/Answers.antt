@@ -26,7 +26,10 @@ loop-hidden-preserved-in-Comma c =
           (let here = ap (λ hs. resumed (given_in sets front.arguments.items) (hidings sets front.argument.items) (gather front.depth front.commas (hidings sets hs))) c.in-Some.ensures in
           let cut = at_separator front.depth front.commas (hiding sets c.in-Some.hidden) (hidings sets c.next.new.self) is_comma (sym c.separates.ensures ∙ c.if-separates.true) in
           rw (c.in_ok-push-in-Comma.ensures.items, c.new-argument-in-Comma.ensures.items, c.fewer-commas.ensures, given-push sets front.arguments.items front.argument)
-          (resumed-argument (given_in sets front.arguments.items) (hidings sets front.argument.items) _ ∙ ap (resumed (given_in sets front.arguments.items) (hidings sets front.argument.items)) (sym cut) ∙ sym here ∙ c.loop-hidden.invariant.same sets));
+          (resumed-argument (given_in sets front.arguments.items) (hidings sets front.argument.items) _
+          ∙ ap (resumed (given_in sets front.arguments.items) (hidings sets front.argument.items)) (sym cut)
+          ∙ sym here
+          ∙ c.loop-hidden.invariant.same sets));
       arguments_known = λ sets known. rw c.in_ok-push-in-Comma.ensures.items (lists_known-push _ _ (c.loop-hidden.invariant.arguments_known sets known) (c.loop-hidden.invariant.argument_known sets known));
       argument_known = λ sets known. rw c.new-argument-in-Comma.ensures.items (record { each = tt });
       list_known = λ sets known. record { each = (list sets known).each.1 };
@@ -38,11 +41,15 @@ loop-hidden-preserved c =
     let front = c.loop-hidden in
     let mark : mark_of c.in-Some.hidden.token ≡ shown_mark c.mark_of.result = sym c.mark_of.ensures in
     let list : (sets : Numbered) → AllKnown sets c.args.list.now → AllKnown sets (c.in-Some.hidden ∷ c.next.new.self) = λ sets known. subst (AllKnown sets) c.in-Some.ensures (c.loop-hidden.invariant.list_known sets known) in
-    let step : (sets : Numbered) → gather front.depth front.commas (hiding sets c.in-Some.hidden ∷ hidings sets c.next.new.self) ≡ with_token (hiding sets c.in-Some.hidden) (gather c.match-mark_of.depth front.commas (hidings sets c.next.new.self)) = λ sets.
+    let step : (sets : Numbered)
+    → gather front.depth front.commas (hiding sets c.in-Some.hidden ∷ hidings sets c.next.new.self)
+    ≡ with_token (hiding sets c.in-Some.hidden) (gather c.match-mark_of.depth front.commas (hidings sets c.next.new.self)) = λ sets.
     elim c.match-mark_of.branch [
-      | in-Close-2 w ↦ (let deeper : front.depth ≡ suc c.match-mark_of.depth = omega (arith, w.depth-is, w.if-depth-eq0.false) in rw deeper (at_close c.match-mark_of.depth front.commas (hiding sets c.in-Some.hidden) (hidings sets c.next.new.self) (mark ∙ ap shown_mark w.in-Close.is)))
+      | in-Close-2 w ↦ (let deeper : front.depth ≡ suc c.match-mark_of.depth = omega (arith, w.depth-is, w.if-depth-eq0.false) in
+          rw deeper (at_close c.match-mark_of.depth front.commas (hiding sets c.in-Some.hidden) (hidings sets c.next.new.self) (mark ∙ ap shown_mark w.in-Close.is)))
       | in-Comma+else-separates w ↦ rw w.depth-is (at_comma front.depth front.commas (hiding sets c.in-Some.hidden) (hidings sets c.next.new.self) (mark ∙ ap shown_mark w.in-Comma.is) (sym w.separates.ensures ∙ w.if-separates.false))
-      | in-Open w ↦ (let deeper : c.match-mark_of.depth ≡ suc front.depth = omega (arith, w.depth-is) in rw deeper (at_open front.depth front.commas (hiding sets c.in-Some.hidden) (hidings sets c.next.new.self) (mark ∙ ap shown_mark w.in-Open.is)))
+      | in-Open w ↦ (let deeper : c.match-mark_of.depth ≡ suc front.depth = omega (arith, w.depth-is) in
+          rw deeper (at_open front.depth front.commas (hiding sets c.in-Some.hidden) (hidings sets c.next.new.self) (mark ∙ ap shown_mark w.in-Open.is)))
       | in-Inner w ↦ rw w.depth-is (at_inner front.depth front.commas (hiding sets c.in-Some.hidden) (hidings sets c.next.new.self) (mark ∙ ap shown_mark w.in-Inner.is))
     ] in
     let within : c.match-mark_of.depth ≤ suc (length front.argument.items) = elim c.match-mark_of.branch [
@@ -55,7 +62,10 @@ loop-hidden-preserved c =
       same = λ sets.
           (let here = ap (λ hs. resumed (given_in sets front.arguments.items) (hidings sets front.argument.items) (gather front.depth front.commas (hidings sets hs))) c.in-Some.ensures in
           rw (c.in_ok-push.ensures.items, hidings-push sets front.argument.items c.in-Some.hidden)
-          (resumed-token (given_in sets front.arguments.items) (hidings sets front.argument.items) (hiding sets c.in-Some.hidden) _ ∙ ap (resumed (given_in sets front.arguments.items) (hidings sets front.argument.items)) (sym (step sets)) ∙ sym here ∙ c.loop-hidden.invariant.same sets));
+          (resumed-token (given_in sets front.arguments.items) (hidings sets front.argument.items) (hiding sets c.in-Some.hidden) _
+          ∙ ap (resumed (given_in sets front.arguments.items) (hidings sets front.argument.items)) (sym (step sets))
+          ∙ sym here
+          ∙ c.loop-hidden.invariant.same sets));
       arguments_known = c.loop-hidden.invariant.arguments_known;
       argument_known = λ sets known. rw c.in_ok-push.ensures.items (known-push _ _ (c.loop-hidden.invariant.argument_known sets known) (list sets known).each.0);
       list_known = λ sets known. record { each = (list sets known).each.1 };

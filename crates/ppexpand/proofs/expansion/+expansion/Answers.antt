@@ -80,7 +80,9 @@ follow-returns-clause-is m c =
     let args : ExpandsArguments c.args.table.now c.args.env.now c.args.level call c.args.left.now (wanted call) c.expand_arguments.new.left (Ok (expanded_in u c.args.call.now.arguments.items c.in-Some.expanded.items)) = made.1 list in
     let same = call_in-keeps c.args.call.now list c.in_ok-expanded.ensures.keeps c.requires.call_known c.requires.list_known in
     on_ok_weaker c.finish.result
-    (λ e. subst (Invokes c.args.table.now c.args.env.now c.args.level call c.args.left.now c.expand_arguments.new.left) (sym (e ∙ (λ i. finished (same i) (expanded_in u c.args.call.now.arguments.items (c.as_slice.ensures.value i))))) (finishes args))
+    (λ e. subst (Invokes c.args.table.now c.args.env.now c.args.level call c.args.left.now c.expand_arguments.new.left)
+    (sym (e ∙ (λ i. finished (same i) (expanded_in u c.args.call.now.arguments.items (c.as_slice.ensures.value i)))))
+    (finishes args))
     c.finish.ensures.is
 
 pub follow-returns-clause-keeps : goal.follow-returns-clause-keeps
@@ -133,7 +135,8 @@ expand_argument-returns-clause-is m c =
         hidings c.expand_list.new.sets c.in_ok-into_vec.field-0.items,
         refl,
         subst (λ l. ExpandsArgument c.args.table.now c.args.env.now c.args.level c.args.head.now.token c.args.left.now l c.expand_list.new.left (Ok (hidings c.expand_list.new.sets c.in_ok-into_vec.field-0.items))) list
-            (subst (λ ts. ExpandsArgument c.args.table.now c.args.env.now c.args.level c.args.head.now.token c.args.left.now (hidings s c.push_clones.new.self) c.expand_list.new.left (Ok (hidings c.expand_list.new.sets ts))) (sym c.in_ok-into_vec.ensures)
+            (subst (λ ts. ExpandsArgument c.args.table.now c.args.env.now c.args.level c.args.head.now.token c.args.left.now
+            (hidings s c.push_clones.new.self) c.expand_list.new.left (Ok (hidings c.expand_list.new.sets ts))) (sym c.in_ok-into_vec.ensures)
             (argument_expands c.args.table.now c.args.env.now c.args.level c.args.head.now.token c.args.left.now _ _ _ _ (omega (arith, c.if-level-ge-DEEPEST.false)) none c.in_ok-expand_list.ensures.outcome)),
       ),
     )
@@ -165,7 +168,8 @@ expand_arguments-loop-parameter-preserved-then-not-index m c =
     let next = rest-unused s vs cs i c.argument-item.result less is unused in
     let made = c.in_ok-push_expansion.ensures in
     let done = c.loop-parameter.expanded.items in
-    let behind_it : drop (length done) vs ≡ c.argument-item.result ∷ drop (i + 1) vs = subst (λ n. drop n vs ≡ c.argument-item.result ∷ drop (i + 1) vs) (sym c.loop-parameter.invariant.count) (drop-item vs i c.argument-item.result less is) in
+    let behind_it : drop (length done) vs ≡ c.argument-item.result ∷ drop (i + 1) vs =
+    subst (λ n. drop n vs ≡ c.argument-item.result ∷ drop (i + 1) vs) (sym c.loop-parameter.invariant.count) (drop-item vs i c.argument-item.result less is) in
     let shown : expanded_in u vs c.push_expansion.new.expanded.items ≡ expanded_in u vs done ++ None ∷ [] = ap (expanded_in u vs) made ∙ expanded_in-push u vs done Unused c.argument-item.result (drop (i + 1) vs) behind_it in
     record {
       low = c.loop-parameter.invariant.low;
@@ -185,7 +189,8 @@ expand_arguments-loop-parameter-preserved-then-not-index m c =
 pub expand_arguments-expand_argument-requires : goal.expand_arguments-expand_argument-requires
 expand_arguments-expand_argument-requires m c =
     let less : c.loop-parameter.parameter < length c.args.call.now.arguments.items = subst (λ xs. c.loop-parameter.parameter < length xs) c.deref-argument-items.ensures.value c.loop-parameter-test.true in
-    let is : c.argument-item.result ≡ get_or c.args.call.now.arguments.items c.loop-parameter.parameter c.argument-item.result = c.argument-item.is ∙ ap (λ xs. get_or xs c.loop-parameter.parameter c.argument-item.result) c.deref-argument-items.ensures.value in
+    let is : c.argument-item.result ≡ get_or c.args.call.now.arguments.items c.loop-parameter.parameter c.argument-item.result =
+    c.argument-item.is ∙ ap (λ xs. get_or xs c.loop-parameter.parameter c.argument-item.result) c.deref-argument-items.ensures.value in
     let known = given_known-keeps c.args.call.now.arguments.items c.loop-parameter.invariant.keeps c.requires.known.arguments in (
       omega arith,
       (
@@ -213,7 +218,8 @@ expand_arguments-returns-in-None-clause-is m c =
     c.in_ok-used.ensures.len c.in_ok-used.ensures.used c.index.ensures
     ∙ c.if-not-index.false in
     let next = rest-used s vs cs i v less is is_used in
-    let argument : hidings u c.as_slice-tokens.result.now ≡ hidings s v.items = ap (hidings u) c.as_slice-tokens.ensures.value ∙ hidings-keeps v.items c.loop-parameter.invariant.keeps (known-item s vs i v less is c.requires.known.arguments) in
+    let argument : hidings u c.as_slice-tokens.result.now ≡ hidings s v.items =
+    ap (hidings u) c.as_slice-tokens.ensures.value ∙ hidings-keeps v.items c.loop-parameter.invariant.keeps (known-item s vs i v less is c.requires.known.arguments) in
     let raised = rw c.in-None.is at c.in_ok-expansion.ensures.is in
     let one : ExpandsArgument c.args.table.now c.args.env.now c.args.level c.args.call.now.head.token c.loop-parameter.left (hidings s v.items) c.expand_argument.new.left (Err raised.0) =
     subst (λ l. ExpandsArgument c.args.table.now c.args.env.now c.args.level c.args.call.now.head.token c.loop-parameter.left l c.expand_argument.new.left (Err raised.0)) argument raised.2 in (
@@ -224,7 +230,8 @@ expand_arguments-returns-in-None-clause-is m c =
           let rest = to_expand (i + 1) cs (drop (i + 1) (given_in s vs)) in
           let here : ArgumentsFollow c.args.table.now c.args.env.now c.args.level call c.args.left.now (wanted call) (expanded_in u vs c.loop-parameter.expanded.items) c.loop-parameter.left (Some (hidings s v.items) ∷ rest) =
           subst (ArgumentsFollow c.args.table.now c.args.env.now c.args.level call c.args.left.now (wanted call) (expanded_in u vs c.loop-parameter.expanded.items) c.loop-parameter.left) next (c.loop-parameter.invariant.follows behind) in
-          arguments_refused c.args.table.now c.args.env.now c.args.level call c.args.left.now (wanted call) (expanded_in u vs c.loop-parameter.expanded.items) c.loop-parameter.left c.expand_argument.new.left rest (hidings s v.items) raised.0 here one,
+          arguments_refused c.args.table.now c.args.env.now c.args.level call c.args.left.now (wanted call)
+          (expanded_in u vs c.loop-parameter.expanded.items) c.loop-parameter.left c.expand_argument.new.left rest (hidings s v.items) raised.0 here one,
     )
 
 pub expand_arguments-loop-parameter-preserved : goal.expand_arguments-loop-parameter-preserved
@@ -246,7 +253,8 @@ expand_arguments-loop-parameter-preserved m c =
     c.in_ok-used.ensures.len c.in_ok-used.ensures.used c.index.ensures
     ∙ c.if-not-index.false in
     let next = rest-used s vs cs i v less is is_used in
-    let argument : hidings u c.as_slice-tokens.result.now ≡ hidings s v.items = ap (hidings u) c.as_slice-tokens.ensures.value ∙ hidings-keeps v.items c.loop-parameter.invariant.keeps (known-item s vs i v less is c.requires.known.arguments) in
+    let argument : hidings u c.as_slice-tokens.result.now ≡ hidings s v.items =
+    ap (hidings u) c.as_slice-tokens.ensures.value ∙ hidings-keeps v.items c.loop-parameter.invariant.keeps (known-item s vs i v less is c.requires.known.arguments) in
     let made_is = rw c.in-Some.is at c.in_ok-expansion.ensures.is in
     let e = c.in-Some.expansion in
     let tokens = made_is.1.0 in

@@ -43,5 +43,8 @@ invariant-expand_arguments-loop-parameter l = record {
   count : length l.expanded.items ≡ l.parameter;
   no_fault : l.fault ≡ None;
   keeps : Keeps l.fn.sets l.sets;
-  follows : (behind : List Hidden) → ArgumentsFollow l.table l.env l.level (call_in l.fn.sets l.call behind) l.fn.left (wanted (call_in l.fn.sets l.call behind)) (expanded_in l.sets l.call.arguments.items l.expanded.items) l.left (to_expand l.parameter (chains_of l.call.replaced.now) (drop l.parameter (given_in l.fn.sets l.call.arguments.items)));
+  follows : (behind : List Hidden)
+      → ArgumentsFollow l.table l.env l.level (call_in l.fn.sets l.call behind) l.fn.left (wanted (call_in l.fn.sets l.call behind))
+      (expanded_in l.sets l.call.arguments.items l.expanded.items) l.left
+      (to_expand l.parameter (chains_of l.call.replaced.now) (drop l.parameter (given_in l.fn.sets l.call.arguments.items)));
 }

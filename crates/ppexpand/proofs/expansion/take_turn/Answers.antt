@@ -18,7 +18,8 @@ returns-in-Done-clause-passed_known c = known-keeps _ c.in_ok-next_turn.ensures.
 
 pub returns-in-Refused-clause-on : goal.returns-in-Refused-clause-on
 returns-in-Refused-clause-on c =
-    let t : turn_within c.args.table.now c.args.env.now c.args.left.now (hidings c.args.sets.now c.args.list.now) ≡ Refused c.in-Refused.found = sym (ap (turn_in c.next_turn.new.sets c.next_turn.new.list) (sym c.in-Refused.is) ∙ c.in_ok-next_turn.ensures.is) in
+    let t : turn_within c.args.table.now c.args.env.now c.args.left.now (hidings c.args.sets.now c.args.list.now) ≡ Refused c.in-Refused.found =
+    sym (ap (turn_in c.next_turn.new.sets c.next_turn.new.list) (sym c.in-Refused.is) ∙ c.in_ok-next_turn.ensures.is) in
     rw c.requires.no_call (λ level. (refused t, hidings-keeps _ c.in_ok-next_turn.ensures.keeps c.requires.passed_known))
 
 pub returns-in-Refused-clause-passed_known : goal.returns-in-Refused-clause-passed_known
@@ -27,7 +28,8 @@ returns-in-Refused-clause-passed_known c = known-keeps _ c.in_ok-next_turn.ensur
 pub returns-in-Failed-clause-on : goal.returns-in-Failed-clause-on
 returns-in-Failed-clause-on c =
     let s = c.args.sets.now in
-    let t : turn_within c.args.table.now c.args.env.now c.args.left.now (hidings s c.args.list.now) ≡ Failed c.in-Failed.found = sym (ap (turn_in c.next_turn.new.sets c.next_turn.new.list) (sym c.in-Failed.is) ∙ c.in_ok-next_turn.ensures.is) in
+    let t : turn_within c.args.table.now c.args.env.now c.args.left.now (hidings s c.args.list.now) ≡ Failed c.in-Failed.found =
+    sym (ap (turn_in c.next_turn.new.sets c.next_turn.new.list) (sym c.in-Failed.is) ∙ c.in_ok-next_turn.ensures.is) in
     rw c.requires.no_call (λ level. (
       subst (EndsWith c.args.table.now c.args.env.now level c.args.left.now (hidings s c.args.list.now) (Some c.in-Failed.found)) (sym c.less_one.ensures) (failed t),
       hidings-keeps _ c.in_ok-next_turn.ensures.keeps c.requires.passed_known,
@@ -41,7 +43,8 @@ returns-in_ok-push-in-Passes-clause-on c =
     let s = c.next_turn.new.sets in
     let passed = c.args.passed.now in
     let head = c.in-Passes.head in
-    let t : turn_within c.args.table.now c.args.env.now c.args.left.now (hidings c.args.sets.now c.args.list.now) ≡ Passes (hiding s head) (hidings s c.next_turn.new.list) = sym (ap (turn_in s c.next_turn.new.list) (sym c.in-Passes.is) ∙ c.in_ok-next_turn.ensures.is) in
+    let t : turn_within c.args.table.now c.args.env.now c.args.left.now (hidings c.args.sets.now c.args.list.now) ≡ Passes (hiding s head) (hidings s c.next_turn.new.list) =
+    sym (ap (turn_in s c.next_turn.new.list) (sym c.in-Passes.is) ∙ c.in_ok-next_turn.ensures.is) in
     let shown : hidings s c.push.new.self ≡ hidings c.args.sets.now passed ++ hiding s head ∷ [] =
     ap (hidings s) c.in_ok-push-in-Passes.ensures ∙ map-append (hiding s) passed (head ∷ []) ∙ ap (λ hs. hs ++ hiding s head ∷ []) (hidings-keeps passed c.in_ok-next_turn.ensures.keeps c.requires.passed_known) in
     rw c.requires.no_call (λ level. (c.requires.no_fault, (hiding s head ∷ [], shown, record { turn = λ n out d. passes t d })))
@@ -55,8 +58,20 @@ returns-in_ok-push-in-Passes-clause-passed_known c =
 pub returns-in-Replaced-clause-on : goal.returns-in-Replaced-clause-on
 returns-in-Replaced-clause-on c =
     let s = c.next_turn.new.sets in
-    let t : turn_within c.args.table.now c.args.env.now c.args.left.now (hidings c.args.sets.now c.args.list.now) ≡ Replaced (hidings s c.next_turn.new.list) = sym (ap (turn_in s c.next_turn.new.list) (sym c.in-Replaced.is) ∙ c.in_ok-next_turn.ensures.is) in
-    rw c.requires.no_call (λ level. (c.requires.no_fault, ([], hidings-keeps _ c.in_ok-next_turn.ensures.keeps c.requires.passed_known ∙ sym (append-nil _), record { turn = λ n out d. replaced t (subst (λ l. Expands c.args.table.now c.args.env.now level l n (hidings s c.next_turn.new.list) out) c.less_one-in-Replaced.ensures d) })))
+    let t : turn_within c.args.table.now c.args.env.now c.args.left.now (hidings c.args.sets.now c.args.list.now) ≡ Replaced (hidings s c.next_turn.new.list) =
+    sym (ap (turn_in s c.next_turn.new.list) (sym c.in-Replaced.is) ∙ c.in_ok-next_turn.ensures.is) in
+    let same = hidings-keeps _ c.in_ok-next_turn.ensures.keeps c.requires.passed_known ∙ sym (append-nil _) in
+    rw c.requires.no_call (λ level. (
+      c.requires.no_fault,
+      (
+        [],
+        same,
+        record {
+          turn = λ n out d.
+              replaced t (subst (λ l. Expands c.args.table.now c.args.env.now level l n (hidings s c.next_turn.new.list) out) c.less_one-in-Replaced.ensures d);
+        },
+      ),
+    ))
 
 pub returns-in-Replaced-clause-passed_known : goal.returns-in-Replaced-clause-passed_known
 returns-in-Replaced-clause-passed_known c = known-keeps _ c.in_ok-next_turn.ensures.keeps c.requires.passed_known

@@ -1,5 +1,5 @@
 use Rattle.std.proofs.Common.{◌≡◌, length}
-use Rattle.ppexpand.specs.Pieces.{left_list}
+use Rattle.ppexpand.specs.Unread.{left_list}
 use Rattle.ppexpand.proofs.run_iter.first_of.Given as goal
 
 -- only pieces of which nothing was left were passed over

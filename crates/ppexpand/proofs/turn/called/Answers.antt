@@ -12,9 +12,11 @@ returns-clause-is c =
     let s = c.args.sets.now in
     let head = c.args.head in
     let keeps = c.in_ok-both.ensures.keeps in
-    let sets : set_at c.meet.new.self c.in_ok-both.both ≡ set.intersection (set_at s head.hide) (set_at s c.args.close.now.hide) = c.in_ok-both.ensures.set ∙ (λ i. set.intersection (set_at s (c.hide.ensures i)) (set_at s (c.hide-2.ensures i))) in
+    let sets : set_at c.meet.new.self c.in_ok-both.both ≡ set.intersection (set_at s head.hide) (set_at s c.args.close.now.hide) =
+    c.in_ok-both.ensures.set ∙ (λ i. set.intersection (set_at s (c.hide.ensures i)) (set_at s (c.hide-2.ensures i))) in
     let gains : set.insert (set_at c.meet.new.self c.in_ok-both.both) head.token.text ≡ gain_of (set_at s head.hide) (set_at s c.args.close.now.hide) head.token.text = ap (λ b. set.insert b head.token.text) sets in
-    ap Called (call_made (record { head = head; replaced = c.args.replaced; arguments = c.in-Some.arguments; both = c.in_ok-both.both }) c.args.list.now _ keeps c.requires.head (subst (FittingKnown s) c.in-Some.is c.requires.arguments) c.requires.list gains)
+    ap Called (call_made (record { head = head; replaced = c.args.replaced; arguments = c.in-Some.arguments; both = c.in_ok-both.both })
+    c.args.list.now _ keeps c.requires.head (subst (FittingKnown s) c.in-Some.is c.requires.arguments) c.requires.list gains)
     ∙ ap (λ a. called (hiding s head) c.args.replaced.now (fitting_in s a) (hiding s c.args.close.now) (hidings s c.args.list.now)) (sym c.in-Some.is)
 
 pub returns-clause-known : goal.returns-clause-known

@@ -18,7 +18,9 @@ returns-in-Ok-clause-is c =
     let s = c.args.sets.now in
     let call = c.args.call.now in
     rw c.requires.no_fault (ap (replaced_in c.replace.new.sets c.replace.new.list) (sym c.in-Ok.is) ∙ c.in_ok-replace.ensures.is
-    ∙ (λ i. replaced_by (substituted_by (c.requires.chains i) (arguments_in s (c.as_slice-given.ensures.value i) c.args.expanded.now) (set.insert (set_at s call.both) call.head.token.text) call.head.token.used call.head.token.space) (hidings s c.args.list.now)))
+    ∙ (λ i. replaced_by (substituted_by (c.requires.chains i) (arguments_in s (c.as_slice-given.ensures.value i) c.args.expanded.now)
+    (set.insert (set_at s call.both) call.head.token.text) call.head.token.used call.head.token.space)
+    (hidings s c.args.list.now)))
 
 pub returns-in-Err-clause-is : goal.returns-in-Err-clause-is
 unfolding finished
@@ -26,4 +28,6 @@ returns-in-Err-clause-is c =
     let s = c.args.sets.now in
     let call = c.args.call.now in
     (ap (replaced_in c.replace.new.sets c.replace.new.list) (sym c.in-Err.is) ∙ c.in_ok-replace.ensures.is
-    ∙ (λ i. replaced_by (substituted_by (c.requires.chains i) (arguments_in s (c.as_slice-given.ensures.value i) c.args.expanded.now) (set.insert (set_at s call.both) call.head.token.text) call.head.token.used call.head.token.space) (hidings s c.args.list.now)))
+    ∙ (λ i. replaced_by (substituted_by (c.requires.chains i) (arguments_in s (c.as_slice-given.ensures.value i) c.args.expanded.now)
+    (set.insert (set_at s call.both) call.head.token.text) call.head.token.used call.head.token.space)
+    (hidings s c.args.list.now)))

@@ -58,8 +58,11 @@ returns-then-is_spent-clause-is c =
     let t = hiding s c.in-Some.head in
     let rest = hidings s c.next.new.self in
     let none : c.args.left ≡ Some 0 = nothing_left c.args.left (sym c.is_spent.ensures ∙ c.if-is_spent.true) in
+    let quote = sym c.is_quote.ensures ∙ c.if-is_quote.false in
+    let hidden = (λ i. set.contains (set_at s (sym c.hide.ensures i)) (sym c.text.ensures i)) ∙ sym c.has.ensures ∙ c.if-has.false in
+    let macro = sym c.macro_of.ensures ∙ ap option_copied c.in-Some-macro_of.is in
     c.in_ok-spent_turn.ensures.is s c.args.env.now
-    ∙ sym (named c.args.table.now c.args.env.now (Some 0) t rest _ (sym c.is_quote.ensures ∙ c.if-is_quote.false) ((λ i. set.contains (set_at s (sym c.hide.ensures i)) (sym c.text.ensures i)) ∙ sym c.has.ensures ∙ c.if-has.false) (sym c.macro_of.ensures ∙ ap option_copied c.in-Some-macro_of.is))
+    ∙ sym (named c.args.table.now c.args.env.now (Some 0) t rest _ quote hidden macro)
     ∙ (λ i. turn_within c.args.table.now c.args.env.now (sym none i) (hidings s (sym c.in-Some.ensures i)))
 
 pub returns-clause-is : goal.returns-clause-is
@@ -68,7 +71,10 @@ returns-clause-is c =
     let t = hiding s c.in-Some.head in
     let rest = hidings s c.next.new.self in
     let some = sym c.is_spent.ensures ∙ c.if-is_spent.false in
+    let quote = sym c.is_quote.ensures ∙ c.if-is_quote.false in
+    let hidden = (λ i. set.contains (set_at s (sym c.hide.ensures i)) (sym c.text.ensures i)) ∙ sym c.has.ensures ∙ c.if-has.false in
+    let macro = sym c.macro_of.ensures ∙ ap option_copied c.in-Some-macro_of.is in
     let whole = sym (free-within c.args.left (t ∷ rest) _ some)
-    ∙ sym (named c.args.table.now c.args.env.now c.args.left t rest _ (sym c.is_quote.ensures ∙ c.if-is_quote.false) ((λ i. set.contains (set_at s (sym c.hide.ensures i)) (sym c.text.ensures i)) ∙ sym c.has.ensures ∙ c.if-has.false) (sym c.macro_of.ensures ∙ ap option_copied c.in-Some-macro_of.is))
+    ∙ sym (named c.args.table.now c.args.env.now c.args.left t rest _ quote hidden macro)
     ∙ ap (λ l. turn_within c.args.table.now c.args.env.now c.args.left (hidings s l)) (sym c.in-Some.ensures) in
     subst (λ u. IfOk c.macro_turn.result (λ n. turn_in c.macro_turn.new.sets c.macro_turn.new.list n ≡ u)) whole c.macro_turn.ensures.is

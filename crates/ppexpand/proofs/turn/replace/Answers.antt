@@ -15,9 +15,13 @@ returns-in_ok-push_all-in-Ok-clause-is c =
     let t = c.substitute.new.sets in
     let list = c.args.list.now in
     let tokens = c.in-Ok.tokens.items in
-    let made = ap (marked_in t) (sym c.in-Ok.is) ∙ c.in_ok-tokens.ensures.is ∙ (λ i. substituted_by c.args.chains.now (arguments_in s c.args.given.now c.args.expanded.now) (set.insert (set_at s c.args.base) (c.text.ensures i)) (c.used.ensures i) (c.space.ensures i)) in
-    let marked : hidings t c.mark_next.new.self ≡ mark_next c.in-Ok.pending (hidings s list) = ap (hidings t) c.mark_next.ensures ∙ hidings-marked t c.in-Ok.pending list ∙ ap (mark_next c.in-Ok.pending) (hidings-keeps list c.in_ok-tokens.ensures.keeps c.requires.list) in
-    let all : hidings t c.push_all.new.self ≡ hidings t tokens ++ mark_next c.in-Ok.pending (hidings s list) = ap (hidings t) c.in_ok-push_all-in-Ok.ensures ∙ map-append (hiding t) tokens c.mark_next.new.self ∙ ap (λ hs. hidings t tokens ++ hs) marked in
+    let made = ap (marked_in t) (sym c.in-Ok.is) ∙ c.in_ok-tokens.ensures.is
+    ∙ (λ i. substituted_by c.args.chains.now (arguments_in s c.args.given.now c.args.expanded.now)
+    (set.insert (set_at s c.args.base) (c.text.ensures i)) (c.used.ensures i) (c.space.ensures i)) in
+    let marked : hidings t c.mark_next.new.self ≡ mark_next c.in-Ok.pending (hidings s list) =
+    ap (hidings t) c.mark_next.ensures ∙ hidings-marked t c.in-Ok.pending list ∙ ap (mark_next c.in-Ok.pending) (hidings-keeps list c.in_ok-tokens.ensures.keeps c.requires.list) in
+    let all : hidings t c.push_all.new.self ≡ hidings t tokens ++ mark_next c.in-Ok.pending (hidings s list) =
+    ap (hidings t) c.in_ok-push_all-in-Ok.ensures ∙ map-append (hiding t) tokens c.mark_next.new.self ∙ ap (λ hs. hidings t tokens ++ hs) marked in
     ap Replaced all ∙ ap (λ r. replaced_by r (hidings s list)) made
 
 pub returns-in_ok-push_all-in-Ok-clause-known : goal.returns-in_ok-push_all-in-Ok-clause-known
@@ -29,4 +33,8 @@ returns-in_ok-push_all-in-Ok-clause-known c =
 
 pub returns-in-Err-clause-is : goal.returns-in-Err-clause-is
 returns-in-Err-clause-is c =
-    ap (λ r. replaced_by r (hidings c.args.sets.now c.args.list.now)) (ap (marked_in c.substitute.new.sets) (sym c.in-Err.is) ∙ c.in_ok-tokens.ensures.is ∙ (λ i. substituted_by c.args.chains.now (arguments_in c.args.sets.now c.args.given.now c.args.expanded.now) (set.insert (set_at c.args.sets.now c.args.base) (c.text.ensures i)) (c.used.ensures i) (c.space.ensures i)))
+    let s = c.args.sets.now in
+    let made = ap (marked_in c.substitute.new.sets) (sym c.in-Err.is) ∙ c.in_ok-tokens.ensures.is
+    ∙ (λ i. substituted_by c.args.chains.now (arguments_in s c.args.given.now c.args.expanded.now)
+    (set.insert (set_at s c.args.base) (c.text.ensures i)) (c.used.ensures i) (c.space.ensures i)) in
+    ap (λ r. replaced_by r (hidings s c.args.list.now)) made
