@@ -11,7 +11,8 @@ pub data Content : Type 0 where
   unreadable : Content
   readable : List ℕ → Content
 
--- A content is lawful for a name by a relation where it is bytes that the relation allows, or unreadable and the relation allows unreadable or too many bytes
+-- A content is lawful for a name by a relation where it is bytes that the relation allows, or unreadable and the
+-- relation allows unreadable or too many bytes
 abbrev pub Lawful : (List ℕ → Content → Type 0) → List ℕ → Content → Type 0
 Lawful may name unreadable = (may name unreadable) ⊎ ((bytes : List ℕ) × (longest < length bytes) × may name (readable bytes))
 Lawful may name (readable bytes) = (length bytes ≤ longest) × may name (readable bytes)

@@ -26,13 +26,21 @@ pub data Event : Type 0 where
 
 -- Keep: a row that keeps nothing gets a content, and the caller learns it. Read: the caller learns what the row keeps.
 pub data Happens : Shared → Event → Shared → Type 0 where
-  keeps : {shared : Shared} {caller row : ℕ} {c : Content} → row < length shared.kept → file_at shared.kept row ≡ None → Happens shared (Keep caller row c) (learning (keeping shared row c) caller row c)
-  reads : {shared : Shared} {caller row : ℕ} {c : Content} → file_at shared.kept row ≡ Some c → Happens shared (Read caller row) (learning shared caller row c)
+  keeps : {shared : Shared} {caller row : ℕ} {c : Content}
+      → row < length shared.kept
+      → file_at shared.kept row ≡ None
+      → Happens shared (Keep caller row c) (learning (keeping shared row c) caller row c)
+  reads : {shared : Shared} {caller row : ℕ} {c : Content}
+      → file_at shared.kept row ≡ Some c
+      → Happens shared (Read caller row) (learning shared caller row c)
 
 -- one event after another
 pub data Happen : Shared → List Event → Shared → Type 0 where
   none : {shared : Shared} → Happen shared [] shared
-  next : {shared then after : Shared} {event : Event} {events : List Event} → Happens shared event then → Happen then events after → Happen shared (event ∷ events) after
+  next : {shared then after : Shared} {event : Event} {events : List Event}
+      → Happens shared event then
+      → Happen then events after
+      → Happen shared (event ∷ events) after
 
 -- no row keeps anything, and no caller has learnt anything
 abbrev pub beginning : ℕ → ℕ → Shared
@@ -40,8 +48,13 @@ beginning rows callers = record { kept = replicate rows None; learnt = replicate
 
 -- What a caller has learnt stays, whatever happens.
 abbrev pub LearntStays : Type 0
-LearntStays = (rows callers : ℕ) (events more : List Event) (shared after : Shared) → Happen (beginning rows callers) events shared → Happen shared more after → (caller : ℕ) → Extends (learnt_by after caller) (learnt_by shared caller)
+LearntStays =
+    (rows callers : ℕ) (events more : List Event) (shared after : Shared)
+    → Happen (beginning rows callers) events shared → Happen shared more after
+    → (caller : ℕ) → Extends (learnt_by after caller) (learnt_by shared caller)
 
 -- Callers agree at every row of which both have learnt.
 abbrev pub CallersAgree : Type 0
-CallersAgree = (rows callers : ℕ) (events : List Event) (shared : Shared) → Happen (beginning rows callers) events shared → (one two : ℕ) → Agree (learnt_by shared one) (learnt_by shared two)
+CallersAgree =
+    (rows callers : ℕ) (events : List Event) (shared : Shared) → Happen (beginning rows callers) events shared
+    → (one two : ℕ) → Agree (learnt_by shared one) (learnt_by shared two)

@@ -1,6 +1,7 @@
 -- Which texts are names of files, and the row of a name.
-use Rattle.std.specs.Prelude.{◌≡◌, ◌≢◌, ℕ, ◌<◌, ◌==◌, ◌&&◌, ◌||◌, not, Bool, true, List, [], nat_le, codes, length, Option, Some, None, slice_index_or}
-use Rattle.std.specs.List.{list_all, slice_split}
+use Rattle.std.specs.Prelude.{◌≡◌, ◌≢◌, ℕ, ◌<◌, ◌==◌, ◌&&◌, ◌||◌, not, Bool, true, false, List, [], ◌∷◌, ◌++◌}
+use Rattle.std.specs.Prelude.{nat_le, codes, length, Option, Some, None, slice_index_or}
+use Rattle.std.specs.List.{list_all, list_any, position, slice_split}
 use Rattle.std.specs.Str.{bytes_eq}
 
 -- the pieces between two `/`, which is 47
@@ -40,6 +41,11 @@ pub record IsNewName (names : List (List ℕ)) (row : ℕ) : Type 0 where
 abbrev pub AreNames : List (List ℕ) → Type 0
 AreNames names = (row : ℕ) → row < length names → IsNewName names row
 
+-- the same as a test: each is in normal form, and none of those behind it is the same
+abbrev pub are_names : List (List ℕ) → Bool
+are_names [] = true
+are_names (name ∷ more) = is_name name && not (list_any (bytes_eq name) more) && are_names more
+
 -- the first name that is out of form or stands before
 pub record IsBadName (names : List (List ℕ)) (row : ℕ) : Type 0 where
   pub within : row < length names
@@ -50,3 +56,12 @@ pub record IsBadName (names : List (List ℕ)) (row : ℕ) : Type 0 where
 abbrev pub IsRowOf : List (List ℕ) → List ℕ → Option ℕ → Type 0
 IsRowOf names name None = (row : ℕ) → row < length names → name_in names row ≢ name
 IsRowOf names name (Some row) = (row < length names) × (name_in names row ≡ name)
+
+-- the first row of a name
+abbrev pub row_among : List ℕ → List (List ℕ) → Option ℕ
+row_among name names = position (bytes_eq name) names
+
+-- what comes of putting a name behind others: a new one stands there from then on, and one that is among them changes nothing
+abbrev pub IsPut : List (List ℕ) → List ℕ → Bool → List (List ℕ) → Type 0
+IsPut names name true after = (after ≡ names ++ name ∷ []) × IsRowOf names name None
+IsPut names name false after = (after ≡ names) × ((row : ℕ) × IsRowOf names name (Some row))

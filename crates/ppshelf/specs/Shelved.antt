@@ -37,7 +37,12 @@ stock_of profile rows = record { names = names_of rows; base = base_of rows; pro
 
 -- A row of what callers see
 abbrev pub spot_at : Stock → ℕ → Spot
-spot_at shelf row = record { name = name_in shelf.names row; base = option_map (λ c. record { row = row; name = name_in shelf.names row; profile = shelf.profile; content = c }) (file_at shelf.base row); cell = slice_index_or shelf.cells row 0 }
+spot_at shelf row = record {
+  name = name_in shelf.names row;
+  base = option_map (λ c. record { row = row; name = name_in shelf.names row; profile = shelf.profile; content = c })
+      (file_at shelf.base row);
+  cell = slice_index_or shelf.cells row 0;
+}
 
 -- What one caller has seen of a row: the name of its cell, what its note knows, and what it was shown
 pub record Sight : Type 0 where
@@ -66,7 +71,8 @@ IsPlaced profile row name h = (h.row ≡ row) × (h.name ≡ name) × (h.profile
 
 -- Each base content lies in its own row, and is read by this profile
 abbrev pub Placed : Profile → List Spot → Type 0
-Placed profile rows = (row : ℕ) (h : Held) → (slice_index_or rows row no_spot).base ≡ Some h → IsPlaced profile row (slice_index_or rows row no_spot).name h
+Placed profile rows =
+    (row : ℕ) (h : Held) → (slice_index_or rows row no_spot).base ≡ Some h → IsPlaced profile row (slice_index_or rows row no_spot).name h
 
 -- A shelf: not too many rows, their names as the index has them, in normal form and each once, each base content in its own row
 pub record IsShelf (profile : Profile) (names : List (List ℕ)) (rows : List Spot) : Type 0 where

@@ -1,8 +1,8 @@
 // The rows of names.
-ghost use Rattle.std.specs.Prelude.{◌≡◌, ℕ, ◌++◌, ◌∷◌, [], List, map, IfErr, IfOk, MatchBool, Some, None};
+ghost use Rattle.std.specs.Prelude.{◌≡◌, [], map, IfErr, IfOk};
 ghost use Rattle.std.specs.String.{string_bytes};
 ghost use Rattle.ppshelf.specs.Faults.{IsShelfFault};
-ghost use Rattle.ppshelf.specs.Names.{AreNames, IsRowOf};
+ghost use Rattle.ppshelf.specs.Names.{AreNames, IsPut, IsRowOf, row_among};
 
 use crate::names::is_name;
 use crate::shelf::ShelfFault;
@@ -11,15 +11,15 @@ use pptext::{Hashing, Memory};
 use std::alloc::Global;
 use std::marker::Model;
 
-/// Names, each with its place among them. Contracts see their list.
+/// Names, each once. The row of a name is its place among them. Contracts see their list.
 #[derive(Drop)]
-pub(crate) struct Index {
+pub struct Index {
     alloc: Global,
     names: IndexSet<Vec<u8>, Hashing>,
 }
 
 impl Model for Index {
-    ghost use Rattle.std.specs.Prelude.{ℕ, List, map};
+    ghost use Rattle.std.specs.Prelude.{ℕ, List};
     ghost use Rattle.ppshelf.specs.Indexed.{keys_of};
 
     ghost Value = { List (List ℕ) };
@@ -28,7 +28,18 @@ impl Model for Index {
 }
 
 impl Index {
-    pub(crate) fn new(alloc: Global, count: usize, hashing: Hashing) -> Result<Index, Memory>
+    /// An index without names, which are hashed so. Takes no memory.
+    pub fn new(alloc: Global, hashing: Hashing) -> Index
+        ensures { result ≡ [] }
+    {
+        Index {
+            alloc,
+            names: IndexSet::with_hasher(alloc, hashing),
+        }
+    }
+
+    // The same with room for so many names.
+    fn with_capacity(alloc: Global, count: usize, hashing: Hashing) -> Result<Index, Memory>
         ensures { IfOk result (λ i. i ≡ []) }
     {
         Ok(Index {
@@ -37,19 +48,22 @@ impl Index {
         })
     }
 
-    pub(crate) fn hashing(&self) -> Hashing {
+    /// How names are hashed. Takes no memory.
+    pub fn hashing(&self) -> Hashing {
         *self.names.hasher()
     }
 
-    pub(crate) fn row_of(&self, name: &[u8]) -> Option<usize>
-        ensures { IsRowOf self.now name.now result }
+    /// The row of a name. Takes no memory.
+    pub fn row_of(&self, name: &[u8]) -> Option<usize>
+        ensures row { IsRowOf self.now name.now result }
+        ensures first { result ≡ row_among name.now self.now }
     {
         self.names.get_index_of(name)
     }
 
-    // Adds the name behind the others, unless it is among them, and tells whether it was new.
-    fn push(&mut self, name: &[u8]) -> Result<bool, Memory>
-        ensures added { IfOk result (λ new. MatchBool new ((self.new ≡ self.old ++ name.now ∷ []) × IsRowOf self.old name.now None) ((row : ℕ) × IsRowOf self.old name.now (Some row))) }
+    /// Puts a name behind the others, unless it is among them, and tells whether it was new.
+    pub fn push(&mut self, name: &[u8]) -> Result<bool, Memory>
+        ensures { IfOk result (λ new. IsPut self.old name.now new self.new) }
     {
         let name = Vec::from_slice(self.alloc, name)?;
         let Ok(new) = self.names.insert(name) else {
@@ -69,7 +83,7 @@ pub(crate) fn index_names(
     ensures form { IfOk result (λ i. AreNames i) }
     ensures fault { IfErr result (λ e. IsShelfFault e (map string_bytes names.now)) }
 {
-    let Ok(mut index) = Index::new(alloc, names.len(), hashing) else {
+    let Ok(mut index) = Index::with_capacity(alloc, names.len(), hashing) else {
         return Err(ShelfFault::Memory);
     };
     for (row, name) in names.iter().enumerate() {

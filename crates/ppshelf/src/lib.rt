@@ -17,7 +17,8 @@ mod tests;
 
 pub use disk::{Disk, ReadFault};
 pub use folder_disk::FolderDisk;
-pub use laws::{callers_agree, learnt_stays, one_row};
+pub use index::Index;
+pub use laws::{callers_agree, learnt_stays, names_decide, one_row};
 pub use loaded::Loaded;
 pub use memory_disk::{File, MemoryDisk};
 pub use names::{is_folder, is_name};

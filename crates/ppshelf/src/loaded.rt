@@ -1,5 +1,6 @@
 // A kept content with its row, its name and the profile that it was read by.
-ghost use Rattle.std.specs.Prelude.{◌≡◌, ℕ, ◌<◌, ◌≤◌, ◌↔◌, List, length, IfOk, IfSome, IsTrue, MatchOption, MatchResult, OnErr, Option, Ok, Err, option_copied};
+ghost use Rattle.std.specs.Prelude.{◌≡◌, ℕ, ◌<◌, ◌≤◌, ◌↔◌, List, length, Option, Ok, Err, option_copied};
+ghost use Rattle.std.specs.Prelude.{IfOk, IfSome, IsTrue, MatchOption, MatchResult, OnErr};
 ghost use Rattle.std.specs.String.{string_bytes};
 ghost use Rattle.pptext.specs.Sources.{Reads};
 ghost use Rattle.ppshelf.specs.Content.{Content, unreadable, readable, Lawful, longest, content_of, IsRead};
@@ -172,7 +173,9 @@ impl<D: Disk> Loaded<D> {
 
     /// The file's lines or its first fault, or `None` where it cannot be read.
     pub fn lines(&self) -> Option<Result<&Source, &Fault>>
-        ensures { MatchOption result (self.now.content ≡ unreadable) (λ r. MatchResult r (λ s. IsRead self.now.profile self.now.row self.now.content (Ok s.now)) (λ f. IsRead self.now.profile self.now.row self.now.content (Err f.now))) }
+        ensures { MatchOption result (self.now.content ≡ unreadable) (λ r. MatchResult r
+            (λ s. IsRead self.now.profile self.now.row self.now.content (Ok s.now))
+            (λ f. IsRead self.now.profile self.now.row self.now.content (Err f.now))) }
     {
         match &self.parsed {
             Some(parsed) => Some(parsed.lines.as_ref()),

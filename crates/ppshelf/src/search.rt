@@ -39,7 +39,9 @@ pub fn resolve<D: Disk>(
     folders: Folders<'_>,
 ) -> Result<Option<usize>, Memory>
     requires { from < length shelf.now.names }
-    ensures first { IfOk result (λ row. spec.IsFirstRow shelf.now.names (spec.candidates form (name_in shelf.now.names from) (map string_bytes folders.entry.unit.now) (map string_bytes folders.entry.setting.now) name.now) row) }
+    ensures first { IfOk result (λ row. spec.IsFirstRow shelf.now.names
+        (spec.candidates form (name_in shelf.now.names from) (map string_bytes folders.entry.unit.now)
+        (map string_bytes folders.entry.setting.now) name.now) row) }
     ensures within { IfOk result (λ found. IfSome found (λ row. row < length shelf.now.names)) }
 {
     let beside = row_beside(alloc, shelf, from, form, name)?;

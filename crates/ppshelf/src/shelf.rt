@@ -1,5 +1,6 @@
 // The shelf, and what one caller knows of it.
-ghost use Rattle.std.specs.Prelude.{◌≡◌, ℕ, ◌<◌, ◌≤◌, List, length, map, replicate, IfErr, IfOk, OnErr, OnOk, IfSome, IsSome, IsOkAnd, Some, None, slice_set, slice_index_or};
+ghost use Rattle.std.specs.Prelude.{◌≡◌, ℕ, ◌<◌, ◌≤◌, List, length, map, replicate, Some, None, slice_set, slice_index_or};
+ghost use Rattle.std.specs.Prelude.{IfErr, IfOk, OnErr, OnOk, IfSome, IsSome, IsOkAnd};
 ghost use Rattle.std.specs.String.{string_bytes};
 ghost use Rattle.std.specs.Vec.{vec_len};
 ghost use Rattle.ppshelf.specs.Content.{Lawful, readable};
@@ -181,7 +182,8 @@ impl<D: Disk> Shelf<D> {
     /// Reads each row that no earlier fill read, whatever a look kept. Where memory runs out, the rows that were read stay.
     pub fn fill(&mut self, disk: &D) -> Result<(), Memory>
         ensures shelf { (self.new.names ≡ self.old.names) × (self.new.profile ≡ self.old.profile) × (self.new.cells ≡ self.old.cells) }
-        ensures base { (row : ℕ) → row < length self.old.names → Filled (Lawful (D.gives disk.now) (name_in self.old.names row)) (file_at self.old.base row) (file_at self.new.base row) }
+        ensures base { (row : ℕ) → row < length self.old.names
+            → Filled (Lawful (D.gives disk.now) (name_in self.old.names row)) (file_at self.old.base row) (file_at self.new.base row) }
         ensures len { length self.new.base ≡ length self.old.names }
         ensures full { OnOk result (IsFull self.new) }
     {
@@ -196,9 +198,11 @@ impl<D: Disk> Shelf<D> {
     /// out, the rows that were read stay.
     pub fn fill_with(&mut self, contents: Vec<Vec<u8>>) -> Result<(), Memory>
         requires count { length contents.items ≡ length self.old.names }
-        requires lawful { (row : ℕ) → row < length self.old.names → Lawful D.may (name_in self.old.names row) (readable (bytes_at contents.items row)) }
+        requires lawful { (row : ℕ) → row < length self.old.names
+            → Lawful D.may (name_in self.old.names row) (readable (bytes_at contents.items row)) }
         ensures shelf { (self.new.names ≡ self.old.names) × (self.new.profile ≡ self.old.profile) × (self.new.cells ≡ self.old.cells) }
-        ensures base { (row : ℕ) → row < length self.old.names → Filled (λ c. c ≡ readable (bytes_at contents.items row)) (file_at self.old.base row) (file_at self.new.base row) }
+        ensures base { (row : ℕ) → row < length self.old.names
+            → Filled (λ c. c ≡ readable (bytes_at contents.items row)) (file_at self.old.base row) (file_at self.new.base row) }
         ensures len { length self.new.base ≡ length self.old.names }
         ensures full { OnOk result (IsFull self.new) }
     {
