@@ -12,10 +12,8 @@ use Rattle.ppexpand.specs.Expansion.{IsExpansion, count_expansion}
 use Rattle.ppexpand.specs.Laws.{plus}
 use Rattle.ppexpand.proofs.Budget.{StopsEarly, expansion_spends, expansion_enough, expansion_short}
 use Rattle.ppexpand.proofs.Refusing.{expansion_never_refused}
-use Rattle.ppexpr.specs.declared.symbols.Value.{Value}
-use Rattle.ppexpr.specs.declared.symbols.Symbol.{Symbol}
-use Rattle.ppexpr.specs.declared.symbols.Failure.{Failure}
-use Rattle.ppexpr.specs.declared.symbols.Failure.TheVariants.{ZeroDivisor, Overflow, Shift}
+use Rattle.ppexpr.specs.Outcomes.{Value, Failure, ZeroDivisor, Overflow, Shift}
+use Rattle.ppexpr.specs.Symbols.{Symbol}
 use Rattle.ppexpr.specs.Tokens.{symbol_by, symbol_of, before, symbols_of, constant_or}
 use Rattle.ppexpr.specs.Conditions.{Condition, taken, Evaluates, no_expression, has_value, Judges, too_nested, not_nested, Decides, made_defined, bad_constant, constants, IsCondition, ill_formed, not_replaced, replaced, count_condition}
 

@@ -2,13 +2,9 @@
 use Rattle.std.proofs.Common.{◌≡◌, ℕ, suc, ◌≤◌, ◌<◌, List, [], ◌∷◌, ◌++◌, if◌then◌else◌, refl, sym, ap, ◌∙◌, arith, append_assoc, append-nil}
 use Rattle.std.specs.Prelude.{Some, None, option_and_then}
 use Rattle.std.proofs.lemmas.Bool.{le-leb, lt-leb}
-use Rattle.ppexpr.specs.declared.symbols.Operator.{Operator as OperatorSign}
-use Rattle.ppexpr.specs.declared.symbols.Symbol.{Symbol}
-use Rattle.ppexpr.specs.declared.symbols.Symbol.TheVariants.{Operator, Open, Close, Question, Colon}
-use Rattle.ppexpr.specs.declared.symbols.Unary.{Unary}
-use Rattle.ppexpr.specs.declared.symbols.Binary.{Binary}
-use Rattle.ppexpr.specs.declared.symbols.Binary.TheVariants.{Multiply, Divide, Remainder, Add, Subtract, ShiftLeft, ShiftRight, Less, Greater, LessOrEqual, GreaterOrEqual, Equal, NotEqual, BitAnd, BitXor, BitOr, And, Or}
-use Rattle.ppexpr.specs.Symbols.{unary_of, binary_of}
+use Rattle.ppexpr.specs.Operators.{Operator as OperatorSign}
+use Rattle.ppexpr.specs.Symbols.{Symbol, Operator, Open, Close, Question, Colon, unary_of, binary_of}
+use Rattle.ppexpr.specs.Operations.{Unary, Binary, Multiply, Divide, Remainder, Add, Subtract, ShiftLeft, ShiftRight, Less, Greater, LessOrEqual, GreaterOrEqual, Equal, NotEqual, BitAnd, BitXor, BitOr, And, Or}
 use Rattle.ppexpr.specs.Trees.{Tree, Leaf, Applied, Joined, Chosen}
 use Rattle.ppexpr.specs.Grammar.{level_of, Derives, constant, parentheses, unary, binary, conditional, tighter}
 use Rattle.ppexpr.specs.Pending.{Meaning, Frame, Group, Sign, Left, Test, Arms, frame_level, completed, kept, settled, signed, operated, between, closed, ended}

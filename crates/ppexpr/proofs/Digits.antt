@@ -43,5 +43,13 @@ plain_product n b base digit all bound e reached h = let p : n * b ≡ n * base 
 pub too_large_product : (base : ℕ) (ds : List ℕ) (i n b : ℕ) → 0 < base → i < length ds → n ≡ number base (take i ds) → b ≡ base → (n * b < 2 ^ 64 → ⊥) → 2 ^ 64 ≤ number base ds
 too_large_product base ds i n b h within is e big = plain_product n b base (digit_value (get_or ds i 0)) (number base ds) (2 ^ 64) e (number_reaches base ds i n h within is) big
 
-pub too_large_sum : (base : ℕ) (ds : List ℕ) (i n b shifted more : ℕ) → 0 < base → i < length ds → n ≡ number base (take i ds) → b ≡ base → shifted ≡ n * b → more ≡ digit_value (get_or ds i 0) → (shifted + more < 2 ^ 64 → ⊥) → 2 ^ 64 ≤ number base ds
+pub too_large_sum : (base : ℕ) (ds : List ℕ) (i n b shifted more : ℕ)
+    → 0 < base
+    → i < length ds
+    → n ≡ number base (take i ds)
+    → b ≡ base
+    → shifted ≡ n * b
+    → more ≡ digit_value (get_or ds i 0)
+    → (shifted + more < 2 ^ 64 → ⊥)
+    → 2 ^ 64 ≤ number base ds
 too_large_sum base ds i n b shifted more h within is e f m big = plain_sum n b base (digit_value (get_or ds i 0)) (number base ds) (2 ^ 64) shifted more e (number_reaches base ds i n h within is) f m big

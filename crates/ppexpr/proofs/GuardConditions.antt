@@ -8,11 +8,10 @@ use Rattle.ppmacro.specs.Names.{Macros}
 use Rattle.ppexpand.specs.declared.env.Env.{Env}
 use Rattle.ppexpand.specs.Expansion.{IsExpansion, ended}
 use Rattle.ppexpand.proofs.Skipping.{expansion-behind, expands-nothing}
-use Rattle.ppexpr.specs.declared.symbols.Value.TheVariants.{Signed}
-use Rattle.ppexpr.specs.declared.symbols.Operator.TheVariants.{Bang}
-use Rattle.ppexpr.specs.declared.symbols.Symbol.{Symbol}
-use Rattle.ppexpr.specs.declared.symbols.Symbol.TheVariants.{Constant, Operator}
-use Rattle.ppexpr.specs.declared.symbols.Unary.TheVariants.{Not}
+use Rattle.ppexpr.specs.Outcomes.{Signed}
+use Rattle.ppexpr.specs.Operators.{Bang}
+use Rattle.ppexpr.specs.Symbols.{Symbol, Constant, Operator}
+use Rattle.ppexpr.specs.Operations.{Not}
 use Rattle.ppexpr.specs.Trees.{Tree, Leaf, Applied}
 use Rattle.ppexpr.specs.Values.{unary_outcome, constant_outcome}
 use Rattle.ppexpr.specs.Grammar.{Derives, constant, unary, tighter}
@@ -59,16 +58,25 @@ abbrev not_one : Token → Token → List Token
 not_one n f = punctuator (codes "!") n ∷ as_one f ∷ []
 
 not_one_expands : (macros : Macros) (env : Env) (left : Option ℕ) (n f : Token) → IsExpansion macros env left (not_one n f) (record { tokens = not_one n f; fault = None; left = left })
-not_one_expands macros env left n f = expansion-behind macros env left (not_one n f) (not_one n f) [] (record { tokens = not_one n f; fault = None; left = left }) (ended left None) refl (refl, (refl, tt)) (expands-nothing macros env 0 left) refl refl refl
+not_one_expands macros env left n f =
+    expansion-behind macros env left (not_one n f) (not_one n f) [] (record { tokens = not_one n f; fault = None; left = left }) (ended left None) refl (refl, (refl, tt)) (expands-nothing macros env 0 left) refl refl refl
 
-asked_false : (macros : Macros) (env : Env) (at : Place) (tokens : List Token) (left : Option ℕ) (n f x : Token) → is_some (table.get macros x.text) ≡ true → Asks macros tokens (punctuator (codes "!") n ∷ answer macros (as_defined f) (as_name x) ∷ []) → IsCondition macros env at tokens left (Ok false) left
+asked_false : (macros : Macros) (env : Env) (at : Place) (tokens : List Token) (left : Option ℕ) (n f x : Token)
+    → is_some (table.get macros x.text) ≡ true
+    → Asks macros tokens (punctuator (codes "!") n ∷ answer macros (as_defined f) (as_name x) ∷ [])
+    → IsCondition macros env at tokens left (Ok false) left
 asked_false macros env at tokens left n f x known asks =
-    replaced (subst (Asks macros tokens) (ap (λ (b : Bool). punctuator (codes "!") n ∷ record f { kind = Number; text = if b then codes "1" else codes "0" } ∷ []) known) asks) (not_one_expands macros env left n f) refl refl (constants refl refl (not_nested shallow (is_false at)))
+    let one = ap (λ (b : Bool). punctuator (codes "!") n ∷ record f { kind = Number; text = if b then codes "1" else codes "0" } ∷ []) known in
+    replaced (subst (Asks macros tokens) one asks) (not_one_expands macros env left n f) refl refl (constants refl refl (not_nested shallow (is_false at)))
 
 -- ---- `! defined X` and `! defined ( X )`
 
-pub bare_false : (macros : Macros) (env : Env) (at : Place) (left : Option ℕ) (n f x : Token) → is_some (table.get macros x.text) ≡ true → IsCondition macros env at (punctuator (codes "!") n ∷ as_defined f ∷ as_name x ∷ []) left (Ok false) left
+pub bare_false : (macros : Macros) (env : Env) (at : Place) (left : Option ℕ) (n f x : Token)
+    → is_some (table.get macros x.text) ≡ true
+    → IsCondition macros env at (punctuator (codes "!") n ∷ as_defined f ∷ as_name x ∷ []) left (Ok false) left
 bare_false macros env at left n f x known = asked_false macros env at _ left n f x known (other refl (question refl refl nothing))
 
-pub parenthesized_false : (macros : Macros) (env : Env) (at : Place) (left : Option ℕ) (n f l x r : Token) → is_some (table.get macros x.text) ≡ true → IsCondition macros env at (punctuator (codes "!") n ∷ as_defined f ∷ punctuator (codes "(") l ∷ as_name x ∷ punctuator (codes ")") r ∷ []) left (Ok false) left
+pub parenthesized_false : (macros : Macros) (env : Env) (at : Place) (left : Option ℕ) (n f l x r : Token)
+    → is_some (table.get macros x.text) ≡ true
+    → IsCondition macros env at (punctuator (codes "!") n ∷ as_defined f ∷ punctuator (codes "(") l ∷ as_name x ∷ punctuator (codes ")") r ∷ []) left (Ok false) left
 parenthesized_false macros env at left n f l x r known = asked_false macros env at _ left n f x known (other refl (question refl refl nothing))

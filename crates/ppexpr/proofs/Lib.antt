@@ -9,6 +9,7 @@ pub mod OneTree
 pub mod Asked
 pub mod SymbolSteps
 pub mod ConditionSteps
+pub mod Nested
 pub mod Shallow
 pub mod Unreplaced
 pub mod OneCondition

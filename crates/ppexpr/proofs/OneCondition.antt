@@ -8,8 +8,8 @@ use Rattle.ppexpand.specs.declared.env.Env.{Env}
 use Rattle.ppexpand.specs.declared.expansion.Expanded.{Expanded}
 use Rattle.ppexpand.specs.Expansion.{IsExpansion}
 use Rattle.ppexpand.proofs.Unique.{same_outcome}
-use Rattle.ppexpr.specs.declared.symbols.Symbol.{Symbol}
-use Rattle.ppexpr.specs.declared.symbols.Outcome.{Outcome}
+use Rattle.ppexpr.specs.Symbols.{Symbol}
+use Rattle.ppexpr.specs.Outcomes.{Outcome}
 use Rattle.ppexpr.specs.Reading.{Denotes}
 use Rattle.ppexpr.specs.Values.{outcome_of}
 use Rattle.ppexpr.specs.Asking.{answer, Asks, nothing, other, question}
@@ -81,7 +81,10 @@ no_fault d e f s g h = let k : d.fault ≡ e.fault = ap (λ (x : Expanded). x.fa
 same_left : (d e : Expanded) (after behind : Option ℕ) → d ≡ e → d.left ≡ after → e.left ≡ behind → after ≡ behind
 same_left d e after behind s g h = sym g ∙ (ap (λ (x : Expanded). x.left) s ∙ h)
 
-pub same_condition : (macros : Macros) (env : Env) (at : Place) (ts : List Token) (left after behind : Option ℕ) (c d : Condition) → IsCondition macros env at ts left c after → IsCondition macros env at ts left d behind → (c ≡ d) × (after ≡ behind)
+pub same_condition : (macros : Macros) (env : Env) (at : Place) (ts : List Token) (left after behind : Option ℕ) (c d : Condition)
+    → IsCondition macros env at ts left c after
+    → IsCondition macros env at ts left d behind
+    → (c ≡ d) × (after ≡ behind)
 same_condition macros env at ts left after behind c d (ill_formed n) (ill_formed m) = (refl, refl)
 same_condition macros env at ts left after behind c d (ill_formed n) (not_replaced a g l h) = absurd (n _ a)
 same_condition macros env at ts left after behind c d (ill_formed n) (replaced a g l h j) = absurd (n _ a)

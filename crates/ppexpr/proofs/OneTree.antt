@@ -1,7 +1,7 @@
 -- An expression has one tree.
 use Rattle.std.proofs.Common.{◌≡◌, List, refl, sym, ◌∙◌, ap}
 use Rattle.std.specs.Prelude.{Some}
-use Rattle.ppexpr.specs.declared.symbols.Symbol.{Symbol}
+use Rattle.ppexpr.specs.Symbols.{Symbol}
 use Rattle.ppexpr.specs.Trees.{Tree, Leaf, Applied, Joined, Chosen}
 use Rattle.ppexpr.specs.Grammar.{Parses}
 use Rattle.ppexpr.specs.Pending.{Meaning}

@@ -1,7 +1,7 @@
 -- Few symbols are not nested too deep.
 use Rattle.std.proofs.Common.{ℕ, ◌≤◌, List, length, take, inl, inr, arith, length-take}
 use Rattle.std.proofs.lemmas.List.Sums.{count_by-le-length, suffix_len-le-length}
-use Rattle.ppexpr.specs.declared.symbols.Symbol.{Symbol}
+use Rattle.ppexpr.specs.Symbols.{Symbol}
 use Rattle.ppexpr.specs.Nesting.{IsTooNested, is_open, is_question, is_sign}
 
 few : (s : List Symbol) (k : ℕ) → length (take k s) ≤ length s

@@ -6,9 +6,8 @@ use Rattle.std.proofs.lemmas.Nat.{pow_pos}
 use Rattle.std.proofs.lemmas.Bool.Decides.{nat_tests}
 use Rattle.std.proofs.Math.Nat.{div-lt_iff_lt-mul, div-le_self}
 use Rattle.std.specs.Int.{w64}
-use Rattle.ppexpr.specs.declared.symbols.Value.TheVariants.{Signed}
-use Rattle.ppexpr.specs.declared.symbols.Failure.TheVariants.{Shift}
-use Rattle.ppexpr.specs.declared.symbols.Operator.TheVariants.{ShiftLeft}
+use Rattle.ppexpr.specs.Outcomes.{Signed, Shift}
+use Rattle.ppexpr.specs.Operators.{ShiftLeft}
 use Rattle.ppexpr.specs.Values.{left_shift}
 
 -- a number above the quotient passes the bound when it is shifted

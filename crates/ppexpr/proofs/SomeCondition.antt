@@ -13,8 +13,8 @@ use Rattle.ppexpand.specs.declared.env.Env.{Env}
 use Rattle.ppexpand.specs.declared.expansion.Expanded.{Expanded}
 use Rattle.ppexpand.specs.Expansion.{IsExpansion}
 use Rattle.ppexpand.proofs.Total.{total}
-use Rattle.ppexpr.specs.declared.symbols.Symbol.{Symbol}
-use Rattle.ppexpr.specs.declared.symbols.Outcome.{Outcome}
+use Rattle.ppexpr.specs.Symbols.{Symbol}
+use Rattle.ppexpr.specs.Outcomes.{Outcome}
 use Rattle.ppexpr.specs.Grammar.{IsExpression}
 use Rattle.ppexpr.specs.Reading.{Denotes}
 use Rattle.ppexpr.specs.Frames.{outcomes}
@@ -116,7 +116,11 @@ some_decision : (at : Place) (ts : List Token) (b : Bool) → list_any is_define
 some_decision at ts true e = (Err (fault 22 at []), made_defined e)
 some_decision at ts false e = some_constants at ts (symbols_of at ts) e refl
 
-some_replacement : (macros : Macros) (env : Env) (at : Place) (ts us : List Token) (left : Option ℕ) (e : Expanded) (f : Option Fault) → Asks macros ts us → IsExpansion macros env left us e → e.fault ≡ f → (c : Condition) × (after : Option ℕ) × IsCondition macros env at ts left c after
+some_replacement : (macros : Macros) (env : Env) (at : Place) (ts us : List Token) (left : Option ℕ) (e : Expanded) (f : Option Fault)
+    → Asks macros ts us
+    → IsExpansion macros env left us e
+    → e.fault ≡ f
+    → (c : Condition) × (after : Option ℕ) × IsCondition macros env at ts left c after
 some_replacement macros env at ts us left e (Some f) a x h = (Err f, e.left, not_replaced a x refl h)
 some_replacement macros env at ts us left e None a x h = let d = some_decision at e.tokens (list_any is_defined e.tokens) refl in (d.0, e.left, replaced a x refl h d.1)
 

@@ -2,12 +2,9 @@
 use Rattle.std.proofs.Common.{◌≡◌, ℕ, zero, suc, ◌≤◌, ◌<◌, List, [], ◌∷◌, ◌++◌, if◌then◌else◌, refl, sym, ap, subst, ◌∙◌, arith, append_assoc, append-nil, inl, inr}
 use Rattle.std.specs.Prelude.{Option, Some, None, IfSome, option_and_then}
 use Rattle.std.proofs.lemmas.Bool.Decides.{leb_tells}
-use Rattle.ppexpr.specs.declared.symbols.Operator.{Operator as OperatorSign}
-use Rattle.ppexpr.specs.declared.symbols.Symbol.{Symbol}
-use Rattle.ppexpr.specs.declared.symbols.Symbol.TheVariants.{Constant, Operator, Open, Close, Question, Colon, Other}
-use Rattle.ppexpr.specs.declared.symbols.Unary.{Unary}
-use Rattle.ppexpr.specs.declared.symbols.Binary.{Binary}
-use Rattle.ppexpr.specs.Symbols.{unary_of, binary_of}
+use Rattle.ppexpr.specs.Operators.{Operator as OperatorSign}
+use Rattle.ppexpr.specs.Symbols.{Symbol, Constant, Operator, Open, Close, Question, Colon, Other, unary_of, binary_of}
+use Rattle.ppexpr.specs.Operations.{Unary, Binary}
 use Rattle.ppexpr.specs.Trees.{Tree, Leaf, Applied, Joined, Chosen}
 use Rattle.ppexpr.specs.Grammar.{level_of, Derives, constant, parentheses, unary, binary, conditional, tighter}
 use Rattle.ppexpr.specs.Pending.{Meaning, Frame, Group, Sign, Left, Test, Arms, frame_level, completed, kept, settled, State, signed, operated, between, closed, ended, step}

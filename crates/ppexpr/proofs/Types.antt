@@ -2,17 +2,15 @@
 use Rattle.std.proofs.Common.{◌≡◌, ℕ, ℤ, pos, ◌==◌, ◌^◌, ◌*ℤ◌, ◌+ℤ◌, ◌-ℤ◌, neg_ℤ, int_rem, unsigned_abs, Bool, true, false, not, ◌||◌, ◌&&◌, Ok, Err, refl, ◌∙◌, subst, sym, int_div, int_le}
 use Rattle.std.specs.Prelude.{if◌then◌else◌}
 use Rattle.std.specs.Ordering.{int_eq}
-use Rattle.ppexpr.specs.declared.symbols.Value.{Value}
-use Rattle.ppexpr.specs.declared.symbols.Value.TheVariants.{Signed, Unsigned}
-use Rattle.ppexpr.specs.declared.symbols.Operator.{Operator}
-use Rattle.ppexpr.specs.declared.symbols.Operator.TheVariants as operator
-use Rattle.ppexpr.specs.declared.symbols.Unary.{Unary}
-use Rattle.ppexpr.specs.declared.symbols.Unary.TheVariants as unary
-use Rattle.ppexpr.specs.declared.symbols.Binary.{Binary}
-use Rattle.ppexpr.specs.declared.symbols.Binary.TheVariants.{Multiply, Divide, Remainder, Add, Subtract, ShiftLeft, ShiftRight, Less, Greater, LessOrEqual, GreaterOrEqual, Equal, NotEqual, BitAnd, BitXor, BitOr, And, Or}
-use Rattle.ppexpr.specs.declared.symbols.Failure.TheVariants.{ZeroDivisor, Overflow, Shift}
+use Rattle.ppexpr.specs.Outcomes.{Value, Signed, Unsigned, ZeroDivisor, Overflow, Shift}
+use Rattle.ppexpr.specs.Operators.{Operator}
+use Rattle.ppexpr.specs.Operators as operator
+use Rattle.ppexpr.specs.Operations.{Unary, Binary, Multiply, Divide, Remainder, Add, Subtract, ShiftLeft, ShiftRight, Less, Greater, LessOrEqual, GreaterOrEqual, Equal, NotEqual, BitAnd, BitXor, BitOr, And, Or}
+use Rattle.ppexpr.specs.Operations as unary
 use Rattle.ppexpr.specs.Trees.{Tree, Leaf, Applied, Joined, Chosen}
-use Rattle.ppexpr.specs.Values.{Answer, Operands, BothSigned, BothUnsigned, is_intmax, whole, has_unsigned_type, is_zero, truth, signed, unsigned, unary_value, converted, arithmetic, division, comparison, bitwise, is_amount, left_shift, right_shift, shift, binary_value, unary_answer, with_right, decides, binary_answer, with_type, choice_answer, unary_unsigned, binary_unsigned, constant_outcome, unary_outcome, binary_outcome, choice_outcome, outcome_of}
+use Rattle.ppexpr.specs.Values.{Answer, Operands, BothSigned, BothUnsigned, is_intmax, whole, has_unsigned_type, is_zero, truth, signed, unsigned, unary_value, converted, arithmetic, division, comparison, bitwise, is_amount, left_shift}
+use Rattle.ppexpr.specs.Values.{right_shift, shift, binary_value, unary_answer, with_right, decides, binary_answer, with_type, choice_answer, unary_unsigned, binary_unsigned, constant_outcome, unary_outcome, binary_outcome, choice_outcome}
+use Rattle.ppexpr.specs.Values.{outcome_of}
 
 -- a value, if there is one, is of this type
 abbrev pub HasType : Bool → Answer → Type 0

@@ -11,8 +11,7 @@ use Rattle.ppexpand.specs.declared.env.Env.{Env}
 use Rattle.ppexpand.specs.Lists.{is_plain}
 use Rattle.ppexpand.specs.Expansion.{IsExpansion, ended}
 use Rattle.ppexpand.proofs.Skipping.{expansion-behind, expands-nothing}
-use Rattle.ppexpr.specs.declared.symbols.Symbol.{Symbol}
-use Rattle.ppexpr.specs.declared.symbols.Symbol.TheVariants.{Constant}
+use Rattle.ppexpr.specs.Symbols.{Symbol, Constant}
 use Rattle.ppexpr.specs.Values.{truth}
 use Rattle.ppexpr.specs.Asking.{is_defined, Operand, parenthesized, operand, answer, Asks, nothing as asks_nothing, other, question as asks_question}
 use Rattle.ppexpr.specs.Tokens.{symbol_of, symbols_of, before}

@@ -33,4 +33,8 @@ answer macros d x = record d { kind = Number; text = if is_some (table.get macro
 pub data Asks (macros : Macros) : List Token → List Token → Type 0 where
   nothing : Asks macros [] []
   other : {t : Token} {ts us : List Token} → is_defined t ≡ false → Asks macros ts us → Asks macros (t ∷ ts) (t ∷ us)
-  question : {d : Token} {ts us : List Token} {o : Operand} → is_defined d ≡ true → operand ts ≡ Some o → Asks macros o.rest us → Asks macros (d ∷ ts) (answer macros d o.name ∷ us)
+  question : {d : Token} {ts us : List Token} {o : Operand}
+      → is_defined d ≡ true
+      → operand ts ≡ Some o
+      → Asks macros o.rest us
+      → Asks macros (d ∷ ts) (answer macros d o.name ∷ us)

@@ -1,10 +1,10 @@
 -- Character constants (6.4.4.4).
-use Rattle.std.specs.Prelude.{ℕ, ◌-◌, ◌==◌, Bool, true, false, ◌&&◌, List, [], ◌∷◌, length, drop, Option, Some, None, pos, codes, nat_eq, nat_lt, nat_le, slice_index, slice_range, option_and_then, if◌then◌else◌}
+use Rattle.std.specs.Prelude.{ℕ, ◌-◌, ◌==◌, Bool, true, false, ◌&&◌, List, [], ◌∷◌, length, drop, Option, Some, None, pos, codes, nat_eq, nat_lt}
+use Rattle.std.specs.Prelude.{nat_le, slice_index, slice_range, option_and_then, if◌then◌else◌}
 use Rattle.std.specs.List.{list_all, starts_with}
 use Rattle.std.specs.Char.{is_digit}
 use Rattle.ppexpr.specs.Integers.{number}
-use Rattle.ppexpr.specs.declared.symbols.Value.{Value}
-use Rattle.ppexpr.specs.declared.symbols.Value.TheVariants.{Signed, Unsigned}
+use Rattle.ppexpr.specs.Outcomes.{Value, Signed, Unsigned}
 
 -- what stands between the quotes
 abbrev pub quoted : List ℕ → Option (List ℕ)

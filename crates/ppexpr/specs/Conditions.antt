@@ -9,11 +9,8 @@ use Rattle.ppmacro.specs.Define.{fault}
 use Rattle.ppexpand.specs.declared.env.Env.{Env}
 use Rattle.ppexpand.specs.declared.expansion.Expanded.{Expanded}
 use Rattle.ppexpand.specs.Expansion.{IsExpansion, count_expansion}
-use Rattle.ppexpr.specs.declared.symbols.Value.{Value}
-use Rattle.ppexpr.specs.declared.symbols.Symbol.{Symbol}
-use Rattle.ppexpr.specs.declared.symbols.Failure.{Failure}
-use Rattle.ppexpr.specs.declared.symbols.Failure.TheVariants.{ZeroDivisor, Overflow, Shift}
-use Rattle.ppexpr.specs.declared.symbols.Outcome.{Outcome}
+use Rattle.ppexpr.specs.Outcomes.{Value, Failure, ZeroDivisor, Overflow, Shift, Outcome}
+use Rattle.ppexpr.specs.Symbols.{Symbol}
 use Rattle.ppexpr.specs.Grammar.{IsExpression}
 use Rattle.ppexpr.specs.Reading.{Denotes}
 use Rattle.ppexpr.specs.Values.{is_zero}
@@ -52,7 +49,11 @@ pub data Judges (at : Place) (symbols : List Symbol) : Condition → Type 0 wher
 pub data Decides (at : Place) (tokens : List Token) : Condition → Type 0 where
   made_defined : list_any is_defined tokens ≡ true → Decides at tokens (Err (fault 22 at []))
   bad_constant : {f : Fault} → list_any is_defined tokens ≡ false → symbols_of at tokens ≡ Err f → Decides at tokens (Err f)
-  constants : {symbols : List Symbol} {c : Condition} → list_any is_defined tokens ≡ false → symbols_of at tokens ≡ Ok symbols → Judges at symbols c → Decides at tokens c
+  constants : {symbols : List Symbol} {c : Condition}
+      → list_any is_defined tokens ≡ false
+      → symbols_of at tokens ≡ Ok symbols
+      → Judges at symbols c
+      → Decides at tokens c
 
 -- What is left of the budget before, the answer, and what is left behind it. A use of `defined` without a name is 22; a fault of the replacement is
 -- the condition's.
@@ -75,7 +76,9 @@ pub data IsCondition (macros : Macros) (env : Env) (at : Place) (tokens : List T
       → IsCondition macros env at tokens left c after
 
 -- the number of replacements in a condition
-abbrev pub count_condition : {macros : Macros} {env : Env} {at : Place} {tokens : List Token} {left after : Option ℕ} {c : Condition} → IsCondition macros env at tokens left c after → ℕ
+abbrev pub count_condition : {macros : Macros} {env : Env} {at : Place} {tokens : List Token} {left after : Option ℕ} {c : Condition}
+    → IsCondition macros env at tokens left c after
+    → ℕ
 count_condition (ill_formed none) = 0
 count_condition (not_replaced asks expands leaves is) = count_expansion expands
 count_condition (replaced asks expands leaves is decides) = count_expansion expands

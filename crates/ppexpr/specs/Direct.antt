@@ -1,12 +1,12 @@
--- Conditions in which nothing is replaced: each token stands for a symbol as it is.
+-- Conditions in which nothing is replaced: each token stands for a symbol as it is. Words of contracts inside the crate: no definition rests on
+-- this file.
 use Rattle.std.specs.Prelude.{◌≡◌, true, false, List, [], ◌∷◌, Some, Ok, is_some}
 use Rattle.std.specs.FinMap as table
 use Rattle.pptext.specs.declared.tokens.Place.{Place}
 use Rattle.pptext.specs.declared.tokens.Token.{Token}
 use Rattle.ppmacro.specs.Names.{Macros}
 use Rattle.ppexpand.specs.Lists.{is_plain}
-use Rattle.ppexpr.specs.declared.symbols.Symbol.{Symbol}
-use Rattle.ppexpr.specs.declared.symbols.Symbol.TheVariants.{Constant}
+use Rattle.ppexpr.specs.Symbols.{Symbol, Constant}
 use Rattle.ppexpr.specs.Values.{truth}
 use Rattle.ppexpr.specs.Asking.{is_defined, Operand, operand}
 use Rattle.ppexpr.specs.Tokens.{symbol_of}
@@ -19,7 +19,10 @@ pub record StandsFor (macros : Macros) (t : Token) (s : Symbol) : Type 0 where
 -- a list begins with what this symbol stands for, and goes on with the rest
 pub data BeginsWith (macros : Macros) : List Token → Symbol → List Token → Type 0 where
   token : {t : Token} {ts : List Token} {s : Symbol} → is_defined t ≡ false → StandsFor macros t s → BeginsWith macros (t ∷ ts) s ts
-  question : {d : Token} {ts : List Token} {o : Operand} → is_defined d ≡ true → operand ts ≡ Some o → BeginsWith macros (d ∷ ts) (Constant (truth (is_some (table.get macros o.name.text)))) o.rest
+  question : {d : Token} {ts : List Token} {o : Operand}
+      → is_defined d ≡ true
+      → operand ts ≡ Some o
+      → BeginsWith macros (d ∷ ts) (Constant (truth (is_some (table.get macros o.name.text)))) o.rest
 
 -- a list stands for these symbols
 pub data StandFor (macros : Macros) : List Token → List Symbol → Type 0 where

@@ -1,13 +1,10 @@
 -- The grammar of controlling expressions (6.5, 6.6, 6.10.1): constant expressions without assignment, comma, casts and the like.
 use Rattle.std.specs.Prelude.{◌≡◌, ℕ, suc, List, [], ◌∷◌, ◌++◌, Some}
-use Rattle.ppexpr.specs.declared.symbols.Value.{Value}
-use Rattle.ppexpr.specs.declared.symbols.Operator.{Operator as OperatorSign}
-use Rattle.ppexpr.specs.declared.symbols.Symbol.{Symbol}
-use Rattle.ppexpr.specs.declared.symbols.Symbol.TheVariants.{Constant, Operator, Open, Close, Question, Colon}
-use Rattle.ppexpr.specs.declared.symbols.Unary.{Unary}
-use Rattle.ppexpr.specs.declared.symbols.Binary.{Binary}
-use Rattle.ppexpr.specs.declared.symbols.Binary.TheVariants.{Multiply, Divide, Remainder, Add, Subtract, ShiftLeft, ShiftRight, Less, Greater, LessOrEqual, GreaterOrEqual, Equal, NotEqual, BitAnd, BitXor, BitOr, And, Or}
-use Rattle.ppexpr.specs.Symbols.{unary_of, binary_of}
+use Rattle.ppexpr.specs.Outcomes.{Value}
+use Rattle.ppexpr.specs.Operators.{Operator as OperatorSign}
+use Rattle.ppexpr.specs.Symbols.{Symbol, Constant, Operator, Open, Close, Question, Colon, unary_of, binary_of}
+use Rattle.ppexpr.specs.Operations.{Unary, Binary, Multiply, Divide, Remainder, Add, Subtract, ShiftLeft, ShiftRight, Less, Greater, LessOrEqual}
+use Rattle.ppexpr.specs.Operations.{GreaterOrEqual, Equal, NotEqual, BitAnd, BitXor, BitOr, And, Or}
 use Rattle.ppexpr.specs.Trees.{Tree, Leaf, Applied, Joined, Chosen}
 
 -- The levels of the grammar, loosest first: 0 is an expression (6.5.17), 1 a conditional expression (6.5.15), 2 to 11 are the binary

@@ -1,11 +1,11 @@
 -- Integer constants (6.4.4.1, 6.10.1p4).
-use Rattle.std.specs.Prelude.{ℕ, ◌+◌, ◌*◌, ◌^◌, Bool, true, false, ◌||◌, List, [], ◌∷◌, Option, Some, None, pos, codes, nat_lt, fold, drop, take, if◌then◌else◌}
+use Rattle.std.specs.Prelude.{ℕ, ◌+◌, ◌*◌, ◌^◌, Bool, true, false, ◌||◌, List, [], ◌∷◌, Option, Some, None, pos, codes, nat_lt, fold, drop, take}
+use Rattle.std.specs.Prelude.{if◌then◌else◌}
 use Rattle.std.specs.List.{list_any, prefix_len, starts_with}
 use Rattle.std.specs.Str.{bytes_eq}
 use Rattle.std.specs.Char.{is_digit, digit_value}
 use Rattle.std.specs.Prelude.{nat_eq}
-use Rattle.ppexpr.specs.declared.symbols.Value.{Value}
-use Rattle.ppexpr.specs.declared.symbols.Value.TheVariants.{Signed, Unsigned}
+use Rattle.ppexpr.specs.Outcomes.{Value, Signed, Unsigned}
 
 -- ---- digits
 

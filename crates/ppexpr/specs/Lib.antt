@@ -1,3 +1,6 @@
+pub mod Operators
+pub mod Operations
+pub mod Outcomes
 pub mod Symbols
 pub mod Trees
 pub mod Values

@@ -1,9 +1,8 @@
 -- How deep an expression may be nested.
 use Rattle.std.specs.Prelude.{ℕ, ◌+◌, ◌<◌, ◌≤◌, ◌⊎◌, Bool, true, false, List, take, count_by}
 use Rattle.std.specs.List.{suffix_len}
-use Rattle.ppexpr.specs.declared.symbols.Operator.TheVariants.{Plus, Minus, Tilde, Bang}
-use Rattle.ppexpr.specs.declared.symbols.Symbol.{Symbol}
-use Rattle.ppexpr.specs.declared.symbols.Symbol.TheVariants.{Operator, Open, Close, Question}
+use Rattle.ppexpr.specs.Operators.{Plus, Minus, Tilde, Bang}
+use Rattle.ppexpr.specs.Symbols.{Symbol, Operator, Open, Close, Question}
 
 abbrev pub is_open : Symbol → Bool
 is_open Open = true

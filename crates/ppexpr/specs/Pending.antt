@@ -1,12 +1,9 @@
 -- Reading an expression from the left with a stack of what still waits for its last operand: what the parser's own functions
--- say of their steps. What is read is said by the grammar alone.
+-- say of their steps. No definition rests on this file: what is read is said by the grammar alone.
 use Rattle.std.specs.Prelude.{ℕ, List, [], ◌∷◌, Option, Some, None, nat_le, if◌then◌else◌}
-use Rattle.ppexpr.specs.declared.symbols.Value.{Value}
-use Rattle.ppexpr.specs.declared.symbols.Symbol.{Symbol}
-use Rattle.ppexpr.specs.declared.symbols.Symbol.TheVariants.{Constant, Operator, Open, Close, Question, Colon}
-use Rattle.ppexpr.specs.declared.symbols.Unary.{Unary}
-use Rattle.ppexpr.specs.declared.symbols.Binary.{Binary}
-use Rattle.ppexpr.specs.Symbols.{unary_of, binary_of}
+use Rattle.ppexpr.specs.Outcomes.{Value}
+use Rattle.ppexpr.specs.Symbols.{Symbol, Constant, Operator, Open, Close, Question, Colon, unary_of, binary_of}
+use Rattle.ppexpr.specs.Operations.{Unary, Binary}
 use Rattle.ppexpr.specs.Grammar.{level_of}
 
 -- What the trees come to, whatever it is: outcomes, or the trees themselves.

@@ -1,7 +1,7 @@
 -- What an expression's symbols come to.
 use Rattle.std.specs.Prelude.{◌≡◌, List}
-use Rattle.ppexpr.specs.declared.symbols.Symbol.{Symbol}
-use Rattle.ppexpr.specs.declared.symbols.Outcome.{Outcome}
+use Rattle.ppexpr.specs.Symbols.{Symbol}
+use Rattle.ppexpr.specs.Outcomes.{Outcome}
 use Rattle.ppexpr.specs.Trees.{Tree}
 use Rattle.ppexpr.specs.Grammar.{Parses}
 use Rattle.ppexpr.specs.Values.{outcome_of}

@@ -7,12 +7,10 @@ use Rattle.pptext.specs.declared.tokens.Kind.TheVariants.{Ident, Number, CharCon
 use Rattle.pptext.specs.declared.tokens.Token.{Token}
 use Rattle.pptext.specs.declared.tokens.Fault.{Fault}
 use Rattle.ppmacro.specs.Define.{fault}
-use Rattle.ppexpr.specs.declared.symbols.Value.{Value}
-use Rattle.ppexpr.specs.declared.symbols.Value.TheVariants.{Signed}
-use Rattle.ppexpr.specs.declared.symbols.Operator.{Operator as OperatorSign}
-use Rattle.ppexpr.specs.declared.symbols.Operator.TheVariants.{Plus, Minus, Tilde, Bang, Star, Slash, Percent, ShiftLeft, ShiftRight, Less, Greater, LessOrEqual, GreaterOrEqual, Equal, NotEqual, Ampersand, Caret, Bar, And, Or}
-use Rattle.ppexpr.specs.declared.symbols.Symbol.{Symbol}
-use Rattle.ppexpr.specs.declared.symbols.Symbol.TheVariants.{Constant, Operator, Open, Close, Question, Colon, Other}
+use Rattle.ppexpr.specs.Outcomes.{Value, Signed}
+use Rattle.ppexpr.specs.Operators.{Operator as OperatorSign, Plus, Minus, Tilde, Bang, Star, Slash, Percent, ShiftLeft, ShiftRight, Less, Greater}
+use Rattle.ppexpr.specs.Operators.{LessOrEqual, GreaterOrEqual, Equal, NotEqual, Ampersand, Caret, Bar, And, Or}
+use Rattle.ppexpr.specs.Symbols.{Symbol, Constant, Operator, Open, Close, Question, Colon, Other}
 use Rattle.ppexpr.specs.Integers.{integer_of}
 use Rattle.ppexpr.specs.Characters.{character_of}
 
@@ -40,7 +38,9 @@ spelling_of And = codes "&&"
 spelling_of Or = codes "||"
 
 abbrev pub operators : List OperatorSign
-operators = Plus ∷ Minus ∷ Tilde ∷ Bang ∷ Star ∷ Slash ∷ Percent ∷ ShiftLeft ∷ ShiftRight ∷ Less ∷ Greater ∷ LessOrEqual ∷ GreaterOrEqual ∷ Equal ∷ NotEqual ∷ Ampersand ∷ Caret ∷ Bar ∷ And ∷ Or ∷ []
+operators =
+    Plus ∷ Minus ∷ Tilde ∷ Bang ∷ Star ∷ Slash ∷ Percent ∷ ShiftLeft ∷ ShiftRight ∷ Less ∷ Greater ∷ LessOrEqual ∷ GreaterOrEqual ∷
+    Equal ∷ NotEqual ∷ Ampersand ∷ Caret ∷ Bar ∷ And ∷ Or ∷ []
 
 abbrev pub other_punctuator : List ℕ → Symbol
 other_punctuator s =

@@ -1,7 +1,6 @@
 -- The trees of controlling expressions (6.5).
-use Rattle.ppexpr.specs.declared.symbols.Value.{Value}
-use Rattle.ppexpr.specs.declared.symbols.Unary.{Unary}
-use Rattle.ppexpr.specs.declared.symbols.Binary.{Binary}
+use Rattle.ppexpr.specs.Outcomes.{Value}
+use Rattle.ppexpr.specs.Operations.{Unary, Binary}
 
 -- A constant, an operator with its operand, an operator between its operands, or the conditional operator with its three.
 -- Parentheses leave no trace.

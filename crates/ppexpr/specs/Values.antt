@@ -1,19 +1,14 @@
 -- What an expression comes to (6.5, 6.10.1p4): type and value by recursion on its tree. Values are whole numbers in the range of their type.
-use Rattle.std.specs.Prelude.{ℕ, ◌^◌, ◌==◌, Bool, true, false, not, ◌&&◌, ◌||◌, if◌then◌else◌, Result, Ok, Err, ℤ, pos, ◌+ℤ◌, ◌-ℤ◌, ◌*ℤ◌, neg_ℤ, unsigned_abs, int_lt, int_le, int_div, int_rem, bit_and, bit_or, bit_xor}
+use Rattle.std.specs.Prelude.{ℕ, ◌^◌, ◌==◌, Bool, true, false, not, ◌&&◌, ◌||◌, if◌then◌else◌, Result, Ok, Err, ℤ, pos, ◌+ℤ◌, ◌-ℤ◌, ◌*ℤ◌, neg_ℤ}
+use Rattle.std.specs.Prelude.{unsigned_abs, int_lt, int_le, int_div, int_rem, bit_and, bit_or, bit_xor}
 use Rattle.std.specs.Ordering.{int_eq}
 use Rattle.std.specs.Int.{w64, int_rem_euclid, int_div_euclid, int_bit_and, int_bit_or, int_bit_xor}
-use Rattle.ppexpr.specs.declared.symbols.Value.{Value}
-use Rattle.ppexpr.specs.declared.symbols.Value.TheVariants.{Signed, Unsigned}
-use Rattle.ppexpr.specs.declared.symbols.Operator.{Operator}
-use Rattle.ppexpr.specs.declared.symbols.Operator.TheVariants.{Star, Slash, Percent, Plus, Minus}
-use Rattle.ppexpr.specs.declared.symbols.Operator.TheVariants as operator
-use Rattle.ppexpr.specs.declared.symbols.Unary.{Unary}
-use Rattle.ppexpr.specs.declared.symbols.Unary.TheVariants as unary
-use Rattle.ppexpr.specs.declared.symbols.Binary.{Binary}
-use Rattle.ppexpr.specs.declared.symbols.Binary.TheVariants.{Multiply, Divide, Remainder, Add, Subtract, ShiftLeft, ShiftRight, Less, Greater, LessOrEqual, GreaterOrEqual, Equal, NotEqual, BitAnd, BitXor, BitOr, And, Or}
-use Rattle.ppexpr.specs.declared.symbols.Failure.{Failure}
-use Rattle.ppexpr.specs.declared.symbols.Failure.TheVariants.{ZeroDivisor, Overflow, Shift}
-use Rattle.ppexpr.specs.declared.symbols.Outcome.{Outcome}
+use Rattle.ppexpr.specs.Outcomes.{Value, Signed, Unsigned, Failure, ZeroDivisor, Overflow, Shift, Outcome}
+use Rattle.ppexpr.specs.Operators.{Operator, Star, Slash, Percent, Plus, Minus}
+use Rattle.ppexpr.specs.Operators as operator
+use Rattle.ppexpr.specs.Operations.{Unary, Binary, Multiply, Divide, Remainder, Add, Subtract, ShiftLeft, ShiftRight, Less, Greater, LessOrEqual}
+use Rattle.ppexpr.specs.Operations.{GreaterOrEqual, Equal, NotEqual, BitAnd, BitXor, BitOr, And, Or}
+use Rattle.ppexpr.specs.Operations as unary
 use Rattle.ppexpr.specs.Trees.{Tree, Leaf, Applied, Joined, Chosen}
 
 -- ---- the two types

@@ -18,7 +18,8 @@ pub(crate) fn is_defined(token: &Token) -> bool
 
 // `( X )`, and what stands behind it.
 fn parenthesized(tokens: &[Token]) -> Option<(&Token, &[Token])>
-    ensures { MatchOption result (parenthesized tokens.now ≡ None) (λ o. parenthesized tokens.now ≡ Some (record { name = o.0.now; rest = o.1.now })) }
+    ensures { MatchOption result (parenthesized tokens.now ≡ None)
+        (λ o. parenthesized tokens.now ≡ Some (record { name = o.0.now; rest = o.1.now })) }
 {
     let [open, name, close, rest @ ..] = tokens else {
         return None;

@@ -1,7 +1,10 @@
 // Character constants (6.4.4.4).
 ghost use Rattle.std.specs.Prelude.{◌≡◌, ℕ, ◌<◌, ◌≤◌, ◌^◌, MatchOption, IfSome, None, Some};
-ghost use Rattle.ppexpr.specs.Characters.{quoted, simple_escape, are_digits, is_octal_escape, is_hexadecimal_escape, other_escape, escape, character, up_to, of_type, character_of};
+ghost use Rattle.ppexpr.specs.Characters.{quoted, simple_escape, are_digits, is_octal_escape, is_hexadecimal_escape, other_escape, escape, character};
+ghost use Rattle.ppexpr.specs.Characters.{up_to, of_type, character_of};
+ghost use Rattle.ppexpr.specs.Meant.{value_meant};
 ghost use Rattle.std.specs.List.{list_all};
+ghost use Rattle.std.specs.Option.{option_map};
 ghost use Rattle.std.specs.Char.{is_digit};
 
 use crate::integers::{is_digit, number};
@@ -100,7 +103,7 @@ fn character(text: &[u8]) -> Option<u64>
 // The constant of this type, by its spelling without a prefix.
 fn of_type(greatest: u64, unsigned: bool, text: &[u8]) -> Option<Value>
     requires { greatest < 2 ^ 63 }
-    ensures { result ≡ of_type greatest unsigned text.now }
+    ensures { option_map value_meant result ≡ of_type greatest unsigned text.now }
 {
     let body = quoted(text)?;
     let number = character(body)?;
@@ -116,7 +119,7 @@ fn of_type(greatest: u64, unsigned: bool, text: &[u8]) -> Option<Value>
 
 /// The value of a character constant with its type, if it has one.
 pub(crate) fn character_of(text: &[u8]) -> Option<Value>
-    ensures { result ≡ character_of text.now }
+    ensures { option_map value_meant result ≡ character_of text.now }
 {
     match text {
         [b'u', rest @ ..] => of_type(65535, true, rest),

@@ -2,6 +2,7 @@
 ghost use Rattle.std.specs.Prelude.{◌≡◌, IfOk};
 ghost use Rattle.std.specs.List.{list_any};
 ghost use Rattle.ppexpr.specs.Asking.{is_defined};
+ghost use Rattle.ppexpr.specs.Meant.{failure_meant, answer_meant, symbols_meant};
 ghost use Rattle.ppexpr.specs.Conditions.{failure_fault, taken, Evaluates, Judges, Decides, IsCondition};
 
 use crate::asking::{asked, is_defined};
@@ -17,7 +18,7 @@ use std::alloc::{AllocError, Global};
 
 // The fault of an expression without a value.
 fn failure_fault(alloc: Global, at: Place, failure: Failure) -> Result<Fault, AllocError>
-    ensures { IfOk result (λ f. f ≡ failure_fault at failure) }
+    ensures { IfOk result (λ f. f ≡ failure_fault at (failure_meant failure)) }
 {
     match failure {
         Failure::ZeroDivisor(operator) => fault(alloc, 26, at, operator.spelling()),
@@ -32,7 +33,7 @@ fn taken(
     at: Place,
     value: Result<Value, Failure>,
 ) -> Result<Result<bool, Fault>, AllocError>
-    ensures { IfOk result (λ c. c ≡ taken at value) }
+    ensures { IfOk result (λ c. c ≡ taken at (answer_meant value)) }
 {
     match value {
         Ok(value) => Ok(Ok(!value.is_zero())),
@@ -46,7 +47,7 @@ fn evaluate_symbols(
     at: Place,
     symbols: &[Symbol],
 ) -> Result<Result<bool, Fault>, AllocError>
-    ensures { IfOk result (λ c. Evaluates at symbols.now c) }
+    ensures { IfOk result (λ c. Evaluates at (symbols_meant symbols.now) c) }
 {
     let Some(outcome) = parse(alloc, symbols)? else {
         return Ok(Err(fault(alloc, 23, at, b"")?));
@@ -56,7 +57,7 @@ fn evaluate_symbols(
 
 // The condition of symbols.
 fn judge(alloc: Global, at: Place, symbols: &[Symbol]) -> Result<Result<bool, Fault>, AllocError>
-    ensures { IfOk result (λ c. Judges at symbols.now c) }
+    ensures { IfOk result (λ c. Judges at (symbols_meant symbols.now) c) }
 {
     if is_too_nested(symbols) {
         return Ok(Err(fault(alloc, 29, at, b"")?));

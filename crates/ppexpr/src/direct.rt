@@ -1,6 +1,7 @@
 // The symbols of a condition in which nothing is replaced, as in most.
 ghost use Rattle.std.specs.Prelude.{◌∷◌, IfOk, IfSome};
 ghost use Rattle.ppexpr.specs.Direct.{StandsFor, BeginsWith, StandFor};
+ghost use Rattle.ppexpr.specs.Meant.{symbol_meant, symbols_meant};
 
 use crate::asking::{is_defined, is_macro_name, operand};
 use crate::characters::character_of;
@@ -13,7 +14,7 @@ use std::alloc::{AllocError, Global};
 
 // The symbol of a token, where no macro replaces it and it has one.
 fn symbol_as_is(table: &Table, token: &Token) -> Option<Symbol>
-    ensures { IfSome result (λ s. StandsFor table.now token.now s) }
+    ensures { IfSome result (λ s. StandsFor table.now token.now (symbol_meant s)) }
 {
     let text = token.text.as_bytes();
     match token.kind {
@@ -36,7 +37,7 @@ fn first_symbol<'x>(
     first: &'x Token,
     behind: &'x [Token],
 ) -> Option<(Symbol, &'x [Token])>
-    ensures { IfSome result (λ r. BeginsWith table.now (first.now ∷ behind.now) r.0 r.1.now) }
+    ensures { IfSome result (λ r. BeginsWith table.now (first.now ∷ behind.now) (symbol_meant r.0) r.1.now) }
 {
     if !is_defined(first) {
         return Some((symbol_as_is(table, first)?, behind));
@@ -52,7 +53,7 @@ pub(crate) fn direct_symbols(
     table: &Table,
     tokens: &[Token],
 ) -> Result<Option<Vec<Symbol>>, AllocError>
-    ensures { IfOk result (λ r. IfSome r (λ v. StandFor table.now tokens.now v.items)) }
+    ensures { IfOk result (λ r. IfSome r (λ v. StandFor table.now tokens.now (symbols_meant v.items))) }
 {
     let mut symbols = Vec::with_capacity(alloc, tokens.len())?;
     let mut rest = tokens;

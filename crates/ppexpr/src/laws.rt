@@ -4,9 +4,9 @@ ghost use Rattle.pptext.specs.declared.tokens.Place.{Place};
 ghost use Rattle.pptext.specs.declared.tokens.Token.{Token};
 ghost use Rattle.ppmacro.specs.Names.{Macros};
 ghost use Rattle.ppexpand.specs.declared.env.Env.{Env};
-ghost use Rattle.ppexpr.specs.declared.symbols.Symbol.{Symbol};
+ghost use Rattle.ppexpr.specs.Symbols.{Symbol};
 ghost use Rattle.ppexpr.specs.Trees.{Tree};
-ghost use Rattle.ppexpr.specs.declared.symbols.Value.{Value};
+ghost use Rattle.ppexpr.specs.Outcomes.{Value};
 ghost use Rattle.ppexpr.specs.Values.{has_unsigned_type, outcome_of};
 ghost use Rattle.ppexpr.specs.Grammar.{Parses};
 ghost use Rattle.ppexpr.specs.Conditions.{Condition, IsCondition};
@@ -24,15 +24,20 @@ pub fn value_has_its_type()
 
 /// A condition is taken, not taken or has one fault, and no two of these; and it leaves one thing of a budget.
 pub fn one_condition()
-    ensures { (macros : Macros) (env : Env) (at : Place) (tokens : List Token) (left after behind : Option ℕ) (c d : Condition) → IsCondition macros env at tokens left c after → IsCondition macros env at tokens left d behind → (c ≡ d) × (after ≡ behind) }
+    ensures { (macros : Macros) (env : Env) (at : Place) (tokens : List Token) (left after behind : Option ℕ) (c d : Condition)
+        → IsCondition macros env at tokens left c after
+        → IsCondition macros env at tokens left d behind
+        → (c ≡ d) × (after ≡ behind) }
 {}
 
 /// Each list of tokens has a condition, whatever the macros are and whatever is left of a budget.
 pub fn some_condition()
-    ensures { (macros : Macros) (env : Env) (at : Place) (tokens : List Token) (left : Option ℕ) → (c : Condition) × (after : Option ℕ) × IsCondition macros env at tokens left c after }
+    ensures { (macros : Macros) (env : Env) (at : Place) (tokens : List Token) (left : Option ℕ)
+        → (c : Condition) × (after : Option ℕ) × IsCondition macros env at tokens left c after }
 {}
 
 /// Without a budget a condition is what it is by the standard's rules, which know no budget (6.10.1), and there is none behind it.
 pub fn without_a_budget()
-    ensures { (macros : Macros) (env : Env) (at : Place) (tokens : List Token) (c : Condition) (after : Option ℕ) → IsCondition macros env at tokens None c after ↔ ((after ≡ None) × IsStandardCondition macros env at tokens c) }
+    ensures { (macros : Macros) (env : Env) (at : Place) (tokens : List Token) (c : Condition) (after : Option ℕ)
+        → IsCondition macros env at tokens None c after ↔ ((after ≡ None) × IsStandardCondition macros env at tokens c) }
 {}

@@ -1,6 +1,7 @@
 // How deep an expression is nested.
 ghost use Rattle.std.specs.Prelude.{◌≡◌, ◌↔◌, IsTrue, count_by};
 ghost use Rattle.ppexpr.specs.Nesting.{is_question, is_sign, NestsParentheses, NestsSigns, IsTooNested};
+ghost use Rattle.ppexpr.specs.Meant.{symbol_meant, symbols_meant};
 
 use crate::symbols::{Operator, Symbol};
 
@@ -9,7 +10,7 @@ const MOST: usize = 256;
 
 // Whether some beginning has too many more `(` than `)`.
 fn nests_parentheses(symbols: &[Symbol]) -> bool
-    ensures { IsTrue result ↔ NestsParentheses symbols.now }
+    ensures { IsTrue result ↔ NestsParentheses (symbols_meant symbols.now) }
 {
     let mut open: usize = 0;
     let mut close: usize = 0;
@@ -28,7 +29,7 @@ fn nests_parentheses(symbols: &[Symbol]) -> bool
 
 // How many conditional operators there are.
 fn questions(symbols: &[Symbol]) -> usize
-    ensures { result ≡ count_by is_question symbols.now }
+    ensures { result ≡ count_by is_question (symbols_meant symbols.now) }
 {
     symbols
         .iter()
@@ -38,7 +39,7 @@ fn questions(symbols: &[Symbol]) -> usize
 
 // Whether a symbol is `+ - ~ !`.
 fn is_sign(symbol: &Symbol) -> bool
-    ensures { result ≡ is_sign symbol.now }
+    ensures { result ≡ is_sign (symbol_meant symbol.now) }
 {
     matches!(
         symbol,
@@ -48,7 +49,7 @@ fn is_sign(symbol: &Symbol) -> bool
 
 // Whether too many signs stand side by side.
 fn nests_signs(symbols: &[Symbol]) -> bool
-    ensures { IsTrue result ↔ NestsSigns symbols.now }
+    ensures { IsTrue result ↔ NestsSigns (symbols_meant symbols.now) }
 {
     let mut signs: usize = 0;
     for symbol in symbols {
@@ -66,7 +67,7 @@ fn nests_signs(symbols: &[Symbol]) -> bool
 
 /// Whether an expression is nested over 256 levels deep, by parentheses, conditional operators or signs.
 pub(crate) fn is_too_nested(symbols: &[Symbol]) -> bool
-    ensures { IsTrue result ↔ IsTooNested symbols.now }
+    ensures { IsTrue result ↔ IsTooNested (symbols_meant symbols.now) }
 {
     // Few symbols can't be nested so deep.
     if symbols.len() <= MOST {

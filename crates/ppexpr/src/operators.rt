@@ -2,13 +2,15 @@
 ghost use Rattle.std.specs.Prelude.{◌≡◌};
 ghost use Rattle.ppexpr.specs.Tokens.{spelling_of};
 ghost use Rattle.ppexpr.specs.Symbols.{unary_of, binary_of};
+ghost use Rattle.ppexpr.specs.Meant.{operator_meant, unary_meant, binary_meant};
+ghost use Rattle.std.specs.Option.{option_map};
 
 use crate::symbols::{Binary, Operator, Unary};
 
 impl Operator {
     /// The spelling (6.4.6).
     pub(crate) fn spelling(self) -> &'static [u8]
-        ensures { result.now ≡ spelling_of self }
+        ensures { result.now ≡ spelling_of (operator_meant self) }
     {
         match self {
             Operator::Plus => b"+",
@@ -36,7 +38,7 @@ impl Operator {
 
     /// The operator that it is before an operand (6.5.3.3), if it may stand there.
     pub(crate) fn unary(self) -> Option<Unary>
-        ensures { result ≡ unary_of self }
+        ensures { option_map unary_meant result ≡ unary_of (operator_meant self) }
     {
         match self {
             Operator::Plus => Some(Unary::Plus),
@@ -49,7 +51,7 @@ impl Operator {
 
     /// The operator that it is between two operands (6.5.5 to 6.5.14), if it may stand there.
     pub(crate) fn binary(self) -> Option<Binary>
-        ensures { result ≡ binary_of self }
+        ensures { option_map binary_meant result ≡ binary_of (operator_meant self) }
     {
         match self {
             Operator::Plus => Some(Binary::Add),

@@ -1,6 +1,8 @@
 // What an expression comes to, from what its operands come to.
 ghost use Rattle.std.specs.Prelude.{◌≡◌, Ok};
-ghost use Rattle.ppexpr.specs.Values.{has_unsigned_type, truth, is_zero, unary_answer, with_right, decides, binary_answer, with_type, choice_answer, unary_unsigned, binary_unsigned, constant_outcome, unary_outcome, binary_outcome, choice_outcome};
+ghost use Rattle.ppexpr.specs.Values.{has_unsigned_type, truth, is_zero, unary_answer, with_right, decides, binary_answer, with_type, choice_answer};
+ghost use Rattle.ppexpr.specs.Values.{unary_unsigned, binary_unsigned, constant_outcome, unary_outcome, binary_outcome, choice_outcome};
+ghost use Rattle.ppexpr.specs.Meant.{unary_meant, binary_meant, value_meant, answer_meant, outcome_meant};
 
 use crate::symbols::{Binary, Failure, Outcome, Unary, Value};
 use crate::values::{binary_value, unary_value};
@@ -8,7 +10,7 @@ use crate::values::{binary_value, unary_value};
 impl Unary {
     // Whether the result is of the unsigned type.
     fn is_unsigned(self, operand: bool) -> bool
-        ensures { result ≡ unary_unsigned self operand }
+        ensures { result ≡ unary_unsigned (unary_meant self) operand }
     {
         match self {
             Unary::Not => false,
@@ -20,7 +22,7 @@ impl Unary {
 impl Binary {
     // Whether the result is of the unsigned type.
     fn is_unsigned(self, left: bool, right: bool) -> bool
-        ensures { result ≡ binary_unsigned self left right }
+        ensures { result ≡ binary_unsigned (binary_meant self) left right }
     {
         match self {
             Binary::Multiply
@@ -38,7 +40,7 @@ impl Binary {
 
     // Whether the left operand decides alone (6.5.13p4, 6.5.14p4).
     fn decides(self, left: Value) -> bool
-        ensures { result ≡ decides self left }
+        ensures { result ≡ decides (binary_meant self) (value_meant left) }
     {
         match self {
             Binary::And => left.is_zero(),
@@ -49,7 +51,7 @@ impl Binary {
 
     // The value from that of the left operand, where there is one.
     fn answer(self, left: Value, right: Result<Value, Failure>) -> Result<Value, Failure>
-        ensures { result ≡ binary_answer self (Ok left) right }
+        ensures { answer_meant result ≡ binary_answer (binary_meant self) (Ok (value_meant left)) (answer_meant right) }
     {
         if self.decides(left) {
             return Ok(Value::truth(!left.is_zero()));
@@ -60,7 +62,7 @@ impl Binary {
 
 // Brought to the type of a choice (6.5.15p5).
 fn with_type(unsigned: bool, value: Result<Value, Failure>) -> Result<Value, Failure>
-    ensures { result ≡ with_type unsigned value }
+    ensures { answer_meant result ≡ with_type unsigned (answer_meant value) }
 {
     if !unsigned {
         return value;
@@ -72,7 +74,7 @@ fn with_type(unsigned: bool, value: Result<Value, Failure>) -> Result<Value, Fai
 impl Outcome {
     /// That of a constant.
     pub(crate) fn constant(value: Value) -> Outcome
-        ensures { result ≡ constant_outcome value }
+        ensures { outcome_meant result ≡ constant_outcome (value_meant value) }
     {
         Outcome {
             unsigned: matches!(value, Value::Unsigned(_)),
@@ -82,7 +84,7 @@ impl Outcome {
 
     /// That of an operator before its operand.
     pub(crate) fn unary(operator: Unary, operand: Outcome) -> Outcome
-        ensures { result ≡ unary_outcome operator operand }
+        ensures { outcome_meant result ≡ unary_outcome (unary_meant operator) (outcome_meant operand) }
     {
         Outcome {
             unsigned: operator.is_unsigned(operand.unsigned),
@@ -95,7 +97,7 @@ impl Outcome {
 
     /// That of an operator between its operands.
     pub(crate) fn binary(operator: Binary, left: Outcome, right: Outcome) -> Outcome
-        ensures { result ≡ binary_outcome operator left right }
+        ensures { outcome_meant result ≡ binary_outcome (binary_meant operator) (outcome_meant left) (outcome_meant right) }
     {
         Outcome {
             unsigned: operator.is_unsigned(left.unsigned, right.unsigned),
@@ -108,7 +110,7 @@ impl Outcome {
 
     /// That of `test ? yes : no`.
     pub(crate) fn choice(test: Outcome, yes: Outcome, no: Outcome) -> Outcome
-        ensures { result ≡ choice_outcome test yes no }
+        ensures { outcome_meant result ≡ choice_outcome (outcome_meant test) (outcome_meant yes) (outcome_meant no) }
     {
         let unsigned = yes.unsigned || no.unsigned;
         let value = match test.value {

@@ -3,6 +3,8 @@ ghost use Rattle.std.specs.Prelude.{◌≡◌, Some, None, IfOk, MatchOption};
 ghost use Rattle.ppexpr.specs.Grammar.{IsExpression, level_of};
 ghost use Rattle.ppexpr.specs.Pending.{frame_level, completed, kept, settled, finish};
 ghost use Rattle.ppexpr.specs.Frames.{frame, frames, outcomes, state_of, Takes};
+ghost use Rattle.ppexpr.specs.Meant.{binary_meant, outcome_meant, symbols_meant};
+ghost use Rattle.std.specs.Option.{option_map};
 ghost use Rattle.ppexpr.specs.Reading.{Denotes};
 
 #[cfg(test)]
@@ -42,7 +44,7 @@ struct Parser {
 impl Binary {
     // The level of the expressions that it makes: 2 for `||` to 11 for `*`.
     fn level(self) -> u8
-        ensures { result ≡ level_of self }
+        ensures { result ≡ level_of (binary_meant self) }
     {
         match self {
             Binary::Or => 2,
@@ -73,7 +75,7 @@ impl Pending {
     }
 
     fn complete(self, operand: Outcome) -> Outcome
-        ensures { result ≡ completed outcomes (frame self) operand }
+        ensures { outcome_meant result ≡ completed outcomes (frame self) (outcome_meant operand) }
     {
         match self {
             Pending::Group | Pending::Test(_) => operand,
@@ -87,7 +89,7 @@ impl Pending {
 // Gives the operand to what waits for one at this level or a tighter one.
 fn settle(pending: &mut Vec<Pending>, level: u8, mut operand: Outcome) -> Outcome
     ensures stay { frames pending.new.items ≡ kept level (frames pending.old.items) }
-    ensures value { result ≡ settled outcomes level (frames pending.old.items) operand }
+    ensures value { outcome_meant result ≡ settled outcomes level (frames pending.old.items) (outcome_meant operand) }
 {
     while let Some(last) = pending.pop_if(|last| last.level() >= level) {
         operand = last.complete(operand);
@@ -165,7 +167,7 @@ impl Parser {
 
     // The outcome behind the last symbol; None where an operand or a closing symbol is still awaited.
     fn finish(self) -> Option<Outcome>
-        ensures { result ≡ finish outcomes (state_of self) }
+        ensures { option_map outcome_meant result ≡ finish outcomes (state_of self) }
     {
         let Parser {
             mut pending,
@@ -179,7 +181,9 @@ impl Parser {
 /// What an expression comes to; None where the symbols are none (6.5, 6.6).
 /// Each symbol is pending at most once, so the time is linear in their number.
 pub(crate) fn parse(alloc: Global, symbols: &[Symbol]) -> Result<Option<Outcome>, AllocError>
-    ensures { IfOk result (λ r. MatchOption r (¬ IsExpression symbols.now) (λ o. Denotes symbols.now o)) }
+    ensures { IfOk result (λ r.
+        MatchOption r (¬ IsExpression (symbols_meant symbols.now))
+        (λ o. Denotes (symbols_meant symbols.now) (outcome_meant o))) }
 {
     let mut parser = Parser {
         pending: Vec::new(alloc),

@@ -3,6 +3,7 @@ ghost use Rattle.std.specs.Prelude.{◌≡◌, IfOk, MatchResult, Ok, Err};
 ghost use Rattle.ppmacro.specs.Define.{fault};
 ghost use Rattle.ppmacro.specs.Spellings.{is_identifier, is_name, is_punct};
 ghost use Rattle.ppexpr.specs.Tokens.{operators, punctuator_among, symbol_of, symbols_of};
+ghost use Rattle.ppexpr.specs.Meant.{symbol_meant, symbols_meant};
 
 use crate::characters::character_of;
 use crate::integers::integer_of;
@@ -44,7 +45,7 @@ pub(crate) fn fault(alloc: Global, number: u8, at: Place, text: &[u8]) -> Result
 
 /// The symbol of a punctuator.
 pub(crate) fn punctuator(text: &[u8]) -> Symbol
-    ensures { result ≡ punctuator_among operators text.now }
+    ensures { symbol_meant result ≡ punctuator_among operators text.now }
 {
     let operator = match text {
         b"+" => Operator::Plus,
@@ -82,7 +83,7 @@ pub(crate) fn symbol_of(
     at: Place,
     token: &Token,
 ) -> Result<Result<Symbol, Fault>, AllocError>
-    ensures { IfOk result (λ r. r ≡ symbol_of at token.now) }
+    ensures { IfOk result (λ r. MatchResult r (λ s. symbol_of at token.now ≡ Ok (symbol_meant s)) (λ f. symbol_of at token.now ≡ Err f)) }
 {
     let text = token.text.as_bytes();
     let (number, constant) = match token.kind {
@@ -104,7 +105,7 @@ pub(crate) fn symbols_of(
     at: Place,
     tokens: &[Token],
 ) -> Result<Result<Vec<Symbol>, Fault>, AllocError>
-    ensures { IfOk result (λ r. MatchResult r (λ v. symbols_of at tokens.now ≡ Ok v.items) (λ f. symbols_of at tokens.now ≡ Err f)) }
+    ensures { IfOk result (λ r. MatchResult r (λ v. symbols_of at tokens.now ≡ Ok (symbols_meant v.items)) (λ f. symbols_of at tokens.now ≡ Err f)) }
 {
     let mut symbols = Vec::new(alloc);
     for token in tokens {

@@ -1,11 +1,13 @@
 // Operators on values (6.5.3.3 to 6.5.12).
-ghost use Rattle.std.specs.Prelude.{◌≡◌, ℕ, ℤ, pos, neg_ℤ, FitsSigned, ◌+ℤ◌, ◌-ℤ◌, ◌*ℤ◌, ◌<◌, int_lt, int_le, int_div, int_rem, bit_and, bit_or, bit_xor, not, MatchOption, Ok, IsTrue, ◌^◌, false, ◌≤ℤ◌};
+ghost use Rattle.std.specs.Prelude.{◌≡◌, ℕ, ℤ, pos, neg_ℤ, FitsSigned, ◌+ℤ◌, ◌-ℤ◌, ◌*ℤ◌, ◌<◌, int_lt, int_le, int_div, int_rem, bit_and, bit_or};
+ghost use Rattle.std.specs.Prelude.{bit_xor, not, MatchOption, Ok, IsTrue, ◌^◌, false, ◌≤ℤ◌};
 ghost use Rattle.std.specs.Int.{w64, int_bit_and, int_bit_or, int_bit_xor};
 ghost use Rattle.std.specs.Ordering.{int_eq};
 ghost use Rattle.std.specs.Option.{SomeIff};
-ghost use Rattle.ppexpr.specs.declared.symbols.Operator.TheVariants.{Star, Slash, Percent, Plus, Minus, ShiftLeft, ShiftRight};
-ghost use Rattle.ppexpr.specs.Meant.{operands_meant};
-ghost use Rattle.ppexpr.specs.Values.{is_zero, as_unsigned, truth, is_amount, is_intmax, whole, signed, negative, complement, unary_value, converted, arithmetic, division, comparison, bitwise, shift, left_shift, right_shift, binary_value};
+ghost use Rattle.ppexpr.specs.Operators.{Star, Slash, Percent, Plus, Minus, ShiftLeft, ShiftRight};
+ghost use Rattle.ppexpr.specs.Meant.{value_meant, operator_meant, unary_meant, binary_meant, answer_meant, operands_meant};
+ghost use Rattle.ppexpr.specs.Values.{is_zero, as_unsigned, truth, is_amount, is_intmax, whole, signed, negative, complement, unary_value, converted};
+ghost use Rattle.ppexpr.specs.Values.{arithmetic, division, comparison, bitwise, shift, left_shift, right_shift, binary_value};
 
 use crate::symbols::{Binary, Failure, Operator, Unary, Value};
 
@@ -19,7 +21,7 @@ pub(crate) enum Operands {
 impl Value {
     /// Whether it is 0.
     pub(crate) fn is_zero(self) -> bool
-        ensures { result ≡ is_zero self }
+        ensures { result ≡ is_zero (value_meant self) }
     {
         match self {
             Value::Signed(n) => n == 0,
@@ -29,7 +31,7 @@ impl Value {
 
     /// The value modulo 2^64 (6.3.1.3p2).
     pub(crate) fn as_unsigned(self) -> u64
-        ensures { result ≡ as_unsigned self }
+        ensures { result ≡ as_unsigned (value_meant self) }
     {
         match self {
             Value::Signed(n) => n.cast_unsigned(),
@@ -39,7 +41,7 @@ impl Value {
 
     /// What a comparison answers (6.5.8p6).
     pub(crate) fn truth(holds: bool) -> Value
-        ensures { result ≡ truth holds }
+        ensures { value_meant result ≡ truth holds }
     {
         Value::Signed(if holds { 1 } else { 0 })
     }
@@ -47,7 +49,7 @@ impl Value {
 
 // A signed result, if it is in range.
 fn signed(operator: Operator, value: Option<i64>) -> Result<Value, Failure>
-    ensures { (z : ℤ) → SomeIff value (FitsSigned w64 z) z → result ≡ signed operator z }
+    ensures { (z : ℤ) → SomeIff value (FitsSigned w64 z) z → answer_meant result ≡ signed (operator_meant operator) z }
 {
     match value {
         Some(value) => Ok(Value::Signed(value)),
@@ -57,7 +59,7 @@ fn signed(operator: Operator, value: Option<i64>) -> Result<Value, Failure>
 
 // `-` before an operand.
 fn negative(value: Value) -> Result<Value, Failure>
-    ensures { result ≡ negative value }
+    ensures { answer_meant result ≡ negative (value_meant value) }
 {
     match value {
         Value::Signed(n) => signed(Operator::Minus, n.checked_neg()),
@@ -67,7 +69,7 @@ fn negative(value: Value) -> Result<Value, Failure>
 
 // `~` before an operand.
 fn complement(value: Value) -> Result<Value, Failure>
-    ensures { result ≡ complement value }
+    ensures { answer_meant result ≡ complement (value_meant value) }
 {
     Ok(match value {
         Value::Signed(n) => Value::Signed(!n),
@@ -77,7 +79,7 @@ fn complement(value: Value) -> Result<Value, Failure>
 
 /// An operator before a value.
 pub(crate) fn unary_value(operator: Unary, value: Value) -> Result<Value, Failure>
-    ensures { result ≡ unary_value operator value }
+    ensures { answer_meant result ≡ unary_value (unary_meant operator) (value_meant value) }
 {
     match operator {
         Unary::Plus => Ok(value),
@@ -89,7 +91,7 @@ pub(crate) fn unary_value(operator: Unary, value: Value) -> Result<Value, Failur
 
 // The usual conversions (6.3.1.8).
 fn converted(left: Value, right: Value) -> Operands
-    ensures { operands_meant result ≡ converted left right }
+    ensures { operands_meant result ≡ converted (value_meant left) (value_meant right) }
 {
     if let Value::Signed(a) = left {
         if let Value::Signed(b) = right {
@@ -101,7 +103,7 @@ fn converted(left: Value, right: Value) -> Operands
 
 // 6.5.5p3
 fn product(operands: Operands) -> Result<Value, Failure>
-    ensures { result ≡ arithmetic Star (λ a b. a *ℤ b) (operands_meant operands) }
+    ensures { answer_meant result ≡ arithmetic Star (λ a b. a *ℤ b) (operands_meant operands) }
 {
     match operands {
         Operands::BothSigned(a, b) => signed(Operator::Star, a.checked_mul(b)),
@@ -111,7 +113,7 @@ fn product(operands: Operands) -> Result<Value, Failure>
 
 // 6.5.6p5
 fn sum(operands: Operands) -> Result<Value, Failure>
-    ensures { result ≡ arithmetic Plus (λ a b. a +ℤ b) (operands_meant operands) }
+    ensures { answer_meant result ≡ arithmetic Plus (λ a b. a +ℤ b) (operands_meant operands) }
 {
     match operands {
         Operands::BothSigned(a, b) => signed(Operator::Plus, a.checked_add(b)),
@@ -121,7 +123,7 @@ fn sum(operands: Operands) -> Result<Value, Failure>
 
 // 6.5.6p6
 fn difference(operands: Operands) -> Result<Value, Failure>
-    ensures { result ≡ arithmetic Minus (λ a b. a -ℤ b) (operands_meant operands) }
+    ensures { answer_meant result ≡ arithmetic Minus (λ a b. a -ℤ b) (operands_meant operands) }
 {
     match operands {
         Operands::BothSigned(a, b) => signed(Operator::Minus, a.checked_sub(b)),
@@ -131,7 +133,7 @@ fn difference(operands: Operands) -> Result<Value, Failure>
 
 // 6.5.5p5
 fn quotient(operands: Operands) -> Result<Value, Failure>
-    ensures { result ≡ division Slash int_div (operands_meant operands) }
+    ensures { answer_meant result ≡ division Slash int_div (operands_meant operands) }
 {
     match operands {
         Operands::BothSigned(_, 0) | Operands::BothUnsigned(_, 0) => {
@@ -147,7 +149,7 @@ fn quotient(operands: Operands) -> Result<Value, Failure>
 
 // 6.5.5p5, p6
 fn remainder(operands: Operands) -> Result<Value, Failure>
-    ensures { result ≡ division Percent int_rem (operands_meant operands) }
+    ensures { answer_meant result ≡ division Percent int_rem (operands_meant operands) }
 {
     match operands {
         Operands::BothSigned(_, 0) | Operands::BothUnsigned(_, 0) => {
@@ -163,7 +165,7 @@ fn remainder(operands: Operands) -> Result<Value, Failure>
 
 // 6.5.8p6
 fn less(operands: Operands) -> Value
-    ensures { Ok result ≡ comparison int_lt (operands_meant operands) }
+    ensures { Ok (value_meant result) ≡ comparison int_lt (operands_meant operands) }
 {
     Value::truth(match operands {
         Operands::BothSigned(a, b) => a < b,
@@ -173,7 +175,7 @@ fn less(operands: Operands) -> Value
 
 // 6.5.8p6
 fn less_or_equal(operands: Operands) -> Value
-    ensures { Ok result ≡ comparison int_le (operands_meant operands) }
+    ensures { Ok (value_meant result) ≡ comparison int_le (operands_meant operands) }
 {
     Value::truth(match operands {
         Operands::BothSigned(a, b) => a <= b,
@@ -183,7 +185,7 @@ fn less_or_equal(operands: Operands) -> Value
 
 // 6.5.8p6
 fn greater(operands: Operands) -> Value
-    ensures { Ok result ≡ comparison (λ a b. int_lt b a) (operands_meant operands) }
+    ensures { Ok (value_meant result) ≡ comparison (λ a b. int_lt b a) (operands_meant operands) }
 {
     Value::truth(match operands {
         Operands::BothSigned(a, b) => a > b,
@@ -193,7 +195,7 @@ fn greater(operands: Operands) -> Value
 
 // 6.5.8p6
 fn greater_or_equal(operands: Operands) -> Value
-    ensures { Ok result ≡ comparison (λ a b. int_le b a) (operands_meant operands) }
+    ensures { Ok (value_meant result) ≡ comparison (λ a b. int_le b a) (operands_meant operands) }
 {
     Value::truth(match operands {
         Operands::BothSigned(a, b) => a >= b,
@@ -203,7 +205,7 @@ fn greater_or_equal(operands: Operands) -> Value
 
 // 6.5.9p3
 fn equal(operands: Operands) -> Value
-    ensures { Ok result ≡ comparison int_eq (operands_meant operands) }
+    ensures { Ok (value_meant result) ≡ comparison int_eq (operands_meant operands) }
 {
     Value::truth(match operands {
         Operands::BothSigned(a, b) => a == b,
@@ -213,7 +215,7 @@ fn equal(operands: Operands) -> Value
 
 // 6.5.9p3
 fn not_equal(operands: Operands) -> Value
-    ensures { Ok result ≡ comparison (λ a b. not (int_eq a b)) (operands_meant operands) }
+    ensures { Ok (value_meant result) ≡ comparison (λ a b. not (int_eq a b)) (operands_meant operands) }
 {
     Value::truth(match operands {
         Operands::BothSigned(a, b) => a != b,
@@ -223,7 +225,7 @@ fn not_equal(operands: Operands) -> Value
 
 // 6.5.10p4
 fn bit_and(operands: Operands) -> Value
-    ensures { Ok result ≡ bitwise (int_bit_and w64) bit_and (operands_meant operands) }
+    ensures { Ok (value_meant result) ≡ bitwise (int_bit_and w64) bit_and (operands_meant operands) }
 {
     match operands {
         Operands::BothSigned(a, b) => Value::Signed(a & b),
@@ -233,7 +235,7 @@ fn bit_and(operands: Operands) -> Value
 
 // 6.5.11p4
 fn bit_xor(operands: Operands) -> Value
-    ensures { Ok result ≡ bitwise (int_bit_xor w64) bit_xor (operands_meant operands) }
+    ensures { Ok (value_meant result) ≡ bitwise (int_bit_xor w64) bit_xor (operands_meant operands) }
 {
     match operands {
         Operands::BothSigned(a, b) => Value::Signed(a ^ b),
@@ -243,7 +245,7 @@ fn bit_xor(operands: Operands) -> Value
 
 // 6.5.12p4
 fn bit_or(operands: Operands) -> Value
-    ensures { Ok result ≡ bitwise (int_bit_or w64) bit_or (operands_meant operands) }
+    ensures { Ok (value_meant result) ≡ bitwise (int_bit_or w64) bit_or (operands_meant operands) }
 {
     match operands {
         Operands::BothSigned(a, b) => Value::Signed(a | b),
@@ -253,7 +255,7 @@ fn bit_or(operands: Operands) -> Value
 
 // A shift's amount, where it is one.
 fn amount(value: Value) -> Option<u32>
-    ensures { MatchOption result (is_amount (whole value) ≡ false) (λ n. (whole value ≡ pos n) × (n < 64)) }
+    ensures { MatchOption result (is_amount (whole (value_meant value)) ≡ false) (λ n. (whole (value_meant value) ≡ pos n) × (n < 64)) }
 {
     match value {
         Value::Signed(n) if 0 <= n && n < 64 => Some(n as u32),
@@ -265,7 +267,7 @@ fn amount(value: Value) -> Option<u32>
 // `<<` (6.5.7p4).
 fn left_shift(value: Value, amount: u32) -> Result<Value, Failure>
     requires { amount < 64 }
-    ensures { result ≡ left_shift value amount }
+    ensures { answer_meant result ≡ left_shift (value_meant value) amount }
 {
     let number = match value {
         Value::Signed(number) => number,
@@ -283,7 +285,7 @@ fn left_shift(value: Value, amount: u32) -> Result<Value, Failure>
 // `>>` (6.5.7p5).
 fn right_shift(value: Value, amount: u32) -> Value
     requires { amount < 64 }
-    ensures { Ok result ≡ right_shift value amount }
+    ensures { Ok (value_meant result) ≡ right_shift (value_meant value) amount }
 {
     match value {
         Value::Signed(number) => Value::Signed(number >> amount),
@@ -293,7 +295,7 @@ fn right_shift(value: Value, amount: u32) -> Value
 
 // `<<` by any amount (6.5.7p3).
 fn shifted_left(left: Value, right: Value) -> Result<Value, Failure>
-    ensures { result ≡ shift ShiftLeft left_shift left right }
+    ensures { answer_meant result ≡ shift ShiftLeft left_shift (value_meant left) (value_meant right) }
 {
     match amount(right) {
         Some(amount) => left_shift(left, amount),
@@ -303,7 +305,7 @@ fn shifted_left(left: Value, right: Value) -> Result<Value, Failure>
 
 // `>>` by any amount (6.5.7p3).
 fn shifted_right(left: Value, right: Value) -> Result<Value, Failure>
-    ensures { result ≡ shift ShiftRight right_shift left right }
+    ensures { answer_meant result ≡ shift ShiftRight right_shift (value_meant left) (value_meant right) }
 {
     match amount(right) {
         Some(amount) => Ok(right_shift(left, amount)),
@@ -313,7 +315,7 @@ fn shifted_right(left: Value, right: Value) -> Result<Value, Failure>
 
 /// An operator between two values.
 pub(crate) fn binary_value(operator: Binary, left: Value, right: Value) -> Result<Value, Failure>
-    ensures { result ≡ binary_value operator left right }
+    ensures { answer_meant result ≡ binary_value (binary_meant operator) (value_meant left) (value_meant right) }
 {
     let operands = converted(left, right);
     match operator {

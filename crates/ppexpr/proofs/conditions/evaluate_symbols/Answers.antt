@@ -1,9 +1,10 @@
 use Rattle.std.proofs.lemmas.Result.{IfOk-weaker}
+use Rattle.ppexpr.specs.Meant.{symbols_meant}
 use Rattle.ppexpr.proofs.ConditionSteps.{evaluates_none, evaluates_some}
 use Rattle.ppexpr.proofs.conditions.evaluate_symbols.Goals as goal
 
 pub returns-in_default : goal.returns-in_default
-returns-in_default c = evaluates_none c.args.at c.args.symbols.now c.in_ok-outcome.field-0 c.in_ok-fault.field-0 c.in_default.is c.in_ok-fault.ensures c.in_ok-outcome.ensures
+returns-in_default c = evaluates_none c.args.at (symbols_meant c.args.symbols.now) c.in_ok-outcome.field-0 c.in_ok-fault.field-0 c.in_default.is c.in_ok-fault.ensures c.in_ok-outcome.ensures
 
 pub returns : goal.returns
-returns c = IfOk-weaker _ _ _ (λ x h. evaluates_some c.args.at c.args.symbols.now c.in_ok-outcome.field-0 c.in-Some.outcome x c.in-Some.is h c.in_ok-outcome.ensures) c.taken.ensures
+returns c = IfOk-weaker _ _ _ (λ x h. evaluates_some c.args.at (symbols_meant c.args.symbols.now) c.in_ok-outcome.field-0 c.in-Some.outcome x c.in-Some.is h c.in_ok-outcome.ensures) c.taken.ensures

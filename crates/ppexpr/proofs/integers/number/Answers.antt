@@ -10,4 +10,6 @@ returns-in_err-shifted c =
 pub returns-in_err-number : goal.returns-in_err-number
 returns-in_err-number c =
     let within : c.loop-c.c-index < length c.args.digits.now = omega arith in
-    rw c.from_residual-in_err-number.ensures (too_large_sum c.args.base c.args.digits.now c.loop-c.c-index c.loop-c.number c.from.result c.in_ok-shifted.shifted c.from-in-loop-c.result c.requires within c.loop-c.invariant c.from.ensures c.in_ok-shifted.ensures.1 (c.from-in-loop-c.ensures ∙ c.digit_value.ensures) c.in_err-number.ensures)
+    rw c.from_residual-in_err-number.ensures
+    (too_large_sum c.args.base c.args.digits.now c.loop-c.c-index c.loop-c.number c.from.result c.in_ok-shifted.shifted c.from-in-loop-c.result
+    c.requires within c.loop-c.invariant c.from.ensures c.in_ok-shifted.ensures.1 (c.from-in-loop-c.ensures ∙ c.digit_value.ensures) c.in_err-number.ensures)
