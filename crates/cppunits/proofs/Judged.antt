@@ -16,7 +16,9 @@ use Rattle.ppunit.specs.declared.units.Unit.{Unit as UnitOfList}
 use Rattle.cppunits.specs.Drafting.{draft}
 use Rattle.ppshelf.specs.Content.{longest}
 use Rattle.ppshelf.specs.Files.{most_rows}
-use Rattle.cppunits.specs.Listing.{accepted, refused, json_value, outcome_of, judged, listed, listed_unit, place_of, names_of, contents_of, names_hold, sizes_hold, are_known, times_hold, lines_hold, folders_hold, profile_holds, profile_of, budget_holds, most_input, IsRunnable}
+use Rattle.ppshelf.specs.Names.{row_among}
+use Rattle.ppshelf.proofs.Naming.{names_from_test}
+use Rattle.cppunits.specs.Listing.{accepted, refused, json_value, outcome_of, judged, listed, listed_unit, names_of, contents_of, names_hold, sizes_hold, are_known, times_hold, lines_hold, folders_hold, profile_holds, profile_of, budget_holds, most_input, IsRunnable}
 use Rattle.cppunits.specs.declared.list.List.{List as CompilationList}
 use Rattle.cppunits.specs.declared.list.drafts.Draft.{Draft}
 use Rattle.cppunits.specs.declared.list.drafts.DraftFile.{DraftFile}
@@ -64,13 +66,13 @@ pub both : (a b : Bool) → (a && b) ≡ true → (a ≡ true) × (b ≡ true)
 both true b h = (refl, h)
 both false b h = absurd (cc)
 
-below_by : (t : List ℕ) (names : List (List ℕ)) (o : Option ℕ) → place_of t names ≡ o → is_some o ≡ true → unwrap_or o 0 < length names
+below_by : (t : List ℕ) (names : List (List ℕ)) (o : Option ℕ) → row_among t names ≡ o → is_some o ≡ true → unwrap_or o 0 < length names
 below_by t names None e h = absurd (false≢true h)
 below_by t names (Some i) e h = (position-Some (bytes_eq t) names i [] e).0
 
 -- a file that is known stands below the number of names
-place_below : (t : List ℕ) (names : List (List ℕ)) → is_some (place_of t names) ≡ true → unwrap_or (place_of t names) 0 < length names
-place_below t names h = below_by t names (place_of t names) refl h
+place_below : (t : List ℕ) (names : List (List ℕ)) → is_some (row_among t names) ≡ true → unwrap_or (row_among t names) 0 < length names
+place_below t names h = below_by t names (row_among t names) refl h
 
 contents-small : (inline : Bool) (d : Draft) → All (λ (f : DraftFile). length f.content ≤ longest) d.files → All (λ bytes. length bytes ≤ longest) (listed inline d).contents
 contents-small true d h = All-map (λ (bytes : List ℕ). length bytes ≤ longest) (λ (f : DraftFile). f.content) d.files h
@@ -91,16 +93,16 @@ judged-runnable inline d l e =
     let same_units : length (map listing d.units) ≡ length d.units = length-map d.units listing in
     let same : length names ≡ length d.files = length-map d.files (λ (f : DraftFile). f.name) in
     let short : All (λ (f : DraftFile). length f.content ≤ longest) d.files = All-weaker _ _ (λ f h. leb-true (length f.content) longest h) d.files (AllPass-from_list_all (λ (f : DraftFile). nat_le (length f.content) longest) d.files contents_pass) in
-    let known : All (λ (u : DraftUnit). unwrap_or (place_of u.file names) 0 < length names) d.units = All-weaker _ _ (λ u h. place_below u.file names h) d.units (AllPass-from_list_all (λ (u : DraftUnit). is_some (place_of u.file names)) d.units p.files_pass) in
+    let known : All (λ (u : DraftUnit). unwrap_or (row_among u.file names) 0 < length names) d.units = All-weaker _ _ (λ u h. place_below u.file names h) d.units (AllPass-from_list_all (λ (u : DraftUnit). is_some (row_among u.file names)) d.units p.files_pass) in
     let fit : All (λ (u : DraftUnit). length (command_text u.defines) ≤ longest) d.units = All-weaker _ _ (λ u h. leb-true (length (command_text u.defines)) longest h) d.units (AllPass-from_list_all (λ (u : DraftUnit). nat_le (length (command_text u.defines)) longest) d.units commands_pass) in
-    let IsKnown = λ (u : DraftUnit). unwrap_or (place_of u.file names) 0 < length names in
+    let IsKnown = λ (u : DraftUnit). unwrap_or (row_among u.file names) 0 < length names in
     let IsGood = IsUnitOf (length names) (profile_of d.setting) in
     let placed : All (λ (u : DraftUnit). IsGood (listing u)) d.units = All-weaker IsKnown (λ (u : DraftUnit). IsGood (listing u)) (λ u h. (h, refl)) d.units known in
     let files : All IsGood (map listing d.units) = All-map IsGood listing d.units placed in
     let commands : All (λ (u : UnitOfList). length (command_text u.defines.texts) ≤ longest) (map listing d.units) = All-map (λ (u : UnitOfList). length (command_text u.defines.texts) ≤ longest) listing d.units fit in
     let lines : All (λ (u : UnitOfList). list_all is_one_line u.defines.texts ≡ true) (map listing d.units) = All-map (λ (u : UnitOfList). list_all is_one_line u.defines.texts ≡ true) listing d.units (AllPass-from_list_all (λ (u : DraftUnit). list_all is_one_line u.defines) d.units p.lines_pass) in
     subst IsRunnable p.is_list (record {
-      names = p.names_pass;
+      names = names_from_test names p.names_pass;
       few = rw same count;
       many = rw same_units unit_count;
       small = contents-small inline d short;

@@ -9,7 +9,6 @@ pub mod Judged
 pub mod Known
 pub mod Names
 pub mod Numbered
-pub mod Places
 pub mod Printing
 pub mod Received
 pub mod Behind

@@ -1,8 +1,8 @@
 -- The list of translation units that bytes hold, or why they are refused.
 use Rattle.std.specs.Prelude.{◌≡◌, ℕ, ◌-◌, ◌^◌, ◌≤◌, ◌&&◌, ◌⊎◌, not, Bool}
-use Rattle.std.specs.Prelude.{true, false, List, [], ◌∷◌, ◌++◌, All, if◌then◌else◌, nat_lt, nat_le, codes, length, map, Option, Some, None, unwrap_or}
+use Rattle.std.specs.Prelude.{true, false, List, [], All, if◌then◌else◌, nat_lt, nat_le, codes, length, map, Option, Some, None, unwrap_or}
 use Rattle.std.specs.Option.{is_some}
-use Rattle.std.specs.List.{list_all, position}
+use Rattle.std.specs.List.{list_all}
 use Rattle.std.specs.Str.{is_utf8, bytes_eq}
 use Rattle.serde_json.specs.Data.{Data}
 use Rattle.serde_json.specs.Read.{read}
@@ -10,12 +10,11 @@ use Rattle.pptext.specs.declared.sources.Profile.{Profile}
 use Rattle.pptext.specs.declared.sources.Profile.TheVariants.{C11, Later}
 use Rattle.ppshelf.specs.Content.{longest}
 use Rattle.ppshelf.specs.Files.{most_rows}
-use Rattle.ppshelf.specs.Names.{is_name, is_folder}
+use Rattle.ppshelf.specs.Names.{AreNames, are_names, is_folder, row_among}
 use Rattle.ppunit.specs.Forms.{is_date, is_time, is_one_line}
 use Rattle.ppunit.specs.Unit.{IsUnitOf, command_text}
 use Rattle.ppunit.specs.declared.units.Setting.{Setting}
 use Rattle.ppunit.specs.declared.units.Unit.{Unit as UnitOfList}
-use Rattle.cppunits.specs.Shape.{has_text}
 use Rattle.cppunits.specs.Drafting.{draft}
 use Rattle.cppunits.specs.declared.list.List.{List as CompilationList}
 use Rattle.cppunits.specs.declared.list.ListFault.{ListFault}
@@ -40,10 +39,6 @@ RefusedFor n P e = (e ≡ Memory) ⊎ ((e ≡ Bad n) × P)
 unfoldable pub json_value : List ℕ → Option Data
 json_value bytes = if is_utf8 bytes then read bytes else None
 
--- the place of a text among others
-abbrev pub place_of : List ℕ → List (List ℕ) → Option ℕ
-place_of t names = position (bytes_eq t) names
-
 abbrev pub names_of : List DraftFile → List (List ℕ)
 names_of files = map (λ (f : DraftFile). f.name) files
 
@@ -54,13 +49,9 @@ contents_of files = map (λ (f : DraftFile). f.content) files
 abbrev pub most_input : ℕ
 most_input = 2 ^ 28
 
--- each is a name in normal form and stands nowhere before it, neither here nor among the names in front
-abbrev pub are_new : List (List ℕ) → List (List ℕ) → Bool
-are_new front [] = true
-are_new front (x ∷ xs) = is_name x && not (has_text x front) && are_new (front ++ x ∷ []) xs
-
+-- the files' names are in normal form, each once
 abbrev pub names_hold : List DraftFile → Bool
-names_hold files = are_new [] (names_of files)
+names_hold files = are_names (names_of files)
 
 abbrev pub contents_fit : List DraftFile → Bool
 contents_fit = list_all (λ (f : DraftFile). nat_le (length f.content) longest)
@@ -73,7 +64,7 @@ sizes_hold d = nat_le (length d.files) most_rows && nat_le (length d.units) most
 
 -- each unit's file is among the names
 abbrev pub are_known : List (List ℕ) → List DraftUnit → Bool
-are_known names = list_all (λ (u : DraftUnit). is_some (place_of u.file names))
+are_known names = list_all (λ (u : DraftUnit). is_some (row_among u.file names))
 
 abbrev pub times_hold : DraftSetting → Bool
 times_hold s = is_date s.date && is_time s.time
@@ -127,7 +118,7 @@ listed_setting s = record {
 -- a unit, whose definitions are read by this profile
 abbrev pub listed_unit : Profile → List (List ℕ) → DraftUnit → UnitOfList
 listed_unit profile names u = record {
-  file = unwrap_or (place_of u.file names) 0;
+  file = unwrap_or (row_among u.file names) 0;
   defines = record { texts = u.defines; profile = profile };
   search = u.search;
 }
@@ -175,7 +166,7 @@ outcome_of inline bytes = if nat_lt most_input (length bytes) then refused 1 els
 
 -- a list whose units can be preprocessed
 pub record IsRunnable (l : CompilationList) : Type 0 where
-  pub names : are_new [] l.names ≡ true
+  pub names : AreNames l.names
   pub few : length l.names ≤ most_rows
   pub many : length l.units ≤ most_rows
   pub small : All (λ bytes. length bytes ≤ longest) l.contents

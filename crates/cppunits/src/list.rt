@@ -5,7 +5,6 @@ ghost use Rattle.cppunits.specs.Listing.{RefusedFor, IsRunnable, json_value, out
 ghost use Rattle.cppunits.specs.declared.list.ListFault.TheVariants.{Bad, Memory as OutOfMemory};
 
 mod drafts;
-pub(crate) mod index;
 mod judging;
 #[cfg(test)]
 mod tests;

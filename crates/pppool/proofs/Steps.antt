@@ -9,7 +9,7 @@ use Rattle.atomic_table.specs.Table.{State, Act, step, keeps, stepped, Valid, Al
 use Rattle.atomic_table.proofs.Lists.{at_set, at_snoc, set_else}
 use Rattle.pppool.specs.declared.hand.Hand.{Hand}
 use Rattle.pppool.specs.declared.hand.Plan.{Plan}
-use Rattle.pppool.specs.Desk.{hand, times, total, once_below, FitsHand, Dealt, Claims}
+use Rattle.pppool.specs.Desk.{hand, most_blocks, times, total, once_below, FitsHand, Dealt, Claims}
 use Rattle.pppool.proofs.Totals.{total_set, total_snoc, total_le, total_at, times-append, times_at, below_once, once_more}
 
 -- the word is far below its limit
@@ -225,7 +225,7 @@ each_first p zero v at = let P : Hand → Type 0 = FitsHand p 0 in subst P (some
 each_first p (suc id) v at = absurd (some-ne-none v (sym at))
 
 -- the table at the start
-pub opens : (p : Plan) → p.blocks ≤ 65535 → p.seats ≤ 64 → Dealt p (opening (0 ∷ []) [] (hand [] 0 p.seats p))
+pub opens : (p : Plan) → p.blocks ≤ most_blocks → p.seats ≤ 64 → Dealt p (opening (0 ∷ []) [] (hand [] 0 p.seats p))
 opens p blocks seats = record {
   small = (blocks, seats);
   word = refl;

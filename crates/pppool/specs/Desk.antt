@@ -1,11 +1,17 @@
 -- How the blocks of a desk are dealt: what its word, the next block, has to do with what its seats hold.
-use Rattle.std.specs.Prelude.{◌≡◌, ℕ, ◌+◌, ◌<◌, ◌≤◌, ◌==◌, min, Bool, List, [], ◌∷◌, ◌++◌, length, All, MatchBool, false, ◌||◌, nat_lt, slice_index, if◌then◌else◌}
+use Rattle.std.specs.Prelude.{◌≡◌, ℕ, ◌+◌, ◌<◌, ◌≤◌, ◌==◌, min, Bool, List, [], ◌∷◌, ◌++◌, length, All}
+use Rattle.std.specs.Prelude.{MatchBool, false, ◌||◌, nat_lt, slice_index, if◌then◌else◌}
 use mathlib.Core.Option.{some}
 use lib.ListN.{get_elem?}
 use Rattle.atomic_table.specs.Table.{State, Me, Step}
 use Rattle.atomic_table.specs.Seated.{TableId}
+use Rattle.ppshelf.specs.Files.{most_rows}
 use Rattle.pppool.specs.declared.hand.Hand.{Hand}
 use Rattle.pppool.specs.declared.hand.Plan.{Plan}
+
+-- the most blocks of a desk: one for each unit of the longest list
+abbrev pub most_blocks : ℕ
+most_blocks = most_rows
 
 -- what a seat holds
 abbrev pub hand : List ℕ → ℕ → ℕ → Plan → Hand
@@ -34,7 +40,7 @@ pub record FitsHand (p : Plan) (n : ℕ) (v : Hand) : Type 0 where
 
 -- The claims of all seats together are the blocks below the word, each once. The word passes the last block once for each mark.
 pub record Dealt (p : Plan) (s : State ℕ Hand) : Type 0 where
-  pub small : (p.blocks ≤ 65535) × (p.seats ≤ 64)
+  pub small : (p.blocks ≤ most_blocks) × (p.seats ≤ 64)
   pub word : length s.words ≡ 1
   pub claims : (x : ℕ) → total (λ v. times x v.claims) s.views ≡ once_below x (min (slice_index s.words 0) p.blocks)
   pub seats : total (λ v. v.seats) s.views ≡ p.seats

@@ -25,7 +25,8 @@ pub record IsKept (keep : Keep) (names : List (List ℕ)) (files : Files) (setti
   pub same : out ≡ kept keep whole
 
 -- these are what is kept of the units' values over these files, in order, each once
-pub record AreKept (keep : Keep) (names : List (List ℕ)) (files : Files) (setting : Setting) (units : List UnitOfList) (outs : List UnitOut) : Type 0 where
+pub record AreKept (keep : Keep) (names : List (List ℕ)) (files : Files) (setting : Setting)
+    (units : List UnitOfList) (outs : List UnitOut) : Type 0 where
   pub wholes : List UnitOut
   pub values : AreUnits names files setting units wholes
   pub same : outs ≡ map (kept keep) wholes

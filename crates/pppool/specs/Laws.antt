@@ -8,7 +8,9 @@ use Rattle.ppunit.specs.Units.{AreUnits}
 
 -- what units give over some files, as those that one worker knows, they give over any more, as those that all workers know
 abbrev pub ListGrows : Type 0
-ListGrows = (names : List (List ℕ)) (files more : Files) (setting : Setting) (units : List UnitOfList) (answers : List UnitOut) → Extends more files → AreUnits names files setting units answers → AreUnits names more setting units answers
+ListGrows =
+    (names : List (List ℕ)) (files more : Files) (setting : Setting) (units : List UnitOfList) (answers : List UnitOut)
+    → Extends more files → AreUnits names files setting units answers → AreUnits names more setting units answers
 
 -- two maps of files that were joined with others into one agree, however often that one was joined further
 abbrev pub JoinedAgree : Type 0

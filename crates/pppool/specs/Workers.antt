@@ -29,7 +29,8 @@ AllAnswered count block blocks units = (i : ℕ) → i < count → 0 < times (i 
 
 -- What a worker gives back: a seat that was told that no block is left, a pass, and answers over what the pass knows to all units of the
 -- blocks that the seat claimed.
-pub record IsDone (keep : Keep) (desk : DeskId) (stock : Stock) (setting : Setting) (units : List UnitOfList) (block : ℕ) (seat : SeatView) (pass : Known) (answers : List Answer) : Type 0 where
+pub record IsDone (keep : Keep) (desk : DeskId) (stock : Stock) (setting : Setting)
+    (units : List UnitOfList) (block : ℕ) (seat : SeatView) (pass : Known) (answers : List Answer) : Type 0 where
   pub at_desk : seat.desk ≡ desk
   pub found_empty : seat.found_empty ≡ true
   pub of_shelf : pass.shelf ≡ stock

@@ -1,6 +1,7 @@
 // The desk at which workers claim blocks.
-ghost use Rattle.std.specs.Prelude.{◌≡◌, ℕ, ◌<◌, ◌≤◌, ◌==◌, ◌&&◌, true, false, [], ◌∷◌, ◌++◌, length, All, IfOk, IfSome, IfNone, IsTrue, if◌then◌else◌};
-ghost use Rattle.pppool.specs.Desk.{times, once_below, claims_of, any_empty, plan_of, new_seat};
+ghost use Rattle.std.specs.Prelude.{◌≡◌, ℕ, ◌<◌, ◌≤◌, ◌==◌, ◌&&◌, true, false, [], ◌∷◌, ◌++◌, length, All};
+ghost use Rattle.std.specs.Prelude.{IfOk, IfSome, IfNone, IsTrue, if◌then◌else◌};
+ghost use Rattle.pppool.specs.Desk.{most_blocks, times, once_below, claims_of, any_empty, plan_of, new_seat};
 
 use crate::dealing::{Claimed, Dealing, OneSeat, Together};
 use crate::hand::{Hand, Plan};
@@ -41,7 +42,11 @@ impl Model for DeskSeat {
 
     ghost Value = { SeatView };
 
-    ghost view = { λ s. record { desk = record { table = s.seat.table_id; plan = s.seat.me.0.plan }; claims = s.seat.me.0.claims; found_empty = s.found_empty } };
+    ghost view = { λ s. record {
+      desk = record { table = s.seat.table_id; plan = s.seat.me.0.plan };
+      claims = s.seat.me.0.claims;
+      found_empty = s.found_empty;
+    } };
 
     ghost invariant = { λ s. (s.seat.me.1 ≡ []) × (s.seat.me.0.seats ≡ 1) × (s.seat.me.0.marks ≡ (if s.found_empty then 1 else 0)) };
 }
@@ -49,7 +54,7 @@ impl Model for DeskSeat {
 impl Desk {
     /// A desk with so many blocks, at most 65,535, and its seats, 1 to 64, which have claimed nothing.
     pub fn new(alloc: Global, blocks: u64, seats: usize) -> Result<(Desk, Vec<DeskSeat>), Memory>
-        requires blocks { blocks ≤ 65535 }
+        requires blocks { blocks ≤ most_blocks }
         requires seats { (1 ≤ seats) × (seats ≤ 64) }
         ensures plan { IfOk result (λ r. r.0.plan ≡ plan_of blocks seats) }
         ensures count { IfOk result (λ r. length r.1.items ≡ seats) }
@@ -76,7 +81,9 @@ impl Desk {
     pub fn claim(&self, seat: &mut DeskSeat) -> Option<u64>
         requires { seat.old.desk ≡ self.now }
         ensures desk { seat.new.desk ≡ self.now }
-        ensures some { IfSome result (λ b. (seat.old.found_empty ≡ false) × (b < self.now.plan.blocks) × All (λ c. c < b) seat.old.claims × (seat.new.claims ≡ seat.old.claims ++ b ∷ []) × (seat.new.found_empty ≡ false)) }
+        ensures some { IfSome result (λ b.
+            (seat.old.found_empty ≡ false) × (b < self.now.plan.blocks) × All (λ c. c < b) seat.old.claims
+            × (seat.new.claims ≡ seat.old.claims ++ b ∷ []) × (seat.new.found_empty ≡ false)) }
         ensures none { IfNone result ((seat.new.found_empty ≡ true) × (seat.new.claims ≡ seat.old.claims)) }
     {
         if seat.found_empty {

@@ -1,9 +1,9 @@
 // All units of a list.
 ghost use Rattle.std.specs.Prelude.{◌≡◌, ℕ, ◌<◌, ◌≤◌, ◌/◌, [], length, All, IfOk, IsSome, Some, None, slice_index_or};
-ghost use Rattle.ppshelf.specs.Files.{Extends, Agree, AllLawful};
+ghost use Rattle.ppshelf.specs.Files.{most_rows, Extends, Agree, AllLawful};
 ghost use Rattle.ppunit.specs.Unit.{IsUnitOf};
 ghost use Rattle.ppunit.specs.Units.{AreUnits, AreWithin, AreCapped};
-ghost use Rattle.pppool.specs.Desk.{new_seat, times, claims_of};
+ghost use Rattle.pppool.specs.Desk.{most_blocks, new_seat, times, claims_of};
 ghost use Rattle.pppool.specs.Kept.{AreKept};
 ghost use Rattle.pppool.specs.Workers.{AllFilled, FitSlots, IsDone};
 
@@ -44,7 +44,7 @@ pub fn run<'a, R: Threads + Sync, D: Disk + Send + Sync, G: Gate + Sync>(
     requires shelf { pass.old.shelf ≡ shelf.now }
     requires workers { (1 ≤ workers) × (workers ≤ 64) }
     requires block { (1 ≤ block) × (block ≤ 1024) }
-    requires count { length units.now ≤ 65_535 }
+    requires count { length units.now ≤ most_rows }
     requires profile { shelf.now.profile ≡ setting.now.profile }
     requires rows { All (IsUnitOf (length shelf.now.names) setting.now.profile) units.now }
     ensures shelf { pass.new.shelf ≡ shelf.now }
@@ -94,7 +94,7 @@ pub fn run_keeping<'a, R: Threads + Sync, D: Disk + Send + Sync, G: Gate + Sync>
     requires shelf { pass.old.shelf ≡ shelf.now }
     requires workers { (1 ≤ workers) × (workers ≤ 64) }
     requires block { (1 ≤ block) × (block ≤ 1024) }
-    requires count { length units.now ≤ 65_535 }
+    requires count { length units.now ≤ most_rows }
     requires profile { shelf.now.profile ≡ setting.now.profile }
     requires rows { All (IsUnitOf (length shelf.now.names) setting.now.profile) units.now }
     ensures shelf { pass.new.shelf ≡ shelf.now }
@@ -133,9 +133,9 @@ pub fn run_keeping<'a, R: Threads + Sync, D: Disk + Send + Sync, G: Gate + Sync>
 
 // How many blocks there are. The last may have fewer units than the others.
 fn block_count(units: usize, block: usize) -> u64
-    requires units { units ≤ 65_535 }
+    requires units { units ≤ most_rows }
     requires block { 1 ≤ block }
-    ensures few { result ≤ 65_535 }
+    ensures few { result ≤ most_blocks }
     ensures all { (i : ℕ) → i < units → i / block < result }
 {
     units.div_ceil(block) as u64
@@ -151,7 +151,7 @@ fn gather<'a, R: Threads + Sync, D: Disk + Send + Sync, G: Gate + Sync>(
     requires seats { All (λ s. s ≡ new_seat job.now.desk.now) seats.items }
     requires shelf { pass.old.shelf ≡ job.now.shelf.now }
     requires block { (1 ≤ job.now.block) × (job.now.block ≤ 1024) }
-    requires blocks { job.now.desk.now.plan.blocks ≤ 65_535 }
+    requires blocks { job.now.desk.now.plan.blocks ≤ most_blocks }
     requires profile { job.now.shelf.now.profile ≡ job.now.setting.now.profile }
     requires rows { All (IsUnitOf (length job.now.shelf.now.names) job.now.setting.now.profile) job.now.units.now }
     ensures shelf { pass.new.shelf ≡ job.now.shelf.now }
@@ -161,8 +161,12 @@ fn gather<'a, R: Threads + Sync, D: Disk + Send + Sync, G: Gate + Sync>(
     ensures full { IfOk result (λ r. AllFilled (length job.now.units.now) job.now.block (claims_of r.0.items) r.1.items) }
 {
     let task = |seat: DeskSeat| -> Result<Worker<D>, Memory>
-        requires { (seat ≡ new_seat job.now.desk.now) × (1 ≤ job.now.block) × (job.now.block ≤ 1024) × (job.now.desk.now.plan.blocks ≤ 65_535) × (job.now.shelf.now.profile ≡ job.now.setting.now.profile) × All (IsUnitOf (length job.now.shelf.now.names) job.now.setting.now.profile) job.now.units.now }
-        ensures { IfOk result (λ w. IsDone job.entry.now.keep job.entry.now.desk.now job.entry.now.shelf.now job.entry.now.setting.now job.entry.now.units.now job.entry.now.block w.seat w.pass w.answers.items) }
+        requires { (seat ≡ new_seat job.now.desk.now) × (1 ≤ job.now.block) × (job.now.block ≤ 1024)
+            × (job.now.desk.now.plan.blocks ≤ most_blocks)
+            × (job.now.shelf.now.profile ≡ job.now.setting.now.profile)
+            × All (IsUnitOf (length job.now.shelf.now.names) job.now.setting.now.profile) job.now.units.now }
+        ensures { IfOk result (λ w. IsDone job.entry.now.keep job.entry.now.desk.now job.entry.now.shelf.now
+            job.entry.now.setting.now job.entry.now.units.now job.entry.now.block w.seat w.pass w.answers.items) }
     { Worker::in_seat(job, seat) };
     let done = thread::map_vec(threads, seats, &task)?;
     collect(job, pass, done)
@@ -175,7 +179,8 @@ fn collect<'a, D: Disk, G: Gate>(
     done: Vec<Result<Worker<'a, D>, Memory>>,
 ) -> Result<(Vec<DeskSeat>, Vec<Option<UnitOut<'a>>>), Memory>
     requires shelf { pass.old.shelf ≡ job.now.shelf.now }
-    requires done { All (λ r. IfOk r (λ w. IsDone job.now.keep job.now.desk.now job.now.shelf.now job.now.setting.now job.now.units.now job.now.block w.seat w.pass w.answers.items)) done.items }
+    requires done { All (λ r. IfOk r (λ w. IsDone job.now.keep job.now.desk.now job.now.shelf.now job.now.setting.now
+        job.now.units.now job.now.block w.seat w.pass w.answers.items)) done.items }
     ensures shelf { pass.new.shelf ≡ job.now.shelf.now }
     ensures grows { Extends pass.new.files pass.old.files }
     ensures seats { IfOk result (λ r. All (λ s. s.desk ≡ job.now.desk.now) r.0.items) }
@@ -200,14 +205,16 @@ fn absorb<'a, D: Disk, G: Gate>(
     slots: &mut Vec<Option<UnitOut<'a>>>,
 ) -> DeskSeat
     requires mine { pass.old.shelf ≡ job.now.shelf.now }
-    requires done { IsDone job.now.keep job.now.desk.now job.now.shelf.now job.now.setting.now job.now.units.now job.now.block worker.seat worker.pass worker.answers.items }
+    requires done { IsDone job.now.keep job.now.desk.now job.now.shelf.now job.now.setting.now
+        job.now.units.now job.now.block worker.seat worker.pass worker.answers.items }
     requires slots { FitSlots job.now.keep job.now.shelf.now pass.old.files job.now.setting.now job.now.units.now slots.old.items }
     ensures seat { result.desk ≡ job.now.desk.now }
     ensures shelf { pass.new.shelf ≡ job.now.shelf.now }
     ensures grows { Extends pass.new.files pass.old.files }
     ensures slots { FitSlots job.now.keep job.now.shelf.now pass.new.files job.now.setting.now job.now.units.now slots.new.items }
     ensures stay { (i : ℕ) → IsSome (slice_index_or slots.old.items i None) → IsSome (slice_index_or slots.new.items i None) }
-    ensures put { (i : ℕ) → i < length job.now.units.now → 0 < times (i / job.now.block) result.claims → IsSome (slice_index_or slots.new.items i None) }
+    ensures put { (i : ℕ) → i < length job.now.units.now → 0 < times (i / job.now.block) result.claims
+        → IsSome (slice_index_or slots.new.items i None) }
 {
     let (seat, other, answers) = worker.into_parts();
     job.shelf.meet(pass, other);

@@ -1,5 +1,6 @@
 mod callers;
 mod desks;
 mod failing;
+mod keeping;
 mod lists;
 mod runs;

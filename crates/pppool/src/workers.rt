@@ -2,7 +2,7 @@
 ghost use Rattle.std.specs.Prelude.{◌≡◌, ℕ, ◌<◌, ◌≤◌, ◌/◌, [], ◌∷◌, ◌++◌, length, All, IfOk, OnOk};
 ghost use Rattle.ppshelf.specs.Files.{Extends};
 ghost use Rattle.ppunit.specs.Unit.{IsUnitOf};
-ghost use Rattle.pppool.specs.Desk.{new_seat, times};
+ghost use Rattle.pppool.specs.Desk.{most_blocks, new_seat, times};
 ghost use Rattle.pppool.specs.Workers.{AreAnswers, AllAnswered, IsDone, answered};
 
 use crate::desk::{Desk, DeskSeat};
@@ -74,10 +74,12 @@ impl<'a, D: Disk> Worker<'a, D> {
         requires unit { unit < length job.now.units.now }
         requires profile { job.now.shelf.now.profile ≡ job.now.setting.now.profile }
         requires rows { All (IsUnitOf (length job.now.shelf.now.names) job.now.setting.now.profile) job.now.units.now }
-        requires answers { AreAnswers job.now.keep job.now.shelf.now self.old.pass.files job.now.setting.now job.now.units.now self.old.answers.items }
+        requires answers { AreAnswers job.now.keep job.now.shelf.now self.old.pass.files
+            job.now.setting.now job.now.units.now self.old.answers.items }
         ensures seat { self.new.seat ≡ self.old.seat }
         ensures shelf { self.new.pass.shelf ≡ job.now.shelf.now }
-        ensures answers { OnOk result (AreAnswers job.now.keep job.now.shelf.now self.new.pass.files job.now.setting.now job.now.units.now self.new.answers.items) }
+        ensures answers { OnOk result (AreAnswers job.now.keep job.now.shelf.now self.new.pass.files
+            job.now.setting.now job.now.units.now self.new.answers.items) }
         ensures answered { OnOk result (answered self.new.answers.items ≡ answered self.old.answers.items ++ unit ∷ []) }
     {
         job.gate.enter(unit);
@@ -99,15 +101,18 @@ impl<'a, D: Disk> Worker<'a, D> {
     fn work_block<G: Gate>(&mut self, job: &Job<'a, '_, D, G>, number: usize) -> Result<(), Memory>
         requires shelf { self.old.pass.shelf ≡ job.now.shelf.now }
         requires block { (1 ≤ job.now.block) × (job.now.block ≤ 1024) }
-        requires number { number < 65_535 }
+        requires number { number < most_blocks }
         requires profile { job.now.shelf.now.profile ≡ job.now.setting.now.profile }
         requires rows { All (IsUnitOf (length job.now.shelf.now.names) job.now.setting.now.profile) job.now.units.now }
-        requires answers { AreAnswers job.now.keep job.now.shelf.now self.old.pass.files job.now.setting.now job.now.units.now self.old.answers.items }
+        requires answers { AreAnswers job.now.keep job.now.shelf.now self.old.pass.files
+            job.now.setting.now job.now.units.now self.old.answers.items }
         ensures seat { self.new.seat ≡ self.old.seat }
         ensures shelf { self.new.pass.shelf ≡ job.now.shelf.now }
-        ensures answers { OnOk result (AreAnswers job.now.keep job.now.shelf.now self.new.pass.files job.now.setting.now job.now.units.now self.new.answers.items) }
+        ensures answers { OnOk result (AreAnswers job.now.keep job.now.shelf.now self.new.pass.files
+            job.now.setting.now job.now.units.now self.new.answers.items) }
         ensures stay { OnOk result ((i : ℕ) → 0 < times i (answered self.old.answers.items) → 0 < times i (answered self.new.answers.items)) }
-        ensures block { OnOk result ((i : ℕ) → i < length job.now.units.now → i / job.now.block ≡ number → 0 < times i (answered self.new.answers.items)) }
+        ensures block { OnOk result ((i : ℕ) → i < length job.now.units.now → i / job.now.block ≡ number
+            → 0 < times i (answered self.new.answers.items)) }
     {
         let first = number * job.block;
         let end = (first + job.block).min(job.units.len());
@@ -122,11 +127,12 @@ impl<'a, D: Disk> Worker<'a, D> {
         requires seat { (self.old.seat.desk ≡ job.now.desk.now) × (self.old.seat.claims ≡ []) }
         requires shelf { self.old.pass.shelf ≡ job.now.shelf.now }
         requires block { (1 ≤ job.now.block) × (job.now.block ≤ 1024) }
-        requires blocks { job.now.desk.now.plan.blocks ≤ 65_535 }
+        requires blocks { job.now.desk.now.plan.blocks ≤ most_blocks }
         requires profile { job.now.shelf.now.profile ≡ job.now.setting.now.profile }
         requires rows { All (IsUnitOf (length job.now.shelf.now.names) job.now.setting.now.profile) job.now.units.now }
         requires answers { self.old.answers.items ≡ [] }
-        ensures { OnOk result (IsDone job.now.keep job.now.desk.now job.now.shelf.now job.now.setting.now job.now.units.now job.now.block self.new.seat self.new.pass self.new.answers.items) }
+        ensures { OnOk result (IsDone job.now.keep job.now.desk.now job.now.shelf.now job.now.setting.now
+            job.now.units.now job.now.block self.new.seat self.new.pass self.new.answers.items) }
     {
         while let Some(number) = job.desk.claim(&mut self.seat) {
             self.work_block(job, number as usize)?;
@@ -138,10 +144,11 @@ impl<'a, D: Disk> Worker<'a, D> {
     pub(crate) fn in_seat<G: Gate>(job: &Job<'a, '_, D, G>, seat: DeskSeat) -> Result<Self, Memory>
         requires seat { seat ≡ new_seat job.now.desk.now }
         requires block { (1 ≤ job.now.block) × (job.now.block ≤ 1024) }
-        requires blocks { job.now.desk.now.plan.blocks ≤ 65_535 }
+        requires blocks { job.now.desk.now.plan.blocks ≤ most_blocks }
         requires profile { job.now.shelf.now.profile ≡ job.now.setting.now.profile }
         requires rows { All (IsUnitOf (length job.now.shelf.now.names) job.now.setting.now.profile) job.now.units.now }
-        ensures { IfOk result (λ w. IsDone job.now.keep job.now.desk.now job.now.shelf.now job.now.setting.now job.now.units.now job.now.block w.seat w.pass w.answers.items) }
+        ensures { IfOk result (λ w. IsDone job.now.keep job.now.desk.now job.now.shelf.now job.now.setting.now
+            job.now.units.now job.now.block w.seat w.pass w.answers.items) }
     {
         grow(job.alloc);
         let mut worker = Worker {

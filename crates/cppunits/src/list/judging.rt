@@ -12,9 +12,8 @@ ghost use Rattle.cppunits.specs.declared.list.ListFault.TheVariants.{Bad};
 use crate::list::drafts::{
     Draft, DraftBudget, DraftFile, DraftFiles, DraftSetting, DraftUnit, DraftUnits,
 };
-use crate::list::index::Index;
 use crate::list::{Contents, List, ListFault, Units};
-use ppshelf::{LONGEST, MOST_ROWS, is_folder, is_name};
+use ppshelf::{Index, LONGEST, MOST_ROWS, is_folder, is_name};
 use pptext::{Hashing, Memory, Profile};
 use ppunit::{Definitions, Setting, Texts, Unit, fits_command, is_date, is_one_line, is_time};
 use std::alloc::{AllocError, Global};
@@ -87,7 +86,7 @@ fn judge_choices(
     Ok(listed(alloc, draft, index, profile, inline)?)
 }
 
-/// The places of the files' names.
+/// The rows of the files' names.
 ///
 /// # Errors
 ///
@@ -242,7 +241,7 @@ fn listed_units(
 fn files_are_known(index: &Index, units: &[DraftUnit]) -> bool
     ensures { result ≡ spec.are_known index.now units.now }
 {
-    units.iter().all(|unit| index.place_of(unit.file.as_str().as_bytes()).is_some())
+    units.iter().all(|unit| index.row_of(unit.file.as_str().as_bytes()).is_some())
 }
 
 fn listed_unit(
@@ -260,7 +259,7 @@ fn listed_unit(
         search,
     } = unit;
     Ok(Unit {
-        file: index.place_of(file.as_str().as_bytes()).unwrap_or(0),
+        file: index.row_of(file.as_str().as_bytes()).unwrap_or(0),
         defines: Definitions::read(alloc, defines, profile)?,
         search,
     })

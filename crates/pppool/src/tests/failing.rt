@@ -1,6 +1,7 @@
 // Disks that fail at one of their reads, and runs that are made again after want of memory.
 ghost use Rattle.std.specs.Prelude.{◌≡◌, ◌<◌, ◌≤◌, All, IfOk, length};
 ghost use Rattle.pptext.specs.declared.sources.Profile.TheVariants.{C11};
+ghost use Rattle.ppshelf.specs.Files.{most_rows};
 ghost use Rattle.ppunit.specs.Unit.{IsUnitOf};
 
 use super::lists::{Open, disk_of, setting_of, shelf_of, told, unit_of};
@@ -86,7 +87,7 @@ fn run_one_by_one<'a, R: Threads + Sync>(
 ) -> Result<Vec<UnitOut<'a>>, Memory>
     requires pass { pass.old.shelf ≡ shelf.now }
     requires workers { (1 ≤ workers) × (workers ≤ 64) }
-    requires count { length units.now ≤ 65_535 }
+    requires count { length units.now ≤ most_rows }
     requires profile { shelf.now.profile ≡ setting.now.profile }
     requires rows { All (IsUnitOf (length shelf.now.names) setting.now.profile) units.now }
     ensures { pass.new.shelf ≡ shelf.now }
@@ -109,7 +110,7 @@ fn run_again<'a, R: Threads + Sync + Abort>(
 ) -> Result<Vec<UnitOut<'a>>, Memory>
     requires pass { pass.old.shelf ≡ shelf.now }
     requires workers { (1 ≤ workers) × (workers ≤ 64) }
-    requires count { length units.now ≤ 65_535 }
+    requires count { length units.now ≤ most_rows }
     requires profile { shelf.now.profile ≡ setting.now.profile }
     requires rows { All (IsUnitOf (length shelf.now.names) setting.now.profile) units.now }
     ensures { pass.new.shelf ≡ shelf.now }
@@ -131,7 +132,7 @@ fn run_over<'a, R: Threads + Sync + Abort>(
     setting: &Setting,
     units: &'a [Unit],
 ) -> Result<Vec<UnitOut<'a>>, Memory>
-    requires count { length units.now ≤ 65_535 }
+    requires count { length units.now ≤ most_rows }
     requires profile { shelf.now.profile ≡ setting.now.profile }
     requires rows { All (IsUnitOf (length shelf.now.names) setting.now.profile) units.now }
 {
@@ -170,7 +171,7 @@ fn assert_given<R: Threads + Sync + Abort>(
     units: &[Unit],
     wanted: &str,
 ) -> Result<(), Memory>
-    requires count { length units.now ≤ 65_535 }
+    requires count { length units.now ≤ most_rows }
     requires profile { shelf.now.profile ≡ setting.now.profile }
     requires rows { All (IsUnitOf (length shelf.now.names) setting.now.profile) units.now }
 {

@@ -2,10 +2,11 @@
 ghost use Rattle.std.specs.Prelude.{◌≡◌, ◌<◌, ◌≤◌, IfOk, All, length};
 ghost use Rattle.std.specs.Vec.{vec_len};
 ghost use Rattle.pptext.specs.declared.sources.Profile.TheVariants.{C11};
+ghost use Rattle.ppshelf.specs.Files.{most_rows};
 ghost use Rattle.ppunit.specs.Unit.{IsUnitOf};
 
 use crate::Gate;
-use ppshelf::{Disk, File, MemoryDisk, ReadFault, Shelf};
+use ppshelf::{Disk, File, MOST_ROWS, MemoryDisk, ReadFault, Shelf};
 use pptext::{Fault, Profile};
 use ppunit::{Definitions, Item, Setting, Text, Texts, Unit, UnitOut, fits_command};
 use std::alloc::{AllocError, Global};
@@ -93,7 +94,7 @@ pub(crate) fn shelf_of<D: Disk>(alloc: Global, names: &[&str]) -> Result<Shelf<D
     ensures { IfOk result (λ s. s.profile ≡ C11) }
 {
     let names = strings_of(alloc, names)?;
-    if names.len() > 65_535 {
+    if names.len() > MOST_ROWS {
         return Err(Fail::new("too many names"));
     }
     Ok(Shelf::new(alloc, names, Profile::C11)?)
@@ -133,7 +134,7 @@ pub(crate) fn first_units<D: Disk>(
     count: usize,
 ) -> Result<Vec<Unit>, Fail>
     ensures rows { IfOk result (λ us. All (IsUnitOf (length shelf.now.names) C11) us.items) }
-    ensures few { IfOk result (λ us. length us.items ≤ 65_535) }
+    ensures few { IfOk result (λ us. length us.items ≤ most_rows) }
 {
     let mut units = Vec::new(alloc);
     for file in 0..count.min(shelf.len()) {

@@ -1,6 +1,7 @@
 // Lists of units, run by several workers.
 ghost use Rattle.std.specs.Prelude.{◌≡◌, ◌<◌, ◌≤◌, All, length};
 ghost use Rattle.pptext.specs.declared.sources.Profile.TheVariants.{C11};
+ghost use Rattle.ppshelf.specs.Files.{most_rows};
 ghost use Rattle.ppunit.specs.Unit.{IsUnitOf};
 
 use super::lists::{Changing, Open, disk_of, first_units, given_by, setting_of, shelf_of};
@@ -18,7 +19,8 @@ use std::thread::Threads;
 /// How often a gate that holds a worker looks for another before it lets it go.
 const MOST_LOADS: u64 = 1_000_000_000;
 
-const SEVEN: &[&str] = &["u0.c", "u1.c", "u2.c", "u3.c", "u4.c", "u5.c", "u6.c"];
+/// Seven files.
+pub(crate) const SEVEN: &[&str] = &["u0.c", "u1.c", "u2.c", "u3.c", "u4.c", "u5.c", "u6.c"];
 
 /// In each of the seven files its number.
 const SEVEN_TEXTS: &[(&str, &str)] = &[
@@ -127,7 +129,7 @@ fn run_by_new_pass<'a, R: Threads + Sync, D: Disk + Send + Sync, G: Gate + Sync>
 ) -> Result<Vec<UnitOut<'a>>, Memory>
     requires workers { (1 ≤ workers) × (workers ≤ 64) }
     requires block { (1 ≤ block) × (block ≤ 1024) }
-    requires count { length units.now ≤ 65_535 }
+    requires count { length units.now ≤ most_rows }
     requires profile { shelf.now.profile ≡ setting.now.profile }
     requires rows { All (IsUnitOf (length shelf.now.names) setting.now.profile) units.now }
 {
@@ -151,7 +153,7 @@ fn given<R: Threads + Sync, D: Disk + Send + Sync, G: Gate + Sync>(
 ) -> Result<Vec<u8>, Memory>
     requires workers { (1 ≤ workers) × (workers ≤ 64) }
     requires block { (1 ≤ block) × (block ≤ 1024) }
-    requires count { length units.now ≤ 65_535 }
+    requires count { length units.now ≤ most_rows }
     requires profile { shelf.now.profile ≡ setting.now.profile }
     requires rows { All (IsUnitOf (length shelf.now.names) setting.now.profile) units.now }
 {

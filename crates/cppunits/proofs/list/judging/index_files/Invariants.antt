@@ -1,9 +1,6 @@
-use Rattle.std.proofs.Common.{◌≡◌, take, drop}
-use Rattle.cppunits.specs.Listing.{are_new, names_of, names_hold}
+use Rattle.ppshelf.proofs.Naming.{Indexed}
+use Rattle.cppunits.specs.Listing.{names_of}
 use Rattle.cppunits.proofs.list.judging.index_files.Given as goal
 
 abbrev pub invariant-loop-file : goal.invariant-loop-file
-invariant-loop-file l = record {
-  places : l.index ≡ names_of (take l.file-index l.files);
-  holds : are_new l.index (names_of (drop l.file-index l.files)) ≡ names_hold l.files;
-}
+invariant-loop-file l = Indexed (names_of l.files) l.file-index l.index
