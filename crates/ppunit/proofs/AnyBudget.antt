@@ -44,7 +44,9 @@ module _ (left : Option ℕ) where
   decides_by_moved (Some Elifndef) s line taken g = g
   decides_by_moved _ s line taken g = absurd g
 
-  decides_unless_moved : (quote : Option Fault) (d : Option Directive) (s : State) (line : List Token) (taken : Result Bool Fault) → StandardDecidesUnless quote d s line taken → StandardDecidesUnless quote d (with_left s left) line taken
+  decides_unless_moved : (quote : Option Fault) (d : Option Directive) (s : State) (line : List Token) (taken : Result Bool Fault)
+      → StandardDecidesUnless quote d s line taken
+      → StandardDecidesUnless quote d (with_left s left) line taken
   decides_unless_moved (Some f) d s line taken g = g
   decides_unless_moved None d s line taken g = decides_by_moved d s line taken g
 
@@ -70,7 +72,9 @@ module _ (left : Option ℕ) where
       noted true = refl
       noted false = refl
 
-  control_by_moved : (profile : Profile) (row : ℕ) (d : Option Directive) (s : State) (line : LogicalLine) (m : Reached) → StandardControlBy profile row d s line m → StandardControlBy profile row d (with_left s left) line (moved left m)
+  control_by_moved : (profile : Profile) (row : ℕ) (d : Option Directive) (s : State) (line : LogicalLine) (m : Reached)
+      → StandardControlBy profile row d s line m
+      → StandardControlBy profile row d (with_left s left) line (moved left m)
   control_by_moved profile row (Some Null) s line m g = ap (moved left) g
   control_by_moved profile row (Some Define) s line m g = ap (moved left) g ∙ macros_moved s (after_define s.macros (sign_place line.tokens) (operands line.tokens))
   control_by_moved profile row (Some Undef) s line m g = ap (moved left) g ∙ macros_moved s (after_undef s.macros (sign_place line.tokens) (operands line.tokens))

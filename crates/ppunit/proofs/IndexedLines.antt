@@ -99,7 +99,9 @@ pub between_lines : (lines : List LogicalLine) (i j start last end : ℕ)
 between_lines lines i j start last end some within from before to =
     let b = tokens_between lines i j (omega arith) in
     let one : j - 1 + 1 ≡ j = omega arith in
-    let over : length (tokens_of (take j lines)) ≡ end = ap (λ (z : ℕ). length (tokens_of (take z lines))) (sym one) ∙ line_end lines (j - 1) (omega arith) ∙ ap (λ (z : ℕ). z + length (line_at lines (j - 1)).tokens) (sym before) ∙ sym to in
+    let over : length (tokens_of (take j lines)) ≡ end =
+    ap (λ (z : ℕ). length (tokens_of (take z lines))) (sym one) ∙ line_end lines (j - 1) (omega arith)
+    ∙ ap (λ (z : ℕ). z + length (line_at lines (j - 1)).tokens) (sym before) ∙ sym to in
     let begin : length (tokens_of (take i lines)) ≡ start = sym from in
     subst (λ (z : ℕ). Between lines i j z end) begin (subst (λ (z : ℕ). Between lines i j (length (tokens_of (take i lines))) z) over b)
 

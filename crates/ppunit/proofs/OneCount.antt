@@ -7,8 +7,10 @@ use Rattle.ppunit.specs.States.{Surroundings, Reached, given}
 use Rattle.ppunit.specs.Unit.{Translates, surroundings, count_translates}
 use Rattle.ppunit.specs.Laws.{HasOneValue}
 use Rattle.ppunit.proofs.Spends.{unit_spends}
-use Rattle.ppunit.proofs.Enough.{holding, unit_enough}
-use Rattle.ppunit.proofs.OneUnit.{OneExpansion, OneDecision, OneReading, OneTree, OneRow, translates_once}
+use Rattle.ppunit.proofs.EnoughForLines.{holding}
+use Rattle.ppunit.proofs.Enough.{unit_enough}
+use Rattle.ppunit.proofs.OneLine.{OneExpansion, OneDecision, OneReading, OneTree, OneRow}
+use Rattle.ppunit.proofs.OneUnit.{translates_once}
 
 -- what leaves the same of one budget is the same
 spent_once : (b m n : ℕ) (left : Option ℕ) → Some b ≡ plus m left → Some b ≡ plus n left → m ≡ n

@@ -13,7 +13,7 @@ use Rattle.ppunit.specs.Group.{Group, Controls}
 use Rattle.ppunit.specs.States.{Surroundings, Reached, going, stopped}
 use Rattle.ppunit.specs.Walk.{line_at, Outer, StandsAt, Ends, Advances, Passes, EntersFile, StepsTo, Steps, Walks, back, next_file, next_waiting, brought_back}
 use Rattle.ppunit.proofs.WholeFile.{FileSoFar, file_start, file_more, file_stop, file_done, extends_trans}
-use Rattle.ppunit.proofs.Walk.{ends_stop}
+use Rattle.ppunit.proofs.Advancing.{ends_stop}
 
 -- what is left of a file: parts, and the sections around them
 abbrev pub Rest : Type 0

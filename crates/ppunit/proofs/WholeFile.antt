@@ -9,7 +9,7 @@ use Rattle.ppunit.specs.States.{Surroundings, Reached, going, stopped}
 use Rattle.ppunit.specs.Group.{Group}
 use Rattle.ppshelf.specs.Files.{Files, Extends}
 use Rattle.ppunit.specs.Walk.{Outer, lay, StandsAt, Ends, Advances}
-use Rattle.ppunit.proofs.Walk.{lay_run, lay_control, lay_section}
+use Rattle.ppunit.proofs.FirstLine.{lay_run, lay_control, lay_section}
 
 -- as far as the lines of a file go that have been passed: its end leads to what is to be reached
 pub record FileSoFar (around : Files → Surroundings) (files : Files) (whole : Files → Reached → Type 0) (depth row : ℕ) (lines : List LogicalLine) (index : ℕ) (t : State) : Type 0 where

@@ -68,7 +68,9 @@ abbrev mutual
       count_decides s line after (Ok false) decides + (count_branched here + count_group rest)
   count_group (Group.refused {s = s} {line = line} {after = after} {f = f} decides) = count_decides s line after (Err f) decides
 
-  pub count_branched : {around : Surroundings} {depth row : ℕ} {s : State} {bs : Branches} {m : Reached} → Branched around depth row s bs m → ℕ
+  pub count_branched : {around : Surroundings} {depth row : ℕ} {s : State} {bs : Branches} {m : Reached}
+      → Branched around depth row s bs m
+      → ℕ
   count_branched Branched.ended = 0
   count_branched (Branched.otherwise is here) = count_group here
   count_branched (Branched.branch_taken {s = s} {line = line} {after = after} is decides here) =
@@ -77,14 +79,18 @@ abbrev mutual
       count_decides s line after (Ok false) decides + count_branched rest
   count_branched (Branched.branch_refused {s = s} {line = line} {after = after} {f = f} is decides) = count_decides s line after (Err f) decides
 
-  pub count_control : {around : Surroundings} {depth row : ℕ} {s : State} {line : LogicalLine} {m : Reached} → Controls around depth row s line m → ℕ
+  pub count_control : {around : Surroundings} {depth row : ℕ} {s : State} {line : LogicalLine} {m : Reached}
+      → Controls around depth row s line m
+      → ℕ
   count_control (Controls.error is) = 0
   count_control (Controls.quote is q) = 0
   count_control {around} {depth} {row} (Controls.other {s = s} {line = line} {m = m} q does) =
       count_control_by around.profile row line.directive s line m does
   count_control (Controls.include is q here) = count_includes here
 
-  pub count_includes : {around : Surroundings} {depth row : ℕ} {s : State} {line : LogicalLine} {m : Reached} → Includes around depth row s line m → ℕ
+  pub count_includes : {around : Surroundings} {depth row : ℕ} {s : State} {line : LogicalLine} {m : Reached}
+      → Includes around depth row s line m
+      → ℕ
   count_includes (Includes.misnamed {s = s} {line = line} {after = after} {f = f} asks) = count_asks s line.tokens after (Err f) asks
   count_includes (Includes.missing {s = s} {line = line} {after = after} a asks finds) = count_asks s line.tokens after (Ok a) asks
   count_includes (Includes.included {s = s} {line = line} {after = after} a found asks finds opens) =

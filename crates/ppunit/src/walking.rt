@@ -1,6 +1,7 @@
 // The lines of a file in the order of their work: each group that is taken, and no other (6.10.1). The lines of an included
 // file come before the line behind its include line.
-ghost use Rattle.std.specs.Prelude.{◌≡◌, ◌≢◌, ◌<◌, ◌≤◌, ◌+◌, ℕ, suc, List, ◌++◌, map, drop, length, string_bytes, IfOk, MatchResult, Bool, true, false, None, Some, Ok, Err};
+ghost use Rattle.std.specs.Prelude.{◌≡◌, ◌<◌, ◌≤◌, ◌+◌, ℕ, suc, Bool, true, false, None, Some, Ok, Err, IfOk, MatchResult};
+ghost use Rattle.std.specs.Prelude.{List, ◌++◌, drop, length};
 ghost use Rattle.std.specs.List.{AllByRecursion};
 ghost use Rattle.pptext.specs.Lines.{LogicalLine};
 ghost use Rattle.pptext.specs.Tree.{Parts, Branches, branch_lines, AreBranches, opens_section, ends_group};

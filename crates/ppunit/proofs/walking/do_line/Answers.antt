@@ -6,7 +6,7 @@ use Rattle.ppunit.specs.States.{surroundings_of}
 use Rattle.ppunit.specs.Lines.{directed}
 use Rattle.ppunit.specs.Group.{Controls}
 use Rattle.ppunit.proofs.Options.{none_of}
-use Rattle.ppunit.proofs.Opens.{other_control}
+use Rattle.ppunit.proofs.Leading.{other_control}
 use Rattle.ppunit.proofs.Preprocessed.{on_ok}
 use Rattle.ppunit.proofs.walking.do_line.Goals as goal
 

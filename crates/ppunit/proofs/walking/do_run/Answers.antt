@@ -2,7 +2,7 @@ use Rattle.std.proofs.Common.{List, Option, Some, None, subst}
 use Rattle.pptext.specs.declared.tokens.Token.{Token}
 use Rattle.pptext.specs.declared.tokens.Fault.{Fault}
 use Rattle.ppunit.specs.Directives.{RunGives}
-use Rattle.ppunit.proofs.Walk.{run_advances}
+use Rattle.ppunit.proofs.TextRuns.{run_advances}
 use Rattle.ppunit.proofs.walking.do_run.Goals as goal
 
 pub returns-in-None-clause-run : goal.returns-in-None-clause-run

@@ -2,7 +2,7 @@ use Rattle.std.proofs.Common.{◌≡◌, Bool, Ok, true, false, ap, ◌∙◌, s
 use Rattle.ppunit.specs.Conditions.{Decides}
 use Rattle.ppunit.specs.Walk.{line_at}
 use Rattle.ppunit.proofs.Deciding.{decides_at}
-use Rattle.ppunit.proofs.Walk.{enter_taken, enter_found, enter_refused}
+use Rattle.ppunit.proofs.EnteredSection.{enter_taken, enter_found, enter_refused}
 use Rattle.ppunit.proofs.walking.enter_section.Goals as goal
 
 pub returns-in-Ok-true-clause-entered : goal.returns-in-Ok-true-clause-entered

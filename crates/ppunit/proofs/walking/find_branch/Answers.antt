@@ -1,5 +1,6 @@
 use Rattle.std.proofs.Common.{◌≡◌, Bool, Ok, true, false, ap, ◌∙◌, sym, subst, arith}
-use Rattle.ppunit.proofs.Walk.{EntersAt, branch_more, branch_taken, branch_refused, branch_found, next_inside}
+use Rattle.ppunit.proofs.SectionEnds.{next_inside}
+use Rattle.ppunit.proofs.FoundBranch.{EntersAt, branch_more, branch_taken, branch_refused, branch_found}
 use Rattle.ppunit.proofs.Options.{none_of}
 use Rattle.ppunit.proofs.walking.find_branch.Goals as goal
 

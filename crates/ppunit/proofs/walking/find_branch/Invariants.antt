@@ -1,5 +1,5 @@
 use Rattle.std.proofs.Common.{◌-◌, length}
-use Rattle.ppunit.proofs.Walk.{BranchSoFar}
+use Rattle.ppunit.proofs.FoundBranch.{BranchSoFar}
 use Rattle.ppunit.proofs.walking.find_branch.Given as goal
 
 abbrev pub invariant-loop-next : goal.invariant-loop-next

@@ -6,7 +6,7 @@ use Rattle.ppunit.specs.Lines.{directed, line_fault}
 use Rattle.ppunit.specs.Directives.{Asks, Finds}
 use Rattle.ppunit.specs.Group.{Controls, Includes}
 use Rattle.ppunit.proofs.Options.{none_of}
-use Rattle.ppunit.proofs.Opens.{leads_included}
+use Rattle.ppunit.proofs.Leading.{leads_included}
 use Rattle.ppunit.proofs.Preprocessed.{on_ok}
 use Rattle.ppunit.proofs.walking.include.Goals as goal
 

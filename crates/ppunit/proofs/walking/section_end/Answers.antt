@@ -1,5 +1,5 @@
 use Rattle.std.proofs.Common.{◌∙◌, sym, arith}
-use Rattle.ppunit.proofs.Walk.{section_more, section_done, next_inside}
+use Rattle.ppunit.proofs.SectionEnds.{section_more, section_done, next_inside}
 use Rattle.ppunit.proofs.Options.{none_of}
 use Rattle.ppunit.proofs.walking.section_end.Goals as goal
 

@@ -1,7 +1,7 @@
 use Rattle.std.proofs.Common.{sym, ◌∙◌, Ok}
 use Rattle.ppunit.specs.States.{surroundings_of}
-use Rattle.ppunit.proofs.Walk.{end_advances}
-use Rattle.ppunit.proofs.Opens.{steps_line, steps_control, stops_control}
+use Rattle.ppunit.proofs.SectionEnds.{end_advances}
+use Rattle.ppunit.proofs.Leading.{steps_line, steps_control, stops_control}
 use Rattle.ppunit.proofs.walking.step.Goals as goal
 
 pub returns-in_default-clause-step : goal.returns-in_default-clause-step

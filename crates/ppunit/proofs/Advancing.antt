@@ -1,0 +1,61 @@
+-- What is behind a line follows from what is left: one step of a walk.
+use Rattle.std.proofs.Common.{◌≡◌, ℕ, suc, ◌+◌, ◌<◌, List, [], ◌∷◌, length, drop, sym, ap, ◌∙◌, add-one, Option, None, Some, Result, Ok, Err}
+use Rattle.pptext.specs.declared.tokens.Fault.{Fault}
+use Rattle.pptext.specs.declared.sources.Directive.{Directive}
+use Rattle.pptext.specs.Lines.{LogicalLine}
+use Rattle.pptext.specs.Tree.{Parts, AreParts, role, role_by}
+use Rattle.ppunit.specs.declared.states.State.{State}
+use Rattle.ppunit.specs.States.{Surroundings, Reached, going, stopped}
+use Rattle.ppunit.specs.Group.{Group}
+use Rattle.ppshelf.specs.Files.{Files, Extends}
+use Rattle.ppunit.specs.Walk.{line_at, Outer, lay, AreOuter, StandsAt, Ends, Advances}
+use Rattle.ppunit.proofs.IndexedLines.{at_index, from_index}
+use Rattle.ppunit.proofs.FirstLine.{First, first_of}
+
+-- ---- what is behind follows from what is left
+
+pub ends_front : (around : Surroundings) (depth row : ℕ) (m n : Reached) (ps qs : Parts) (k : Outer) (end : Reached)
+    → ((o : Reached) → Group around depth row n qs o → Group around depth row m ps o)
+    → Ends around depth row n qs k end
+    → Ends around depth row m ps k end
+ends_front around depth row m n ps qs [] end front e = front end e
+ends_front around depth row m n ps qs ((bs, rs) ∷ k) end front e = (e.0, front e.0 e.1, e.2)
+
+pub ends_stop : (around : Surroundings) (depth row : ℕ) (m : Reached) (s : State) (f : Fault) (ps : Parts) (k : Outer) → Group around depth row m ps (stopped s f) → Ends around depth row m ps k (stopped s f)
+ends_stop around depth row m s f ps [] g = g
+ends_stop around depth row m s f ps ((bs, qs) ∷ k) g = (stopped s f, g, ends_stop around depth row (stopped s f) s f qs k Group.stays)
+
+pub stands_behind : (lines : List LogicalLine) (index : ℕ) (r : LogicalLine) (ps : Parts) (k : Outer) → drop index lines ≡ r ∷ lay ps k → AreParts ps → AreOuter k → StandsAt lines (index + 1) ps k
+stands_behind lines index r ps k e are outer = record { rest = rw add-one (at_index lines index r (lay ps k) e).behind; parts = are; outer = outer }
+
+-- ---- one step
+
+abbrev pub AdvancesFrom : (Files → Surroundings) → Files → ℕ → ℕ → List LogicalLine → State → State → Result ℕ Fault → Parts → Outer → Type 0
+AdvancesFrom around files depth row lines s t (Ok next) ps k =
+    (ps' : Parts) × (k' : Outer) × StandsAt lines next ps' k'
+    × ((more : Files)
+    → Extends more files
+    → (end : Reached)
+    → Ends (around more) depth row (going t) ps' k' end
+    → Ends (around more) depth row (going s) ps k end)
+AdvancesFrom around files depth row lines s t (Err f) ps k = (more : Files) → Extends more files → Ends (around more) depth row (going s) ps k (stopped t f)
+
+pub advances : (around : Files → Surroundings) (files : Files) (depth row : ℕ) (lines : List LogicalLine) (index : ℕ) (s t : State) (r : Result ℕ Fault)
+    → ((ps : Parts) (k : Outer) → StandsAt lines index ps k → AdvancesFrom around files depth row lines s t r ps k)
+    → Advances around files depth row lines index s t r
+advances around files depth row lines index s t (Ok next) each = each
+advances around files depth row lines index s t (Err f) each = each
+
+-- a line's role by its directive
+role_is : (lines : List LogicalLine) (index : ℕ) (d : Option Directive) (r : LogicalLine)
+    → line_at lines index ≡ r
+    → (line_at lines index).directive ≡ d
+    → role r ≡ role_by d
+role_is lines index d r here is = ap role (sym here) ∙ ap role_by is
+
+pub first_at : (lines : List LogicalLine) (index : ℕ) (ps : Parts) (k : Outer) → index < length lines → StandsAt lines index ps k → First (line_at lines index) ps k
+first_at lines index ps k within stands = first_of ps k (line_at lines index) (drop (suc index) lines) (sym stands.rest ∙ from_index lines index within) stands.parts stands.outer
+
+abbrev pub run_result : ℕ → Option Fault → Result ℕ Fault
+run_result next None = Ok next
+run_result next (Some f) = Err f

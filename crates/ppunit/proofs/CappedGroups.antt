@@ -1,0 +1,228 @@
+-- A group and all that it includes within a budget that they would overrun.
+use Rattle.std.proofs.Common.{◌≡◌, ℕ, zero, suc, ◌+◌, ◌-◌, ◌<◌, ◌≤◌, List, [], true, false, Some, Ok, Err, refl, arith}
+use Rattle.pptext.specs.declared.tokens.Place.{Place}
+use Rattle.pptext.specs.Lines.{LogicalLine}
+use Rattle.pptext.specs.Tree.{Parts, Branches}
+use Rattle.ppexpand.specs.Expansion.{count_expansion}
+use Rattle.ppunit.specs.declared.states.State.{State}
+use Rattle.ppunit.specs.States.{Surroundings, Reached, stopped, depending, with_left, paying}
+use Rattle.ppunit.specs.Lines.{run_tokens}
+use Rattle.ppunit.specs.Group.{deepest, fault_at, Group, Branched, Controls, Includes, Opened}
+use Rattle.ppunit.specs.Counts.{count_decides, count_asks, count_group, count_branched, count_control, count_includes, count_opened}
+use Rattle.ppunit.specs.Unit.{Defines, unread, processed, Translates, undefined, translated, count_defines, count_translates}
+use Rattle.ppunit.proofs.LargerTurns.{Covers, covers_less}
+use Rattle.ppunit.proofs.Kept.{Before, same_state, before_then, depends, group_before, branches_before, opened_before}
+use Rattle.ppunit.proofs.EnoughForLines.{holding, run_enough, asks_enough, asks_rest, decides_enough, decides_rest, run_rest}
+use Rattle.ppunit.proofs.Enough.{group_rest, branches_rest}
+use Rattle.ppunit.proofs.Enough.{control_rest, defines_rest, group_enough, branches_enough, control_enough, defines_enough}
+use native.Mathlib.Decide.{dec_lt}
+use Rattle.ppunit.proofs.CappedLines.{Stops, over_same, over_then, run_short, asks_short, decides_short, control_by_short}
+
+module _ (around : Surroundings) where
+  -- a file that there is nothing left for
+  over_here : {depth row : ℕ} {at : Place} (s t : State) → depth ≤ deepest → Before s t → Stops t (λ u f. Opened around depth at (with_left s (Some 0)) row (stopped u f))
+  over_here {at = at} s t fits h = (with_left s (Some 0), fault_at 35 at [], over_same s t (fault_at 35 at []) refl h, Opened.over fits refl)
+
+  mutual
+    pub group_short : {depth row : ℕ} {r : Reached} {ps : Parts} {end : Reached} (b : ℕ) → Covers r.state.left b
+        → (d : Group around depth row r ps end)
+        → b < count_group d
+        → Stops end.state (λ t f. Group around depth row (holding b r) ps (stopped t f))
+    group_short b is Group.stays less = absurd (omega arith)
+    group_short b is Group.done less = absurd (omega arith)
+    group_short {end = end} b is (Group.run {s = s} {lines = lines} {m = m} gives rest) less =
+        let c = count_expansion gives.expands in
+        elim (dec_lt b c) [
+          | yes less ↦
+              (let x = run_short s (run_tokens lines) m b is gives less in
+              (x.0, x.1, over_then x.0 m.state end.state x.1 x.2 (group_before around rest), Group.run x.3 Group.stays))
+          | no not_less ↦
+              (let sum : b ≡ c + (b - c) = omega arith in
+              let left = run_rest s (run_tokens lines) m b (b - c) is gives sum in
+              let x = group_short (b - c) left rest (omega arith) in
+              (x.0, x.1, x.2, Group.run {end = stopped x.0 x.1} (run_enough s (run_tokens lines) m b is gives (b - c) sum) x.3))
+        ]
+    group_short {end = end} b is (Group.control {s = s} {m = m} here rest) less =
+        let c = count_control here in
+        elim (dec_lt b c) [
+          | yes less ↦
+              (let x = control_short b is here less in
+              (x.0, x.1, over_then x.0 m.state end.state x.1 x.2 (group_before around rest), Group.control x.3 Group.stays))
+          | no not_less ↦
+              (let sum : b ≡ c + (b - c) = omega arith in
+              let left = control_rest around b (b - c) is here sum in
+              let x = group_short (b - c) left rest (omega arith) in
+              (x.0, x.1, x.2, Group.control {end = stopped x.0 x.1} (control_enough around b is here (b - c) sum) x.3))
+        ]
+    group_short {end = end} b is (Group.taken {s = s} {line = line} {after = after} {m = m} decides here rest) less =
+        let c = count_decides s line after (Ok true) decides in
+        let j = count_group here in
+        let k = count_group rest in
+        let one = group_before around here in
+        let two = group_before around rest in
+        elim (dec_lt b c) [
+          | yes less ↦
+              (let x = decides_short s line after (Ok true) b is decides less in
+              (with_left s (Some 0), x.0, over_same s end.state x.0 x.1 (before_then s m.state end.state one two), Group.refused x.2))
+          | no not_less ↦
+              (let sum : b ≡ c + (b - c) = omega arith in
+              let left = decides_rest s line after (Ok true) b (b - c) is decides sum in
+              elim (dec_lt (b - c) j) [
+                | yes less ↦
+                    (let x = group_short (b - c) left here less in
+                    (x.0, x.1, over_then x.0 m.state end.state x.1 x.2 two, Group.taken {end = stopped x.0 x.1} (decides_enough s line after (Ok true) b is decides (b - c) sum) x.3 Group.stays))
+                | no not_less2 ↦
+                    (let n = b - c - j in
+                    let sum2 : b - c ≡ j + n = omega arith in
+                    let next = group_rest around (b - c) n left here sum2 in
+                    let x = group_short n next rest (omega arith) in
+                    (x.0, x.1, x.2, Group.taken {end = stopped x.0 x.1} (decides_enough s line after (Ok true) b is decides (b - c) sum) (group_enough around (b - c) left here n sum2) x.3))
+              ])
+        ]
+    group_short {end = end} b is (Group.skipped {s = s} {line = line} {after = after} {m = m} decides here rest) less =
+        let c = count_decides s line after (Ok false) decides in
+        let j = count_branched here in
+        let k = count_group rest in
+        let one = branches_before around here in
+        let two = group_before around rest in
+        elim (dec_lt b c) [
+          | yes less ↦
+              (let x = decides_short s line after (Ok false) b is decides less in
+              (with_left s (Some 0), x.0, over_same s end.state x.0 x.1 (before_then s m.state end.state one two), Group.refused x.2))
+          | no not_less ↦
+              (let sum : b ≡ c + (b - c) = omega arith in
+              let left = decides_rest s line after (Ok false) b (b - c) is decides sum in
+              elim (dec_lt (b - c) j) [
+                | yes less ↦
+                    (let x = branches_short (b - c) left here less in
+                    (x.0, x.1, over_then x.0 m.state end.state x.1 x.2 two, Group.skipped {end = stopped x.0 x.1} (decides_enough s line after (Ok false) b is decides (b - c) sum) x.3 Group.stays))
+                | no not_less2 ↦
+                    (let n = b - c - j in
+                    let sum2 : b - c ≡ j + n = omega arith in
+                    let next = branches_rest around (b - c) n left here sum2 in
+                    let x = group_short n next rest (omega arith) in
+                    (x.0, x.1, x.2, Group.skipped {end = stopped x.0 x.1} (decides_enough s line after (Ok false) b is decides (b - c) sum) (branches_enough around (b - c) left here n sum2) x.3))
+              ])
+        ]
+    group_short b is (Group.refused {s = s} {line = line} {after = after} {f = f} decides) less =
+        let x = decides_short s line after (Err f) b is decides less in
+        (with_left s (Some 0), x.0, over_same s (with_left s after) x.0 x.1 (same_state s), Group.refused x.2)
+
+    branches_short : {depth row : ℕ} {s : State} {bs : Branches} {m : Reached} (b : ℕ) → Covers s.left b
+        → (d : Branched around depth row s bs m)
+        → b < count_branched d
+        → Stops m.state (λ t f. Branched around depth row (with_left s (Some b)) bs (stopped t f))
+    branches_short b is Branched.ended less = absurd (omega arith)
+    branches_short b is (Branched.otherwise e here) less =
+        let x = group_short b is here less in
+        (x.0, x.1, x.2, Branched.otherwise e x.3)
+    branches_short {m = m} b is (Branched.branch_taken {s = s} {line = line} {after = after} e decides here) less =
+        let c = count_decides s line after (Ok true) decides in
+        elim (dec_lt b c) [
+          | yes less ↦
+              (let x = decides_short s line after (Ok true) b is decides less in
+              (with_left s (Some 0), x.0, over_same s m.state x.0 x.1 (group_before around here), Branched.branch_refused e x.2))
+          | no not_less ↦
+              (let sum : b ≡ c + (b - c) = omega arith in
+              let left = decides_rest s line after (Ok true) b (b - c) is decides sum in
+              let x = group_short (b - c) left here (omega arith) in
+              (x.0, x.1, x.2, Branched.branch_taken {m = stopped x.0 x.1} e (decides_enough s line after (Ok true) b is decides (b - c) sum) x.3))
+        ]
+    branches_short {m = m} b is (Branched.branch_skipped {s = s} {line = line} {after = after} e decides here) less =
+        let c = count_decides s line after (Ok false) decides in
+        elim (dec_lt b c) [
+          | yes less ↦
+              (let x = decides_short s line after (Ok false) b is decides less in
+              (with_left s (Some 0), x.0, over_same s m.state x.0 x.1 (branches_before around here), Branched.branch_refused e x.2))
+          | no not_less ↦
+              (let sum : b ≡ c + (b - c) = omega arith in
+              let left = decides_rest s line after (Ok false) b (b - c) is decides sum in
+              let x = branches_short (b - c) left here (omega arith) in
+              (x.0, x.1, x.2, Branched.branch_skipped {m = stopped x.0 x.1} e (decides_enough s line after (Ok false) b is decides (b - c) sum) x.3))
+        ]
+    branches_short b is (Branched.branch_refused {s = s} {line = line} {after = after} {f = f} e decides) less =
+        let x = decides_short s line after (Err f) b is decides less in
+        (with_left s (Some 0), x.0, over_same s (with_left s after) x.0 x.1 (same_state s), Branched.branch_refused e x.2)
+
+    control_short : {depth row : ℕ} {s : State} {line : LogicalLine} {m : Reached} (b : ℕ) → Covers s.left b
+        → (d : Controls around depth row s line m)
+        → b < count_control d
+        → Stops m.state (λ t f. Controls around depth row (with_left s (Some b)) line (stopped t f))
+    control_short b is (Controls.error e) less = absurd (omega arith)
+    control_short b is (Controls.quote e q) less = absurd (omega arith)
+    control_short {row = row} b is (Controls.other {s = s} {line = line} {m = m} q does) less =
+        let x = control_by_short around.profile row line.directive s line m b is does less in
+        (x.0, x.1, x.2, Controls.other q x.3)
+    control_short b is (Controls.include e q here) less =
+        let x = includes_short b is here less in
+        (x.0, x.1, x.2, Controls.include e q x.3)
+
+    includes_short : {depth row : ℕ} {s : State} {line : LogicalLine} {m : Reached} (b : ℕ) → Covers s.left b
+        → (d : Includes around depth row s line m)
+        → b < count_includes d
+        → Stops m.state (λ t f. Includes around depth row (with_left s (Some b)) line (stopped t f))
+    includes_short b is (Includes.misnamed {s = s} {line = line} {after = after} {f = f} asks) less =
+        let x = asks_short s line.tokens after (Err f) b is asks less in
+        (with_left s (Some 0), x.0, over_same s (with_left s after) x.0 x.1 (same_state s), Includes.misnamed x.2)
+    includes_short b is (Includes.missing {s = s} {line = line} {after = after} a asks finds) less =
+        let x = asks_short s line.tokens after (Ok a) b is asks less in
+        (with_left s (Some 0), x.0, over_same s (with_left s after) x.0 x.1 (same_state s), Includes.misnamed x.2)
+    includes_short b is (Includes.included {s = s} {line = line} {after = after} a found {m = m} asks finds opens) less =
+        let c = count_asks s line.tokens after (Ok a) asks in
+        elim (dec_lt b c) [
+          | yes less ↦
+              (let x = asks_short s line.tokens after (Ok a) b is asks less in
+              (with_left s (Some 0), x.0, over_same s m.state x.0 x.1 (opened_before around opens), Includes.misnamed x.2))
+          | no not_less ↦
+              (let sum : b ≡ c + (b - c) = omega arith in
+              let left = asks_rest s line.tokens after (Ok a) b (b - c) is asks sum in
+              let x = opened_short (b - c) left opens (omega arith) in
+              (x.0, x.1, x.2, Includes.included a found {m = stopped x.0 x.1} (asks_enough s line.tokens after (Ok a) b is asks (b - c) sum) finds x.3))
+        ]
+
+    pub opened_short : {depth row : ℕ} {at : Place} {s : State} {m : Reached} (b : ℕ) → Covers s.left b
+        → (d : Opened around depth at s row m)
+        → b < count_opened d
+        → Stops m.state (λ t f. Opened around depth at (with_left s (Some b)) row (stopped t f))
+    opened_short b is (Opened.too_deep deep) less = absurd (omega arith)
+    opened_short b is (Opened.over fits spent) less = absurd (omega arith)
+    opened_short {depth} {row} {at} zero is (Opened.known {s = s} fits more once) less = over_here {depth = depth} {row = row} {at = at} s (depending (paying s) row) fits (depends s row)
+    opened_short (suc b) is (Opened.known fits more once) less = absurd (omega arith)
+    opened_short {depth} {row} {at} zero is (Opened.not_readable {s = s} fits more once file) less = over_here {depth = depth} {row = row} {at = at} s (depending (paying s) row) fits (depends s row)
+    opened_short (suc b) is (Opened.not_readable fits more once file) less = absurd (omega arith)
+    opened_short {depth} {row} {at} zero is (Opened.faulty {s = s} fits more once file reads) less = over_here {depth = depth} {row = row} {at = at} s (depending (paying s) row) fits (depends s row)
+    opened_short (suc b) is (Opened.faulty fits more once file reads) less = absurd (omega arith)
+    opened_short {depth} {row} {at} zero is (Opened.read {s = s} {m = m} fits more once file reads tree here) less =
+        over_here {depth = depth} {row = row} {at = at} s (record m.state { env = s.env }) fits (before_then s (depending s row) m.state (depends s row) (group_before around here))
+    opened_short (suc b) is (Opened.read {s = s} {m = m} fits more once file reads tree here) less =
+        let x = group_short b (covers_less is) here (omega arith) in
+        (record x.0 { env = s.env }, x.1, record { number = x.2.number; left = x.2.left; before = x.2.before }, Opened.read fits refl once file reads tree x.3)
+
+  defines_short : {defines : List (List ℕ)} {s : State} {m : Reached} (b : ℕ) → Covers s.left b
+      → (d : Defines around defines s m)
+      → b < count_defines d
+      → Stops m.state (λ t f. Defines around defines (with_left s (Some b)) (stopped t f))
+  defines_short b is (unread reads) less = absurd (omega arith)
+  defines_short b is (processed reads tree here) less =
+      let x = group_short b is here less in
+      (x.0, x.1, x.2, processed reads tree x.3)
+
+  pub unit_short : {defines : List (List ℕ)} {row : ℕ} {s : State} {m : Reached} (b : ℕ) → Covers s.left b
+      → (d : Translates around defines row s m)
+      → b < count_translates d
+      → Stops m.state (λ t f. Translates around defines row (with_left s (Some b)) (stopped t f))
+  unit_short b is (undefined here) less =
+      let x = defines_short b is here less in
+      (x.0, x.1, x.2, undefined x.3)
+  unit_short {m = m} b is (translated {t = t} here opens) less =
+      let c = count_defines here in
+      elim (dec_lt b c) [
+        | yes less ↦
+            (let x = defines_short b is here less in
+            (x.0, x.1, over_then x.0 t m.state x.1 x.2 (opened_before around opens), undefined x.3))
+        | no not_less ↦
+            (let sum : b ≡ c + (b - c) = omega arith in
+            let left = defines_rest around b (b - c) is here sum in
+            let x = opened_short (b - c) left opens (omega arith) in
+            (x.0, x.1, x.2, translated (defines_enough around b is here (b - c) sum) x.3))
+      ]

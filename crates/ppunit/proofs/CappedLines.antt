@@ -1,0 +1,118 @@
+-- A line within a budget that it would overrun: it stops by fault 35, before the state that it would have reached.
+use Rattle.std.proofs.Common.{◌≡◌, ℕ, ◌<◌, List, [], ◌++◌, map, Bool, true, false, Option, Some, None, Result, Err, refl, sym, ap, ◌∙◌, arith, append_assoc, append-nil}
+use Rattle.std.proofs.lemmas.List.{map-append}
+use Rattle.pptext.specs.declared.tokens.Token.{Token}
+use Rattle.pptext.specs.declared.tokens.Fault.{Fault}
+use Rattle.pptext.specs.declared.sources.Directive.{Directive}
+use Rattle.pptext.specs.declared.sources.Directive.TheVariants.{If, Ifdef, Ifndef, Elif, Elifdef, Elifndef, Define, Undef, Line, Pragma, Null, Unknown}
+use Rattle.pptext.specs.declared.sources.Profile.{Profile}
+use Rattle.pptext.specs.Lines.{LogicalLine}
+use Rattle.ppexpand.specs.Expansion.{count_expansion}
+use Rattle.ppexpand.proofs.Budget.{StopsEarly}
+use Rattle.ppunit.specs.declared.states.State.{State}
+use Rattle.ppunit.specs.declared.units.Item.{Item}
+use Rattle.ppunit.specs.declared.including.Asked.{Asked}
+use Rattle.ppunit.specs.States.{Reached, stopped, passed, with_left}
+use Rattle.ppunit.specs.Lines.{operands, line_fault}
+use Rattle.ppunit.specs.Quotes.{lone_quote}
+use Rattle.ppunit.specs.LineControl.{presumed}
+use Rattle.ppunit.specs.Including.{begins_with_header, asked_behind}
+use Rattle.ppunit.specs.Conditions.{DecidesBy, DecidesUnless, Decides}
+use Rattle.ppunit.specs.Directives.{RunGives, AsksBy, Asks, ControlBy, renumbered_by}
+use Rattle.ppunit.specs.Counts.{count_decides_by, count_decides_unless, count_decides, count_asks_by, count_asks, count_control_by}
+use Rattle.ppunit.proofs.LargerTurns.{Covers}
+use Rattle.ppunit.proofs.Larger.{expansion_short, condition_short}
+use Rattle.ppunit.proofs.Kept.{Before, before_then, control_by_before}
+use Rattle.ppunit.specs.declared.units.Item.TheVariants as item
+
+-- the unit stops in the state s by fault 35, and t is the state that it would have reached
+pub record Over (s t : State) (f : Fault) : Type 0 where
+  pub number : f.number ≡ 35
+  pub left : s.left ≡ Some 0
+  pub before : Before s t
+
+abbrev pub Stops : State → (State → Fault → Type 0) → Type 0
+Stops t P = (s : State) × (f : Fault) × Over s t f × P s f
+
+pub over_same : (s t : State) (f : Fault) → f.number ≡ 35 → Before s t → Over (with_left s (Some 0)) t f
+over_same s t f e h = record { number = e; left = refl; before = h }
+
+pub over_then : (s t u : State) (f : Fault) → Over s t f → Before t u → Over s u f
+over_then s t u f o h = record { number = o.number; left = o.left; before = before_then s t u o.before h }
+
+-- ---- lines
+
+pub run_short : (s : State) (tokens : List Token) (m : Reached) (b : ℕ) → Covers s.left b
+    → (g : RunGives s tokens m)
+    → b < count_expansion g.expands
+    → Stops m.state (λ t f. RunGives (with_left s (Some b)) tokens (stopped t f))
+run_short s tokens m b is g less =
+    let x : StopsEarly s.macros s.env b tokens g.expanded = expansion_short s.macros s.env b is g.expands less in
+    let items : List Item = map item.Token x.expanded.tokens in
+    let more : List Item = map item.Token x.begins.0 in
+    let made : map item.Token g.expanded.tokens ≡ items ++ more = ap (λ ts. map item.Token ts) x.begins.1 ∙ map-append item.Token x.expanded.tokens x.begins.0 in
+    let whole : m.state.items ≡ (s.items ++ items) ++ more = ap (λ r. r.state.items) g.is ∙ ap (λ l. s.items ++ l) made ∙ sym (append_assoc s.items items more) in
+    let deps : m.state.deps ≡ s.deps = ap (λ r. r.state.deps) g.is in (
+      passed (with_left s (Some 0)) items,
+      x.fault,
+      record { number = x.number; left = refl; before = ((more, whole), ([], deps ∙ sym (append-nil s.deps))) },
+      record { expanded = x.expanded; expands = x.is; is = λ i. record { state = passed (with_left s ((sym x.nothing) i)) items; fault = (sym x.stopped) i } },
+    )
+
+asks_by_short : (header : Bool) (s : State) (line : List Token) (after : Option ℕ) (asked : Result Asked Fault) (b : ℕ) → Covers s.left b
+    → (g : AsksBy header s line after asked)
+    → b < count_asks_by header s line after asked g
+    → (f : Fault) × (f.number ≡ 35) × AsksBy header (with_left s (Some b)) line (Some 0) (Err f)
+asks_by_short true s line after asked b is g less = absurd (omega arith)
+asks_by_short false s line after asked b is g less =
+    let x : StopsEarly s.macros s.env b (operands line) g.expanded = expansion_short s.macros s.env b is g.expands less in
+    (x.fault, x.number, record { expanded = x.expanded; expands = x.is; leaves = sym x.nothing; is = λ i. asked_behind (line_fault 30 line []) ((sym x.stopped) i) x.expanded.tokens })
+
+pub asks_short : (s : State) (line : List Token) (after : Option ℕ) (asked : Result Asked Fault) (b : ℕ) → Covers s.left b
+    → (g : Asks s line after asked)
+    → b < count_asks s line after asked g
+    → (f : Fault) × (f.number ≡ 35) × Asks (with_left s (Some b)) line (Some 0) (Err f)
+asks_short s line after asked b is g less = asks_by_short (begins_with_header (operands line)) s line after asked b is g less
+
+decides_by_short : (d : Option Directive) (s : State) (line : List Token) (after : Option ℕ) (taken : Result Bool Fault) (b : ℕ) → Covers s.left b
+    → (g : DecidesBy d s line after taken)
+    → b < count_decides_by d s line after taken g
+    → (f : Fault) × (f.number ≡ 35) × DecidesBy d (with_left s (Some b)) line (Some 0) (Err f)
+decides_by_short (Some If) s line after taken b is g less = condition_short b is g less
+decides_by_short (Some Elif) s line after taken b is g less = condition_short b is g less
+decides_by_short (Some Ifdef) s line after taken b is g less = absurd (omega arith)
+decides_by_short (Some Ifndef) s line after taken b is g less = absurd (omega arith)
+decides_by_short (Some Elifdef) s line after taken b is g less = absurd (omega arith)
+decides_by_short (Some Elifndef) s line after taken b is g less = absurd (omega arith)
+decides_by_short _ s line after taken b is g less = absurd g
+
+decides_unless_short : (quote : Option Fault) (d : Option Directive) (s : State) (line : List Token) (after : Option ℕ) (taken : Result Bool Fault) (b : ℕ) → Covers s.left b
+    → (g : DecidesUnless quote d s line after taken)
+    → b < count_decides_unless quote d s line after taken g
+    → (f : Fault) × (f.number ≡ 35) × DecidesUnless quote d (with_left s (Some b)) line (Some 0) (Err f)
+decides_unless_short (Some f) d s line after taken b is g less = absurd (omega arith)
+decides_unless_short None d s line after taken b is g less = decides_by_short d s line after taken b is g less
+
+pub decides_short : (s : State) (line : LogicalLine) (after : Option ℕ) (taken : Result Bool Fault) (b : ℕ) → Covers s.left b
+    → (g : Decides s line after taken)
+    → b < count_decides s line after taken g
+    → (f : Fault) × (f.number ≡ 35) × Decides (with_left s (Some b)) line (Some 0) (Err f)
+decides_short s line after taken b is g less = decides_unless_short (lone_quote line.tokens) line.directive s line.tokens after taken b is g less
+
+pub control_by_short : (profile : Profile) (row : ℕ) (d : Option Directive) (s : State) (line : LogicalLine) (m : Reached) (b : ℕ) → Covers s.left b
+    → (g : ControlBy profile row d s line m)
+    → b < count_control_by profile row d s line m g
+    → Stops m.state (λ t f. ControlBy profile row d (with_left s (Some b)) line (stopped t f))
+control_by_short profile row (Some Line) s line m b is g less =
+    let x : StopsEarly s.macros s.env b (operands line.tokens) g.expanded = expansion_short s.macros s.env b is g.expands less in (
+      with_left s (Some 0),
+      x.fault,
+      over_same s m.state x.fault x.number (control_by_before profile row (Some Line) s line m g),
+      record { expanded = x.expanded; expands = x.is; is = λ i. renumbered_by (with_left s ((sym x.nothing) i)) line ((sym x.stopped) i) (presumed x.expanded.tokens) },
+    )
+control_by_short profile row (Some Null) s line m b is g less = absurd (omega arith)
+control_by_short profile row (Some Define) s line m b is g less = absurd (omega arith)
+control_by_short profile row (Some Undef) s line m b is g less = absurd (omega arith)
+control_by_short profile row (Some Pragma) s line m b is g less = absurd (omega arith)
+control_by_short profile row (Some Unknown) s line m b is g less = absurd (omega arith)
+control_by_short profile row _ s line m b is g less = absurd g

@@ -1,0 +1,142 @@
+-- A line does the same within a budget that suffices for it, and leaves the rest.
+use Rattle.std.proofs.Common.{◌≡◌, ℕ, zero, suc, ◌+◌, List, [], ◌∷◌, Bool, true, false, Option, Some, None, Result, Ok, Err, refl, ap, ◌∙◌, subst, arith, if◌then◌else◌}
+use Rattle.pptext.specs.declared.tokens.Token.{Token}
+use Rattle.pptext.specs.declared.tokens.Fault.{Fault}
+use Rattle.pptext.specs.declared.sources.Directive.{Directive}
+use Rattle.pptext.specs.declared.sources.Directive.TheVariants.{If, Ifdef, Ifndef, Elif, Elifdef, Elifndef, Define, Undef, Line, Pragma, Null, Unknown}
+use Rattle.pptext.specs.declared.sources.Profile.{Profile}
+use Rattle.pptext.specs.Lines.{LogicalLine}
+use Rattle.pptext.specs.Tree.{sign_place}
+use Rattle.ppmacro.specs.Names.{Macros}
+use Rattle.ppexpand.specs.Expansion.{count_expansion}
+use Rattle.ppunit.specs.declared.states.State.{State}
+use Rattle.ppunit.specs.declared.including.Asked.{Asked}
+use Rattle.ppunit.specs.declared.line_control.Presumed.{Presumed}
+use Rattle.ppunit.specs.States.{Reached, going, passed, reading_once, is_spent, with_left}
+use Rattle.ppunit.specs.Lines.{operands}
+use Rattle.ppunit.specs.Quotes.{lone_quote}
+use Rattle.ppunit.specs.LineControl.{presumed}
+use Rattle.ppunit.specs.Including.{begins_with_header}
+use Rattle.ppunit.specs.Conditions.{DecidesBy, DecidesUnless, Decides}
+use Rattle.ppunit.specs.Directives.{RunGives, AsksBy, Asks, ControlBy, with_macros, renumbered_by, is_once, noting_once}
+use Rattle.ppunit.specs.Counts.{count_decides_by, count_decides_unless, count_decides, count_asks_by, count_asks, count_control_by}
+use Rattle.ppunit.proofs.LargerTurns.{Covers, larger, covers_rest}
+use Rattle.ppunit.proofs.Larger.{expansion_enough, condition_enough}
+use Rattle.ppunit.proofs.Spends.{asks_spends, decides_spends, run_spends}
+use Rattle.ppunit.specs.declared.units.Item.TheVariants as item
+
+-- the same with so much left
+abbrev pub holding : ℕ → Reached → Reached
+holding n r = record r { state = with_left r.state (Some n) }
+
+holding_macros : (n : ℕ) (s : State) (m : Result Macros Fault) → holding n (with_macros s m) ≡ with_macros (with_left s (Some n)) m
+holding_macros n s (Ok m) = refl
+holding_macros n s (Err f) = refl
+
+holding_renumbered : (n : ℕ) (s : State) (r : LogicalLine) (f : Option Fault) (p : Option Presumed) → holding n (renumbered_by s r f p) ≡ renumbered_by (with_left s (Some n)) r f p
+holding_renumbered n s r (Some f) p = refl
+holding_renumbered n s r None None = refl
+holding_renumbered n s r None (Some p) = refl
+
+holding_noted : (n : ℕ) (profile : Profile) (row : ℕ) (ts : List Token) (s : State) → holding n (going (noting_once profile row ts s)) ≡ going (noting_once profile row ts (with_left s (Some n)))
+holding_noted n profile row ts s = noted (is_once profile ts)
+  where
+    noted : (b : Bool) → holding n (going (if b then reading_once s row else s)) ≡ going (if b then reading_once (with_left s (Some n)) row else with_left s (Some n))
+    noted true = refl
+    noted false = refl
+
+pub run_enough : (s : State) (tokens : List Token) (m : Reached) (b : ℕ) → Covers s.left b → (g : RunGives s tokens m) (n : ℕ) → b ≡ count_expansion g.expands + n → RunGives (with_left s (Some b)) tokens (holding n m)
+run_enough s tokens m b is g n sum = record {
+  expanded = record g.expanded { left = Some n };
+  expands = expansion_enough s.macros s.env b is g.expands n sum;
+  is = ap (holding n) g.is;
+}
+
+asks_by_enough : (header : Bool) (s : State) (line : List Token) (after : Option ℕ) (asked : Result Asked Fault) (b : ℕ) → Covers s.left b
+    → (g : AsksBy header s line after asked) (n : ℕ)
+    → b ≡ count_asks_by header s line after asked g + n
+    → AsksBy header (with_left s (Some b)) line (Some n) asked
+asks_by_enough true s line after asked b is g n sum = (ap Some (omega arith), g.1)
+asks_by_enough false s line after asked b is g n sum = record {
+  expanded = record g.expanded { left = Some n };
+  expands = expansion_enough s.macros s.env b is g.expands n sum;
+  leaves = refl;
+  is = g.is;
+}
+
+pub asks_enough : (s : State) (line : List Token) (after : Option ℕ) (asked : Result Asked Fault) (b : ℕ) → Covers s.left b
+    → (g : Asks s line after asked) (n : ℕ)
+    → b ≡ count_asks s line after asked g + n
+    → Asks (with_left s (Some b)) line (Some n) asked
+asks_enough s line after asked b is g n sum = asks_by_enough (begins_with_header (operands line)) s line after asked b is g n sum
+
+decides_by_enough : (d : Option Directive) (s : State) (line : List Token) (after : Option ℕ) (taken : Result Bool Fault) (b : ℕ) → Covers s.left b
+    → (g : DecidesBy d s line after taken) (n : ℕ)
+    → b ≡ count_decides_by d s line after taken g + n
+    → DecidesBy d (with_left s (Some b)) line (Some n) taken
+decides_by_enough (Some If) s line after taken b is g n sum = condition_enough b is g n sum
+decides_by_enough (Some Elif) s line after taken b is g n sum = condition_enough b is g n sum
+decides_by_enough (Some Ifdef) s line after taken b is g n sum = (ap Some (omega arith), g.1)
+decides_by_enough (Some Ifndef) s line after taken b is g n sum = (ap Some (omega arith), g.1)
+decides_by_enough (Some Elifdef) s line after taken b is g n sum = (ap Some (omega arith), g.1)
+decides_by_enough (Some Elifndef) s line after taken b is g n sum = (ap Some (omega arith), g.1)
+decides_by_enough _ s line after taken b is g n sum = absurd g
+
+decides_unless_enough : (quote : Option Fault) (d : Option Directive) (s : State) (line : List Token) (after : Option ℕ) (taken : Result Bool Fault) (b : ℕ) → Covers s.left b
+    → (g : DecidesUnless quote d s line after taken) (n : ℕ)
+    → b ≡ count_decides_unless quote d s line after taken g + n
+    → DecidesUnless quote d (with_left s (Some b)) line (Some n) taken
+decides_unless_enough (Some f) d s line after taken b is g n sum = (ap Some (omega arith), g.1)
+decides_unless_enough None d s line after taken b is g n sum = decides_by_enough d s line after taken b is g n sum
+
+pub decides_enough : (s : State) (line : LogicalLine) (after : Option ℕ) (taken : Result Bool Fault) (b : ℕ) → Covers s.left b
+    → (g : Decides s line after taken) (n : ℕ)
+    → b ≡ count_decides s line after taken g + n
+    → Decides (with_left s (Some b)) line (Some n) taken
+decides_enough s line after taken b is g n sum = decides_unless_enough (lone_quote line.tokens) line.directive s line.tokens after taken b is g n sum
+
+nothing_spent : (profile : Profile) (row : ℕ) (d : Option Directive) (s : State) (line : LogicalLine) (m : Reached) (b n : ℕ) → b ≡ 0 + n
+    → ControlBy profile row d (with_left s (Some b)) line (holding b m)
+    → ControlBy profile row d (with_left s (Some b)) line (holding n m)
+nothing_spent profile row d s line m b n sum h = let same : b ≡ n = omega arith in subst (λ x. ControlBy profile row d (with_left s (Some b)) line (holding x m)) same h
+
+pub control_by_enough : (profile : Profile) (row : ℕ) (d : Option Directive) (s : State) (line : LogicalLine) (m : Reached) (b : ℕ) → Covers s.left b
+    → (g : ControlBy profile row d s line m) (n : ℕ)
+    → b ≡ count_control_by profile row d s line m g + n
+    → ControlBy profile row d (with_left s (Some b)) line (holding n m)
+control_by_enough profile row (Some Null) s line m b is g n sum = nothing_spent profile row (Some Null) s line m b n sum (ap (holding b) g)
+control_by_enough profile row (Some Define) s line m b is g n sum = nothing_spent profile row (Some Define) s line m b n sum (ap (holding b) g ∙ holding_macros b s _)
+control_by_enough profile row (Some Undef) s line m b is g n sum = nothing_spent profile row (Some Undef) s line m b n sum (ap (holding b) g ∙ holding_macros b s _)
+control_by_enough profile row (Some Line) s line m b is g n sum = record {
+  expanded = record g.expanded { left = Some n };
+  expands = expansion_enough s.macros s.env b is g.expands n sum;
+  is = ap (holding n) g.is ∙ holding_renumbered n (with_left s g.expanded.left) line g.expanded.fault (presumed g.expanded.tokens);
+}
+control_by_enough profile row (Some Pragma) s line m b is g n sum =
+    nothing_spent profile row (Some Pragma) s line m b n sum (ap (holding b) g ∙ holding_noted b profile row (operands line.tokens) (passed s (item.Pragma (sign_place line.tokens) (operands line.tokens) ∷ [])))
+control_by_enough profile row (Some Unknown) s line m b is g n sum = nothing_spent profile row (Some Unknown) s line m b n sum (ap (holding b) g)
+control_by_enough profile row _ s line m b is g n sum = absurd g
+
+-- what is left covers the rest
+pub asks_rest : (s : State) (line : List Token) (after : Option ℕ) (asked : Result Asked Fault) (b m : ℕ) → Covers s.left b
+    → (g : Asks s line after asked)
+    → b ≡ count_asks s line after asked g + m
+    → Covers after m
+asks_rest s line after asked b m is g sum = covers_rest after (count_asks s line after asked g) m is (asks_spends s line after asked g) sum
+
+pub decides_rest : (s : State) (line : LogicalLine) (after : Option ℕ) (taken : Result Bool Fault) (b m : ℕ) → Covers s.left b
+    → (g : Decides s line after taken)
+    → b ≡ count_decides s line after taken g + m
+    → Covers after m
+decides_rest s line after taken b m is g sum = covers_rest after (count_decides s line after taken g) m is (decides_spends s line after taken g) sum
+
+pub run_rest : (s : State) (tokens : List Token) (r : Reached) (b m : ℕ) → Covers s.left b
+    → (g : RunGives s tokens r)
+    → b ≡ count_expansion g.expands + m
+    → Covers r.state.left m
+run_rest s tokens r b m is g sum = covers_rest r.state.left (count_expansion g.expands) m is (run_spends s tokens r g) sum
+
+pub covered : (left : Option ℕ) (b : ℕ) → Covers left (suc b) → is_spent left ≡ true → ⊥
+covered None b is e = absurd (cc)
+covered (Some zero) b (larger low) e = absurd (omega arith)
+covered (Some (suc n)) b is e = absurd (cc)

@@ -1,0 +1,129 @@
+-- Which part of a group the first line of its lines belongs to, by the line's directive.
+use Rattle.std.proofs.Common.{◌≡◌, ◌≢◌, ℕ, Bool, true, false, List, [], ◌∷◌, ◌++◌, refl, sym, ap, ◌∙◌, append_assoc, Option, None, Some, Result}
+use Rattle.pptext.specs.declared.tokens.Fault.{Fault}
+use Rattle.pptext.specs.declared.sources.Directive.{Directive}
+use Rattle.pptext.specs.declared.sources.Directive.TheVariants.{If, Ifdef, Ifndef, Elif, Elifdef, Elifndef, Else, Endif, Include, Define, Undef, Line as LineOf, Error, Pragma, Null, Unknown}
+use Rattle.pptext.specs.Lines.{LogicalLine}
+use Rattle.pptext.specs.Tree.{Parts, Done, Run, Control, Section, Branches, End, Branch, part_lines, branch_lines, AreParts, AreBranches, role, role_by, opens_section, ends_group}
+use Rattle.ppunit.specs.declared.states.State.{State}
+use Rattle.ppunit.specs.Conditions.{Decides}
+use Rattle.ppunit.specs.Walk.{Outer, lay, AreOuter, EntersBy}
+
+-- ---- what is laid
+
+pub lay_run : (rs : List LogicalLine) (ps : Parts) (k : Outer) → lay (Run rs ps) k ≡ rs ++ lay ps k
+lay_run rs ps [] = refl
+lay_run rs ps ((bs, qs) ∷ k) = append_assoc rs (part_lines ps) (branch_lines bs ++ lay qs k)
+
+pub lay_control : (r : LogicalLine) (ps : Parts) (k : Outer) → lay (Control r ps) k ≡ r ∷ lay ps k
+lay_control r ps [] = refl
+lay_control r ps ((bs, qs) ∷ k) = refl
+
+pub lay_section : (r : LogicalLine) (ps qs : Parts) (bs : Branches) (k : Outer) → lay (Section r ps bs qs) k ≡ r ∷ lay ps ((bs, qs) ∷ k)
+lay_section r ps qs bs [] = ap (λ (z : List LogicalLine). r ∷ z) (append_assoc (part_lines ps) (branch_lines bs) (part_lines qs))
+lay_section r ps qs bs ((cs, rs) ∷ k) =
+    ap (λ (z : List LogicalLine). r ∷ z)
+    (append_assoc (part_lines ps ++ branch_lines bs) (part_lines qs) (branch_lines cs ++ lay rs k)
+    ∙ append_assoc (part_lines ps) (branch_lines bs) (part_lines qs ++ (branch_lines cs ++ lay rs k)))
+
+pub lay_branch : (r : LogicalLine) (ps qs : Parts) (bs : Branches) (k : Outer) → branch_lines (Branch r ps bs) ++ lay qs k ≡ r ∷ lay ps ((bs, qs) ∷ k)
+lay_branch r ps qs bs k = ap (λ (z : List LogicalLine). r ∷ z) (append_assoc (part_lines ps) (branch_lines bs) (lay qs k))
+
+-- ---- directives and the grammar
+
+pub text_directive : (d : Option Directive) → role_by d ≡ role_by None → d ≡ None
+text_directive None e = refl
+text_directive (Some If) e = cc
+text_directive (Some Ifdef) e = cc
+text_directive (Some Ifndef) e = cc
+text_directive (Some Elif) e = cc
+text_directive (Some Elifdef) e = cc
+text_directive (Some Elifndef) e = cc
+text_directive (Some Else) e = cc
+text_directive (Some Endif) e = cc
+text_directive (Some d) e = cc
+
+pub endif_directive : (d : Option Directive) → role_by d ≡ role_by (Some Endif) → d ≡ Some Endif
+endif_directive (Some Endif) e = refl
+endif_directive d e = cc
+
+pub else_directive : (d : Option Directive) → role_by d ≡ role_by (Some Else) → d ≡ Some Else
+else_directive (Some Else) e = refl
+else_directive d e = cc
+
+-- a branch with a condition
+pub not_else : (d : Option Directive) → role_by d ≡ role_by (Some Elif) → d ≢ Some Else
+not_else d e h = let differs : role_by (Some Elif) ≡ role_by (Some Else) = sym e ∙ ap role_by h in cc
+
+pub condition_decides : (d : Option Directive) (s : State) (r : LogicalLine) (after : Option ℕ) (taken : Result Bool Fault)
+    → role_by d ≡ role_by (Some Elif)
+    → EntersBy d s r after taken
+    → Decides s r after taken
+condition_decides (Some Elif) s r after taken e entered = entered
+condition_decides (Some Elifdef) s r after taken e entered = entered
+condition_decides (Some Elifndef) s r after taken e entered = entered
+condition_decides d s r after taken e entered = absurd (cc)
+
+pub control_role : (d : Directive) → opens_section d ≡ false → ends_group d ≡ false → role_by (Some d) ≡ role_by (Some Null)
+control_role Define o e = refl
+control_role Undef o e = refl
+control_role Include o e = refl
+control_role LineOf o e = refl
+control_role Error o e = refl
+control_role Pragma o e = refl
+control_role Null o e = refl
+control_role Unknown o e = refl
+control_role d o e = absurd (cc)
+
+pub opening_role : (d : Directive) → opens_section d ≡ true → role_by (Some d) ≡ role_by (Some If)
+opening_role If e = refl
+opening_role Ifdef e = refl
+opening_role Ifndef e = refl
+opening_role d e = absurd (cc)
+
+pub record Differs (r : LogicalLine) : Type 0 where
+  pub not_text : role r ≢ role_by None
+  pub not_control : role r ≢ role_by (Some Null)
+  pub not_opening : role r ≢ role_by (Some If)
+
+pub ending_role : (d : Directive) (r : LogicalLine) → ends_group d ≡ true → role r ≡ role_by (Some d) → Differs r
+ending_role Elif r e is = record { not_text = λ h. cc; not_control = λ h. cc; not_opening = λ h. cc }
+ending_role Elifdef r e is = record { not_text = λ h. cc; not_control = λ h. cc; not_opening = λ h. cc }
+ending_role Elifndef r e is = record { not_text = λ h. cc; not_control = λ h. cc; not_opening = λ h. cc }
+ending_role Else r e is = record { not_text = λ h. cc; not_control = λ h. cc; not_opening = λ h. cc }
+ending_role Endif r e is = record { not_text = λ h. cc; not_control = λ h. cc; not_opening = λ h. cc }
+ending_role d r e is = absurd (cc)
+
+pub branches_differ : (bs : Branches) (last : Bool) (r : LogicalLine) (rest behind : List LogicalLine) → AreBranches last bs → branch_lines bs ++ rest ≡ r ∷ behind → Differs r
+branches_differ (End x) last r rest behind is e =
+    let same : x ≡ r = cc in
+    let here = ap role (sym same) ∙ is in
+    record { not_text = λ h. cc; not_control = λ h. cc; not_opening = λ h. cc }
+branches_differ (Branch x ps bs) last r rest behind (before, final, is, parts, more) e =
+    let same : x ≡ r = cc in
+    let here = ap role (sym same) ∙ is in
+    record { not_text = λ h. cc; not_control = λ h. cc; not_opening = λ h. cc }
+
+-- what the first line is to the parts that it belongs to
+pub data First (r : LogicalLine) : Parts → Outer → Type 0 where
+  text : {rs : List LogicalLine} {ps : Parts} {k : Outer} → role r ≡ role_by None → First r (Run rs ps) k
+  control : {x : LogicalLine} {ps : Parts} {k : Outer} → x ≡ r → role r ≡ role_by (Some Null) → First r (Control x ps) k
+  opening : {x : LogicalLine} {ps qs : Parts} {bs : Branches} {k : Outer} → x ≡ r → role r ≡ role_by (Some If) → First r (Section x ps bs qs) k
+  ending : {bs : Branches} {qs : Parts} {k : Outer} → Differs r → First r Done ((bs, qs) ∷ k)
+
+pub first_of : (ps : Parts) (k : Outer) (r : LogicalLine) (behind : List LogicalLine) → lay ps k ≡ r ∷ behind → AreParts ps → AreOuter k → First r ps k
+first_of Done [] r behind e are outer = absurd (cc)
+first_of Done ((bs, qs) ∷ k) r behind e are outer = ending (branches_differ bs outer.0.0 r (lay qs k) behind outer.0.1 e)
+first_of (Run [] ps) k r behind e are outer = absurd (are.0 refl)
+first_of (Run (x ∷ rs) ps) k r behind e are outer =
+    let whole = sym (lay_run (x ∷ rs) ps k) ∙ e in
+    let same : x ≡ r = cc in
+    text (ap role (sym same) ∙ are.1.0)
+first_of (Control x ps) k r behind e are outer =
+    let whole = sym (lay_control x ps k) ∙ e in
+    let same : x ≡ r = cc in
+    control same (ap role (sym same) ∙ are.0)
+first_of (Section x ps bs qs) k r behind e are outer =
+    let whole = sym (lay_section x ps qs bs k) ∙ e in
+    let same : x ≡ r = cc in
+    opening same (ap role (sym same) ∙ are.0)

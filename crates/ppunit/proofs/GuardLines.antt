@@ -1,0 +1,215 @@
+-- The opening line of a guarded file does not take its group where the guard is a macro's name, in each of its three forms.
+use Rattle.std.proofs.Common.{◌≡◌, ℕ, ◌+◌, Bool, true, false, ◌&&◌, List, [], ◌∷◌, Option, Some, None, Ok, refl, sym, ap, ◌∙◌, subst, codes, if◌then◌else◌, is_some, arith}
+use Rattle.std.proofs.lemmas.Bool.{and_parts}
+use Rattle.pptext.specs.declared.tokens.Place.{Place}
+use Rattle.pptext.specs.declared.tokens.Token.{Token}
+use Rattle.pptext.specs.declared.tokens.Fault.{Fault}
+use Rattle.pptext.specs.declared.tokens.Kind.{Kind}
+use Rattle.pptext.specs.declared.tokens.Kind.TheVariants.{Ident, Punct}
+use Rattle.pptext.specs.declared.sources.Directive.{Directive}
+use Rattle.pptext.specs.declared.sources.Directive.TheVariants.{If, Ifndef}
+use Rattle.pptext.specs.declared.sources.Profile.{Profile}
+use Rattle.pptext.specs.declared.sources.Profile.TheVariants.{C11, Later}
+use Rattle.pptext.specs.Spellings.{Spells}
+use Rattle.pptext.specs.Lines.{LogicalLine, directive_of, directive_named}
+use Rattle.pptext.specs.Tree.{role, role_by, role_named}
+use Rattle.pptext.specs.Guard.{is_ident, named, is_not_defined, are_parentheses, ident_if, guard_name}
+use Rattle.pptext.proofs.OneKind.{begins}
+use Rattle.ppmacro.specs.Spellings.{is_identifier_kind}
+use Rattle.ppexpand.specs.Laws.{plus}
+use Rattle.ppexpr.specs.Conditions.{IsCondition, count_condition}
+use Rattle.ppexpr.proofs.OneCondition.{same_condition}
+use Rattle.ppexpr.proofs.Capped.{condition_spends, condition_enough}
+use Rattle.ppexpr.proofs.GuardConditions.{punctuator, as_defined, as_name, bare_false, parenthesized_false}
+use Rattle.ppunit.specs.declared.states.State.{State}
+use Rattle.ppunit.specs.Quotes.{lone_quote}
+use Rattle.ppunit.specs.Conditions.{same_as, is_defined, by_name, Decides, DecidesBy, DecidesUnless}
+use Rattle.ppunit.specs.Counts.{count_decides_by, count_decides_unless, count_decides}
+use Rattle.ppunit.proofs.FileTokens.{IsSpelled, AreSpelled, IsSpelledLine, opens_header, kind_is, defined_spelled}
+use Rattle.std.specs.FinMap as table
+use Rattle.ppunit.proofs.Unquoted.{is_quote, is_ident_kind, ident_unquoted, named_is, is_hash, hash_unquoted, opens_by, AreUnquoted, no_quote, named_unquoted}
+
+-- the group behind a line is not taken, and that costs nothing
+abbrev SkipsBy : Option Directive → State → List Token → Type 0
+SkipsBy d s tokens = (h : DecidesBy d s tokens s.left (Ok false)) × (count_decides_by d s tokens s.left (Ok false) h ≡ 0)
+
+abbrev SkipsUnless : Option Fault → Option Directive → State → List Token → Type 0
+SkipsUnless quote d s tokens = (h : DecidesUnless quote d s tokens s.left (Ok false)) × (count_decides_unless quote d s tokens s.left (Ok false) h ≡ 0)
+
+-- of a line of these tokens
+abbrev Skips : State → Option Directive → List Token → Type 0
+Skips s d tokens = SkipsUnless (lone_quote tokens) d s tokens
+
+-- of a line without lone quotes whose directive is spelled so
+decided : (s : State) (profile : Profile) (h d : Token) (ts : List Token) (name : List ℕ) (is_called : Directive)
+    → is_hash h.text ≡ true
+    → named d name ≡ true
+    → directive_named profile name ≡ is_called
+    → is_quote name ≡ false
+    → AreUnquoted ts
+    → SkipsBy (Some is_called) s (h ∷ d ∷ ts)
+    → Skips s (directive_of profile (h ∷ d ∷ ts)) (h ∷ d ∷ ts)
+decided s profile h d ts name is_called hash is called plain rest decides =
+    let quotes : lone_quote (h ∷ d ∷ ts) ≡ None = no_quote (h ∷ d ∷ ts) (hash_unquoted h hash, (named_unquoted d name is plain, rest)) in
+    let directive : directive_of profile (h ∷ d ∷ ts) ≡ Some is_called =
+    ap (λ (b : Bool). if b then Some (directive_named profile d.text) else None) hash
+    ∙ ap (λ (z : List ℕ). Some (directive_named profile z)) (named_is d name is) ∙ ap (λ (z : Directive). Some z) called in
+    subst (λ (q : Option Fault). SkipsUnless q (directive_of profile (h ∷ d ∷ ts)) s (h ∷ d ∷ ts)) (sym quotes)
+    (subst (λ (z : Option Directive). SkipsBy z s (h ∷ d ∷ ts)) (sym directive) decides)
+
+-- each profile has the names of C11
+if_called : (profile : Profile) → directive_named profile (codes "if") ≡ If
+if_called C11 = refl
+if_called Later = refl
+
+ifndef_called : (profile : Profile) → directive_named profile (codes "ifndef") ≡ Ifndef
+ifndef_called C11 = refl
+ifndef_called Later = refl
+
+-- ---- the three forms of a guard
+
+record IsGuard (b : Bool) (t : Token) (x : List ℕ) : Type 0 where
+  form : b ≡ true
+  kind : t.kind ≡ Ident
+  name : t.text ≡ x
+
+ident_if_is : (b : Bool) (t : Token) (x : List ℕ) → ident_if b t ≡ Some x → IsGuard b t x
+ident_if_is b t x e = cases (b && is_ident t.kind) refl e
+  where
+    cases : (c : Bool) → (b && is_ident t.kind) ≡ c → (if c then Some t.text else None) ≡ Some x → IsGuard b t x
+    cases true is f = let p = and_parts b (is_ident t.kind) is in let same : t.text ≡ x = cc in record { form = p.0; kind = is_ident_kind t.kind p.1; name = same }
+    cases false is f = absurd (cc)
+
+-- the macro's name is that of the token
+known_name : (s : State) (x : List ℕ) (t : Token) → t.text ≡ x → is_defined s.macros x ≡ true → is_some (table.get s.macros t.text) ≡ true
+known_name s x t e known = ap (λ (z : List ℕ). is_some (table.get s.macros z)) e ∙ known
+
+punctuator_is : (t : Token) (text : List ℕ) → IsSpelled t → named t text ≡ true → Spells Punct text → begins opens_header text ≡ false → punctuator text t ≡ t
+punctuator_is t text spelled is known apart =
+    let e = named_is t text is in
+    let k : Punct ≡ t.kind = sym (kind_is t text Punct apart known e spelled) in
+    let f : text ≡ t.text = sym e in
+    λ i. record t { kind = k i; text = f i }
+
+defined_is : (t : Token) → IsSpelled t → named t (codes "defined") ≡ true → as_defined t ≡ t
+defined_is t spelled is =
+    let e = named_is t (codes "defined") is in
+    let k : Ident ≡ t.kind = sym (kind_is t (codes "defined") Ident refl defined_spelled e spelled) in
+    let f : codes "defined" ≡ t.text = sym e in
+    λ i. record t { kind = k i; text = f i }
+
+name_is : (t : Token) → t.kind ≡ Ident → as_name t ≡ t
+name_is t e = let k : Ident ≡ t.kind = sym e in λ i. record t { kind = k i }
+
+-- the condition is false, whatever is left of a budget, and leaves it as it is
+abbrev IsFalseFreely : State → Place → List Token → Type 0
+IsFalseFreely s at tokens = (left : Option ℕ) → IsCondition s.macros s.env at tokens left (Ok false) left
+
+nothing_spent : (n count : ℕ) → Some n ≡ plus count (Some n) → count ≡ 0
+nothing_spent n count e = let same : n ≡ count + n = cc in omega arith
+
+-- so it costs nothing
+costs_nothing : (s : State) (at : Place) (tokens : List Token) (condition : IsFalseFreely s at tokens) (left : Option ℕ) → count_condition (condition left) ≡ 0
+costs_nothing s at tokens condition (Some n) = nothing_spent n (count_condition (condition (Some n))) (condition_spends (condition (Some n)))
+costs_nothing s at tokens condition None =
+    let k = count_condition (condition None) in
+    let sufficed : IsCondition s.macros s.env at tokens (Some k) (Ok false) (Some 0) = (condition_enough refl (condition None) k 0 (omega arith)).0 in
+    let lefts : Some k ≡ Some 0 = (same_condition s.macros s.env at tokens (Some k) (Some k) (Some 0) (Ok false) (Ok false) (condition (Some k)) sufficed).1 in
+    let counts : k ≡ 0 = cc in
+    counts
+
+by_ifndef : (s : State) (profile : Profile) (h d t : Token) (x : List ℕ)
+    → is_hash h.text ≡ true
+    → IsGuard (named d (codes "ifndef")) t x
+    → is_defined s.macros x ≡ true
+    → Skips s (directive_of profile (h ∷ d ∷ t ∷ [])) (h ∷ d ∷ t ∷ [])
+by_ifndef s profile h d t x hash g known =
+    let line = h ∷ d ∷ t ∷ [] in
+    decided s profile h d (t ∷ []) (codes "ifndef") Ifndef hash g.form (ifndef_called profile) refl (ident_unquoted t g.kind, tt) (
+      (
+        refl,
+        sym (ap (λ (k : Kind). by_name false s.macros line (if is_identifier_kind k then Some t.text else None)) g.kind ∙ ap
+            (λ (b : Bool). Ok (same_as false b)) (known_name s x t g.name known)),
+      ),
+      refl,
+    )
+
+by_bare : (s : State) (profile : Profile) (h d n f t : Token) (x : List ℕ)
+    → IsSpelled n
+    → IsSpelled f
+    → is_hash h.text ≡ true
+    → IsGuard (is_not_defined d n f) t x
+    → is_defined s.macros x ≡ true
+    → Skips s (directive_of profile (h ∷ d ∷ n ∷ f ∷ t ∷ [])) (h ∷ d ∷ n ∷ f ∷ t ∷ [])
+by_bare s profile h d n f t x sn sf hash g known =
+    let p = and_parts (named d (codes "if")) (named n (codes "!") && named f (codes "defined")) g.form in
+    let q = and_parts (named n (codes "!")) (named f (codes "defined")) p.1 in
+    let bang = punctuator_is n (codes "!") sn q.0 refl refl in
+    let asks = defined_is f sf q.1 in
+    let name = name_is t g.kind in
+    let same : (punctuator (codes "!") n ∷ as_defined f ∷ as_name t ∷ []) ≡ (n ∷ f ∷ t ∷ []) = λ i. bang i ∷ asks i ∷ name i ∷ [] in
+    let condition : IsFalseFreely s h.at (n ∷ f ∷ t ∷ []) = subst (λ (z : List Token). IsFalseFreely s h.at z) same (λ left. bare_false s.macros s.env h.at left n f t (known_name s x t g.name known)) in
+    decided s profile h d (n ∷ f ∷ t ∷ []) (codes "if") If hash p.0 (if_called profile) refl
+    (named_unquoted n (codes "!") q.0 refl, (named_unquoted f (codes "defined") q.1 refl, (ident_unquoted t g.kind, tt)))
+    (condition s.left, costs_nothing s h.at (n ∷ f ∷ t ∷ []) condition s.left)
+
+by_parenthesized : (s : State) (profile : Profile) (h d n f l t r : Token) (x : List ℕ)
+    → IsSpelled n
+    → IsSpelled f
+    → IsSpelled l
+    → IsSpelled r
+    → is_hash h.text ≡ true
+    → IsGuard (is_not_defined d n f && are_parentheses l r) t x
+    → is_defined s.macros x ≡ true
+    → Skips s (directive_of profile (h ∷ d ∷ n ∷ f ∷ l ∷ t ∷ r ∷ [])) (h ∷ d ∷ n ∷ f ∷ l ∷ t ∷ r ∷ [])
+by_parenthesized s profile h d n f l t r x sn sf sl sr hash g known =
+    let forms = and_parts (is_not_defined d n f) (are_parentheses l r) g.form in
+    let p = and_parts (named d (codes "if")) (named n (codes "!") && named f (codes "defined")) forms.0 in
+    let q = and_parts (named n (codes "!")) (named f (codes "defined")) p.1 in
+    let around = and_parts (named l (codes "(")) (named r (codes ")")) forms.1 in
+    let bang = punctuator_is n (codes "!") sn q.0 refl refl in
+    let asks = defined_is f sf q.1 in
+    let opens = punctuator_is l (codes "(") sl around.0 refl refl in
+    let name = name_is t g.kind in
+    let closes = punctuator_is r (codes ")") sr around.1 refl refl in
+    let same : (punctuator (codes "!") n ∷ as_defined f ∷ punctuator (codes "(") l ∷ as_name t ∷ punctuator (codes ")") r ∷ []) ≡ (n ∷ f ∷ l ∷ t ∷ r ∷ []) =
+    λ i. bang i ∷ asks i ∷ opens i ∷ name i ∷ closes i ∷ [] in
+    let condition : IsFalseFreely s h.at (n ∷ f ∷ l ∷ t ∷ r ∷ []) = subst (λ (z : List Token). IsFalseFreely s h.at z) same (λ left. parenthesized_false s.macros s.env h.at left n f l t r (known_name s x t g.name known)) in
+    decided s profile h d (n ∷ f ∷ l ∷ t ∷ r ∷ []) (codes "if") If hash p.0 (if_called profile) refl (
+      named_unquoted n (codes "!") q.0 refl,
+      (
+        named_unquoted f (codes "defined") q.1 refl,
+        (named_unquoted l (codes "(") around.0 refl, (ident_unquoted t g.kind, (named_unquoted r (codes ")") around.1 refl, tt))),
+      ),
+    ) (condition s.left, costs_nothing s h.at (n ∷ f ∷ l ∷ t ∷ r ∷ []) condition s.left)
+
+guard_decides : (s : State) (profile : Profile) (tokens : List Token) (x : List ℕ)
+    → AreSpelled tokens
+    → role_by (directive_of profile tokens) ≡ role_named If
+    → guard_name tokens ≡ Some x
+    → is_defined s.macros x ≡ true
+    → Skips s (directive_of profile tokens) tokens
+guard_decides s profile [] x all opens is known = absurd (cc)
+guard_decides s profile (a ∷ []) x all opens is known = absurd (cc)
+guard_decides s profile (a ∷ b ∷ []) x all opens is known = absurd (cc)
+guard_decides s profile (h ∷ d ∷ t ∷ []) x all opens is known =
+    by_ifndef s profile h d t x (opens_by (is_hash h.text) _ opens) (ident_if_is _ t x is) known
+guard_decides s profile (a ∷ b ∷ c ∷ d ∷ []) x all opens is known = absurd (cc)
+guard_decides s profile (h ∷ d ∷ n ∷ f ∷ t ∷ []) x all opens is known =
+    by_bare s profile h d n f t x all.1.1.0 all.1.1.1.0 (opens_by (is_hash h.text) _ opens) (ident_if_is _ t x is) known
+guard_decides s profile (a ∷ b ∷ c ∷ d ∷ e ∷ f ∷ []) x all opens is known = absurd (cc)
+guard_decides s profile (h ∷ d ∷ n ∷ f ∷ l ∷ t ∷ r ∷ []) x all opens is known =
+    by_parenthesized s profile h d n f l t r x all.1.1.0 all.1.1.1.0 all.1.1.1.1.0 all.1.1.1.1.1.1.0 (opens_by (is_hash h.text) _ opens)
+    (ident_if_is _ t x is) known
+guard_decides s profile (a ∷ b ∷ c ∷ d ∷ e ∷ f ∷ g ∷ h ∷ ts) x all opens is known = absurd (cc)
+
+-- the opening line of a guarded file
+pub guard_line : (s : State) (profile : Profile) (r : LogicalLine) (x : List ℕ)
+    → IsSpelledLine profile r
+    → role r ≡ role_named If
+    → guard_name r.tokens ≡ Some x
+    → is_defined s.macros x ≡ true
+    → (h : Decides s r s.left (Ok false)) × (count_decides s r s.left (Ok false) h ≡ 0)
+guard_line s profile r x (spelled, directed) opens is known =
+    subst (λ (z : Option Directive). Skips s z r.tokens) (sym directed)
+    (guard_decides s profile r.tokens x spelled (ap role_by (sym directed) ∙ opens) is known)

@@ -1,0 +1,114 @@
+-- What is passed on, and what a unit depends on, stays.
+use Rattle.std.proofs.Common.{ℕ, List, [], ◌∷◌, ◌++◌, map, Bool, true, false, Option, Some, None, Result, Ok, Err, refl, sym, ap, ◌∙◌, subst, append_assoc, append-nil, if◌then◌else◌}
+use Rattle.pptext.specs.declared.tokens.Place.{Place}
+use Rattle.pptext.specs.declared.tokens.Token.{Token}
+use Rattle.pptext.specs.declared.tokens.Fault.{Fault}
+use Rattle.pptext.specs.declared.sources.Directive.{Directive}
+use Rattle.pptext.specs.declared.sources.Directive.TheVariants.{Define, Undef, Line, Pragma, Null, Unknown}
+use Rattle.pptext.specs.declared.sources.Profile.{Profile}
+use Rattle.pptext.specs.Lines.{LogicalLine}
+use Rattle.pptext.specs.Tree.{Parts, Branches, sign_place}
+use Rattle.ppmacro.specs.Names.{Macros}
+use Rattle.ppexpand.specs.Laws.{IsBeginning}
+use Rattle.ppunit.specs.declared.states.State.{State}
+use Rattle.ppunit.specs.declared.units.Item.{Item}
+use Rattle.ppunit.specs.declared.line_control.Presumed.{Presumed}
+use Rattle.ppunit.specs.Dependencies.{is_among}
+use Rattle.ppunit.specs.States.{Surroundings, Reached, passed, depending, reading_once, with_left}
+use Rattle.ppunit.specs.Lines.{operands, run_tokens}
+use Rattle.ppunit.specs.LineControl.{presumed}
+use Rattle.ppunit.specs.Directives.{RunGives, ControlBy, with_macros, renumbered_by, is_once, pragma_passed}
+use Rattle.ppunit.specs.Group.{Group, Branched, Controls, Includes, Opened}
+use Rattle.ppunit.specs.declared.units.Item.TheVariants as item
+
+pub same_beginning : {A : Type 0} (xs : List A) → IsBeginning xs xs
+same_beginning xs = ([], sym (append-nil xs))
+
+beginning_of : {A : Type 0} (xs ys zs : List A) → IsBeginning xs ys → IsBeginning ys zs → IsBeginning xs zs
+beginning_of xs ys zs p q = (p.0 ++ q.0, q.1 ∙ ap (λ l. l ++ q.0) p.1 ∙ append_assoc xs p.0 q.0)
+
+-- the items and the dependencies of one state are beginnings of the other's
+abbrev pub Before : State → State → Type 0
+Before s t = IsBeginning s.items t.items × IsBeginning s.deps t.deps
+
+pub same_state : (s : State) → Before s s
+same_state s = (same_beginning s.items, same_beginning s.deps)
+
+pub before_then : (s t u : State) → Before s t → Before t u → Before s u
+before_then s t u p q = (beginning_of s.items t.items u.items p.0 q.0, beginning_of s.deps t.deps u.deps p.1 q.1)
+
+pub depends : (s : State) (row : ℕ) → Before s (depending s row)
+depends s row = (same_beginning s.items, joined (is_among row s.deps))
+  where
+    joined : (b : Bool) → IsBeginning s.deps (if b then s.deps else s.deps ++ row ∷ [])
+    joined true = same_beginning s.deps
+    joined false = (row ∷ [], refl)
+
+renumbered_before : (s : State) (r : LogicalLine) (f : Option Fault) (p : Option Presumed) → Before s (renumbered_by s r f p).state
+renumbered_before s r (Some f) p = same_state s
+renumbered_before s r None None = same_state s
+renumbered_before s r None (Some p) = same_state s
+
+macros_before : (s : State) (m : Result Macros Fault) → Before s (with_macros s m).state
+macros_before s (Ok m) = same_state s
+macros_before s (Err f) = same_state s
+
+pragma_before : (profile : Profile) (row : ℕ) (s : State) (line : List Token) → Before s (pragma_passed profile row s line)
+pragma_before profile row s line = noted (is_once profile (operands line))
+  where
+    told : List Item
+    told = item.Pragma (sign_place line) (operands line) ∷ []
+
+    noted : (b : Bool) → Before s (if b then reading_once (passed s told) row else passed s told)
+    noted true = ((told, refl), same_beginning s.deps)
+    noted false = ((told, refl), same_beginning s.deps)
+
+pub control_by_before : (profile : Profile) (row : ℕ) (d : Option Directive) (s : State) (line : LogicalLine) (m : Reached) → ControlBy profile row d s line m → Before s m.state
+control_by_before profile row (Some Null) s line m g = subst (λ x. Before s x.state) (sym g) (same_state s)
+control_by_before profile row (Some Define) s line m g = subst (λ x. Before s x.state) (sym g) (macros_before s _)
+control_by_before profile row (Some Undef) s line m g = subst (λ x. Before s x.state) (sym g) (macros_before s _)
+control_by_before profile row (Some Line) s line m g =
+    subst (λ x. Before s x.state) (sym g.is) (renumbered_before (with_left s g.expanded.left) line g.expanded.fault (presumed g.expanded.tokens))
+control_by_before profile row (Some Pragma) s line m g = subst (λ x. Before s x.state) (sym g) (pragma_before profile row s line.tokens)
+control_by_before profile row (Some Unknown) s line m g = subst (λ x. Before s x.state) (sym g) (same_state s)
+control_by_before profile row _ s line m g = absurd g
+
+run_before : (s : State) (tokens : List Token) (m : Reached) → RunGives s tokens m → Before s m.state
+run_before s tokens m g = subst (λ x. Before s x.state) (sym g.is) ((map item.Token g.expanded.tokens, refl), same_beginning s.deps)
+
+module _ (around : Surroundings) where
+  mutual
+    pub group_before : {depth row : ℕ} {r : Reached} {ps : Parts} {end : Reached} → Group around depth row r ps end → Before r.state end.state
+    group_before (Group.stays {s = s}) = same_state s
+    group_before (Group.done {s = s}) = same_state s
+    group_before (Group.run {s = s} {lines = lines} {m = m} {end = end} gives rest) = before_then s m.state end.state (run_before s (run_tokens lines) m gives) (group_before rest)
+    group_before (Group.control {s = s} {m = m} {end = end} here rest) = before_then s m.state end.state (control_before here) (group_before rest)
+    group_before (Group.taken {s = s} {m = m} {end = end} decides here rest) = before_then s m.state end.state (group_before here) (group_before rest)
+    group_before (Group.skipped {s = s} {m = m} {end = end} decides here rest) = before_then s m.state end.state (branches_before here) (group_before rest)
+    group_before (Group.refused {s = s} decides) = same_state s
+
+    pub branches_before : {depth row : ℕ} {s : State} {bs : Branches} {m : Reached} → Branched around depth row s bs m → Before s m.state
+    branches_before (Branched.ended {s = s}) = same_state s
+    branches_before (Branched.otherwise e here) = group_before here
+    branches_before (Branched.branch_taken e decides here) = group_before here
+    branches_before (Branched.branch_skipped e decides rest) = branches_before rest
+    branches_before (Branched.branch_refused {s = s} e decides) = same_state s
+
+    pub control_before : {depth row : ℕ} {s : State} {line : LogicalLine} {m : Reached} → Controls around depth row s line m → Before s m.state
+    control_before (Controls.error {s = s} e) = same_state s
+    control_before (Controls.quote {s = s} e q) = same_state s
+    control_before {row = row} (Controls.other {s = s} {line = line} {m = m} q does) = control_by_before around.profile row line.directive s line m does
+    control_before (Controls.include e q here) = includes_before here
+
+    includes_before : {depth row : ℕ} {s : State} {line : LogicalLine} {m : Reached} → Includes around depth row s line m → Before s m.state
+    includes_before (Includes.misnamed {s = s} asks) = same_state s
+    includes_before (Includes.missing {s = s} a asks finds) = same_state s
+    includes_before (Includes.included a found asks finds opens) = opened_before opens
+
+    pub opened_before : {depth row : ℕ} {at : Place} {s : State} {m : Reached} → Opened around depth at s row m → Before s m.state
+    opened_before (Opened.too_deep {s = s} deep) = same_state s
+    opened_before (Opened.over {s = s} fits spent) = same_state s
+    opened_before {row = row} (Opened.known {s = s} fits more once) = depends s row
+    opened_before {row = row} (Opened.not_readable {s = s} fits more once file) = depends s row
+    opened_before {row = row} (Opened.faulty {s = s} fits more once file reads) = depends s row
+    opened_before {row = row} (Opened.read {s = s} {m = m} fits more once file reads tree here) = before_then s (depending s row) m.state (depends s row) (group_before here)

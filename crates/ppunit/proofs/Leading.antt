@@ -1,0 +1,118 @@
+-- A control line, and where a line leads, from what the steps of the code ensure.
+use Rattle.std.proofs.Common.{◌≡◌, ℕ, suc, ◌+◌, ◌<◌, List, length, sym, subst, false, Option, None, Some, Result, Ok, Err, MatchResult}
+use Rattle.pptext.specs.declared.tokens.Place.{Place}
+use Rattle.pptext.specs.declared.tokens.Token.{Token}
+use Rattle.pptext.specs.declared.tokens.Fault.{Fault}
+use Rattle.pptext.specs.declared.sources.Directive.{Directive}
+use Rattle.pptext.specs.declared.sources.Directive.TheVariants.{Include}
+use Rattle.pptext.specs.declared.sources.Profile.{Profile}
+use Rattle.pptext.specs.Lines.{LogicalLine}
+use Rattle.pptext.specs.Tree.{sign_place, opens_section, ends_group}
+use Rattle.ppshelf.specs.Files.{Files}
+use Rattle.ppunit.specs.declared.states.State.{State}
+use Rattle.ppunit.specs.declared.including.Asked.{Asked}
+use Rattle.ppunit.specs.declared.opening.Entered.{Entered}
+use Rattle.ppunit.specs.declared.walking.Next.{Next}
+use Rattle.ppunit.specs.Directives.{Asks, Finds, ControlBy}
+use Rattle.ppunit.specs.States.{Surroundings, Reached, going, stopped, with_left}
+use Rattle.ppunit.specs.Lines.{directed}
+use Rattle.ppunit.specs.Quotes.{lone_quote}
+use Rattle.ppunit.specs.Group.{Controls, Includes, Opened}
+use Rattle.ppunit.specs.Walk.{line_at, Advances, Leads, StepsTo, Steps, back}
+use Rattle.ppunit.proofs.ControlLines.{control_advances, passes}
+
+-- ---- a control line
+
+controls_at : (around : Surroundings) (depth row : ℕ) (s : State) (m : Reached) (r : LogicalLine) (d : Directive) (tokens : List Token) (number : ℕ)
+    → r.directive ≡ Some d
+    → tokens ≡ r.tokens
+    → number ≡ r.number
+    → Controls around depth row s (directed d tokens number) m
+    → Controls around depth row s r m
+controls_at around depth row s m r d tokens number is same_tokens same_number here =
+    subst (λ (z : Option Directive). Controls around depth row s (record { tokens = r.tokens; number = r.number; directive = z }) m) (sym is)
+    (subst (λ (z : ℕ). Controls around depth row s (directed d r.tokens z) m) same_number
+    (subst (λ (z : List Token). Controls around depth row s (directed d z number) m) same_tokens here))
+
+pub other_control : (around : Surroundings) (depth row : ℕ) (by : Profile) (s t : State) (d : Directive) (r : LogicalLine) (f g : Option Fault)
+    → by ≡ around.profile
+    → r.directive ≡ Some d
+    → lone_quote r.tokens ≡ None
+    → f ≡ g
+    → ControlBy by row (Some d) s r (record { state = t; fault = f })
+    → Controls around depth row s r (record { state = t; fault = g })
+other_control around depth row by s t d r f g one is alone same control =
+    let here = subst (λ (z : Profile). ControlBy z row (Some d) s r (record { state = t; fault = f })) one control in
+    let line = subst (λ (z : Option Directive). ControlBy around.profile row z s r (record { state = t; fault = f })) (sym is) here in
+    subst (λ (z : Option Fault). Controls around depth row s r (record { state = t; fault = z })) same (Controls.other alone line)
+
+-- ---- where a line leads
+
+leads_on : (around : Files → Surroundings) (files : Files) (depth : ℕ) (one other : Files → Reached → Type 0) (t : State)
+    (r : Result (Option Entered) Fault)
+    → ((more : Files) (m : Reached) → one more m → other more m)
+    → Leads around files depth one t r
+    → Leads around files depth other t r
+leads_on around files depth one other t (Ok None) turn leads = λ more grows. turn more (going t) (leads more grows)
+leads_on around files depth one other t (Ok (Some e)) turn leads = record {
+  fits = leads.fits;
+  begins = leads.begins;
+  few = leads.few;
+  parts = leads.parts;
+  tree = leads.tree;
+  group = λ more grows m group. turn more (back e.outer m) (leads.group more grows m group);
+}
+leads_on around files depth one other t (Err f) turn leads = λ more grows. turn more (stopped t f) (leads more grows)
+
+pub leads_included : (around : Files → Surroundings) (files : Files) (depth deeper row found : ℕ) (at : Place) (line : LogicalLine) (s t : State)
+    (after : Option ℕ) (a : Asked) (r : Result (Option Entered) Fault)
+    → deeper ≡ suc depth
+    → at ≡ sign_place line.tokens
+    → line.directive ≡ Some Include
+    → lone_quote line.tokens ≡ None
+    → Asks s line.tokens after (Ok a)
+    → ((more : Files) → Finds (around more) row a (Some found))
+    → Leads around files deeper (λ more m. Opened (around more) deeper at (with_left s after) found m) t r
+    → Leads around files (suc depth) (λ more m. Controls (around more) depth row s line m) t r
+leads_included around files depth deeper row found at line s t after a r one place is alone asks finds leads =
+    let u = with_left s after in
+    let here : Leads around files (suc depth) (λ more m. Opened (around more) (suc depth) (sign_place line.tokens) u found m) t r =
+    subst (λ (z : Place). Leads around files (suc depth) (λ more m. Opened (around more) (suc depth) z u found m) t r) place
+    (subst (λ (z : ℕ). Leads around files z (λ more m. Opened (around more) z at u found m) t r) one leads) in
+    leads_on around files (suc depth) (λ more m. Opened (around more) (suc depth) (sign_place line.tokens) u found m)
+    (λ more m. Controls (around more) depth row s line m) t r (λ more m opened. Controls.include is alone (Includes.included a found asks (finds more) opened)) here
+
+pub steps_line : (around : Files → Surroundings) (files : Files) (depth row : ℕ) (lines : List LogicalLine) (index : ℕ) (s t : State)
+    (found : Result ℕ Fault) (r : Result Next Fault)
+    → MatchResult r (λ next. (found ≡ Ok next.line) × (next.entered ≡ None)) (λ fault. found ≡ Err fault)
+    → Advances around files depth row lines index s t found
+    → Steps around files depth row lines index s t r
+steps_line around files depth row lines index s t found (Ok next) (is, none) advances =
+    subst (λ (z : Option Entered). StepsTo around files depth row lines index s t next.line z) (sym none) (subst (λ (z : Result ℕ Fault). Advances around files depth row lines index s t z) is advances)
+steps_line around files depth row lines index s t found (Err f) is advances = subst (λ (z : Result ℕ Fault). Advances around files depth row lines index s t z) is advances
+
+module _ (around : Files → Surroundings) (files : Files) (depth row : ℕ) (lines : List LogicalLine) (index : ℕ) (s t : State) (d : Directive)
+    (tokens : List Token) (number : ℕ) (within : index < length lines) (is : (line_at lines index).directive ≡ Some d)
+    (opens : opens_section d ≡ false) (ends : ends_group d ≡ false) (same_tokens : tokens ≡ (line_at lines index).tokens)
+    (same_number : number ≡ (line_at lines index).number) where
+  leads_there : (r : Result (Option Entered) Fault)
+      → Leads around files (suc depth) (λ more m. Controls (around more) depth row s (directed d tokens number) m) t r
+      → Leads around files (suc depth) (λ more m. Controls (around more) depth row s (line_at lines index) m) t r
+  leads_there r leads =
+      leads_on around files (suc depth) (λ more m. Controls (around more) depth row s (directed d tokens number) m)
+      (λ more m. Controls (around more) depth row s (line_at lines index) m) t r
+      (λ more m here. controls_at (around more) depth row s m (line_at lines index) d tokens number is same_tokens same_number here) leads
+
+  steps_by : (entered : Option Entered) → Leads around files (suc depth) (λ more m. Controls (around more) depth row s (line_at lines index) m) t (Ok entered) → StepsTo around files depth row lines index s t (index + 1) entered
+  steps_by None leads = control_advances around files depth row lines index s t None d within is opens ends leads
+  steps_by (Some e) leads = (passes depth row lines index s d within is opens ends, leads)
+
+  pub steps_control : (entered : Option Entered)
+      → Leads around files (suc depth) (λ more m. Controls (around more) depth row s (directed d tokens number) m) t (Ok entered)
+      → StepsTo around files depth row lines index s t (index + 1) entered
+  steps_control entered leads = steps_by entered (leads_there (Ok entered) leads)
+
+  pub stops_control : (f : Fault)
+      → Leads around files (suc depth) (λ more m. Controls (around more) depth row s (directed d tokens number) m) t (Err f)
+      → Advances around files depth row lines index s t (Err f)
+  stops_control f leads = control_advances around files depth row lines index s t (Some f) d within is opens ends (leads_there (Err f) leads)

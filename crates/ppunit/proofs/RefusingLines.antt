@@ -1,0 +1,200 @@
+-- Without a budget no line ends in fault 35.
+use Rattle.std.proofs.Common.{◌≡◌, ◌≢◌, ℕ, ◌≤◌, List, [], ◌∷◌, Bool, true, false, Option, Some, None, Result, Ok, Err, refl, sym, subst, arith, if◌then◌else◌}
+use Rattle.pptext.specs.declared.tokens.Token.{Token}
+use Rattle.pptext.specs.declared.tokens.Fault.{Fault}
+use Rattle.pptext.specs.declared.sources.Directive.{Directive}
+use Rattle.pptext.specs.declared.sources.Directive.TheVariants.{If, Ifdef, Ifndef, Elif, Elifdef, Elifndef, Else, Endif, Define, Undef, Line, Pragma, Null, Unknown}
+use Rattle.pptext.specs.declared.sources.Profile.{Profile}
+use Rattle.pptext.specs.Lines.{LogicalLine, lines_of}
+use Rattle.pptext.specs.Sources.{IsFaultOf}
+use Rattle.pptext.specs.Tree.{role, role_named, role_by, Open, opened, fault_at_end, fault_or, group_fault, Parts, Branches, sign_place}
+use Rattle.ppmacro.specs.Names.{Macros}
+use Rattle.ppmacro.specs.Define.{after_define, after_undef}
+use Rattle.ppmacro.proofs.Numbers.{define_number, undef_number}
+use Rattle.ppexpand.specs.declared.env.Env.{Env}
+use Rattle.ppexpand.specs.declared.expansion.Expanded.{Expanded}
+use Rattle.ppexpand.specs.Arguments.{is_lone_quote}
+use Rattle.ppexpand.specs.Expansion.{IsExpansion}
+use Rattle.ppexpand.proofs.Refusing.{expansion_never_refused}
+use Rattle.ppexpr.proofs.Capped.{condition_never_refused}
+use Rattle.ppunit.specs.declared.states.State.{State}
+use Rattle.ppunit.specs.declared.including.Asked.{Asked}
+use Rattle.ppunit.specs.declared.line_control.Presumed.{Presumed}
+use Rattle.ppunit.specs.States.{Surroundings, Reached, with_left}
+use Rattle.ppunit.specs.Lines.{operands, line_fault, one_identifier}
+use Rattle.ppunit.specs.Quotes.{quote_fault, lone_quote}
+use Rattle.ppunit.specs.LineControl.{presumed}
+use Rattle.ppunit.specs.Including.{begins_with_header, header_asked, expanded_asked, if_somewhere, asked_or, asked_behind}
+use Rattle.ppunit.specs.Conditions.{by_name, DecidesBy, DecidesUnless, Decides}
+use Rattle.ppunit.specs.Directives.{RunGives, with_macros, renumbered_by, AsksBy, Asks, ControlBy}
+use Rattle.ppunit.specs.Group.{Group, Branched, Controls}
+use Rattle.ppunit.specs.Unit.{count_defines, Defines}
+use Rattle.ppexpand.specs.Expansion.{count_expansion}
+use Rattle.ppunit.specs.Counts.{count_decides, count_asks, count_group, count_branched, count_control}
+use Rattle.ppunit.proofs.Spends.{still_none, asks_spends, decides_spends, run_spends, group_spends, branches_spend, control_spends, defines_spends}
+
+-- ---- where there is no budget there is none behind
+
+pub asks_none : (s : State) (line : List Token) (after : Option ℕ) (asked : Result Asked Fault) → s.left ≡ None → Asks s line after asked → after ≡ None
+asks_none s line after asked is g = still_none (count_asks s line after asked g) is (asks_spends s line after asked g)
+
+pub decides_none : (s : State) (line : LogicalLine) (after : Option ℕ) (taken : Result Bool Fault) → s.left ≡ None → Decides s line after taken → after ≡ None
+decides_none s line after taken is g = still_none (count_decides s line after taken g) is (decides_spends s line after taken g)
+
+pub run_none : (s : State) (tokens : List Token) (m : Reached) → s.left ≡ None → RunGives s tokens m → m.state.left ≡ None
+run_none s tokens m is g = still_none (count_expansion g.expands) is (run_spends s tokens m g)
+
+module _ (around : Surroundings) where
+  pub group_none : {depth row : ℕ} {r : Reached} {ps : Parts} {end : Reached} → r.state.left ≡ None → Group around depth row r ps end → end.state.left ≡ None
+  group_none is d = still_none (count_group d) is (group_spends around d)
+
+  pub branches_none : {depth row : ℕ} {s : State} {bs : Branches} {m : Reached} → s.left ≡ None → Branched around depth row s bs m → m.state.left ≡ None
+  branches_none is d = still_none (count_branched d) is (branches_spend around d)
+
+  pub control_none : {depth row : ℕ} {s : State} {line : LogicalLine} {m : Reached} → s.left ≡ None → Controls around depth row s line m → m.state.left ≡ None
+  control_none is d = still_none (count_control d) is (control_spends around d)
+
+  pub defines_none : {defines : List (List ℕ)} {s : State} {m : Reached} → s.left ≡ None → Defines around defines s m → m.state.left ≡ None
+  defines_none is d = still_none (count_defines d) is (defines_spends around d)
+
+-- the fault, if there is one, is another
+abbrev pub IsOther : Option Fault → Type 0
+IsOther None = Unit {0}
+IsOther (Some f) = f.number ≢ 35
+
+abbrev IsOtherOr : {A : Type 0} → Result A Fault → Type 0
+IsOtherOr (Ok x) = Unit {0}
+IsOtherOr (Err f) = f.number ≢ 35
+
+each_other : (o : Option Fault) → ((f : Fault) → o ≡ Some f → f.number ≢ 35) → IsOther o
+each_other None h = tt
+each_other (Some f) h = h f refl
+
+-- ---- what reads a file: 1 to 5
+
+abbrev IsOtherNumber : Option ℕ → Type 0
+IsOtherNumber None = Unit {0}
+IsOtherNumber (Some n) = n ≢ 35
+
+elif_other : (r : LogicalLine) (os : List Open) → IsOtherNumber (opened (role_named Elif) r os).0
+elif_other r [] = λ e. absurd (omega arith)
+elif_other r ((o, true) ∷ os) = λ e. absurd (omega arith)
+elif_other r ((o, false) ∷ os) = tt
+
+else_other : (r : LogicalLine) (os : List Open) → IsOtherNumber (opened (role_named Else) r os).0
+else_other r [] = λ e. absurd (omega arith)
+else_other r ((o, true) ∷ os) = λ e. absurd (omega arith)
+else_other r ((o, false) ∷ os) = tt
+
+endif_other : (r : LogicalLine) (os : List Open) → IsOtherNumber (opened (role_named Endif) r os).0
+endif_other r [] = λ e. absurd (omega arith)
+endif_other r (o ∷ os) = tt
+
+opened_line_other : (d : Option Directive) (r : LogicalLine) (os : List Open) → IsOtherNumber (opened (role_by d) r os).0
+opened_line_other None r os = tt
+opened_line_other (Some Elif) r os = elif_other r os
+opened_line_other (Some Elifdef) r os = elif_other r os
+opened_line_other (Some Elifndef) r os = elif_other r os
+opened_line_other (Some Else) r os = else_other r os
+opened_line_other (Some Endif) r os = endif_other r os
+opened_line_other (Some _) r os = tt
+
+end_other : (os : List Open) → IsOther (fault_at_end os)
+end_other [] = tt
+end_other (o ∷ os) = λ e. absurd (omega arith)
+
+or_other : (r : LogicalLine) (n : Option ℕ) (later : Option Fault) → IsOtherNumber n → IsOther later → IsOther (fault_or r n later)
+or_other r None later h k = k
+or_other r (Some n) later h k = h
+
+groups_other : (os : List Open) (lines : List LogicalLine) → IsOther (group_fault os lines)
+groups_other os [] = end_other os
+groups_other os (r ∷ rs) = or_other r (opened (role r) r os).0 _ (opened_line_other r.directive r os) (groups_other (opened (role r) r os).1 rs)
+
+pub reads_other : {profile : Profile} {file : ℕ} {bytes : List ℕ} {f : Fault} → IsFaultOf profile file bytes f → f.number ≢ 35
+reads_other (IsFaultOf.spliced_end e) = λ h. absurd (omega arith)
+reads_other (IsFaultOf.open_comment e u) = λ h. absurd (omega arith)
+reads_other {profile} (IsFaultOf.bad_groups {pieces = pieces} e c g) = subst IsOther g (groups_other [] (lines_of profile pieces))
+
+-- ---- what replaces: the same as expansion
+
+expansion_other : {macros : Macros} {env : Env} {left : Option ℕ} {tokens : List Token} {e : Expanded} → left ≡ None → IsExpansion macros env left tokens e → IsOther e.fault
+expansion_other {macros} {env} {tokens = tokens} {e = e} is x = each_other e.fault (λ f faulty. expansion_never_refused macros env (subst (λ l. IsExpansion macros env l tokens e) is x) faulty)
+
+pub run_other : (s : State) (tokens : List Token) (m : Reached) → s.left ≡ None → RunGives s tokens m → IsOther m.fault
+run_other s tokens m is g = subst (λ r. IsOther r.fault) (sym g.is) (expansion_other is g.expands)
+
+-- ---- `#define` and `#undef`: 9 to 16
+
+macros_other : (s : State) (r : Result Macros Fault) → ((f : Fault) → r ≡ Err f → f.number ≤ 16) → IsOther (with_macros s r).fault
+macros_other s (Ok macros) h = tt
+macros_other s (Err f) h = let most : f.number ≤ 16 = h f refl in λ e. absurd (omega arith)
+
+-- ---- the other lines: 7, 8, 30, 33 and those of conditions
+
+pub quote_other : (ts : List Token) → IsOther (lone_quote ts)
+quote_other [] = tt
+quote_other (t ∷ ts) = chosen (is_lone_quote t) (quote_other ts)
+  where
+    chosen : (b : Bool) → IsOther (lone_quote ts) → IsOther (if b then Some (quote_fault t) else lone_quote ts)
+    chosen true h = λ e. absurd (omega arith)
+    chosen false h = h
+
+by_name_other : (wanted : Bool) (macros : Macros) (line : List Token) (name : Option (List ℕ)) → IsOtherOr (by_name wanted macros line name)
+by_name_other wanted macros line None = λ e. absurd (omega arith)
+by_name_other wanted macros line (Some name) = tt
+
+by_name_decides : (wanted : Bool) (macros : Macros) (line : List Token) (name : Option (List ℕ)) (f : Fault) → Err f ≡ by_name wanted macros line name → f.number ≢ 35
+by_name_decides wanted macros line name f e = subst IsOtherOr (sym e) (by_name_other wanted macros line name)
+
+decides_by_other : (d : Option Directive) (s : State) (line : List Token) (after : Option ℕ) (f : Fault) → s.left ≡ None → DecidesBy d s line after (Err f) → f.number ≢ 35
+decides_by_other (Some If) s line after f is g = condition_never_refused is g
+decides_by_other (Some Elif) s line after f is g = condition_never_refused is g
+decides_by_other (Some Ifdef) s line after f is g = by_name_decides true s.macros line (one_identifier (operands line)) f g.1
+decides_by_other (Some Ifndef) s line after f is g = by_name_decides false s.macros line (one_identifier (operands line)) f g.1
+decides_by_other (Some Elifdef) s line after f is g = by_name_decides true s.macros line (one_identifier (operands line)) f g.1
+decides_by_other (Some Elifndef) s line after f is g = by_name_decides false s.macros line (one_identifier (operands line)) f g.1
+decides_by_other _ s line after f is g = absurd g
+
+decides_unless_other : (quote : Option Fault) (d : Option Directive) (s : State) (line : List Token) (after : Option ℕ) (f : Fault) → IsOther quote → s.left ≡ None → DecidesUnless quote d s line after (Err f) → f.number ≢ 35
+decides_unless_other (Some q) d s line after f h is g = subst IsOtherOr (sym g.1) h
+decides_unless_other None d s line after f h is g = decides_by_other d s line after f is g
+
+pub decides_other : (s : State) (line : LogicalLine) (after : Option ℕ) (f : Fault) → s.left ≡ None → Decides s line after (Err f) → f.number ≢ 35
+decides_other s line after f is g = decides_unless_other (lone_quote line.tokens) line.directive s line.tokens after f (quote_other line.tokens) is g
+
+asked_or_other : (f : Fault) (a : Option Asked) → f.number ≢ 35 → IsOtherOr (asked_or f a)
+asked_or_other f None h = h
+asked_or_other f (Some a) h = tt
+
+asked_behind_other : (f : Fault) (o : Option Fault) (ts : List Token) → f.number ≢ 35 → IsOther o → IsOtherOr (asked_behind f o ts)
+asked_behind_other f (Some g) ts h k = k
+asked_behind_other f None ts h k = asked_or_other f (if_somewhere (expanded_asked ts)) h
+
+asks_by_other : (header : Bool) (s : State) (line : List Token) (after : Option ℕ) (f : Fault) → s.left ≡ None → AsksBy header s line after (Err f) → f.number ≢ 35
+asks_by_other true s line after f is g = subst IsOtherOr (sym g.1) (asked_or_other (line_fault 30 line []) (if_somewhere (header_asked (operands line))) (λ e. absurd (omega arith)))
+asks_by_other false s line after f is g =
+    subst IsOtherOr (sym g.is) (asked_behind_other (line_fault 30 line []) g.expanded.fault g.expanded.tokens (λ e. absurd (omega arith)) (expansion_other is g.expands))
+
+pub asks_other : (s : State) (line : List Token) (after : Option ℕ) (f : Fault) → s.left ≡ None → Asks s line after (Err f) → f.number ≢ 35
+asks_other s line after f is g = asks_by_other (begins_with_header (operands line)) s line after f is g
+
+renumbered_other : (s : State) (r : LogicalLine) (o : Option Fault) (p : Option Presumed) → IsOther o → IsOther (renumbered_by s r o p).fault
+renumbered_other s r (Some f) p h = h
+renumbered_other s r None None h = λ e. absurd (omega arith)
+renumbered_other s r None (Some p) h = tt
+
+of_reached : {m n : Reached} → m ≡ n → IsOther n.fault → IsOther m.fault
+of_reached e h = subst (λ r. IsOther r.fault) (sym e) h
+
+pub control_by_other : (profile : Profile) (row : ℕ) (d : Option Directive) (s : State) (line : LogicalLine) (m : Reached) → s.left ≡ None → ControlBy profile row d s line m → IsOther m.fault
+control_by_other profile row (Some Null) s line m is g = of_reached g tt
+control_by_other profile row (Some Define) s line m is g =
+    of_reached g (macros_other s (after_define s.macros (sign_place line.tokens) (operands line.tokens)) (define_number s.macros (sign_place line.tokens) (operands line.tokens)))
+control_by_other profile row (Some Undef) s line m is g =
+    of_reached g (macros_other s (after_undef s.macros (sign_place line.tokens) (operands line.tokens)) (undef_number s.macros (sign_place line.tokens) (operands line.tokens)))
+control_by_other profile row (Some Line) s line m is g =
+    of_reached g.is (renumbered_other (with_left s g.expanded.left) line g.expanded.fault (presumed g.expanded.tokens) (expansion_other is g.expands))
+control_by_other profile row (Some Pragma) s line m is g = of_reached g tt
+control_by_other profile row (Some Unknown) s line m is g = of_reached g (λ e. absurd (omega arith))
+control_by_other profile row _ s line m is g = absurd g

@@ -1,0 +1,86 @@
+-- A walk over a text run.
+use Rattle.std.proofs.Common.{◌≡◌, ◌≢◌, ℕ, ◌+◌, ◌-◌, ◌<◌, List, [], ◌∷◌, ◌++◌, length, take, drop, refl, sym, ap, ◌∙◌, subst, arith, Option, None, Some}
+use Rattle.std.proofs.lemmas.List.{take_at}
+use Rattle.std.specs.List.{AllByRecursion}
+use Rattle.pptext.specs.declared.tokens.Fault.{Fault}
+use Rattle.pptext.specs.Lines.{LogicalLine}
+use Rattle.pptext.specs.Tree.{Parts, Done, Run, Control, Section, End, Branch, part_lines, branch_lines, BeginsRun, AreParts, role, role_by}
+use Rattle.ppunit.specs.declared.states.State.{State}
+use Rattle.ppunit.specs.States.{Surroundings, going}
+use Rattle.ppunit.specs.Group.{Group}
+use Rattle.ppunit.specs.Directives.{RunGives}
+use Rattle.ppunit.specs.Lines.{run_tokens}
+use Rattle.ppshelf.specs.Files.{Files}
+use Rattle.ppunit.specs.Walk.{line_at, Outer, lay, AreOuter, StandsAt, Advances, IsTextLine, IsRest}
+use Rattle.ppunit.proofs.FirstLine.{lay_run, text_directive, branches_differ, First, text, control, opening, ending}
+use Rattle.ppunit.proofs.Advancing.{ends_front, ends_stop, AdvancesFrom, advances, first_at, run_result}
+
+text_lines : (rs : List LogicalLine) → AllByRecursion (λ r. role r ≡ role_by None) rs → AllByRecursion IsTextLine rs
+text_lines [] all = tt
+text_lines (r ∷ rs) all = (text_directive r.directive all.0, text_lines rs all.1)
+
+no_text : (r : LogicalLine) → role r ≢ role_by None → ¬ IsTextLine r
+no_text r differs is = differs (ap role_by is)
+
+behind_run : (ps : Parts) (k : Outer) → AreParts ps → AreOuter k → (¬ BeginsRun ps) → IsRest (lay ps k)
+behind_run Done [] are outer alone = tt
+behind_run Done ((End r, qs) ∷ k) are outer alone =
+    no_text r (branches_differ (End r) outer.0.0 r (lay qs k) (lay qs k) outer.0.1 refl).not_text
+behind_run Done ((Branch r ps bs, qs) ∷ k) are outer alone =
+    no_text r (branches_differ (Branch r ps bs) outer.0.0 r (lay qs k) (part_lines ps ++ branch_lines bs ++ lay qs k) outer.0.1 refl).not_text
+behind_run (Run rs ps) k are outer alone = absurd (alone tt)
+behind_run (Control r ps) [] are outer alone = let is = are.0 in no_text r (λ h. cc)
+behind_run (Control r ps) ((bs, qs) ∷ k) are outer alone = let is = are.0 in no_text r (λ h. cc)
+behind_run (Section r ps cs rs) [] are outer alone = let is = are.0 in no_text r (λ h. cc)
+behind_run (Section r ps cs rs) ((bs, qs) ∷ k) are outer alone = let is = are.0 in no_text r (λ h. cc)
+
+abbrev pub RunOf : List LogicalLine → ℕ → ℕ → Type 0
+RunOf lines index end = (front rest : List LogicalLine) → drop index lines ≡ front ++ rest → AllByRecursion IsTextLine front → IsRest rest → (end ≡ index + length front) × (drop end lines ≡ rest)
+
+pub run_tokens_are : (lines front rest : List LogicalLine) (index end : ℕ) → drop index lines ≡ front ++ rest → end ≡ index + length front → take (end - index) (drop index lines) ≡ front
+run_tokens_are lines front rest index end e is =
+    let count : length front ≡ end - index = omega arith in
+    ap (take (end - index)) e ∙ take_at front rest (end - index) count
+
+run_by : (around : Files → Surroundings) (files : Files) (depth row : ℕ) (lines : List LogicalLine) (index end : ℕ) (s t : State) (f : Option Fault)
+    (ps : Parts) (k : Outer)
+    → role (line_at lines index) ≡ role_by None
+    → First (line_at lines index) ps k
+    → StandsAt lines index ps k
+    → RunOf lines index end
+    → RunGives s (run_tokens (take (end - index) (drop index lines))) (record { state = t; fault = f })
+    → (rs : List LogicalLine) × (qs : Parts) × (ps ≡ Run rs qs) × (drop end lines ≡ lay qs k) × RunGives s (run_tokens rs)
+    (record { state = t; fault = f })
+run_by around files depth row lines index end s t f (Run rs ps) k is (text same) stands run gives =
+    let there = stands.rest ∙ lay_run rs ps k in
+    let parts = stands.parts in
+    let over = run rs (lay ps k) there (text_lines rs parts.1) (behind_run ps k parts.3 stands.outer parts.2) in
+    (rs, ps, refl, over.1, subst (λ (z : List LogicalLine). RunGives s (run_tokens z) (record { state = t; fault = f })) (run_tokens_are lines rs (lay ps k) index end there over.0) gives)
+run_by around files depth row lines index end s t f ps k is (control same other) stands run gives = absurd (cc)
+run_by around files depth row lines index end s t f ps k is (opening same other) stands run gives = absurd (cc)
+run_by around files depth row lines index end s t f ps k is (ending differs) stands run gives = absurd (differs.not_text is)
+
+run_on : (around : Files → Surroundings) (files : Files) (depth row : ℕ) (lines : List LogicalLine) (index end : ℕ) (s t : State) (f : Option Fault)
+    (rs : List LogicalLine) (qs : Parts) (k : Outer)
+    → AreParts qs
+    → AreOuter k
+    → drop end lines ≡ lay qs k
+    → RunGives s (run_tokens rs) (record { state = t; fault = f })
+    → AdvancesFrom around files depth row lines s t (run_result end f) (Run rs qs) k
+run_on around files depth row lines index end s t None rs qs k are outer there gives =
+    (qs, k, record { rest = there; parts = are; outer = outer }, λ more grows last rest. ends_front (around more) depth row (going s) (going t) (Run rs qs) qs k last (λ o g. Group.run gives g) rest)
+run_on around files depth row lines index end s t (Some f) rs qs k are outer there gives =
+    λ more grows. ends_stop (around more) depth row (going s) t f (Run rs qs) k (Group.run gives Group.stays)
+
+pub run_advances : (around : Files → Surroundings) (files : Files) (depth row : ℕ) (lines : List LogicalLine) (index end : ℕ) (s t : State)
+    (f : Option Fault)
+    → index < length lines
+    → (line_at lines index).directive ≡ None
+    → RunOf lines index end
+    → RunGives s (run_tokens (take (end - index) (drop index lines))) (record { state = t; fault = f })
+    → Advances around files depth row lines index s t (run_result end f)
+run_advances around files depth row lines index end s t f within is run gives =
+    advances around files depth row lines index s t (run_result end f) (λ ps k stands.
+    let b = run_by around files depth row lines index end s t f ps k (ap role_by is) (first_at lines index ps k within stands) stands run gives in
+    let are = subst AreParts b.2 stands.parts in
+    subst (λ (z : Parts). AdvancesFrom around files depth row lines s t (run_result end f) z k) (sym b.2) (run_on around files depth row lines index end s t f b.0 b.1 k are.3 stands.outer b.3 b.4))
