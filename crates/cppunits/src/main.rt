@@ -19,7 +19,7 @@ use command_line::{Asked, Options};
 use ending::{status, words};
 use ppshelf::FolderDisk;
 use pptext::Hashing;
-use room::{keep_pages, reserve};
+use room::reserve;
 use serving::{RunFault, serve, serve_from};
 use std::hash::RandomState;
 use std::process::ExitCode;
@@ -46,7 +46,6 @@ fn main(rt: HostRuntime) -> ExitCode {
     if reserve(rt.alloc()).is_err() {
         return ended(&rt, &Err(RunFault::Memory));
     }
-    keep_pages(rt.alloc());
     let Options {
         mode,
         workers,

@@ -1,4 +1,4 @@
-// The room of the program: of its first stack, and of its heap.
+// The room of the program's first stack.
 use pptext::Memory;
 use std::alloc::Global;
 
@@ -6,10 +6,6 @@ const PAGE: usize = 4_096;
 
 // The deepest run takes 192 KB.
 const PAGES: usize = 48;
-
-// As large a block as the C library gives back to the system by itself, but for a page or two around it. Once such a one was given back, all
-// smaller ones come from the heap, and what is given back stays there for the next.
-const LARGE: usize = 32 * 1_024 * 1_024 - 8 * 1_024;
 
 // What the pages take together, and some more. So large a block has pages of its own, which the stack can have once it's given back.
 const ROOM: usize = 256 * 1_024;
@@ -32,10 +28,4 @@ pub fn reserve(alloc: Global) -> Result<(), Memory> {
     drop(room);
     let _ = touch(PAGES, &[0; PAGE]);
     Ok(())
-}
-
-/// Has the heap keep what is given back: pages that went back to the system would have to be asked for again, one by one. Where so large a
-/// block can't be had, nothing is lost but time.
-pub fn keep_pages(alloc: Global) {
-    let _ = Vec::<u8>::with_capacity(alloc, LARGE);
 }

@@ -7,7 +7,6 @@ mod gate;
 mod hand;
 mod keeping;
 mod laws;
-mod room;
 mod running;
 mod slots;
 mod workers;

@@ -8,7 +8,6 @@ ghost use Rattle.pppool.specs.Workers.{AreAnswers, AllAnswered, IsDone, answered
 use crate::desk::{Desk, DeskSeat};
 use crate::gate::Gate;
 use crate::keeping::{Keep, kept};
-use crate::room::grow;
 use ppshelf::{Disk, Pass, Shelf};
 use pptext::Memory;
 use ppunit::{Setting, Unit, UnitOut, growth, preprocess};
@@ -150,7 +149,6 @@ impl<'a, D: Disk> Worker<'a, D> {
         ensures { IfOk result (λ w. IsDone job.now.keep job.now.desk.now job.now.shelf.now job.now.setting.now
             job.now.units.now job.now.block w.seat w.pass w.answers.items) }
     {
-        grow(job.alloc);
         let mut worker = Worker {
             seat,
             pass: job.shelf.pass()?,
