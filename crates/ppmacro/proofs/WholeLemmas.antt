@@ -17,9 +17,9 @@ use Rattle.ppmacro.specs.Flying.{extended}
 use Rattle.ppmacro.specs.Lexing.{kind_of}
 use Rattle.ppmacro.specs.Substitution.{pasted, pasted_as}
 use Rattle.ppmacro.specs.Substituting.{IsWhole, EndsWhole}
-use Rattle.ppmacro.specs.Stops.{Answers}
+use Rattle.pptext.specs.Stops.{Answers}
 use Rattle.ppmacro.specs.declared.flying.Hidden.{Hidden}
-use Rattle.ppmacro.specs.declared.stops.Stop.{Stop}
+use Rattle.pptext.specs.declared.stops.Stop.{Stop}
 use Rattle.ppmacro.proofs.LexerLemmas.{kind_of_is}
 
 ok-same : {x y : Hiding} → ◌≡◌ {A = Result Hiding Fault} (Ok x) (Ok y) → x ≡ y

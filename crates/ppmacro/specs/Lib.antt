@@ -15,7 +15,6 @@ pub mod Headings
 pub mod Refusals
 pub mod Predefined
 pub mod Lexing
-pub mod Stops
 pub mod Substitution
 pub mod Substituting
 pub mod Flying

@@ -12,7 +12,6 @@ mod macros;
 mod marks;
 mod places;
 mod spellings;
-mod stops;
 mod substituting;
 mod tables;
 #[cfg(test)]

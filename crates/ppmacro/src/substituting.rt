@@ -4,7 +4,7 @@ ghost use Rattle.std.specs.FinSet as set;
 ghost use Rattle.ppmacro.specs.Numbered.{Numbered};
 ghost use Rattle.ppmacro.specs.HideSets.{set_at, IsKnown, hiding, hidings, AllKnown, Keeps};
 ghost use Rattle.ppmacro.specs.Substitution.{is_joined, chain_tokens, mark_first, with_mark, plain, chains_tokens, gained, substituted_by};
-ghost use Rattle.ppmacro.specs.Stops.{Answers};
+ghost use Rattle.pptext.specs.Stops.{Answers};
 ghost use Rattle.ppmacro.specs.Substituting.{ArgumentsKnown, arguments_in, marked_in, pushed, left_with, HasGained};
 
 mod joining;
@@ -21,8 +21,7 @@ pub use self::stringizing::{push_escaped, stringize};
 use crate::flying::{Expansion, Hidden};
 use crate::hide_sets::{HideSets, Set};
 use crate::macros::{Chain, Operand};
-use crate::stops::{Stop, settled};
-use pptext::{Fault, Memory, Place, Token};
+use pptext::{Fault, Memory, Place, Stop, Token, settled};
 use std::alloc::{AllocError, Global};
 
 // Whether `##` joins operands.

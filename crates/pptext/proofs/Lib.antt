@@ -24,6 +24,7 @@ pub mod LongestOf
 pub mod LastLine
 pub mod LoneQuotes
 pub mod Spans
+pub mod Stopping
 pub mod Directed
 pub mod Roles
 pub mod Faults

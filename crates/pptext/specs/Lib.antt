@@ -14,6 +14,7 @@ pub mod Tree
 pub mod Roles
 pub mod Guard
 pub mod Sources
+pub mod Stops
 pub mod Answers
 pub mod Finds
 pub mod Laws

@@ -14,6 +14,7 @@ mod punctuators;
 mod reading;
 mod scanning;
 mod sources;
+mod stops;
 mod texts;
 mod tokenizing;
 mod tokens;
@@ -27,4 +28,5 @@ pub use laws::{
 pub use reading::{read_source, relex};
 pub use scanning::carries_on;
 pub use sources::{Directive, LONGEST, Line, Profile, Source, SourceFault};
+pub use stops::{Stop, settled};
 pub use tokens::{Fault, Kind, Memory, Place, Spelling, Token, Tokens};

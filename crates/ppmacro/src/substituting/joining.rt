@@ -5,14 +5,13 @@ ghost use Rattle.pptext.specs.declared.tokens.Kind.TheVariants.{Ident, Number};
 ghost use Rattle.pptext.specs.Spellings.{is_ident_byte};
 ghost use Rattle.ppmacro.specs.HideSets.{hiding, hidings, IsKnown, AllKnown, Keeps};
 ghost use Rattle.ppmacro.specs.Substitution.{pasted, join, join_all};
-ghost use Rattle.ppmacro.specs.Stops.{Answers};
+ghost use Rattle.pptext.specs.Stops.{Answers};
 ghost use Rattle.ppmacro.specs.Substituting.{lists_of, ListsKnown, IsWhole, EndsWhole};
 
 use crate::flying::Hidden;
 use crate::hide_sets::HideSets;
-use crate::stops::Stop;
 use crate::substituting::pasting::pasted;
-use pptext::{Kind, Place, carries_on};
+use pptext::{Kind, Place, Stop, carries_on};
 use std::alloc::{AllocError, Global};
 
 /// Puts tokens behind others.

@@ -2,15 +2,14 @@
 ghost use Rattle.std.specs.Prelude.{◌≡◌, ◌++◌, IfOk, OnOk, [], ◌∷◌, map, Ok, unwrap_or};
 ghost use Rattle.ppmacro.specs.HideSets.{hidings, AllKnown};
 ghost use Rattle.ppmacro.specs.Substitution.{argument_at, expanded_at, plain, after_ok, stringized, operand_tokens, operands_tokens};
-ghost use Rattle.ppmacro.specs.Stops.{Answers};
+ghost use Rattle.pptext.specs.Stops.{Answers};
 ghost use Rattle.ppmacro.specs.Substituting.{lists_of, option_of, options_of, ArgumentsKnown, arguments_in, tokens_of, ListsKnown};
 
 use crate::flying::{Expansion, Hidden};
 use crate::hide_sets::HideSets;
 use crate::macros::Operand;
-use crate::stops::Stop;
 use crate::substituting::stringizing::stringized;
-use pptext::{Place, Token};
+use pptext::{Place, Stop, Token};
 use std::alloc::{AllocError, Global};
 
 // The tokens of an argument.

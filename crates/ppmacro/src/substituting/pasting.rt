@@ -3,14 +3,13 @@ ghost use Rattle.std.specs.Prelude.{◌≡◌, ◌++◌, IfOk};
 ghost use Rattle.ppmacro.specs.HideSets.{hiding, IsKnown, Keeps};
 ghost use Rattle.ppmacro.specs.Substitution.{pasted};
 ghost use Rattle.ppmacro.specs.Substituting.{hidden_in};
-ghost use Rattle.ppmacro.specs.Stops.{Answers};
+ghost use Rattle.pptext.specs.Stops.{Answers};
 
 use crate::flying::Hidden;
 use crate::hide_sets::HideSets;
 use crate::spellings::fault;
-use crate::stops::{Stop, settled};
 use crate::substituting::lexing::kind_of;
-use pptext::{Fault, Memory, Place, Spelling, Token};
+use pptext::{Fault, Memory, Place, Spelling, Stop, Token, settled};
 use std::alloc::{AllocError, Global};
 
 // Both spellings as one.

@@ -1,16 +1,15 @@
 // `#` (6.10.3.2).
 ghost use Rattle.std.specs.Prelude.{◌≡◌, ℕ, [], ◌∷◌, ◌++◌, take, IfOk, OnOk, OnErr};
 ghost use Rattle.ppmacro.specs.HideSets.{IsKnown, hiding};
-ghost use Rattle.ppmacro.specs.Stops.{Answers};
+ghost use Rattle.pptext.specs.Stops.{Answers};
 ghost use Rattle.ppmacro.specs.Substitution.{escaped, spelled_space, spelled_in_string, string_text, stringized};
 ghost use Rattle.ppmacro.specs.Substituting.{tokens_of, hidden_in};
 
 use crate::flying::Hidden;
 use crate::hide_sets::HideSets;
 use crate::spellings::fault;
-use crate::stops::{Stop, settled};
 use crate::substituting::lexing::kind_of;
-use pptext::{Fault, Kind, Memory, Place, Spelling, Token};
+use pptext::{Fault, Kind, Memory, Place, Spelling, Stop, Token, settled};
 use std::alloc::{AllocError, Global};
 
 // Puts a byte of a literal behind a text, with `\` before `"` and `\`. Where memory is refused, the text stays as it was.

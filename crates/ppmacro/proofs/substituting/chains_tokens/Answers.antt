@@ -2,7 +2,7 @@ use Rattle.std.proofs.Common.{◌≡◌, ◌∙◌, ◌+◌, refl, sym, ap, ◌�
 use Rattle.ppmacro.specs.HideSets.{hidings}
 use Rattle.ppmacro.specs.Substitution.{chain_tokens, chains_tokens}
 use Rattle.ppmacro.specs.Substituting.{marked_behind, pushed, arguments_in}
-use Rattle.ppmacro.proofs.StopLemmas.{stops}
+use Rattle.pptext.proofs.Stopping.{stops}
 use Rattle.ppmacro.proofs.KeepLemmas.{keeps-after}
 use Rattle.ppmacro.proofs.WalkLemmas.{drop-item, arguments-keeps, arguments-known, chains-pushed, chains-refused-pushed}
 use Rattle.ppmacro.proofs.substituting.chains_tokens.Goals as goal

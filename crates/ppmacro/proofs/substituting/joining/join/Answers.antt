@@ -5,7 +5,7 @@ use Rattle.ppmacro.specs.Substituting.{EndsWhole}
 use Rattle.std.proofs.lemmas.Bool.{eqb-true}
 use Rattle.std.proofs.lemmas.List.{take_rest}
 use Rattle.ppmacro.proofs.JoinLemmas.{split-first, no-first, join-nothing, join-pasted, join-refused, known-joined, known-last}
-use Rattle.ppmacro.proofs.StopLemmas.{stops}
+use Rattle.pptext.proofs.Stopping.{stops}
 use Rattle.ppmacro.proofs.WholeLemmas.{ends-whole}
 use Rattle.ppmacro.proofs.substituting.joining.join.Goals as goal
 

@@ -2,7 +2,7 @@ use Rattle.std.proofs.Common.{◌≡◌, ◌∙◌, ◌+◌, sym, ap, subst, ◌
 use Rattle.ppmacro.specs.HideSets.{hidings}
 use Rattle.ppmacro.specs.Substitution.{join, join_all}
 use Rattle.ppmacro.specs.Substituting.{lists_of, ListsKnown}
-use Rattle.ppmacro.proofs.StopLemmas.{stops}
+use Rattle.pptext.proofs.Stopping.{stops}
 use Rattle.ppmacro.proofs.KeepLemmas.{hidings-keeps, keeps-after}
 use Rattle.ppmacro.proofs.JoinLemmas.{lists-drop, join_all-more, join_all-refused}
 use Rattle.ppmacro.proofs.substituting.joining.join_all.Goals as goal

@@ -1,7 +1,7 @@
 use Rattle.std.proofs.Common.{◌≡◌, ◌∙◌, ap, subst, [], ◌∷◌, Ok, rules, map}
 use Rattle.ppmacro.specs.HideSets.{hidings}
 use Rattle.ppmacro.specs.Substitution.{after_ok, stringized}
-use Rattle.ppmacro.specs.Stops.{Answers}
+use Rattle.pptext.specs.Stops.{Answers}
 use Rattle.ppmacro.specs.Substituting.{tokens_of, options_of}
 use Rattle.ppmacro.proofs.JoinLemmas.{tokens-in, argument-in, expansion-in}
 use Rattle.ppmacro.proofs.substituting.operands.operand_tokens.Goals as goal

@@ -1,4 +1,5 @@
-use Rattle.ppmacro.proofs.StopLemmas.{settled-is, settled-if_ok}
+use Rattle.pptext.proofs.Stopping.{settled-if_ok}
+use Rattle.ppmacro.proofs.StopLemmas.{settled-is}
 use Rattle.ppmacro.proofs.substituting.pasting.paste.Goals as goal
 
 pub returns-clause-is : goal.returns-clause-is

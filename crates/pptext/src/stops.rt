@@ -1,14 +1,14 @@
 // Why a step gives no value.
 ghost use Rattle.std.specs.Prelude.{◌≡◌};
-ghost use Rattle.ppmacro.specs.Stops.{settled};
-ghost use Rattle.ppmacro.specs.declared.stops.Stop.TheVariants.{Memory as OutOfMemory};
+ghost use Rattle.pptext.specs.Stops.{settled};
+ghost use Rattle.pptext.specs.declared.stops.Stop.TheVariants.{Memory as OutOfMemory};
 
-use pptext::{Fault, Memory};
+use crate::tokens::{Fault, Memory};
 use std::alloc::AllocError;
 
 /// Why a step gives no value: a fault of the source, or want of memory.
 #[derive(Drop)]
-pub(crate) enum Stop {
+pub enum Stop {
     Fault(Fault),
     Memory,
 }
@@ -29,8 +29,8 @@ impl From<Memory> for Stop {
     }
 }
 
-/// What the public calls answer.
-pub(crate) fn settled<T>(outcome: Result<T, Stop>) -> Result<Result<T, Fault>, Memory>
+/// A fault as part of the answer, and want of memory as its error: what public calls answer.
+pub fn settled<T>(outcome: Result<T, Stop>) -> Result<Result<T, Fault>, Memory>
     ensures { result ≡ settled outcome }
 {
     match outcome {
