@@ -1,12 +1,10 @@
 -- Tokens that pass in a row.
-use Rattle.std.proofs.Common.{◌≡◌, ℕ, zero, suc, ◌≤◌, Bool, true, false, not, ◌&&◌, List, [], ◌∷◌, ◌++◌, map, Option, Some, None, is_some, refl, sym, ap, ◌∙◌, subst, arith, append_assoc, append-nil, true≢false, if◌then◌else◌}
+use Rattle.std.proofs.Common.{◌≡◌, ℕ, zero, suc, ◌≤◌, Bool, true, false, not, ◌&&◌, List, [], ◌∷◌, ◌++◌, map, Option, Some, None, is_some, refl, sym, ap, ◌∙◌, subst, arith, append_assoc, append-nil, true≢false}
 use Rattle.std.specs.FinSet as set
-use Rattle.std.specs.FinMap as table
 use Rattle.std.specs.List.{AllByRecursion}
 use Rattle.std.proofs.lemmas.List.{map-append}
 use Rattle.pptext.specs.declared.tokens.Token.{Token}
 use Rattle.ppmacro.specs.Names.{Macros}
-use Rattle.ppmacro.specs.Spellings.{is_identifier}
 use Rattle.ppmacro.specs.Numbered.{Numbered}
 use Rattle.ppmacro.specs.HideSets.{set_at, IsKnown, Hiding, hiding, hidings, AllKnown}
 use Rattle.ppmacro.specs.Substitution.{plain}
@@ -18,7 +16,7 @@ use Rattle.ppexpand.specs.Arguments.{is_lone_quote}
 use Rattle.ppexpand.specs.Turn.{Passes, macro_of, turn, within}
 use Rattle.ppexpand.specs.Expansion.{Outcome, turn_within, Expands, ExpandsTo, IsExpansion, passes, done, ended}
 use Rattle.ppexpand.specs.declared.expansion.Expanded.{Expanded}
-use Rattle.ppexpand.specs.Lists.{with_set, is_plain, is_inert, ArePlain}
+use Rattle.ppexpand.specs.Lists.{with_set, is_plain, ArePlain}
 use Rattle.ppexpand.specs.Skipping.{HasSkipped}
 use Rattle.ppexpand.proofs.TurnLemmas.{turn-unnamed, passes-within}
 use Rattle.ppexpand.proofs.Total.{total}
@@ -67,13 +65,8 @@ skipped-on macros list passed next more last all h k = record {
   plain = plain-append macros h.skipped k.skipped h.plain k.plain;
 }
 
-inert-plain : (macros : Macros) (t : Token) → is_inert t ≡ true → is_plain macros t ≡ true
-inert-plain macros t h =
-    let parts = both_false (is_lone_quote t) (is_identifier t) h in
-    (λ i. not (parts.0 i) && not (is_some (if parts.1 i then table.get macros t.text else None)))
-
-pub skipped-one : (macros : Macros) (h : Hidden) (list next passed : List Hidden) → list ≡ h ∷ next → is_inert h.token ≡ true → HasSkipped macros list passed next (passed ++ h ∷ [])
-skipped-one macros h list next passed is inert = record { skipped = h ∷ []; laid_out = is; passes = refl; plain = record { each = (inert-plain macros h.token inert, tt) } }
+pub skipped-one : (macros : Macros) (h : Hidden) (list next passed : List Hidden) → list ≡ h ∷ next → is_plain macros h.token ≡ true → HasSkipped macros list passed next (passed ++ h ∷ [])
+skipped-one macros h list next passed is plain = record { skipped = h ∷ []; laid_out = is; passes = refl; plain = record { each = (plain, tt) } }
 
 module _ (macros : Macros) (env : Env) (level : ℕ) (left : Option ℕ) (s : Numbered) where
   skips : (hs rest : List Hidden) → ArePlain macros hs → (n : ℕ) (out : Outcome) → Expands macros env level left n (hidings s rest) out

@@ -1,10 +1,10 @@
 -- Lists of tokens in flight, by their parts: what the code says of its own lists. No definition rests on this file.
-use Rattle.std.specs.Prelude.{◌≡◌, ℕ, Bool, true, false, not, ◌&&◌, List, [], ◌∷◌, is_some}
+use Rattle.std.specs.Prelude.{◌≡◌, ℕ, Bool, true, false, not, ◌&&◌, List, [], ◌∷◌, Option, None, is_some}
 use Rattle.std.specs.List.{AllByRecursion}
 use Rattle.pptext.specs.declared.tokens.Token.{Token}
 use Rattle.ppmacro.specs.Names.{Macros}
-use Rattle.ppmacro.specs.Spellings.{is_identifier}
 use Rattle.ppmacro.specs.declared.flying.Hidden.{Hidden}
+use Rattle.ppmacro.specs.declared.macros.Definition.{Definition}
 use Rattle.ppexpand.specs.Arguments.{is_lone_quote}
 use Rattle.ppexpand.specs.Turn.{macro_of}
 
@@ -26,6 +26,7 @@ is_plain macros t = not (is_lone_quote t) && not (is_some (macro_of macros t))
 pub record ArePlain (macros : Macros) (hs : List Hidden) : Type 0 where
   pub each : AllByRecursion (λ h. is_plain macros h.token ≡ true) hs
 
--- neither an identifier nor a lone quote: it passes, whatever the macros are
-abbrev pub is_inert : Token → Bool
-is_inert t = not (is_lone_quote t) && not (is_identifier t)
+-- the macro that the next token names
+abbrev pub next_macro : Macros → List Token → Option Definition
+next_macro macros [] = None
+next_macro macros (t ∷ ts) = macro_of macros t

@@ -1,13 +1,17 @@
 // The list that is being expanded.
-ghost use Rattle.std.specs.Prelude.{◌≡◌, ◌∷◌, [], ◌++◌, true, MatchOption, OnOk};
+ghost use Rattle.std.specs.Prelude.{◌≡◌, ◌∷◌, [], ◌++◌, true, Some, MatchOption, OnOk};
+ghost use Rattle.std.specs.Option.{option_copied};
 ghost use Rattle.ppmacro.specs.Numbered.{Numbered};
 ghost use Rattle.ppmacro.specs.HideSets.{hidings, AllKnown};
+ghost use Rattle.ppmacro.specs.Substituting.{tokens_of};
 ghost use Rattle.ppexpand.specs.Turn.{mark_next};
-ghost use Rattle.ppexpand.specs.Lists.{marked, is_inert, ArePlain};
+ghost use Rattle.ppexpand.specs.Lists.{marked, is_plain, next_macro, ArePlain};
+ghost use Rattle.ppexpand.specs.Skipping.{IsAhead};
 
-use crate::spellings::is_inert;
+use crate::spellings::is_lone_quote;
 use crate::stretch::Stretch;
-use ppmacro::{Hidden, Table};
+use crate::turn::macro_at;
+use ppmacro::{Hidden, Macro, Table};
 use std::alloc::{AllocError, Global};
 use std::marker::Model;
 
@@ -31,6 +35,17 @@ impl<'a> Model for Cursor<'a> {
     ghost use Rattle.ppexpand.specs.Lists.{marked};
 
     ghost view = { λ c. reverse c.behind.items ++ marked c.pending c.below };
+}
+
+/// What stands next in a list.
+#[derive(Drop)]
+pub(crate) enum Ahead<'t, 'x, 'a> {
+    /// A token that passes, which is taken out.
+    Passes(Hidden<'x>),
+    /// The name of a macro.
+    Names(&'t Macro<'a>),
+    /// It was not looked at, or it is a lone quote.
+    Unknown,
 }
 
 impl<'a> Cursor<'a> {
@@ -110,26 +125,40 @@ impl<'a> Cursor<'a> {
         self.pending = true;
     }
 
-    /// The next token, taken out, where it is one of those that were put before the others and neither an identifier nor a lone quote.
-    pub(crate) fn next_inert(&mut self) -> Option<Hidden<'a>>
-        ensures { MatchOption result (self.new ≡ self.old) (λ h. (self.old ≡ h ∷ self.new) × (is_inert h.token ≡ true)) }
+    /// The next token, taken out, where it passes and is one of those that were put before the others; or the macro that it names.
+    pub(crate) fn next_plain<'t, 'b>(&mut self, table: &'t Table<'b>) -> Ahead<'t, 'a, 'b>
+        ensures { IsAhead table.now self.old self.new result }
     {
         let Some(last) = self.behind.last() else {
-            return None;
+            return Ahead::Unknown;
         };
-        if !is_inert(last) {
-            return None;
+        let token = last.word();
+        if let Some(named) = macro_at(table, token) {
+            return Ahead::Names(named);
         }
-        self.behind.pop()
+        if is_lone_quote(token) {
+            return Ahead::Unknown;
+        }
+        match self.behind.pop() {
+            Some(hidden) => Ahead::Passes(hidden),
+            None => Ahead::Unknown,
+        }
     }
 
-    /// Takes out tokens of the file that pass, where they are next.
-    pub(crate) fn take_plain(&mut self, table: &Table) -> Stretch<'a>
-        ensures laid_out { self.old ≡ result ++ self.new }
-        ensures plain { ArePlain table.now result }
+    /// Takes out tokens of the file that pass, where they are next. The macro that is named behind them, if the token there names one.
+    pub(crate) fn take_plain<'t, 'b>(
+        &mut self,
+        table: &'t Table<'b>,
+    ) -> (Stretch<'a>, Option<&'t Macro<'b>>)
+        ensures laid_out { self.old ≡ result.0 ++ self.new }
+        ensures plain { ArePlain table.now result.0 }
+        ensures named { option_copied result.1 ≡ next_macro table.now (tokens_of self.new) }
     {
-        if self.pending || !self.behind.is_empty() {
-            return self.below.none();
+        if let Some(last) = self.behind.last() {
+            return (self.below.none(), macro_at(table, last.word()));
+        }
+        if self.pending {
+            return (self.below.none(), self.below.next_macro(table));
         }
         self.below.take_plain(table)
     }

@@ -1,27 +1,28 @@
 // The expansion of a list.
 ghost use Rattle.std.specs.Prelude.{◌≡◌, ℕ, ◌≤◌, ◌++◌, ◌∷◌, [], List, map, true, Some, None, Ok, Err, IfOk, OnOk, MatchOption, IfSome};
 ghost use Rattle.ppmacro.specs.Chains.{chains_of};
-ghost use Rattle.ppmacro.specs.Names.{Macros};
+ghost use Rattle.std.specs.Option.{option_copied};
 ghost use Rattle.ppmacro.specs.Numbered.{Numbered};
+ghost use Rattle.ppmacro.specs.Substituting.{tokens_of};
 ghost use Rattle.ppmacro.specs.HideSets.{hidings, AllKnown, Keeps};
 ghost use Rattle.ppmacro.specs.Define.{fault as fault_at};
 ghost use Rattle.ppmacro.specs.declared.flying.Hidden.{Hidden};
 ghost use Rattle.ppexpand.specs.Turn.{wanted};
 ghost use Rattle.ppexpand.specs.Expansion.{ExpandsTo, ExpandsArguments, IsExpansion};
-ghost use Rattle.ppexpand.specs.Lists.{ArePlain};
+ghost use Rattle.ppexpand.specs.Lists.{ArePlain, next_macro};
 ghost use Rattle.ppexpand.specs.Skipping.{HasSkipped};
 ghost use Rattle.ppexpand.specs.Shown.{expanded_in, ExpansionsKnown, call_in, CallKnown, finished_in, Raises, held, ExpandsArgument, HasExpanded};
 ghost use Rattle.ppexpand.specs.Shown.{Invokes, HasTaken, HasCalled};
 
 use crate::alone::used_alone;
-use crate::cursor::Cursor;
+use crate::cursor::{Ahead, Cursor};
 use crate::env::Env;
 use crate::passed::{Passed, Run};
 use crate::spellings::at_use;
 use crate::spending::less_one;
 use crate::stretch::{Stretch, is_plain, split_plain};
 use crate::turn::{Invocation, Next, finish, next_turn};
-use ppmacro::{Chain, Expansion, Hidden, HideSets, Table};
+use ppmacro::{Chain, Expansion, Hidden, HideSets, Macro, Table};
 use pptext::{Fault, Memory, Token};
 use std::alloc::{AllocError, Global};
 
@@ -42,24 +43,40 @@ fn push_expansion<'a>(
     Ok(())
 }
 
-/// Passes tokens in flight that are neither identifiers nor lone quotes, where they are next.
-fn skip_inert<'a>(list: &mut Cursor<'a>, passed: &mut Passed<'a>) -> Result<(), AllocError>
-    ensures { OnOk result ((macros : Macros) → HasSkipped macros list.old passed.old list.new passed.new) }
+/// Passes tokens in flight, where they are next. The macro that is named behind them, where a token in flight names one.
+fn skip_flying<'t, 'x, 'a>(
+    table: &'t Table<'a>,
+    list: &mut Cursor<'x>,
+    passed: &mut Passed<'x>,
+) -> Result<Option<&'t Macro<'a>>, AllocError>
+    ensures skipped { OnOk result (HasSkipped table.now list.old passed.old list.new passed.new) }
+    ensures named { IfOk result (λ r. IfSome r (λ m. Some m.now ≡ next_macro table.now (tokens_of list.new))) }
 {
-    while let Some(hidden) = list.next_inert() {
-        passed.push(hidden)?;
+    loop {
+        match list.next_plain(table) {
+            Ahead::Passes(hidden) => passed.push(hidden)?,
+            Ahead::Names(named) => return Ok(Some(named)),
+            Ahead::Unknown => return Ok(None),
+        }
     }
-    Ok(())
 }
 
-/// Passes tokens that name no macro, where they are next.
+/// Passes tokens that name no macro, where they are next. The macro that is named behind them, if the token there names one.
 #[inline(never)]
-fn skip<'a>(table: &Table, list: &mut Cursor<'a>, passed: &mut Passed<'a>) -> Result<(), AllocError>
-    ensures { OnOk result (HasSkipped table.now list.old passed.old list.new passed.new) }
+fn skip<'t, 'x, 'a>(
+    table: &'t Table<'a>,
+    list: &mut Cursor<'x>,
+    passed: &mut Passed<'x>,
+) -> Result<Option<&'t Macro<'a>>, AllocError>
+    ensures skipped { OnOk result (HasSkipped table.now list.old passed.old list.new passed.new) }
+    ensures named { IfOk result (λ r. option_copied r ≡ next_macro table.now (tokens_of list.new)) }
 {
-    skip_inert(list, passed)?;
-    passed.extend(list.take_plain(table))?;
-    Ok(())
+    if let Some(named) = skip_flying(table, list, passed)? {
+        return Ok(Some(named));
+    }
+    let (stretch, named) = list.take_plain(table);
+    passed.extend(stretch)?;
+    Ok(named)
 }
 
 /// Whether each of these tokens passes, whatever its hide set is.
@@ -84,7 +101,7 @@ fn raise_depth(head: &Hidden, fault: &mut Option<Fault>) -> Result<(), AllocErro
     Ok(())
 }
 
-/// Takes the next turn of a list, up to an invocation of a function-like macro: that becomes `call`, and is still to be followed. What
+/// Takes the next turn of a list, whose next token names the macro `named`, up to an invocation of a function-like macro: that becomes `call`, and is still to be followed. What
 /// passes is put behind `passed`, the list becomes what is behind it, and `left` what is left of the budget. Whether the list goes on; where
 /// a fault ended it, `fault` becomes that.
 #[inline(never)]
@@ -94,11 +111,13 @@ fn take_turn<'t, 'x, 'a: 'x>(
     env: &Env,
     left: &mut Option<u64>,
     sets: &mut HideSets,
+    named: Option<&'t Macro<'a>>,
     list: &mut Cursor<'x>,
     passed: &mut Passed<'x>,
     fault: &mut Option<Fault>,
     call: &mut Option<Invocation<'t, 'x, 'a>>,
 ) -> Result<bool, Memory>
+    requires named { option_copied named ≡ next_macro table.now (tokens_of list.old) }
     requires no_fault { fault.old ≡ None }
     requires no_call { call.old ≡ None }
     requires list_known { AllKnown sets.old list.old }
@@ -113,7 +132,7 @@ fn take_turn<'t, 'x, 'a: 'x>(
     ensures passed_known { OnOk result (AllKnown sets.new passed.new) }
     ensures keeps { Keeps sets.old sets.new }
 {
-    match next_turn(alloc, table, env, *left, sets, list)? {
+    match next_turn(alloc, table, env, *left, sets, named, list)? {
         Next::Done => Ok(false),
         Next::Refused(found) => {
             *fault = Some(found);
@@ -270,21 +289,23 @@ fn follow<'x, 'a: 'x>(
     finish(alloc, sets, call, chains, expanded.as_slice(), list, fault)
 }
 
-/// One turn: what passes is put behind `passed`, the list becomes what is behind it, and `left` what is left of the budget. Whether the list
+/// One turn, of a list whose next token names the macro `named`: what passes is put behind `passed`, the list becomes what is behind it, and `left` what is left of the budget. Whether the list
 /// goes on; where a fault ended it, `fault` becomes that.
 #[cycle(expansion)]
-fn advance<'x, 'a: 'x>(
+fn advance<'t, 'x, 'a: 'x>(
     alloc: Global,
-    table: &Table<'a>,
+    table: &'t Table<'a>,
     env: &Env,
     level: u32,
     left: &mut Option<u64>,
     sets: &mut HideSets,
+    named: Option<&'t Macro<'a>>,
     list: &mut Cursor<'x>,
     passed: &mut Passed<'x>,
     fault: &mut Option<Fault>,
 ) -> Result<bool, Memory>
     requires level { level ≤ 256 }
+    requires named { option_copied named ≡ next_macro table.now (tokens_of list.old) }
     requires list_known { AllKnown sets.old list.old }
     requires passed_known { AllKnown sets.old passed.old }
     requires no_fault { fault.old ≡ None }
@@ -297,7 +318,7 @@ fn advance<'x, 'a: 'x>(
 {
     let mut call = None;
     let goes = take_turn(
-        alloc, table, env, left, sets, list, passed, fault, &mut call,
+        alloc, table, env, left, sets, named, list, passed, fault, &mut call,
     )?;
     let Some(call) = &call else {
         return Ok(goes);
@@ -330,8 +351,10 @@ fn expand_list<'x, 'a: 'x>(
     ensures keeps { Keeps sets.old sets.new }
 {
     loop {
-        skip(table, list, passed)?;
-        if !advance(alloc, table, env, level, left, sets, list, passed, fault)? {
+        let named = skip(table, list, passed)?;
+        if !advance(
+            alloc, table, env, level, left, sets, named, list, passed, fault,
+        )? {
             return Ok(());
         }
     }

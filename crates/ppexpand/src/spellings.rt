@@ -2,7 +2,6 @@
 ghost use Rattle.std.specs.Prelude.{◌≡◌, IfOk, []};
 ghost use Rattle.ppmacro.specs.Define.{fault};
 ghost use Rattle.ppexpand.specs.Arguments.{is_lone_quote, is_open, mark_of};
-ghost use Rattle.ppexpand.specs.Lists.{is_inert};
 ghost use Rattle.ppexpand.specs.Shown.{shown_mark};
 
 use ppmacro::{Hidden, is_identifier, is_punct};
@@ -69,14 +68,6 @@ pub(crate) fn is_quote(hidden: &Hidden) -> bool
     ensures { result ≡ is_lone_quote hidden.now.token }
 {
     is_lone_quote(hidden.word())
-}
-
-/// Whether a token in flight is neither an identifier nor a lone quote: it passes, whatever the macros are.
-pub(crate) fn is_inert(hidden: &Hidden) -> bool
-    ensures { result ≡ is_inert hidden.now.token }
-{
-    let token = hidden.word();
-    !is_lone_quote(token) && !is_identifier(token)
 }
 
 /// A fault with this token's spelling.

@@ -1,12 +1,13 @@
 // Stretches of a file's tokens.
 ghost use Rattle.std.specs.Prelude.{◌≡◌, ◌≤◌, ◌∷◌, ◌++◌, [], map, take, drop, length, true, MatchOption};
 ghost use Rattle.std.specs.List.{AllByRecursion};
+ghost use Rattle.std.specs.Option.{option_copied};
 ghost use Rattle.ppmacro.specs.Substituting.{tokens_of};
-ghost use Rattle.ppexpand.specs.Lists.{with_set, is_plain, ArePlain};
+ghost use Rattle.ppexpand.specs.Lists.{with_set, is_plain, next_macro, ArePlain};
 
 use crate::spellings::is_lone_quote;
 use crate::turn::macro_at;
-use ppmacro::{Hidden, Set, Table};
+use ppmacro::{Hidden, Macro, Set, Table};
 use pptext::Token;
 use std::marker::Model;
 
@@ -35,17 +36,19 @@ pub(crate) fn is_plain(table: &Table, token: &Token) -> bool
     !is_lone_quote(token) && macro_at(table, token).is_none()
 }
 
-// How many tokens pass, from the first on.
-fn plain_len(table: &Table, tokens: &[Token]) -> usize
-    ensures within { result ≤ length tokens.now }
-    ensures plain { AllByRecursion (λ t. is_plain table.now t ≡ true) (take result tokens.now) }
+// How many tokens pass, from the first on, and the macro that the one behind them names.
+fn plain_len<'t, 'b>(table: &'t Table<'b>, tokens: &[Token]) -> (usize, Option<&'t Macro<'b>>)
+    ensures within { result.0 ≤ length tokens.now }
+    ensures plain { AllByRecursion (λ t. is_plain table.now t ≡ true) (take result.0 tokens.now) }
+    ensures named { option_copied result.1 ≡ next_macro table.now (drop result.0 tokens.now) }
 {
     for (count, token) in tokens.iter().enumerate() {
-        if !is_plain(table, token) {
-            return count;
+        let named = macro_at(table, token);
+        if named.is_some() || is_lone_quote(token) {
+            return (count, named);
         }
     }
-    tokens.len()
+    (tokens.len(), None)
 }
 
 /// The tokens that pass, up to the first that may not, and those behind them.
@@ -53,7 +56,8 @@ pub(crate) fn split_plain<'x>(table: &Table, tokens: &'x [Token]) -> (&'x [Token
     ensures laid_out { tokens.now ≡ result.0.now ++ result.1.now }
     ensures plain { AllByRecursion (λ t. is_plain table.now t ≡ true) result.0.now }
 {
-    tokens.split_at(plain_len(table, tokens))
+    let (count, _) = plain_len(table, tokens);
+    tokens.split_at(count)
 }
 
 impl<'a> Stretch<'a> {
@@ -100,16 +104,29 @@ impl<'a> Stretch<'a> {
         }
     }
 
-    /// The tokens that pass, up to the first that may not, taken out.
-    pub(crate) fn take_plain(&mut self, table: &Table) -> Stretch<'a>
-        ensures laid_out { self.old ≡ result ++ self.new }
-        ensures plain { ArePlain table.now result }
+    /// The macro that the first token names.
+    pub(crate) fn next_macro<'t, 'b>(&self, table: &'t Table<'b>) -> Option<&'t Macro<'b>>
+        ensures { option_copied result ≡ next_macro table.now (tokens_of self.now) }
     {
-        let (front, rest) = split_plain(table, self.tokens);
+        macro_at(table, self.tokens.first()?)
+    }
+
+    /// The tokens that pass, up to the first that may not, taken out, and the macro that this one names.
+    pub(crate) fn take_plain<'t, 'b>(
+        &mut self,
+        table: &'t Table<'b>,
+    ) -> (Stretch<'a>, Option<&'t Macro<'b>>)
+        ensures laid_out { self.old ≡ result.0 ++ self.new }
+        ensures plain { ArePlain table.now result.0 }
+        ensures named { option_copied result.1 ≡ next_macro table.now (tokens_of self.new) }
+    {
+        let (count, named) = plain_len(table, self.tokens);
+        let (front, rest) = self.tokens.split_at(count);
         self.tokens = rest;
-        Stretch {
+        let passing = Stretch {
             tokens: front,
             hide: self.hide,
-        }
+        };
+        (passing, named)
     }
 }

@@ -4,7 +4,7 @@ ghost use Rattle.std.specs.Option.{option_copied};
 ghost use Rattle.std.specs.FinSet as set;
 ghost use Rattle.ppmacro.specs.Numbered.{Numbered};
 ghost use Rattle.ppmacro.specs.HideSets.{set_at, IsKnown, hiding, hidings, AllKnown, Keeps};
-ghost use Rattle.ppmacro.specs.Substituting.{ArgumentsKnown, arguments_in};
+ghost use Rattle.ppmacro.specs.Substituting.{ArgumentsKnown, arguments_in, tokens_of};
 ghost use Rattle.ppmacro.specs.Chains.{chains_of};
 ghost use Rattle.ppmacro.specs.Substitution.{substituted, substituted_by};
 ghost use Rattle.ppexpand.specs.Arguments.{gather, separators};
@@ -12,6 +12,7 @@ ghost use Rattle.ppexpand.specs.declared.env.Env.{Env};
 ghost use Rattle.ppexpand.specs.Turn.{Replaced, macro_of, replaced_by, no_arguments, predefined_value, called, invoked, function_turn, macro_turn};
 ghost use Rattle.ppexpand.specs.Turn.{within, finished};
 ghost use Rattle.ppexpand.specs.Expansion.{turn_within};
+ghost use Rattle.ppexpand.specs.Lists.{next_macro};
 ghost use Rattle.ppexpand.specs.Shown.{expanded_in, fitting_in, FittingKnown, ExpansionsKnown, call_in, CallKnown, turn_in, NextKnown, replaced_in};
 ghost use Rattle.ppexpand.specs.Shown.{finished_in};
 
@@ -56,14 +57,8 @@ pub(crate) enum Next<'t, 'x, 'a> {
     Called(Invocation<'t, 'x, 'a>),
 }
 
-/// The macro that a token in flight names.
-fn macro_of<'t, 'a>(table: &'t Table<'a>, head: &Hidden) -> Option<&'t Macro<'a>>
-    ensures { option_copied result ≡ macro_of table.now head.now.token }
-{
-    macro_at(table, head.word())
-}
-
 /// The macro that a token names.
+#[inline(always)]
 pub(crate) fn macro_at<'t, 'a>(table: &'t Table<'a>, token: &Token) -> Option<&'t Macro<'a>>
     ensures { option_copied result ≡ macro_of table.now token.now }
 {
@@ -306,28 +301,31 @@ fn spent_turn<'t, 'x, 'a: 'x>(
     Ok(Next::Passes(head))
 }
 
-/// Takes the next token of a list, and what belongs to its invocation; a replacement is put before the rest. Where nothing is
-/// left of the budget, a name that is to be replaced is refused.
+/// Takes the next token of a list, which names the macro `named`, and what belongs to its invocation; a replacement is put before
+/// the rest. Where nothing is left of the budget, a name that is to be replaced is refused.
 pub(crate) fn next_turn<'t, 'x, 'a: 'x>(
     alloc: Global,
-    table: &'t Table<'a>,
+    table: &Table<'a>,
     env: &Env,
     left: Option<u64>,
     sets: &mut HideSets,
+    named: Option<&'t Macro<'a>>,
     list: &mut Cursor<'x>,
 ) -> Result<Next<'t, 'x, 'a>, Memory>
-    requires { AllKnown sets.old list.old }
+    requires named { option_copied named ≡ next_macro table.now (tokens_of list.old) }
+    requires known { AllKnown sets.old list.old }
     ensures is { IfOk result (λ n. turn_in sets.new list.new n ≡ turn_within table.now env.now left (hidings sets.old list.old)) }
     ensures known { IfOk result (λ n. NextKnown sets.new list.new n) }
     ensures keeps { Keeps sets.old sets.new }
 {
+    let _macros = table;
     let Some(head) = list.next() else {
         return Ok(Next::Done);
     };
     if is_quote(&head) {
         return Ok(Next::Refused(lone_quote(&head)?));
     }
-    let Some(replaced) = macro_of(table, &head) else {
+    let Some(replaced) = named else {
         return Ok(Next::Passes(head));
     };
     if sets.has(head.hide(), head.text()) {

@@ -298,8 +298,8 @@ expand_arguments-returns-clause-is m c =
 
 -- ---- a list
 
-pub expand_list-loop-alloc-init : goal.expand_list-loop-alloc-init
-expand_list-loop-alloc-init m c = record {
+pub expand_list-loop-named-init : goal.expand_list-loop-named-init
+expand_list-loop-named-init m c = record {
   low = c.requires.level;
   list_known = c.requires.known;
   passed_known = rw c.requires.none (record { each = tt });
@@ -309,42 +309,40 @@ expand_list-loop-alloc-init m c = record {
 }
 
 pub expand_list-advance-requires : goal.expand_list-advance-requires
-expand_list-advance-requires m c = (
-  omega arith,
-  (
-    c.loop-alloc.invariant.low,
-    (
-      next-known c.loop-alloc.sets _ _ _ _ c.in_ok-skip.ensures c.loop-alloc.invariant.list_known,
-      (more-known c.loop-alloc.sets _ _ _ _ c.in_ok-skip.ensures c.loop-alloc.invariant.list_known c.loop-alloc.invariant.passed_known, c.loop-alloc.invariant.no_fault),
-    ),
-  ),
-)
+expand_list-advance-requires m c =
+    let sets = c.loop-named.sets in
+    let skipped = c.in_ok-named.ensures.skipped in
+    let list_known = next-known sets _ _ _ _ skipped c.loop-named.invariant.list_known in
+    let passed_known = more-known sets _ _ _ _ skipped c.loop-named.invariant.list_known c.loop-named.invariant.passed_known in (
+      omega arith,
+      (c.loop-named.invariant.low, (c.in_ok-named.ensures.named, (list_known, (passed_known, c.loop-named.invariant.no_fault)))),
+    )
 
 pub expand_list-returns-then-not-branch-clause-outcome : goal.expand_list-returns-then-not-branch-clause-outcome
 expand_list-returns-then-not-branch-clause-outcome m c =
     let end = rw c.if-not-branch.true at c.in_ok-advance.ensures.on in
-    let here = follows_skip c.args.table.now c.args.env.now c.args.level c.loop-alloc.left c.loop-alloc.sets c.args.left.now (hidings c.args.sets.now c.args.list.now) _ _ _ _ c.in_ok-skip.ensures c.loop-alloc.invariant.follows in
+    let here = follows_skip c.args.table.now c.args.env.now c.args.level c.loop-named.left c.loop-named.sets c.args.left.now (hidings c.args.sets.now c.args.list.now) _ _ _ _ c.in_ok-named.ensures.skipped c.loop-named.invariant.follows in
     subst (λ ts. ExpandsTo c.args.table.now c.args.env.now c.args.level c.args.left.now (hidings c.args.sets.now c.args.list.now) (record { tokens = ts; fault = c.advance.new.fault; left = c.advance.new.left })) (sym end.1)
     (follows_end c.args.table.now c.args.env.now c.args.level c.args.left.now (hidings c.args.sets.now c.args.list.now) _ _ _ c.advance.new.fault _ here end.0)
 
-pub expand_list-loop-alloc-preserved : goal.expand_list-loop-alloc-preserved
-expand_list-loop-alloc-preserved m c =
+pub expand_list-loop-named-preserved : goal.expand_list-loop-named-preserved
+expand_list-loop-named-preserved m c =
     let taken = rw c.if-not-branch.false at c.in_ok-advance.ensures.on in
     let step = taken.1 in
-    let here = follows_skip c.args.table.now c.args.env.now c.args.level c.loop-alloc.left c.loop-alloc.sets c.args.left.now (hidings c.args.sets.now c.args.list.now) _ _ _ _ c.in_ok-skip.ensures c.loop-alloc.invariant.follows in
+    let here = follows_skip c.args.table.now c.args.env.now c.args.level c.loop-named.left c.loop-named.sets c.args.left.now (hidings c.args.sets.now c.args.list.now) _ _ _ _ c.in_ok-named.ensures.skipped c.loop-named.invariant.follows in
     record {
-      low = c.loop-alloc.invariant.low;
+      low = c.loop-named.invariant.low;
       list_known = c.in_ok-advance.ensures.list_known c.if-not-branch.false;
       passed_known = c.in_ok-advance.ensures.passed_known;
       no_fault = taken.0;
-      keeps = keeps-after c.loop-alloc.invariant.keeps c.in_ok-advance.ensures.keeps;
+      keeps = keeps-after c.loop-named.invariant.keeps c.in_ok-advance.ensures.keeps;
       follows = subst (λ ts. Follows c.args.table.now c.args.env.now c.args.level c.args.left.now (hidings c.args.sets.now c.args.list.now) ts c.advance.new.left (hidings c.advance.new.sets c.advance.new.list)) (sym step.1)
           (follows_on c.args.table.now c.args.env.now c.args.level c.args.left.now (hidings c.args.sets.now c.args.list.now) _ _ _ _ _ step.0 here step.2);
     }
 
-pub expand_list-loop-alloc-smaller : goal.expand_list-loop-alloc-smaller
-expand_list-loop-alloc-smaller m c =
+pub expand_list-loop-named-smaller : goal.expand_list-loop-named-smaller
+expand_list-loop-named-smaller m c =
     let step = (rw c.if-not-branch.false at c.in_ok-advance.ensures.on).1 in
     let after = advances_falls c.args.table.now c.args.env.now c.args.level _ _ _ _ step.0 step.2 in
-    let skipped = skip_falls c.args.table.now c.args.env.now c.args.level c.loop-alloc.left c.loop-alloc.sets _ _ _ _ c.in_ok-skip.ensures in
+    let skipped = skip_falls c.args.table.now c.args.env.now c.args.level c.loop-named.left c.loop-named.sets _ _ _ _ c.in_ok-named.ensures.skipped in
     omega (arith, after, skipped)

@@ -23,8 +23,8 @@ decreases-expand_arguments l = 5 * (257 - l.level) + 1
 abbrev pub decreases-expand_argument : goal.decreases-expand_argument
 decreases-expand_argument l = 5 * (257 - l.level)
 
-abbrev pub invariant-expand_list-loop-alloc : goal.invariant-expand_list-loop-alloc
-invariant-expand_list-loop-alloc l = record {
+abbrev pub invariant-expand_list-loop-named : goal.invariant-expand_list-loop-named
+invariant-expand_list-loop-named l = record {
   low : l.level ≤ 256;
   list_known : AllKnown l.sets l.list;
   passed_known : AllKnown l.sets l.passed;
@@ -33,8 +33,8 @@ invariant-expand_list-loop-alloc l = record {
   follows : Follows l.table l.env l.level l.fn.left (hidings l.fn.sets l.fn.list) (hidings l.sets l.passed) l.left (hidings l.sets l.list);
 }
 
-abbrev pub decreases-expand_list-loop-alloc : goal.decreases-expand_list-loop-alloc
-decreases-expand_list-loop-alloc l = turns_left l.table l.env l.level l.left (hidings l.sets l.list)
+abbrev pub decreases-expand_list-loop-named : goal.decreases-expand_list-loop-named
+decreases-expand_list-loop-named l = turns_left l.table l.env l.level l.left (hidings l.sets l.list)
 
 abbrev pub invariant-expand_arguments-loop-parameter : goal.invariant-expand_arguments-loop-parameter
 invariant-expand_arguments-loop-parameter l = record {

@@ -3,11 +3,14 @@ use Rattle.std.specs.FinSet as set
 use Rattle.std.specs.Option.{option_copied}
 use Rattle.ppmacro.specs.Names.{Macros}
 use Rattle.ppmacro.specs.HideSets.{set_at, Hiding, hiding, hidings}
+use Rattle.ppmacro.specs.Substituting.{tokens_of}
+use Rattle.ppmacro.specs.declared.flying.Hidden.{Hidden}
 use Rattle.ppmacro.specs.declared.macros.Definition.{Definition}
 use Rattle.ppexpand.specs.declared.env.Env.{Env}
 use Rattle.ppexpand.specs.Arguments.{is_lone_quote}
 use Rattle.ppexpand.specs.Turn.{Refused, named_turn, macro_turn, macro_of, turn, within, quote_fault}
 use Rattle.ppexpand.specs.Expansion.{turn_within}
+use Rattle.ppexpand.specs.Lists.{next_macro}
 use Rattle.ppexpand.specs.Shown.{turn_in}
 use Rattle.ppexpand.proofs.TurnLemmas.{turn-quote, turn-hidden, turn-named, turn-unnamed, done-within, refused-within, passes-within, free-within, nothing_left}
 use Rattle.ppexpand.proofs.turn.next_turn.Goals as goal
@@ -16,6 +19,11 @@ use Rattle.ppexpand.proofs.turn.next_turn.Goals as goal
 named : (macros : Macros) (env : Env) (left : Option ℕ) (t : Hiding) (rest : List Hiding) (d : Definition) → is_lone_quote t.token ≡ false → set.contains t.hide t.token.text ≡ false → macro_of macros t.token ≡ Some d
     → turn_within macros env left (t ∷ rest) ≡ within left (t ∷ rest) (macro_turn env t rest d d.shape)
 named macros env left t rest d quote free found = ap (within left (t ∷ rest)) (turn-named macros env t rest quote free ∙ ap (named_turn env t rest) found)
+
+-- what the next token names is what the list's next token does
+named_next : {named : Option Definition} (macros : Macros) (h : Hidden) (rest list : List Hidden) → list ≡ h ∷ rest → named ≡ next_macro macros (tokens_of list)
+    → macro_of macros h.token ≡ named
+named_next macros h rest list is named = ap (λ l. next_macro macros (tokens_of l)) (sym is) ∙ sym named
 
 pub returns-in_default-clause-is : goal.returns-in_default-clause-is
 unfolding turn
@@ -42,13 +50,13 @@ returns-then-has-clause-is c =
     sym (ap (within c.args.left (t ∷ rest)) (turn-hidden c.args.table.now c.args.env.now t rest quote hidden) ∙ passes-within c.args.left (t ∷ rest) t rest)
     ∙ ap (λ l. turn_within c.args.table.now c.args.env.now c.args.left (hidings s l)) (sym c.in-Some.ensures)
 
-pub returns-in_default-macro_of-clause-is : goal.returns-in_default-macro_of-clause-is
-returns-in_default-macro_of-clause-is c =
+pub returns-in_default-named-clause-is : goal.returns-in_default-named-clause-is
+returns-in_default-named-clause-is c =
     let s = c.args.sets.now in
     let t = hiding s c.in-Some.head in
     let rest = hidings s c.next.new.self in
     let quote : is_lone_quote c.in-Some.head.token ≡ false = sym c.is_quote.ensures ∙ c.if-is_quote.false in
-    let none : macro_of c.args.table.now c.in-Some.head.token ≡ None = sym c.macro_of.ensures ∙ ap option_copied c.in_default-macro_of.is in
+    let none : macro_of c.args.table.now c.in-Some.head.token ≡ None = named_next c.args.table.now _ _ c.args.list.now c.in-Some.ensures c.requires.named ∙ ap option_copied c.in_default-named.is in
     sym (ap (within c.args.left (t ∷ rest)) (turn-unnamed c.args.table.now c.args.env.now t rest quote none) ∙ passes-within c.args.left (t ∷ rest) t rest)
     ∙ ap (λ l. turn_within c.args.table.now c.args.env.now c.args.left (hidings s l)) (sym c.in-Some.ensures)
 
@@ -60,7 +68,7 @@ returns-then-is_spent-clause-is c =
     let none : c.args.left ≡ Some 0 = nothing_left c.args.left (sym c.is_spent.ensures ∙ c.if-is_spent.true) in
     let quote = sym c.is_quote.ensures ∙ c.if-is_quote.false in
     let hidden = (λ i. set.contains (set_at s (sym c.hide.ensures i)) (sym c.text.ensures i)) ∙ sym c.has.ensures ∙ c.if-has.false in
-    let macro = sym c.macro_of.ensures ∙ ap option_copied c.in-Some-macro_of.is in
+    let macro = named_next c.args.table.now _ _ c.args.list.now c.in-Some.ensures c.requires.named ∙ ap option_copied c.in-Some-named.is in
     c.in_ok-spent_turn.ensures.is s c.args.env.now
     ∙ sym (named c.args.table.now c.args.env.now (Some 0) t rest _ quote hidden macro)
     ∙ (λ i. turn_within c.args.table.now c.args.env.now (sym none i) (hidings s (sym c.in-Some.ensures i)))
@@ -73,7 +81,7 @@ returns-clause-is c =
     let some = sym c.is_spent.ensures ∙ c.if-is_spent.false in
     let quote = sym c.is_quote.ensures ∙ c.if-is_quote.false in
     let hidden = (λ i. set.contains (set_at s (sym c.hide.ensures i)) (sym c.text.ensures i)) ∙ sym c.has.ensures ∙ c.if-has.false in
-    let macro = sym c.macro_of.ensures ∙ ap option_copied c.in-Some-macro_of.is in
+    let macro = named_next c.args.table.now _ _ c.args.list.now c.in-Some.ensures c.requires.named ∙ ap option_copied c.in-Some-named.is in
     let whole = sym (free-within c.args.left (t ∷ rest) _ some)
     ∙ sym (named c.args.table.now c.args.env.now c.args.left t rest _ quote hidden macro)
     ∙ ap (λ l. turn_within c.args.table.now c.args.env.now c.args.left (hidings s l)) (sym c.in-Some.ensures) in

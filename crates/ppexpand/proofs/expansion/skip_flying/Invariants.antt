@@ -1,10 +1,9 @@
 use Rattle.std.proofs.Common.{length}
-use Rattle.ppmacro.specs.Names.{Macros}
 use Rattle.ppexpand.specs.Skipping.{HasSkipped}
-use Rattle.ppexpand.proofs.expansion.skip_inert.Given as goal
+use Rattle.ppexpand.proofs.expansion.skip_flying.Given as goal
 
 abbrev pub invariant-loop-hidden : goal.invariant-loop-hidden
-invariant-loop-hidden l = (macros : Macros) → HasSkipped macros l.initial.list l.initial.passed l.list l.passed
+invariant-loop-hidden l = HasSkipped l.table l.initial.list l.initial.passed l.list l.passed
 
 abbrev pub decreases-loop-hidden : goal.decreases-loop-hidden
 decreases-loop-hidden l = length l.list
