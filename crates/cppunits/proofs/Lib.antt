@@ -1,14 +1,30 @@
+-- The lemmas of this crate, by file; the proofs of its functions stand in a folder for each file of the sources.
+
+-- The members of an object.
 pub mod Objects
+-- A value gives a draft exactly where it has the shape of a list with it.
 pub mod Drafted
+-- Reading the items of an array, one after another.
 pub mod Each
+-- What is printed of what is kept of units' answers is what is printed of the answers.
 pub mod Shown
+-- What the units of a list give, over files that are known.
 pub mod Giving
+-- Bytes by pairs of hexadecimal digits.
 pub mod Hex
+-- The JSON value of bytes, from what a read says.
 pub mod JsonValue
+-- The steps to a list's outcome, and what an accepted list keeps to.
 pub mod Judged
+-- Known bytes over several reads and writes.
 pub mod Known
+-- The names of files, one after another.
 pub mod Names
+-- One more pair of two numbered lists.
 pub mod Numbered
+-- Texts that are printed one after another.
 pub mod Printing
+-- Bytes that came from a reader whose bytes are known.
 pub mod Received
+-- Text behind the first bytes of a list.
 pub mod Behind

@@ -1,19 +1,40 @@
+-- The lemmas of this crate, by file; the proofs of its functions stand in a folder for each file of the sources.
+
+-- A table's entries as a finite map.
 pub mod TableLemmas
+-- Marks of a table's names.
 pub mod Marked
+-- Chains that are made from the front.
 pub mod ChainLemmas
+-- Which token a text is.
 pub mod LexerLemmas
+-- Tokens stand for the same while hide sets are added.
 pub mod KeepLemmas
+-- What a public call answers of a token that was made.
 pub mod StopLemmas
+-- Lists that `##` joins, while hide sets are added.
 pub mod JoinLemmas
+-- Tokens whose kind is that of their spelling, as `##` makes them.
 pub mod WholeLemmas
+-- The chains' tokens one behind the other, and what they gain, while hide sets are added.
 pub mod WalkLemmas
+-- Arguments whose tokens' sets are there.
 pub mod ArgumentLemmas
+-- Tries of words.
 pub mod Tries
+-- Pairs that are known, while nodes and pairs are added.
 pub mod Remembering
+-- Numbers of sets, and the sets of names that they stand for.
 pub mod Hiding
+-- Names by their numbers.
 pub mod Naming
+-- What contracts see of hide sets.
 pub mod Viewed
+-- The faults of `#define` and `#undef` are 9 to 16.
 pub mod Numbers
+-- Names that stand twice.
 pub mod Repeating
+-- A heading is read exactly where it is laid out.
 pub mod Layouts
+-- The chains of a replacement list, laid end to end, are the list.
 pub mod Chained

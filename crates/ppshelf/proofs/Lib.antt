@@ -1,7 +1,16 @@
+-- The lemmas of this crate, by file; the proofs of its functions stand in a folder for each file of the sources.
+
+-- What a pass knows at a row.
 pub mod Files
+-- Whatever happens to a shelf, what its callers have learnt is what its rows keep.
 pub mod Events
+-- What a fill keeps from row to row.
 pub mod Filling
+-- The content that a list holds for a name, and a shelf that nothing fills yet.
 pub mod Finding
+-- Names and their rows.
 pub mod Naming
+-- Texts, their segments and the paths to which they lead.
 pub mod Paths
+-- The first of several names that a shelf has.
 pub mod Finds

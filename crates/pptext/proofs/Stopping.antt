@@ -1,5 +1,6 @@
 -- Steps that stop: a fault or want of memory goes up, and where a public call answers.
-use Rattle.std.proofs.Common.{◌≡◌, Result, Ok, Err, IfOk}
+use Rattle.std.proofs.Common.{◌≡◌, Result, Ok, Err, IfOk, sym}
+use Rattle.std.proofs.lemmas.Result.{IfOk-at_ok}
 use Rattle.std.specs.Result.{IsErrAnd}
 use Rattle.pptext.specs.declared.tokens.Fault.{Fault}
 use Rattle.pptext.specs.declared.stops.Stop.{Stop}
@@ -32,6 +33,28 @@ stopped (Err x) y P Q e p raised = at x y e p
     at x (Faulted f) e p = rw e (raised f p)
     at x OutOfMemory e p = rw e tt
 
+-- the same where an equation is known of the part
+pub raises : {A B C : Type 0} (r : Result C Stop) (y : Stop) (m : A → B) (v : Result B Fault) (Q : Result C Fault → Type 0)
+    → IsErrAnd r (λ e. e ≡ y)
+    → Answers (Err y) m v
+    → ((f : Fault) → Err f ≡ v → Q (Err f))
+    → IfSettled r Q
+raises (Ok c) y m v Q e a raised = absurd e
+raises (Err x) y m v Q e a raised = at x y e a
+  where
+    at : (x y : Stop) → x ≡ y → Answers (Err y) m v → IfSettled (Err x) Q
+    at x (Faulted f) e a = rw e (raised f a)
+    at x OutOfMemory e a = rw e tt
+
+-- what is said of a step, said more weakly
+pub if_settled-weaker : {A : Type 0} (r : Result A Stop) (P Q : Result A Fault → Type 0)
+    → ((x : Result A Fault) → P x → Q x)
+    → IfSettled r P
+    → IfSettled r Q
+if_settled-weaker (Ok a) P Q more p = more (Ok a) p
+if_settled-weaker (Err (Faulted f)) P Q more p = more (Err f) p
+if_settled-weaker (Err OutOfMemory) P Q more p = tt
+
 -- ---- the public edge
 
 pub settles : {A : Type 0} (r : Result A Stop) (P : Result A Fault → Type 0) → IfSettled r P → IfOk (settled r) P
@@ -43,3 +66,7 @@ pub settled-if_ok : {A : Type 0} (r : Result A Stop) (P : A → Type 0) → IfOk
 settled-if_ok (Ok a) P p = p
 settled-if_ok (Err (Faulted f)) P p = tt
 settled-if_ok (Err OutOfMemory) P p = tt
+
+-- what is said of a step holds of what is settled
+pub settled-at_ok : {A : Type 0} (r : Result A Stop) (P : Result A Fault → Type 0) (x : Result A Fault) → Ok x ≡ settled r → IfSettled r P → P x
+settled-at_ok r P x e p = IfOk-at_ok P (sym e) (settles r P p)
