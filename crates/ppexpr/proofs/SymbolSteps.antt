@@ -28,25 +28,25 @@ pub symbols_more : (at : Place) (ts : List Token) (i : ℕ) (t : Token) (ss : Li
     → i < length ts
     → t ≡ get_or ts i t
     → symbols_of at ts ≡ led (symbols_meant ss) (symbols_of at (drop i ts))
-    → symbol_of at t ≡ Ok (symbol_meant s)
+    → Ok (symbol_meant s) ≡ symbol_of at t
     → symbols_of at ts ≡ led (symbols_meant (ss ++ s ∷ [])) (symbols_of at (drop (i + 1) ts))
 symbols_more at ts i t ss s h e f g =
     let rest = symbols_of at (drop (i + 1) ts) in
-    let onward = ap (led (symbols_meant ss)) (next at ts i t h e ∙ ap (λ x. before x rest) g) in
+    let onward = ap (led (symbols_meant ss)) (next at ts i t h e ∙ ap (λ x. before x rest) (sym g)) in
     f ∙ (onward ∙ (led_before (symbols_meant ss) (symbol_meant s) rest ∙ ap (λ x. led x rest) (sym (map_push symbol_meant ss s))))
 
 pub symbols_fault : (at : Place) (ts : List Token) (i : ℕ) (t : Token) (ss : List CodeSymbol) (q : Fault)
     → i < length ts
     → t ≡ get_or ts i t
     → symbols_of at ts ≡ led (symbols_meant ss) (symbols_of at (drop i ts))
-    → symbol_of at t ≡ Err q
-    → symbols_of at ts ≡ Err q
+    → Err q ≡ symbol_of at t
+    → Err q ≡ symbols_of at ts
 symbols_fault at ts i t ss q h e f g =
-    f ∙ ap (led (symbols_meant ss)) (next at ts i t h e ∙ ap (λ x. before x (symbols_of at (drop (i + 1) ts))) g)
+    sym (f ∙ ap (led (symbols_meant ss)) (next at ts i t h e ∙ ap (λ x. before x (symbols_of at (drop (i + 1) ts))) (sym g)))
 
 pub symbols_end : (at : Place) (ts : List Token) (i : ℕ) (ss : List CodeSymbol)
     → length ts ≤ i
     → symbols_of at ts ≡ led (symbols_meant ss) (symbols_of at (drop i ts))
-    → symbols_of at ts ≡ Ok (symbols_meant ss)
+    → Ok (symbols_meant ss) ≡ symbols_of at ts
 symbols_end at ts i ss h f =
-    f ∙ (ap (λ x. led (symbols_meant ss) (symbols_of at x)) (drop_all i ts h) ∙ ap (λ x. Ok x) (append-nil (symbols_meant ss)))
+    sym (f ∙ (ap (λ x. led (symbols_meant ss) (symbols_of at x)) (drop_all i ts h) ∙ ap (λ x. Ok x) (append-nil (symbols_meant ss))))

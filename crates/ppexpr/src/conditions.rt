@@ -1,6 +1,7 @@
 // Whether the group behind `#if` or `#elif` is taken (6.10.1).
 ghost use Rattle.std.specs.Prelude.{◌≡◌, IfOk};
 ghost use Rattle.std.specs.List.{list_any};
+ghost use Rattle.pptext.specs.Stops.{IfSettled};
 ghost use Rattle.ppexpr.specs.Asking.{is_defined};
 ghost use Rattle.ppexpr.specs.Meant.{failure_meant, answer_meant, symbols_meant};
 ghost use Rattle.ppexpr.specs.Conditions.{failure_fault, taken, Evaluates, Judges, Decides, IsCondition};
@@ -13,7 +14,7 @@ use crate::symbols::{Failure, Symbol, Value};
 use crate::tokens::{fault, symbols_of};
 use ppexpand::{Env, Expanded, Run, expand};
 use ppmacro::Table;
-use pptext::{Fault, Memory, Place, Token};
+use pptext::{Fault, Memory, Place, Stop, Token, settled};
 use std::alloc::{AllocError, Global};
 
 // The fault of an expression without a value.
@@ -28,39 +29,31 @@ fn failure_fault(alloc: Global, at: Place, failure: Failure) -> Result<Fault, Al
 }
 
 // Whether the value is not 0.
-fn taken(
-    alloc: Global,
-    at: Place,
-    value: Result<Value, Failure>,
-) -> Result<Result<bool, Fault>, AllocError>
-    ensures { IfOk result (λ c. c ≡ taken at (answer_meant value)) }
+fn taken(alloc: Global, at: Place, value: Result<Value, Failure>) -> Result<bool, Stop>
+    ensures { IfSettled result (λ c. c ≡ taken at (answer_meant value)) }
 {
     match value {
-        Ok(value) => Ok(Ok(!value.is_zero())),
-        Err(failure) => Ok(Err(failure_fault(alloc, at, failure)?)),
+        Ok(value) => Ok(!value.is_zero()),
+        Err(failure) => Err(Stop::Fault(failure_fault(alloc, at, failure)?)),
     }
 }
 
 // The condition of symbols that are nested no deeper than is allowed.
-fn evaluate_symbols(
-    alloc: Global,
-    at: Place,
-    symbols: &[Symbol],
-) -> Result<Result<bool, Fault>, AllocError>
-    ensures { IfOk result (λ c. Evaluates at (symbols_meant symbols.now) c) }
+fn evaluate_symbols(alloc: Global, at: Place, symbols: &[Symbol]) -> Result<bool, Stop>
+    ensures { IfSettled result (λ c. Evaluates at (symbols_meant symbols.now) c) }
 {
     let Some(outcome) = parse(alloc, symbols)? else {
-        return Ok(Err(fault(alloc, 23, at, b"")?));
+        return Err(Stop::Fault(fault(alloc, 23, at, b"")?));
     };
     taken(alloc, at, outcome.value)
 }
 
 // The condition of symbols.
-fn judge(alloc: Global, at: Place, symbols: &[Symbol]) -> Result<Result<bool, Fault>, AllocError>
-    ensures { IfOk result (λ c. Judges at (symbols_meant symbols.now) c) }
+fn judge(alloc: Global, at: Place, symbols: &[Symbol]) -> Result<bool, Stop>
+    ensures { IfSettled result (λ c. Judges at (symbols_meant symbols.now) c) }
 {
     if is_too_nested(symbols) {
-        return Ok(Err(fault(alloc, 29, at, b"")?));
+        return Err(Stop::Fault(fault(alloc, 29, at, b"")?));
     }
     evaluate_symbols(alloc, at, symbols)
 }
@@ -73,21 +66,19 @@ fn has_defined(tokens: &[Token]) -> bool
 }
 
 // The condition of tokens whose macros are replaced.
-fn decide(alloc: Global, at: Place, tokens: &[Token]) -> Result<Result<bool, Fault>, AllocError>
-    ensures { IfOk result (λ c. Decides at tokens.now c) }
+fn decide(alloc: Global, at: Place, tokens: &[Token]) -> Result<bool, Stop>
+    ensures { IfSettled result (λ c. Decides at tokens.now c) }
 {
     if has_defined(tokens) {
-        return Ok(Err(fault(alloc, 22, at, b"")?));
+        return Err(Stop::Fault(fault(alloc, 22, at, b"")?));
     }
-    match symbols_of(alloc, at, tokens)? {
-        Ok(symbols) => judge(alloc, at, symbols.as_slice()),
-        Err(fault) => Ok(Err(fault)),
-    }
+    let symbols = symbols_of(alloc, at, tokens)?;
+    judge(alloc, at, symbols.as_slice())
 }
 
 // The same, without a copy of the tokens where they stand as they are.
-fn decide_run(alloc: Global, at: Place, run: &Run) -> Result<Result<bool, Fault>, AllocError>
-    ensures { IfOk result (λ c. Decides at run.now c) }
+fn decide_run(alloc: Global, at: Place, run: &Run) -> Result<bool, Stop>
+    ensures { IfSettled result (λ c. Decides at run.now c) }
 {
     if let Some(tokens) = run.unchanged() {
         return decide(alloc, at, tokens);
@@ -119,7 +110,7 @@ fn evaluate_replaced(
     if let Some(fault) = fault {
         return Ok((Err(fault), left));
     }
-    Ok((decide_run(alloc, at, &tokens)?, left))
+    Ok((settled(decide_run(alloc, at, &tokens))?, left))
 }
 
 /// Whether the group behind `#if` or `#elif` is taken (6.10.1), or the one fault: 22 of a use of `defined` that is ill
@@ -142,7 +133,7 @@ pub fn evaluate(
 {
     // In most conditions nothing is replaced.
     match direct_symbols(alloc, table, tokens)? {
-        Some(symbols) => Ok((judge(alloc, at, symbols.as_slice())?, left)),
+        Some(symbols) => Ok((settled(judge(alloc, at, symbols.as_slice()))?, left)),
         None => evaluate_replaced(alloc, table, env, left, at, tokens),
     }
 }

@@ -1,5 +1,6 @@
 // What a token of a controlling expression stands for.
-ghost use Rattle.std.specs.Prelude.{◌≡◌, IfOk, MatchResult, Ok, Err};
+ghost use Rattle.std.specs.Prelude.{◌≡◌, ◌++◌, ◌∷◌, IfOk, OnOk, []};
+ghost use Rattle.pptext.specs.Stops.{Answers};
 ghost use Rattle.ppmacro.specs.Define.{fault};
 ghost use Rattle.ppmacro.specs.Spellings.{is_identifier, is_name, is_punct};
 ghost use Rattle.ppexpr.specs.Tokens.{operators, punctuator_among, symbol_of, symbols_of};
@@ -8,7 +9,7 @@ ghost use Rattle.ppexpr.specs.Meant.{symbol_meant, symbols_meant};
 use crate::characters::character_of;
 use crate::integers::integer_of;
 use crate::symbols::{Operator, Symbol, Value};
-use pptext::{Fault, Kind, Place, Spelling, Token};
+use pptext::{Fault, Kind, Place, Spelling, Stop, Token};
 use std::alloc::{AllocError, Global};
 
 /// Whether a token is an identifier.
@@ -78,41 +79,39 @@ pub(crate) fn punctuator(text: &[u8]) -> Symbol
 }
 
 /// The symbol of a token, or the fault of a constant without a value.
-pub(crate) fn symbol_of(
-    alloc: Global,
-    at: Place,
-    token: &Token,
-) -> Result<Result<Symbol, Fault>, AllocError>
-    ensures { IfOk result (λ r. MatchResult r (λ s. symbol_of at token.now ≡ Ok (symbol_meant s)) (λ f. symbol_of at token.now ≡ Err f)) }
+pub(crate) fn symbol_of(alloc: Global, at: Place, token: &Token) -> Result<Symbol, Stop>
+    ensures { Answers result symbol_meant (symbol_of at token.now) }
 {
     let text = token.text.as_bytes();
     let (number, constant) = match token.kind {
-        Kind::Ident => return Ok(Ok(Symbol::Constant(Value::Signed(0)))),
-        Kind::Punct => return Ok(Ok(punctuator(text))),
+        Kind::Ident => return Ok(Symbol::Constant(Value::Signed(0))),
+        Kind::Punct => return Ok(punctuator(text)),
         Kind::Number => (24, integer_of(text)),
         Kind::CharConst => (25, character_of(text)),
-        _ => return Ok(Ok(Symbol::Other)),
+        _ => return Ok(Symbol::Other),
     };
     match constant {
-        Some(value) => Ok(Ok(Symbol::Constant(value))),
-        None => Ok(Err(fault(alloc, number, at, text)?)),
+        Some(value) => Ok(Symbol::Constant(value)),
+        None => Err(Stop::Fault(fault(alloc, number, at, text)?)),
     }
 }
 
+// Puts a symbol behind the others.
+fn push_symbol(symbols: &mut Vec<Symbol>, symbol: Symbol) -> Result<(), AllocError>
+    ensures { OnOk result (symbols.new.items ≡ symbols.old.items ++ symbol ∷ []) }
+{
+    symbols.push(symbol)?;
+    Ok(())
+}
+
 /// The symbols of tokens, or the first fault from the left.
-pub(crate) fn symbols_of(
-    alloc: Global,
-    at: Place,
-    tokens: &[Token],
-) -> Result<Result<Vec<Symbol>, Fault>, AllocError>
-    ensures { IfOk result (λ r. MatchResult r (λ v. symbols_of at tokens.now ≡ Ok (symbols_meant v.items)) (λ f. symbols_of at tokens.now ≡ Err f)) }
+pub(crate) fn symbols_of(alloc: Global, at: Place, tokens: &[Token]) -> Result<Vec<Symbol>, Stop>
+    ensures { Answers result (λ v. symbols_meant v.items) (symbols_of at tokens.now) }
 {
     let mut symbols = Vec::new(alloc);
     for token in tokens {
-        match symbol_of(alloc, at, token)? {
-            Ok(symbol) => symbols.push(symbol)?,
-            Err(fault) => return Ok(Err(fault)),
-        }
+        let symbol = symbol_of(alloc, at, token)?;
+        push_symbol(&mut symbols, symbol)?;
     }
-    Ok(Ok(symbols))
+    Ok(symbols)
 }

@@ -1,17 +1,15 @@
 use Rattle.std.proofs.Common.{sym}
-use Rattle.std.proofs.lemmas.Result.{IfOk-weaker}
 use Rattle.ppexpr.specs.Conditions.{made_defined, bad_constant, constants}
+use Rattle.pptext.proofs.Stopping.{if_settled-weaker, raises}
 use Rattle.ppexpr.proofs.conditions.decide.Goals as goal
 
 pub returns-then-has_defined : goal.returns-then-has_defined
 returns-then-has_defined c = rw c.in_ok-fault.ensures (made_defined (sym c.if-has_defined.ensures))
 
-pub returns-in-Ok : goal.returns-in-Ok
-returns-in-Ok c =
-    let symbols = rw c.in-Ok.is at c.in_ok-symbols.ensures in
-    IfOk-weaker _ _ _ (λ x h. constants (sym c.if-has_defined.ensures) symbols (rw c.as_slice.ensures.value at h)) c.judge.ensures
+pub returns : goal.returns
+returns c =
+    if_settled-weaker _ _ _ (λ x h. constants (sym c.if-has_defined.ensures) (sym c.in_ok-symbols.ensures) (rw c.as_slice.ensures.value at h)) c.judge.ensures
 
-pub returns-in-Err : goal.returns-in-Err
-returns-in-Err c =
-    let symbols = rw c.in-Err.is at c.in_ok-symbols.ensures in
-    bad_constant (sym c.if-has_defined.ensures) symbols
+pub returns-in_err-symbols : goal.returns-in_err-symbols
+returns-in_err-symbols c =
+    raises _ _ _ _ _ c.from_residual-in_err-symbols.ensures.1 c.in_err-symbols.ensures (λ f e. bad_constant (sym c.if-has_defined.ensures) (sym e))

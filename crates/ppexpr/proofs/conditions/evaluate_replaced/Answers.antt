@@ -1,5 +1,6 @@
 use Rattle.std.proofs.Common.{refl}
 use Rattle.ppexpr.specs.Conditions.{ill_formed, not_replaced, replaced}
+use Rattle.pptext.proofs.Stopping.{settled-at_ok}
 use Rattle.ppexpr.proofs.conditions.evaluate_replaced.Goals as goal
 
 pub returns-in_default : goal.returns-in_default
@@ -15,4 +16,5 @@ returns-in-Some-fault c =
 pub returns : goal.returns
 returns c =
     let asks = rw c.in-Some.is at c.in_ok-asked.ensures in
-    replaced asks (rw c.as_slice-asked.ensures.value at c.in_ok-tokens.ensures) refl c.in_default-fault.is c.in_ok-decide_run.ensures
+    let decided = settled-at_ok c.decide_run.result _ _ c.in_ok-settled.ensures c.decide_run.ensures in
+    replaced asks (rw c.as_slice-asked.ensures.value at c.in_ok-tokens.ensures) refl c.in_default-fault.is decided

@@ -1,10 +1,10 @@
-use Rattle.std.proofs.lemmas.Result.{IfOk-weaker}
 use Rattle.ppexpr.specs.Meant.{symbols_meant}
 use Rattle.ppexpr.proofs.ConditionSteps.{evaluates_none, evaluates_some}
+use Rattle.pptext.proofs.Stopping.{if_settled-weaker}
 use Rattle.ppexpr.proofs.conditions.evaluate_symbols.Goals as goal
 
 pub returns-in_default : goal.returns-in_default
 returns-in_default c = evaluates_none c.args.at (symbols_meant c.args.symbols.now) c.in_ok-outcome.field-0 c.in_ok-fault.field-0 c.in_default.is c.in_ok-fault.ensures c.in_ok-outcome.ensures
 
 pub returns : goal.returns
-returns c = IfOk-weaker _ _ _ (λ x h. evaluates_some c.args.at (symbols_meant c.args.symbols.now) c.in_ok-outcome.field-0 c.in-Some.outcome x c.in-Some.is h c.in_ok-outcome.ensures) c.taken.ensures
+returns c = if_settled-weaker _ _ _ (λ x h. evaluates_some c.args.at (symbols_meant c.args.symbols.now) c.in_ok-outcome.field-0 c.in-Some.outcome x c.in-Some.is h c.in_ok-outcome.ensures) c.taken.ensures
