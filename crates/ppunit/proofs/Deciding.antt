@@ -1,6 +1,5 @@
 -- What the code decides by tokens and a directive, of a line.
-use Rattle.std.proofs.Common.{◌≡◌, ℕ, Bool, true, false, List, refl, sym, subst, Option, None, Some, Result, Ok, Err}
-use Rattle.std.specs.Prelude.{IfOk}
+use Rattle.std.proofs.Common.{◌≡◌, ℕ, Bool, true, false, List, refl, sym, subst, Option, None, Some, Result, Ok}
 use Rattle.pptext.specs.declared.tokens.Token.{Token}
 use Rattle.pptext.specs.declared.tokens.Fault.{Fault}
 use Rattle.pptext.specs.declared.sources.Directive.{Directive}
@@ -38,16 +37,15 @@ enters_by_condition : (d : Directive) (s : State) (r : LogicalLine) (after : Opt
     → EntersBy (Some d) s r after taken
 enters_by_condition d s r after taken e decides = subst (λ (b : Bool). EntersIf b s r after taken) (sym e) decides
 
-pub enters_asked : {E : Type 0} (s : State) (r : LogicalLine) (d : Directive) (tokens : List Token) (found : Result (Result Bool Fault × Option ℕ) E)
+pub enters_asked : (s : State) (r : LogicalLine) (d : Directive) (tokens : List Token) (after : Option ℕ) (taken : Result Bool Fault)
     → r.directive ≡ Some d
     → tokens ≡ r.tokens
     → has_condition d ≡ true
-    → IfOk found (λ a. (number : ℕ) → Decides s (directed d tokens number) a.1 a.0)
-    → IfOk found (λ a. Enters s r a.1 a.0)
-enters_asked s r d tokens (Ok (taken, after)) is same e decides =
+    → ((number : ℕ) → Decides s (directed d tokens number) after taken)
+    → Enters s r after taken
+enters_asked s r d tokens after taken is same e decides =
     subst (λ (z : Option Directive). EntersBy z s r after taken) (sym is)
     (enters_by_condition d s r after taken e (decides_at s r d tokens after taken is same decides))
-enters_asked s r d tokens (Err f) is same e decides = tt
 
 pub conditional : (d : Directive) → has_condition d ≡ true → IsConditional d
 conditional Elif e = tt

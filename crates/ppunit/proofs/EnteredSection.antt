@@ -1,6 +1,5 @@
 -- A walk into an if-section.
 use Rattle.std.proofs.Common.{◌≡◌, ℕ, ◌+◌, ◌<◌, true, false, List, ◌∷◌, length, drop, sym, ap, ◌∙◌, subst, Option, Some, Result, Ok, Err}
-use Rattle.std.specs.Prelude.{IfOk}
 use Rattle.pptext.specs.declared.tokens.Fault.{Fault}
 use Rattle.pptext.specs.declared.sources.Directive.{Directive}
 use Rattle.pptext.specs.declared.sources.Directive.TheVariants.{If}
@@ -104,15 +103,3 @@ enter_refused around files depth row lines index s after d f within is opens dec
     subst (λ (z : Parts). AdvancesFrom around files depth row lines s (with_left s after) (Err f) z k) (sym a.whole)
     (λ more grows. ends_stop (around more) depth row (going s) (with_left s after) f (Section (line_at lines index) a.first a.branches a.behind) k
     (Group.refused decides))
-
-pub enter_found : {E : Type 0} (around : Files → Surroundings) (files : Files) (depth row : ℕ) (lines : List LogicalLine) (index : ℕ) (s t : State)
-    (after : Option ℕ) (d : Directive) (found : Result (Result ℕ Fault) E)
-    → index < length lines
-    → (line_at lines index).directive ≡ Some d
-    → opens_section d ≡ true
-    → Decides s (line_at lines index) after (Ok false)
-    → IfOk found (λ next. (ps : Parts) (bs : Branches) (qs : Parts) (k : Outer) → BranchesAt lines index ps bs qs k → FindsBranch lines (with_left s after) t bs qs k next)
-    → IfOk found (λ next. Advances around files depth row lines index s t next)
-enter_found around files depth row lines index s t after d (Ok next) within is opens decides finds =
-    enter_skipped around files depth row lines index s t after d next within is opens decides finds
-enter_found around files depth row lines index s t after d (Err e) within is opens decides finds = tt

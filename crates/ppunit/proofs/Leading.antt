@@ -1,5 +1,5 @@
 -- A control line, and where a line leads, from what the steps of the code ensure.
-use Rattle.std.proofs.Common.{◌≡◌, ℕ, suc, ◌+◌, ◌<◌, List, length, sym, subst, false, Option, None, Some, Result, Ok, Err, MatchResult}
+use Rattle.std.proofs.Common.{◌≡◌, ℕ, suc, ◌+◌, ◌<◌, List, length, sym, subst, false, Option, None, Some, Result, Ok, Err}
 use Rattle.pptext.specs.declared.tokens.Place.{Place}
 use Rattle.pptext.specs.declared.tokens.Token.{Token}
 use Rattle.pptext.specs.declared.tokens.Fault.{Fault}
@@ -34,17 +34,16 @@ controls_at around depth row s m r d tokens number is same_tokens same_number he
     (subst (λ (z : ℕ). Controls around depth row s (directed d r.tokens z) m) same_number
     (subst (λ (z : List Token). Controls around depth row s (directed d z number) m) same_tokens here))
 
-pub other_control : (around : Surroundings) (depth row : ℕ) (by : Profile) (s t : State) (d : Directive) (r : LogicalLine) (f g : Option Fault)
+pub other_control : (around : Surroundings) (depth row : ℕ) (by : Profile) (s t : State) (d : Directive) (r : LogicalLine) (f : Option Fault)
     → by ≡ around.profile
     → r.directive ≡ Some d
     → lone_quote r.tokens ≡ None
-    → f ≡ g
     → ControlBy by row (Some d) s r (record { state = t; fault = f })
-    → Controls around depth row s r (record { state = t; fault = g })
-other_control around depth row by s t d r f g one is alone same control =
+    → Controls around depth row s r (record { state = t; fault = f })
+other_control around depth row by s t d r f one is alone control =
     let here = subst (λ (z : Profile). ControlBy z row (Some d) s r (record { state = t; fault = f })) one control in
     let line = subst (λ (z : Option Directive). ControlBy around.profile row z s r (record { state = t; fault = f })) (sym is) here in
-    subst (λ (z : Option Fault). Controls around depth row s r (record { state = t; fault = z })) same (Controls.other alone line)
+    Controls.other alone line
 
 -- ---- where a line leads
 
@@ -83,13 +82,12 @@ leads_included around files depth deeper row found at line s t after a r one pla
     (λ more m. Controls (around more) depth row s line m) t r (λ more m opened. Controls.include is alone (Includes.included a found asks (finds more) opened)) here
 
 pub steps_line : (around : Files → Surroundings) (files : Files) (depth row : ℕ) (lines : List LogicalLine) (index : ℕ) (s t : State)
-    (found : Result ℕ Fault) (r : Result Next Fault)
-    → MatchResult r (λ next. (found ≡ Ok next.line) × (next.entered ≡ None)) (λ fault. found ≡ Err fault)
-    → Advances around files depth row lines index s t found
-    → Steps around files depth row lines index s t r
-steps_line around files depth row lines index s t found (Ok next) (is, none) advances =
-    subst (λ (z : Option Entered). StepsTo around files depth row lines index s t next.line z) (sym none) (subst (λ (z : Result ℕ Fault). Advances around files depth row lines index s t z) is advances)
-steps_line around files depth row lines index s t found (Err f) is advances = subst (λ (z : Result ℕ Fault). Advances around files depth row lines index s t z) is advances
+    (next : ℕ) (r : Next)
+    → r ≡ record { line = next; entered = None }
+    → Advances around files depth row lines index s t (Ok next)
+    → Steps around files depth row lines index s t (Ok r)
+steps_line around files depth row lines index s t next r is advances =
+    subst (λ (z : Next). Steps around files depth row lines index s t (Ok z)) (sym is) advances
 
 module _ (around : Files → Surroundings) (files : Files) (depth row : ℕ) (lines : List LogicalLine) (index : ℕ) (s t : State) (d : Directive)
     (tokens : List Token) (number : ℕ) (within : index < length lines) (is : (line_at lines index).directive ≡ Some d)

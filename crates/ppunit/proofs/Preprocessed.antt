@@ -1,7 +1,9 @@
 -- From what is read of a unit's definitions and what is walked to the unit's value.
-use Rattle.std.specs.Option.{is_some}
-use Rattle.std.proofs.Common.{◌≡◌, true, false, ◌↔◌, ℕ, List, [], Option, Some, None, Result, Ok, Err, refl, ap, ◌∙◌, subst, IfOk}
+use Rattle.std.proofs.Common.{◌≡◌, ◌↔◌, ℕ, List, [], Option, None, Result, Ok, Err, refl, ap, ◌∙◌, subst}
 use Rattle.pptext.specs.declared.tokens.Fault.{Fault}
+use Rattle.pptext.specs.declared.stops.Stop.{Stop}
+use Rattle.pptext.specs.declared.stops.Stop.TheVariants.{Fault as Faulted, Memory as OutOfMemory}
+use Rattle.pptext.specs.Stops.{IfSettled}
 use Rattle.pptext.specs.declared.sources.Profile.{Profile}
 use Rattle.pptext.specs.Lines.{LogicalLine}
 use Rattle.pptext.specs.Sources.{IsSource, Reads}
@@ -10,7 +12,7 @@ use Rattle.ppshelf.specs.Files.{Files, Extends}
 use Rattle.ppunit.specs.declared.states.State.{State}
 use Rattle.ppunit.specs.declared.units.Unit.{Unit as UnitOfList}
 use Rattle.ppunit.specs.declared.units.Setting.{Setting}
-use Rattle.ppunit.specs.States.{Surroundings, Reached, stopped, given}
+use Rattle.ppunit.specs.States.{Surroundings, Reached, going, stopped, given}
 use Rattle.ppunit.specs.Group.{Opened}
 use Rattle.ppunit.specs.Unit.{IsUnit, beginning, command_file, command_text, unread, processed, Translates, undefined, translated, first_place}
 use Rattle.ppunit.specs.declared.opening.Entered.{Entered}
@@ -50,9 +52,13 @@ defines_unread around files profile defines x s f one is reads =
     let reads' : Reads profile command_file (command_text defines) (Err f) = subst (Reads profile command_file (command_text defines)) is reads in
     λ more grows. unread (subst (λ (z : Profile). Reads z command_file (command_text defines) (Err f)) (one more) reads')
 
-pub on_ok : {A E : Type 0} {P Q : A → Type 0} (r : Result A E) → ((a : A) → P a → Q a) → IfOk r P → IfOk r Q
-on_ok (Ok a) f p = f a p
-on_ok (Err e) f p = tt
+pub on_settled : {A : Type 0} {P Q : Result A Fault → Type 0} (r : Result A Stop)
+    → ((a : Result A Fault) → P a → Q a)
+    → IfSettled r P
+    → IfSettled r Q
+on_settled (Ok a) turn p = turn (Ok a) p
+on_settled (Err (Faulted f)) turn p = turn (Err f) p
+on_settled (Err OutOfMemory) turn p = tt
 
 extends_itself : (files : Files) → Extends files files
 extends_itself files row c e = e
@@ -68,21 +74,17 @@ pub entered_file : (around : Files → Surroundings) (files new : Files) (depth 
 entered_file around files new depth whole t u e fault wider enters walks more grows =
     enters.group more (extends_trans more new files grows wider) (record { state = u; fault = fault }) (walks enters.parts enters.tree more grows)
 
-pub undefined_unit : (around : Files → Surroundings) (files : Files) (defines : List (List ℕ)) (row : ℕ) (s t : State) (f : Option Fault)
-    → is_some f ≡ true
-    → DefinesOver around files defines s (record { state = t; fault = f })
-    → Translates (around files) defines row s (record { state = t; fault = f })
-undefined_unit around files defines row s t None e over = absurd (cc)
-undefined_unit around files defines row s t (Some f) e over = undefined (over files (extends_itself files))
+pub undefined_unit : (around : Files → Surroundings) (files : Files) (defines : List (List ℕ)) (row : ℕ) (s t : State) (f : Fault)
+    → DefinesOver around files defines s (stopped t f)
+    → Translates (around files) defines row s (stopped t f)
+undefined_unit around files defines row s t f over = undefined (over files (extends_itself files))
 
-pub translated_unit : (around : Files → Surroundings) (files more : Files) (defines : List (List ℕ)) (row : ℕ) (s t u : State) (f g : Option Fault)
-    → is_some f ≡ false
-    → DefinesOver around files defines s (record { state = t; fault = f })
+pub translated_unit : (around : Files → Surroundings) (files more : Files) (defines : List (List ℕ)) (row : ℕ) (s t u : State) (g : Option Fault)
+    → DefinesOver around files defines s (going t)
     → Extends more files
     → ((most : Files) → Extends most more → Opened (around most) 0 (first_place row) t row (record { state = u; fault = g }))
     → Translates (around more) defines row s (record { state = u; fault = g })
-translated_unit around files more defines row s t u None g e over grows opens = translated (over more grows) (opens more (extends_itself more))
-translated_unit around files more defines row s t u (Some f) g e over grows opens = absurd (cc)
+translated_unit around files more defines row s t u g over grows opens = translated (over more grows) (opens more (extends_itself more))
 
 pub whole_unit : (names : List (List ℕ)) (profile : Profile) (files : Files) (setting : Setting) (unit : UnitOfList) (ours theirs : List (List ℕ))
     (s : State) (r : Reached)

@@ -1,56 +1,66 @@
 // Whether a line of an if-section takes the group behind it (6.10.1, and for `#elifdef` and `#elifndef` 6.10.2 of
 // ISO/IEC 9899:2024).
-ghost use Rattle.std.specs.Prelude.{◌≡◌, ℕ, IfOk, Bool, true, false};
+ghost use Rattle.std.specs.Prelude.{◌≡◌, ℕ, Bool, true, false};
+ghost use Rattle.pptext.specs.Stops.{IfSettled};
+ghost use Rattle.pptext.specs.Tree.{sign_place};
+ghost use Rattle.ppexpr.specs.Conditions.{IsCondition};
 ghost use Rattle.ppunit.specs.Conditions as spec;
 ghost use Rattle.ppunit.specs.Lines as spec_lines;
+ghost use Rattle.ppunit.specs.States.{with_left};
 
-use crate::lines::{line_fault, lone_quote, name, one_identifier, operands, sign};
+use crate::lines::{line_fault, name, one_identifier, operands, refuse_lone_quote, sign};
 use crate::states::State;
 use ppexpr::evaluate;
 use ppmacro::Table;
-use pptext::{Directive, Fault, Memory, Token};
-use std::alloc::{AllocError, Global};
+use pptext::{Directive, Stop, Token};
+use std::alloc::Global;
 
-/// Whether the group behind a line is taken, or the line's fault: 7, 9, or one of its condition; and what is left of the budget.
+/// Whether the group behind a line is taken, or the line's fault: 7, 9, or one of its condition. Only what is left of the
+/// budget changes.
 pub(crate) fn decide(
     alloc: Global,
-    state: &State,
+    state: &mut State,
     directive: Directive,
     line: &[Token],
-) -> Result<(Result<bool, Fault>, Option<u64>), Memory>
+) -> Result<bool, Stop>
     requires { spec.IsConditional directive }
-    ensures { IfOk result (λ r. (number : ℕ) → spec.Decides state.now (spec_lines.directed directive line.now number) r.1 r.0) }
+    ensures rest { state.new ≡ with_left state.old state.new.left }
+    ensures decides { IfSettled result (λ taken.
+        (number : ℕ) → spec.Decides state.old (spec_lines.directed directive line.now number) state.new.left taken) }
 {
-    if let Some(fault) = lone_quote(line)? {
-        return Ok((Err(fault), state.left));
+    refuse_lone_quote(line)?;
+    match directive {
+        Directive::Ifdef | Directive::Elifdef => by_name(alloc, true, &state.macros, line),
+        Directive::Ifndef | Directive::Elifndef => by_name(alloc, false, &state.macros, line),
+        _ => by_condition(alloc, state, line),
     }
-    let macros = &state.macros;
-    let taken = match directive {
-        Directive::Ifdef | Directive::Elifdef => by_name(alloc, true, macros, line)?,
-        Directive::Ifndef | Directive::Elifndef => by_name(alloc, false, macros, line)?,
-        _ => return evaluate(
-            alloc,
-            macros,
-            &state.env,
-            state.left,
-            sign(line),
-            operands(line),
-        ),
-    };
-    Ok((taken, state.left))
 }
 
 // Whether the line's name is defined, or isn't, as wanted.
-fn by_name(
-    alloc: Global,
-    wanted: bool,
-    macros: &Table,
-    line: &[Token],
-) -> Result<Result<bool, Fault>, AllocError>
-    ensures { IfOk result (λ taken. taken ≡ spec.by_name wanted macros.now line.now (spec_lines.one_identifier (spec_lines.operands line.now))) }
+fn by_name(alloc: Global, wanted: bool, macros: &Table, line: &[Token]) -> Result<bool, Stop>
+    ensures { IfSettled result (λ taken. taken ≡ spec.by_name wanted macros.now line.now (spec_lines.one_identifier (spec_lines.operands line.now))) }
 {
     let Some(asked) = one_identifier(operands(line)) else {
-        return Ok(Err(line_fault(alloc, 9, line, name(line))?));
+        return Err(Stop::Fault(line_fault(alloc, 9, line, name(line))?));
     };
-    Ok(Ok(macros.get(asked).is_some() == wanted))
+    Ok(macros.get(asked).is_some() == wanted)
+}
+
+// The value of the line's condition.
+fn by_condition(alloc: Global, state: &mut State, line: &[Token]) -> Result<bool, Stop>
+    ensures rest { state.new ≡ with_left state.old state.new.left }
+    ensures is { IfSettled result (λ taken.
+        IsCondition state.old.macros state.old.env (sign_place line.now) (spec_lines.operands line.now) state.old.left taken state.new.left) }
+{
+    let at = sign(line);
+    let (taken, left) = evaluate(
+        alloc,
+        &state.macros,
+        &state.env,
+        state.left,
+        at,
+        operands(line),
+    )?;
+    state.left = left;
+    taken.map_err(Stop::Fault)
 }

@@ -1,5 +1,7 @@
 // Control lines that open no file (6.10.3 to 6.10.7), and text runs.
 ghost use Rattle.std.specs.Prelude.{◌≡◌, IfOk, OnOk, Some, true};
+ghost use Rattle.std.specs.Result.{result_err};
+ghost use Rattle.pptext.specs.Stops.{IfSettled};
 ghost use Rattle.ppunit.specs.Directives as spec;
 ghost use Rattle.ppunit.specs.Lines as spec_lines;
 ghost use Rattle.ppunit.specs.States.{Reached};
@@ -9,7 +11,7 @@ use crate::lines::{line_fault, name, operands, sign};
 use crate::states::State;
 use ppexpand::expand;
 use ppmacro::{define, undef};
-use pptext::{Directive, Fault, Memory, Profile, Token};
+use pptext::{Directive, Fault, Profile, Stop, Token};
 use std::alloc::{AllocError, Global};
 
 /// Passes on what a text run expands to, up to its first fault (6.10.3).
@@ -17,13 +19,16 @@ pub(crate) fn run_text<'x>(
     alloc: Global,
     state: &mut State<'x>,
     tokens: &'x [Token],
-) -> Result<Option<Fault>, Memory>
-    ensures { IfOk result (λ f. spec.RunGives state.old tokens.now (record { state = state.new; fault = f })) }
+) -> Result<(), Stop>
+    ensures { IfSettled result (λ r. spec.RunGives state.old tokens.now (record { state = state.new; fault = result_err r })) }
 {
     let expanded = expand(alloc, &state.macros, &state.env, state.left, tokens)?;
     state.left = expanded.left;
     state.items.extend(expanded.tokens)?;
-    Ok(expanded.fault)
+    match expanded.fault {
+        None => Ok(()),
+        Some(fault) => Err(Stop::Fault(fault)),
+    }
 }
 
 // The message of `#error` (6.10.5): the tokens, with one space where a token but the first has a mark.
@@ -79,7 +84,7 @@ fn pragma<'x>(
     Ok(())
 }
 
-/// What a control line without lone quotes does in the file of a row, where it opens no file; its fault, if it has one.
+/// What a control line without lone quotes does in the file of a row, where it opens no file, or its fault.
 pub(crate) fn control<'x>(
     alloc: Global,
     state: &mut State<'x>,
@@ -88,26 +93,23 @@ pub(crate) fn control<'x>(
     directive: Directive,
     line: &'x [Token],
     physical: u32,
-) -> Result<Option<Fault>, Memory>
+) -> Result<(), Stop>
     requires { spec.IsControl directive }
-    ensures { IfOk result (λ f.
+    ensures { IfSettled result (λ r.
         spec.ControlBy profile row (Some directive) state.old (spec_lines.directed directive line.now physical)
-        (record { state = state.new; fault = f })) }
+        (record { state = state.new; fault = result_err r })) }
 {
+    let at = sign(line);
     match directive {
-        Directive::Define => Ok(define(
-            alloc,
-            &mut state.macros,
-            sign(line),
-            operands(line),
-        )?.err()),
-        Directive::Undef => Ok(undef(alloc, &mut state.macros, sign(line), operands(line))?.err()),
-        Directive::Line => renumber(alloc, state, line, physical),
-        Directive::Pragma => {
-            pragma(state, profile, row, line)?;
-            Ok(None)
+        Directive::Define => {
+            define(alloc, &mut state.macros, at, operands(line))?.map_err(Stop::Fault)
         }
-        Directive::Unknown => Ok(Some(line_fault(alloc, 8, line, name(line))?)),
-        _ => Ok(None),
+        Directive::Undef => undef(alloc, &mut state.macros, at, operands(line))?.map_err(
+            Stop::Fault,
+        ),
+        Directive::Line => renumber(alloc, state, line, physical),
+        Directive::Pragma => Ok(pragma(state, profile, row, line)?),
+        Directive::Unknown => Err(Stop::Fault(line_fault(alloc, 8, line, name(line))?)),
+        _ => Ok(()),
     }
 }

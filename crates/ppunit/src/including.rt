@@ -1,9 +1,11 @@
 // What an `#include` line asks for (6.10.2).
 ghost use Rattle.std.specs.Prelude.{◌≡◌, IfOk, [], true};
 ghost use Rattle.std.specs.Option.{option_map};
+ghost use Rattle.pptext.specs.Stops.{IfSettled};
 ghost use Rattle.ppunit.specs.Lines.{line_fault};
 ghost use Rattle.ppunit.specs.Including as spec;
 ghost use Rattle.ppunit.specs.Directives.{Asks, AsksReplaced};
+ghost use Rattle.ppunit.specs.States.{with_left};
 
 use crate::line_control::is_plain_string;
 use crate::lines::{line_fault, operands};
@@ -11,7 +13,7 @@ use crate::states::State;
 use ppexpand::{Expanded, expand};
 use ppmacro::is_punct;
 use ppshelf::Form;
-use pptext::{Fault, Kind, Memory, Spelling, Token};
+use pptext::{Kind, Spelling, Stop, Token};
 use std::alloc::{AllocError, Global};
 
 /// The form and the name that are asked for.
@@ -100,16 +102,12 @@ fn expanded_asked(alloc: Global, tokens: &[Token]) -> Result<Option<Asked>, Allo
 }
 
 // Fault 30 where nothing is asked for, or a name that no file has: an empty one, or one from the root.
-fn asked_or_fault(
-    alloc: Global,
-    line: &[Token],
-    asked: Option<Asked>,
-) -> Result<Result<Asked, Fault>, AllocError>
-    ensures { IfOk result (λ r. r ≡ spec.asked_or (line_fault 30 line.now []) (spec.if_somewhere asked)) }
+fn asked_or_fault(alloc: Global, line: &[Token], asked: Option<Asked>) -> Result<Asked, Stop>
+    ensures { IfSettled result (λ r. r ≡ spec.asked_or (line_fault 30 line.now []) (spec.if_somewhere asked)) }
 {
     match asked {
-        Some(asked) if !is_nowhere(asked.name.as_bytes()) => Ok(Ok(asked)),
-        _ => Ok(Err(line_fault(alloc, 30, line, b"")?)),
+        Some(asked) if !is_nowhere(asked.name.as_bytes()) => Ok(asked),
+        _ => Err(Stop::Fault(line_fault(alloc, 30, line, b"")?)),
     }
 }
 
@@ -119,40 +117,40 @@ fn is_nowhere(name: &[u8]) -> bool
     name.is_empty() || name[0] == b'/'
 }
 
-// What an include line that names no header asks for once its macros are replaced, and what is left of the budget.
-fn ask_replaced<'x>(
-    alloc: Global,
-    state: &State<'x>,
-    line: &'x [Token],
-) -> Result<(Result<Asked, Fault>, Option<u64>), Memory>
-    ensures { IfOk result (λ r. AsksReplaced state.now line.now r.1 r.0) }
+// What an include line that names no header asks for once its macros are replaced.
+fn ask_replaced<'x>(alloc: Global, state: &mut State<'x>, line: &'x [Token]) -> Result<Asked, Stop>
+    ensures rest { state.new ≡ with_left state.old state.new.left }
+    ensures asks { IfSettled result (λ asked. AsksReplaced state.old line.now state.new.left asked) }
 {
     let Expanded {
         tokens,
         fault,
         left,
     } = expand(alloc, &state.macros, &state.env, state.left, operands(line))?;
+    state.left = left;
     if let Some(fault) = fault {
-        return Ok((Err(fault), left));
+        return Err(Stop::Fault(fault));
     }
     let tokens = tokens.to_vec(alloc)?;
     let asked = expanded_asked(alloc, tokens.as_slice())?;
-    Ok((asked_or_fault(alloc, line, asked)?, left))
+    asked_or_fault(alloc, line, asked)
 }
 
-/// What an include line without lone quotes asks for, or its fault: one of replacement, or 30; and what is left of the budget.
+/// What an include line without lone quotes asks for, or its fault: one of replacement, or 30. Only what is left of the budget
+/// changes.
 pub(crate) fn ask<'x>(
     alloc: Global,
-    state: &State<'x>,
+    state: &mut State<'x>,
     line: &'x [Token],
-) -> Result<(Result<Asked, Fault>, Option<u64>), Memory>
-    ensures { IfOk result (λ r. Asks state.now line.now r.1 r.0) }
+) -> Result<Asked, Stop>
+    ensures rest { state.new ≡ with_left state.old state.new.left }
+    ensures asks { IfSettled result (λ asked. Asks state.old line.now state.new.left asked) }
 {
     let rest = operands(line);
     if let Some(first) = rest.first() {
         if first.kind == Kind::Header {
             let asked = header_asked(alloc, rest)?;
-            return Ok((asked_or_fault(alloc, line, asked)?, state.left));
+            return asked_or_fault(alloc, line, asked);
         }
     }
     ask_replaced(alloc, state, line)

@@ -1,6 +1,8 @@
 // `#line` (6.10.4).
 ghost use Rattle.std.specs.Prelude.{◌≡◌, IfOk, Option};
+ghost use Rattle.std.specs.Result.{result_err};
 ghost use Rattle.pptext.specs.Spellings.{is_digit};
+ghost use Rattle.pptext.specs.Stops.{IfSettled};
 ghost use Rattle.pptext.specs.declared.sources.Directive.TheVariants.{Line};
 ghost use Rattle.ppunit.specs.LineControl as spec;
 ghost use Rattle.ppunit.specs.Lines.{directed};
@@ -9,7 +11,7 @@ ghost use Rattle.ppunit.specs.Directives.{LineGives};
 use crate::lines::{line_fault, operands};
 use crate::states::State;
 use ppexpand::{Env, Expanded, expand};
-use pptext::{Fault, Kind, Memory, Spelling, Token};
+use pptext::{Kind, Spelling, Stop, Token};
 use std::alloc::{AllocError, Global};
 
 const LAST_LINE: u64 = 2_147_483_647;
@@ -85,8 +87,8 @@ pub(crate) fn renumber<'x>(
     state: &mut State<'x>,
     line: &'x [Token],
     physical: u32,
-) -> Result<Option<Fault>, Memory>
-    ensures { IfOk result (λ f. LineGives state.old (directed Line line.now physical) (record { state = state.new; fault = f })) }
+) -> Result<(), Stop>
+    ensures { IfSettled result (λ r. LineGives state.old (directed Line line.now physical) (record { state = state.new; fault = result_err r })) }
 {
     let Expanded {
         tokens,
@@ -95,13 +97,13 @@ pub(crate) fn renumber<'x>(
     } = expand(alloc, &state.macros, &state.env, state.left, operands(line))?;
     state.left = left;
     if let Some(fault) = fault {
-        return Ok(Some(fault));
+        return Err(Stop::Fault(fault));
     }
     let tokens = tokens.to_vec(alloc)?;
     let Some(presumed) = presumed_by(tokens.as_slice())? else {
-        return Ok(Some(line_fault(alloc, 33, line, b"")?));
+        return Err(Stop::Fault(line_fault(alloc, 33, line, b"")?));
     };
     state.env.shift = i64::from(presumed.number) - (i64::from(physical) + 1);
     rename(&mut state.env, presumed.name);
-    Ok(None)
+    Ok(())
 }

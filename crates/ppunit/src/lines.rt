@@ -1,12 +1,14 @@
 // The parts of a directive line (6.10).
 ghost use Rattle.std.specs.Prelude.{◌≡◌, IfOk};
 ghost use Rattle.std.specs.Option.{option_copied};
+ghost use Rattle.std.specs.Result.{result_err};
+ghost use Rattle.pptext.specs.Stops.{IfSettled};
 ghost use Rattle.pptext.specs.Tree.{sign_place, name_of};
 ghost use Rattle.ppunit.specs.Lines as spec;
 ghost use Rattle.ppunit.specs.Quotes as quotes;
 
 use ppexpand::is_lone_quote;
-use pptext::{Fault, Kind, Place, Spelling, Token};
+use pptext::{Fault, Kind, Place, Spelling, Stop, Token};
 use std::alloc::{AllocError, Global};
 
 /// The place of the `#`.
@@ -69,18 +71,18 @@ pub(crate) fn one_identifier(tokens: &[Token]) -> Option<&[u8]>
     }
 }
 
-/// The fault of the first quote that begins no literal (6.4p3).
-pub(crate) fn lone_quote(line: &[Token]) -> Result<Option<Fault>, AllocError>
-    ensures { IfOk result (λ f. f ≡ quotes.lone_quote line.now) }
+/// Fault 7 at the first quote that begins no literal (6.4p3), if there is one.
+pub(crate) fn refuse_lone_quote(line: &[Token]) -> Result<(), Stop>
+    ensures { IfSettled result (λ r. result_err r ≡ quotes.lone_quote line.now) }
 {
     for token in line {
         if is_lone_quote(token) {
-            return Ok(Some(Fault {
+            return Err(Stop::Fault(Fault {
                 number: 7,
                 at: token.at,
                 text: token.text.clone()?,
             }));
         }
     }
-    Ok(None)
+    Ok(())
 }

@@ -1,5 +1,6 @@
 // Opening a file (6.10.2): its dependency, its content, and what the predefined names stand for in it.
 ghost use Rattle.std.specs.Prelude.{◌≡◌, ◌<◌, ◌^◌, pos, ℕ, map, length, string_bytes, IfOk, IfSome};
+ghost use Rattle.pptext.specs.Stops.{IfSettled};
 ghost use Rattle.ppshelf.specs.Names.{name_in};
 ghost use Rattle.ppshelf.specs.Files.{Files, Extends};
 ghost use Rattle.ppunit.specs.Directives.{Finds};
@@ -13,7 +14,7 @@ use crate::indexed::count;
 use crate::states::{State, literal};
 use ppexpand::Env;
 use ppshelf::{Disk, Folders, Form, Pass, Shelf, resolve};
-use pptext::{Fault, Memory, Place, Profile, Source, Spelling};
+use pptext::{Fault, Memory, Place, Profile, Source, Spelling, Stop};
 use std::alloc::{AllocError, Global};
 use std::marker::Model;
 use std::mem::replace;
@@ -185,12 +186,12 @@ pub(crate) fn open<'a, D: Disk>(
     depth: u32,
     at: Place,
     row: usize,
-) -> Result<Result<Option<Entered<'a>>, Fault>, Memory>
+) -> Result<Option<Entered<'a>>, Stop>
     requires shelf { pass.old.shelf ≡ around.now.shelf }
     requires row { row < length around.now.shelf.names }
     ensures shelf { pass.new.shelf ≡ around.now.shelf }
     ensures grows { Extends pass.new.files pass.old.files }
-    ensures opened { IfOk result (λ leads.
+    ensures opened { IfSettled result (λ leads.
         Leads (surroundings_of around.now) pass.new.files depth
         (λ (more : Files) (m : Reached). Opened (surroundings_of around.now more) depth at state.old row m)
         state.new leads) }
@@ -198,32 +199,32 @@ pub(crate) fn open<'a, D: Disk>(
     let shelf = around.shelf();
     let name = shelf.name(row);
     if depth > DEEPEST {
-        return Ok(Err(file_fault(around.alloc, 32, at, name)?));
+        return Err(Stop::Fault(file_fault(around.alloc, 32, at, name)?));
     }
     if state.is_spent() {
-        return Ok(Err(file_fault(around.alloc, 35, at, "")?));
+        return Err(Stop::Fault(file_fault(around.alloc, 35, at, "")?));
     }
     state.pay();
     state.depend(row)?;
     if state.once.contains(row) {
-        return Ok(Ok(None));
+        return Ok(None);
     }
     let Ok(loaded) = shelf.look(pass, row, around.disk) else {
-        return Err(Memory);
+        return Err(Stop::Memory);
     };
     let Some(read) = loaded.lines() else {
-        return Ok(Err(file_fault(around.alloc, 6, at, name)?));
+        return Err(Stop::Fault(file_fault(around.alloc, 6, at, name)?));
     };
     let source = match read {
         Ok(source) => source,
-        Err(fault) => return Ok(Err(fault.clone()?)),
+        Err(fault) => return Err(Stop::Fault(fault.clone()?)),
     };
     // The lines of a guarded file would do nothing.
     if is_left_out(state, source) {
-        return Ok(Ok(None));
+        return Ok(None);
     }
     let inner = entering(around.alloc, &state.env, name)?;
     let outer = replace(&mut state.env, inner);
     let file = OpenFile::new(row, source);
-    Ok(Ok(Some(Entered { file, outer })))
+    Ok(Some(Entered { file, outer }))
 }

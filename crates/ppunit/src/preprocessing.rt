@@ -1,5 +1,7 @@
 // A whole unit: its definitions, and then its file.
 ghost use Rattle.std.specs.Prelude.{◌≡◌, ◌<◌, IfOk, All, length, map, string_bytes};
+ghost use Rattle.std.specs.Result.{result_err};
+ghost use Rattle.pptext.specs.Stops.{IfSettled};
 ghost use Rattle.ppshelf.specs.Files.{Files, Extends};
 ghost use Rattle.ppunit.specs.States.{surroundings_of};
 ghost use Rattle.ppunit.specs.Group.{Opened};
@@ -14,7 +16,7 @@ use crate::states::State;
 use crate::units::{Setting, Unit, UnitOut};
 use crate::walking::walk;
 use ppshelf::{Disk, Folders, Pass, Shelf};
-use pptext::{Fault, Memory, Place, tree_unless_fault};
+use pptext::{Memory, Place, Stop, settled, tree_unless_fault};
 use std::alloc::Global;
 
 // The unit's definitions, before its file.
@@ -23,18 +25,19 @@ fn define_all<'x, 'a: 'x, D: Disk>(
     pass: &mut Pass<'a, D>,
     state: &mut State<'x>,
     defines: &'x Definitions,
-) -> Result<Option<Fault>, Memory>
+) -> Result<(), Stop>
     requires shelf { pass.old.shelf ≡ around.now.shelf }
     requires rows { 0 < length around.now.shelf.names }
     requires profile { defines.now.profile ≡ around.now.shelf.profile }
     ensures shelf { pass.new.shelf ≡ around.now.shelf }
     ensures grows { Extends pass.new.files pass.old.files }
-    ensures defined { IfOk result (λ f.
-        DefinesOver (surroundings_of around.now) pass.new.files defines.now.texts state.old (record { state = state.new; fault = f })) }
+    ensures defined { IfSettled result (λ r.
+        DefinesOver (surroundings_of around.now) pass.new.files defines.now.texts state.old
+        (record { state = state.new; fault = result_err r })) }
 {
     let source = match defines.lines() {
         Ok(source) => source,
-        Err(fault) => return Ok(Some(fault.clone()?)),
+        Err(fault) => return Err(Stop::Fault(fault.clone()?)),
     };
     tree_unless_fault();
     let file = OpenFile::new(COMMAND_FILE as usize, source);
@@ -47,15 +50,15 @@ fn process<'x, 'a: 'x, D: Disk>(
     pass: &mut Pass<'a, D>,
     state: &mut State<'x>,
     row: usize,
-) -> Result<Option<Fault>, Memory>
+) -> Result<(), Stop>
     requires shelf { pass.old.shelf ≡ around.now.shelf }
     requires row { row < length around.now.shelf.names }
     ensures shelf { pass.new.shelf ≡ around.now.shelf }
     ensures grows { Extends pass.new.files pass.old.files }
-    ensures opened { IfOk result (λ f.
+    ensures opened { IfSettled result (λ r.
         (more : Files)
         → Extends more pass.new.files
-        → Opened (surroundings_of around.now more) 0 (first_place row) state.old row (record { state = state.new; fault = f })) }
+        → Opened (surroundings_of around.now more) 0 (first_place row) state.old row (record { state = state.new; fault = result_err r })) }
 {
     // A row fits a place, since a shelf has at most `MOST_ROWS`.
     let _count = around.shelf().len();
@@ -64,14 +67,12 @@ fn process<'x, 'a: 'x, D: Disk>(
         line: 1,
         col: 1,
     };
-    let entered = match open(around, pass, state, 0, at, row)? {
-        Ok(Some(entered)) => entered,
-        Ok(None) => return Ok(None),
-        Err(fault) => return Ok(Some(fault)),
+    let Some(entered) = open(around, pass, state, 0, at, row)? else {
+        return Ok(());
     };
-    let fault = walk(around, pass, state, entered.file)?;
+    let walked = walk(around, pass, state, entered.file);
     state.env = entered.outer;
-    Ok(fault)
+    walked
 }
 
 // The definitions, and then the file in this row.
@@ -81,19 +82,17 @@ fn translate<'x, 'a: 'x, D: Disk>(
     state: &mut State<'x>,
     defines: &'x Definitions,
     row: usize,
-) -> Result<Option<Fault>, Memory>
+) -> Result<(), Stop>
     requires shelf { pass.old.shelf ≡ around.now.shelf }
     requires row { row < length around.now.shelf.names }
     requires profile { defines.now.profile ≡ around.now.shelf.profile }
     ensures shelf { pass.new.shelf ≡ around.now.shelf }
     ensures grows { Extends pass.new.files pass.old.files }
-    ensures translated { IfOk result (λ f.
-        Translates (surroundings_of around.now pass.new.files) defines.now.texts row state.old (record { state = state.new; fault = f })) }
+    ensures translated { IfSettled result (λ r.
+        Translates (surroundings_of around.now pass.new.files) defines.now.texts row state.old
+        (record { state = state.new; fault = result_err r })) }
 {
-    let fault = define_all(around, pass, state, defines)?;
-    if fault.is_some() {
-        return Ok(fault);
-    }
+    define_all(around, pass, state, defines)?;
     process(around, pass, state, row)
 }
 
@@ -130,7 +129,8 @@ pub fn preprocess<'x, 'a: 'x, D: Disk>(
     stays_within();
     budget_caps_units();
     let mut state = State::new(alloc, setting, shelf.hashing())?;
-    let fault = translate(&around, pass, &mut state, &unit.defines, unit.file)?;
+    let translated = translate(&around, pass, &mut state, &unit.defines, unit.file);
+    let fault = settled(translated)?.err();
     let State {
         macros: _,
         once: _,

@@ -1,15 +1,16 @@
 // The lines of a file in the order of their work: each group that is taken, and no other (6.10.1). The lines of an included
 // file come before the line behind its include line.
-ghost use Rattle.std.specs.Prelude.{◌≡◌, ◌<◌, ◌≤◌, ◌+◌, ℕ, suc, Bool, true, false, None, Some, Ok, Err, IfOk, MatchResult};
+ghost use Rattle.std.specs.Prelude.{◌≡◌, ◌<◌, ◌≤◌, ◌+◌, ℕ, suc, Bool, true, false, None, Some, IfOk};
 ghost use Rattle.std.specs.Prelude.{List, ◌++◌, drop, length};
 ghost use Rattle.std.specs.List.{AllByRecursion};
+ghost use Rattle.std.specs.Result.{result_err};
 ghost use Rattle.pptext.specs.Lines.{LogicalLine};
+ghost use Rattle.pptext.specs.Stops.{IfSettled};
 ghost use Rattle.pptext.specs.Tree.{Parts, Branches, branch_lines, AreBranches, opens_section, ends_group};
 ghost use Rattle.ppshelf.specs.Files.{Files, Extends};
-ghost use Rattle.ppunit.specs.Directives.{Asks};
 ghost use Rattle.pptext.specs.declared.sources.Directive.TheVariants.{Include};
 ghost use Rattle.ppunit.specs.Group.{Controls};
-ghost use Rattle.ppunit.specs.States.{Surroundings, Reached, surroundings_of};
+ghost use Rattle.ppunit.specs.States.{Surroundings, Reached, surroundings_of, with_left};
 ghost use Rattle.ppunit.specs.Lines.{directed};
 ghost use Rattle.ppunit.specs.Quotes as quotes;
 ghost use Rattle.ppunit.specs.Walk.{line_at, IsTextLine, IsRest, Outer, BranchesAt, Enters, FindsBranch, Advances, Leads, Steps, Walks};
@@ -18,12 +19,12 @@ use crate::conditions::decide;
 use crate::directives::{control, error, run_text};
 use crate::including::ask;
 use crate::indexed::{count, line, tokens_at, tokens_between};
-use crate::lines::{line_fault, lone_quote, sign};
+use crate::lines::{line_fault, refuse_lone_quote, sign};
 use crate::opening::{Around, Entered, OpenFile, open, resolve_in};
 use crate::stack::Stack;
 use crate::states::State;
 use ppshelf::{Disk, Pass};
-use pptext::{Directive, Fault, Memory, Source, Token};
+use pptext::{Directive, Source, Stop, Token};
 use std::alloc::Global;
 
 // Where the text run ends that begins at this line.
@@ -46,21 +47,17 @@ fn run_end(source: &Source, start: usize) -> usize
     end
 }
 
-// Whether the work goes on behind a branch line, and what is left of the budget.
-fn enters(
-    alloc: Global,
-    state: &State,
-    source: &Source,
-    index: usize,
-) -> Result<(Result<bool, Fault>, Option<u64>), Memory>
+// Whether the work goes on behind a branch line. Only what is left of the budget changes.
+fn enters(alloc: Global, state: &mut State, source: &Source, index: usize) -> Result<bool, Stop>
     requires { index < length source.now }
-    ensures { IfOk result (λ r. Enters state.now (line_at source.now index) r.1 r.0) }
+    ensures rest { state.new ≡ with_left state.old state.new.left }
+    ensures enters { IfSettled result (λ taken. Enters state.old (line_at source.now index) state.new.left taken) }
 {
     let Some(directive) = line(source, index).directive else {
-        return Ok((Ok(true), state.left));
+        return Ok(true);
     };
     if !directive.has_condition() {
-        return Ok((Ok(true), state.left));
+        return Ok(true);
     }
     decide(alloc, state, directive, tokens_at(source, index))
 }
@@ -72,25 +69,22 @@ fn find_branch(
     state: &mut State,
     source: &Source,
     start: usize,
-) -> Result<Result<usize, Fault>, Memory>
+) -> Result<usize, Stop>
     requires { start < length source.now }
-    ensures further { IfOk result (λ found. IfOk found (λ next. start < next)) }
-    ensures found { IfOk result (λ next.
+    ensures further { IfOk result (λ next. start < next) }
+    ensures found { IfSettled result (λ next.
         (ps : Parts) (bs : Branches) (qs : Parts) (k : Outer)
         → BranchesAt source.now start ps bs qs k
         → FindsBranch source.now state.old state.new bs qs k next) }
 {
     let mut index = start;
     while let Some(next) = line(source, index).next_branch {
-        let (taken, left) = enters(alloc, state, source, next)?;
-        state.left = left;
-        match taken {
-            Ok(true) => return Ok(Ok(next + 1)),
-            Ok(false) => index = next,
-            Err(fault) => return Ok(Err(fault)),
+        if enters(alloc, state, source, next)? {
+            return Ok(next + 1);
         }
+        index = next;
     }
-    Ok(Ok(index + 1))
+    Ok(index + 1)
 }
 
 // The line behind the `#endif` of the if-section that this branch line stands in.
@@ -116,21 +110,18 @@ fn enter_section(
     source: &Source,
     directive: Directive,
     index: usize,
-) -> Result<Result<usize, Fault>, Memory>
+) -> Result<usize, Stop>
     requires index { index < length source.now }
     requires line { (line_at source.now index).directive ≡ Some directive }
     requires opens { opens_section directive ≡ true }
-    ensures further { IfOk result (λ found. IfOk found (λ next. index < next)) }
+    ensures further { IfOk result (λ next. index < next) }
     ensures entered { (around : Files → Surroundings) (files : Files) (depth row : ℕ)
-        → IfOk result (λ next. Advances around files depth row source.now index state.old state.new next) }
+        → IfSettled result (λ next. Advances around files depth row source.now index state.old state.new next) }
 {
-    let (taken, left) = decide(alloc, state, directive, tokens_at(source, index))?;
-    state.left = left;
-    match taken {
-        Ok(true) => Ok(Ok(index + 1)),
-        Ok(false) => find_branch(alloc, state, source, index),
-        Err(fault) => Ok(Err(fault)),
+    if decide(alloc, state, directive, tokens_at(source, index))? {
+        return Ok(index + 1);
     }
+    find_branch(alloc, state, source, index)
 }
 
 // A text run: the line behind it.
@@ -139,18 +130,16 @@ fn do_run<'x>(
     state: &mut State<'x>,
     source: &'x Source,
     index: usize,
-) -> Result<Result<usize, Fault>, Memory>
+) -> Result<usize, Stop>
     requires index { index < length source.now }
     requires text { IsTextLine (line_at source.now index) }
-    ensures further { IfOk result (λ found. IfOk found (λ next. index < next)) }
+    ensures further { IfOk result (λ next. index < next) }
     ensures run { (around : Files → Surroundings) (files : Files) (depth row : ℕ)
-        → IfOk result (λ next. Advances around files depth row source.now index state.old state.new next) }
+        → IfSettled result (λ next. Advances around files depth row source.now index state.old state.new next) }
 {
     let end = run_end(source, index);
-    match run_text(alloc, state, tokens_between(source, index, end))? {
-        None => Ok(Ok(end)),
-        Some(fault) => Ok(Err(fault)),
-    }
+    run_text(alloc, state, tokens_between(source, index, end))?;
+    Ok(end)
 }
 
 // An include line: the file that it asks for is opened, one deeper.
@@ -161,27 +150,23 @@ fn include<'x, 'a: 'x, D: Disk>(
     depth: u32,
     row: usize,
     line: &'x [Token],
-) -> Result<Result<Option<Entered<'a>>, Fault>, Memory>
+) -> Result<Option<Entered<'a>>, Stop>
     requires shelf { pass.old.shelf ≡ around.now.shelf }
     requires rows { 0 < length around.now.shelf.names }
     requires depth { depth ≤ 200 }
     requires quotes { quotes.lone_quote line.now ≡ None }
     ensures shelf { pass.new.shelf ≡ around.now.shelf }
     ensures grows { Extends pass.new.files pass.old.files }
-    ensures control { IfOk result (λ leads.
+    ensures control { IfSettled result (λ leads.
         (number : ℕ)
         → Leads (surroundings_of around.now) pass.new.files (suc depth)
         (λ (more : Files) (m : Reached). Controls (surroundings_of around.now more) depth row state.old (directed Include line.now number) m)
         state.new leads) }
 {
-    let (asked, left) = ask(around.alloc, state, line)?;
-    state.left = left;
-    let asked = match asked {
-        Ok(asked) => asked,
-        Err(fault) => return Ok(Err(fault)),
-    };
+    let asked = ask(around.alloc, state, line)?;
     let Some(found) = resolve_in(around, row, &asked)? else {
-        return Ok(Err(line_fault(around.alloc, 31, line, asked.name.as_bytes())?));
+        let name = asked.name.as_bytes();
+        return Err(Stop::Fault(line_fault(around.alloc, 31, line, name)?));
     };
     open(around, pass, state, depth + 1, sign(line), found)
 }
@@ -196,7 +181,7 @@ fn do_line<'x, 'a: 'x, D: Disk>(
     directive: Directive,
     line: &'x [Token],
     physical: u32,
-) -> Result<Result<Option<Entered<'a>>, Fault>, Memory>
+) -> Result<Option<Entered<'a>>, Stop>
     requires shelf { pass.old.shelf ≡ around.now.shelf }
     requires rows { 0 < length around.now.shelf.names }
     requires depth { depth ≤ 200 }
@@ -204,25 +189,21 @@ fn do_line<'x, 'a: 'x, D: Disk>(
     requires ends { ends_group directive ≡ false }
     ensures shelf { pass.new.shelf ≡ around.now.shelf }
     ensures grows { Extends pass.new.files pass.old.files }
-    ensures control { IfOk result (λ leads.
+    ensures control { IfSettled result (λ leads.
         Leads (surroundings_of around.now) pass.new.files (suc depth)
         (λ (more : Files) (m : Reached). Controls (surroundings_of around.now more) depth row state.old (directed directive line.now physical) m)
         state.new leads) }
 {
     if directive == Directive::Error {
-        return Ok(Err(error(around.alloc, line)?));
+        return Err(Stop::Fault(error(around.alloc, line)?));
     }
-    if let Some(fault) = lone_quote(line)? {
-        return Ok(Err(fault));
-    }
+    refuse_lone_quote(line)?;
     if directive == Directive::Include {
         return include(around, pass, state, depth, row, line);
     }
     let profile = around.profile();
-    match control(around.alloc, state, profile, row, directive, line, physical)? {
-        None => Ok(Ok(None)),
-        Some(fault) => Ok(Err(fault)),
-    }
+    control(around.alloc, state, profile, row, directive, line, physical)?;
+    Ok(None)
 }
 
 // What comes next: the lines of a file that was just opened, if there is one, and then the line of this index.
@@ -232,15 +213,14 @@ struct Next<'a> {
     entered: Option<Entered<'a>>,
 }
 
-// The line that was found comes next, and no file was opened.
-fn to_line<'a>(found: Result<usize, Fault>) -> Result<Next<'a>, Fault>
-    ensures { MatchResult result (λ next. (found ≡ Ok next.line) × (next.entered ≡ None)) (λ fault. found ≡ Err fault) }
+// This line comes next, and no file was opened.
+fn to_line<'a>(line: usize) -> Next<'a>
+    ensures { result ≡ record { line = line; entered = None } }
 {
-    let line = found?;
-    Ok(Next {
+    Next {
         line,
         entered: None,
-    })
+    }
 }
 
 // One text run or one directive line: what comes next, or the fault.
@@ -250,15 +230,15 @@ fn step<'x, 'a: 'x, D: Disk>(
     state: &mut State<'x>,
     depth: u32,
     file: &OpenFile<'x>,
-) -> Result<Result<Next<'a>, Fault>, Memory>
+) -> Result<Next<'a>, Stop>
     requires shelf { pass.old.shelf ≡ around.now.shelf }
     requires rows { 0 < length around.now.shelf.names }
     requires depth { depth ≤ 200 }
     requires index { file.now.index < length file.now.source.now }
     ensures shelf { pass.new.shelf ≡ around.now.shelf }
     ensures grows { Extends pass.new.files pass.old.files }
-    ensures further { IfOk result (λ found. IfOk found (λ next. file.now.index < next.line)) }
-    ensures step { IfOk result (λ found.
+    ensures further { IfOk result (λ next. file.now.index < next.line) }
+    ensures step { IfSettled result (λ found.
         Steps (surroundings_of around.now) pass.new.files depth file.now.row file.now.source.now file.now.index state.old state.new found) }
 {
     let OpenFile { row, source, index } = *file;
@@ -269,17 +249,15 @@ fn step<'x, 'a: 'x, D: Disk>(
         return Ok(to_line(enter_section(around.alloc, state, source, directive, index)?));
     }
     if directive.ends_group() {
-        return Ok(to_line(Ok(section_end(source, index))));
+        return Ok(to_line(section_end(source, index)));
     }
     let tokens = tokens_at(source, index);
     let number = line(source, index).number;
-    match do_line(around, pass, state, depth, row, directive, tokens, number)? {
-        Ok(entered) => Ok(Ok(Next {
-            line: index + 1,
-            entered,
-        })),
-        Err(fault) => Ok(Err(fault)),
-    }
+    let entered = do_line(around, pass, state, depth, row, directive, tokens, number)?;
+    Ok(Next {
+        line: index + 1,
+        entered,
+    })
 }
 
 /// Phase 4 of a file's lines and of all that they include, up to the first fault.
@@ -288,33 +266,33 @@ pub(crate) fn walk<'s, 'a: 's, D: Disk>(
     pass: &mut Pass<'a, D>,
     state: &mut State<'s>,
     first: OpenFile<'s>,
-) -> Result<Option<Fault>, Memory>
+) -> Result<(), Stop>
     requires shelf { pass.old.shelf ≡ around.now.shelf }
     requires rows { 0 < length around.now.shelf.names }
     requires begins { first.index ≡ 0 }
     ensures shelf { pass.new.shelf ≡ around.now.shelf }
     ensures grows { Extends pass.new.files pass.old.files }
-    ensures walk { IfOk result (λ f.
+    ensures walk { IfSettled result (λ r.
         Walks (surroundings_of around.now) pass.new.files 0 first.entry.row first.entry.source.now state.old
-        (record { state = state.new; fault = f })) }
+        (record { state = state.new; fault = result_err r })) }
 {
     let mut waiting = Stack::new(around.alloc);
     let mut file = first;
     loop {
         if file.index < count(file.source) {
-            match step(around, pass, state, waiting.depth(), &file)? {
+            match step(around, pass, state, waiting.depth(), &file) {
                 Ok(next) => {
                     file.index = next.line;
                     file = waiting.enter(file, next.entered)?;
                 }
-                Err(fault) => {
+                Err(stop) => {
                     waiting.stop(state);
-                    return Ok(Some(fault));
+                    return Err(stop);
                 }
             }
         } else {
             let Some(outer) = waiting.pop() else {
-                return Ok(None);
+                return Ok(());
             };
             state.env = outer.env;
             file = outer.file;

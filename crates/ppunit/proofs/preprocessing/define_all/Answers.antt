@@ -1,14 +1,15 @@
 use Rattle.std.proofs.Common.{◌≡◌, rules}
+use Rattle.std.specs.Result.{result_err}
 use Rattle.ppunit.specs.States.{surroundings_of}
-use Rattle.ppunit.proofs.Preprocessed.{defines_walked, defines_unread, on_ok}
+use Rattle.ppunit.proofs.Preprocessed.{defines_walked, defines_unread, on_settled}
 use Rattle.ppunit.proofs.preprocessing.define_all.Goals as goal
 
 pub returns-clause-defined : goal.returns-clause-defined
 returns-clause-defined g c =
     let walked = rw (c.new-file.ensures.row, c.new-file.ensures.source) at c.walk.ensures.walk in
-    on_ok c.walk.result
-    (λ f walks. defines_walked c.tree_unless_fault.ensures (surroundings_of c.args.around.now) c.walk.new.pass.files c.args.defines.now.profile
-    c.args.defines.now.texts _ _ c.args.state.now (record { state = c.walk.new.state; fault = f }) (λ more. c.requires.profile) c.in-Ok.is
+    on_settled c.walk.result
+    (λ r walks. defines_walked c.tree_unless_fault.ensures (surroundings_of c.args.around.now) c.walk.new.pass.files c.args.defines.now.profile
+    c.args.defines.now.texts _ _ c.args.state.now (record { state = c.walk.new.state; fault = result_err r }) (λ more. c.requires.profile) c.in-Ok.is
     c.lines.ensures
     walks)
     walked

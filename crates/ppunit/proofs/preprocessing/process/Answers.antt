@@ -1,20 +1,26 @@
-use Rattle.std.proofs.Common.{◌≡◌, Option, Some, Result, Ok, subst}
-use Rattle.pptext.specs.declared.tokens.Fault.{Fault}
+use Rattle.std.proofs.Common.{Option, Ok, subst}
+use Rattle.std.specs.Result.{result_err}
+use Rattle.pptext.proofs.Stopping.{stopped}
 use Rattle.ppunit.specs.States.{surroundings_of}
 use Rattle.ppunit.specs.declared.opening.Entered.{Entered}
 use Rattle.ppunit.specs.Group.{Opened}
 use Rattle.ppunit.specs.Unit.{first_place}
 use Rattle.ppunit.specs.Walk.{Leads}
-use Rattle.ppunit.proofs.Preprocessed.{entered_file}
+use Rattle.ppunit.proofs.Preprocessed.{entered_file, on_settled}
 use Rattle.ppunit.proofs.preprocessing.process.Goals as goal
+
+pub returns-in_err-entered-clause-opened : goal.returns-in_err-entered-clause-opened
+returns-in_err-entered-clause-opened g c =
+    stopped _ _ _ _ c.from_residual.ensures.1 c.in_err-entered.ensures.opened (λ fault leads. leads)
 
 pub returns-clause-opened : goal.returns-clause-opened
 returns-clause-opened g c =
-    let is : c.in_ok-entered.field-0 ≡ Ok (Some c.in-Ok-Some.entered) = cc in
     let enters = subst
-    (λ (z : Result (Option Entered) Fault). Leads (surroundings_of c.args.around.now) c.open.new.pass.files 0
-    (λ more m. Opened (surroundings_of c.args.around.now more) 0 (first_place c.args.row) c.args.state.now c.args.row m) c.open.new.state z) is
-    c.in_ok-entered.ensures.opened in
-    entered_file (surroundings_of c.args.around.now) c.open.new.pass.files c.walk.new.pass.files 0
+    (λ (z : Option Entered). Leads (surroundings_of c.args.around.now) c.open.new.pass.files 0
+    (λ more m. Opened (surroundings_of c.args.around.now more) 0 (first_place c.args.row) c.args.state.now c.args.row m) c.open.new.state (Ok z))
+    c.in-Some.is c.in_ok-entered.ensures.opened in
+    on_settled c.walk-walked.result
+    (λ r. entered_file (surroundings_of c.args.around.now) c.open.new.pass.files c.walk-walked.new.pass.files 0
     (λ more m. Opened (surroundings_of c.args.around.now more) 0 (first_place c.args.row) c.args.state.now c.args.row m) c.open.new.state
-    c.walk.new.state c.in-Ok-Some.entered c.in_ok-fault.fault c.in_ok-fault.ensures.grows enters c.in_ok-fault.ensures.walk
+    c.walk-walked.new.state c.in-Some.entered (result_err r) c.walk-walked.ensures.grows enters)
+    c.walk-walked.ensures.walk

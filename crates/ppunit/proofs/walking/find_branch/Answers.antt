@@ -1,40 +1,46 @@
-use Rattle.std.proofs.Common.{◌≡◌, Bool, Ok, true, false, ap, ◌∙◌, sym, subst, arith}
+use Rattle.std.proofs.Common.{◌+◌, Bool, Ok, Err, ◌∙◌, sym, subst, arith}
+use Rattle.pptext.proofs.Stopping.{stopped}
+use Rattle.ppunit.specs.declared.states.State.{State}
+use Rattle.ppunit.specs.Walk.{FindsBranch}
 use Rattle.ppunit.proofs.SectionEnds.{next_inside}
-use Rattle.ppunit.proofs.FoundBranch.{EntersAt, branch_more, branch_taken, branch_refused, branch_found}
+use Rattle.ppunit.proofs.FoundBranch.{EntersAt, BranchSoFar, branch_more, branch_taken, branch_refused, branch_found}
 use Rattle.ppunit.proofs.Options.{none_of}
 use Rattle.ppunit.proofs.walking.find_branch.Goals as goal
 
 pub enters-requires : goal.enters-requires
 enters-requires c = (next_inside c.args.source.now c.loop-next.index c.in-Some.next c.loop-next.invariant.within (sym c.line.ensures.next ∙ c.in-Some.is)).1
 
+pub returns-in_err-enters-clause-found : goal.returns-in_err-enters-clause-found
+returns-in_err-enters-clause-found c =
+    stopped _ _ _ _ c.from_residual.ensures.1 c.in_err-enters.ensures.enters (λ fault entered ps bs qs k b.
+    subst (λ (z : State). FindsBranch c.args.source.now c.args.state.now z bs qs k (Err fault)) (sym c.in_err-enters.ensures.rest)
+    (branch_refused c.args.source.now c.args.start c.in-Some.next c.loop-next.index c.args.state.now c.loop-next.state c.enters.new.state.left
+    fault c.loop-next.invariant (sym c.line.ensures.next ∙ c.in-Some.is) entered ps bs qs k b))
+
 pub overflow_add-result : goal.overflow_add-result
 overflow_add-result c = omega (arith, (next_inside c.args.source.now c.loop-next.index c.in-Some.next c.loop-next.invariant.within (sym c.line.ensures.next ∙ c.in-Some.is)).1, c.line.ensures.few)
 
-pub returns-in-Ok-true-clause-further : goal.returns-in-Ok-true-clause-further
-returns-in-Ok-true-clause-further c = omega (arith, (next_inside c.args.source.now c.loop-next.index c.in-Some.next c.loop-next.invariant.within (sym c.line.ensures.next ∙ c.in-Some.is)).0, c.loop-next.invariant.from)
+pub returns-then-branch-clause-further : goal.returns-then-branch-clause-further
+returns-then-branch-clause-further c = omega (arith, (next_inside c.args.source.now c.loop-next.index c.in-Some.next c.loop-next.invariant.within (sym c.line.ensures.next ∙ c.in-Some.is)).0, c.loop-next.invariant.from)
 
-pub returns-in-Ok-true-clause-found : goal.returns-in-Ok-true-clause-found
-returns-in-Ok-true-clause-found c =
-    let is : c.in_ok-taken.taken ≡ Ok true = c.in-Ok-true.is ∙ ap (λ (z : Bool). Ok z) c.in-Ok-true.field-0-test in
-    branch_taken c.args.source.now c.args.start c.in-Some.next c.loop-next.index c.args.state.now c.loop-next.state c.in_ok-taken.left
+pub returns-then-branch-clause-found : goal.returns-then-branch-clause-found
+returns-then-branch-clause-found c ps bs qs k b =
+    subst (λ (z : State). FindsBranch c.args.source.now c.args.state.now z bs qs k (Ok (c.in-Some.next + 1))) (sym c.in_ok-enters.ensures.rest)
+    (branch_taken c.args.source.now c.args.start c.in-Some.next c.loop-next.index c.args.state.now c.loop-next.state c.enters.new.state.left
     c.loop-next.invariant (sym c.line.ensures.next ∙ c.in-Some.is)
-    (subst (EntersAt c.args.source.now c.in-Some.next c.loop-next.state c.in_ok-taken.left) is c.in_ok-taken.ensures)
+    (subst (λ (z : Bool). EntersAt c.args.source.now c.in-Some.next c.loop-next.state c.enters.new.state.left (Ok z)) c.if-branch.true
+    c.in_ok-enters.ensures.enters) ps bs qs k b)
 
 pub loop-next-smaller : goal.loop-next-smaller
 loop-next-smaller c = let h = next_inside c.args.source.now c.loop-next.index c.in-Some.next c.loop-next.invariant.within (sym c.line.ensures.next ∙ c.in-Some.is) in omega (arith, h.0, h.1, c.loop-next.invariant.within)
 
 pub loop-next-preserved : goal.loop-next-preserved
 loop-next-preserved c =
-    let is : c.in_ok-taken.taken ≡ Ok false = c.in-Ok-false.is ∙ ap (λ (z : Bool). Ok z) c.in-Ok-false.field-0-test in
-    branch_more c.args.source.now c.args.start c.in-Some.next c.loop-next.index c.args.state.now c.loop-next.state c.in_ok-taken.left
+    subst (λ (z : State). BranchSoFar c.args.source.now c.args.start c.args.state.now z c.in-Some.next) (sym c.in_ok-enters.ensures.rest)
+    (branch_more c.args.source.now c.args.start c.in-Some.next c.loop-next.index c.args.state.now c.loop-next.state c.enters.new.state.left
     c.loop-next.invariant (sym c.line.ensures.next ∙ c.in-Some.is)
-    (subst (EntersAt c.args.source.now c.in-Some.next c.loop-next.state c.in_ok-taken.left) is c.in_ok-taken.ensures)
-
-pub returns-in-Err-clause-found : goal.returns-in-Err-clause-found
-returns-in-Err-clause-found c =
-    branch_refused c.args.source.now c.args.start c.in-Some.next c.loop-next.index c.args.state.now c.loop-next.state c.in_ok-taken.left
-    c.in-Err.fault c.loop-next.invariant (sym c.line.ensures.next ∙ c.in-Some.is)
-    (subst (EntersAt c.args.source.now c.in-Some.next c.loop-next.state c.in_ok-taken.left) c.in-Err.is c.in_ok-taken.ensures)
+    (subst (λ (z : Bool). EntersAt c.args.source.now c.in-Some.next c.loop-next.state c.enters.new.state.left (Ok z)) c.if-branch.false
+    c.in_ok-enters.ensures.enters))
 
 pub returns-clause-found : goal.returns-clause-found
 returns-clause-found c ps bs qs k b =

@@ -1,4 +1,5 @@
-use Rattle.std.proofs.Common.{◌≡◌, ◌<◌, ◌≤◌, List, [], ◌∷◌, length, sym, ap, subst, arith}
+use Rattle.std.proofs.Common.{◌≡◌, ◌<◌, ◌≤◌, List, [], ◌∷◌, length, Err, refl, sym, ap, subst, arith}
+use Rattle.pptext.proofs.Stopping.{stopped as halted}
 use Rattle.ppunit.specs.declared.stack.Waiting.{Waiting}
 use Rattle.ppunit.specs.declared.states.State.{State}
 use Rattle.ppunit.specs.States.{stopped, surroundings_of}
@@ -52,8 +53,8 @@ loop-file-preserved g c =
 
 pub loop-file-smaller-in-Ok : goal.loop-file-smaller-in-Ok
 loop-file-smaller-in-Ok g c =
-    let step = rw (c.in-Ok.is, c.depth.ensures) at c.in_ok-next.ensures.step in
-    let further = rw c.in-Ok.is at c.in_ok-next.ensures.further in
+    let step = rw (c.in-Ok.is, c.depth.ensures) at c.step.ensures.step in
+    let further = rw c.in-Ok.is at c.step.ensures.further in
     let within : c.loop-file.file.index < length c.loop-file.file.source.now = omega (arith, c.count.ensures, c.if-file-count.true) in
     let less = work_next (surroundings_of c.args.around.now) c.step.new.pass.files c.loop-file.file.row c.loop-file.file.source.now
     c.loop-file.file.index c.in-Ok.next.line c.loop-file.state c.step.new.state c.loop-file.file c.in-Ok.next.entered c.loop-file.waiting within
@@ -62,10 +63,10 @@ loop-file-smaller-in-Ok g c =
 
 pub loop-file-preserved-in-Ok : goal.loop-file-preserved-in-Ok
 loop-file-preserved-in-Ok g c =
-    let step = rw (c.in-Ok.is, c.depth.ensures) at c.in_ok-next.ensures.step in
+    let step = rw (c.in-Ok.is, c.depth.ensures) at c.step.ensures.step in
     record {
-      shelf = c.in_ok-next.ensures.shelf;
-      grows = extends_trans c.step.new.pass.files c.loop-file.pass.files c.args.pass.now.files c.in_ok-next.ensures.grows c.loop-file.invariant.grows;
+      shelf = c.step.ensures.shelf;
+      grows = extends_trans c.step.new.pass.files c.loop-file.pass.files c.args.pass.now.files c.step.ensures.grows c.loop-file.invariant.grows;
       depth =
           rw c.in_ok-file-in-Ok.ensures.waiting
           (next_depth (surroundings_of c.args.around.now) c.step.new.pass.files c.loop-file.file.row c.loop-file.file.source.now
@@ -75,14 +76,15 @@ loop-file-preserved-in-Ok g c =
           rw (c.in_ok-file-in-Ok.ensures.file, c.in_ok-file-in-Ok.ensures.waiting)
           (stack_next (surroundings_of c.args.around.now) c.loop-file.pass.files c.step.new.pass.files c.args.first.row c.args.first.source.now
           c.args.state.now c.loop-file.state c.step.new.state c.loop-file.waiting c.loop-file.file c.in-Ok.next c.loop-file.invariant.walked
-          c.in_ok-next.ensures.grows step);
+          c.step.ensures.grows step);
     }
 
 pub returns-in-Err-clause-walk : goal.returns-in-Err-clause-walk
 returns-in-Err-clause-walk g c =
-    let step = rw (c.in-Err.is, c.depth.ensures) at c.in_ok-next.ensures.step in
+    let step = rw (c.in-Err.is, c.depth.ensures) at c.step.ensures.step in
+    halted (Err c.in-Err.stop) c.in-Err.stop _ _ refl step (λ fault steps.
     subst (λ (z : State). Walks (surroundings_of c.args.around.now) c.step.new.pass.files 0 c.args.first.row c.args.first.source.now c.args.state.now
-    (stopped z c.in-Err.fault)) (sym c.stop.ensures)
+    (stopped z fault)) (sym c.stop.ensures)
     (stack_stops (surroundings_of c.args.around.now) c.loop-file.pass.files c.step.new.pass.files c.args.first.row c.args.first.source.now
-    c.args.state.now c.loop-file.state c.step.new.state c.in-Err.fault c.loop-file.waiting c.loop-file.file c.loop-file.invariant.walked
-    c.in_ok-next.ensures.grows step)
+    c.args.state.now c.loop-file.state c.step.new.state fault c.loop-file.waiting c.loop-file.file c.loop-file.invariant.walked
+    c.step.ensures.grows steps))
