@@ -12,8 +12,6 @@ use Rattle.ppmacro.specs.Names.{Macros}
 use Rattle.ppmacro.specs.Define.{after_define, after_undef}
 use Rattle.ppshelf.specs.Files.{Files}
 use Rattle.ppunit.specs.declared.states.State.{State}
-use Rattle.ppunit.specs.declared.including.Asked.{Asked}
-use Rattle.ppunit.specs.declared.line_control.Presumed.{Presumed}
 use Rattle.ppunit.specs.declared.units.Unit.{Unit as UnitOfList}
 use Rattle.ppunit.specs.declared.units.Setting.{Setting}
 use Rattle.ppunit.specs.declared.units.UnitOut.{UnitOut}
@@ -21,8 +19,8 @@ use Rattle.ppunit.specs.declared.units.Item.TheVariants as item
 use Rattle.ppunit.specs.States.{Surroundings, Reached, going, passed, with_left, reading_once}
 use Rattle.ppunit.specs.Lines.{operands}
 use Rattle.ppunit.specs.Quotes.{lone_quote}
-use Rattle.ppunit.specs.LineControl.{presumed}
-use Rattle.ppunit.specs.Including.{begins_with_header}
+use Rattle.ppunit.specs.LineControl.{Presumed, presumed}
+use Rattle.ppunit.specs.Including.{Asked, begins_with_header}
 use Rattle.ppunit.specs.Directives.{with_macros, renumbered_by, is_once, noting_once}
 use Rattle.ppunit.specs.Unit.{surroundings}
 use Rattle.ppunit.specs.StandardLines.{StandardDecidesBy, StandardDecidesUnless, StandardDecides, StandardRunGives, StandardControlBy, StandardAsksBy, StandardAsks}

@@ -11,12 +11,11 @@ use Rattle.ppexpand.specs.Expansion.{count_expansion}
 use Rattle.ppexpand.proofs.Budget.{StopsEarly}
 use Rattle.ppunit.specs.declared.states.State.{State}
 use Rattle.ppunit.specs.declared.units.Item.{Item}
-use Rattle.ppunit.specs.declared.including.Asked.{Asked}
 use Rattle.ppunit.specs.States.{Reached, stopped, passed, with_left}
 use Rattle.ppunit.specs.Lines.{operands, line_fault}
 use Rattle.ppunit.specs.Quotes.{lone_quote}
 use Rattle.ppunit.specs.LineControl.{presumed}
-use Rattle.ppunit.specs.Including.{begins_with_header, asked_behind}
+use Rattle.ppunit.specs.Including.{Asked, begins_with_header, asked_behind}
 use Rattle.ppunit.specs.Conditions.{DecidesBy, DecidesUnless, Decides}
 use Rattle.ppunit.specs.Directives.{RunGives, AsksBy, Asks, ControlBy, renumbered_by}
 use Rattle.ppunit.specs.Counts.{count_decides_by, count_decides_unless, count_decides, count_asks_by, count_asks, count_control_by}

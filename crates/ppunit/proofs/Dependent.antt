@@ -15,7 +15,6 @@ use Rattle.ppmacro.specs.Define.{after_define, after_undef}
 use Rattle.ppshelf.specs.Search.{IsFirstRow}
 use Rattle.ppshelf.specs.Files.{Files}
 use Rattle.ppunit.specs.declared.states.State.{State}
-use Rattle.ppunit.specs.declared.line_control.Presumed.{Presumed}
 use Rattle.ppunit.specs.declared.units.Unit.{Unit as UnitOfList}
 use Rattle.ppunit.specs.declared.units.Setting.{Setting}
 use Rattle.ppunit.specs.declared.units.UnitOut.{UnitOut}
@@ -23,7 +22,7 @@ use Rattle.ppunit.specs.declared.units.Item.TheVariants as item
 use Rattle.ppunit.specs.Dependencies.{among}
 use Rattle.ppunit.specs.States.{Surroundings, Reached, passed, reading_once, with_left}
 use Rattle.ppunit.specs.Lines.{operands, run_tokens}
-use Rattle.ppunit.specs.LineControl.{presumed}
+use Rattle.ppunit.specs.LineControl.{Presumed, presumed}
 use Rattle.ppunit.specs.Directives.{RunGives, renumbered_by, with_macros, is_once, ControlBy}
 use Rattle.ppunit.specs.Group.{Group, Branched, Controls, Includes, Opened}
 use Rattle.ppunit.specs.Unit.{IsUnit, Defines, unread, processed, Translates, undefined, translated, surroundings}

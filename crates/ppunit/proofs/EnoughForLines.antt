@@ -10,13 +10,11 @@ use Rattle.pptext.specs.Tree.{sign_place}
 use Rattle.ppmacro.specs.Names.{Macros}
 use Rattle.ppexpand.specs.Expansion.{count_expansion}
 use Rattle.ppunit.specs.declared.states.State.{State}
-use Rattle.ppunit.specs.declared.including.Asked.{Asked}
-use Rattle.ppunit.specs.declared.line_control.Presumed.{Presumed}
 use Rattle.ppunit.specs.States.{Reached, going, passed, reading_once, is_spent, with_left}
 use Rattle.ppunit.specs.Lines.{operands}
 use Rattle.ppunit.specs.Quotes.{lone_quote}
-use Rattle.ppunit.specs.LineControl.{presumed}
-use Rattle.ppunit.specs.Including.{begins_with_header}
+use Rattle.ppunit.specs.LineControl.{Presumed, presumed}
+use Rattle.ppunit.specs.Including.{Asked, begins_with_header}
 use Rattle.ppunit.specs.Conditions.{DecidesBy, DecidesUnless, Decides}
 use Rattle.ppunit.specs.Directives.{RunGives, AsksBy, Asks, ControlBy, with_macros, renumbered_by, is_once, noting_once}
 use Rattle.ppunit.specs.Counts.{count_decides_by, count_decides_unless, count_decides, count_asks_by, count_asks, count_control_by}

@@ -10,7 +10,7 @@ use Rattle.pptext.specs.Lines.{LogicalLine}
 use Rattle.pptext.specs.Tree.{sign_place, opens_section, ends_group}
 use Rattle.ppshelf.specs.Files.{Files}
 use Rattle.ppunit.specs.declared.states.State.{State}
-use Rattle.ppunit.specs.declared.including.Asked.{Asked}
+use Rattle.ppunit.specs.Including.{Asked}
 use Rattle.ppunit.specs.declared.opening.Entered.{Entered}
 use Rattle.ppunit.specs.declared.walking.Next.{Next}
 use Rattle.ppunit.specs.Directives.{Asks, Finds, ControlBy}

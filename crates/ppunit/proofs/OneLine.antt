@@ -17,12 +17,11 @@ use Rattle.ppexpr.specs.Conditions.{IsCondition}
 use Rattle.ppshelf.specs.Names.{AreNames}
 use Rattle.ppshelf.specs.Search.{IsFirstRow}
 use Rattle.ppunit.specs.declared.states.State.{State}
-use Rattle.ppunit.specs.declared.including.Asked.{Asked}
 use Rattle.ppunit.specs.States.{Reached, passed, with_left}
 use Rattle.ppunit.specs.Lines.{operands, line_fault}
 use Rattle.ppunit.specs.Quotes.{lone_quote}
 use Rattle.ppunit.specs.LineControl.{presumed}
-use Rattle.ppunit.specs.Including.{begins_with_header, asked_behind}
+use Rattle.ppunit.specs.Including.{Asked, begins_with_header, asked_behind}
 use Rattle.ppunit.specs.Conditions.{Decides, DecidesBy, DecidesUnless}
 use Rattle.ppunit.specs.Directives.{RunGives, LineGives, renumbered_by, ControlBy, Asks, AsksBy}
 use Rattle.ppunit.specs.declared.units.Item.TheVariants as item

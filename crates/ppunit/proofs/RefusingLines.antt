@@ -18,13 +18,11 @@ use Rattle.ppexpand.specs.Expansion.{IsExpansion}
 use Rattle.ppexpand.proofs.Refusing.{expansion_never_refused}
 use Rattle.ppexpr.proofs.Capped.{condition_never_refused}
 use Rattle.ppunit.specs.declared.states.State.{State}
-use Rattle.ppunit.specs.declared.including.Asked.{Asked}
-use Rattle.ppunit.specs.declared.line_control.Presumed.{Presumed}
 use Rattle.ppunit.specs.States.{Surroundings, Reached, with_left}
 use Rattle.ppunit.specs.Lines.{operands, line_fault, one_identifier}
 use Rattle.ppunit.specs.Quotes.{quote_fault, lone_quote}
-use Rattle.ppunit.specs.LineControl.{presumed}
-use Rattle.ppunit.specs.Including.{begins_with_header, header_asked, expanded_asked, if_somewhere, asked_or, asked_behind}
+use Rattle.ppunit.specs.LineControl.{Presumed, presumed}
+use Rattle.ppunit.specs.Including.{Asked, begins_with_header, header_asked, expanded_asked, if_somewhere, asked_or, asked_behind}
 use Rattle.ppunit.specs.Conditions.{by_name, DecidesBy, DecidesUnless, Decides}
 use Rattle.ppunit.specs.Directives.{RunGives, with_macros, renumbered_by, AsksBy, Asks, ControlBy}
 use Rattle.ppunit.specs.Group.{Group, Branched, Controls}

@@ -16,16 +16,14 @@ use Rattle.ppexpand.proofs.Budget.{expansion_spends}
 use Rattle.ppexpr.proofs.Capped.{condition_spends}
 use Rattle.ppshelf.specs.Files.{Files}
 use Rattle.ppunit.specs.declared.states.State.{State}
-use Rattle.ppunit.specs.declared.including.Asked.{Asked}
-use Rattle.ppunit.specs.declared.line_control.Presumed.{Presumed}
 use Rattle.ppunit.specs.declared.units.Unit.{Unit as UnitOfList}
 use Rattle.ppunit.specs.declared.units.Setting.{Setting}
 use Rattle.ppunit.specs.declared.units.UnitOut.{UnitOut}
 use Rattle.ppunit.specs.States.{Surroundings, Reached, is_spent, with_left, reading_once}
 use Rattle.ppunit.specs.Lines.{operands, run_tokens}
 use Rattle.ppunit.specs.Quotes.{lone_quote}
-use Rattle.ppunit.specs.LineControl.{presumed}
-use Rattle.ppunit.specs.Including.{begins_with_header}
+use Rattle.ppunit.specs.LineControl.{Presumed, presumed}
+use Rattle.ppunit.specs.Including.{Asked, begins_with_header}
 use Rattle.ppunit.specs.Conditions.{DecidesBy, DecidesUnless, Decides}
 use Rattle.ppunit.specs.Directives.{RunGives, AsksBy, Asks, ControlBy, with_macros, renumbered_by, is_once, noting_once}
 use Rattle.ppunit.specs.Group.{Group, Branched, Controls, Includes, Opened}

@@ -11,12 +11,11 @@ use Rattle.ppexpand.specs.declared.expansion.Expanded.{Expanded}
 use Rattle.ppexpand.proofs.Standard.{tokens_left, tokens_standard, tokens_unbudgeted}
 use Rattle.ppexpr.proofs.Standard.{condition_standard, condition_unbudgeted}
 use Rattle.ppunit.specs.declared.states.State.{State}
-use Rattle.ppunit.specs.declared.including.Asked.{Asked}
 use Rattle.ppunit.specs.States.{Reached, passed, is_spent, with_left, paying}
 use Rattle.ppunit.specs.Lines.{operands}
 use Rattle.ppunit.specs.Quotes.{lone_quote}
 use Rattle.ppunit.specs.LineControl.{presumed}
-use Rattle.ppunit.specs.Including.{begins_with_header}
+use Rattle.ppunit.specs.Including.{Asked, begins_with_header}
 use Rattle.ppunit.specs.Conditions.{DecidesBy, DecidesUnless, Decides}
 use Rattle.ppunit.specs.Directives.{RunGives, LineGives, renumbered_by, AsksBy, Asks, ControlBy}
 use Rattle.ppunit.specs.StandardLines.{StandardDecidesBy, StandardDecidesUnless, StandardDecides, StandardRunGives, StandardLineGives, StandardControlBy, StandardAsksBy, StandardAsks}

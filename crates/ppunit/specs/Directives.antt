@@ -20,10 +20,8 @@ use Rattle.ppunit.specs.declared.units.Item.TheVariants as item
 use Rattle.ppunit.specs.States.{Surroundings, Reached, going, stopped, passed, reading_once, with_left}
 use Rattle.ppunit.specs.declared.states.State.{State}
 use Rattle.ppunit.specs.Lines.{operands, line_fault, spaced}
-use Rattle.ppunit.specs.declared.including.Asked.{Asked}
-use Rattle.ppunit.specs.declared.line_control.Presumed.{Presumed}
-use Rattle.ppunit.specs.LineControl.{presumed, renumbered}
-use Rattle.ppunit.specs.Including.{begins_with_header, header_asked, asked_or, asked_behind, if_somewhere}
+use Rattle.ppunit.specs.LineControl.{Presumed, presumed, renumbered}
+use Rattle.ppunit.specs.Including.{Asked, begins_with_header, header_asked, asked_or, asked_behind, if_somewhere}
 
 -- a text run passes on what it expands to (6.10.3), up to its first fault
 pub record RunGives (s : State) (tokens : List Token) (r : Reached) : Type 0 where

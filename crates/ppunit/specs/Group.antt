@@ -15,7 +15,7 @@ use Rattle.ppunit.specs.declared.states.State.{State}
 use Rattle.ppunit.specs.Lines.{operands, line_fault, run_tokens}
 use Rattle.ppunit.specs.Quotes.{lone_quote}
 use Rattle.ppunit.specs.Conditions.{Decides}
-use Rattle.ppunit.specs.declared.including.Asked.{Asked}
+use Rattle.ppunit.specs.Including.{Asked}
 use Rattle.ppunit.specs.Directives.{RunGives, ControlBy, Asks, Finds, message}
 
 -- the deepest include

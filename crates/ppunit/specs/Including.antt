@@ -9,9 +9,13 @@ use Rattle.pptext.specs.declared.tokens.Kind.TheVariants.{Header}
 use Rattle.ppmacro.specs.Spellings.{is_punct}
 use Rattle.ppshelf.specs.declared.search.Form.{Form}
 use Rattle.ppshelf.specs.declared.search.Form.TheVariants.{Quote, Angle}
-use Rattle.ppunit.specs.declared.including.Asked.{Asked}
 use Rattle.ppunit.specs.Lines.{space_before, spaced}
 use Rattle.ppunit.specs.LineControl.{is_plain_string}
+
+-- the form and the name that are asked for
+pub record Asked : Type 0 where
+  pub form : Form
+  pub name : List ℕ
 
 -- without the characters around
 abbrev pub inner : List ℕ → List ℕ

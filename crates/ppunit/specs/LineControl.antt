@@ -7,8 +7,12 @@ use Rattle.pptext.specs.declared.tokens.Kind.{Kind}
 use Rattle.pptext.specs.declared.tokens.Kind.TheVariants.{Number, Str}
 use Rattle.pptext.specs.Spellings.{is_digit}
 use Rattle.pptext.specs.Lines.{LogicalLine}
-use Rattle.ppunit.specs.declared.line_control.Presumed.{Presumed}
 use Rattle.ppunit.specs.declared.states.State.{State}
+
+-- a line's number, and perhaps its file's name, as a string literal
+pub record Presumed : Type 0 where
+  pub number : ℕ
+  pub name : Option (List ℕ)
 
 abbrev pub is_number : Kind → Bool
 is_number Number = true

@@ -11,12 +11,11 @@ use Rattle.ppexpand.specs.Standard.{IsStandardExpansion}
 use Rattle.ppexpr.specs.Standard.{IsStandardCondition}
 use Rattle.ppunit.specs.declared.units.Item.TheVariants as item
 use Rattle.ppunit.specs.declared.states.State.{State}
-use Rattle.ppunit.specs.declared.including.Asked.{Asked}
 use Rattle.ppunit.specs.States.{Reached, passed}
 use Rattle.ppunit.specs.Lines.{operands, line_fault, one_identifier}
 use Rattle.ppunit.specs.Quotes.{lone_quote}
 use Rattle.ppunit.specs.LineControl.{presumed}
-use Rattle.ppunit.specs.Including.{begins_with_header, header_asked, asked_or, asked_behind, if_somewhere}
+use Rattle.ppunit.specs.Including.{Asked, begins_with_header, header_asked, asked_or, asked_behind, if_somewhere}
 use Rattle.ppunit.specs.Conditions.{by_name}
 use Rattle.ppunit.specs.Directives.{renumbered_by, ControlBy}
 

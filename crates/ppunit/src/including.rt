@@ -15,12 +15,21 @@ use ppmacro::is_punct;
 use ppshelf::Form;
 use pptext::{Kind, Spelling, Stop, Token};
 use std::alloc::{AllocError, Global};
+use std::marker::Model;
 
 /// The form and the name that are asked for.
 #[derive(Drop)]
 pub(crate) struct Asked {
     pub form: Form,
     pub name: Spelling,
+}
+
+impl Model for Asked {
+    ghost use Rattle.ppunit.specs.Including.{Asked};
+
+    ghost Value = { Asked };
+
+    ghost view = { λ a. record { form = a.form; name = a.name } };
 }
 
 // What stands between the first and the last byte.

@@ -13,6 +13,7 @@ use crate::states::State;
 use ppexpand::{Env, Expanded, expand};
 use pptext::{Kind, Spelling, Stop, Token};
 use std::alloc::{AllocError, Global};
+use std::marker::Model;
 
 const LAST_LINE: u64 = 2_147_483_647;
 
@@ -21,6 +22,14 @@ const LAST_LINE: u64 = 2_147_483_647;
 pub(crate) struct Presumed {
     pub number: u32,
     pub name: Option<Spelling>,
+}
+
+impl Model for Presumed {
+    ghost use Rattle.ppunit.specs.LineControl.{Presumed};
+
+    ghost Value = { Presumed };
+
+    ghost view = { λ p. record { number = p.number; name = p.name } };
 }
 
 /// Whether it is a string literal without prefix.
