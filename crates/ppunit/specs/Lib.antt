@@ -19,4 +19,5 @@ pub mod Walk
 pub mod Forms
 pub mod Guarded
 pub mod Parts
+pub mod PartsLeft
 pub mod Yielding

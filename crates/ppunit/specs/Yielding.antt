@@ -4,10 +4,8 @@ use Rattle.ppexpand.specs.Pieces.{ref_token}
 use Rattle.ppexpand.specs.declared.run_iter.RunIter.{RunIter}
 use Rattle.ppunit.specs.declared.units.Item.{Item}
 use Rattle.ppunit.specs.declared.units.Item.TheVariants as item
-use Rattle.ppunit.specs.declared.lists.Part.{Part}
 use Rattle.ppunit.specs.declared.items.ItemRef.{ItemRef}
 use Rattle.ppunit.specs.declared.items.ItemRef.TheVariants as ref
-use Rattle.ppunit.specs.declared.items.PartsLeft.{PartsLeft}
 
 -- the item that a borrowed one shows
 abbrev pub ref_item : ItemRef → Item
@@ -18,7 +16,3 @@ ref_item (ref.Pragma at ts) = item.Pragma at ts.now
 abbrev pub run_items : Option RunIter → List Item
 run_items (Some r) = map item.Token r
 run_items None = []
-
--- the parts that are still to be read
-abbrev pub parts_left : PartsLeft → List Part
-parts_left l = l.parts.now

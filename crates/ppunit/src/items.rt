@@ -1,7 +1,8 @@
 // Items, one by one.
 ghost use Rattle.std.specs.Prelude.{◌≡◌, IfOk};
 ghost use Rattle.std.specs.Iterator.{YieldsFirstBy, YieldsFirstRef, item_count};
-ghost use Rattle.ppunit.specs.Yielding.{ref_item, parts_left};
+ghost use Rattle.ppunit.specs.Yielding.{ref_item};
+ghost use Rattle.ppunit.specs.PartsLeft.{parts_left};
 
 use crate::lists::{Items, Part};
 use crate::units::Item;
@@ -63,7 +64,8 @@ impl<'r, 'a> Model for ItemsIter<'r, 'a> {
     ghost Value = { List Item };
 
     ghost use Rattle.ppunit.specs.Parts.{part_items};
-    ghost use Rattle.ppunit.specs.Yielding.{run_items, parts_left};
+    ghost use Rattle.ppunit.specs.Yielding.{run_items};
+    ghost use Rattle.ppunit.specs.PartsLeft.{parts_left};
 
     ghost view = { λ i. run_items i.run ++ flat_map part_items (parts_left i.left) };
 }
