@@ -4,8 +4,7 @@ use Rattle.pptext.specs.declared.tokens.Place.{Place}
 use Rattle.pptext.specs.Lines.{LogicalLine}
 use Rattle.pptext.specs.Tree.{Parts, Branches}
 use Rattle.ppexpand.specs.Expansion.{count_expansion}
-use Rattle.ppunit.specs.declared.states.State.{State}
-use Rattle.ppunit.specs.States.{Surroundings, Reached, stopped, depending, with_left, paying}
+use Rattle.ppunit.specs.States.{State, Surroundings, Reached, stopped, depending, with_left, paying}
 use Rattle.ppunit.specs.Lines.{run_tokens}
 use Rattle.ppunit.specs.Group.{deepest, fault_at, Group, Branched, Controls, Includes, Opened}
 use Rattle.ppunit.specs.Counts.{count_decides, count_asks, count_group, count_branched, count_control, count_includes, count_opened}

@@ -9,9 +9,8 @@ use Rattle.pptext.specs.declared.sources.Profile.{Profile}
 use Rattle.pptext.specs.Lines.{LogicalLine}
 use Rattle.ppexpand.specs.Expansion.{count_expansion}
 use Rattle.ppexpand.proofs.Budget.{StopsEarly}
-use Rattle.ppunit.specs.declared.states.State.{State}
 use Rattle.ppunit.specs.declared.units.Item.{Item}
-use Rattle.ppunit.specs.States.{Reached, stopped, passed, with_left}
+use Rattle.ppunit.specs.States.{State, Reached, stopped, passed, with_left}
 use Rattle.ppunit.specs.Lines.{operands, line_fault}
 use Rattle.ppunit.specs.Quotes.{lone_quote}
 use Rattle.ppunit.specs.LineControl.{presumed}

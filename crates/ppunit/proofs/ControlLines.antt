@@ -5,8 +5,7 @@ use Rattle.pptext.specs.declared.sources.Directive.{Directive}
 use Rattle.pptext.specs.declared.sources.Directive.TheVariants.{Null}
 use Rattle.pptext.specs.Lines.{LogicalLine}
 use Rattle.pptext.specs.Tree.{Parts, Control, AreParts, role, role_by, opens_section, ends_group}
-use Rattle.ppunit.specs.declared.states.State.{State}
-use Rattle.ppunit.specs.States.{Surroundings, going}
+use Rattle.ppunit.specs.States.{State, Surroundings, going}
 use Rattle.ppunit.specs.Group.{Group}
 use Rattle.ppunit.specs.Group.{Controls}
 use Rattle.ppshelf.specs.Files.{Files, Extends}

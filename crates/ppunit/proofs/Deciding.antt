@@ -5,7 +5,7 @@ use Rattle.pptext.specs.declared.tokens.Fault.{Fault}
 use Rattle.pptext.specs.declared.sources.Directive.{Directive}
 use Rattle.pptext.specs.declared.sources.Directive.TheVariants.{Elif, Elifdef, Elifndef}
 use Rattle.pptext.specs.Lines.{LogicalLine}
-use Rattle.ppunit.specs.declared.states.State.{State}
+use Rattle.ppunit.specs.States.{State}
 use Rattle.ppunit.specs.Conditions.{Decides, DecidesUnless, IsConditional}
 use Rattle.ppunit.specs.Quotes.{lone_quote}
 use Rattle.ppunit.specs.Lines.{directed}

@@ -14,13 +14,12 @@ use Rattle.ppmacro.specs.Names.{Macros}
 use Rattle.ppmacro.specs.Define.{after_define, after_undef}
 use Rattle.ppshelf.specs.Search.{IsFirstRow}
 use Rattle.ppshelf.specs.Files.{Files}
-use Rattle.ppunit.specs.declared.states.State.{State}
 use Rattle.ppunit.specs.declared.units.Unit.{Unit as UnitOfList}
 use Rattle.ppunit.specs.declared.units.Setting.{Setting}
 use Rattle.ppunit.specs.declared.units.UnitOut.{UnitOut}
 use Rattle.ppunit.specs.declared.units.Item.TheVariants as item
 use Rattle.ppunit.specs.Dependencies.{among}
-use Rattle.ppunit.specs.States.{Surroundings, Reached, passed, reading_once, with_left}
+use Rattle.ppunit.specs.States.{State, Surroundings, Reached, passed, reading_once, with_left}
 use Rattle.ppunit.specs.Lines.{operands, run_tokens}
 use Rattle.ppunit.specs.LineControl.{Presumed, presumed}
 use Rattle.ppunit.specs.Directives.{RunGives, renumbered_by, with_macros, is_once, ControlBy}

@@ -3,8 +3,7 @@ use Rattle.std.proofs.Common.{◌≡◌, ℕ, zero, suc, ◌+◌, List, [], true
 use Rattle.pptext.specs.declared.tokens.Place.{Place}
 use Rattle.pptext.specs.Lines.{LogicalLine}
 use Rattle.pptext.specs.Tree.{Parts, Branches, Done, End}
-use Rattle.ppunit.specs.declared.states.State.{State}
-use Rattle.ppunit.specs.States.{Surroundings, Reached, going, stopped, with_left}
+use Rattle.ppunit.specs.States.{State, Surroundings, Reached, going, stopped, with_left}
 use Rattle.ppunit.specs.Lines.{run_tokens}
 use Rattle.ppunit.specs.Group.{fault_at, Group, Branched, Controls, Includes, Opened}
 use Rattle.ppunit.specs.Counts.{count_group, count_branched, count_control, count_includes, count_opened}

@@ -9,8 +9,7 @@ use Rattle.pptext.specs.Lines.{LogicalLine}
 use Rattle.pptext.specs.Tree.{sign_place}
 use Rattle.ppmacro.specs.Names.{Macros}
 use Rattle.ppexpand.specs.Expansion.{count_expansion}
-use Rattle.ppunit.specs.declared.states.State.{State}
-use Rattle.ppunit.specs.States.{Reached, going, passed, reading_once, is_spent, with_left}
+use Rattle.ppunit.specs.States.{State, Reached, going, passed, reading_once, is_spent, with_left}
 use Rattle.ppunit.specs.Lines.{operands}
 use Rattle.ppunit.specs.Quotes.{lone_quote}
 use Rattle.ppunit.specs.LineControl.{Presumed, presumed}

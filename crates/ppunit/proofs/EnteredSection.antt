@@ -6,8 +6,7 @@ use Rattle.pptext.specs.declared.sources.Directive.TheVariants.{If}
 use Rattle.pptext.specs.Lines.{LogicalLine}
 use Rattle.pptext.specs.Tree.{Parts, Section, Branches, role, role_by, opens_section}
 use Rattle.pptext.proofs.Walks.{next_of_opening}
-use Rattle.ppunit.specs.declared.states.State.{State}
-use Rattle.ppunit.specs.States.{Surroundings, going, with_left}
+use Rattle.ppunit.specs.States.{State, Surroundings, going, with_left}
 use Rattle.ppunit.specs.Group.{Group}
 use Rattle.ppunit.specs.Conditions.{Decides}
 use Rattle.ppshelf.specs.Files.{Files}

@@ -7,8 +7,7 @@ use Rattle.pptext.specs.Lines.{LogicalLine}
 use Rattle.pptext.specs.Sources.{next_branch}
 use Rattle.pptext.specs.Tree.{Parts, Branches, End, Branch, part_lines, branch_lines, role, role_by}
 use Rattle.pptext.proofs.Walks.{next_of_branch}
-use Rattle.ppunit.specs.declared.states.State.{State}
-use Rattle.ppunit.specs.States.{Surroundings, Reached, going, stopped, with_left}
+use Rattle.ppunit.specs.States.{State, Surroundings, Reached, going, stopped, with_left}
 use Rattle.ppunit.specs.Group.{Group, Branched}
 use Rattle.ppunit.specs.Conditions.{DecidesFreely, Decides}
 use Rattle.ppunit.specs.Walk.{line_at, Outer, lay, AreOuter, Ends, BranchesAt, EntersBy, Enters, FindsBranch}

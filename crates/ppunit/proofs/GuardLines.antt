@@ -21,7 +21,7 @@ use Rattle.ppexpr.specs.Conditions.{IsCondition, count_condition}
 use Rattle.ppexpr.proofs.OneCondition.{same_condition}
 use Rattle.ppexpr.proofs.Capped.{condition_spends, condition_enough}
 use Rattle.ppexpr.proofs.GuardConditions.{punctuator, as_defined, as_name, bare_false, parenthesized_false}
-use Rattle.ppunit.specs.declared.states.State.{State}
+use Rattle.ppunit.specs.States.{State}
 use Rattle.ppunit.specs.Quotes.{lone_quote}
 use Rattle.ppunit.specs.Conditions.{same_as, is_defined, by_name, Decides, DecidesBy, DecidesUnless}
 use Rattle.ppunit.specs.Counts.{count_decides_by, count_decides_unless, count_decides}

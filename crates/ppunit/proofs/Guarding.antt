@@ -16,8 +16,7 @@ use Rattle.ppexpand.specs.Expansion.{ended, done, turn_within, count_expansion}
 use Rattle.ppshelf.specs.Content.{Content, unreadable, readable, IsRead}
 use Rattle.ppshelf.specs.Files.{file_at}
 use Rattle.ppunit.specs.declared.units.Item.{Item}
-use Rattle.ppunit.specs.declared.states.State.{State}
-use Rattle.ppunit.specs.States.{Surroundings, going, depending, entering, is_spent, paying}
+use Rattle.ppunit.specs.States.{State, Surroundings, going, depending, entering, is_spent, paying}
 use Rattle.ppunit.specs.Dependencies.{is_among}
 use Rattle.ppunit.specs.Lines.{run_tokens}
 use Rattle.ppunit.specs.Conditions.{is_defined}

@@ -10,10 +10,9 @@ use Rattle.pptext.specs.Lines.{LogicalLine}
 use Rattle.pptext.specs.Tree.{Parts, Branches, sign_place}
 use Rattle.ppmacro.specs.Names.{Macros}
 use Rattle.ppexpand.specs.Laws.{IsBeginning}
-use Rattle.ppunit.specs.declared.states.State.{State}
 use Rattle.ppunit.specs.declared.units.Item.{Item}
 use Rattle.ppunit.specs.Dependencies.{is_among}
-use Rattle.ppunit.specs.States.{Surroundings, Reached, passed, depending, reading_once, with_left}
+use Rattle.ppunit.specs.States.{State, Surroundings, Reached, passed, depending, reading_once, with_left}
 use Rattle.ppunit.specs.Lines.{operands, run_tokens}
 use Rattle.ppunit.specs.LineControl.{Presumed, presumed}
 use Rattle.ppunit.specs.Directives.{RunGives, ControlBy, with_macros, renumbered_by, is_once, pragma_passed}

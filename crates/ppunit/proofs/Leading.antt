@@ -9,12 +9,11 @@ use Rattle.pptext.specs.declared.sources.Profile.{Profile}
 use Rattle.pptext.specs.Lines.{LogicalLine}
 use Rattle.pptext.specs.Tree.{sign_place, opens_section, ends_group}
 use Rattle.ppshelf.specs.Files.{Files}
-use Rattle.ppunit.specs.declared.states.State.{State}
 use Rattle.ppunit.specs.Including.{Asked}
 use Rattle.ppunit.specs.declared.opening.Entered.{Entered}
 use Rattle.ppunit.specs.declared.walking.Next.{Next}
 use Rattle.ppunit.specs.Directives.{Asks, Finds, ControlBy}
-use Rattle.ppunit.specs.States.{Surroundings, Reached, going, stopped, with_left}
+use Rattle.ppunit.specs.States.{State, Surroundings, Reached, going, stopped, with_left}
 use Rattle.ppunit.specs.Lines.{directed}
 use Rattle.ppunit.specs.Quotes.{lone_quote}
 use Rattle.ppunit.specs.Group.{Controls, Includes, Opened}

@@ -7,9 +7,8 @@ use Rattle.pptext.specs.declared.sources.Directive.TheVariants.{Include, Error}
 use Rattle.pptext.specs.Lines.{LogicalLine}
 use Rattle.pptext.specs.Tree.{sign_place}
 use Rattle.ppshelf.specs.Names.{AreNames}
-use Rattle.ppunit.specs.declared.states.State.{State}
 use Rattle.ppunit.specs.Including.{Asked}
-use Rattle.ppunit.specs.States.{Surroundings, Reached, stopped, with_left}
+use Rattle.ppunit.specs.States.{State, Surroundings, Reached, stopped, with_left}
 use Rattle.ppunit.specs.Lines.{operands, line_fault}
 use Rattle.ppunit.specs.Quotes.{lone_quote}
 use Rattle.ppunit.specs.Directives.{ControlBy, message, Asks, Finds}

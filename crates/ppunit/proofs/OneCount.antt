@@ -2,8 +2,7 @@
 use Rattle.std.proofs.Common.{◌≡◌, ℕ, ◌+◌, List, Option, Some, None, refl, sym, ap, ◌∙◌, arith}
 use Rattle.ppexpand.specs.Laws.{plus}
 use Rattle.ppshelf.specs.Names.{AreNames}
-use Rattle.ppunit.specs.declared.states.State.{State}
-use Rattle.ppunit.specs.States.{Surroundings, Reached, given}
+use Rattle.ppunit.specs.States.{State, Surroundings, Reached, given}
 use Rattle.ppunit.specs.Unit.{Translates, surroundings, count_translates}
 use Rattle.ppunit.specs.Laws.{HasOneValue}
 use Rattle.ppunit.proofs.Spends.{unit_spends}

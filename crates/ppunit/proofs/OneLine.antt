@@ -16,8 +16,7 @@ use Rattle.ppexpand.specs.Expansion.{IsExpansion}
 use Rattle.ppexpr.specs.Conditions.{IsCondition}
 use Rattle.ppshelf.specs.Names.{AreNames}
 use Rattle.ppshelf.specs.Search.{IsFirstRow}
-use Rattle.ppunit.specs.declared.states.State.{State}
-use Rattle.ppunit.specs.States.{Reached, passed, with_left}
+use Rattle.ppunit.specs.States.{State, Reached, passed, with_left}
 use Rattle.ppunit.specs.Lines.{operands, line_fault}
 use Rattle.ppunit.specs.Quotes.{lone_quote}
 use Rattle.ppunit.specs.LineControl.{presumed}

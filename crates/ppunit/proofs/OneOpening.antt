@@ -8,9 +8,8 @@ use Rattle.pptext.specs.Tree.{Parts, Tree}
 use Rattle.ppshelf.specs.Content.{unreadable, readable}
 use Rattle.ppshelf.specs.Files.{file_at}
 use Rattle.ppshelf.specs.Names.{name_in}
-use Rattle.ppunit.specs.declared.states.State.{State}
 use Rattle.ppunit.specs.Dependencies.{is_among}
-use Rattle.ppunit.specs.States.{Surroundings, Reached, going, stopped, depending, entering, leaving, is_spent, paying}
+use Rattle.ppunit.specs.States.{State, Surroundings, Reached, going, stopped, depending, entering, leaving, is_spent, paying}
 use Rattle.ppunit.specs.Group.{deepest, fault_at, Group, Opened}
 use Rattle.ppunit.proofs.OneLine.{OneReading, OneTree}
 

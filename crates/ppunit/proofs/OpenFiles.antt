@@ -7,10 +7,9 @@ use Rattle.ppshelf.specs.Files.{Files, Extends}
 use Rattle.ppunit.specs.declared.opening.Entered.{Entered}
 use Rattle.ppunit.specs.declared.opening.OpenFile.{OpenFile}
 use Rattle.ppunit.specs.declared.stack.Waiting.{Waiting}
-use Rattle.ppunit.specs.declared.states.State.{State}
 use Rattle.ppunit.specs.declared.walking.Next.{Next}
 use Rattle.ppunit.specs.Group.{Group, Controls}
-use Rattle.ppunit.specs.States.{Surroundings, Reached, going, stopped}
+use Rattle.ppunit.specs.States.{State, Surroundings, Reached, going, stopped}
 use Rattle.ppunit.specs.Walk.{line_at, Outer, StandsAt, Ends, Advances, Passes, EntersFile, StepsTo, Steps, Walks, back, next_file, next_waiting, brought_back}
 use Rattle.ppunit.proofs.WholeFile.{FileSoFar, file_start, file_more, file_stop, file_done, extends_trans}
 use Rattle.ppunit.proofs.Advancing.{ends_stop}

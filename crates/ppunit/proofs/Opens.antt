@@ -11,9 +11,8 @@ use Rattle.ppexpand.specs.declared.env.Env.{Env}
 use Rattle.ppshelf.specs.Content.{Content, unreadable, readable, IsRead}
 use Rattle.ppshelf.specs.Names.{name_in}
 use Rattle.ppshelf.specs.Files.{Files, Extends, file_at}
-use Rattle.ppunit.specs.declared.states.State.{State}
 use Rattle.ppunit.specs.declared.opening.Entered.{Entered}
-use Rattle.ppunit.specs.States.{Surroundings, going, stopped, depending, entering, is_spent, paying, literal}
+use Rattle.ppunit.specs.States.{State, Surroundings, going, stopped, depending, entering, is_spent, paying, literal}
 use Rattle.ppunit.specs.Dependencies.{is_among}
 use Rattle.ppunit.specs.Group.{fault_at, deepest, Group, Opened}
 use Rattle.ppunit.specs.Walk.{EntersFile, back}

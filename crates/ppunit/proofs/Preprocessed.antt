@@ -9,10 +9,9 @@ use Rattle.pptext.specs.Lines.{LogicalLine}
 use Rattle.pptext.specs.Sources.{IsSource, Reads}
 use Rattle.pptext.specs.Tree.{Parts, Tree, group_fault}
 use Rattle.ppshelf.specs.Files.{Files, Extends}
-use Rattle.ppunit.specs.declared.states.State.{State}
+use Rattle.ppunit.specs.States.{State, Surroundings, Reached, going, stopped, given}
 use Rattle.ppunit.specs.declared.units.Unit.{Unit as UnitOfList}
 use Rattle.ppunit.specs.declared.units.Setting.{Setting}
-use Rattle.ppunit.specs.States.{Surroundings, Reached, going, stopped, given}
 use Rattle.ppunit.specs.Group.{Opened}
 use Rattle.ppunit.specs.Unit.{IsUnit, beginning, command_file, command_text, unread, processed, Translates, undefined, translated, first_place}
 use Rattle.ppunit.specs.declared.opening.Entered.{Entered}

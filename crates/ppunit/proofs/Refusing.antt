@@ -5,8 +5,7 @@ use Rattle.pptext.specs.declared.tokens.Fault.{Fault}
 use Rattle.pptext.specs.Lines.{LogicalLine}
 use Rattle.pptext.specs.Tree.{Parts, Branches}
 use Rattle.ppexpand.specs.Turn.{less_one}
-use Rattle.ppunit.specs.declared.states.State.{State}
-use Rattle.ppunit.specs.States.{Surroundings, Reached, is_spent}
+use Rattle.ppunit.specs.States.{State, Surroundings, Reached, is_spent}
 use Rattle.ppunit.specs.Lines.{run_tokens}
 use Rattle.ppunit.specs.Group.{Group, Branched, Controls, Includes, Opened}
 use Rattle.ppunit.specs.Unit.{surroundings, Defines, unread, processed, Translates, undefined, translated}

@@ -17,8 +17,7 @@ use Rattle.ppexpand.specs.Arguments.{is_lone_quote}
 use Rattle.ppexpand.specs.Expansion.{IsExpansion}
 use Rattle.ppexpand.proofs.Refusing.{expansion_never_refused}
 use Rattle.ppexpr.proofs.Capped.{condition_never_refused}
-use Rattle.ppunit.specs.declared.states.State.{State}
-use Rattle.ppunit.specs.States.{Surroundings, Reached, with_left}
+use Rattle.ppunit.specs.States.{State, Surroundings, Reached, with_left}
 use Rattle.ppunit.specs.Lines.{operands, line_fault, one_identifier}
 use Rattle.ppunit.specs.Quotes.{quote_fault, lone_quote}
 use Rattle.ppunit.specs.LineControl.{Presumed, presumed}

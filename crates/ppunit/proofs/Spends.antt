@@ -15,11 +15,10 @@ use Rattle.ppexpand.specs.Laws.{plus}
 use Rattle.ppexpand.proofs.Budget.{expansion_spends}
 use Rattle.ppexpr.proofs.Capped.{condition_spends}
 use Rattle.ppshelf.specs.Files.{Files}
-use Rattle.ppunit.specs.declared.states.State.{State}
 use Rattle.ppunit.specs.declared.units.Unit.{Unit as UnitOfList}
 use Rattle.ppunit.specs.declared.units.Setting.{Setting}
 use Rattle.ppunit.specs.declared.units.UnitOut.{UnitOut}
-use Rattle.ppunit.specs.States.{Surroundings, Reached, is_spent, with_left, reading_once}
+use Rattle.ppunit.specs.States.{State, Surroundings, Reached, is_spent, with_left, reading_once}
 use Rattle.ppunit.specs.Lines.{operands, run_tokens}
 use Rattle.ppunit.specs.Quotes.{lone_quote}
 use Rattle.ppunit.specs.LineControl.{Presumed, presumed}

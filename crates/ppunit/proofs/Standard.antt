@@ -6,11 +6,10 @@ use Rattle.pptext.specs.Tree.{Parts, Branches, sign_place}
 use Rattle.ppexpand.specs.Turn.{less_one}
 use Rattle.ppshelf.specs.Files.{Files}
 use Rattle.ppshelf.specs.Names.{name_in}
-use Rattle.ppunit.specs.declared.states.State.{State}
 use Rattle.ppunit.specs.declared.units.Unit.{Unit as UnitOfList}
 use Rattle.ppunit.specs.declared.units.Setting.{Setting}
 use Rattle.ppunit.specs.declared.units.UnitOut.{UnitOut}
-use Rattle.ppunit.specs.States.{Surroundings, Reached, going, stopped, depending, entering}
+use Rattle.ppunit.specs.States.{State, Surroundings, Reached, going, stopped, depending, entering}
 use Rattle.ppunit.specs.Lines.{run_tokens, line_fault}
 use Rattle.ppunit.specs.Group.{Group, Branched, Controls, Includes, Opened, fault_at}
 use Rattle.ppunit.specs.Unit.{Defines, Translates, IsUnit, surroundings}

@@ -10,8 +10,7 @@ use Rattle.ppexpand.specs.Turn.{less_one}
 use Rattle.ppexpand.specs.declared.expansion.Expanded.{Expanded}
 use Rattle.ppexpand.proofs.Standard.{tokens_left, tokens_standard, tokens_unbudgeted}
 use Rattle.ppexpr.proofs.Standard.{condition_standard, condition_unbudgeted}
-use Rattle.ppunit.specs.declared.states.State.{State}
-use Rattle.ppunit.specs.States.{Reached, passed, is_spent, with_left, paying}
+use Rattle.ppunit.specs.States.{State, Reached, passed, is_spent, with_left, paying}
 use Rattle.ppunit.specs.Lines.{operands}
 use Rattle.ppunit.specs.Quotes.{lone_quote}
 use Rattle.ppunit.specs.LineControl.{presumed}

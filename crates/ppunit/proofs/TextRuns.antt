@@ -5,8 +5,7 @@ use Rattle.std.specs.List.{AllByRecursion}
 use Rattle.pptext.specs.declared.tokens.Fault.{Fault}
 use Rattle.pptext.specs.Lines.{LogicalLine}
 use Rattle.pptext.specs.Tree.{Parts, Done, Run, Control, Section, End, Branch, part_lines, branch_lines, BeginsRun, AreParts, role, role_by}
-use Rattle.ppunit.specs.declared.states.State.{State}
-use Rattle.ppunit.specs.States.{Surroundings, going}
+use Rattle.ppunit.specs.States.{State, Surroundings, going}
 use Rattle.ppunit.specs.Group.{Group}
 use Rattle.ppunit.specs.Directives.{RunGives}
 use Rattle.ppunit.specs.Lines.{run_tokens}

@@ -6,8 +6,7 @@ use Rattle.ppshelf.specs.Files.{Files}
 use Rattle.ppunit.specs.declared.opening.Entered.{Entered}
 use Rattle.ppunit.specs.declared.opening.OpenFile.{OpenFile}
 use Rattle.ppunit.specs.declared.stack.Waiting.{Waiting}
-use Rattle.ppunit.specs.declared.states.State.{State}
-use Rattle.ppunit.specs.States.{Surroundings}
+use Rattle.ppunit.specs.States.{State, Surroundings}
 use Rattle.ppunit.specs.Walk.{StepsTo, next_file, next_waiting}
 
 -- more than a file has lines, with its end

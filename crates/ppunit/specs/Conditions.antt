@@ -10,7 +10,7 @@ use Rattle.pptext.specs.Lines.{LogicalLine}
 use Rattle.pptext.specs.Tree.{sign_place}
 use Rattle.ppmacro.specs.Names.{Macros}
 use Rattle.ppexpr.specs.Conditions.{IsCondition}
-use Rattle.ppunit.specs.declared.states.State.{State}
+use Rattle.ppunit.specs.States.{State}
 use Rattle.ppunit.specs.Lines.{operands, named_fault, one_identifier}
 use Rattle.ppunit.specs.Quotes.{lone_quote}
 

@@ -17,8 +17,7 @@ use Rattle.ppexpand.specs.Expansion.{IsExpansion}
 use Rattle.ppshelf.specs.Names.{name_in}
 use Rattle.ppshelf.specs.Search.{candidates, IsFirstRow}
 use Rattle.ppunit.specs.declared.units.Item.TheVariants as item
-use Rattle.ppunit.specs.States.{Surroundings, Reached, going, stopped, passed, reading_once, with_left}
-use Rattle.ppunit.specs.declared.states.State.{State}
+use Rattle.ppunit.specs.States.{State, Surroundings, Reached, going, stopped, passed, reading_once, with_left}
 use Rattle.ppunit.specs.Lines.{operands, line_fault, spaced}
 use Rattle.ppunit.specs.LineControl.{Presumed, presumed, renumbered}
 use Rattle.ppunit.specs.Including.{Asked, begins_with_header, header_asked, asked_or, asked_behind, if_somewhere}

@@ -10,8 +10,7 @@ use Rattle.ppshelf.specs.Content.{unreadable, readable}
 use Rattle.ppshelf.specs.Files.{file_at}
 use Rattle.ppshelf.specs.Names.{name_in}
 use Rattle.ppunit.specs.Dependencies.{is_among}
-use Rattle.ppunit.specs.States.{Surroundings, Reached, going, stopped, depending, entering, leaving, is_spent, with_left, paying}
-use Rattle.ppunit.specs.declared.states.State.{State}
+use Rattle.ppunit.specs.States.{State, Surroundings, Reached, going, stopped, depending, entering, leaving, is_spent, with_left, paying}
 use Rattle.ppunit.specs.Lines.{operands, line_fault, run_tokens}
 use Rattle.ppunit.specs.Quotes.{lone_quote}
 use Rattle.ppunit.specs.Conditions.{Decides}

@@ -7,8 +7,7 @@ use Rattle.pptext.specs.Guard.{GuardedBy}
 use Rattle.ppshelf.specs.Names.{AreNames}
 use Rattle.ppshelf.specs.Content.{readable}
 use Rattle.ppshelf.specs.Files.{file_at}
-use Rattle.ppunit.specs.States.{Surroundings, Reached, going, depending, is_spent, paying}
-use Rattle.ppunit.specs.declared.states.State.{State}
+use Rattle.ppunit.specs.States.{State, Surroundings, Reached, going, depending, is_spent, paying}
 use Rattle.ppunit.specs.Conditions.{is_defined}
 use Rattle.ppunit.specs.Group.{deepest, Opened}
 use Rattle.ppunit.specs.Counts.{count_opened}

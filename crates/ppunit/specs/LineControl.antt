@@ -7,7 +7,7 @@ use Rattle.pptext.specs.declared.tokens.Kind.{Kind}
 use Rattle.pptext.specs.declared.tokens.Kind.TheVariants.{Number, Str}
 use Rattle.pptext.specs.Spellings.{is_digit}
 use Rattle.pptext.specs.Lines.{LogicalLine}
-use Rattle.ppunit.specs.declared.states.State.{State}
+use Rattle.ppunit.specs.States.{State}
 
 -- a line's number, and perhaps its file's name, as a string literal
 pub record Presumed : Type 0 where

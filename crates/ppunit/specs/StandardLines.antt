@@ -10,8 +10,7 @@ use Rattle.pptext.specs.Tree.{sign_place}
 use Rattle.ppexpand.specs.Standard.{IsStandardExpansion}
 use Rattle.ppexpr.specs.Standard.{IsStandardCondition}
 use Rattle.ppunit.specs.declared.units.Item.TheVariants as item
-use Rattle.ppunit.specs.declared.states.State.{State}
-use Rattle.ppunit.specs.States.{Reached, passed}
+use Rattle.ppunit.specs.States.{State, Reached, passed}
 use Rattle.ppunit.specs.Lines.{operands, line_fault, one_identifier}
 use Rattle.ppunit.specs.Quotes.{lone_quote}
 use Rattle.ppunit.specs.LineControl.{presumed}

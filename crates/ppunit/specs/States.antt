@@ -3,13 +3,14 @@ use Rattle.std.specs.Prelude.{ℕ, zero, pos, List, [], ◌∷◌, ◌++◌, Boo
 use Rattle.pptext.specs.declared.tokens.Fault.{Fault}
 use Rattle.pptext.specs.declared.sources.Profile.{Profile}
 use Rattle.ppmacro.specs.Substitution.{escaped}
+use Rattle.ppmacro.specs.Names.{Macros}
+use Rattle.ppexpand.specs.declared.env.Env.{Env}
 use Rattle.ppexpand.specs.Turn.{less_one}
 use Rattle.ppshelf.specs.Files.{Files, Stock}
 use Rattle.ppshelf.specs.Names.{name_in}
 use Rattle.ppunit.specs.Dependencies.{among}
 use Rattle.ppunit.specs.declared.units.Item.{Item}
 use Rattle.ppunit.specs.declared.units.UnitOut.{UnitOut}
-use Rattle.ppunit.specs.declared.states.State.{State}
 
 -- where a unit's files lie: their shelf, and the folders that are searched, the unit's before the setting's
 pub record Library : Type 0 where
@@ -36,6 +37,20 @@ surroundings_of library files =
       unit_folders = library.unit_folders;
       setting_folders = library.setting_folders;
     }
+
+-- where phase 4 stands
+pub record State : Type 0 where
+  pub macros : Macros
+  -- what was passed on
+  pub items : List Item
+  -- the rows of the files that were opened, in the order of their first opening
+  pub deps : List ℕ
+  -- those of them that are not read again
+  pub once : List ℕ
+  -- what is left of the budget
+  pub left : Option ℕ
+  -- what the predefined names stand for
+  pub env : Env
 
 -- a unit goes on, or has stopped at its first fault
 pub record Reached : Type 0 where

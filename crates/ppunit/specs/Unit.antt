@@ -12,8 +12,7 @@ pub use Rattle.ppunit.specs.Commands.{Commands, command_file, command_line, comm
 use Rattle.ppunit.specs.declared.units.Unit.{Unit as UnitOfList}
 use Rattle.ppunit.specs.declared.units.Setting.{Setting}
 use Rattle.ppunit.specs.declared.units.UnitOut.{UnitOut}
-use Rattle.ppunit.specs.States.{Surroundings, Reached, going, stopped, given}
-use Rattle.ppunit.specs.declared.states.State.{State}
+use Rattle.ppunit.specs.States.{State, Surroundings, Reached, going, stopped, given}
 use Rattle.ppunit.specs.Group.{Group, Opened}
 use Rattle.ppunit.specs.Counts.{count_group, count_opened}
 

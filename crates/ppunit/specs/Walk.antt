@@ -1,4 +1,5 @@
--- Where a walk over the lines of a file, and of the files that it includes, stands in the tree of its groups.
+-- Where a walk over the lines of a file, and of the files that it includes, stands in the tree of its groups. Only the contracts of private functions
+-- cite this.
 use Rattle.std.specs.Prelude.{◌≡◌, ℕ, suc, ◌+◌, ◌<◌, ◌≤◌, ◌^◌, Bool, true, false, Option, None, Some, Result, Ok, Err}
 use Rattle.std.specs.Prelude.{List, [], ◌∷◌, ◌++◌, length, drop, map, slice_index_or}
 use Rattle.pptext.specs.declared.tokens.Fault.{Fault}
@@ -8,12 +9,11 @@ use Rattle.pptext.specs.Sources.{next_branch}
 use Rattle.pptext.specs.Tree.{Parts, Branches, part_lines, branch_lines, AreParts, AreBranches, Tree, role, branch_behind, has_condition}
 use Rattle.ppexpand.specs.declared.env.Env.{Env}
 use Rattle.ppshelf.specs.Files.{Files, Extends}
-use Rattle.ppunit.specs.declared.states.State.{State}
 use Rattle.ppunit.specs.declared.opening.Entered.{Entered}
 use Rattle.ppunit.specs.declared.opening.OpenFile.{OpenFile}
 use Rattle.ppunit.specs.declared.stack.Waiting.{Waiting}
 use Rattle.ppunit.specs.declared.walking.Next.{Next}
-use Rattle.ppunit.specs.States.{Surroundings, Reached, going, stopped}
+use Rattle.ppunit.specs.States.{State, Surroundings, Reached, going, stopped}
 use Rattle.ppunit.specs.Conditions.{DecidesFreely, Decides}
 use Rattle.ppunit.specs.Group.{deepest, Group, Branched, Controls}
 use Rattle.ppunit.specs.Unit.{Defines}

@@ -10,6 +10,7 @@ use ppexpand::Env;
 use ppmacro::{Table, push_escaped};
 use pptext::{Hashing, Memory, Place, Spelling, Token};
 use std::alloc::{AllocError, Global};
+use std::marker::Model;
 
 /// Where phase 4 stands: the macros, what was passed on, the files that were opened in the order of their first
 /// opening, those of them that are not read again, what is left of the budget, and what the predefined names stand for.
@@ -21,6 +22,28 @@ pub(crate) struct State<'x> {
     pub once: Rows,
     pub left: Option<u64>,
     pub env: Env,
+}
+
+impl<'x> Model for State<'x> {
+    ghost use Rattle.ppunit.specs.States.{State};
+
+    ghost Value = { State };
+
+    ghost use Rattle.std.specs.Prelude.{[]};
+    ghost use Rattle.std.specs.Coded.{codes};
+    ghost use Rattle.ppmacro.specs.contracts.tables.Table as table_contract;
+    ghost use mir.Syntax.{named};
+
+    ghost coded = { Prim.hlevel (codes, (table_contract.the_row (record { mir = named 1; lft = [] })).coded) };
+
+    ghost view = { λ s. record {
+      macros = s.macros;
+      items = s.items;
+      deps = s.deps;
+      once = s.once;
+      left = s.left;
+      env = s.env;
+    } };
 }
 
 impl<'x> State<'x> {

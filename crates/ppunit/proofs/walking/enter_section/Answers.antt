@@ -1,6 +1,6 @@
 use Rattle.std.proofs.Common.{◌+◌, Bool, Ok, Err, sym, subst}
 use Rattle.pptext.proofs.Stopping.{stopped}
-use Rattle.ppunit.specs.declared.states.State.{State}
+use Rattle.ppunit.specs.States.{State}
 use Rattle.ppunit.specs.Conditions.{Decides}
 use Rattle.ppunit.specs.Walk.{line_at, Advances}
 use Rattle.ppunit.proofs.Deciding.{decides_at}

@@ -1,6 +1,6 @@
 use Rattle.std.proofs.Common.{◌+◌, Bool, Ok, Err, ◌∙◌, sym, subst, arith}
 use Rattle.pptext.proofs.Stopping.{stopped}
-use Rattle.ppunit.specs.declared.states.State.{State}
+use Rattle.ppunit.specs.States.{State}
 use Rattle.ppunit.specs.Walk.{FindsBranch}
 use Rattle.ppunit.proofs.SectionEnds.{next_inside}
 use Rattle.ppunit.proofs.FoundBranch.{EntersAt, BranchSoFar, branch_more, branch_taken, branch_refused, branch_found}

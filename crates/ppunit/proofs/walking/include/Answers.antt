@@ -2,8 +2,7 @@ use Rattle.std.proofs.Common.{◌≡◌, suc, ◌+◌, Some, refl, sym, subst, a
 use Rattle.pptext.specs.declared.tokens.Fault.{Fault}
 use Rattle.pptext.specs.declared.sources.Directive.TheVariants.{Include}
 use Rattle.pptext.proofs.Stopping.{stopped}
-use Rattle.ppunit.specs.declared.states.State.{State}
-use Rattle.ppunit.specs.States.{with_left, surroundings_of}
+use Rattle.ppunit.specs.States.{State, with_left, surroundings_of}
 use Rattle.ppunit.specs.Lines.{directed, line_fault}
 use Rattle.ppunit.specs.Directives.{Finds}
 use Rattle.ppunit.specs.Group.{Controls, Includes}

@@ -1,8 +1,7 @@
 use Rattle.std.proofs.Common.{◌≡◌, ◌<◌, ◌≤◌, List, [], ◌∷◌, length, Err, refl, sym, ap, subst, arith}
 use Rattle.pptext.proofs.Stopping.{stopped as halted}
 use Rattle.ppunit.specs.declared.stack.Waiting.{Waiting}
-use Rattle.ppunit.specs.declared.states.State.{State}
-use Rattle.ppunit.specs.States.{stopped, surroundings_of}
+use Rattle.ppunit.specs.States.{State, stopped, surroundings_of}
 use Rattle.ppunit.specs.Walk.{Walks}
 use Rattle.ppunit.proofs.WholeFile.{extends_trans}
 use Rattle.ppunit.proofs.OpenFiles.{StackSoFar, stack_start, stack_next, next_depth, stack_leaves, stack_stops, stack_done}
@@ -45,10 +44,12 @@ loop-file-preserved g c =
       grows = c.loop-file.invariant.grows;
       depth = omega (arith, ap length there, c.loop-file.invariant.depth);
       walked =
-          stack_leaves (surroundings_of c.args.around.now) c.loop-file.pass.files c.args.first.row c.args.first.source.now c.args.state.now
+          subst (λ (z : State). StackSoFar (surroundings_of c.args.around.now) c.loop-file.pass.files c.args.first.row c.args.first.source.now
+          c.args.state.now c.pop.new.self c.in-Some.outer.file (record z { env = c.in-Some.outer.env })) (sym c.state.view_is)
+          (stack_leaves (surroundings_of c.args.around.now) c.loop-file.pass.files c.args.first.row c.args.first.source.now c.args.state.now
           c.loop-file.state c.in-Some.outer c.pop.new.self c.loop-file.file
           (subst (λ (z : List Waiting). StackSoFar (surroundings_of c.args.around.now) c.loop-file.pass.files c.args.first.row c.args.first.source.now
-          c.args.state.now z c.loop-file.file c.loop-file.state) there c.loop-file.invariant.walked) over;
+          c.args.state.now z c.loop-file.file c.loop-file.state) there c.loop-file.invariant.walked) over);
     }
 
 pub loop-file-smaller-in-Ok : goal.loop-file-smaller-in-Ok
