@@ -1,9 +1,10 @@
-use Rattle.std.proofs.Common.{◌≡◌, suc, ◌+◌, Some, refl, sym, subst, arith}
+use Rattle.std.proofs.Common.{◌≡◌, ℕ, suc, ◌+◌, List, Some, refl, sym, ap, ◌∙◌, subst, arith}
 use Rattle.pptext.specs.declared.tokens.Fault.{Fault}
 use Rattle.pptext.specs.declared.sources.Directive.TheVariants.{Include}
 use Rattle.pptext.proofs.Stopping.{stopped}
 use Rattle.ppunit.specs.States.{State, with_left, surroundings_of}
 use Rattle.ppunit.specs.Lines.{directed, line_fault}
+use Rattle.ppunit.specs.Including.{Asked}
 use Rattle.ppunit.specs.Directives.{Finds}
 use Rattle.ppunit.specs.Group.{Controls, Includes}
 use Rattle.ppunit.proofs.Options.{none_of}
@@ -22,8 +23,9 @@ pub returns-in_default-clause-control : goal.returns-in_default-clause-control
 returns-in_default-clause-control g c number more grows =
     let around = surroundings_of c.args.around.now more in
     let line = directed Include c.args.line.now number in
-    let fault = c.in_ok-line_fault.ensures in
-    let same : c.in_ok-line_fault.field-0 ≡ line_fault 31 c.args.line.now c.in_ok-asked.asked.name = cc in
+    let name = c.as_bytes.ensures ∙ ap (λ (z : Asked). z.name) c.asked.view_is in
+    let same : c.in_ok-line_fault.field-0 ≡ line_fault 31 c.args.line.now c.in_ok-asked.asked.name = c.in_ok-line_fault.ensures
+    ∙ ap (λ (z : List ℕ). line_fault 31 c.args.line.now z) name in
     let finds =
     subst (Finds around c.args.row c.in_ok-asked.asked) (none_of c.in_ok-found.field-0 c.in_default.not-Some)
     (c.in_ok-found.ensures.finds more) in
