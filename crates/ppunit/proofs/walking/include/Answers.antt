@@ -23,7 +23,7 @@ pub returns-in_default-clause-control : goal.returns-in_default-clause-control
 returns-in_default-clause-control g c number more grows =
     let around = surroundings_of c.args.around.now more in
     let line = directed Include c.args.line.now number in
-    let name = c.as_bytes.ensures ∙ ap (λ (z : Asked). z.name) c.asked.view_is in
+    let name = c.as_bytes-name.ensures ∙ ap (λ (z : Asked). z.name) c.asked.view_is in
     let same : c.in_ok-line_fault.field-0 ≡ line_fault 31 c.args.line.now c.in_ok-asked.asked.name = c.in_ok-line_fault.ensures
     ∙ ap (λ (z : List ℕ). line_fault 31 c.args.line.now z) name in
     let finds =
