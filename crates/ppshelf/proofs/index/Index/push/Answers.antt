@@ -1,4 +1,4 @@
-use Rattle.std.proofs.Common.{◌≡◌, ◌∷◌, List, ℕ, subst, refl}
+use Rattle.std.proofs.Common.{List, ℕ, subst, refl}
 use Rattle.ppshelf.specs.Indexed.{keys_of}
 use Rattle.ppshelf.specs.Names.{IsPut}
 use Rattle.ppshelf.proofs.Naming.{pushed}
