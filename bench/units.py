@@ -10,6 +10,10 @@ list of their names with --root; gcc reads the same files from a folder, with th
 predefined macros and system folders.  All have their output thrown away.  Printed are the seconds, tokens a second (as
 `dump` counts them), the ratio to gcc's time (above 1: cppunits is the faster), how much faster than with the first
 number of workers it is, and the peak memory beside that of one gcc and of as many as there are units.
+
+How much faster several workers can be is bounded by the machine, whose processors may share cores, caches and memory: so at
+last as many runs with one worker as there are workers are started at once, which share nothing, and the work that they do in
+that time is printed beside that of one run alone.
 """
 import argparse
 import json
@@ -17,6 +21,7 @@ import os
 import subprocess
 import sys
 import tempfile
+import time
 
 from measure import MEGABYTE, PROGRAM, Dice, apart, timed
 
@@ -113,6 +118,23 @@ def rows(program, folder, workers, runs):
                 yield name, own, first / own, memory, status
 
 
+def at_once(program, folder, mode, count, runs):
+    """The seconds that so many runs with one worker take which are started together, and share nothing."""
+    command = [program, "--workers", "1", "--root", folder, mode]
+    least = None
+    for _ in range(runs):
+        start = time.perf_counter()
+        started = []
+        for _ in range(count):
+            with open(os.path.join(folder, "names.json"), "rb") as source:
+                started.append(subprocess.Popen(command, stdin=source, stdout=subprocess.DEVNULL))
+        for run in started:
+            run.wait()
+        own = time.perf_counter() - start
+        least = own if least is None else min(least, own)
+    return least
+
+
 def main():
     parser = argparse.ArgumentParser(description=__doc__, formatter_class=argparse.RawDescriptionHelpFormatter)
     parser.add_argument("--program", default=PROGRAM)
@@ -135,6 +157,13 @@ def main():
         for name, own, faster, memory, status in rows(program, folder, workers, asked.runs):
             print("%-24s %7.2f s  %9.0f tokens/s  peak %7.1f MB  ratio %.2f  %.2f times as fast as with %d  status %d"
                   % (name, own, tokens / own, memory / MEGABYTE, other / own, faster, workers[0], status))
+        for mode in ("dump", "deps"):
+            alone = at_once(program, folder, mode, 1, asked.runs)
+            for count in workers:
+                if count > 1:
+                    together = at_once(program, folder, mode, count, asked.runs)
+                    print("%s --root, %d runs of one worker at once: %.2f times the work of one alone"
+                          % (mode, count, count * alone / together))
 
 
 if __name__ == "__main__":
