@@ -1,0 +1,83 @@
+#!/usr/bin/env python3
+"""Writes docs/EDITS.md: for each must-fail edit, which clause of which function refuses it, as the gate's log says.
+
+    rt ci | tee LOG; tests/edits_table.py LOG > docs/EDITS.md
+
+Edits that the log doesn't name, since an earlier run kept what it found of them, keep the sentence that docs/EDITS.md has.
+"""
+import glob
+import os
+import re
+import sys
+
+TOP = os.path.dirname(os.path.dirname(os.path.abspath(__file__)))
+HEAD = """# Must-fail edits
+
+Each edit of `crates/*/must-fail` turns the meaning of one function, and the gate wants the prover to refuse it. This says of each
+which clause does: the first goal that can't be shown once the edit is made, by the function in which it arises. A goal's name says
+where (`returns-then-is_spent`: where the function returns because `is_spent` holds; `loop-.._preserved`: the invariant behind a
+turn; `..-requires`: what a call wants) and, last, the clause of the contract. `tests/edits_table.py` writes this page from the
+log of the gate.
+"""
+LINE = re.compile(r"must-fail (\w+)/([\w-]+)\.edit: refused, as it must be(.*)")
+GOAL = re.compile(r"(?:note: )?(src/[\w/]+\.rt):(\d+):\d+: (.*)")
+
+
+def function_at(crate, path, line):
+    """The function of the source around this line."""
+    name = "?"
+    with open(os.path.join(TOP, "crates", crate, path)) as source:
+        for number, text in enumerate(source, 1):
+            found = re.match(r"\s*(?:pub(?:\(\w+\))? )?fn (\w+)", text)
+            if found:
+                name = found.group(1)
+            if number == line:
+                break
+    return name
+
+
+def sentence(crate, told):
+    goal = GOAL.search(told)
+    if not goal:
+        return "refused%s" % (": " + told.strip(" :") if told.strip(" :") else "")
+    path, line, words = goal.group(1), int(goal.group(2)), goal.group(3)
+    named = re.search(r"`([^`]+)`", words)
+    where = "`%s` (`%s`)" % (function_at(crate, path, line), path)
+    return "%s: %s" % (where, "`%s`" % named.group(1) if named else words.strip())
+
+
+def known():
+    """What docs/EDITS.md says already, by crate and edit."""
+    page, crate, found = os.path.join(TOP, "docs", "EDITS.md"), None, {}
+    if not os.path.exists(page):
+        return found
+    with open(page) as text:
+        for line in text:
+            head = re.match(r"## (\w+)$", line)
+            row = re.match(r"\| `([\w-]+)` \| (.*) \|$", line)
+            if head:
+                crate = head.group(1)
+            elif row:
+                found[crate, row.group(1)] = row.group(2)
+    return found
+
+
+def main():
+    found = known()
+    with open(sys.argv[1], errors="replace") as log:
+        for line in log:
+            told = LINE.search(line)
+            if told:
+                found[told.group(1), told.group(2)] = sentence(told.group(1), told.group(3))
+    print(HEAD)
+    for folder in sorted(glob.glob(os.path.join(TOP, "crates", "*", "must-fail"))):
+        crate = os.path.basename(os.path.dirname(folder))
+        print("## %s\n\n| Edit | Refused by |\n|---|---|" % crate)
+        for edit in sorted(glob.glob(os.path.join(folder, "*.edit"))):
+            name = os.path.basename(edit)[:-len(".edit")]
+            print("| `%s` | %s |" % (name, found.get((crate, name), "not tried yet")))
+        print()
+
+
+if __name__ == "__main__":
+    main()
