@@ -5,9 +5,9 @@ use Rattle.pptext.specs.declared.tokens.Place.{Place}
 use Rattle.pptext.specs.declared.tokens.Token.{Token}
 use Rattle.pptext.specs.declared.tokens.Fault.{Fault}
 use Rattle.pptext.specs.declared.tokens.Kind.{Kind}
+use Rattle.pptext.specs.Tokens.{is_lone_quote, fault}
 use Rattle.ppmacro.specs.Names.{Name, HideSet, Macros}
 use Rattle.ppmacro.specs.HideSets.{Hiding}
-use Rattle.ppmacro.specs.Define.{fault}
 use Rattle.ppmacro.specs.Chains.{chains_of}
 use Rattle.ppmacro.specs.Lexing.{kind_of}
 use Rattle.ppmacro.specs.declared.macros.Shape.{Shape}
@@ -20,7 +20,7 @@ use Rattle.ppmacro.specs.Substitution.{string_text, string_token, is_string_lite
 use Rattle.ppmacro.specs.Substitution.{chains_tokens, substituted}
 use Rattle.ppexpand.specs.declared.env.Env.{Env}
 use Rattle.ppexpand.specs.declared.expansion.Expanded.{Expanded}
-use Rattle.ppexpand.specs.Arguments.{is_lone_quote, is_open, Gathered, Closed, Quoted, Unclosed, gather, separators, fitted}
+use Rattle.ppexpand.specs.Arguments.{is_open, Gathered, Closed, Quoted, Unclosed, gather, separators, fitted}
 use Rattle.ppexpand.specs.Turn.{Call, Turn, Refused, Passes, Failed, replaced_by, quote_fault, called, invoked, function_turn, no_arguments, macro_turn, named_turn, macro_of, turn, less_one, finished}
 use Rattle.ppexpand.specs.Expansion.{Outcome, ExpandedArguments, with_expanded, turn_within, Expands, done, refused, passes, failed, replaced, argument_refused, call_failed, call_replaced, ExpandsArguments, none, unused, too_deep}
 use Rattle.ppexpand.specs.Expansion.{used as was_used, used_refused, count, count_arguments, ExpandsTo, IsExpansion}

@@ -4,6 +4,7 @@ use Rattle.std.proofs.lemmas.List.Elements.{All-cons, All-nil}
 use Rattle.std.specs.List.{AllPass}
 use Rattle.std.specs.FinSet as set
 use Rattle.pptext.specs.declared.tokens.Fault.{Fault}
+use Rattle.pptext.specs.Tokens.{is_lone_quote}
 use Rattle.ppmacro.specs.Names.{Name, Macros}
 use Rattle.ppmacro.specs.HideSets.{Hiding}
 use Rattle.ppmacro.specs.Chains.{is_function_like}
@@ -12,7 +13,7 @@ use Rattle.ppmacro.specs.declared.macros.Definition.{Definition}
 use Rattle.ppmacro.specs.declared.macros.Shape.{Shape}
 use Rattle.ppmacro.specs.declared.macros.Shape.TheVariants.{Predefined, ObjectLike, FunctionLike}
 use Rattle.ppexpand.specs.declared.env.Env.{Env}
-use Rattle.ppexpand.specs.Arguments.{is_lone_quote, is_open, Gathered, Closed, Quoted, Unclosed, gather, separators, fitted}
+use Rattle.ppexpand.specs.Arguments.{is_open, Gathered, Closed, Quoted, Unclosed, gather, separators, fitted}
 use Rattle.ppexpand.specs.Turn.{Turn, Done, Refused, Passes, Failed, Replaced, Called, over, within, turn, macro_of, quote_fault, named_turn, macro_turn, function_turn, invoked, called, replaced_by}
 use Rattle.ppexpand.specs.Expansion.{Outcome, Expands, done, refused, passes, failed, replaced, argument_refused, call_failed, call_replaced}
 use Rattle.ppexpand.specs.Laws.{is_settled, is_always_replaced}

@@ -4,6 +4,7 @@ use Rattle.std.specs.FinSet as set
 use Rattle.std.specs.List.{AllByRecursion}
 use Rattle.std.proofs.lemmas.List.{map-append}
 use Rattle.pptext.specs.declared.tokens.Token.{Token}
+use Rattle.pptext.specs.Tokens.{is_lone_quote}
 use Rattle.ppmacro.specs.Names.{Macros}
 use Rattle.ppmacro.specs.Numbered.{Numbered}
 use Rattle.ppmacro.specs.HideSets.{set_at, IsKnown, Hiding, hiding, hidings, AllKnown}
@@ -12,7 +13,6 @@ use Rattle.ppmacro.specs.Substituting.{tokens_of}
 use Rattle.ppmacro.proofs.KeepLemmas.{known-front, known-behind, known-append}
 use Rattle.ppmacro.specs.declared.flying.Hidden.{Hidden}
 use Rattle.ppexpand.specs.declared.env.Env.{Env}
-use Rattle.ppexpand.specs.Arguments.{is_lone_quote}
 use Rattle.ppexpand.specs.Turn.{Passes, macro_of, turn, within}
 use Rattle.ppexpand.specs.Expansion.{Outcome, turn_within, Expands, ExpandsTo, IsExpansion, passes, done, ended}
 use Rattle.ppexpand.specs.declared.expansion.Expanded.{Expanded}

@@ -3,6 +3,7 @@ use Rattle.std.proofs.Common.{◌≡◌, ◌↔◌, ℕ, suc, Bool, true, false,
 use Rattle.std.specs.FinSet as set
 use Rattle.pptext.specs.declared.tokens.Token.{Token}
 use Rattle.pptext.specs.declared.tokens.Fault.{Fault}
+use Rattle.pptext.specs.Tokens.{is_lone_quote}
 use Rattle.ppmacro.specs.Names.{Name, Macros}
 use Rattle.ppmacro.specs.HideSets.{Hiding}
 use Rattle.ppmacro.specs.Substitution.{Marked}
@@ -12,7 +13,7 @@ use Rattle.ppmacro.specs.declared.macros.Shape.{Shape}
 use Rattle.ppmacro.specs.declared.macros.Shape.TheVariants.{Predefined, ObjectLike, FunctionLike}
 use Rattle.ppexpand.specs.declared.env.Env.{Env}
 use Rattle.ppexpand.specs.declared.expansion.Expanded.{Expanded}
-use Rattle.ppexpand.specs.Arguments.{is_lone_quote, is_open, Gathered, Closed, Quoted, Unclosed, gather, separators, fitted}
+use Rattle.ppexpand.specs.Arguments.{is_open, Gathered, Closed, Quoted, Unclosed, gather, separators, fitted}
 use Rattle.ppexpand.specs.Turn.{predefined_value, Call, Turn, Done, Refused, Passes, Failed, Replaced, Called, followed_by, replaced_by, fault_at_use, quote_fault, gain_of, called, invoked, function_turn, macro_turn, named_turn, macro_of}
 use Rattle.ppexpand.specs.Turn.{turn, less_one, wanted, finished}
 use Rattle.ppexpand.specs.Expansion.{Outcome, ExpandedArguments, turn_within, Expands, ExpandsTo, ExpandsArguments, IsExpansion}

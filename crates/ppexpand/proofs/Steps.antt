@@ -10,15 +10,15 @@ use Rattle.std.proofs.lemmas.Cmp.{nat_list_cmp_total}
 use Rattle.pptext.specs.declared.tokens.Token.{Token}
 use Rattle.pptext.specs.declared.tokens.Fault.{Fault}
 use Rattle.pptext.specs.declared.tokens.Place.{Place}
+use Rattle.pptext.specs.Tokens.{is_identifier, is_lone_quote}
 use Rattle.ppmacro.specs.Names.{Name, HideSet, Macros}
 use Rattle.ppmacro.specs.HideSets.{Hiding}
 use Rattle.ppmacro.specs.declared.macros.Definition.{Definition}
 use Rattle.ppmacro.specs.declared.macros.Shape.{Shape}
 use Rattle.ppmacro.specs.declared.macros.Shape.TheVariants.{Predefined, ObjectLike, FunctionLike}
 use Rattle.ppmacro.specs.Chains.{chains_of}
-use Rattle.ppmacro.specs.Spellings.{is_identifier}
 use Rattle.ppmacro.specs.Substitution.{Arguments, Marked, substituted, after_ok, chains_tokens, gained}
-use Rattle.ppexpand.specs.Arguments.{Gathered, Closed, Quoted, Unclosed, mark_of, gather, separators, fitted, separates, fewer, with_token, with_argument, is_open, is_lone_quote, Quote, Open, Close, Comma, Inner}
+use Rattle.ppexpand.specs.Arguments.{Gathered, Closed, Quoted, Unclosed, mark_of, gather, separators, fitted, separates, fewer, with_token, with_argument, is_open, Quote, Open, Close, Comma, Inner}
 use Rattle.ppexpand.specs.declared.env.Env.{Env}
 use Rattle.ppexpand.specs.Turn.{Call, Turn, Done, Refused, Passes, Failed, Replaced, Called, turn, over, within, finished, mark_next, followed_by, replaced_by, gain_of, quote_fault, called, invoked, function_turn, macro_turn, named_turn}
 use Rattle.ppexpand.specs.Turn.{macro_of}

@@ -4,8 +4,8 @@ use Rattle.std.specs.FinSet as set
 use Rattle.ppmacro.specs.Names.{Macros}
 use Rattle.ppmacro.specs.HideSets.{Hiding}
 use Rattle.pptext.specs.declared.tokens.Fault.{Fault}
+use Rattle.pptext.specs.Tokens.{is_lone_quote}
 use Rattle.ppexpand.specs.declared.env.Env.{Env}
-use Rattle.ppexpand.specs.Arguments.{is_lone_quote}
 use Rattle.ppexpand.specs.Turn.{Done, Refused, Passes, quote_fault, named_turn, Turn, macro_of, turn, within, is_spent}
 
 pub turn-quote : (macros : Macros) (env : Env) (t : Hiding) (rest : List Hiding) → is_lone_quote t.token ≡ true → turn macros env (t ∷ rest) ≡ Refused (quote_fault t)

@@ -1,20 +1,9 @@
 -- The arguments of an invocation: the lists between `(` and its matching `)` (6.10.3, paragraphs 4, 10 to 12).
 use Rattle.std.specs.Prelude.{ℕ, zero, suc, ◌==◌, ◌-◌, Bool, true, false, ◌&&◌, ◌||◌, List, [], ◌∷◌, length, Option, Some, None, codes, if◌then◌else◌}
-use Rattle.std.specs.Str.{bytes_eq}
 use Rattle.pptext.specs.declared.tokens.Token.{Token}
-use Rattle.pptext.specs.declared.tokens.Kind.{Kind}
-use Rattle.pptext.specs.declared.tokens.Kind.TheVariants.{Other}
+use Rattle.pptext.specs.Tokens.{is_punct, is_lone_quote}
 use Rattle.ppmacro.specs.Names.{Name}
 use Rattle.ppmacro.specs.HideSets.{Hiding}
-use Rattle.ppmacro.specs.Spellings.{is_punct}
-
-abbrev pub is_other_kind : Kind → Bool
-is_other_kind Other = true
-is_other_kind _ = false
-
--- a quote that begins no literal (6.4, paragraph 3)
-abbrev pub is_lone_quote : Token → Bool
-is_lone_quote t = is_other_kind t.kind && (bytes_eq t.text (codes "'") || bytes_eq t.text (34 ∷ []))
 
 abbrev pub is_open : Token → Bool
 is_open t = is_punct (codes "(") t

@@ -3,13 +3,14 @@ use Rattle.std.specs.Prelude.{◌≡◌, ◌≢◌, ℕ, suc, ◌+◌, ◌-◌, 
 use Rattle.std.specs.FinSet as set
 use Rattle.pptext.specs.declared.tokens.Token.{Token}
 use Rattle.pptext.specs.declared.tokens.Fault.{Fault}
+use Rattle.pptext.specs.Tokens.{is_lone_quote}
 use Rattle.ppmacro.specs.Names.{Macros}
 use Rattle.ppmacro.specs.HideSets.{Hiding}
 use Rattle.ppmacro.specs.Chains.{is_function_like}
 use Rattle.ppmacro.specs.declared.macros.Definition.{Definition}
 use Rattle.ppexpand.specs.declared.env.Env.{Env}
 use Rattle.ppexpand.specs.declared.expansion.Expanded.{Expanded}
-use Rattle.ppexpand.specs.Arguments.{is_lone_quote, mark_of, separates, fewer, Quote, Open, Close, Comma, Inner}
+use Rattle.ppexpand.specs.Arguments.{mark_of, separates, fewer, Quote, Open, Close, Comma, Inner}
 use Rattle.ppexpand.specs.Turn.{Call, Passes, Replaced, Called, less_one, macro_of, wanted, finished}
 use Rattle.ppexpand.specs.Expansion.{Outcome, turn_within, ExpandsTo, ExpandsArguments, IsExpansion}
 

@@ -4,6 +4,7 @@ use Rattle.std.specs.Prelude.{◌≡◌, ℕ, suc, ◌<◌, ◌≤◌, Bool, tru
 use Rattle.std.specs.FinSet as set
 use Rattle.pptext.specs.declared.tokens.Token.{Token}
 use Rattle.pptext.specs.declared.tokens.Fault.{Fault}
+use Rattle.pptext.specs.Tokens.{is_lone_quote}
 use Rattle.ppmacro.specs.Names.{Name, Macros}
 use Rattle.ppmacro.specs.HideSets.{Hiding}
 use Rattle.ppmacro.specs.Substitution.{plain, Marked, substituted}
@@ -11,7 +12,7 @@ use Rattle.ppmacro.specs.declared.macros.Builtin.{Builtin}
 use Rattle.ppmacro.specs.declared.macros.Definition.{Definition}
 use Rattle.ppmacro.specs.declared.macros.Shape.TheVariants.{Predefined, ObjectLike, FunctionLike}
 use Rattle.ppexpand.specs.declared.env.Env.{Env}
-use Rattle.ppexpand.specs.Arguments.{is_lone_quote, is_open, Closed, Quoted, Unclosed, gather, separators, fitted}
+use Rattle.ppexpand.specs.Arguments.{is_open, Closed, Quoted, Unclosed, gather, separators, fitted}
 use Rattle.ppexpand.specs.Turn.{predefined_value, Call, followed_by, fault_at_use, quote_fault, gain_of, no_arguments, macro_of, wanted}
 use Rattle.ppexpand.specs.Expansion.{ExpandedArguments, with_expanded}
 

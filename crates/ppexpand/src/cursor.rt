@@ -1,14 +1,11 @@
 // The list that is being expanded.
 ghost use Rattle.std.specs.Prelude.{◌≡◌, ◌∷◌, [], ◌++◌, true, Some, MatchOption, OnOk};
 ghost use Rattle.std.specs.Option.{option_copied};
-ghost use Rattle.ppmacro.specs.Numbered.{Numbered};
-ghost use Rattle.ppmacro.specs.HideSets.{hidings, AllKnown};
 ghost use Rattle.ppmacro.specs.Substituting.{tokens_of};
 ghost use Rattle.ppexpand.specs.Turn.{mark_next};
-ghost use Rattle.ppexpand.specs.Lists.{marked, is_plain, next_macro, ArePlain};
+ghost use Rattle.ppexpand.specs.Lists.{marked, next_macro, ArePlain};
 ghost use Rattle.ppexpand.specs.Skipping.{IsAhead};
 
-use crate::spellings::is_lone_quote;
 use crate::stretch::Stretch;
 use crate::turn::macro_at;
 use ppmacro::{Hidden, Macro, Table};
@@ -136,7 +133,7 @@ impl<'a> Cursor<'a> {
         if let Some(named) = macro_at(table, token) {
             return Ahead::Names(named);
         }
-        if is_lone_quote(token) {
+        if token.is_lone_quote() {
             return Ahead::Unknown;
         }
         match self.behind.pop() {

@@ -25,5 +25,4 @@ pub use laws::{
 };
 pub use passed::{Piece, Run};
 pub use run_iter::{RunIter, TokenRef};
-pub use spellings::is_lone_quote;
 pub use stretch::Stretch;

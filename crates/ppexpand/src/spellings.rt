@@ -1,26 +1,18 @@
 // What a token is to macro replacement.
 ghost use Rattle.std.specs.Prelude.{◌≡◌, IfOk, []};
-ghost use Rattle.ppmacro.specs.Define.{fault};
-ghost use Rattle.ppexpand.specs.Arguments.{is_lone_quote, is_open, mark_of};
+ghost use Rattle.pptext.specs.Tokens.{is_lone_quote, fault};
+ghost use Rattle.ppexpand.specs.Arguments.{is_open, mark_of};
 ghost use Rattle.ppexpand.specs.Shown.{shown_mark};
 
-use ppmacro::{Hidden, is_identifier, is_punct};
-use pptext::{Fault, Kind, Place, Spelling, Token};
+use ppmacro::Hidden;
+use pptext::{Fault, Kind, Token};
 use std::alloc::AllocError;
 
 /// Whether a token is `(`.
 pub(crate) fn is_open(hidden: &Hidden) -> bool
     ensures { result ≡ is_open hidden.now.token }
 {
-    is_punct(hidden.word(), b"(")
-}
-
-/// Whether a token is `'` or `"` alone (6.4p3).
-pub fn is_lone_quote(token: &Token) -> bool
-    ensures { result ≡ is_lone_quote token.now }
-{
-    matches!(token.kind, Kind::Other)
-        && (token.text.as_bytes() == b"'".as_slice() || token.text.as_bytes() == b"\"".as_slice())
+    hidden.word().is_punct(b"(")
 }
 
 /// What a token is to the search for the `)` of an invocation (6.10.3p10, p11).
@@ -48,16 +40,16 @@ fn mark_of_word(token: &Token) -> Mark
     if !matches!(token.kind, Kind::Punct | Kind::Other) {
         return Mark::Inner;
     }
-    if is_lone_quote(token) {
+    if token.is_lone_quote() {
         return Mark::Quote;
     }
-    if is_punct(token, b"(") {
+    if token.is_punct(b"(") {
         return Mark::Open;
     }
-    if is_punct(token, b")") {
+    if token.is_punct(b")") {
         return Mark::Close;
     }
-    if is_punct(token, b",") {
+    if token.is_punct(b",") {
         return Mark::Comma;
     }
     Mark::Inner
@@ -67,41 +59,26 @@ fn mark_of_word(token: &Token) -> Mark
 pub(crate) fn is_quote(hidden: &Hidden) -> bool
     ensures { result ≡ is_lone_quote hidden.now.token }
 {
-    is_lone_quote(hidden.word())
-}
-
-/// A fault with this token's spelling.
-fn fault_of(number: u8, at: Place, hidden: &Hidden) -> Result<Fault, AllocError>
-    ensures { IfOk result (λ f. f ≡ fault number at hidden.now.token.text) }
-{
-    Ok(Fault {
-        number,
-        at,
-        text: hidden.spelling()?,
-    })
+    hidden.word().is_lone_quote()
 }
 
 /// A fault at the place where a token is used.
 pub(crate) fn at_use(number: u8, hidden: &Hidden) -> Result<Fault, AllocError>
     ensures { IfOk result (λ f. f ≡ fault number hidden.now.token.used hidden.now.token.text) }
 {
-    fault_of(number, hidden.used(), hidden)
+    Fault::of_token(number, hidden.used(), hidden.word())
 }
 
 /// Fault 7, of a lone quote.
 pub(crate) fn lone_quote(hidden: &Hidden) -> Result<Fault, AllocError>
     ensures { IfOk result (λ f. f ≡ fault 7 hidden.now.token.at hidden.now.token.text) }
 {
-    fault_of(7, hidden.at(), hidden)
+    Fault::of_token(7, hidden.at(), hidden.word())
 }
 
 /// Fault 35, of a macro's name for whose replacement nothing is left.
 pub(crate) fn over_budget(hidden: &Hidden) -> Fault
     ensures { result ≡ fault 35 hidden.now.token.used [] }
 {
-    Fault {
-        number: 35,
-        at: hidden.used(),
-        text: Spelling::empty(),
-    }
+    Fault::bare(35, hidden.used())
 }

@@ -5,7 +5,6 @@ ghost use Rattle.std.specs.Option.{option_copied};
 ghost use Rattle.ppmacro.specs.Substituting.{tokens_of};
 ghost use Rattle.ppexpand.specs.Lists.{with_set, is_plain, next_macro, ArePlain};
 
-use crate::spellings::is_lone_quote;
 use crate::turn::macro_at;
 use ppmacro::{Hidden, Macro, Set, Table};
 use pptext::Token;
@@ -33,7 +32,7 @@ impl<'a> Model for Stretch<'a> {
 pub(crate) fn is_plain(table: &Table, token: &Token) -> bool
     ensures { result ≡ is_plain table.now token.now }
 {
-    !is_lone_quote(token) && macro_at(table, token).is_none()
+    !token.is_lone_quote() && macro_at(table, token).is_none()
 }
 
 // How many tokens pass, from the first on, and the macro that the one behind them names.
@@ -44,7 +43,7 @@ fn plain_len<'t, 'b>(table: &'t Table<'b>, tokens: &[Token]) -> (usize, Option<&
 {
     for (count, token) in tokens.iter().enumerate() {
         let named = macro_at(table, token);
-        if named.is_some() || is_lone_quote(token) {
+        if named.is_some() || token.is_lone_quote() {
             return (count, named);
         }
     }

@@ -23,7 +23,7 @@ use crate::predefined::predefined_value;
 use crate::spellings::{at_use, is_open, is_quote, lone_quote, over_budget};
 use crate::spending::is_spent;
 use ppmacro::{
-    Builtin, Chain, Expansion, Hidden, HideSets, Macro, Set, Shape, Table, is_identifier,
+    Builtin, Chain, Expansion, Hidden, HideSets, Macro, Set, Shape, Table,
     substitute,
 };
 use pptext::{Fault, Memory, Spelling, Token};
@@ -62,7 +62,7 @@ pub(crate) enum Next<'t, 'x, 'a> {
 pub(crate) fn macro_at<'t, 'a>(table: &'t Table<'a>, token: &Token) -> Option<&'t Macro<'a>>
     ensures { option_copied result ≡ macro_of table.now token.now }
 {
-    if is_identifier(token) {
+    if token.is_identifier() {
         table.get(token.text.as_bytes())
     } else {
         None

@@ -5,8 +5,8 @@ use Rattle.pptext.specs.declared.tokens.Token.{Token}
 use Rattle.pptext.specs.declared.tokens.Kind.{Kind}
 use Rattle.pptext.specs.declared.tokens.Kind.TheVariants.{Ident, Number, CharConst, Str, Punct, Header, Other}
 use Rattle.pptext.specs.declared.tokens.Fault.{Fault}
+use Rattle.pptext.specs.Tokens.{fault}
 use Rattle.ppmacro.specs.Names.{Macros}
-use Rattle.ppmacro.specs.Define.{fault}
 use Rattle.ppexpand.specs.declared.env.Env.{Env}
 use Rattle.ppexpand.specs.Expansion.{IsExpansion, count_expansion}
 use Rattle.ppexpand.specs.Laws.{plus}

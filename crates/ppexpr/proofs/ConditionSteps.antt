@@ -2,7 +2,7 @@
 use Rattle.std.proofs.Common.{◌≡◌, List, [], Option, Some, None, Err, MatchOption}
 use Rattle.pptext.specs.declared.tokens.Place.{Place}
 use Rattle.pptext.specs.declared.tokens.Fault.{Fault}
-use Rattle.ppmacro.specs.Define.{fault}
+use Rattle.pptext.specs.Tokens.{fault}
 use Rattle.ppexpr.specs.declared.symbols.Outcome.{Outcome}
 use Rattle.ppexpr.specs.Symbols.{Symbol}
 use Rattle.ppexpr.specs.Meant.{answer_meant, outcome_meant}

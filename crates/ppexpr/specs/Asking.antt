@@ -3,8 +3,8 @@ use Rattle.std.specs.Prelude.{◌≡◌, ◌&&◌, Bool, true, false, List, [], 
 use Rattle.std.specs.FinMap as table
 use Rattle.pptext.specs.declared.tokens.Token.{Token}
 use Rattle.pptext.specs.declared.tokens.Kind.TheVariants.{Number}
+use Rattle.pptext.specs.Tokens.{is_identifier, is_name, is_punct}
 use Rattle.ppmacro.specs.Names.{Macros}
-use Rattle.ppmacro.specs.Spellings.{is_identifier, is_name, is_punct}
 
 abbrev pub is_defined : Token → Bool
 is_defined t = is_name (codes "defined") t

@@ -4,8 +4,8 @@ use Rattle.std.specs.List.{list_any}
 use Rattle.pptext.specs.declared.tokens.Place.{Place}
 use Rattle.pptext.specs.declared.tokens.Token.{Token}
 use Rattle.pptext.specs.declared.tokens.Fault.{Fault}
+use Rattle.pptext.specs.Tokens.{fault}
 use Rattle.ppmacro.specs.Names.{Macros}
-use Rattle.ppmacro.specs.Define.{fault}
 use Rattle.ppexpand.specs.declared.env.Env.{Env}
 use Rattle.ppexpand.specs.declared.expansion.Expanded.{Expanded}
 use Rattle.ppexpand.specs.Expansion.{IsExpansion, count_expansion}

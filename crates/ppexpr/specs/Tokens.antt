@@ -6,7 +6,7 @@ use Rattle.pptext.specs.declared.tokens.Kind.{Kind}
 use Rattle.pptext.specs.declared.tokens.Kind.TheVariants.{Ident, Number, CharConst, Punct}
 use Rattle.pptext.specs.declared.tokens.Token.{Token}
 use Rattle.pptext.specs.declared.tokens.Fault.{Fault}
-use Rattle.ppmacro.specs.Define.{fault}
+use Rattle.pptext.specs.Tokens.{fault}
 use Rattle.ppexpr.specs.Outcomes.{Value, Signed}
 use Rattle.ppexpr.specs.Operators.{Operator as OperatorSign, Plus, Minus, Tilde, Bang, Star, Slash, Percent, ShiftLeft, ShiftRight, Less, Greater}
 use Rattle.ppexpr.specs.Operators.{LessOrEqual, GreaterOrEqual, Equal, NotEqual, Ampersand, Caret, Bar, And, Or}

@@ -4,16 +4,15 @@ ghost use Rattle.std.specs.FinMap as map;
 ghost use Rattle.pptext.specs.declared.tokens.Token.{Token};
 ghost use Rattle.ppexpr.specs.Asking.{is_defined, parenthesized, operand, answer, Asks};
 
-use crate::tokens::{is_identifier, is_name, is_punct};
 use ppmacro::Table;
-use pptext::{Kind, Spelling, Token, Tokens};
+use pptext::{Kind, Spelling, Token};
 use std::alloc::{AllocError, Global};
 
 /// Whether a token is the identifier `defined`.
 pub(crate) fn is_defined(token: &Token) -> bool
     ensures { result ≡ is_defined token.now }
 {
-    is_name(token, b"defined")
+    token.is_name(b"defined")
 }
 
 // `( X )`, and what stands behind it.
@@ -24,7 +23,7 @@ fn parenthesized(tokens: &[Token]) -> Option<(&Token, &[Token])>
     let [open, name, close, rest @ ..] = tokens else {
         return None;
     };
-    if is_punct(open, b"(") && is_identifier(name) && is_punct(close, b")") {
+    if open.is_punct(b"(") && name.is_identifier() && close.is_punct(b")") {
         Some((name, rest))
     } else {
         None
@@ -38,7 +37,7 @@ pub(crate) fn operand(tokens: &[Token]) -> Option<(&Token, &[Token])>
     let [name, rest @ ..] = tokens else {
         return None;
     };
-    if is_identifier(name) {
+    if name.is_identifier() {
         return Some((name, rest));
     }
     parenthesized(tokens)

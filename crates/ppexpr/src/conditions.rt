@@ -11,7 +11,7 @@ use crate::direct::direct_symbols;
 use crate::nesting::is_too_nested;
 use crate::parsing::parse;
 use crate::symbols::{Failure, Symbol, Value};
-use crate::tokens::{fault, symbols_of};
+use crate::tokens::symbols_of;
 use ppexpand::{Env, Expanded, Run, expand};
 use ppmacro::Table;
 use pptext::{Fault, Memory, Place, Stop, Token, settled};
@@ -22,9 +22,9 @@ fn failure_fault(alloc: Global, at: Place, failure: Failure) -> Result<Fault, Al
     ensures { IfOk result (λ f. f ≡ failure_fault at (failure_meant failure)) }
 {
     match failure {
-        Failure::ZeroDivisor(operator) => fault(alloc, 26, at, operator.spelling()),
-        Failure::Overflow(operator) => fault(alloc, 27, at, operator.spelling()),
-        Failure::Shift(operator) => fault(alloc, 28, at, operator.spelling()),
+        Failure::ZeroDivisor(operator) => Fault::new(alloc, 26, at, operator.spelling()),
+        Failure::Overflow(operator) => Fault::new(alloc, 27, at, operator.spelling()),
+        Failure::Shift(operator) => Fault::new(alloc, 28, at, operator.spelling()),
     }
 }
 
@@ -43,7 +43,7 @@ fn evaluate_symbols(alloc: Global, at: Place, symbols: &[Symbol]) -> Result<bool
     ensures { IfSettled result (λ c. Evaluates at (symbols_meant symbols.now) c) }
 {
     let Some(outcome) = parse(alloc, symbols)? else {
-        return Err(Stop::Fault(fault(alloc, 23, at, b"")?));
+        return Err(Stop::Fault(Fault::bare(23, at)));
     };
     taken(alloc, at, outcome.value)
 }
@@ -53,7 +53,7 @@ fn judge(alloc: Global, at: Place, symbols: &[Symbol]) -> Result<bool, Stop>
     ensures { IfSettled result (λ c. Judges at (symbols_meant symbols.now) c) }
 {
     if is_too_nested(symbols) {
-        return Err(Stop::Fault(fault(alloc, 29, at, b"")?));
+        return Err(Stop::Fault(Fault::bare(29, at)));
     }
     evaluate_symbols(alloc, at, symbols)
 }
@@ -70,7 +70,7 @@ fn decide(alloc: Global, at: Place, tokens: &[Token]) -> Result<bool, Stop>
     ensures { IfSettled result (λ c. Decides at tokens.now c) }
 {
     if has_defined(tokens) {
-        return Err(Stop::Fault(fault(alloc, 22, at, b"")?));
+        return Err(Stop::Fault(Fault::bare(22, at)));
     }
     let symbols = symbols_of(alloc, at, tokens)?;
     judge(alloc, at, symbols.as_slice())
@@ -99,7 +99,7 @@ fn evaluate_replaced(
     ensures { IfOk result (λ r. IsCondition table.now env.now at tokens.now left r.0 r.1) }
 {
     let Some(asked) = asked(alloc, table, tokens)? else {
-        return Ok((Err(fault(alloc, 22, at, b"")?), left));
+        return Ok((Err(Fault::bare(22, at)), left));
     };
     let asked = asked.as_slice();
     let Expanded {

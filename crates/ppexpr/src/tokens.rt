@@ -1,48 +1,15 @@
 // What a token of a controlling expression stands for.
-ghost use Rattle.std.specs.Prelude.{◌≡◌, ◌++◌, ◌∷◌, IfOk, OnOk, []};
+ghost use Rattle.std.specs.Prelude.{◌≡◌, ◌++◌, ◌∷◌, OnOk, []};
 ghost use Rattle.pptext.specs.Stops.{Answers};
-ghost use Rattle.ppmacro.specs.Define.{fault};
-ghost use Rattle.ppmacro.specs.Spellings.{is_identifier, is_name, is_punct};
+ghost use Rattle.pptext.specs.Tokens.{fault};
 ghost use Rattle.ppexpr.specs.Tokens.{operators, punctuator_among, symbol_of, symbols_of};
 ghost use Rattle.ppexpr.specs.Meant.{symbol_meant, symbols_meant};
 
 use crate::characters::character_of;
 use crate::integers::integer_of;
 use crate::symbols::{Operator, Symbol, Value};
-use pptext::{Fault, Kind, Place, Spelling, Stop, Token};
+use pptext::{Fault, Kind, Place, Stop, Token};
 use std::alloc::{AllocError, Global};
-
-/// Whether a token is an identifier.
-pub(crate) fn is_identifier(token: &Token) -> bool
-    ensures { result ≡ is_identifier token.now }
-{
-    matches!(token.kind, Kind::Ident)
-}
-
-/// Whether a token is the identifier that is spelled so.
-pub(crate) fn is_name(token: &Token, text: &[u8]) -> bool
-    ensures { result ≡ is_name text.now token.now }
-{
-    is_identifier(token) && token.text.as_bytes() == text
-}
-
-/// Whether a token is the punctuator that is spelled so.
-pub(crate) fn is_punct(token: &Token, text: &[u8]) -> bool
-    ensures { result ≡ is_punct text.now token.now }
-{
-    matches!(token.kind, Kind::Punct) && token.text.as_bytes() == text
-}
-
-/// A fault with this text.
-pub(crate) fn fault(alloc: Global, number: u8, at: Place, text: &[u8]) -> Result<Fault, AllocError>
-    ensures { IfOk result (λ f. f ≡ fault number at text.now) }
-{
-    Ok(Fault {
-        number,
-        at,
-        text: Spelling::from_slice(alloc, text)?,
-    })
-}
 
 /// The symbol of a punctuator.
 pub(crate) fn punctuator(text: &[u8]) -> Symbol
@@ -92,7 +59,7 @@ pub(crate) fn symbol_of(alloc: Global, at: Place, token: &Token) -> Result<Symbo
     };
     match constant {
         Some(value) => Ok(Symbol::Constant(value)),
-        None => Err(Stop::Fault(fault(alloc, number, at, text)?)),
+        None => Err(Stop::Fault(Fault::new(alloc, number, at, text)?)),
     }
 }
 

@@ -2,7 +2,8 @@
 use Rattle.std.proofs.Common.{◌≡◌, ℕ, zero, suc, ◌<◌, Bool, true, false, not, ◌&&◌, ◌||◌, List, [], ◌∷◌, ◌++◌, length, Option, Some, None, is_some, codes, if◌then◌else◌, refl, sym, ap, ◌∙◌, subst, true≢false, arith, append_assoc}
 use Rattle.std.proofs.lemmas.Bool.{and_parts, and_right, or_parts, not-true}
 use Rattle.pptext.specs.declared.tokens.Token.{Token}
-use Rattle.ppmacro.specs.Spellings.{is_identifier, is_punct, is_hash, is_paste}
+use Rattle.pptext.specs.Tokens.{is_identifier, is_punct}
+use Rattle.ppmacro.specs.Spellings.{is_hash, is_paste}
 use Rattle.ppmacro.specs.Chains.{Item, Operates, Joins, parameter_named, parameter_of, is_function_like, is_operator_hash, items_behind, begins_joined, join_first, grouped, chains_of}
 use Rattle.ppmacro.specs.Define.{is_empty, misplaces_paste, begins_with_parameter, misplaces_hash}
 use Rattle.ppmacro.specs.Laws.{IsOperand, token, parameter, stringized, AreJoined, last, pasted, AreChains, none, chain, places_operators}

@@ -6,8 +6,8 @@ use Rattle.std.proofs.lemmas.Slice.Eq.{bytes_eq-Decides}
 use Rattle.pptext.specs.declared.tokens.Token.{Token}
 use Rattle.pptext.specs.declared.tokens.Kind.{Kind}
 use Rattle.pptext.specs.declared.tokens.Kind.TheVariants.{Ident, Number, CharConst, Str, Punct, Header, Other}
+use Rattle.pptext.specs.Tokens.{is_identifier_kind, is_punctuator_kind, is_identifier, is_punct}
 use Rattle.ppmacro.specs.Names.{Name}
-use Rattle.ppmacro.specs.Spellings.{is_identifier_kind, is_punctuator_kind, is_identifier, is_punct}
 use Rattle.ppmacro.specs.Headings.{Heading}
 use Rattle.ppmacro.specs.Define.{closed, with_name, parameters_from, parameter_list}
 use Rattle.ppmacro.specs.Laws.{IdentifierList, one, more, Parameters, nothing, names, ellipsis, names_and_ellipsis, IsHeading}

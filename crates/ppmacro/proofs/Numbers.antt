@@ -3,11 +3,11 @@ use Rattle.std.proofs.Common.{◌≡◌, ℕ, ◌≤◌, List, [], ◌∷◌, Bo
 use Rattle.pptext.specs.declared.tokens.Place.{Place}
 use Rattle.pptext.specs.declared.tokens.Token.{Token}
 use Rattle.pptext.specs.declared.tokens.Fault.{Fault}
+use Rattle.pptext.specs.Tokens.{is_identifier, fault}
 use Rattle.ppmacro.specs.Names.{Name, Macros}
-use Rattle.ppmacro.specs.Spellings.{is_identifier}
 use Rattle.ppmacro.specs.declared.macros.Definition.{Definition}
 use Rattle.ppmacro.specs.Define.{Named, Refusal, ParameterList, Spacing, Pasting, Stringizing, VariableArguments, Redefinition}
-use Rattle.ppmacro.specs.Define.{fault, is_reserved, read_definition, fitting, number_of, under_name, judged, entered, after_define, undefined, taken_out, after_undef}
+use Rattle.ppmacro.specs.Define.{is_reserved, read_definition, fitting, number_of, under_name, judged, entered, after_define, undefined, taken_out, after_undef}
 
 -- the fault of a result, if it is one, has at most this number
 abbrev IsUpTo : {A : Type 0} → ℕ → Result A Fault → Type 0

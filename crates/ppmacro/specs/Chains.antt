@@ -3,7 +3,8 @@ use Rattle.std.specs.Prelude.{ℕ, Bool, true, false, ◌&&◌, ◌||◌, List, 
 use Rattle.std.specs.Str.{bytes_eq}
 use Rattle.pptext.specs.declared.tokens.Place.{Place}
 use Rattle.pptext.specs.declared.tokens.Token.{Token}
-use Rattle.ppmacro.specs.Spellings.{is_identifier, is_hash, is_paste}
+use Rattle.pptext.specs.Tokens.{is_identifier}
+use Rattle.ppmacro.specs.Spellings.{is_hash, is_paste}
 use Rattle.ppmacro.specs.Names.{Name}
 use Rattle.ppmacro.specs.declared.macros.Shape.{Shape}
 use Rattle.ppmacro.specs.declared.macros.Shape.TheVariants.{FunctionLike}

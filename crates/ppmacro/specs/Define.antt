@@ -8,8 +8,9 @@ use Rattle.std.specs.FinMap as table
 use Rattle.pptext.specs.declared.tokens.Place.{Place}
 use Rattle.pptext.specs.declared.tokens.Token.{Token}
 use Rattle.pptext.specs.declared.tokens.Fault.{Fault}
+use Rattle.pptext.specs.Tokens.{is_identifier, is_name, is_punct, fault}
 use Rattle.ppmacro.specs.Names.{Name, Macros}
-use Rattle.ppmacro.specs.Spellings.{is_identifier, is_name, is_punct, is_hash, is_paste}
+use Rattle.ppmacro.specs.Spellings.{is_hash, is_paste}
 use Rattle.ppmacro.specs.Headings.{Heading}
 use Rattle.ppmacro.specs.Chains.{parameter_of, is_function_like}
 use Rattle.ppmacro.specs.declared.macros.Shape.{Shape}
@@ -157,9 +158,6 @@ number_of Pasting = 13
 number_of Stringizing = 14
 number_of VariableArguments = 15
 number_of Redefinition = 16
-
-abbrev pub fault : ℕ → Place → List ℕ → Fault
-fault n at text = record { number = n; at = at; text = text }
 
 abbrev pub under_name : Place → Name → Result Definition Refusal → Result Named Fault
 under_name at name (Ok d) = Ok (record { name = name; definition = d })

@@ -1,8 +1,9 @@
 -- How the heading of a function-like macro and a replacement list are laid out.
 use Rattle.std.specs.Prelude.{◌≡◌, ℕ, Bool, true, false, not, ◌&&◌, List, [], ◌∷◌, ◌++◌, Some, None, codes}
 use Rattle.pptext.specs.declared.tokens.Token.{Token}
+use Rattle.pptext.specs.Tokens.{is_identifier, is_punct}
 use Rattle.ppmacro.specs.Names.{Name}
-use Rattle.ppmacro.specs.Spellings.{is_identifier, is_punct, is_paste}
+use Rattle.ppmacro.specs.Spellings.{is_paste}
 use Rattle.ppmacro.specs.Headings.{Heading}
 use Rattle.ppmacro.specs.Chains.{parameter_of, is_function_like, is_operator_hash}
 use Rattle.ppmacro.specs.Define.{misplaces_paste, misplaces_hash}

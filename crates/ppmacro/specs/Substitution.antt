@@ -6,9 +6,9 @@ use Rattle.pptext.specs.declared.tokens.Token.{Token}
 use Rattle.pptext.specs.declared.tokens.Fault.{Fault}
 use Rattle.pptext.specs.declared.tokens.Kind.{Kind}
 use Rattle.pptext.specs.declared.tokens.Kind.TheVariants.{CharConst, Str as StringLiteral}
+use Rattle.pptext.specs.Tokens.{fault}
 use Rattle.ppmacro.specs.Names.{HideSet}
 use Rattle.ppmacro.specs.HideSets.{Hiding}
-use Rattle.ppmacro.specs.Define.{fault}
 use Rattle.ppmacro.specs.Chains.{chains_of}
 use Rattle.ppmacro.specs.Lexing.{kind_of}
 use Rattle.ppmacro.specs.declared.macros.Definition.{Definition}

@@ -11,7 +11,7 @@ use crate::borrowed::Leaf;
 use crate::keys::Key;
 use crate::macros::{Chain, Chains, Definition, Operand, Operands, Shape};
 use crate::places::{FEW, index_of_each};
-use crate::spellings::{is_hash, is_identifier, is_paste};
+use crate::spellings::{is_hash, is_paste};
 use indexmap::IndexSet;
 use pptext::{Hashing, Place, Spelling, Token};
 use std::alloc::{AllocError, Global};
@@ -147,7 +147,7 @@ fn parameter_named(shape: &Parameters, name: &[u8]) -> Option<usize>
 pub(crate) fn parameter_of(shape: &Parameters, token: &Token) -> Option<usize>
     ensures { result ≡ parameter_of shape.now token.now }
 {
-    if is_identifier(token) {
+    if token.is_identifier() {
         parameter_named(shape, token.text.as_bytes())
     } else {
         None

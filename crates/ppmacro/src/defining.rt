@@ -16,7 +16,6 @@ use self::headings::{has_variable_arguments, read_heading, repeats};
 use crate::borrowed::{Body, Text};
 use crate::chains::is_function_like;
 use crate::macros::{Definition, Macro, Shape};
-use crate::spellings::{fault, is_identifier, is_punct};
 use crate::tables::Table;
 use pptext::{Fault, Hashing, Memory, Place, Token};
 use std::alloc::{AllocError, Global};
@@ -114,7 +113,7 @@ fn read_definition<'a>(
     if first.space {
         return Ok(Ok(object_like(line)));
     }
-    if !is_punct(first, b"(") {
+    if !first.is_punct(b"(") {
         return Ok(Err(Refusal::Spacing));
     }
     function_like(alloc, &line[1..], hashing)
@@ -189,7 +188,7 @@ fn under_name<'a>(
             name: Text::of(name),
             definition,
         })),
-        Err(refusal) => Ok(Err(fault(alloc, refusal.number(), at, name.text.as_bytes())?)),
+        Err(refusal) => Ok(Err(Fault::new(alloc, refusal.number(), at, name.text.as_bytes())?)),
     }
 }
 
@@ -203,13 +202,13 @@ fn judged<'a>(
     ensures { IfOk result (λ r. r ≡ judged table.now at line.now) }
 {
     let Some(name) = line.first() else {
-        return Ok(Err(fault(alloc, 9, at, b"define")?));
+        return Ok(Err(Fault::new(alloc, 9, at, b"define")?));
     };
-    if !is_identifier(name) {
-        return Ok(Err(fault(alloc, 9, at, b"define")?));
+    if !name.is_identifier() {
+        return Ok(Err(Fault::new(alloc, 9, at, b"define")?));
     }
     if table.is_reserved(name.text.as_bytes()) {
-        return Ok(Err(fault(alloc, 10, at, name.text.as_bytes())?));
+        return Ok(Err(Fault::new(alloc, 10, at, name.text.as_bytes())?));
     }
     let fitting = fitting(alloc, table, name.text.as_bytes(), &line[1..])?;
     under_name(alloc, at, name, fitting)
@@ -254,13 +253,13 @@ fn undefined<'a>(
     ensures { IfOk result (λ r. r ≡ undefined table.now at line.now) }
 {
     let [name] = line else {
-        return Ok(Err(fault(alloc, 9, at, b"undef")?));
+        return Ok(Err(Fault::new(alloc, 9, at, b"undef")?));
     };
-    if !is_identifier(name) {
-        return Ok(Err(fault(alloc, 9, at, b"undef")?));
+    if !name.is_identifier() {
+        return Ok(Err(Fault::new(alloc, 9, at, b"undef")?));
     }
     if table.is_reserved(name.text.as_bytes()) {
-        return Ok(Err(fault(alloc, 10, at, name.text.as_bytes())?));
+        return Ok(Err(Fault::new(alloc, 10, at, name.text.as_bytes())?));
     }
     Ok(Ok(Text::of(name)))
 }

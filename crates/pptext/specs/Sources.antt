@@ -11,6 +11,7 @@ use Rattle.pptext.specs.declared.characters.Char.{Char}
 use Rattle.pptext.specs.Clean.{cleaned, placed}
 use Rattle.pptext.specs.Cut.{Piece, Spelled, Cut, Unclosed}
 use Rattle.pptext.specs.Lines.{LogicalLine, lines_of}
+use Rattle.pptext.specs.Tokens.{fault}
 use Rattle.pptext.specs.Tree.{Role, Opens, Elses, role, branch_behind, group_fault}
 
 -- in an if-section the next branch line, of a line at place k before these
@@ -34,7 +35,7 @@ abbrev pub lines_from : List Token → List Line → List LogicalLine
 lines_from ts ls = map (λ l. record { tokens = take (l.end - l.start) (drop l.start ts); number = l.number; directive = l.directive }) ls
 
 abbrev pub file_fault : ℕ → Place → Fault
-file_fault number at = record { number = number; at = at; text = [] }
+file_fault number at = fault number at []
 
 -- the lines of a file without fault
 pub record IsSource (profile : Profile) (file : ℕ) (bytes : List ℕ) (lines : List LogicalLine) : Type 0 where

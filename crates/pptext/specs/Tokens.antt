@@ -1,8 +1,44 @@
--- Words on tokens.
-use Rattle.std.specs.Prelude.{ℕ, List, [], ◌∷◌}
+-- Words on tokens and faults.
+use Rattle.std.specs.Prelude.{ℕ, Bool, true, false, ◌&&◌, ◌||◌, List, [], ◌∷◌, codes}
+use Rattle.std.specs.Str.{bytes_eq}
+use Rattle.pptext.specs.declared.tokens.Place.{Place}
 use Rattle.pptext.specs.declared.tokens.Token.{Token}
+use Rattle.pptext.specs.declared.tokens.Fault.{Fault}
+use Rattle.pptext.specs.declared.tokens.Kind.{Kind}
+use Rattle.pptext.specs.declared.tokens.Kind.TheVariants.{Ident, Punct, Other}
 
 -- the spellings of tokens
 abbrev pub spelled : List Token → List (List ℕ)
 spelled [] = []
 spelled (t ∷ ts) = t.text ∷ spelled ts
+
+abbrev pub is_identifier_kind : Kind → Bool
+is_identifier_kind Ident = true
+is_identifier_kind _ = false
+
+abbrev pub is_punctuator_kind : Kind → Bool
+is_punctuator_kind Punct = true
+is_punctuator_kind _ = false
+
+abbrev pub is_other_kind : Kind → Bool
+is_other_kind Other = true
+is_other_kind _ = false
+
+abbrev pub is_identifier : Token → Bool
+is_identifier t = is_identifier_kind t.kind
+
+-- an identifier that is spelled so
+abbrev pub is_name : List ℕ → Token → Bool
+is_name text t = is_identifier t && bytes_eq t.text text
+
+-- a punctuator that is spelled so
+abbrev pub is_punct : List ℕ → Token → Bool
+is_punct text t = is_punctuator_kind t.kind && bytes_eq t.text text
+
+-- a quote that begins no literal (6.4, paragraph 3)
+abbrev pub is_lone_quote : Token → Bool
+is_lone_quote t = is_other_kind t.kind && (bytes_eq t.text (codes "'") || bytes_eq t.text (34 ∷ []))
+
+-- the fault of this number at a place, with the text that it says
+abbrev pub fault : ℕ → Place → List ℕ → Fault
+fault number at text = record { number = number; at = at; text = text }

@@ -8,6 +8,7 @@ use Rattle.pptext.specs.declared.sources.Directive.{Directive}
 use Rattle.pptext.specs.declared.sources.Directive.TheVariants.{If, Ifdef, Ifndef, Elif, Elifdef, Elifndef, Else, Endif}
 use Rattle.pptext.specs.Clean.{place}
 use Rattle.pptext.specs.Lines.{LogicalLine}
+use Rattle.pptext.specs.Tokens.{fault}
 
 -- `#if`, `#ifdef`, `#ifndef`
 abbrev pub opens_section : Directive → Bool
@@ -118,7 +119,7 @@ sign_place [] = place 0 0 0
 sign_place (t ∷ ts) = t.at
 
 abbrev pub fault_at : ℕ → LogicalLine → Fault
-fault_at number r = record { number = number; at = sign_place r.tokens; text = name_of r.tokens }
+fault_at number r = fault number (sign_place r.tokens) (name_of r.tokens)
 
 -- what a line does to the open sections, or its fault: 3 without a section, 4 after `#else`
 abbrev pub opened : {L : Type 0} → Role → L → List (L × Bool) → Option ℕ × List (L × Bool)

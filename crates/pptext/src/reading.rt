@@ -11,7 +11,7 @@ use crate::cleaning::clean_text;
 use crate::cutting::{CutFault, Found, cut_lines, next_piece};
 use crate::grouping::group_lines;
 use crate::sources::{Line, Profile, Source, SourceFault};
-use crate::tokens::{Fault, Kind, Place, Spelling, Token};
+use crate::tokens::{Fault, Kind, Place, Token};
 use std::alloc::Global;
 
 impl Source {
@@ -34,11 +34,7 @@ impl Source {
 fn fault_at(number: u8, at: Place) -> SourceFault
     ensures { result ≡ Bad (file_fault number at) }
 {
-    SourceFault::Bad(Fault {
-        number,
-        at,
-        text: Spelling::empty(),
-    })
+    SourceFault::Bad(Fault::bare(number, at))
 }
 
 /// Reads a file of at most `LONGEST` bytes: its lines of preprocessing tokens behind translation phases 1 to 3 (5.1.1.2, 6.4),

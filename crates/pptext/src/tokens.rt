@@ -1,6 +1,7 @@
 // Places, preprocessing tokens and faults.
-ghost use Rattle.std.specs.Prelude.{◌≡◌, ◌≤◌, ◌↔◌, ◌==◌, List, ℕ, IfOk, OnOk, length, take, IsTrue, [], ◌∷◌, ◌++◌, Some, None};
+ghost use Rattle.std.specs.Prelude.{◌≡◌, ◌≤◌, ◌↔◌, ◌==◌, List, ℕ, IfOk, OnOk, length, take, [], ◌∷◌, ◌++◌, Some, None};
 ghost use Rattle.pptext.specs.Spelt.{IsSpelt, spelt};
+ghost use Rattle.pptext.specs.Tokens.{is_identifier, is_name, is_punct, is_lone_quote, fault};
 
 use std::alloc::{AllocError, AllocFailed, Global};
 use std::marker::Model;
@@ -200,12 +201,78 @@ pub struct Token {
     pub space: bool,
 }
 
+impl Token {
+    /// Whether it is an identifier.
+    pub fn is_identifier(&self) -> bool
+        ensures { result ≡ is_identifier self.now }
+    {
+        matches!(self.kind, Kind::Ident)
+    }
+
+    /// Whether it is the identifier that is spelled so.
+    pub fn is_name(&self, text: &[u8]) -> bool
+        ensures { result ≡ is_name text.now self.now }
+    {
+        self.is_identifier() && self.text.as_bytes() == text
+    }
+
+    /// Whether it is the punctuator that is spelled so.
+    pub fn is_punct(&self, text: &[u8]) -> bool
+        ensures { result ≡ is_punct text.now self.now }
+    {
+        matches!(self.kind, Kind::Punct) && self.text.as_bytes() == text
+    }
+
+    /// Whether it is `'` or `"` alone (6.4p3).
+    pub fn is_lone_quote(&self) -> bool
+        ensures { result ≡ is_lone_quote self.now }
+    {
+        matches!(self.kind, Kind::Other)
+            && (self.text.as_bytes() == b"'".as_slice() || self.text.as_bytes() == b"\"".as_slice())
+    }
+}
+
 /// A fault of a file or a unit, by its number.
 #[derive(Clone, PartialEq, Eq, Drop, Debug)]
 pub struct Fault {
     pub number: u8,
     pub at: Place,
     pub text: Spelling,
+}
+
+impl Fault {
+    /// The fault of this number at a place, with this text.
+    pub fn new(alloc: Global, number: u8, at: Place, text: &[u8]) -> Result<Fault, AllocError>
+        ensures { IfOk result (λ f. f ≡ fault number at text.now) }
+    {
+        Ok(Fault {
+            number,
+            at,
+            text: Spelling::from_slice(alloc, text)?,
+        })
+    }
+
+    /// The fault of this number at a place, with no text. Takes no memory.
+    pub fn bare(number: u8, at: Place) -> Fault
+        ensures { result ≡ fault number at [] }
+    {
+        Fault {
+            number,
+            at,
+            text: Spelling::empty(),
+        }
+    }
+
+    /// The fault of this number at a place, with a token's spelling.
+    pub fn of_token(number: u8, at: Place, token: &Token) -> Result<Fault, AllocError>
+        ensures { IfOk result (λ f. f ≡ fault number at token.now.text) }
+    {
+        Ok(Fault {
+            number,
+            at,
+            text: token.text.clone()?,
+        })
+    }
 }
 
 /// Tokens, which contracts see as their list.
@@ -290,6 +357,56 @@ mod tests {
         let token = tokens.into_vec().pop().ok_or("no token")?;
         assert!(rt; token.at == at);
         assert_spells(&rt, &token.text, b"ab")?;
+        Ok(())
+    }
+
+    /// A token of this kind and spelling.
+    fn word(alloc: Global, kind: Kind, text: &str) -> Result<Token, AllocError> {
+        let mut word = token(
+            alloc,
+            Place {
+                file: 0,
+                line: 1,
+                col: 1,
+            },
+        )?;
+        word.kind = kind;
+        word.text = Spelling::from_slice(alloc, text.as_bytes())?;
+        Ok(word)
+    }
+
+    #[test]
+    fn tells_what_tokens_are(rt: HostRuntime) -> Result<(), Fail> {
+        let alloc = rt.alloc();
+        let name = word(alloc, Kind::Ident, "defined")?;
+        assert!(rt; name.is_identifier() && name.is_name(b"defined") && !name.is_name(b"define"));
+        assert!(rt; !name.is_punct(b"defined") && !name.is_lone_quote());
+        let comma = word(alloc, Kind::Punct, ",")?;
+        assert!(rt; comma.is_punct(b",") && !comma.is_punct(b"(") && !comma.is_name(b","));
+        assert!(rt; !comma.is_identifier() && !comma.is_lone_quote());
+        for quote in ["'", "\""] {
+            assert!(rt; word(alloc, Kind::Other, quote)?.is_lone_quote());
+        }
+        assert!(rt; !word(alloc, Kind::Other, "@")?.is_lone_quote());
+        assert!(rt; !word(alloc, Kind::Str, "\"")?.is_lone_quote());
+        Ok(())
+    }
+
+    #[test]
+    fn makes_faults(rt: HostRuntime) -> Result<(), Fail> {
+        let alloc = rt.alloc();
+        let at = Place {
+            file: 1,
+            line: 2,
+            col: 3,
+        };
+        let bare = Fault::bare(6, at);
+        assert!(rt; bare.number == 6 && bare.at == at);
+        assert_spells(&rt, &bare.text, b"")?;
+        let told = Fault::new(alloc, 8, at, b"ab")?;
+        assert!(rt; told.number == 8 && told.at == at);
+        assert_spells(&rt, &told.text, b"ab")?;
+        assert!(rt; Fault::of_token(8, at, &token(alloc, at)?)? == told);
         Ok(())
     }
 

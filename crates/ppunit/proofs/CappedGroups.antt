@@ -3,10 +3,11 @@ use Rattle.std.proofs.Common.{◌≡◌, ℕ, zero, suc, ◌+◌, ◌-◌, ◌<�
 use Rattle.pptext.specs.declared.tokens.Place.{Place}
 use Rattle.pptext.specs.Lines.{LogicalLine}
 use Rattle.pptext.specs.Tree.{Parts, Branches}
+use Rattle.pptext.specs.Tokens.{fault}
 use Rattle.ppexpand.specs.Expansion.{count_expansion}
 use Rattle.ppunit.specs.States.{State, Surroundings, Reached, stopped, depending, with_left, paying}
 use Rattle.ppunit.specs.Lines.{run_tokens}
-use Rattle.ppunit.specs.Group.{deepest, fault_at, Group, Branched, Controls, Includes, Opened}
+use Rattle.ppunit.specs.Group.{deepest, Group, Branched, Controls, Includes, Opened}
 use Rattle.ppunit.specs.Counts.{count_decides, count_asks, count_group, count_branched, count_control, count_includes, count_opened}
 use Rattle.ppunit.specs.Unit.{Defines, unread, processed, Translates, undefined, translated, count_defines, count_translates}
 use Rattle.ppunit.proofs.LargerTurns.{Covers, covers_less}
@@ -20,7 +21,7 @@ use Rattle.ppunit.proofs.CappedLines.{Stops, over_same, over_then, run_short, as
 module _ (around : Surroundings) where
   -- a file that there is nothing left for
   over_here : {depth row : ℕ} {at : Place} (s t : State) → depth ≤ deepest → Before s t → Stops t (λ u f. Opened around depth at (with_left s (Some 0)) row (stopped u f))
-  over_here {at = at} s t fits h = (with_left s (Some 0), fault_at 35 at [], over_same s t (fault_at 35 at []) refl h, Opened.over fits refl)
+  over_here {at = at} s t fits h = (with_left s (Some 0), fault 35 at [], over_same s t (fault 35 at []) refl h, Opened.over fits refl)
 
   mutual
     pub group_short : {depth row : ℕ} {r : Reached} {ps : Parts} {end : Reached} (b : ℕ) → Covers r.state.left b

@@ -3,9 +3,10 @@ use Rattle.std.proofs.Common.{◌≡◌, ℕ, zero, suc, ◌+◌, List, [], true
 use Rattle.pptext.specs.declared.tokens.Place.{Place}
 use Rattle.pptext.specs.Lines.{LogicalLine}
 use Rattle.pptext.specs.Tree.{Parts, Branches, Done, End}
+use Rattle.pptext.specs.Tokens.{fault}
 use Rattle.ppunit.specs.States.{State, Surroundings, Reached, going, stopped, with_left}
 use Rattle.ppunit.specs.Lines.{run_tokens}
-use Rattle.ppunit.specs.Group.{fault_at, Group, Branched, Controls, Includes, Opened}
+use Rattle.ppunit.specs.Group.{Group, Branched, Controls, Includes, Opened}
 use Rattle.ppunit.specs.Counts.{count_group, count_branched, count_control, count_includes, count_opened}
 use Rattle.ppunit.specs.Unit.{Defines, unread, processed, Translates, undefined, translated, count_defines, count_translates}
 use Rattle.ppunit.proofs.LargerTurns.{Covers, without, covers_less, covers_rest}
@@ -120,7 +121,7 @@ module _ (around : Surroundings) where
         subst (λ x. Opened around depth at (with_left s (Some b)) row (holding x m)) same (Opened.too_deep deep)
     opened_enough {depth} {row} {at} {s} zero is (Opened.over fits spent) n sum =
         let same : 0 ≡ n = omega arith in
-        subst (λ x. Opened around depth at (with_left s (Some 0)) row (holding x (stopped s (fault_at 35 at [])))) same (Opened.over fits refl)
+        subst (λ x. Opened around depth at (with_left s (Some 0)) row (holding x (stopped s (fault 35 at [])))) same (Opened.over fits refl)
     opened_enough (suc b) is (Opened.over {s = s} fits spent) n sum = absurd (covered s.left b is spent)
     opened_enough zero is (Opened.known fits more once) n sum = absurd (omega arith)
     opened_enough {depth} {row} {at} {s} {m} (suc b) is (Opened.known fits more once) n sum =

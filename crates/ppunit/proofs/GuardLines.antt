@@ -15,7 +15,7 @@ use Rattle.pptext.specs.Lines.{LogicalLine, directive_of, directive_named}
 use Rattle.pptext.specs.Tree.{role, role_by, role_named}
 use Rattle.pptext.specs.Guard.{is_ident, named, is_not_defined, are_parentheses, ident_if, guard_name}
 use Rattle.pptext.proofs.OneKind.{begins}
-use Rattle.ppmacro.specs.Spellings.{is_identifier_kind}
+use Rattle.pptext.specs.Tokens.{is_identifier_kind}
 use Rattle.ppexpand.specs.Laws.{plus}
 use Rattle.ppexpr.specs.Conditions.{IsCondition, count_condition}
 use Rattle.ppexpr.proofs.OneCondition.{same_condition}

@@ -1,7 +1,7 @@
 -- The message of `#error` and the name of an include line, token by token: `first` says that none stands before.
 use Rattle.std.proofs.Common.{◌≡◌, ◌∙◌, refl, ap, ℕ, Bool, true, false, not, ◌&&◌, if◌then◌else◌, List, [], ◌∷◌, ◌++◌, flat_map, Option, None, codes}
 use Rattle.pptext.specs.declared.tokens.Token.{Token}
-use Rattle.ppmacro.specs.Spellings.{is_punct}
+use Rattle.pptext.specs.Tokens.{is_punct}
 use Rattle.ppunit.specs.Lines.{spaced}
 use Rattle.ppunit.specs.Directives.{message}
 use Rattle.ppunit.specs.Including.{ended, prefixed, angle_rest, angle_name}

@@ -5,19 +5,20 @@ use Rattle.pptext.specs.declared.tokens.Fault.{Fault}
 use Rattle.pptext.specs.Lines.{LogicalLine}
 use Rattle.pptext.specs.Sources.{Reads}
 use Rattle.pptext.specs.Tree.{Parts, Tree}
+use Rattle.pptext.specs.Tokens.{fault}
 use Rattle.ppshelf.specs.Content.{unreadable, readable}
 use Rattle.ppshelf.specs.Files.{file_at}
 use Rattle.ppshelf.specs.Names.{name_in}
 use Rattle.ppunit.specs.Dependencies.{is_among}
 use Rattle.ppunit.specs.States.{State, Surroundings, Reached, going, stopped, depending, entering, leaving, is_spent, paying}
-use Rattle.ppunit.specs.Group.{deepest, fault_at, Group, Opened}
+use Rattle.ppunit.specs.Group.{deepest, Group, Opened}
 use Rattle.ppunit.proofs.OneLine.{OneReading, OneTree}
 
 module _ (readings : OneReading) (trees : OneTree) (around : Surroundings) where
   pub at_deep : {depth row : ℕ} {at : Place} {s : State} {m : Reached}
       → deepest < depth
       → Opened around depth at s row m
-      → stopped s (fault_at 32 at (name_in around.names row)) ≡ m
+      → stopped s (fault 32 at (name_in around.names row)) ≡ m
   at_deep deep (Opened.too_deep d) = refl
   at_deep deep (Opened.over fits spent) = absurd (omega arith)
   at_deep deep (Opened.known fits some known) = absurd (omega arith)
@@ -33,7 +34,7 @@ module _ (readings : OneReading) (trees : OneTree) (around : Surroundings) where
       → depth ≤ deepest
       → is_spent s.left ≡ true
       → Opened around depth at s row m
-      → stopped s (fault_at 35 at []) ≡ m
+      → stopped s (fault 35 at []) ≡ m
   at_over fits e (Opened.too_deep d) = absurd (omega arith)
   at_over fits e (Opened.over f spent) = refl
   at_over {s = s} fits e (Opened.known f some known) = absurd (one_way (is_spent s.left) e some)
@@ -60,7 +61,7 @@ module _ (readings : OneReading) (trees : OneTree) (around : Surroundings) where
       → is_among row s.once ≡ false
       → file_at around.files row ≡ Some unreadable
       → Opened around depth at s row m
-      → stopped (depending (paying s) row) (fault_at 6 at (name_in around.names row)) ≡ m
+      → stopped (depending (paying s) row) (fault 6 at (name_in around.names row)) ≡ m
   at_unreadable fits some new e (Opened.too_deep d) = absurd (omega arith)
   at_unreadable {s = s} fits some new e (Opened.over f spent) = absurd (one_way (is_spent s.left) spent some)
   at_unreadable {row = row} {s = s} fits some new e (Opened.known f more known) = absurd (one_way (is_among row s.once) known new)

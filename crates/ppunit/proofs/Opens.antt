@@ -7,6 +7,7 @@ use Rattle.pptext.specs.Lines.{LogicalLine}
 use Rattle.pptext.specs.Sources.{Reads, IsSource}
 use Rattle.pptext.specs.Tree.{Parts, Tree, group_fault}
 use Rattle.pptext.proofs.Trees.{a_tree}
+use Rattle.pptext.specs.Tokens.{fault}
 use Rattle.ppexpand.specs.declared.env.Env.{Env}
 use Rattle.ppshelf.specs.Content.{Content, unreadable, readable, IsRead}
 use Rattle.ppshelf.specs.Names.{name_in}
@@ -14,22 +15,22 @@ use Rattle.ppshelf.specs.Files.{Files, Extends, file_at}
 use Rattle.ppunit.specs.declared.opening.Entered.{Entered}
 use Rattle.ppunit.specs.States.{State, Surroundings, going, stopped, depending, entering, is_spent, paying, literal}
 use Rattle.ppunit.specs.Dependencies.{is_among}
-use Rattle.ppunit.specs.Group.{fault_at, deepest, Group, Opened}
+use Rattle.ppunit.specs.Group.{deepest, Group, Opened}
 use Rattle.ppunit.specs.Walk.{EntersFile, back}
 
 pub opens_deep : (around : Surroundings) (depth row : ℕ) (at : Place) (s : State) (name : List ℕ) (f : Fault)
     → deepest < depth
     → name_in around.names row ≡ name
-    → f ≡ fault_at 32 at name
+    → f ≡ fault 32 at name
     → Opened around depth at s row (stopped s f)
 opens_deep around depth row at s name f deep named is =
-    subst (λ (z : Fault). Opened around depth at s row (stopped s z)) (ap (fault_at 32 at) named ∙ sym is) (Opened.too_deep deep)
+    subst (λ (z : Fault). Opened around depth at s row (stopped s z)) (ap (fault 32 at) named ∙ sym is) (Opened.too_deep deep)
 
 -- nothing is left for one more opening
 pub opens_over : (around : Surroundings) (depth row : ℕ) (at : Place) (s : State) (f : Fault)
     → depth ≤ deepest
     → is_spent s.left ≡ true
-    → f ≡ fault_at 35 at []
+    → f ≡ fault 35 at []
     → Opened around depth at s row (stopped s f)
 opens_over around depth row at s f fits spent is = subst (λ (z : Fault). Opened around depth at s row (stopped s z)) (sym is) (Opened.over fits spent)
 
@@ -59,14 +60,14 @@ pub opens_unreadable : (around : Surroundings) (depth row : ℕ) (at : Place) (s
     → file_at around.files row ≡ Some content
     → content ≡ unreadable
     → name_in around.names row ≡ name
-    → f ≡ fault_at 6 at name
+    → f ≡ fault 6 at name
     → t ≡ depending (paying s) row
     → Opened around depth at s row (stopped t f)
 opens_unreadable around depth row at s t name f content fits more new known is named fault same =
     let first = still_new row s t same new in
     let here = Opened.not_readable {depth = depth} {at = at} {s = s} fits more first (known ∙ ap (λ (z : Content). Some z) is) in
     subst (λ (z : State). Opened around depth at s row (stopped z f)) (sym same)
-    (subst (λ (z : Fault). Opened around depth at s row (stopped (depending (paying s) row) z)) (ap (fault_at 6 at) named ∙ sym fault) here)
+    (subst (λ (z : Fault). Opened around depth at s row (stopped (depending (paying s) row) z)) (ap (fault 6 at) named ∙ sym fault) here)
 
 -- what was read is the file of this row, by this profile
 reads_at : (profile by : Profile) (row from : ℕ) (bytes : List ℕ) (lines : Result (List LogicalLine) Fault)

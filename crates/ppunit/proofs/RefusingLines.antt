@@ -8,12 +8,12 @@ use Rattle.pptext.specs.declared.sources.Profile.{Profile}
 use Rattle.pptext.specs.Lines.{LogicalLine, lines_of}
 use Rattle.pptext.specs.Sources.{IsFaultOf}
 use Rattle.pptext.specs.Tree.{role, role_named, role_by, Open, opened, fault_at_end, fault_or, group_fault, Parts, Branches, sign_place}
+use Rattle.pptext.specs.Tokens.{is_lone_quote}
 use Rattle.ppmacro.specs.Names.{Macros}
 use Rattle.ppmacro.specs.Define.{after_define, after_undef}
 use Rattle.ppmacro.proofs.Numbers.{define_number, undef_number}
 use Rattle.ppexpand.specs.declared.env.Env.{Env}
 use Rattle.ppexpand.specs.declared.expansion.Expanded.{Expanded}
-use Rattle.ppexpand.specs.Arguments.{is_lone_quote}
 use Rattle.ppexpand.specs.Expansion.{IsExpansion}
 use Rattle.ppexpand.proofs.Refusing.{expansion_never_refused}
 use Rattle.ppexpr.proofs.Capped.{condition_never_refused}

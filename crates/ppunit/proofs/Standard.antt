@@ -3,6 +3,7 @@ use Rattle.std.proofs.Common.{◌≡◌, ◌↔◌, ℕ, suc, List, true, false,
 use Rattle.pptext.specs.declared.tokens.Place.{Place}
 use Rattle.pptext.specs.Lines.{LogicalLine}
 use Rattle.pptext.specs.Tree.{Parts, Branches, sign_place}
+use Rattle.pptext.specs.Tokens.{fault}
 use Rattle.ppexpand.specs.Turn.{less_one}
 use Rattle.ppshelf.specs.Files.{Files}
 use Rattle.ppshelf.specs.Names.{name_in}
@@ -11,7 +12,7 @@ use Rattle.ppunit.specs.declared.units.Setting.{Setting}
 use Rattle.ppunit.specs.declared.units.UnitOut.{UnitOut}
 use Rattle.ppunit.specs.States.{State, Surroundings, Reached, going, stopped, depending, entering}
 use Rattle.ppunit.specs.Lines.{run_tokens, line_fault}
-use Rattle.ppunit.specs.Group.{Group, Branched, Controls, Includes, Opened, fault_at}
+use Rattle.ppunit.specs.Group.{Group, Branched, Controls, Includes, Opened}
 use Rattle.ppunit.specs.Unit.{Defines, Translates, IsUnit, surroundings}
 use Rattle.ppunit.specs.Standard.{StandardGroup, StandardBranched, StandardControls, StandardIncludes, StandardOpened, StandardDefines, StandardTranslates, IsStandardUnit}
 use Rattle.ppunit.proofs.RefusingLines.{asks_none, decides_none, run_none, group_none, branches_none, control_none, defines_none}
@@ -82,7 +83,7 @@ module _ (around : Surroundings) where
     opened_standard {depth = depth} {row = row} {at = at} is (Opened.known {s = s} fits more once) =
         subst (λ t. StandardOpened around depth at s row (going (depending t row))) (sym (unpaid s is)) (StandardOpened.known fits once)
     opened_standard {depth = depth} {row = row} {at = at} is (Opened.not_readable {s = s} fits more once file) =
-        subst (λ t. StandardOpened around depth at s row (stopped (depending t row) (fault_at 6 at (name_in around.names row)))) (sym (unpaid s is)) (StandardOpened.not_readable fits once file)
+        subst (λ t. StandardOpened around depth at s row (stopped (depending t row) (fault 6 at (name_in around.names row)))) (sym (unpaid s is)) (StandardOpened.not_readable fits once file)
     opened_standard {depth = depth} {row = row} {at = at} is (Opened.faulty {s = s} {f = f} fits more once file reads) =
         subst (λ t. StandardOpened around depth at s row (stopped (depending t row) f)) (sym (unpaid s is)) (StandardOpened.faulty fits once file reads)
     opened_standard {depth = depth} {row = row} is (Opened.read {s = s} {parts = parts} {m = m} fits more once file reads tree here) =
@@ -135,7 +136,7 @@ module _ (around : Surroundings) where
     opened_unbudgeted {depth = depth} {row = row} {at = at} is (StandardOpened.known {s = s} fits once) =
         subst (λ t. Opened around depth at s row (going (depending t row))) (unpaid s is) (Opened.known fits (not_spent s is) once)
     opened_unbudgeted {depth = depth} {row = row} {at = at} is (StandardOpened.not_readable {s = s} fits once file) =
-        subst (λ t. Opened around depth at s row (stopped (depending t row) (fault_at 6 at (name_in around.names row)))) (unpaid s is) (Opened.not_readable fits (not_spent s is) once file)
+        subst (λ t. Opened around depth at s row (stopped (depending t row) (fault 6 at (name_in around.names row)))) (unpaid s is) (Opened.not_readable fits (not_spent s is) once file)
     opened_unbudgeted {depth = depth} {row = row} {at = at} is (StandardOpened.faulty {s = s} {f = f} fits once file reads) =
         subst (λ t. Opened around depth at s row (stopped (depending t row) f)) (unpaid s is) (Opened.faulty fits (not_spent s is) once file reads)
     opened_unbudgeted {depth = depth} {row = row} is (StandardOpened.read {s = s} {parts = parts} {m = m} fits once file reads tree here) =

@@ -12,7 +12,7 @@ use Rattle.pptext.specs.declared.sources.Directive.{Directive}
 use Rattle.pptext.specs.declared.sources.Directive.TheVariants.{If}
 use Rattle.pptext.specs.Tree.{role_by, role_named}
 use Rattle.pptext.specs.Guard.{is_ident, named}
-use Rattle.ppexpand.specs.Arguments.{is_lone_quote, is_other_kind}
+use Rattle.pptext.specs.Tokens.{is_other_kind, is_lone_quote}
 use Rattle.ppunit.specs.Quotes.{quote_fault, lone_quote}
 
 -- ---- tokens without quotes

@@ -5,6 +5,7 @@ use Rattle.pptext.specs.declared.tokens.Fault.{Fault}
 use Rattle.pptext.specs.declared.sources.Directive.TheVariants.{Include, Error, Else}
 use Rattle.pptext.specs.Lines.{LogicalLine}
 use Rattle.pptext.specs.Sources.{Reads}
+use Rattle.pptext.specs.Tokens.{fault}
 use Rattle.pptext.specs.Tree.{sign_place, Parts, Done, Run, Control, Section, Branches, End, Branch, Tree}
 use Rattle.ppshelf.specs.Content.{unreadable, readable}
 use Rattle.ppshelf.specs.Files.{file_at}
@@ -20,9 +21,6 @@ use Rattle.ppunit.specs.Directives.{RunGives, ControlBy, Asks, Finds, message}
 -- the deepest include
 abbrev pub deepest : ℕ
 deepest = 200
-
-abbrev pub fault_at : ℕ → Place → List ℕ → Fault
-fault_at number at text = record { number = number; at = at; text = text }
 
 mutual
   -- A group in the file of a row, at a depth of includes. A unit that has stopped stays where it is.
@@ -113,11 +111,11 @@ mutual
   pub data Opened (around : Surroundings) : ℕ → Place → State → ℕ → Reached → Type 0 where
     too_deep : {depth row : ℕ} {at : Place} {s : State}
         → deepest < depth
-        → Opened around depth at s row (stopped s (fault_at 32 at (name_in around.names row)))
+        → Opened around depth at s row (stopped s (fault 32 at (name_in around.names row)))
     over : {depth row : ℕ} {at : Place} {s : State}
         → depth ≤ deepest
         → is_spent s.left ≡ true
-        → Opened around depth at s row (stopped s (fault_at 35 at []))
+        → Opened around depth at s row (stopped s (fault 35 at []))
     known : {depth row : ℕ} {at : Place} {s : State}
         → depth ≤ deepest
         → is_spent s.left ≡ false
@@ -128,7 +126,7 @@ mutual
         → is_spent s.left ≡ false
         → is_among row s.once ≡ false
         → file_at around.files row ≡ Some unreadable
-        → Opened around depth at s row (stopped (depending (paying s) row) (fault_at 6 at (name_in around.names row)))
+        → Opened around depth at s row (stopped (depending (paying s) row) (fault 6 at (name_in around.names row)))
     faulty : {depth row : ℕ} {at : Place} {s : State} {bytes : List ℕ} {f : Fault}
         → depth ≤ deepest
         → is_spent s.left ≡ false

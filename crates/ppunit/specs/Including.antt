@@ -6,7 +6,7 @@ use Rattle.pptext.specs.declared.tokens.Token.{Token}
 use Rattle.pptext.specs.declared.tokens.Fault.{Fault}
 use Rattle.pptext.specs.declared.tokens.Kind.{Kind}
 use Rattle.pptext.specs.declared.tokens.Kind.TheVariants.{Header}
-use Rattle.ppmacro.specs.Spellings.{is_punct}
+use Rattle.pptext.specs.Tokens.{is_punct}
 use Rattle.ppshelf.specs.declared.search.Form.{Form}
 use Rattle.ppshelf.specs.declared.search.Form.TheVariants.{Quote, Angle}
 use Rattle.ppunit.specs.Lines.{space_before, spaced}

@@ -5,7 +5,7 @@ use Rattle.pptext.specs.declared.tokens.Fault.{Fault}
 use Rattle.pptext.specs.declared.sources.Directive.{Directive}
 use Rattle.pptext.specs.Lines.{LogicalLine}
 use Rattle.pptext.specs.Tree.{sign_place, name_of}
-use Rattle.ppmacro.specs.Spellings.{is_identifier}
+use Rattle.pptext.specs.Tokens.{is_identifier, fault}
 
 -- a line of these tokens with this directive
 abbrev pub directed : Directive → List Token → ℕ → LogicalLine
@@ -17,7 +17,7 @@ operands line = drop 2 line
 
 -- a fault at the line's `#`
 abbrev pub line_fault : ℕ → List Token → List ℕ → Fault
-line_fault number line text = record { number = number; at = sign_place line; text = text }
+line_fault number line text = fault number (sign_place line) text
 
 -- a fault that says the directive's name
 abbrev pub named_fault : ℕ → List Token → Fault

@@ -2,10 +2,10 @@
 use Rattle.std.specs.Prelude.{List, [], ◌∷◌, if◌then◌else◌, Option, None, Some}
 use Rattle.pptext.specs.declared.tokens.Token.{Token}
 use Rattle.pptext.specs.declared.tokens.Fault.{Fault}
-use Rattle.ppexpand.specs.Arguments.{is_lone_quote}
+use Rattle.pptext.specs.Tokens.{is_lone_quote, fault}
 
 abbrev pub quote_fault : Token → Fault
-quote_fault t = record { number = 7; at = t.at; text = t.text }
+quote_fault t = fault 7 t.at t.text
 
 -- the fault of the first one
 abbrev pub lone_quote : List Token → Option Fault

@@ -6,6 +6,7 @@ use Rattle.pptext.specs.declared.sources.Directive.TheVariants.{Include, Error, 
 use Rattle.pptext.specs.Lines.{LogicalLine}
 use Rattle.pptext.specs.Sources.{Reads}
 use Rattle.pptext.specs.Tree.{sign_place, Parts, Done, Run, Control, Section, Branches, End, Branch, Tree}
+use Rattle.pptext.specs.Tokens.{fault}
 use Rattle.ppshelf.specs.Content.{unreadable, readable}
 use Rattle.ppshelf.specs.Files.{Files, file_at}
 use Rattle.ppshelf.specs.Names.{name_in}
@@ -18,7 +19,7 @@ use Rattle.ppunit.specs.declared.units.UnitOut.{UnitOut}
 use Rattle.ppunit.specs.Lines.{operands, line_fault, run_tokens}
 use Rattle.ppunit.specs.Quotes.{lone_quote}
 use Rattle.ppunit.specs.Directives.{Finds, message}
-use Rattle.ppunit.specs.Group.{deepest, fault_at}
+use Rattle.ppunit.specs.Group.{deepest}
 use Rattle.ppunit.specs.Unit.{command_file, command_text, beginning, first_place, surroundings}
 use Rattle.ppunit.specs.StandardLines.{StandardDecides, StandardRunGives, StandardControlBy, StandardAsks}
 
@@ -110,7 +111,7 @@ mutual
   pub data StandardOpened (around : Surroundings) : ℕ → Place → State → ℕ → Reached → Type 0 where
     too_deep : {depth row : ℕ} {at : Place} {s : State}
         → deepest < depth
-        → StandardOpened around depth at s row (stopped s (fault_at 32 at (name_in around.names row)))
+        → StandardOpened around depth at s row (stopped s (fault 32 at (name_in around.names row)))
     known : {depth row : ℕ} {at : Place} {s : State}
         → depth ≤ deepest
         → is_among row s.once ≡ true
@@ -119,7 +120,7 @@ mutual
         → depth ≤ deepest
         → is_among row s.once ≡ false
         → file_at around.files row ≡ Some unreadable
-        → StandardOpened around depth at s row (stopped (depending s row) (fault_at 6 at (name_in around.names row)))
+        → StandardOpened around depth at s row (stopped (depending s row) (fault 6 at (name_in around.names row)))
     faulty : {depth row : ℕ} {at : Place} {s : State} {bytes : List ℕ} {f : Fault}
         → depth ≤ deepest
         → is_among row s.once ≡ false

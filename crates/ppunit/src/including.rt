@@ -11,7 +11,6 @@ use crate::line_control::is_plain_string;
 use crate::lines::{line_fault, operands};
 use crate::states::State;
 use ppexpand::{Expanded, expand};
-use ppmacro::is_punct;
 use ppshelf::Form;
 use pptext::{Kind, Spelling, Stop, Token};
 use std::alloc::{AllocError, Global};
@@ -77,7 +76,7 @@ fn angle_name(alloc: Global, tokens: &[Token]) -> Result<Option<Vec<u8>>, AllocE
         if token.space && index > 0 {
             name.push(b' ')?;
         }
-        if is_punct(token, b">") {
+        if token.is_punct(b">") {
             return Ok(if index + 1 == tokens.len() {
                 Some(name)
             } else {
@@ -97,7 +96,7 @@ fn expanded_asked(alloc: Global, tokens: &[Token]) -> Result<Option<Asked>, Allo
         [only] if is_plain_string(only) => {
             Ok(Some(asking_for(alloc, Form::Quote, inner(only.text.as_bytes()))?))
         }
-        [first, rest @ ..] if is_punct(first, b"<") && !rest.is_empty() => {
+        [first, rest @ ..] if first.is_punct(b"<") && !rest.is_empty() => {
             let Some(name) = angle_name(alloc, rest)? else {
                 return Ok(None);
             };

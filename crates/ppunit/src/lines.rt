@@ -7,8 +7,7 @@ ghost use Rattle.pptext.specs.Tree.{sign_place, name_of};
 ghost use Rattle.ppunit.specs.Lines as spec;
 ghost use Rattle.ppunit.specs.Quotes as quotes;
 
-use ppexpand::is_lone_quote;
-use pptext::{Fault, Kind, Place, Spelling, Stop, Token};
+use pptext::{Fault, Kind, Place, Stop, Token};
 use std::alloc::{AllocError, Global};
 
 /// The place of the `#`.
@@ -54,11 +53,7 @@ pub(crate) fn line_fault(
 ) -> Result<Fault, AllocError>
     ensures { IfOk result (λ f. f ≡ spec.line_fault number line.now text.now) }
 {
-    Ok(Fault {
-        number,
-        at: sign(line),
-        text: Spelling::from_slice(alloc, text)?,
-    })
+    Fault::new(alloc, number, sign(line), text)
 }
 
 /// The one identifier that is asked for.
@@ -76,12 +71,8 @@ pub(crate) fn refuse_lone_quote(line: &[Token]) -> Result<(), Stop>
     ensures { IfSettled result (λ r. result_err r ≡ quotes.lone_quote line.now) }
 {
     for token in line {
-        if is_lone_quote(token) {
-            return Err(Stop::Fault(Fault {
-                number: 7,
-                at: token.at,
-                text: token.text.clone()?,
-            }));
+        if token.is_lone_quote() {
+            return Err(Stop::Fault(Fault::of_token(7, token.at, token)?));
         }
     }
     Ok(())

@@ -1,10 +1,10 @@
 // Opening a file (6.10.2): its dependency, its content, and what the predefined names stand for in it.
-ghost use Rattle.std.specs.Prelude.{◌≡◌, ◌<◌, ◌^◌, pos, ℕ, map, length, string_bytes, IfOk, IfSome};
+ghost use Rattle.std.specs.Prelude.{◌≡◌, ◌<◌, ◌^◌, pos, map, length, string_bytes, IfOk, IfSome};
 ghost use Rattle.pptext.specs.Stops.{IfSettled};
-ghost use Rattle.ppshelf.specs.Names.{name_in};
+ghost use Rattle.pptext.specs.Tokens.{fault};
 ghost use Rattle.ppshelf.specs.Files.{Files, Extends};
 ghost use Rattle.ppunit.specs.Directives.{Finds};
-ghost use Rattle.ppunit.specs.Group.{Opened, fault_at};
+ghost use Rattle.ppunit.specs.Group.{Opened};
 ghost use Rattle.ppunit.specs.States.{Reached, literal, surroundings_of};
 ghost use Rattle.ppunit.specs.Walk.{Leads};
 
@@ -14,7 +14,7 @@ use crate::indexed::count;
 use crate::states::{State, literal};
 use ppexpand::Env;
 use ppshelf::{Disk, Folders, Form, Pass, Shelf, resolve};
-use pptext::{Fault, Memory, Place, Profile, Source, Spelling, Stop};
+use pptext::{Fault, Memory, Place, Profile, Source, Stop};
 use std::alloc::{AllocError, Global};
 use std::marker::Model;
 use std::mem::replace;
@@ -134,17 +134,6 @@ pub(crate) struct Entered<'a> {
     pub outer: Env,
 }
 
-// A fault that says a file's name.
-fn file_fault(alloc: Global, number: u8, at: Place, name: &str) -> Result<Fault, AllocError>
-    ensures { IfOk result (λ f. f ≡ fault_at number at name.now) }
-{
-    Ok(Fault {
-        number,
-        at,
-        text: Spelling::from_slice(alloc, name.as_bytes())?,
-    })
-}
-
 // What predefined names stand for where a file begins.
 fn entering(alloc: Global, outer: &Env, name: &str) -> Result<Env, AllocError>
     ensures { IfOk result (λ e. e ≡ record outer.now { name = literal name.now; shift = pos 0 }) }
@@ -199,10 +188,10 @@ pub(crate) fn open<'a, D: Disk>(
     let shelf = around.shelf();
     let name = shelf.name(row);
     if depth > DEEPEST {
-        return Err(Stop::Fault(file_fault(around.alloc, 32, at, name)?));
+        return Err(Stop::Fault(Fault::new(around.alloc, 32, at, name.as_bytes())?));
     }
     if state.is_spent() {
-        return Err(Stop::Fault(file_fault(around.alloc, 35, at, "")?));
+        return Err(Stop::Fault(Fault::bare(35, at)));
     }
     state.pay();
     state.depend(row)?;
@@ -213,7 +202,7 @@ pub(crate) fn open<'a, D: Disk>(
         return Err(Stop::Memory);
     };
     let Some(read) = loaded.lines() else {
-        return Err(Stop::Fault(file_fault(around.alloc, 6, at, name)?));
+        return Err(Stop::Fault(Fault::new(around.alloc, 6, at, name.as_bytes())?));
     };
     let source = match read {
         Ok(source) => source,

@@ -1,12 +1,12 @@
 // What a replacement list is refused for (6.10.3p5, 6.10.3.2p1, 6.10.3.3p1).
 ghost use Rattle.std.specs.Prelude.{◌≡◌, IfOk, codes, true};
 ghost use Rattle.std.specs.List.{list_any};
-ghost use Rattle.ppmacro.specs.Spellings.{is_name};
+ghost use Rattle.pptext.specs.Tokens.{is_name};
 ghost use Rattle.ppmacro.specs.Define.{misplaces_paste, begins_with_parameter, misplaces_hash};
 
 use crate::chains::{Parameters, parameter_of};
 use crate::macros::Shape;
-use crate::spellings::{is_hash, is_name, is_paste};
+use crate::spellings::{is_hash, is_paste};
 use pptext::{Hashing, Token};
 use std::alloc::{AllocError, Global};
 
@@ -14,7 +14,7 @@ use std::alloc::{AllocError, Global};
 pub(crate) fn says_variable_arguments(body: &[Token]) -> bool
     ensures { result ≡ list_any (is_name (codes "__VA_ARGS__")) body.now }
 {
-    body.iter().any(|t| is_name(t, b"__VA_ARGS__"))
+    body.iter().any(|t| t.is_name(b"__VA_ARGS__"))
 }
 
 /// Whether `##` stands first, last or beside another.

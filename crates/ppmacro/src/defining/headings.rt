@@ -9,7 +9,6 @@ ghost use Rattle.ppmacro.specs.Headings.{with_names};
 use crate::borrowed::Body;
 use crate::macros::Names;
 use crate::places::{FEW, index_of_each};
-use crate::spellings::{is_identifier, is_punct};
 use pptext::{Hashing, Spelling, Token};
 use std::alloc::{AllocError, Global};
 use std::marker::Model;
@@ -37,7 +36,7 @@ fn closed<'a>(names: Vec<Spelling>, variadic: bool, line: &'a [Token]) -> Option
     let Some(first) = line.first() else {
         return None;
     };
-    if !is_punct(first, b")") {
+    if !first.is_punct(b")") {
         return None;
     }
     Some(Heading {
@@ -55,16 +54,16 @@ fn parameters<'a>(alloc: Global, line: &'a [Token]) -> Result<Option<Heading<'a>
     let mut named = false;
     for (i, token) in line.iter().enumerate() {
         if named {
-            if !is_punct(token, b",") {
+            if !token.is_punct(b",") {
                 return Ok(closed(names, false, &line[i..]));
             }
             named = false;
             continue;
         }
-        if is_punct(token, b"...") {
+        if token.is_punct(b"...") {
             return Ok(closed(names, true, &line[i + 1..]));
         }
-        if !is_identifier(token) {
+        if !token.is_identifier() {
             return Ok(None);
         }
         names.push(token.text.clone()?)?;
@@ -83,7 +82,7 @@ pub(crate) fn read_heading<'a>(
     let Some(first) = line.first() else {
         return Ok(None);
     };
-    if is_punct(first, b")") {
+    if first.is_punct(b")") {
         return Ok(closed(Vec::new(alloc), false, line));
     }
     parameters(alloc, line)

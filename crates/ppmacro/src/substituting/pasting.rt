@@ -7,7 +7,6 @@ ghost use Rattle.pptext.specs.Stops.{Answers};
 
 use crate::flying::Hidden;
 use crate::hide_sets::HideSets;
-use crate::spellings::fault;
 use crate::substituting::lexing::kind_of;
 use pptext::{Fault, Memory, Place, Spelling, Stop, Token, settled};
 use std::alloc::{AllocError, Global};
@@ -37,7 +36,7 @@ pub(crate) fn pasted<'a>(
 {
     let text = both(alloc, left, right)?;
     let Some(kind) = kind_of(text.as_slice()) else {
-        return Err(Stop::Fault(fault(alloc, 19, used, text.as_slice())?));
+        return Err(Stop::Fault(Fault::new(alloc, 19, used, text.as_slice())?));
     };
     let hide = sets.meet(left.hide(), right.hide())?;
     let token = Token {

@@ -7,7 +7,6 @@ ghost use Rattle.ppmacro.specs.Substituting.{tokens_of, hidden_in};
 
 use crate::flying::Hidden;
 use crate::hide_sets::HideSets;
-use crate::spellings::fault;
 use crate::substituting::lexing::kind_of;
 use pptext::{Fault, Kind, Memory, Place, Spelling, Stop, Token, settled};
 use std::alloc::{AllocError, Global};
@@ -85,7 +84,7 @@ pub(crate) fn stringized<'a>(
     let text = string_text(alloc, argument)?;
     let kind = kind_of(text.as_slice());
     if !matches!(kind, Some(Kind::Str)) {
-        return Err(Stop::Fault(fault(alloc, 20, used, text.as_slice())?));
+        return Err(Stop::Fault(Fault::new(alloc, 20, used, text.as_slice())?));
     }
     let token = Token {
         kind: Kind::Str,

@@ -3,6 +3,7 @@ ghost use Rattle.std.specs.Prelude.{◌≡◌, ◌+◌, ◌<◌, ◌^◌, [], le
 ghost use Rattle.pptext.specs.declared.sources.Line.{Line};
 ghost use Rattle.pptext.specs.declared.tokens.Token.{Token};
 ghost use Rattle.pptext.specs.Lines.{LogicalLine};
+ghost use Rattle.pptext.specs.Tokens.{fault};
 ghost use Rattle.pptext.specs.Sources.{lines_from};
 ghost use Rattle.pptext.specs.Tree.{opened, fault_at, group_fault};
 ghost use Rattle.pptext.specs.Roles.{role_meant};
@@ -61,13 +62,9 @@ fn take_line(
 /// The fault of this number at the directive whose `#` has this index: its place is that of the `#`, its text the name behind.
 fn fault_of(number: u8, tokens: &[Token], sign: usize) -> Result<Fault, AllocError>
     requires { sign + 1 < length tokens.now }
-    ensures { (d : Token) → IfOk result (λ f. f ≡ record { number = number; at = (slice_index_or tokens.now sign d).at; text = (slice_index_or tokens.now (sign + 1) d).text }) }
+    ensures { (d : Token) → IfOk result (λ f. f ≡ fault number (slice_index_or tokens.now sign d).at (slice_index_or tokens.now (sign + 1) d).text) }
 {
-    Ok(Fault {
-        number,
-        at: tokens[sign].at,
-        text: tokens[sign + 1].text.clone()?,
-    })
+    Fault::of_token(number, tokens[sign].at, &tokens[sign + 1])
 }
 
 /// The fault of this number at the line of this index.

@@ -1,13 +1,13 @@
 use Rattle.std.proofs.Common.{◌≡◌, ◌∙◌, ℕ, true, false, List, [], ◌∷◌, Option, Some, None, IfOk, sym, ap, subst}
 use Rattle.std.specs.FinSet as set
 use Rattle.std.specs.Option.{option_copied}
+use Rattle.pptext.specs.Tokens.{is_lone_quote}
 use Rattle.ppmacro.specs.Names.{Macros}
 use Rattle.ppmacro.specs.HideSets.{set_at, Hiding, hiding, hidings}
 use Rattle.ppmacro.specs.Substituting.{tokens_of}
 use Rattle.ppmacro.specs.declared.flying.Hidden.{Hidden}
 use Rattle.ppmacro.specs.declared.macros.Definition.{Definition}
 use Rattle.ppexpand.specs.declared.env.Env.{Env}
-use Rattle.ppexpand.specs.Arguments.{is_lone_quote}
 use Rattle.ppexpand.specs.Turn.{Refused, named_turn, macro_turn, macro_of, turn, within, quote_fault}
 use Rattle.ppexpand.specs.Expansion.{turn_within}
 use Rattle.ppexpand.specs.Lists.{next_macro}
