@@ -22,10 +22,7 @@ use crate::env::Env;
 use crate::predefined::predefined_value;
 use crate::spellings::{at_use, is_open, is_quote, lone_quote, over_budget};
 use crate::spending::is_spent;
-use ppmacro::{
-    Builtin, Chain, Expansion, Hidden, HideSets, Macro, Set, Shape, Table,
-    substitute,
-};
+use ppmacro::{Builtin, Chain, Expansion, Hidden, HideSets, Macro, Set, Shape, Table, substitute};
 use pptext::{Fault, Memory, Spelling, Token};
 use std::alloc::{AllocError, Global};
 
