@@ -2,6 +2,7 @@
 ghost use Rattle.std.specs.Prelude.{◌≡◌, ◌≤◌, ◌↔◌, ◌==◌, List, ℕ, IfOk, OnOk, length, take, IsTrue, [], ◌∷◌, ◌++◌, Some, None};
 ghost use Rattle.pptext.specs.Spelt.{IsSpelt, spelt};
 
+use crate::sequences::Sequence;
 use std::alloc::{AllocError, AllocFailed, Global};
 use std::marker::Model;
 
@@ -209,43 +210,7 @@ pub struct Fault {
 }
 
 /// Tokens, which contracts see as their list.
-#[derive(Clone, Drop, Debug)]
-pub struct Tokens {
-    tokens: Vec<Token>,
-}
-
-impl Model for Tokens {
-    ghost use Rattle.std.specs.Prelude.{List};
-    ghost use Rattle.pptext.specs.declared.tokens.Token.{Token};
-
-    ghost Value = { List Token };
-
-    ghost view = { λ s. s.tokens.items };
-}
-
-impl Tokens {
-    /// These tokens.
-    pub fn new(tokens: Vec<Token>) -> Tokens
-        ensures { result ≡ tokens.items }
-    {
-        Self { tokens }
-    }
-
-    /// The tokens, given back.
-    pub fn into_vec(self) -> Vec<Token>
-        ensures { result.items ≡ self }
-    {
-        let Tokens { tokens } = self;
-        tokens
-    }
-
-    /// The tokens.
-    pub fn as_slice(&self) -> &[Token]
-        ensures { result.now ≡ self.now }
-    {
-        self.tokens.as_slice()
-    }
-}
+pub type Tokens = Sequence<Token>;
 
 #[cfg(test)]
 mod tests {
