@@ -11,7 +11,7 @@ mod tests;
 
 use crate::list::drafts::{Draft, draft_of};
 use crate::list::judging::judge;
-use pptext::{Hashing, Memory};
+use pptext::{Hashing, Memory, Sequence};
 use ppunit::{Setting, Texts, Unit};
 use serde_json::{Category, Value};
 use std::alloc::{AllocError, AllocFailed, Global};
@@ -19,35 +19,7 @@ use std::marker::Model;
 use thiserror::Error;
 
 /// Units, which contracts see as their list.
-#[derive(Drop, Debug)]
-pub struct Units {
-    units: Vec<Unit>,
-}
-
-impl Model for Units {
-    ghost use Rattle.std.specs.Prelude.{List};
-    ghost use Rattle.ppunit.specs.declared.units.Unit.{Unit};
-
-    ghost Value = { List Unit };
-
-    ghost view = { λ u. u.units.items };
-}
-
-impl Units {
-    /// These units.
-    pub fn new(units: Vec<Unit>) -> Units
-        ensures { result ≡ units.items }
-    {
-        Units { units }
-    }
-
-    /// The units.
-    pub fn as_slice(&self) -> &[Unit]
-        ensures { result.now ≡ self.now }
-    {
-        self.units.as_slice()
-    }
-}
+pub type Units = Sequence<Unit>;
 
 /// The contents of files, which contracts see as the list of their bytes.
 #[derive(Drop, Debug)]

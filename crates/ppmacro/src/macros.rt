@@ -4,7 +4,7 @@ ghost use Rattle.ppmacro.specs.Chains.{chains_of};
 
 use crate::borrowed::{Body, Leaf};
 use crate::chains::chains_of;
-use pptext::{Hashing, Place, Spelling};
+use pptext::{Hashing, Place, Sequence, Spelling};
 use std::alloc::{AllocError, Global};
 use std::marker::Model;
 use std::{mem, slice};
@@ -22,34 +22,7 @@ pub enum Builtin {
 }
 
 /// Names, which contracts see as the list of their spellings.
-#[derive(Drop)]
-pub struct Names {
-    names: Vec<Spelling>,
-}
-
-impl Model for Names {
-    ghost use Rattle.std.specs.Prelude.{List, ℕ};
-
-    ghost Value = { List (List ℕ) };
-
-    ghost view = { λ n. n.names.items };
-}
-
-impl Names {
-    /// These names.
-    pub fn new(names: Vec<Spelling>) -> Names
-        ensures { result ≡ names.items }
-    {
-        Names { names }
-    }
-
-    /// The names.
-    pub fn as_slice(&self) -> &[Spelling]
-        ensures { result.now ≡ self.now }
-    {
-        self.names.as_slice()
-    }
-}
+pub type Names = Sequence<Spelling>;
 
 /// What kind of macro it is.
 #[derive(Drop)]
@@ -159,35 +132,7 @@ pub struct Chain<'a> {
 }
 
 /// Chains, which contracts see as their list.
-#[derive(Drop)]
-pub struct Chains<'a> {
-    chains: Vec<Chain<'a>>,
-}
-
-impl<'a> Model for Chains<'a> {
-    ghost use Rattle.std.specs.Prelude.{List};
-    ghost use Rattle.ppmacro.specs.declared.macros.Chain.{Chain};
-
-    ghost Value = { List Chain };
-
-    ghost view = { λ s. s.chains.items };
-}
-
-impl<'a> Chains<'a> {
-    /// These chains.
-    pub fn new(chains: Vec<Chain<'a>>) -> Chains<'a>
-        ensures { result ≡ chains.entry.items }
-    {
-        Chains { chains }
-    }
-
-    /// The chains.
-    pub fn as_slice(&self) -> &[Chain<'a>]
-        ensures { result.now ≡ self.now }
-    {
-        self.chains.as_slice()
-    }
-}
+pub type Chains<'a> = Sequence<Chain<'a>>;
 
 /// A macro, which contracts see as its definition.
 #[derive(Drop)]

@@ -13,6 +13,7 @@ mod laws;
 mod punctuators;
 mod reading;
 mod scanning;
+mod sequences;
 mod sources;
 mod stops;
 mod texts;
@@ -27,6 +28,7 @@ pub use laws::{
 };
 pub use reading::{read_source, relex};
 pub use scanning::carries_on;
+pub use sequences::Sequence;
 pub use sources::{Directive, LONGEST, Line, Profile, Source, SourceFault};
 pub use stops::{Stop, settled};
 pub use tokens::{Fault, Kind, Memory, Place, Spelling, Token, Tokens};

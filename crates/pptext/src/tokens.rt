@@ -3,6 +3,7 @@ ghost use Rattle.std.specs.Prelude.{◌≡◌, ◌≤◌, ◌↔◌, ◌==◌, L
 ghost use Rattle.pptext.specs.Spelt.{IsSpelt, spelt};
 ghost use Rattle.pptext.specs.Tokens.{is_identifier, is_name, is_punct, is_lone_quote, fault};
 
+use crate::sequences::Sequence;
 use std::alloc::{AllocError, AllocFailed, Global};
 use std::marker::Model;
 
@@ -276,43 +277,7 @@ impl Fault {
 }
 
 /// Tokens, which contracts see as their list.
-#[derive(Clone, Drop, Debug)]
-pub struct Tokens {
-    tokens: Vec<Token>,
-}
-
-impl Model for Tokens {
-    ghost use Rattle.std.specs.Prelude.{List};
-    ghost use Rattle.pptext.specs.declared.tokens.Token.{Token};
-
-    ghost Value = { List Token };
-
-    ghost view = { λ s. s.tokens.items };
-}
-
-impl Tokens {
-    /// These tokens.
-    pub fn new(tokens: Vec<Token>) -> Tokens
-        ensures { result ≡ tokens.items }
-    {
-        Self { tokens }
-    }
-
-    /// The tokens, given back.
-    pub fn into_vec(self) -> Vec<Token>
-        ensures { result.items ≡ self }
-    {
-        let Tokens { tokens } = self;
-        tokens
-    }
-
-    /// The tokens.
-    pub fn as_slice(&self) -> &[Token]
-        ensures { result.now ≡ self.now }
-    {
-        self.tokens.as_slice()
-    }
-}
+pub type Tokens = Sequence<Token>;
 
 #[cfg(test)]
 mod tests {

@@ -1,5 +1,5 @@
 // A list as it stands in JSON, before its names and times are judged.
-ghost use Rattle.std.specs.Prelude.{◌≡◌, Some, None, IfOk, IfErr, codes, map, option_and_then, length, ◌<◌, IfSome, string_bytes};
+ghost use Rattle.std.specs.Prelude.{◌≡◌, Some, None, IfOk, IfErr, codes, map, option_and_then, ◌<◌, IfSome, string_bytes};
 ghost use Rattle.serde_json.specs.Find.{as_str};
 ghost use Rattle.serde_json.specs.View.{view, members_view, items_view};
 ghost use Rattle.cppunits.specs.Listing.{RefusedFor};
@@ -8,53 +8,16 @@ ghost use Rattle.cppunits.specs.Drafting as drafting;
 ghost use Rattle.cppunits.specs.Drafting.{ShapeDecides};
 
 use crate::list::ListFault;
+use pptext::Sequence;
 use ppunit::{Text, Texts};
 use serde_json::{Map, Value};
 use std::alloc::Global;
-use std::marker::Model;
-
-/// A file's content, which contracts see as the list of its bytes.
-#[derive(Drop, Debug)]
-pub(super) struct Content {
-    bytes: Vec<u8>,
-}
-
-impl Model for Content {
-    ghost use Rattle.std.specs.Prelude.{ℕ, List};
-
-    ghost Value = { List ℕ };
-
-    ghost view = { λ c. c.bytes.items };
-}
-
-impl Content {
-    /// A content of these bytes.
-    pub(super) fn new(bytes: Vec<u8>) -> Content
-        ensures { result ≡ bytes.items }
-    {
-        Content { bytes }
-    }
-
-    /// The bytes, given back.
-    pub(super) fn into_bytes(self) -> Vec<u8>
-        ensures { result.items ≡ self }
-    {
-        self.bytes
-    }
-
-    /// The number of its bytes.
-    pub(super) fn len(&self) -> usize
-        ensures { result ≡ length self.now }
-    {
-        self.bytes.len()
-    }
-}
 
 /// A file of a list as it stands.
 #[derive(Drop, Debug)]
 pub(super) struct DraftFile {
     pub(super) name: Text,
-    pub(super) content: Content,
+    pub(super) content: Sequence<u8>,
 }
 
 /// A unit of a list as it stands, with the name of its file.
@@ -63,82 +26,6 @@ pub(super) struct DraftUnit {
     pub(super) file: Text,
     pub(super) defines: Texts,
     pub(super) search: Texts,
-}
-
-/// Files as they stand, which contracts see as their list.
-#[derive(Drop, Debug)]
-pub(super) struct DraftFiles {
-    files: Vec<DraftFile>,
-}
-
-impl Model for DraftFiles {
-    ghost use Rattle.std.specs.Prelude.{List};
-    ghost use Rattle.cppunits.specs.declared.list.drafts.DraftFile.{DraftFile};
-
-    ghost Value = { List DraftFile };
-
-    ghost view = { λ f. f.files.items };
-}
-
-impl DraftFiles {
-    /// These files.
-    pub(super) fn new(files: Vec<DraftFile>) -> DraftFiles
-        ensures { result ≡ files.items }
-    {
-        DraftFiles { files }
-    }
-
-    /// The files.
-    pub(super) fn as_slice(&self) -> &[DraftFile]
-        ensures { result.now ≡ self.now }
-    {
-        self.files.as_slice()
-    }
-
-    /// The files, given back.
-    pub(super) fn into_vec(self) -> Vec<DraftFile>
-        ensures { result.items ≡ self }
-    {
-        self.files
-    }
-}
-
-/// Units as they stand, which contracts see as their list.
-#[derive(Drop, Debug)]
-pub(super) struct DraftUnits {
-    units: Vec<DraftUnit>,
-}
-
-impl Model for DraftUnits {
-    ghost use Rattle.std.specs.Prelude.{List};
-    ghost use Rattle.cppunits.specs.declared.list.drafts.DraftUnit.{DraftUnit};
-
-    ghost Value = { List DraftUnit };
-
-    ghost view = { λ u. u.units.items };
-}
-
-impl DraftUnits {
-    /// These units.
-    pub(super) fn new(units: Vec<DraftUnit>) -> DraftUnits
-        ensures { result ≡ units.items }
-    {
-        DraftUnits { units }
-    }
-
-    /// The units.
-    pub(super) fn as_slice(&self) -> &[DraftUnit]
-        ensures { result.now ≡ self.now }
-    {
-        self.units.as_slice()
-    }
-
-    /// The units, given back.
-    pub(super) fn into_vec(self) -> Vec<DraftUnit>
-        ensures { result.items ≡ self }
-    {
-        self.units
-    }
 }
 
 /// A list's budget as it stands.
@@ -166,8 +53,8 @@ pub(super) struct DraftSetting {
 #[derive(Drop, Debug)]
 pub(super) struct Draft {
     pub(super) setting: DraftSetting,
-    pub(super) files: DraftFiles,
-    pub(super) units: DraftUnits,
+    pub(super) files: Sequence<DraftFile>,
+    pub(super) units: Sequence<DraftUnit>,
 }
 
 /// The list as it stands.
@@ -259,7 +146,7 @@ fn text_of(value: &Value) -> Result<&str, ListFault>
     }
 }
 
-fn files_of(alloc: Global, value: &Value, inline: bool) -> Result<DraftFiles, ListFault>
+fn files_of(alloc: Global, value: &Value, inline: bool) -> Result<Sequence<DraftFile>, ListFault>
     ensures ok { IfOk result (λ fs. drafting.array_at (drafting.draft_file inline) (codes "files") (view value.now) ≡ Some fs) }
     ensures err { IfErr result (RefusedFor 2 (drafting.array_at (drafting.draft_file inline) (codes "files") (view value.now) ≡ None)) }
 {
@@ -269,7 +156,7 @@ fn files_of(alloc: Global, value: &Value, inline: bool) -> Result<DraftFiles, Li
     let Some(items) = array.as_array() else {
         return Err(ListFault::Bad(2));
     };
-    Ok(DraftFiles::new(files_from(alloc, items.as_slice(), inline)?))
+    Ok(Sequence::new(files_from(alloc, items.as_slice(), inline)?))
 }
 
 fn files_from(alloc: Global, items: &[Value], inline: bool) -> Result<Vec<DraftFile>, ListFault>
@@ -306,12 +193,12 @@ fn is_file_object(value: &Value, inline: bool) -> bool
 }
 
 /// The content of a file by exactly one of `text` and `hex`, or nothing where lists hold no contents.
-fn content_of(alloc: Global, value: &Value, inline: bool) -> Result<Content, ListFault>
+fn content_of(alloc: Global, value: &Value, inline: bool) -> Result<Sequence<u8>, ListFault>
     ensures ok { IfOk result (λ c. drafting.content_of inline (view value.now) ≡ Some c) }
     ensures err { IfErr result (RefusedFor 2 (drafting.content_of inline (view value.now) ≡ None)) }
 {
     if !inline {
-        return Ok(Content::new(Vec::new(alloc)));
+        return Ok(Sequence::new(Vec::new(alloc)));
     }
     match (value.get("text"), value.get("hex")) {
         (Some(text), None) => plain_content(alloc, text),
@@ -320,27 +207,27 @@ fn content_of(alloc: Global, value: &Value, inline: bool) -> Result<Content, Lis
     }
 }
 
-fn plain_content(alloc: Global, value: &Value) -> Result<Content, ListFault>
+fn plain_content(alloc: Global, value: &Value) -> Result<Sequence<u8>, ListFault>
     ensures ok { IfOk result (λ c. as_str (view value.now) ≡ Some c) }
     ensures err { IfErr result (RefusedFor 2 (as_str (view value.now) ≡ None)) }
 {
     let Some(text) = value.as_str() else {
         return Err(ListFault::Bad(2));
     };
-    Ok(Content::new(Vec::from_slice(alloc, text.as_bytes())?))
+    Ok(Sequence::new(Vec::from_slice(alloc, text.as_bytes())?))
 }
 
-fn hex_content(alloc: Global, value: &Value) -> Result<Content, ListFault>
+fn hex_content(alloc: Global, value: &Value) -> Result<Sequence<u8>, ListFault>
     ensures ok { IfOk result (λ c. option_and_then shape.hex_bytes (as_str (view value.now)) ≡ Some c) }
     ensures err { IfErr result (RefusedFor 2 (option_and_then shape.hex_bytes (as_str (view value.now)) ≡ None)) }
 {
     let Some(text) = value.as_str() else {
         return Err(ListFault::Bad(2));
     };
-    Ok(Content::new(hex_bytes(alloc, text.as_bytes())?))
+    Ok(Sequence::new(hex_bytes(alloc, text.as_bytes())?))
 }
 
-fn units_of(alloc: Global, value: &Value) -> Result<DraftUnits, ListFault>
+fn units_of(alloc: Global, value: &Value) -> Result<Sequence<DraftUnit>, ListFault>
     ensures ok { IfOk result (λ us. drafting.array_at drafting.draft_unit (codes "units") (view value.now) ≡ Some us) }
     ensures err { IfErr result (RefusedFor 2 (drafting.array_at drafting.draft_unit (codes "units") (view value.now) ≡ None)) }
 {
@@ -350,7 +237,7 @@ fn units_of(alloc: Global, value: &Value) -> Result<DraftUnits, ListFault>
     let Some(items) = array.as_array() else {
         return Err(ListFault::Bad(2));
     };
-    Ok(DraftUnits::new(units_from(alloc, items.as_slice())?))
+    Ok(Sequence::new(units_from(alloc, items.as_slice())?))
 }
 
 fn units_from(alloc: Global, items: &[Value]) -> Result<Vec<DraftUnit>, ListFault>

@@ -9,12 +9,10 @@ ghost use Rattle.cppunits.specs.Listing as spec;
 ghost use Rattle.cppunits.specs.Listing.{RefusedFor, judged, judged_texts, judged_choices, accepted, refused};
 ghost use Rattle.cppunits.specs.declared.list.ListFault.TheVariants.{Bad};
 
-use crate::list::drafts::{
-    Draft, DraftBudget, DraftFile, DraftFiles, DraftSetting, DraftUnit, DraftUnits,
-};
+use crate::list::drafts::{Draft, DraftBudget, DraftFile, DraftSetting, DraftUnit};
 use crate::list::{Contents, List, ListFault, Units};
 use ppshelf::{Index, LONGEST, MOST_ROWS, is_folder, is_name};
-use pptext::{Hashing, Memory, Profile};
+use pptext::{Hashing, Memory, Profile, Sequence};
 use ppunit::{Definitions, Setting, Texts, Unit, fits_command, is_date, is_one_line, is_time};
 use std::alloc::{AllocError, Global};
 
@@ -124,7 +122,9 @@ fn sizes_hold(draft: &Draft) -> bool
 fn contents_fit(files: &[DraftFile]) -> bool
     ensures { result ≡ spec.contents_fit files.now }
 {
-    files.iter().all(|file| file.content.len() <= LONGEST)
+    files
+        .iter()
+        .all(|file| file.content.as_slice().len() <= LONGEST)
 }
 
 fn commands_fit(units: &[DraftUnit]) -> bool
@@ -223,7 +223,7 @@ fn listed_units(
     alloc: Global,
     index: &Index,
     profile: Profile,
-    units: DraftUnits,
+    units: Sequence<DraftUnit>,
 ) -> Result<Units, Memory>
     requires { spec.commands_fit units ≡ true }
     ensures { IfOk result (λ us. us ≡ map (spec.listed_unit profile index.now) units) }
@@ -268,7 +268,7 @@ fn listed_unit(
 /// The names of the files, and their contents where lists hold them.
 fn split_files(
     alloc: Global,
-    files: DraftFiles,
+    files: Sequence<DraftFile>,
     inline: bool,
 ) -> Result<(Texts, Contents), AllocError>
     ensures names { IfOk result (λ r. r.0 ≡ spec.names_of files) }
@@ -280,7 +280,7 @@ fn split_files(
         let DraftFile { name, content } = file;
         names.push(name.into_string())?;
         if inline {
-            contents.push(content.into_bytes())?;
+            contents.push(content.into_vec())?;
         }
     }
     Ok((Texts::new(names), Contents::new(contents)))
