@@ -1,11 +1,8 @@
 // The list that is being expanded.
 ghost use Rattle.std.specs.Prelude.{◌≡◌, ◌∷◌, [], ◌++◌, true, Some, MatchOption, OnOk};
 ghost use Rattle.std.specs.Option.{option_copied};
-ghost use Rattle.ppmacro.specs.Numbered.{Numbered};
-ghost use Rattle.ppmacro.specs.HideSets.{hidings, AllKnown};
 ghost use Rattle.ppmacro.specs.Substituting.{tokens_of};
-ghost use Rattle.ppexpand.specs.Turn.{mark_next};
-ghost use Rattle.ppexpand.specs.Lists.{marked, is_plain, next_macro, ArePlain};
+ghost use Rattle.ppexpand.specs.Lists.{marked, next_macro, ArePlain};
 ghost use Rattle.ppexpand.specs.Skipping.{IsAhead};
 
 use crate::spellings::is_lone_quote;

@@ -1,5 +1,5 @@
 // Places, preprocessing tokens and faults.
-ghost use Rattle.std.specs.Prelude.{◌≡◌, ◌≤◌, ◌↔◌, ◌==◌, List, ℕ, IfOk, OnOk, length, take, IsTrue, [], ◌∷◌, ◌++◌, Some, None};
+ghost use Rattle.std.specs.Prelude.{◌≡◌, ◌≤◌, List, ℕ, IfOk, OnOk, length, take, [], ◌++◌, Some, None};
 ghost use Rattle.pptext.specs.Spelt.{IsSpelt, spelt};
 
 use std::alloc::{AllocError, AllocFailed, Global};
