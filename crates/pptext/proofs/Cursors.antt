@@ -107,7 +107,8 @@ pass_code file raw breaks c code n s none lt is =
 pub pass_plain : (file : ℕ) (raw breaks : List ℕ) (c : Cursor) (n : ℕ)
     → Stands file raw breaks c
     → n ≤ c.plain
-    → (c.offset + n ≤ length raw) × Stands file raw breaks
+    → (c.offset + n ≤ length raw)
+    × Stands file raw breaks
     (record { passed = c.passed + n; offset = c.offset + n; plain = c.plain - n; next = c.next; at = place_behind c.at (take n (drop c.offset raw)) })
 pass_plain file raw breaks c n s le =
     let front = own_less (open_end raw) (drop c.offset raw) n c.plain le s.stretch.front in
