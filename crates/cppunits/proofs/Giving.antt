@@ -1,5 +1,6 @@
 -- What the units of a list give, over files that are known.
-use Rattle.std.proofs.Common.{Bool, Result, Ok, Err, IfOk, Vec, ◌≡◌, ℕ, ◌<◌, ◌≤◌, List, [], ◌∷◌, map, length, get_or, take, Option, Some, None, IsSome, String, All, sym, ap, ◌∙◌, subst, arith, refl, replicate, inl, inr}
+use Rattle.std.proofs.Common.{Bool, Result, Ok, Err, IfOk, Vec, ◌≡◌, ℕ, ◌<◌, ◌≤◌, List, [], ◌∷◌, map, length, get_or, take, Option, Some}
+use Rattle.std.proofs.Common.{None, IsSome, String, All, sym, ap, ◌∙◌, subst, arith, refl, replicate, inl, inr}
 use Rattle.std.specs.List.{AllZip}
 use Rattle.std.specs.String.{string_bytes}
 use Rattle.std.specs.declared.alloc.Global.{Global}
@@ -112,7 +113,8 @@ text_of mode list units shown outs same is =
     ∙ (ap (λ (os : List UnitOut). numbered (unit_lines mode list.names) 0 list.units os) is ∙ text_kept mode list.names 0 list.units outs)
 
 -- a list that came, and whose output went out, was served
-pub served : {inline : Bool} {Such : CompilationList → Files → Type 0} {before after : Option (List ℕ)} (mode : Mode) (list : CompilationList) (units : List UnitOfList) (shown outs : List UnitOut) (out_before out_after : Option (List ℕ)) (any : Bool)
+pub served : {inline : Bool} {Such : CompilationList → Files → Type 0} {before after : Option (List ℕ)} (mode : Mode) (list : CompilationList)
+    (units : List UnitOfList) (shown outs : List UnitOut) (out_before out_after : Option (List ℕ)) (any : Bool)
     → units ≡ list.units → shown ≡ outs → Comes inline before after list → (files : Files) → Such list files → AreKept (needed mode) list.names files list.setting list.units outs
     → HandsOut mode list.names units shown out_before out_after any → Serves inline Such mode before after out_before out_after any
 served mode list units shown outs out_before out_after any same is came files such gives given = record {
@@ -124,7 +126,8 @@ served mode list units shown outs out_before out_after any same is came files su
 }
 
 -- a list that came, and of whose output a beginning went out, was broken off
-pub broken_off : {inline : Bool} {Such : CompilationList → Files → Type 0} {before after : Option (List ℕ)} (mode : Mode) (list : CompilationList) (units : List UnitOfList) (shown outs : List UnitOut) (out_before out_after : Option (List ℕ))
+pub broken_off : {inline : Bool} {Such : CompilationList → Files → Type 0} {before after : Option (List ℕ)} (mode : Mode) (list : CompilationList)
+    (units : List UnitOfList) (shown outs : List UnitOut) (out_before out_after : Option (List ℕ))
     → units ≡ list.units → shown ≡ outs → Comes inline before after list → (files : Files) → Such list files → AreKept (needed mode) list.names files list.setting list.units outs
     → HandsOutFront mode list.names units shown out_before out_after → BreaksOff inline Such mode before after out_before out_after
 broken_off mode list units shown outs out_before out_after same is came files such gives given = record {

@@ -18,7 +18,8 @@ use Rattle.ppshelf.specs.Content.{longest}
 use Rattle.ppshelf.specs.Files.{most_rows}
 use Rattle.ppshelf.specs.Names.{row_among}
 use Rattle.ppshelf.proofs.Naming.{names_from_test}
-use Rattle.cppunits.specs.Listing.{accepted, refused, json_value, outcome_of, judged, listed, listed_unit, names_of, contents_of, names_hold, sizes_hold, are_known, times_hold, lines_hold, folders_hold, profile_holds, profile_of, budget_holds, most_input, IsRunnable}
+use Rattle.cppunits.specs.Listing.{accepted, refused, json_value, outcome_of, judged, listed, listed_unit, names_of, contents_of, names_hold, sizes_hold}
+use Rattle.cppunits.specs.Listing.{are_known, times_hold, lines_hold, folders_hold, profile_holds, profile_of, budget_holds, most_input, IsRunnable}
 use Rattle.cppunits.specs.declared.list.List.{List as CompilationList}
 use Rattle.cppunits.specs.declared.list.drafts.Draft.{Draft}
 use Rattle.cppunits.specs.declared.list.drafts.DraftFile.{DraftFile}
@@ -44,7 +45,13 @@ record Passed (x : CompilationList) (names sizes files times lines : Bool) (l : 
   pub lines_pass : lines ≡ true
 
 passed : (x : CompilationList) (names sizes files times lines folders profile budget : Bool) (l : CompilationList)
-    → (if not names then refused 3 else (if not sizes then refused 4 else (if not files then refused 5 else (if not times then refused 6 else (if not lines then refused 7 else (if not folders then refused 8 else (if not profile then refused 9 else (if not budget then refused 10 else accepted x)))))))) ≡ accepted l
+    → (if not names then refused 3
+    else (if not sizes then refused 4
+    else (if not files then refused 5
+    else (if not times then refused 6
+    else (if not lines then refused 7
+    else (if not folders then refused 8 else (if not profile then refused 9 else (if not budget then refused 10 else accepted x))))))))
+    ≡ accepted l
     → Passed x names sizes files times lines l
 passed x false sizes files times lines folders profile budget l e = absurd (cc)
 passed x true false files times lines folders profile budget l e = absurd (cc)
@@ -92,15 +99,23 @@ judged-runnable inline d l e =
     let unit_count : length d.units ≤ most_rows = leb-true (length d.units) most_rows units_pass in
     let same_units : length (map listing d.units) ≡ length d.units = length-map d.units listing in
     let same : length names ≡ length d.files = length-map d.files (λ (f : DraftFile). f.name) in
-    let short : All (λ (f : DraftFile). length f.content ≤ longest) d.files = All-weaker _ _ (λ f h. leb-true (length f.content) longest h) d.files (AllPass-from_list_all (λ (f : DraftFile). nat_le (length f.content) longest) d.files contents_pass) in
-    let known : All (λ (u : DraftUnit). unwrap_or (row_among u.file names) 0 < length names) d.units = All-weaker _ _ (λ u h. place_below u.file names h) d.units (AllPass-from_list_all (λ (u : DraftUnit). is_some (row_among u.file names)) d.units p.files_pass) in
-    let fit : All (λ (u : DraftUnit). length (command_text u.defines) ≤ longest) d.units = All-weaker _ _ (λ u h. leb-true (length (command_text u.defines)) longest h) d.units (AllPass-from_list_all (λ (u : DraftUnit). nat_le (length (command_text u.defines)) longest) d.units commands_pass) in
+    let short : All (λ (f : DraftFile). length f.content ≤ longest) d.files =
+    All-weaker _ _ (λ f h. leb-true (length f.content) longest h) d.files
+    (AllPass-from_list_all (λ (f : DraftFile). nat_le (length f.content) longest) d.files contents_pass) in
+    let known : All (λ (u : DraftUnit). unwrap_or (row_among u.file names) 0 < length names) d.units =
+    All-weaker _ _ (λ u h. place_below u.file names h) d.units
+    (AllPass-from_list_all (λ (u : DraftUnit). is_some (row_among u.file names)) d.units p.files_pass) in
+    let fit : All (λ (u : DraftUnit). length (command_text u.defines) ≤ longest) d.units =
+    All-weaker _ _ (λ u h. leb-true (length (command_text u.defines)) longest h) d.units
+    (AllPass-from_list_all (λ (u : DraftUnit). nat_le (length (command_text u.defines)) longest) d.units commands_pass) in
     let IsKnown = λ (u : DraftUnit). unwrap_or (row_among u.file names) 0 < length names in
     let IsGood = IsUnitOf (length names) (profile_of d.setting) in
     let placed : All (λ (u : DraftUnit). IsGood (listing u)) d.units = All-weaker IsKnown (λ (u : DraftUnit). IsGood (listing u)) (λ u h. (h, refl)) d.units known in
     let files : All IsGood (map listing d.units) = All-map IsGood listing d.units placed in
     let commands : All (λ (u : UnitOfList). length (command_text u.defines.texts) ≤ longest) (map listing d.units) = All-map (λ (u : UnitOfList). length (command_text u.defines.texts) ≤ longest) listing d.units fit in
-    let lines : All (λ (u : UnitOfList). list_all is_one_line u.defines.texts ≡ true) (map listing d.units) = All-map (λ (u : UnitOfList). list_all is_one_line u.defines.texts ≡ true) listing d.units (AllPass-from_list_all (λ (u : DraftUnit). list_all is_one_line u.defines) d.units p.lines_pass) in
+    let lines : All (λ (u : UnitOfList). list_all is_one_line u.defines.texts ≡ true) (map listing d.units) =
+    All-map (λ (u : UnitOfList). list_all is_one_line u.defines.texts ≡ true) listing d.units
+    (AllPass-from_list_all (λ (u : DraftUnit). list_all is_one_line u.defines) d.units p.lines_pass) in
     subst IsRunnable p.is_list (record {
       names = names_from_test names p.names_pass;
       few = rw same count;

@@ -1,5 +1,5 @@
 // The beginning of a token's line.
-ghost use Rattle.std.specs.Prelude.{◌≡◌, ◌+◌, ◌≤◌, ◌∷◌, ◌++◌, [], codes, decimal, length, take};
+ghost use Rattle.std.specs.Prelude.{◌≡◌, ◌+◌, ◌≤◌, ◌++◌, [], codes, decimal, length, take};
 ghost use Rattle.cppunits.specs.Output.{kind_letter, mark as mark_of};
 ghost use Rattle.cppunits.specs.Lines.{before_spelling, line_start};
 

@@ -1,8 +1,8 @@
 // What is printed of a list's units.
-ghost use Rattle.std.specs.Prelude.{◌≡◌, ℕ, ◌+◌, ◌++◌, ◌∷◌, [], ◌<◌, ◌≤◌};
+ghost use Rattle.std.specs.Prelude.{◌≡◌, ℕ, ◌++◌, ◌∷◌, [], ◌<◌, ◌≤◌};
 ghost use Rattle.std.specs.Prelude.{OnOk, OnErr, IfOk, Some, codes, decimal, false, true, length, take, flat_map};
 ghost use Rattle.std.specs.Io.KnownBytes.{Appends};
-ghost use Rattle.cppunits.specs.Output.{escaped, escaped_byte, is_plain as plain, hex_digit, place_text, token_text, item_lines, pragma_token_line};
+ghost use Rattle.cppunits.specs.Output.{escaped, escaped_byte, is_plain as plain, hex_digit, place_text, item_lines, pragma_token_line};
 ghost use Rattle.cppunits.specs.Output.{dep_line, name_at, fault_text, last_line, shown_items, unit_lines, numbered, output_text};
 ghost use Rattle.cppunits.specs.Printing.{Puts};
 ghost use Rattle.cppunits.specs.declared.output.Mode.TheVariants.{Dump, Deps};

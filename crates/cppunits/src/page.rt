@@ -1,5 +1,5 @@
 // The page that bytes wait on before they go out.
-ghost use Rattle.std.specs.Prelude.{◌≡◌, ◌+◌, ◌<◌, ◌≤◌, ◌++◌, ◌∷◌, [], codes, length, true, false, IfOk};
+ghost use Rattle.std.specs.Prelude.{◌≡◌, ◌+◌, ◌≤◌, ◌++◌, ◌∷◌, [], codes, length, true, false, IfOk};
 ghost use Rattle.cppunits.specs.Lines.{before_spelling};
 ghost use Rattle.cppunits.specs.Output.{escaped};
 ghost use Rattle.cppunits.specs.Printing.{Puts};

@@ -1,5 +1,5 @@
 // The program's rows: lists with their output, and streams that fail.
-ghost use Rattle.std.specs.Prelude.{◌≡◌, ◌≤◌, None};
+ghost use Rattle.std.specs.Prelude.{◌≤◌, None};
 
 use crate::ending::{status, words};
 use crate::output::Mode;

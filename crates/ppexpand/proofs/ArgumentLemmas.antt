@@ -1,5 +1,6 @@
 -- How the arguments of an invocation are expanded one after the other.
-use Rattle.std.proofs.Common.{◌≡◌, ℕ, zero, suc, ◌+◌, ◌<◌, ◌≤◌, Bool, true, false, List, [], ◌∷◌, drop, Option, Some, None, Ok, Err, Vec, Global, is_some, true≢false, refl, sym, ap, ◌∙◌, subst, get_or, length, add-one, arith}
+use Rattle.std.proofs.Common.{◌≡◌, ℕ, zero, suc, ◌+◌, ◌<◌, ◌≤◌, Bool, true, false, List, [], ◌∷◌, drop, Option, Some, None, Ok, Err, Vec}
+use Rattle.std.proofs.Common.{Global, is_some, true≢false, refl, sym, ap, ◌∙◌, subst, get_or, length, add-one, arith}
 use Rattle.std.proofs.lemmas.List.{get_or_default}
 use Rattle.pptext.specs.declared.tokens.Token.{Token}
 use Rattle.pptext.specs.declared.tokens.Fault.{Fault}
@@ -81,7 +82,9 @@ pub rest-unused : (s : Numbered) (vs : List (Vec Hidden Global)) (cs : List Chai
     → v ≡ get_or vs i v
     → uses_alone i cs ≡ false
     → to_expand i cs (drop i (given_in s vs)) ≡ None ∷ to_expand (i + 1) cs (drop (i + 1) (given_in s vs))
-rest-unused s vs cs i v h e u = ap (to_expand i cs) (given-item s vs i v h e) ∙ to_expand-unused i cs (hidings s v.items) (drop (i + 1) (given_in s vs)) u ∙ ap (λ n. None ∷ to_expand n cs (drop (i + 1) (given_in s vs))) (sym (add-one i))
+rest-unused s vs cs i v h e u = ap (to_expand i cs) (given-item s vs i v h e)
+    ∙ to_expand-unused i cs (hidings s v.items) (drop (i + 1) (given_in s vs)) u
+    ∙ ap (λ n. None ∷ to_expand n cs (drop (i + 1) (given_in s vs))) (sym (add-one i))
 
 pub rest-used : (s : Numbered) (vs : List (Vec Hidden Global)) (cs : List Chain) (i : ℕ) (v : Vec Hidden Global)
     → i < length vs

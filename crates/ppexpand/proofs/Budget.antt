@@ -122,7 +122,10 @@ module _ (macros : Macros) (env : Env) where
       let here : turn macros env list ≡ t = free list is e in
       free_within (Some n) list (turn macros env list) (subst IsFree (sym here) h) ∙ here
 
-  pub left_none : {level turns : ℕ} {left after : Option ℕ} {list tokens : List Hiding} {fault : Option Fault} → left ≡ None → Expands macros env level left turns list (record { tokens = tokens; fault = fault; left = after }) → after ≡ None
+  pub left_none : {level turns : ℕ} {left after : Option ℕ} {list tokens : List Hiding} {fault : Option Fault}
+      → left ≡ None
+      → Expands macros env level left turns list (record { tokens = tokens; fault = fault; left = after })
+      → after ≡ None
   left_none {after = after} is d = plus-none (count macros env d) after (sym is ∙ spends d)
 
   pub arguments_none : {level : ℕ} {call : Call} {left after : Option ℕ} {as' : List (Option (List Hiding))} {r : ExpandedArguments} → left ≡ None → ExpandsArguments macros env level call left as' after r → after ≡ None

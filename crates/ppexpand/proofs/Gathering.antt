@@ -35,7 +35,9 @@ pub resumed-argument : (done : List (List Hiding)) (front : List Hiding) (g : Ga
 resumed-argument done [] (Closed [] close behind) = refl
 resumed-argument done (x ∷ xs) (Closed [] close behind) = ap (λ ys. Closed (done ++ (x ∷ ys) ∷ []) close behind) (sym (append-nil xs))
 resumed-argument done [] (Closed (a ∷ as') close behind) = ap (λ ys. Closed ys close behind) (append_assoc done ([] ∷ []) (a ∷ as'))
-resumed-argument done (x ∷ xs) (Closed (a ∷ as') close behind) = ap (λ ys. Closed ys close behind) (append_assoc done ((x ∷ xs) ∷ []) (a ∷ as')) ∙ ap (λ ys. Closed (done ++ (x ∷ ys) ∷ (a ∷ as')) close behind) (sym (append-nil xs))
+resumed-argument done (x ∷ xs) (Closed (a ∷ as') close behind) =
+    ap (λ ys. Closed ys close behind) (append_assoc done ((x ∷ xs) ∷ []) (a ∷ as'))
+    ∙ ap (λ ys. Closed (done ++ (x ∷ ys) ∷ (a ∷ as')) close behind) (sym (append-nil xs))
 resumed-argument done [] (Quoted q) = refl
 resumed-argument done (x ∷ xs) (Quoted q) = refl
 resumed-argument done [] Unclosed = refl

@@ -56,7 +56,11 @@ not_cut : (b : Bool) → not b ≡ true → b ≡ false
 not_cut true e = absurd (cc)
 not_cut false e = refl
 
-found : {c : Option ℕ} {inside : List Hiding} {as' : List (List Hiding)} → Separated c inside as' → (close : Hiding) (behind : List Hiding) → mark_of close.token ≡ Close → gather 0 c (inside ++ close ∷ behind) ≡ Closed as' close behind
+found : {c : Option ℕ} {inside : List Hiding} {as' : List (List Hiding)}
+    → Separated c inside as'
+    → (close : Hiding) (behind : List Hiding)
+    → mark_of close.token ≡ Close
+    → gather 0 c (inside ++ close ∷ behind) ≡ Closed as' close behind
 found {c = c} (last {a = a} n) close behind is_close =
     passed_over n 0 c (not_cut (separates 0 c)) (close ∷ behind) ∙ ap (with_tokens a) (at_end c close behind is_close) ∙ with_tokens-closed a [] close behind
 found {c = c} (more {as' = as'} a t rest cut n e s) close behind is_close =

@@ -1,5 +1,6 @@
 -- Tokens that pass in a row.
-use Rattle.std.proofs.Common.{◌≡◌, ℕ, zero, suc, ◌≤◌, Bool, true, false, not, ◌&&◌, List, [], ◌∷◌, ◌++◌, map, Option, Some, None, is_some, refl, sym, ap, ◌∙◌, subst, arith, append_assoc, append-nil, true≢false}
+use Rattle.std.proofs.Common.{◌≡◌, ℕ, zero, suc, ◌≤◌, Bool, true, false, not, ◌&&◌, List, [], ◌∷◌, ◌++◌, map, Option, Some, None}
+use Rattle.std.proofs.Common.{is_some, refl, sym, ap, ◌∙◌, subst, arith, append_assoc, append-nil, true≢false}
 use Rattle.std.specs.FinSet as set
 use Rattle.std.specs.List.{AllByRecursion}
 use Rattle.std.proofs.lemmas.List.{map-append}
@@ -123,7 +124,9 @@ tokens-with_set n [] = refl
 tokens-with_set n (t ∷ ts) = ap (λ us. t ∷ us) (tokens-with_set n ts)
 
 -- tokens that pass, before a list
-pub expands-front : (macros : Macros) (env : Env) (level : ℕ) (left : Option ℕ) (front : List Token) (rest : List Hiding) (out : Outcome) → AllByRecursion (λ t. is_plain macros t ≡ true) front → ExpandsTo macros env level left rest out
+pub expands-front : (macros : Macros) (env : Env) (level : ℕ) (left : Option ℕ) (front : List Token) (rest : List Hiding) (out : Outcome)
+    → AllByRecursion (λ t. is_plain macros t ≡ true) front
+    → ExpandsTo macros env level left rest out
     → ExpandsTo macros env level left (map plain front ++ rest) (record { tokens = map plain front ++ out.tokens; fault = out.fault; left = out.left })
 expands-front macros env level left [] rest out h d = d
 expands-front macros env level left (t ∷ ts) rest out h d =

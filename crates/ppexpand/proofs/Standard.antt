@@ -40,7 +40,11 @@ module _ (macros : Macros) (env : Env) where
     predefined : {t : Hiding} {rest : List Hiding} {d : Definition} {b : Builtin} → NamesMacro macros t d → d.shape ≡ Predefined b → Means (t ∷ rest) (Replaced (predefined_value b env t (set.insert t.hide t.token.text) ∷ rest))
     object_like : {t : Hiding} {rest : List Hiding} {d : Definition} {m : Marked} → NamesMacro macros t d → d.shape ≡ ObjectLike → object_result t d ≡ Ok m → Means (t ∷ rest) (Replaced (followed_by rest m))
     object_refused : {t : Hiding} {rest : List Hiding} {d : Definition} {f : Fault} → NamesMacro macros t d → d.shape ≡ ObjectLike → object_result t d ≡ Err f → Means (t ∷ rest) (Failed f)
-    not_invoked : {t : Hiding} {rest : List Hiding} {d : Definition} {names : List Name} {variadic : Bool} → NamesMacro macros t d → d.shape ≡ FunctionLike names variadic → opens_next rest ≡ false → Means (t ∷ rest) (Passes t rest)
+    not_invoked : {t : Hiding} {rest : List Hiding} {d : Definition} {names : List Name} {variadic : Bool}
+        → NamesMacro macros t d
+        → d.shape ≡ FunctionLike names variadic
+        → opens_next rest ≡ false
+        → Means (t ∷ rest) (Passes t rest)
     quote_inside : {t paren quote : Hiding} {inside : List Hiding} {d : Definition} {names : List Name} {variadic : Bool}
         → Opens macros t paren d names variadic
         → gather 0 (separators names variadic) inside ≡ Quoted quote
@@ -127,7 +131,10 @@ module _ (macros : Macros) (env : Env) where
       let opened : function_turn t d names variadic (paren ∷ inside) ≡ invoked t d names variadic (gather 0 (separators names variadic) inside) = rw (i.paren_opens) refl in
       calls_turn (paren ∷ inside) i.names_macro (FunctionLike names variadic) i.shape ∙ opened ∙ ap (invoked t d names variadic) e
 
-  called-is : (call : Call) (close : Hiding) (o : Option (List (List Hiding))) → o ≡ Some call.arguments → call.gain ≡ gain_of call.head.hide close.hide call.head.token.text → called call.head call.macro o close call.behind ≡ Called call
+  called-is : (call : Call) (close : Hiding) (o : Option (List (List Hiding)))
+      → o ≡ Some call.arguments
+      → call.gain ≡ gain_of call.head.hide close.hide call.head.token.text
+      → called call.head call.macro o close call.behind ≡ Called call
   called-is call close o e g = ap (λ o. called call.head call.macro o close call.behind) e ∙ (λ i. Called (record { head = call.head; macro = call.macro; arguments = call.arguments; gain = (sym g) i; behind = call.behind }))
 
   meant : {list : List Hiding} {x : Turn} → Means list x → turn macros env list ≡ x
@@ -155,7 +162,10 @@ module _ (macros : Macros) (env : Env) where
   at_refused : {level : ℕ} {list : List Hiding} {f : Fault} → Means list (Refused f) → StandardExpands macros env level list [] (Some f)
   at_refused (Means.lone_quote q) = StandardExpands.lone_quote q
 
-  at_passes : {level : ℕ} {list rest tokens : List Hiding} {t : Hiding} {fault : Option Fault} → Means list (Passes t rest) → StandardExpands macros env level rest tokens fault → StandardExpands macros env level list (t ∷ tokens) fault
+  at_passes : {level : ℕ} {list rest tokens : List Hiding} {t : Hiding} {fault : Option Fault}
+      → Means list (Passes t rest)
+      → StandardExpands macros env level rest tokens fault
+      → StandardExpands macros env level list (t ∷ tokens) fault
   at_passes (Means.no_macro q n) more = StandardExpands.no_macro q n more
   at_passes (Means.hidden q h) more = StandardExpands.hidden q h more
   at_passes (Means.not_invoked c e n) more = StandardExpands.not_invoked c e n more

@@ -1,5 +1,6 @@
 -- A turn that goes on is a step on the hide sets of the list.
-use Rattle.std.proofs.Common.{◌≡◌, ℕ, zero, suc, ◌⊎◌, inl, inr, Bool, true, false, ◌||◌, ◌&&◌, List, [], ◌∷◌, ◌++◌, map, Option, Some, None, Result, Ok, Err, if◌then◌else◌, refl, sym, ap, ◌∙◌, subst, true≢false, is_eq, is_some}
+use Rattle.std.proofs.Common.{◌≡◌, ℕ, zero, suc, ◌⊎◌, inl, inr, Bool, true, false, ◌||◌, ◌&&◌, List, [], ◌∷◌, ◌++◌, map, Option, Some, None}
+use Rattle.std.proofs.Common.{Result, Ok, Err, if◌then◌else◌, refl, sym, ap, ◌∙◌, subst, true≢false, is_eq, is_some}
 use Rattle.std.specs.FinSet as set
 use Rattle.std.specs.FinMap as table
 use Rattle.std.specs.Ordering.{nat_cmp, eq_by_cmp}

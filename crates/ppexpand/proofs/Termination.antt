@@ -2,7 +2,8 @@
 --     Step      one step: the head passes, or is replaced by a list whose sets have gained
 --     Ends      each run of steps ends
 --     all_end      each list of hide sets ends, where the names that may be replaced are finitely many
-use Rattle.std.proofs.Common.{◌≡◌, ℕ, zero, suc, ◌<◌, ◌≤◌, ◌⊎◌, inl, inr, Bool, true, false, cond, ◌||◌, List, [], ◌∷◌, ◌++◌, length, refl, sym, ◌∙◌, subst, true≢false, append-nil, length-append, arith}
+use Rattle.std.proofs.Common.{◌≡◌, ℕ, zero, suc, ◌<◌, ◌≤◌, ◌⊎◌, inl, inr, Bool, true, false, cond, ◌||◌, List, [], ◌∷◌, ◌++◌}
+use Rattle.std.proofs.Common.{length, refl, sym, ◌∙◌, subst, true≢false, append-nil, length-append, arith}
 
 -- each element, by cases on the list
 abbrev pub Each : {A : Type 0} → (A → Type 0) → List A → Type 0
@@ -108,7 +109,14 @@ module _ {K Set : Type 0} (has : Set → K → Bool) (same : K → K → Bool) (
 
   -- what stays after a replacement that consumes something of this list, from in front of it
   abbrev EndsAfter : (K → Bool) → List Set → Type 0
-  EndsAfter S behind = (k : K) → Among k names → S k ≡ false → (inside : List Set) (close : Set) (rest : List Set) → behind ≡ inside ++ close ∷ rest → (result : List Set) → Each (Reached S close k) result → Ends (result ++ rest)
+  EndsAfter S behind = (k : K)
+      → Among k names
+      → S k ≡ false
+      → (inside : List Set) (close : Set) (rest : List Set)
+      → behind ≡ inside ++ close ∷ rest
+      → (result : List Set)
+      → Each (Reached S close k) result
+      → Ends (result ++ rest)
 
   -- a front whose sets have all of S, where S leaves out fewer than n names
   abbrev FrontEnds : ℕ → ℕ → Type 0
@@ -155,7 +163,14 @@ module _ {K Set : Type 0} (has : Set → K → Bool) (same : K → K → Bool) (
     -- a step from a list that isn't empty, by its kind
     by_step : (P : List Set → Type 0) {h : Set} {rest after : List Set} → Step (h ∷ rest) after → P rest
         → ((k : K) → Among k names → has h k ≡ false → (result : List Set) → Each (Gains h h k) result → P (result ++ rest))
-        → ((k : K) → Among k names → has h k ≡ false → (inside : List Set) (close : Set) (behind : List Set) → rest ≡ inside ++ close ∷ behind → (result : List Set) → Each (Gains h close k) result → P (result ++ behind))
+        → ((k : K)
+        → Among k names
+        → has h k ≡ false
+        → (inside : List Set) (close : Set) (behind : List Set)
+        → rest ≡ inside ++ close ∷ behind
+        → (result : List Set)
+        → Each (Gains h close k) result
+        → P (result ++ behind))
         → P after
     by_step P passes p o f = p
     by_step P (object k is out result gains e) p o f = rw e (o k is out result gains)

@@ -16,7 +16,10 @@ pub turn-hidden : (macros : Macros) (env : Env) (t : Hiding) (rest : List Hiding
 unfolding turn
 turn-hidden macros env t rest h k = rw (h, k) refl
 
-pub turn-named : (macros : Macros) (env : Env) (t : Hiding) (rest : List Hiding) → is_lone_quote t.token ≡ false → set.contains t.hide t.token.text ≡ false → turn macros env (t ∷ rest) ≡ named_turn env t rest (macro_of macros t.token)
+pub turn-named : (macros : Macros) (env : Env) (t : Hiding) (rest : List Hiding)
+    → is_lone_quote t.token ≡ false
+    → set.contains t.hide t.token.text ≡ false
+    → turn macros env (t ∷ rest) ≡ named_turn env t rest (macro_of macros t.token)
 unfolding turn
 turn-named macros env t rest h k = rw (h, k) refl
 

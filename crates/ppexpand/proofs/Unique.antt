@@ -32,7 +32,10 @@ module _ (macros : Macros) (env : Env) where
   at_done e (call_failed e' a f) = absurd (cc)
   at_done e (call_replaced e' a f d) = absurd (cc)
 
-  pub at_refused : {level turns : ℕ} {left : Option ℕ} {list : List Hiding} {out : Outcome} {fault : Fault} → turn_within macros env left list ≡ Refused fault → Expands macros env level left turns list out → IsRefused fault left turns out
+  pub at_refused : {level turns : ℕ} {left : Option ℕ} {list : List Hiding} {out : Outcome} {fault : Fault}
+      → turn_within macros env left list ≡ Refused fault
+      → Expands macros env level left turns list out
+      → IsRefused fault left turns out
   at_refused e (done e') = absurd (cc)
   at_refused e (refused e') = (refl, cc)
   at_refused e (passes e' d) = absurd (cc)
@@ -89,7 +92,10 @@ module _ (macros : Macros) (env : Env) where
   -- what follows once a call's arguments are expanded
   pub data AfterCall (level : ℕ) (call : Call) : Option ℕ → ExpandedArguments → ℕ → Outcome → Type 0 where
     by_argument : {after : Option ℕ} {fault : Fault} {turns : ℕ} {out : Outcome} → IsRefused fault after turns out → AfterCall level call after (Err fault) turns out
-    by_fault : {after : Option ℕ} {as' : List (Option (List Hiding))} {fault : Fault} {turns : ℕ} {out : Outcome} → finished call as' ≡ Failed fault → IsRefused fault after turns out → AfterCall level call after (Ok as') turns out
+    by_fault : {after : Option ℕ} {as' : List (Option (List Hiding))} {fault : Fault} {turns : ℕ} {out : Outcome}
+        → finished call as' ≡ Failed fault
+        → IsRefused fault after turns out
+        → AfterCall level call after (Ok as') turns out
     by_next : {after : Option ℕ} {as' : List (Option (List Hiding))} {next : List Hiding} {turns : ℕ} {out : Outcome}
         → finished call as' ≡ Replaced next
         → IsReplaced level after next turns out

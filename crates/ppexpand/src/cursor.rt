@@ -2,7 +2,6 @@
 ghost use Rattle.std.specs.Prelude.{◌≡◌, ◌∷◌, [], ◌++◌, true, Some, MatchOption, OnOk};
 ghost use Rattle.std.specs.Option.{option_copied};
 ghost use Rattle.ppmacro.specs.Substituting.{tokens_of};
-ghost use Rattle.ppexpand.specs.Turn.{mark_next};
 ghost use Rattle.ppexpand.specs.Lists.{marked, next_macro, ArePlain};
 ghost use Rattle.ppexpand.specs.Skipping.{IsAhead};
 

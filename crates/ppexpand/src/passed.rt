@@ -1,5 +1,5 @@
 // What passed.
-ghost use Rattle.std.specs.Prelude.{◌≡◌, ◌∷◌, ◌++◌, [], map, flat_map, true, IfOk, IfSome, OnOk};
+ghost use Rattle.std.specs.Prelude.{◌≡◌, ◌∷◌, ◌++◌, [], flat_map, true, IfOk, IfSome, OnOk};
 ghost use Rattle.ppexpand.specs.Pieces.{piece_list};
 ghost use Rattle.ppmacro.specs.Substituting.{tokens_of};
 

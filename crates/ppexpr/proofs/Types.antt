@@ -1,5 +1,6 @@
 -- A value has the type of its expression.
-use Rattle.std.proofs.Common.{◌≡◌, ℕ, ℤ, pos, ◌==◌, ◌^◌, ◌*ℤ◌, ◌+ℤ◌, ◌-ℤ◌, neg_ℤ, int_rem, unsigned_abs, Bool, true, false, not, ◌||◌, ◌&&◌, Ok, Err, refl, ◌∙◌, subst, sym, int_div, int_le}
+use Rattle.std.proofs.Common.{◌≡◌, ℕ, ℤ, pos, ◌==◌, ◌^◌, ◌*ℤ◌, ◌+ℤ◌, ◌-ℤ◌, neg_ℤ, int_rem, unsigned_abs, Bool, true, false}
+use Rattle.std.proofs.Common.{not, ◌||◌, ◌&&◌, Ok, Err, refl, ◌∙◌, subst, sym, int_div, int_le}
 use Rattle.std.specs.Prelude.{if◌then◌else◌}
 use Rattle.std.specs.Ordering.{int_eq}
 use Rattle.ppexpr.specs.Outcomes.{Value, Signed, Unsigned, ZeroDivisor, Overflow, Shift}

@@ -1,5 +1,6 @@
 -- A condition in which nothing is replaced is the condition of the symbols that its tokens stand for.
-use Rattle.std.proofs.Common.{◌≡◌, ℕ, suc, ◌<◌, ◌⊎◌, inl, inr, ◌&&◌, Bool, true, false, List, [], ◌∷◌, ◌++◌, length, Option, Some, None, Ok, refl, sym, subst, append-nil, append_assoc, arith, is_some, codes, if◌then◌else◌}
+use Rattle.std.proofs.Common.{◌≡◌, ℕ, suc, ◌<◌, ◌⊎◌, inl, inr, ◌&&◌, Bool, true, false, List, [], ◌∷◌, ◌++◌, length, Option, Some, None}
+use Rattle.std.proofs.Common.{Ok, refl, sym, subst, append-nil, append_assoc, arith, is_some, codes, if◌then◌else◌}
 use Rattle.std.specs.FinMap as table
 use Rattle.std.specs.List.{list_any, AllByRecursion}
 use Rattle.pptext.specs.declared.tokens.Place.{Place}
@@ -99,7 +100,11 @@ Onward macros tokens symbols rest = (ss : List Symbol) → StandFor macros rest 
 pub onward_start : (macros : Macros) (tokens : List Token) → Onward macros tokens [] tokens
 onward_start macros tokens ss h = h
 
-pub onward_more : (macros : Macros) (tokens rest next : List Token) (symbols grown : List Symbol) (s : Symbol) → grown ≡ symbols ++ s ∷ [] → BeginsWith macros rest s next → Onward macros tokens symbols rest → Onward macros tokens grown next
+pub onward_more : (macros : Macros) (tokens rest next : List Token) (symbols grown : List Symbol) (s : Symbol)
+    → grown ≡ symbols ++ s ∷ []
+    → BeginsWith macros rest s next
+    → Onward macros tokens symbols rest
+    → Onward macros tokens grown next
 onward_more macros tokens rest next symbols grown s is b h ss k = rw is (rw append_assoc (h (s ∷ ss) (more b k)))
 
 pub onward_end : (macros : Macros) (tokens rest : List Token) (symbols : List Symbol) → length rest ≡ 0 → Onward macros tokens symbols rest → StandFor macros tokens symbols

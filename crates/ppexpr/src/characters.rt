@@ -1,7 +1,7 @@
 // Character constants (6.4.4.4).
-ghost use Rattle.std.specs.Prelude.{◌≡◌, ℕ, ◌<◌, ◌≤◌, ◌^◌, MatchOption, IfSome, None, Some};
+ghost use Rattle.std.specs.Prelude.{◌≡◌, ◌<◌, ◌≤◌, ◌^◌, MatchOption, IfSome, None, Some};
 ghost use Rattle.ppexpr.specs.Characters.{quoted, simple_escape, are_digits, is_octal_escape, is_hexadecimal_escape, other_escape, escape, character};
-ghost use Rattle.ppexpr.specs.Characters.{up_to, of_type, character_of};
+ghost use Rattle.ppexpr.specs.Characters.{of_type, character_of};
 ghost use Rattle.ppexpr.specs.Meant.{value_meant};
 ghost use Rattle.std.specs.List.{list_all};
 ghost use Rattle.std.specs.Option.{option_map};

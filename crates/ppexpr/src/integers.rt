@@ -1,6 +1,6 @@
 // Integer constants (6.4.4.1).
-ghost use Rattle.std.specs.Prelude.{◌≡◌, length, ◌≤◌, ◌^◌, ◌==◌, ◌<◌, MatchOption};
-ghost use Rattle.ppexpr.specs.Integers.{digits_len, number, is_one_of, plain_suffixes, unsigned_suffixes, as_uintmax, typed, in_base, is_hexadecimal};
+ghost use Rattle.std.specs.Prelude.{◌≡◌, length, ◌≤◌, ◌^◌, ◌<◌, MatchOption};
+ghost use Rattle.ppexpr.specs.Integers.{digits_len, number, is_one_of, plain_suffixes, unsigned_suffixes, typed, in_base};
 ghost use Rattle.ppexpr.specs.Integers.{integer_of};
 ghost use Rattle.ppexpr.specs.Meant.{value_meant};
 ghost use Rattle.std.specs.Option.{option_map};

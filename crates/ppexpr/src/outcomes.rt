@@ -1,6 +1,6 @@
 // What an expression comes to, from what its operands come to.
 ghost use Rattle.std.specs.Prelude.{◌≡◌, Ok};
-ghost use Rattle.ppexpr.specs.Values.{has_unsigned_type, truth, is_zero, unary_answer, with_right, decides, binary_answer, with_type, choice_answer};
+ghost use Rattle.ppexpr.specs.Values.{decides, binary_answer, with_type};
 ghost use Rattle.ppexpr.specs.Values.{unary_unsigned, binary_unsigned, constant_outcome, unary_outcome, binary_outcome, choice_outcome};
 ghost use Rattle.ppexpr.specs.Meant.{unary_meant, binary_meant, value_meant, answer_meant, outcome_meant};
 

@@ -1,7 +1,6 @@
 // What a token of a controlling expression stands for.
 ghost use Rattle.std.specs.Prelude.{◌≡◌, ◌++◌, ◌∷◌, OnOk, []};
 ghost use Rattle.pptext.specs.Stops.{Answers};
-ghost use Rattle.pptext.specs.Tokens.{fault};
 ghost use Rattle.ppexpr.specs.Tokens.{operators, punctuator_among, symbol_of, symbols_of};
 ghost use Rattle.ppexpr.specs.Meant.{symbol_meant, symbols_meant};
 

@@ -1,12 +1,12 @@
 // Operators on values (6.5.3.3 to 6.5.12).
-ghost use Rattle.std.specs.Prelude.{◌≡◌, ℕ, ℤ, pos, neg_ℤ, FitsSigned, ◌+ℤ◌, ◌-ℤ◌, ◌*ℤ◌, ◌<◌, int_lt, int_le, int_div, int_rem, bit_and, bit_or};
-ghost use Rattle.std.specs.Prelude.{bit_xor, not, MatchOption, Ok, IsTrue, ◌^◌, false, ◌≤ℤ◌};
+ghost use Rattle.std.specs.Prelude.{◌≡◌, ℤ, pos, FitsSigned, ◌+ℤ◌, ◌-ℤ◌, ◌*ℤ◌, ◌<◌, int_lt, int_le, int_div, int_rem, bit_and, bit_or};
+ghost use Rattle.std.specs.Prelude.{bit_xor, not, MatchOption, Ok, false};
 ghost use Rattle.std.specs.Int.{w64, int_bit_and, int_bit_or, int_bit_xor};
 ghost use Rattle.std.specs.Ordering.{int_eq};
 ghost use Rattle.std.specs.Option.{SomeIff};
 ghost use Rattle.ppexpr.specs.Operators.{Star, Slash, Percent, Plus, Minus, ShiftLeft, ShiftRight};
 ghost use Rattle.ppexpr.specs.Meant.{value_meant, operator_meant, unary_meant, binary_meant, answer_meant, operands_meant};
-ghost use Rattle.ppexpr.specs.Values.{is_zero, as_unsigned, truth, is_amount, is_intmax, whole, signed, negative, complement, unary_value, converted};
+ghost use Rattle.ppexpr.specs.Values.{is_zero, as_unsigned, truth, is_amount, whole, signed, negative, complement, unary_value, converted};
 ghost use Rattle.ppexpr.specs.Values.{arithmetic, division, comparison, bitwise, shift, left_shift, right_shift, binary_value};
 
 use crate::symbols::{Binary, Failure, Operator, Unary, Value};

@@ -21,7 +21,12 @@ expanded-known [] (v ∷ vs) k (suc i) = expanded-known [] vs (record { each = k
 expanded-known (g ∷ gs) (v ∷ vs) k (suc i) = expanded-known gs vs (record { each = k.each.1 }) i
 
 -- arguments, and the same or others as their expansions
-pub all-known : {s : Numbered} (given others shown : List (Vec Hidden Global)) (expanded : List Expansion) → shown ≡ given → expanded ≡ map (λ v. Made v) others → ListsKnown s given → ListsKnown s others → ArgumentsKnown s shown expanded
+pub all-known : {s : Numbered} (given others shown : List (Vec Hidden Global)) (expanded : List Expansion)
+    → shown ≡ given
+    → expanded ≡ map (λ v. Made v) others
+    → ListsKnown s given
+    → ListsKnown s others
+    → ArgumentsKnown s shown expanded
 all-known {s} given others shown expanded p q k l = record {
   given_known = λ i. subst (λ vs. AllKnown s (argument_at (lists_of vs) i)) (sym p) (given-known given k i);
   expanded_known = λ i. subst (λ os. AllKnown s (expanded_at (options_of shown os) i)) (sym q) (expanded-known shown others l i);

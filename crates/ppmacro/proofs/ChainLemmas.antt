@@ -59,7 +59,10 @@ followed-set (x ∷ (y ∷ cs)) (suc n) c b mark o ds h e = steps b n (omega ari
     steps true (suc k) g = refl
     steps false k g = refl
 
-pub resumed-joined : (cs : List Chain) (n : ℕ) (c : Chain) (mark : Bool) (o : Operand) (is : List Item) → length cs ≡ suc n → c ≡ get_or cs n c → resumed false (set cs n (record { mark = c.mark; operands = c.operands ++ o ∷ [] })) is ≡ resumed true cs (Operates mark o ∷ is)
+pub resumed-joined : (cs : List Chain) (n : ℕ) (c : Chain) (mark : Bool) (o : Operand) (is : List Item)
+    → length cs ≡ suc n
+    → c ≡ get_or cs n c
+    → resumed false (set cs n (record { mark = c.mark; operands = c.operands ++ o ∷ [] })) is ≡ resumed true cs (Operates mark o ∷ is)
 resumed-joined cs n c mark o is h e = followed-set cs n c (begins_joined is) mark o (grouped is) h e ∙ ap (λ ds. followed true cs ds) (sym (grouped-added mark o is))
 
 -- ---- the start, `##` and the end

@@ -1,5 +1,6 @@
 -- The chains of a replacement list, laid end to end, are the list.
-use Rattle.std.proofs.Common.{◌≡◌, ℕ, zero, suc, ◌<◌, Bool, true, false, not, ◌&&◌, ◌||◌, List, [], ◌∷◌, ◌++◌, length, Option, Some, None, is_some, codes, if◌then◌else◌, refl, sym, ap, ◌∙◌, subst, true≢false, arith, append_assoc}
+use Rattle.std.proofs.Common.{◌≡◌, ℕ, zero, suc, ◌<◌, Bool, true, false, not, ◌&&◌, ◌||◌, List, [], ◌∷◌, ◌++◌, length, Option, Some, None}
+use Rattle.std.proofs.Common.{is_some, codes, if◌then◌else◌, refl, sym, ap, ◌∙◌, subst, true≢false, arith, append_assoc}
 use Rattle.std.proofs.lemmas.Bool.{and_parts, and_right, or_parts, not-true}
 use Rattle.pptext.specs.declared.tokens.Token.{Token}
 use Rattle.pptext.specs.Tokens.{is_identifier, is_punct}
@@ -43,13 +44,25 @@ hash_no_paste shape t e = by_spelling (is_punct (codes "#") t) refl (and_parts (
 
 -- ---- what is laid out are the chains
 
-at_token : (shape : Shape) (t : Token) (rest : List Token) → is_paste t ≡ false → is_operator_hash shape t ≡ false → parameter_of shape t ≡ None → items_behind shape None (t ∷ rest) ≡ Operates t.space (Tok t) ∷ items_behind shape None rest
+at_token : (shape : Shape) (t : Token) (rest : List Token)
+    → is_paste t ≡ false
+    → is_operator_hash shape t ≡ false
+    → parameter_of shape t ≡ None
+    → items_behind shape None (t ∷ rest) ≡ Operates t.space (Tok t) ∷ items_behind shape None rest
 at_token shape t rest p h e = rw (items_behind, p, h, e) refl
 
-at_parameter : (shape : Shape) (t : Token) (i : ℕ) (rest : List Token) → is_paste t ≡ false → is_operator_hash shape t ≡ false → parameter_of shape t ≡ Some i → items_behind shape None (t ∷ rest) ≡ Operates t.space (Param i) ∷ items_behind shape None rest
+at_parameter : (shape : Shape) (t : Token) (i : ℕ) (rest : List Token)
+    → is_paste t ≡ false
+    → is_operator_hash shape t ≡ false
+    → parameter_of shape t ≡ Some i
+    → items_behind shape None (t ∷ rest) ≡ Operates t.space (Param i) ∷ items_behind shape None rest
 at_parameter shape t i rest p h e = rw (items_behind, p, h, e) refl
 
-at_hash : (shape : Shape) (hash t : Token) (i : ℕ) (rest : List Token) → is_paste hash ≡ false → is_operator_hash shape hash ≡ true → parameter_of shape t ≡ Some i → items_behind shape None (hash ∷ (t ∷ rest)) ≡ Operates hash.space (Str i hash.at) ∷ items_behind shape None rest
+at_hash : (shape : Shape) (hash t : Token) (i : ℕ) (rest : List Token)
+    → is_paste hash ≡ false
+    → is_operator_hash shape hash ≡ true
+    → parameter_of shape t ≡ Some i
+    → items_behind shape None (hash ∷ (t ∷ rest)) ≡ Operates hash.space (Str i hash.at) ∷ items_behind shape None rest
 at_hash shape hash t i rest p h e = rw (items_behind, p, h, e) refl
 
 at_paste : (shape : Shape) (p : Token) (ts : List Token) → is_paste p ≡ true → items_behind shape None (p ∷ ts) ≡ Joins ∷ items_behind shape None ts
@@ -78,7 +91,12 @@ module _ (shape : Shape) where
   apart : (mark : Bool) (o : Operand) (is : List Item) → begins_joined is ≡ false → grouped (Operates mark o ∷ is) ≡ record { mark = mark; operands = o ∷ [] } ∷ grouped is
   apart mark o is e = rw (grouped, e) refl
 
-  joined_grouped : {mark : Bool} {ts : List Token} {os : List Operand} → AreJoined shape mark ts os → (rest : List Token) (cs : List Chain) → begins_joined (items rest) ≡ false → grouped (items rest) ≡ cs → grouped (items (ts ++ rest)) ≡ record { mark = mark; operands = os } ∷ cs
+  joined_grouped : {mark : Bool} {ts : List Token} {os : List Operand}
+      → AreJoined shape mark ts os
+      → (rest : List Token) (cs : List Chain)
+      → begins_joined (items rest) ≡ false
+      → grouped (items rest) ≡ cs
+      → grouped (items (ts ++ rest)) ≡ record { mark = mark; operands = os } ∷ cs
   joined_grouped (last {mark = mark} {o = o} is) rest cs b e = ap grouped (operand_items is rest) ∙ apart mark o (items rest) b ∙ ap (λ ds. record { mark = mark; operands = o ∷ [] } ∷ ds) e
   joined_grouped (pasted {mark = mark} {o = o} ts p more other is s j) rest cs b e =
       ap (λ xs. grouped (items xs)) (append_assoc ts (p ∷ more) rest)
@@ -121,7 +139,17 @@ module _ (shape : Shape) where
   behind_hash t (u ∷ us) h b p s = elim (parameter_of shape u) as (λ o. parameter_of shape u ≡ o → is_some o ≡ true → First (t ∷ (u ∷ us))) [
     | Some i ↦ λ e _.
         let next : misplaces_paste false (u ∷ us) ≡ misplaces_paste false us = rw (parameter_no_paste shape u i e) refl in
-        record { mark = t.space; operand = _; front = t ∷ (u ∷ []); rest = us; is = stringized h e; laid_out = refl; less = omega arith; pastes = sym next ∙ p; hashes = hashes_behind (is_function_like shape) (is_hash u && not (begins_with_parameter shape us)) (misplaces_hash shape us) s }
+        record {
+          mark = t.space;
+          operand = _;
+          front = t ∷ (u ∷ []);
+          rest = us;
+          is = stringized h e;
+          laid_out = refl;
+          less = omega arith;
+          pastes = sym next ∙ p;
+          hashes = hashes_behind (is_function_like shape) (is_hash u && not (begins_with_parameter shape us)) (misplaces_hash shape us) s;
+        }
     | None ↦ λ _ b. absurd (true≢false (sym b))
   ] refl b
 
@@ -150,10 +178,19 @@ module _ (shape : Shape) where
   Lays n = (ts : List Token) → length ts < n → misplaces_paste true ts ≡ false → HashesStand ts → Laid ts
 
   -- an operand and `##` before chains
-  paste_before : {mark : Bool} {o : Operand} (front : List Token) (p : Token) → IsOperand shape mark front o → is_paste p ≡ true → {ts : List Token} {cs : List Chain} → AreChains shape ts cs → is_empty ts ≡ false → Laid (front ++ p ∷ ts)
+  paste_before : {mark : Bool} {o : Operand} (front : List Token) (p : Token)
+      → IsOperand shape mark front o
+      → is_paste p ≡ true
+      → {ts : List Token} {cs : List Chain}
+      → AreChains shape ts cs
+      → is_empty ts ≡ false
+      → Laid (front ++ p ∷ ts)
   paste_before front p is e none filled = absurd (true≢false filled)
-  paste_before {mark = mark} {o = o} front p is e (chain {mark = other} {os = os} {cs = cs} ts rest j more) filled =
-      (record { mark = mark; operands = o ∷ os } ∷ cs, subst (λ xs. AreChains shape xs (record { mark = mark; operands = o ∷ os } ∷ cs)) (append_assoc front (p ∷ ts) rest) (chain (front ++ p ∷ ts) rest (pasted front p ts other is e j) more))
+  paste_before {mark = mark} {o = o} front p is e (chain {mark = other} {os = os} {cs = cs} ts rest j more) filled = (
+    record { mark = mark; operands = o ∷ os } ∷ cs,
+    subst (λ xs. AreChains shape xs (record { mark = mark; operands = o ∷ os } ∷ cs)) (append_assoc front (p ∷ ts) rest)
+        (chain (front ++ p ∷ ts) rest (pasted front p ts other is e j) more),
+  )
 
   operand_before : {mark : Bool} {o : Operand} (front rest : List Token) → IsOperand shape mark front o → Laid rest → Laid (front ++ rest)
   operand_before {mark = mark} {o = o} front rest is m = (record { mark = mark; operands = o ∷ [] } ∷ m.0, chain front rest (last is) m.1)

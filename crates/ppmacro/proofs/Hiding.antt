@@ -1,5 +1,6 @@
 -- Numbers of sets, and the sets of names that they stand for.
-use Rattle.std.proofs.Common.{◌≡◌, ℕ, zero, suc, ◌<◌, ◌≤◌, ◌+◌, Bool, true, false, ◌||◌, nat_eq, List, [], ◌∷◌, ◌++◌, length, get_or, refl, sym, ap, ◌∙◌, subst, arith, length-append, true≢false, if◌then◌else◌, is_eq, ◌⊎◌, inl, inr}
+use Rattle.std.proofs.Common.{◌≡◌, ℕ, zero, suc, ◌<◌, ◌≤◌, ◌+◌, Bool, true, false, ◌||◌, nat_eq, List, [], ◌∷◌, ◌++◌, length, get_or, refl, sym}
+use Rattle.std.proofs.Common.{ap, ◌∙◌, subst, arith, length-append, true≢false, if◌then◌else◌, is_eq, ◌⊎◌, inl, inr}
 use Rattle.std.proofs.lemmas.Bool.{eq-eqb, cases_lt}
 use Rattle.std.specs.List.{list_any, AllByRecursion, IsDistinct}
 use Rattle.std.specs.FinSet as set
@@ -74,7 +75,10 @@ joined-none Union = refl
 joined-none Meet = refl
 
 -- a node with the members of what is made of two sets is that of what is made
-pub made-is : (o : Operation) (names : List Name) (old new : List Node) (a b n : ℕ) → IsDistinct same_name names → ((x : ℕ) → member new n x ≡ joined o (member old a x) (member old b x)) → hide_set names new n ≡ made_of o (hide_set names old a) (hide_set names old b)
+pub made-is : (o : Operation) (names : List Name) (old new : List Node) (a b n : ℕ)
+    → IsDistinct same_name names
+    → ((x : ℕ) → member new n x ≡ joined o (member old a x) (member old b x))
+    → hide_set names new n ≡ made_of o (hide_set names old a) (hide_set names old b)
 made-is o names old new a b n d h = same-by _ _ (λ q.
     contains-is names new n q d
     ∙ at-same (member new n) (λ k. joined o (member old a k) (member old b k)) 0 q names h
@@ -207,11 +211,19 @@ at-one (y ∷ names) (suc x) i q r d l is =
     let e : suc i + x ≡ i + suc x = omega arith in
     let rest = sym (ap (λ m. at_name (λ k. nat_eq k m) (suc i) q names) e) ∙ at-one names x (suc i) q r (IsDistinct-tail same_name y names d) (omega (arith, l)) is in
     elim (same_name q y) as (λ t. same_name q y ≡ t → (if t then nat_eq i (i + suc x) else at_name (λ k. nat_eq k (i + suc x)) (suc i) q names) ≡ same_name q r) [
-      | true ↦ λ s. differs i (i + suc x) (λ f. omega (arith, f)) ∙ sym (not-true (same_name q r) (λ t. true≢false (sym (other-name y names x (IsDistinct-head same_name y names d) (omega (arith, l)) ((λ j. same_name (is j) y) ∙ (λ j. same_name (sym (name-is q r t) j) y) ∙ s)))))
+      | true ↦ λ s. differs i (i + suc x) (λ f. omega (arith, f))
+          ∙ sym (not-true (same_name q r)
+          (λ t. true≢false (sym (other-name y names x (IsDistinct-head same_name y names d) (omega (arith, l))
+          ((λ j. same_name (is j) y) ∙ (λ j. same_name (sym (name-is q r t) j) y) ∙ s)))))
       | false ↦ λ s. rest
     ] refl
 
-pub insert-is : (names : List Name) (old new : List Node) (a x n : ℕ) (r : Name) → IsDistinct same_name names → x < length names → get_or names x [] ≡ r → ((y : ℕ) → member new n y ≡ (nat_eq y x || member old a y)) → hide_set names new n ≡ set.insert (hide_set names old a) r
+pub insert-is : (names : List Name) (old new : List Node) (a x n : ℕ) (r : Name)
+    → IsDistinct same_name names
+    → x < length names
+    → get_or names x [] ≡ r
+    → ((y : ℕ) → member new n y ≡ (nat_eq y x || member old a y))
+    → hide_set names new n ≡ set.insert (hide_set names old a) r
 insert-is names old new a x n r d l is h = same-by _ _ (λ q.
     let e : x ≡ 0 + x = omega arith in
     contains-is names new n q d

@@ -1,5 +1,6 @@
 -- Lists that `##` joins, while hide sets are added.
-use Rattle.std.proofs.Common.{◌≡◌, ℕ, suc, zero, ◌+◌, ◌<◌, ◌≤◌, List, [], ◌∷◌, ◌++◌, map, drop, length, get_or, Option, Some, None, Vec, Global, Result, Ok, Err, refl, sym, ap, ◌∙◌, slice_get, unwrap_or, arith}
+use Rattle.std.proofs.Common.{◌≡◌, ℕ, suc, zero, ◌+◌, ◌<◌, ◌≤◌, List, [], ◌∷◌, ◌++◌, map, drop, length, get_or, Option, Some, None}
+use Rattle.std.proofs.Common.{Vec, Global, Result, Ok, Err, refl, sym, ap, ◌∙◌, slice_get, unwrap_or, arith}
 use Rattle.std.proofs.lemmas.List.{map-append, drop_more}
 use Rattle.std.specs.Option.{option_map}
 use Rattle.pptext.specs.declared.tokens.Place.{Place}
@@ -24,7 +25,10 @@ argument-in s (v ∷ vs) zero = refl
 argument-in s (v ∷ vs) (suc i) = argument-in s vs i
 
 -- the expansion of a parameter, by what stands at its place
-pub expansion-at : (given : List (Vec Hidden Global)) (es : List Expansion) (i : ℕ) (e : Expansion) → i < length es → e ≡ get_or es i e → unwrap_or (option_of (argument_at (lists_of given) i) e) [] ≡ expanded_at (options_of given es) i
+pub expansion-at : (given : List (Vec Hidden Global)) (es : List Expansion) (i : ℕ) (e : Expansion)
+    → i < length es
+    → e ≡ get_or es i e
+    → unwrap_or (option_of (argument_at (lists_of given) i) e) [] ≡ expanded_at (options_of given es) i
 expansion-at given [] i e h is = absurd (omega arith)
 expansion-at [] (x ∷ es) zero e h is = ap (λ y. unwrap_or (option_of [] y) []) is
 expansion-at (v ∷ vs) (x ∷ es) zero e h is = ap (λ y. unwrap_or (option_of v.items y) []) is
@@ -56,7 +60,9 @@ join-last (x ∷ (y ∷ ls)) l r rs used =
     ap (λ e. after_ok e (λ ts. Ok (x ∷ ts))) (join-last (y ∷ ls) l r rs used)
     ∙ after-twice (pasted l r used) x (y ∷ ls) rs
 
-opened : (s : Numbered) (ls : List Hidden) (last first : Hidden) (rest : List Hidden) (used : Place) → join (hidings s (ls ++ last ∷ [])) (hidings s (first ∷ rest)) used ≡ after_ok (pasted (hiding s last) (hiding s first) used) (λ t. Ok (hidings s ls ++ t ∷ hidings s rest))
+opened : (s : Numbered) (ls : List Hidden) (last first : Hidden) (rest : List Hidden) (used : Place)
+    → join (hidings s (ls ++ last ∷ [])) (hidings s (first ∷ rest)) used
+    ≡ after_ok (pasted (hiding s last) (hiding s first) used) (λ t. Ok (hidings s ls ++ t ∷ hidings s rest))
 opened s ls last first rest used =
     ap (λ ts. join ts (hidings s (first ∷ rest)) used) (map-append (hiding s) ls (last ∷ []))
     ∙ join-last (hidings s ls) (hiding s last) (hiding s first) (hidings s rest) used
@@ -76,7 +82,12 @@ pub join-nothing : (ls : List Hiding) (used : Place) → Ok ls ≡ join ls [] us
 join-nothing [] used = refl
 join-nothing (l ∷ ls) used = refl
 
-pub join-pasted : (s t : Numbered) (ls : List Hidden) (last first hidden : Hidden) (rest : List Hidden) (used : Place) → Keeps s t → AllKnown s (ls ++ last ∷ []) → AllKnown s (first ∷ rest) → Ok (hiding t hidden) ≡ pasted (hiding s last) (hiding s first) used → Ok (hidings t (ls ++ hidden ∷ rest)) ≡ join (hidings s (ls ++ last ∷ [])) (hidings s (first ∷ rest)) used
+pub join-pasted : (s t : Numbered) (ls : List Hidden) (last first hidden : Hidden) (rest : List Hidden) (used : Place)
+    → Keeps s t
+    → AllKnown s (ls ++ last ∷ [])
+    → AllKnown s (first ∷ rest)
+    → Ok (hiding t hidden) ≡ pasted (hiding s last) (hiding s first) used
+    → Ok (hidings t (ls ++ hidden ∷ rest)) ≡ join (hidings s (ls ++ last ∷ [])) (hidings s (first ∷ rest)) used
 join-pasted s t ls last first hidden rest used k left right p =
     let front : hidings t ls ≡ hidings s ls = hidings-keeps ls k (known-front ls (last ∷ []) left) in
     let behind : hidings t rest ≡ hidings s rest = hidings-keeps rest k (record { each = right.each.1 }) in
@@ -85,12 +96,19 @@ join-pasted s t ls last first hidden rest used k left right p =
     ∙ ap (λ r. after_ok r (λ u. Ok (hidings s ls ++ u ∷ hidings s rest))) p
     ∙ sym (opened s ls last first rest used)
 
-pub join-refused : (s : Numbered) (ls : List Hidden) (last first : Hidden) (rest : List Hidden) (used : Place) (f : Fault) → Err f ≡ pasted (hiding s last) (hiding s first) used → Err f ≡ join (hidings s (ls ++ last ∷ [])) (hidings s (first ∷ rest)) used
+pub join-refused : (s : Numbered) (ls : List Hidden) (last first : Hidden) (rest : List Hidden) (used : Place) (f : Fault)
+    → Err f ≡ pasted (hiding s last) (hiding s first) used
+    → Err f ≡ join (hidings s (ls ++ last ∷ [])) (hidings s (first ∷ rest)) used
 join-refused s ls last first rest used f p =
     ap (λ r. after_ok r (λ u. Ok (hidings s ls ++ u ∷ hidings s rest))) p
     ∙ sym (opened s ls last first rest used)
 
-pub known-joined : (s t : Numbered) (ls : List Hidden) (last first hidden : Hidden) (rest : List Hidden) → Keeps s t → AllKnown s (ls ++ last ∷ []) → AllKnown s (first ∷ rest) → IsKnown t hidden.hide → AllKnown t (ls ++ hidden ∷ rest)
+pub known-joined : (s t : Numbered) (ls : List Hidden) (last first hidden : Hidden) (rest : List Hidden)
+    → Keeps s t
+    → AllKnown s (ls ++ last ∷ [])
+    → AllKnown s (first ∷ rest)
+    → IsKnown t hidden.hide
+    → AllKnown t (ls ++ hidden ∷ rest)
 known-joined s t ls last first hidden rest k left right here =
     let behind : AllKnown t rest = known-keeps rest k (record { each = right.each.1 }) in
     known-append ls (hidden ∷ rest) (known-keeps ls k (known-front ls (last ∷ []) left)) (record { each = (here, behind.each) })
@@ -100,7 +118,9 @@ known-last s ls last known = (known-behind ls (last ∷ []) known).each.0
 
 -- ---- all lists
 
-pub join_all-more : (s t : Numbered) (left next : List Hiding) (right : List Hidden) (rest : List (List Hiding)) (used : Place) → Ok next ≡ join left (hidings s right) used → join_all next rest used ≡ join_all left (hidings s right ∷ rest) used
+pub join_all-more : (s t : Numbered) (left next : List Hiding) (right : List Hidden) (rest : List (List Hiding)) (used : Place)
+    → Ok next ≡ join left (hidings s right) used
+    → join_all next rest used ≡ join_all left (hidings s right ∷ rest) used
 join_all-more s t left next right rest used h = ap (λ r. after_ok r (λ ts. join_all ts rest used)) h
 
 pub join_all-refused : (left : List Hiding) (right : List Hiding) (rest : List (List Hiding)) (used : Place) (f : Fault) → Err f ≡ join left right used → Err f ≡ join_all left (right ∷ rest) used

@@ -1,5 +1,6 @@
 -- A heading is read exactly where it is laid out.
-use Rattle.std.proofs.Common.{◌≡◌, ◌↔◌, ℕ, zero, suc, ◌<◌, Bool, true, false, ◌&&◌, List, [], ◌∷◌, ◌++◌, length, Option, Some, None, codes, if◌then◌else◌, refl, sym, ap, ◌∙◌, subst, true≢false, arith, append_assoc}
+use Rattle.std.proofs.Common.{◌≡◌, ◌↔◌, ℕ, zero, suc, ◌<◌, Bool, true, false, ◌&&◌, List, [], ◌∷◌, ◌++◌, length, Option, Some, None}
+use Rattle.std.proofs.Common.{codes, if◌then◌else◌, refl, sym, ap, ◌∙◌, subst, true≢false, arith, append_assoc}
 use Rattle.std.specs.Option.{option_map}
 use Rattle.std.specs.Str.{bytes_eq}
 use Rattle.std.proofs.lemmas.Slice.Eq.{bytes_eq-Decides}
@@ -60,7 +61,11 @@ at_ellipsis t close body e closes = rw e (at_close true close body closes)
 at_name : (t : Token) (ts : List Token) (h : Heading) → is_identifier t ≡ true → parameters_from true ts ≡ Some h → parameters_from false (t ∷ ts) ≡ Some (with_name t.text h)
 at_name t ts h e on = rw (no_punct (codes "...") t e, e) (ap (option_map (with_name t.text)) on)
 
-behind_names : {ts : List Token} {ns : List Name} → IdentifierList ts ns → (rest : List Token) (v : Bool) (body : List Token) → parameters_from true rest ≡ Some (heading [] v body) → parameters_from false (ts ++ rest) ≡ Some (heading ns v body)
+behind_names : {ts : List Token} {ns : List Name}
+    → IdentifierList ts ns
+    → (rest : List Token) (v : Bool) (body : List Token)
+    → parameters_from true rest ≡ Some (heading [] v body)
+    → parameters_from false (ts ++ rest) ≡ Some (heading ns v body)
 behind_names (one {t = t} e) rest v body on = at_name t rest (heading [] v body) e on
 behind_names (more {t = t} {comma = comma} {ts = ts} {names = ns} e is_comma l) rest v body on =
     at_name t (comma ∷ (ts ++ rest)) (heading ns v body) e (at_comma comma (ts ++ rest) is_comma ∙ behind_names l rest v body on)
@@ -145,12 +150,14 @@ behind_name t (u ∷ us) g e on r = elim (is_punct (codes ",") u) as (λ b. is_p
 ] refl r
 
 form_by : (t : Token) (ts : List Token) (h : Heading) → Forms (length ts) → parameters_from false (t ∷ ts) ≡ Some h → Form (t ∷ ts) h
-form_by t ts h on r = elim (is_punct (codes "...") t) as (λ b. is_punct (codes "...") t ≡ b → (if b then closed true ts else (if is_identifier t then option_map (with_name t.text) (parameters_from true ts) else None)) ≡ Some h → Form (t ∷ ts) h) [
-  | true ↦ λ d r.
-      let m : Shut true ts h = shut true ts h r in
-      subst (λ x. Form (t ∷ ts) x) m.is (record { inside = t ∷ []; close = m.close; laid_out = ap (λ xs. t ∷ xs) m.laid_out; closes = m.closes; parameters = open_list d })
-  | false ↦ λ _ r. named r
-] refl r
+form_by t ts h on r = elim (is_punct (codes "...") t) as (λ b. is_punct (codes "...") t ≡ b
+    → (if b then closed true ts else (if is_identifier t then option_map (with_name t.text) (parameters_from true ts) else None)) ≡ Some h
+    → Form (t ∷ ts) h) [
+      | true ↦ λ d r.
+          let m : Shut true ts h = shut true ts h r in
+          subst (λ x. Form (t ∷ ts) x) m.is (record { inside = t ∷ []; close = m.close; laid_out = ap (λ xs. t ∷ xs) m.laid_out; closes = m.closes; parameters = open_list d })
+      | false ↦ λ _ r. named r
+    ] refl r
   where
     named : (if is_identifier t then option_map (with_name t.text) (parameters_from true ts) else None) ≡ Some h → Form (t ∷ ts) h
     named r = elim (is_identifier t) as (λ b. is_identifier t ≡ b → (if b then option_map (with_name t.text) (parameters_from true ts) else None) ≡ Some h → Form (t ∷ ts) h) [

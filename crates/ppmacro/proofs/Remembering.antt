@@ -105,7 +105,13 @@ pub record IsMade (op : Bool → Bool → Bool) (ns : List Node) (a b n : ℕ) :
   pub is : (x : ℕ) → member ns n x ≡ op (member ns a x) (member ns b x)
 
 -- what holds of the answer in each case holds of the answer
-by-case : (P : ℕ → Type 0) (a b p q r n : ℕ) (o : Option ℕ) → (a ≡ 0 → P p) → (b ≡ 0 → P q) → (a ≡ b → P r) → (o ≡ Some n → P n) → (if nat_eq a 0 then Some p else (if nat_eq b 0 then Some q else (if nat_eq a b then Some r else o))) ≡ Some n → P n
+by-case : (P : ℕ → Type 0) (a b p q r n : ℕ) (o : Option ℕ)
+    → (a ≡ 0 → P p)
+    → (b ≡ 0 → P q)
+    → (a ≡ b → P r)
+    → (o ≡ Some n → P n)
+    → (if nat_eq a 0 then Some p else (if nat_eq b 0 then Some q else (if nat_eq a b then Some r else o))) ≡ Some n
+    → P n
 by-case P a b p q r n o first second same other e = at (nat_eq a 0) (nat_eq b 0) (nat_eq a b) (λ h. first (eqb-true a 0 h)) (λ h. second (eqb-true b 0 h)) (λ h. same (eqb-true a b h)) e
   where
     at : (x y z : Bool) → (x ≡ true → P p) → (y ≡ true → P q) → (z ≡ true → P r) → (if x then Some p else (if y then Some q else (if z then Some r else o))) ≡ Some n → P n
@@ -145,7 +151,14 @@ known-is Meet ns ps a b n pool h la lb = by-case (IsMade (joined Meet) ns a b) a
     (λ e. record { within = la; is = λ x. and-same (member ns a x) ∙ (λ i. member ns a x && member ns (e i) x) })
     (λ e. let k = found (joined Meet) ns ps a b n h e in record { within = k.within; is = k.is })
 
-pub is-answer : (op : Bool → Bool → Bool) (old new : List Node) (a b n : ℕ) → IsPool old → Keeps old new → a < length old → b < length old → n < length new → ((x : ℕ) → member new n x ≡ op (member old a x) (member old b x)) → IsAnswer op new ((a, b), n)
+pub is-answer : (op : Bool → Bool → Bool) (old new : List Node) (a b n : ℕ)
+    → IsPool old
+    → Keeps old new
+    → a < length old
+    → b < length old
+    → n < length new
+    → ((x : ℕ) → member new n x ≡ op (member old a x) (member old b x))
+    → IsAnswer op new ((a, b), n)
 is-answer op old new a b n p k la lb ln is = record {
   left = length-keeps old new a k la;
   right = length-keeps old new b k lb;

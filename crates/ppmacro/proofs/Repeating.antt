@@ -34,7 +34,12 @@ repeats-front (p ∷ ps) qs e =
     ∙ in_front (list_any (λ m. bytes_eq m p) ps) (list_any (λ m. bytes_eq m p) qs) (repeats ps) (repeats (ps ++ qs)) e (repeats-front ps qs)
 
 -- the first names with one more, where none of them stood twice
-pub repeats-next : (names : List Name) (i : ℕ) (d name : Name) (found : Bool) → i < length names → get_or names i d ≡ name → repeats (take i names) ≡ false → list_any (bytes_eq name) (take i names) ≡ found → repeats (take (i + 1) names) ≡ found
+pub repeats-next : (names : List Name) (i : ℕ) (d name : Name) (found : Bool)
+    → i < length names
+    → get_or names i d ≡ name
+    → repeats (take i names) ≡ false
+    → list_any (bytes_eq name) (take i names) ≡ found
+    → repeats (take (i + 1) names) ≡ found
 repeats-next names i d name found within at none any =
     ap repeats (take_more names i d within ∙ ap (λ n. take i names ++ n ∷ []) at)
     ∙ repeats-more (take i names) name

@@ -1,5 +1,7 @@
 -- Tries of words.
-use Rattle.std.proofs.Common.{◌≡◌, ℕ, zero, suc, ◌<◌, ◌+◌, ◌-◌, ◌*◌, ◌/◌, ◌%◌, ◌^◌, Bool, true, false, ◌||◌, ◌&&◌, nat_eq, max, min, List, [], ◌∷◌, ◌++◌, length, refl, sym, ap, ◌∙◌, subst, arith, append-nil, length-append, true≢false, if◌then◌else◌, ◌⊎◌, inl, inr, Some, slice_get, ◌≤◌, ◌↔◌}
+use Rattle.std.proofs.Common.{◌≡◌, ℕ, zero, suc, ◌<◌, ◌+◌, ◌-◌, ◌*◌, ◌/◌, ◌%◌, ◌^◌, Bool, true, false, ◌||◌, ◌&&◌, nat_eq, max}
+use Rattle.std.proofs.Common.{min, List, [], ◌∷◌, ◌++◌, length, refl, sym, ap, ◌∙◌, subst, arith, append-nil, length-append}
+use Rattle.std.proofs.Common.{true≢false, if◌then◌else◌, ◌⊎◌, inl, inr, Some, slice_get, ◌≤◌, ◌↔◌}
 use Rattle.std.proofs.lemmas.List.{get_or_append_left}
 use Rattle.std.proofs.lemmas.Bool.{eqb-true, eq-eqb, cases_lt}
 use Rattle.std.proofs.lemmas.List.Folds.{list_any_at}
@@ -418,7 +420,12 @@ one-right k bit (suc j) e = elim (nat_eq (j % 2) 0) as (λ t. nat_eq (j % 2) 0 �
 at-node : (ns : List Node) (n : ℕ) (node : Node) (x : ℕ) → node_at ns n ≡ node → word ns n x ≡ made node.here (word ns node.left) (word ns node.right) x
 at-node ns n node x e = word-made ns n x ∙ (λ i. made (e i).here (word ns (e i).left) (word ns (e i).right) x)
 
-pub insert-here : (old new : List Node) (set n bit x : ℕ) → IsPool old → set < length old → Keeps old new → node_at new n ≡ record { here = bit_or (node_at old set).here (2 ^ bit); left = (node_at old set).left; right = (node_at old set).right } → word new n x ≡ bit_or (word old set x) (word_with 0 bit x)
+pub insert-here : (old new : List Node) (set n bit x : ℕ)
+    → IsPool old
+    → set < length old
+    → Keeps old new
+    → node_at new n ≡ record { here = bit_or (node_at old set).here (2 ^ bit); left = (node_at old set).left; right = (node_at old set).right }
+    → word new n x ≡ bit_or (word old set x) (word_with 0 bit x)
 insert-here old new set n bit x p l k e =
     let s = node_at old set in
     let w = within-at old set p l in
@@ -428,13 +435,26 @@ insert-here old new set n bit x p l k e =
     ∙ zeroth x
     ∙ (λ i. bit_or (sym (word-made old set x) i) (word_with 0 bit x))
   where
-    zeroth : (x : ℕ) → made (bit_or (node_at old set).here (2 ^ bit)) (word old (node_at old set).left) (word old (node_at old set).right) x ≡ bit_or (made (node_at old set).here (word old (node_at old set).left) (word old (node_at old set).right) x) (word_with 0 bit x)
+    zeroth : (x : ℕ)
+        → made (bit_or (node_at old set).here (2 ^ bit)) (word old (node_at old set).left) (word old (node_at old set).right) x
+        ≡ bit_or (made (node_at old set).here (word old (node_at old set).left) (word old (node_at old set).right) x) (word_with 0 bit x)
     zeroth zero = refl
     zeroth (suc j) =
         let m = made (node_at old set).here (word old (node_at old set).left) (word old (node_at old set).right) (suc j) in
         sym ((λ i. bit_or m (if differs (suc j) 0 (λ h. omega (arith, h)) i then 2 ^ bit else 0)) ∙ or_none m)
 
-pub insert-left : (old mid new : List Node) (set l n index bit x : ℕ) → IsPool old → IsPool mid → set < length old → l < length mid → Keeps old mid → Keeps mid new → 0 < index → (index - 1) % 2 ≡ 0 → ((y : ℕ) → word mid l y ≡ bit_or (word old (node_at old set).left y) (word_with ((index - 1) / 2) bit y)) → node_at new n ≡ record { here = (node_at old set).here; left = l; right = (node_at old set).right } → word new n x ≡ bit_or (word old set x) (word_with index bit x)
+pub insert-left : (old mid new : List Node) (set l n index bit x : ℕ)
+    → IsPool old
+    → IsPool mid
+    → set < length old
+    → l < length mid
+    → Keeps old mid
+    → Keeps mid new
+    → 0 < index
+    → (index - 1) % 2 ≡ 0
+    → ((y : ℕ) → word mid l y ≡ bit_or (word old (node_at old set).left y) (word_with ((index - 1) / 2) bit y))
+    → node_at new n ≡ record { here = (node_at old set).here; left = l; right = (node_at old set).right }
+    → word new n x ≡ bit_or (word old set x) (word_with index bit x)
 insert-left old mid new set l n zero bit x p q k kl km kn pos even is e = absurd (omega (arith, pos))
 insert-left old mid new set l n (suc j) bit x p q k kl km kn pos even is e =
     let s = node_at old set in
@@ -448,7 +468,18 @@ insert-left old mid new set l n (suc j) bit x p q k kl km kn pos even is e =
     ∙ made-both bit_or s.here 0 (word old s.left) (word old s.right) (word_with (j / 2) bit) (λ _. 0) x
     ∙ (λ i. bit_or (sym (word-made old set x) i) (sym (one-left j bit x (subst (λ z. z % 2 ≡ 0) same even)) i))
 
-pub insert-right : (old mid new : List Node) (set r n index bit x : ℕ) → IsPool old → IsPool mid → set < length old → r < length mid → Keeps old mid → Keeps mid new → 0 < index → (¬ ((index - 1) % 2 ≡ 0)) → ((y : ℕ) → word mid r y ≡ bit_or (word old (node_at old set).right y) (word_with ((index - 1) / 2) bit y)) → node_at new n ≡ record { here = (node_at old set).here; left = (node_at old set).left; right = r } → word new n x ≡ bit_or (word old set x) (word_with index bit x)
+pub insert-right : (old mid new : List Node) (set r n index bit x : ℕ)
+    → IsPool old
+    → IsPool mid
+    → set < length old
+    → r < length mid
+    → Keeps old mid
+    → Keeps mid new
+    → 0 < index
+    → (¬ ((index - 1) % 2 ≡ 0))
+    → ((y : ℕ) → word mid r y ≡ bit_or (word old (node_at old set).right y) (word_with ((index - 1) / 2) bit y))
+    → node_at new n ≡ record { here = (node_at old set).here; left = (node_at old set).left; right = r }
+    → word new n x ≡ bit_or (word old set x) (word_with index bit x)
 insert-right old mid new set r n zero bit x p q k kr km kn pos odd is e = absurd (omega (arith, pos))
 insert-right old mid new set r n (suc j) bit x p q k kr km kn pos odd is e =
     let s = node_at old set in
@@ -476,7 +507,11 @@ with-is index bit x l = elim (nat_eq (x / 64) index) as (λ t. nat_eq (x / 64) i
 ] refl
 
 -- a set whose word has one bit more has one number more
-pub member-inserted : (old new : List Node) (set n index bit : ℕ) → bit < 64 → ((w : ℕ) → word new n w ≡ bit_or (word old set w) (word_with index bit w)) → (x : ℕ) → member new n x ≡ (nat_eq x (index * 64 + bit) || member old set x)
+pub member-inserted : (old new : List Node) (set n index bit : ℕ)
+    → bit < 64
+    → ((w : ℕ) → word new n w ≡ bit_or (word old set w) (word_with index bit w))
+    → (x : ℕ)
+    → member new n x ≡ (nat_eq x (index * 64 + bit) || member old set x)
 unfolding member
 member-inserted old new set n index bit l is x =
     (λ i. has_bit (is (x / 64) i) (x % 64))
@@ -492,7 +527,21 @@ member-inserted old new set n index bit l is x =
 
 -- ---- two sets together
 
-pub join-set : (op : ℕ → ℕ → ℕ) (old mid after new : List Node) (one two l r n x : ℕ) → IsPool old → IsPool mid → IsPool after → one < length old → two < length old → l < length mid → r < length after → Keeps old mid → Keeps mid after → Keeps after new → ((y : ℕ) → word mid l y ≡ op (word old (node_at old one).left y) (word old (node_at old two).left y)) → ((y : ℕ) → word after r y ≡ op (word mid (node_at old one).right y) (word mid (node_at old two).right y)) → node_at new n ≡ record { here = op (node_at old one).here (node_at old two).here; left = l; right = r } → word new n x ≡ op (word old one x) (word old two x)
+pub join-set : (op : ℕ → ℕ → ℕ) (old mid after new : List Node) (one two l r n x : ℕ)
+    → IsPool old
+    → IsPool mid
+    → IsPool after
+    → one < length old
+    → two < length old
+    → l < length mid
+    → r < length after
+    → Keeps old mid
+    → Keeps mid after
+    → Keeps after new
+    → ((y : ℕ) → word mid l y ≡ op (word old (node_at old one).left y) (word old (node_at old two).left y))
+    → ((y : ℕ) → word after r y ≡ op (word mid (node_at old one).right y) (word mid (node_at old two).right y))
+    → node_at new n ≡ record { here = op (node_at old one).here (node_at old two).here; left = l; right = r }
+    → word new n x ≡ op (word old one x) (word old two x)
 join-set op old mid after new one two l r n x p q u k1 k2 kl kr km ka kn isl isr e =
     let s = node_at old one in
     let t = node_at old two in
@@ -506,7 +555,10 @@ join-set op old mid after new one two l r n x p q u k1 k2 kl kr km ka kn isl isr
     ∙ (λ i. op (sym (word-made old one x) i) (sym (word-made old two x) i))
 
 -- what is made of the words of two sets is made of their members
-pub member-joined : (o : Operation) (old new : List Node) (one two n : ℕ) → ((w : ℕ) → word new n w ≡ joined_word o (word old one w) (word old two w)) → (x : ℕ) → member new n x ≡ joined o (member old one x) (member old two x)
+pub member-joined : (o : Operation) (old new : List Node) (one two n : ℕ)
+    → ((w : ℕ) → word new n w ≡ joined_word o (word old one w) (word old two w))
+    → (x : ℕ)
+    → member new n x ≡ joined o (member old one x) (member old two x)
 unfolding member
 member-joined o old new one two n is x = (λ i. has_bit (is (x / 64) i) (x % 64)) ∙ bit-joined o (word old one (x / 64)) (word old two (x / 64)) (x % 64)
 
@@ -547,7 +599,13 @@ fresh-after ns node n = elim (list_any (same_node node) ns) as (λ b. length ns 
   | false ↦ λ a l. fresh-push ns node n a l
 ]
 
-pub bounded-on : (limit : ℕ) (old new : List Node) (m : ℕ) → IsPool old → Keeps old new → IsBounded limit old → ((n : ℕ) → length old ≤ n → n < length new → n ≡ m) → ((x : ℕ) → member new m x ≡ true → x < limit) → IsBounded limit new
+pub bounded-on : (limit : ℕ) (old new : List Node) (m : ℕ)
+    → IsPool old
+    → Keeps old new
+    → IsBounded limit old
+    → ((n : ℕ) → length old ≤ n → n < length new → n ≡ m)
+    → ((x : ℕ) → member new m x ≡ true → x < limit)
+    → IsBounded limit new
 bounded-on limit old new m p k b fresh is = record {
   each = λ n x l e. elim (cases_lt n (length old)) [
     | inl h ↦ b.each n x h (sym (member-keeps old new n x p k h) ∙ e)
@@ -559,7 +617,14 @@ either : (a b : Bool) → (a || b) ≡ true → (a ≡ true) ⊎ (b ≡ true)
 either true b h = inl refl
 either false b h = inr h
 
-pub bounded-insert : (limit number : ℕ) (old new : List Node) (set m : ℕ) → number < limit → IsBounded limit old → set < length old → ((x : ℕ) → member new m x ≡ (nat_eq x number || member old set x)) → (x : ℕ) → member new m x ≡ true → x < limit
+pub bounded-insert : (limit number : ℕ) (old new : List Node) (set m : ℕ)
+    → number < limit
+    → IsBounded limit old
+    → set < length old
+    → ((x : ℕ) → member new m x ≡ (nat_eq x number || member old set x))
+    → (x : ℕ)
+    → member new m x ≡ true
+    → x < limit
 bounded-insert limit number old new set m l b k is x e = elim (either (nat_eq x number) (member old set x) (sym (is x) ∙ e)) [
   | inl h ↦ subst (λ y. y < limit) (sym (eqb-true x number h)) l
   | inr h ↦ b.each set x k h
@@ -570,7 +635,14 @@ one-of : (o : Operation) (a b : Bool) → joined o a b ≡ true → (a ≡ true)
 one-of Union a b h = either a b h
 one-of Meet a b h = inl (both a b h).0
 
-pub bounded-join : (o : Operation) (limit : ℕ) (old new : List Node) (one two m : ℕ) → IsBounded limit old → one < length old → two < length old → ((x : ℕ) → member new m x ≡ joined o (member old one x) (member old two x)) → (x : ℕ) → member new m x ≡ true → x < limit
+pub bounded-join : (o : Operation) (limit : ℕ) (old new : List Node) (one two m : ℕ)
+    → IsBounded limit old
+    → one < length old
+    → two < length old
+    → ((x : ℕ) → member new m x ≡ joined o (member old one x) (member old two x))
+    → (x : ℕ)
+    → member new m x ≡ true
+    → x < limit
 bounded-join o limit old new one two m b k l is x e = elim (one-of o (member old one x) (member old two x) (sym (is x) ∙ e)) [
   | inl h ↦ b.each one x k h
   | inr h ↦ b.each two x l h

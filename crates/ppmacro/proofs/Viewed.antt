@@ -48,25 +48,60 @@ keeps-seen names old new v w is now p k = record {
 }
 
 -- what two sets are made into
-pub made-seen : (o : Operation) (names : List Name) (old new : List Node) (v : Numbered) (a b a' b' n : ℕ) → hide_sets names old ≡ v.sets → IsDistinct same_name names → a ≡ a' → b ≡ b' → a < length old → b < length old → n < length new → ((x : ℕ) → member new n x ≡ joined o (member old a x) (member old b x)) → get_or (hide_sets names new) n set.empty ≡ made_of o (set_at v a') (set_at v b')
+pub made-seen : (o : Operation) (names : List Name) (old new : List Node) (v : Numbered) (a b a' b' n : ℕ)
+    → hide_sets names old ≡ v.sets
+    → IsDistinct same_name names
+    → a ≡ a'
+    → b ≡ b'
+    → a < length old
+    → b < length old
+    → n < length new
+    → ((x : ℕ) → member new n x ≡ joined o (member old a x) (member old b x))
+    → get_or (hide_sets names new) n set.empty ≡ made_of o (set_at v a') (set_at v b')
 made-seen o names old new v a b a' b' n is d sa sb la lb ln h =
     set-at names new n ln ∙ made-is o names old new a b n d h ∙ (λ i. made_of o (set-seen names old v a a' is sa la i) (set-seen names old v b b' is sb lb i))
 
-pub kept-union : (names : List Name) (old new : List Node) (us ms vs : Answered) → AreKept names old us ms → IsPool new → nodes.Keeps old new → ((limit : ℕ) → IsBounded limit old → IsBounded limit new) → AreAnswers (joined Union) new vs → AreKept names new vs ms
+pub kept-union : (names : List Name) (old new : List Node) (us ms vs : Answered)
+    → AreKept names old us ms
+    → IsPool new
+    → nodes.Keeps old new
+    → ((limit : ℕ) → IsBounded limit old → IsBounded limit new)
+    → AreAnswers (joined Union) new vs
+    → AreKept names new vs ms
 kept-union names old new us ms vs k p keeps bounded answers = record { distinct = k.distinct; pool = p; bounded = bounded (length names) k.bounded; unions = answers; meets = answers-keep (joined Meet) old new ms k.pool keeps k.meets }
 
-pub kept-meet : (names : List Name) (old new : List Node) (us ms vs : Answered) → AreKept names old us ms → IsPool new → nodes.Keeps old new → ((limit : ℕ) → IsBounded limit old → IsBounded limit new) → AreAnswers (joined Meet) new vs → AreKept names new us vs
+pub kept-meet : (names : List Name) (old new : List Node) (us ms vs : Answered)
+    → AreKept names old us ms
+    → IsPool new
+    → nodes.Keeps old new
+    → ((limit : ℕ) → IsBounded limit old → IsBounded limit new)
+    → AreAnswers (joined Meet) new vs
+    → AreKept names new us vs
 kept-meet names old new us ms vs k p keeps bounded answers = record { distinct = k.distinct; pool = p; bounded = bounded (length names) k.bounded; unions = answers-keep (joined Union) old new us k.pool keeps k.unions; meets = answers }
 
 -- ---- names and nodes are added
 
-pub keeps-named : (names more after : List Name) (old new : List Node) (us ms : Answered) (v w : Numbered) → after ≡ names ++ more → hide_sets names old ≡ v.sets → hide_sets after new ≡ w.sets → AreKept names old us ms → nodes.Keeps old new → Keeps v w
+pub keeps-named : (names more after : List Name) (old new : List Node) (us ms : Answered) (v w : Numbered)
+    → after ≡ names ++ more
+    → hide_sets names old ≡ v.sets
+    → hide_sets after new ≡ w.sets
+    → AreKept names old us ms
+    → nodes.Keeps old new
+    → Keeps v w
 keeps-named names more after old new us ms v w grown is now p k = record {
   more = counted (hide_set after new) (past-by 0 old) k.more;
   is = sym now ∙ sets-keep after old new p.pool k ∙ ap (λ ss. ss ++ counted (hide_set after new) (past-by 0 old) k.more) ((λ i. hide_sets (grown i) old) ∙ sets-named names more old p.bounded ∙ is);
 }
 
-pub kept-named : (names more after : List Name) (old new : List Node) (us ms : Answered) (n : ℕ) → after ≡ names ++ more → IsDistinct same_name after → n < length after → AreKept names old us ms → IsPool new → nodes.Keeps old new → ((limit : ℕ) → n < limit → IsBounded limit old → IsBounded limit new) → AreKept after new us ms
+pub kept-named : (names more after : List Name) (old new : List Node) (us ms : Answered) (n : ℕ)
+    → after ≡ names ++ more
+    → IsDistinct same_name after
+    → n < length after
+    → AreKept names old us ms
+    → IsPool new
+    → nodes.Keeps old new
+    → ((limit : ℕ) → n < limit → IsBounded limit old → IsBounded limit new)
+    → AreKept after new us ms
 kept-named names more after old new us ms n grown d l k p keeps bounded = record {
   distinct = d;
   pool = p;
@@ -75,7 +110,18 @@ kept-named names more after old new us ms n grown d l k p keeps bounded = record
   meets = answers-keep (joined Meet) old new ms k.pool keeps k.meets;
 }
 
-pub with-seen : (names more after : List Name) (old new : List Node) (v : Numbered) (a a' x n : ℕ) (q : Name) → after ≡ names ++ more → IsDistinct same_name after → x < length after → get_or after x [] ≡ q → hide_sets names old ≡ v.sets → IsBounded (length names) old → a ≡ a' → a < length old → n < length new → ((y : ℕ) → member new n y ≡ (nat_eq y x || member old a y)) → get_or (hide_sets after new) n set.empty ≡ set.insert (set_at v a') q
+pub with-seen : (names more after : List Name) (old new : List Node) (v : Numbered) (a a' x n : ℕ) (q : Name)
+    → after ≡ names ++ more
+    → IsDistinct same_name after
+    → x < length after
+    → get_or after x [] ≡ q
+    → hide_sets names old ≡ v.sets
+    → IsBounded (length names) old
+    → a ≡ a'
+    → a < length old
+    → n < length new
+    → ((y : ℕ) → member new n y ≡ (nat_eq y x || member old a y))
+    → get_or (hide_sets after new) n set.empty ≡ set.insert (set_at v a') q
 with-seen names more after old new v a a' x n q grown d lx at is bounded same la ln h =
     set-at after new n ln ∙ insert-is after old new a x n q d lx at h
     ∙ ap (λ s. set.insert s q) ((λ i. hide_set (grown i) old a) ∙ set-named names more old a bounded la ∙ set-seen names old v a a' is same la)

@@ -1,5 +1,6 @@
 -- The chains' tokens one behind the other, and what they gain, while hide sets are added.
-use Rattle.std.proofs.Common.{◌≡◌, ℕ, zero, suc, ◌+◌, ◌<◌, Bool, false, not, ◌||◌, ◌&&◌, List, [], ◌∷◌, ◌++◌, map, take, drop, length, get_or, Option, Some, None, Vec, Global, Result, Ok, Err, refl, sym, ap, ◌∙◌, append_assoc, arith}
+use Rattle.std.proofs.Common.{◌≡◌, ℕ, zero, suc, ◌+◌, ◌<◌, Bool, false, not, ◌||◌, ◌&&◌, List, [], ◌∷◌, ◌++◌, map, take, drop, length, get_or}
+use Rattle.std.proofs.Common.{Option, Some, None, Vec, Global, Result, Ok, Err, refl, sym, ap, ◌∙◌, append_assoc, arith}
 use Rattle.std.proofs.lemmas.List.{map-append, drop_more, take_more}
 use Rattle.std.specs.Option.{option_map}
 use Rattle.std.specs.FinSet as set
@@ -35,7 +36,10 @@ option-keeps : {s t : Numbered} (o : Option (List Hidden)) (os : List (Option (L
 option-keeps None os k known = refl
 option-keeps (Some hs) os k known = ap Some (hidings-keeps hs k known)
 
-expanded-keeps : {s t : Numbered} (expanded : List (Option (List Hidden))) → Keeps s t → ((i : ℕ) → AllKnown s (expanded_at expanded i)) → map (λ o. option_map (hidings t) o) expanded ≡ map (λ o. option_map (hidings s) o) expanded
+expanded-keeps : {s t : Numbered} (expanded : List (Option (List Hidden)))
+    → Keeps s t
+    → ((i : ℕ) → AllKnown s (expanded_at expanded i))
+    → map (λ o. option_map (hidings t) o) expanded ≡ map (λ o. option_map (hidings s) o) expanded
 expanded-keeps [] k known = refl
 expanded-keeps (o ∷ os) k known = λ i. option-keeps o os k (known 0) i ∷ expanded-keeps os k (λ n. known (suc n)) i
 
@@ -54,23 +58,37 @@ behind-behind : (xs ys : List Hiding) (r : Result Marked Fault) → marked_behin
 behind-behind xs ys (Ok m) = λ i. Ok (record { tokens = sym (append_assoc xs ys m.tokens) i; pending = m.pending })
 behind-behind xs ys (Err f) = refl
 
-chains-more : (args : Arguments) (used : Place) (pending first : Bool) (c : Chain) (cs : List Chain) (front ts : List Hiding) → Ok ts ≡ chain_tokens args used c → marked_behind (front ++ (mark_first (pending || (not first && c.mark)) ts).tokens) (chains_tokens args used (mark_first (pending || (not first && c.mark)) ts).pending false cs) ≡ marked_behind front (chains_tokens args used pending first (c ∷ cs))
+chains-more : (args : Arguments) (used : Place) (pending first : Bool) (c : Chain) (cs : List Chain) (front ts : List Hiding)
+    → Ok ts ≡ chain_tokens args used c
+    → marked_behind (front ++ (mark_first (pending || (not first && c.mark)) ts).tokens)
+    (chains_tokens args used (mark_first (pending || (not first && c.mark)) ts).pending false cs)
+    ≡ marked_behind front (chains_tokens args used pending first (c ∷ cs))
 chains-more args used pending first c cs front ts h =
     sym (behind-behind front (mark_first (pending || (not first && c.mark)) ts).tokens (chains_tokens args used (mark_first (pending || (not first && c.mark)) ts).pending false cs))
     ∙ ap (λ r. marked_behind front (after_ok r (goes_on args used (pending || (not first && c.mark)) cs))) h
 
-chains-refused : (args : Arguments) (used : Place) (pending first : Bool) (c : Chain) (cs : List Chain) (front : List Hiding) (f : Fault) → Err f ≡ chain_tokens args used c → Err f ≡ marked_behind front (chains_tokens args used pending first (c ∷ cs))
+chains-refused : (args : Arguments) (used : Place) (pending first : Bool) (c : Chain) (cs : List Chain) (front : List Hiding) (f : Fault)
+    → Err f ≡ chain_tokens args used c
+    → Err f ≡ marked_behind front (chains_tokens args used pending first (c ∷ cs))
 chains-refused args used pending first c cs front f h = ap (λ r. marked_behind front (after_ok r (goes_on args used (pending || (not first && c.mark)) cs))) h
 
 -- one chain pushed, and the others behind it
-pub chains-pushed : (args : Arguments) (used : Place) (pending first : Bool) (c : Chain) (cs : List Chain) (front new : List Hiding) (left : Bool) (r : Result (List Hiding) Fault) → r ≡ chain_tokens args used c → Ok (record { tokens = new; pending = left }) ≡ pushed front (pending || (not first && c.mark)) r → marked_behind new (chains_tokens args used left false cs) ≡ marked_behind front (chains_tokens args used pending first (c ∷ cs))
+pub chains-pushed : (args : Arguments) (used : Place) (pending first : Bool) (c : Chain) (cs : List Chain) (front new : List Hiding) (left : Bool)
+    (r : Result (List Hiding) Fault)
+    → r ≡ chain_tokens args used c
+    → Ok (record { tokens = new; pending = left }) ≡ pushed front (pending || (not first && c.mark)) r
+    → marked_behind new (chains_tokens args used left false cs) ≡ marked_behind front (chains_tokens args used pending first (c ∷ cs))
 chains-pushed args used pending first c cs front new left (Ok ts) h e =
     let here : Marked = mark_first (pending || (not first && c.mark)) ts in
     let same : record { tokens = new; pending = left } ≡ record { tokens = front ++ here.tokens; pending = here.pending } = cc in
     ap (λ (m : Marked). marked_behind m.tokens (chains_tokens args used m.pending false cs)) same ∙ chains-more args used pending first c cs front ts h
 chains-pushed args used pending first c cs front new left (Err f) h e = absurd (cc)
 
-pub chains-refused-pushed : (args : Arguments) (used : Place) (pending first : Bool) (c : Chain) (cs : List Chain) (front : List Hiding) (f : Fault) (r : Result (List Hiding) Fault) → r ≡ chain_tokens args used c → Err f ≡ pushed front (pending || (not first && c.mark)) r → Err f ≡ marked_behind front (chains_tokens args used pending first (c ∷ cs))
+pub chains-refused-pushed : (args : Arguments) (used : Place) (pending first : Bool) (c : Chain) (cs : List Chain) (front : List Hiding) (f : Fault)
+    (r : Result (List Hiding) Fault)
+    → r ≡ chain_tokens args used c
+    → Err f ≡ pushed front (pending || (not first && c.mark)) r
+    → Err f ≡ marked_behind front (chains_tokens args used pending first (c ∷ cs))
 chains-refused-pushed args used pending first c cs front f (Ok ts) h e = absurd (cc)
 chains-refused-pushed args used pending first c cs front f (Err g) h e =
     let same : f ≡ g = cc in
@@ -78,7 +96,15 @@ chains-refused-pushed args used pending first c cs front f (Err g) h e =
 
 -- ---- the gain
 
-pub gained-more : (s t u : Numbered) (g : ℕ) (used : Place) (done earlier : List Hidden) (item one : Hidden) → Keeps s t → Keeps t u → IsKnown s g → AllKnown t done → IsKnown s item.hide → hiding u one ≡ gained (set_at t g) used (hiding t item) → hidings t done ≡ map (gained (set_at s g) used) (hidings s earlier) → hidings u (done ++ one ∷ []) ≡ map (gained (set_at s g) used) (hidings s (earlier ++ item ∷ []))
+pub gained-more : (s t u : Numbered) (g : ℕ) (used : Place) (done earlier : List Hidden) (item one : Hidden)
+    → Keeps s t
+    → Keeps t u
+    → IsKnown s g
+    → AllKnown t done
+    → IsKnown s item.hide
+    → hiding u one ≡ gained (set_at t g) used (hiding t item)
+    → hidings t done ≡ map (gained (set_at s g) used) (hidings s earlier)
+    → hidings u (done ++ one ∷ []) ≡ map (gained (set_at s g) used) (hidings s (earlier ++ item ∷ []))
 gained-more s t u g used done earlier item one k l gain known here is so_far =
     let last : hiding u one ≡ gained (set_at s g) used (hiding s item) = is ∙ (λ i. gained (set-keeps g k gain i) used (hiding-keeps item k here i)) in
     map-append (hiding u) done (one ∷ [])

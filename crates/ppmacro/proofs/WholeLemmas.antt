@@ -31,7 +31,9 @@ carried_kind text more k e word all =
     one_kind (text ++ more) (kind_of (text ++ more)) (Some k) (kind_of_is.each (text ++ more)) (carried_on text more k one.0 word all)
 
 -- what carries a token on is pasted to it
-module _ (last first grown turned : Hidden) (n : ℕ) (used : Place) (whole : IsWhole last) (word : (last.token.kind ≡ Ident) ⊎ (last.token.kind ≡ Number)) (all : AllPass is_ident_byte first.token.text) (is_grown : grown ≡ extended last first.token.text) (is_turned : turned ≡ record { token = record grown.token { used = used }; hide = n }) where
+module _ (last first grown turned : Hidden) (n : ℕ) (used : Place) (whole : IsWhole last) (word : (last.token.kind ≡ Ident) ⊎ (last.token.kind ≡ Number))
+    (all : AllPass is_ident_byte first.token.text) (is_grown : grown ≡ extended last first.token.text)
+    (is_turned : turned ≡ record { token = record grown.token { used = used }; hide = n }) where
   still-whole : kind_of (last.token.text ++ first.token.text) ≡ Some last.token.kind
   still-whole = carried_kind last.token.text first.token.text last.token.kind whole word all
 

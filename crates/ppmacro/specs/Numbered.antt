@@ -12,4 +12,5 @@ pub record Numbered : Type 0 where
   pub meets : Answered
 
 abbrev pub numbered_code : Coded Numbered
-numbered_code = code_by (List HideSet × (Answered × Answered)) (coded× (coded_list (set.code (coded_list coded_ℕ))) (coded× answered_code answered_code)) (λ n. (n.sets, (n.unions, n.meets))) (λ p. record { sets = p.0; unions = p.1.0; meets = p.1.1 }) (λ _. refl)
+numbered_code = code_by (List HideSet × (Answered × Answered)) (coded× (coded_list (set.code (coded_list coded_ℕ))) (coded× answered_code answered_code))
+    (λ n. (n.sets, (n.unions, n.meets))) (λ p. record { sets = p.0; unions = p.1.0; meets = p.1.1 }) (λ _. refl)

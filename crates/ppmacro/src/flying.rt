@@ -1,7 +1,5 @@
 // Tokens in flight: with their hide sets, and without copies where they stand in a file.
 ghost use Rattle.std.specs.Prelude.{◌≡◌, IfOk, if◌then◌else◌};
-ghost use Rattle.ppmacro.specs.Numbered.{Numbered};
-ghost use Rattle.ppmacro.specs.HideSets.{set_at, hiding};
 ghost use Rattle.ppmacro.specs.Flying.{placed, extended};
 ghost use Rattle.ppmacro.specs.Words.{word_token};
 

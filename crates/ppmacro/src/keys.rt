@@ -39,7 +39,7 @@ impl Eq for Key<'_> {
 impl Hash for Key<'_> {
     ghost use Rattle.std.specs.Prelude.{[], ◌∷◌};
     ghost use Rattle.std.proofs.Common.{rules};
-    ghost use Rattle.std.specs.Cmp.Rules.{comparing, hashing};
+    ghost use Rattle.std.specs.Cmp.Rules.{hashing};
 
     ghost hash_input = { λ k. k ∷ [] };
 

@@ -18,7 +18,11 @@ use Rattle.pppool.specs.Workers.{IsAnswer, AreAnswers, AllAnswered, answered}
 use Rattle.pppool.proofs.Totals.{times-append, times_at}
 
 -- what is true of an answer over some files is true over more
-pub answers_grow : Grows → (keep : Keep) (stock : Stock) (old new : Files) (setting : Setting) (units : List UnitOfList) (answers : List Answer) → Extends new old → AreAnswers keep stock old setting units answers → AreAnswers keep stock new setting units answers
+pub answers_grow : Grows
+    → (keep : Keep) (stock : Stock) (old new : Files) (setting : Setting) (units : List UnitOfList) (answers : List Answer)
+    → Extends new old
+    → AreAnswers keep stock old setting units answers
+    → AreAnswers keep stock new setting units answers
 answers_grow grows keep stock old new setting units answers more all k d w =
     let a = all k d w in
     record { within = a.within; value = λ u. kept_grows grows keep stock.names old new setting (get_or units (get_or answers k d).unit u) (get_or answers k d).out more (a.value u) }

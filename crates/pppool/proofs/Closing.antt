@@ -1,5 +1,6 @@
 -- Seats that are handed in one after the other, from the last.
-use Rattle.std.proofs.Common.{nat_eq, max, suc, ◌-◌, ℕ, ◌≡◌, ◌<◌, ◌≤◌, ◌+◌, ◌++◌, ap, sym, ◌∙◌, arith, List, [], ◌∷◌, refl, Bool, true, false, ◌||◌, if◌then◌else◌, All, length, get_or, length-append}
+use Rattle.std.proofs.Common.{nat_eq, max, suc, ◌-◌, ℕ, ◌≡◌, ◌<◌, ◌≤◌, ◌+◌, ◌++◌, ap, sym, ◌∙◌, arith, List, [], ◌∷◌, refl}
+use Rattle.std.proofs.Common.{Bool, true, false, ◌||◌, if◌then◌else◌, All, length, get_or, length-append}
 use Rattle.std.proofs.lemmas.Grind.{common_steps}
 use Rattle.std.proofs.lemmas.Bool.Decides.{nat_tests}
 use Rattle.std.proofs.lemmas.Bool.{false≢true}
@@ -64,7 +65,12 @@ pub none_claimed : (n : ℕ) (xs : List SeatView) → length xs ≡ 0 → times 
 none_claimed n [] e = refl
 none_claimed n (x ∷ xs) e = absurd (omega arith)
 
-pub joined_times : (n : ℕ) (all rest : List SeatView) (x : SeatView) (mine theirs both : List ℕ) (sum : ℕ) → both ≡ mine ++ theirs → all ≡ rest ++ x ∷ [] → theirs ≡ x.claims → times n mine + times n (claims_of all) ≡ sum → times n both + times n (claims_of rest) ≡ sum
+pub joined_times : (n : ℕ) (all rest : List SeatView) (x : SeatView) (mine theirs both : List ℕ) (sum : ℕ)
+    → both ≡ mine ++ theirs
+    → all ≡ rest ++ x ∷ []
+    → theirs ≡ x.claims
+    → times n mine + times n (claims_of all) ≡ sum
+    → times n both + times n (claims_of rest) ≡ sum
 joined_times n all rest x mine theirs both sum e is at before =
     let a = times_popped n all rest x theirs is at in
     let b = times-append n mine theirs in

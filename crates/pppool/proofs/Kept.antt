@@ -12,12 +12,19 @@ use Rattle.pppool.specs.declared.keeping.Keep.TheVariants.{Whole}
 use Rattle.pppool.specs.Kept.{IsKept, AreKept, kept}
 
 -- what is kept of a unit's value over some files is kept of it over more
-pub kept_grows : Grows → (keep : Keep) (names : List (List ℕ)) (old new : Files) (setting : Setting) (unit : UnitOfList) (out : UnitOut) → Extends new old → IsKept keep names old setting unit out → IsKept keep names new setting unit out
+pub kept_grows : Grows
+    → (keep : Keep) (names : List (List ℕ)) (old new : Files) (setting : Setting) (unit : UnitOfList) (out : UnitOut)
+    → Extends new old
+    → IsKept keep names old setting unit out
+    → IsKept keep names new setting unit out
 kept_grows grows keep names old new setting unit out more is =
     record { whole = is.whole; value = (grows names old new setting unit is.whole more is.value).0; same = is.same }
 
 -- what is kept of a value
-pub kept_of : (keep : Keep) (names : List (List ℕ)) (files : Files) (setting : Setting) (unit : UnitOfList) (whole out : UnitOut) → IsUnit names files setting unit whole → out ≡ kept keep whole → IsKept keep names files setting unit out
+pub kept_of : (keep : Keep) (names : List (List ℕ)) (files : Files) (setting : Setting) (unit : UnitOfList) (whole out : UnitOut)
+    → IsUnit names files setting unit whole
+    → out ≡ kept keep whole
+    → IsKept keep names files setting unit out
 kept_of keep names files setting unit whole out is same = record { whole = whole; value = is; same = same }
 
 map_whole : (outs : List UnitOut) → map (kept Whole) outs ≡ outs

@@ -1,5 +1,6 @@
 -- Answers that are put into their units' slots.
-use Rattle.std.proofs.Common.{ℕ, suc, zero, ◌≡◌, ◌<◌, ◌/◌, List, [], ◌∷◌, ◌++◌, length, get_or, set, map, replicate, All, Option, Some, None, IsSome, IfSome, Result, Ok, Err, IfOk, refl, sym, ap, ◌∙◌, subst, arith, inl, inr}
+use Rattle.std.proofs.Common.{ℕ, suc, zero, ◌≡◌, ◌<◌, ◌/◌, List, [], ◌∷◌, ◌++◌, length, get_or, set, map, replicate, All, Option, Some}
+use Rattle.std.proofs.Common.{None, IsSome, IfSome, Result, Ok, Err, IfOk, refl, sym, ap, ◌∙◌, subst, arith, inl, inr}
 use Rattle.std.specs.List.{AllZip}
 use Rattle.std.proofs.lemmas.Bool.{cases_lt, cases_eq}
 use Rattle.std.proofs.lemmas.List.{length-set, get_or-set_same, get_or-set_other, get_or_default, set_past}
@@ -47,14 +48,22 @@ if_some_map P Q None more h = tt
 if_some_map P Q (Some x) more h = more x h
 
 -- what stands in slots over some files stands there over more
-pub slots_grow : Grows → (keep : Keep) (stock : Stock) (old new : Files) (setting : Setting) (units : List UnitOfList) (slots : List (Option UnitOut)) → Extends new old → FitSlots keep stock old setting units slots → FitSlots keep stock new setting units slots
+pub slots_grow : Grows
+    → (keep : Keep) (stock : Stock) (old new : Files) (setting : Setting) (units : List UnitOfList) (slots : List (Option UnitOut))
+    → Extends new old
+    → FitSlots keep stock old setting units slots
+    → FitSlots keep stock new setting units slots
 slots_grow grows keep stock old new setting units slots more fit =
     let At : Files → UnitOfList → UnitOut → Type 0 = λ files unit out. IsKept keep stock.names files setting unit out in
     zip_map (λ unit slot. IfSome slot (At old unit)) (λ unit slot. IfSome slot (At new unit)) units slots
     (λ unit slot h. if_some_map (At old unit) (At new unit) slot (λ out is. kept_grows grows keep stock.names old new setting unit out more is) h) fit
 
 -- answers that are their units' values go into slots
-pub slots_placed : (keep : Keep) (stock : Stock) (files : Files) (setting : Setting) (units : List UnitOfList) (slots : List (Option UnitOut)) (answers : List Answer) → FitSlots keep stock files setting units slots → AreAnswers keep stock files setting units answers → FitSlots keep stock files setting units (placed slots answers)
+pub slots_placed : (keep : Keep) (stock : Stock) (files : Files) (setting : Setting) (units : List UnitOfList) (slots : List (Option UnitOut))
+    (answers : List Answer)
+    → FitSlots keep stock files setting units slots
+    → AreAnswers keep stock files setting units answers
+    → FitSlots keep stock files setting units (placed slots answers)
 slots_placed keep stock files setting units slots [] fit all = fit
 slots_placed keep stock files setting units slots (a ∷ answers) fit all =
     let first = all 0 a (omega arith) in
@@ -100,7 +109,9 @@ placed_fills slots (a ∷ answers) i w h =
     ]
 
 -- at the end the slots have what is kept of the units' values
-pub are_kept : (keep : Keep) (stock : Stock) (files : Files) (setting : Setting) (units : List UnitOfList) (outs : List UnitOut) → FitSlots keep stock files setting units (map (λ x. Some x) outs) → AreKept keep stock.names files setting units outs
+pub are_kept : (keep : Keep) (stock : Stock) (files : Files) (setting : Setting) (units : List UnitOfList) (outs : List UnitOut)
+    → FitSlots keep stock files setting units (map (λ x. Some x) outs)
+    → AreKept keep stock.names files setting units outs
 are_kept keep stock files setting [] [] fit = record { wholes = []; values = tt; same = refl }
 are_kept keep stock files setting [] (out ∷ outs) fit = elim fit [ ]
 are_kept keep stock files setting (u ∷ units) [] fit = elim fit [ ]
@@ -115,13 +126,21 @@ are_kept keep stock files setting (u ∷ units) (out ∷ outs) fit =
 -- ---- what comes of a worker that is done
 
 -- each unit has a slot
-pub slots_long : (keep : Keep) (stock : Stock) (files : Files) (setting : Setting) (units : List UnitOfList) (slots : List (Option UnitOut)) → FitSlots keep stock files setting units slots → (i : ℕ) → i < length units → i < length slots
+pub slots_long : (keep : Keep) (stock : Stock) (files : Files) (setting : Setting) (units : List UnitOfList) (slots : List (Option UnitOut))
+    → FitSlots keep stock files setting units slots
+    → (i : ℕ)
+    → i < length units
+    → i < length slots
 slots_long keep stock files setting units slots fit i w =
     let long = AllZip-long (λ unit slot. IfSome slot (λ out. IsKept keep stock.names files setting unit out)) units slots fit in
     omega arith
 
 -- each answer has a slot
-pub within_slots : (keep : Keep) (stock : Stock) (mine theirs : Files) (setting : Setting) (units : List UnitOfList) (slots : List (Option UnitOut)) (answers : List Answer) → FitSlots keep stock mine setting units slots → AreAnswers keep stock theirs setting units answers → All (λ a. a.unit < length slots) answers
+pub within_slots : (keep : Keep) (stock : Stock) (mine theirs : Files) (setting : Setting) (units : List UnitOfList) (slots : List (Option UnitOut))
+    (answers : List Answer)
+    → FitSlots keep stock mine setting units slots
+    → AreAnswers keep stock theirs setting units answers
+    → All (λ a. a.unit < length slots) answers
 within_slots keep stock mine theirs setting units slots answers fit all k d w = slots_long keep stock mine setting units slots fit (get_or answers k d).unit (all k d w).within
 
 -- a seat more is handed in

@@ -1,5 +1,6 @@
 -- Each step at a desk keeps its rule.
-use Rattle.std.proofs.Common.{◌≡◌, ℕ, zero, suc, ◌+◌, ◌-◌, ◌%◌, ◌^◌, ◌<◌, ◌≤◌, min, Bool, true, false, List, [], ◌∷◌, ◌++◌, length, get_or, set, refl, sym, ap, ◌∙◌, subst, arith, All, MatchBool, nat_lt, inl, inr, length-set, get_or-set_same}
+use Rattle.std.proofs.Common.{◌≡◌, ℕ, zero, suc, ◌+◌, ◌-◌, ◌%◌, ◌^◌, ◌<◌, ◌≤◌, min, Bool, true, false, List, [], ◌∷◌, ◌++◌, length, get_or, set}
+use Rattle.std.proofs.Common.{refl, sym, ap, ◌∙◌, subst, arith, All, MatchBool, nat_lt, inl, inr, length-set, get_or-set_same}
 use mathlib.Core.Option.{some, none, some-injective, some-ne-none}
 use Rattle.std.proofs.lemmas.Bool.{cases_lt}
 use Rattle.std.proofs.Math.Nat.{mod-eq_of_lt}
@@ -41,7 +42,13 @@ stays_small n h = let small : n + 1 < 2 ^ 64 = omega arith in sym (mod-eq_of_lt 
 fits_later : (p : Plan) (n m : ℕ) (v : Hand) → n ≤ m → FitsHand p n v → FitsHand p m v
 fits_later p n m v more f = record { marks = f.marks; idle = f.idle; plan = f.plan; marked = λ h. let g = f.marked h in omega arith }
 
-each_set : (p : Plan) (n m : ℕ) (views : List Hand) (id : ℕ) (w : Hand) → n ≤ m → ((j : ℕ) (u : Hand) → get_elem? views j ≡ some u → FitsHand p n u) → FitsHand p m w → (j : ℕ) (u : Hand) → get_elem? (set views id w) j ≡ some u → FitsHand p m u
+each_set : (p : Plan) (n m : ℕ) (views : List Hand) (id : ℕ) (w : Hand)
+    → n ≤ m
+    → ((j : ℕ) (u : Hand) → get_elem? views j ≡ some u → FitsHand p n u)
+    → FitsHand p m w
+    → (j : ℕ) (u : Hand)
+    → get_elem? (set views id w) j ≡ some u
+    → FitsHand p m u
 each_set p n m views id w more each fits j u at =
     elim (at_set views id j w u at) [
       | inl t ↦ let P : Hand → Type 0 = FitsHand p m in subst P t.1 fits
@@ -182,7 +189,8 @@ joins p id other v w some_left s d at apart there =
     let spent = hand [] 0 0 (record { blocks = 0; seats = 0 }) in
     let n = get_or s.words 0 0 in
     let at_other : get_elem? s.views other ≡ some w = sym (set_else s.views id other both apart) ∙ there in
-    let sum : (f : Hand → ℕ) → total f (set (set s.views id both) other spent) + f w + f v ≡ total f s.views + f both + f spent = λ f. let a = total_set f s.views id v both at in let b = total_set f (set s.views id both) other w spent there in omega arith in
+    let sum : (f : Hand → ℕ) → total f (set (set s.views id both) other spent) + f w + f v ≡ total f s.views + f both + f spent = λ f.
+    let a = total_set f s.views id v both at in let b = total_set f (set s.views id both) other w spent there in omega arith in
     let f = d.each id v at in
     let h = d.each other w at_other in
     let fit_both : FitsHand p n both = record { marks = let a = f.marks in let b = h.marks in omega arith; idle = λ e. absurd (omega arith); plan = λ e. f.plan some_left; marked = λ e. marked_either p n v w f h e } in

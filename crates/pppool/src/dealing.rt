@@ -1,5 +1,5 @@
 // The rule of a desk's word, and the steps that keep it.
-ghost use Rattle.std.specs.Prelude.{◌≡◌, ℕ, ◌+◌, ◌-◌, [], ◌++◌};
+ghost use Rattle.std.specs.Prelude.{◌+◌, ◌-◌, [], ◌++◌};
 ghost use Rattle.pppool.specs.Desk.{hand, Dealt, Claims};
 
 use crate::hand::{Hand, Plan};

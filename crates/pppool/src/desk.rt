@@ -38,7 +38,7 @@ pub struct DeskSeat {
 
 impl Model for DeskSeat {
     ghost use Rattle.std.specs.Prelude.{◌≡◌, [], if◌then◌else◌};
-    ghost use Rattle.pppool.specs.Desk.{DeskId, SeatView};
+    ghost use Rattle.pppool.specs.Desk.{SeatView};
 
     ghost Value = { SeatView };
 

@@ -1,5 +1,5 @@
 // A slot for each unit of the list, into which workers' answers are put.
-ghost use Rattle.std.specs.Prelude.{◌≡◌, ℕ, ◌<◌, length, All, IfOk, IsSome, Some, None, map, replicate};
+ghost use Rattle.std.specs.Prelude.{◌≡◌, ◌<◌, length, All, IfOk, IsSome, Some, None, map, replicate};
 ghost use Rattle.pppool.specs.Workers.{placed};
 
 use crate::workers::Answer;

@@ -1,9 +1,8 @@
 // Workers, which claim blocks of units and preprocess them.
 ghost use Rattle.std.specs.Prelude.{◌≡◌, ℕ, ◌<◌, ◌≤◌, ◌/◌, [], ◌∷◌, ◌++◌, length, All, IfOk, OnOk};
-ghost use Rattle.ppshelf.specs.Files.{Extends};
 ghost use Rattle.ppunit.specs.Unit.{IsUnitOf};
 ghost use Rattle.pppool.specs.Desk.{most_blocks, new_seat, times};
-ghost use Rattle.pppool.specs.Workers.{AreAnswers, AllAnswered, IsDone, answered};
+ghost use Rattle.pppool.specs.Workers.{AreAnswers, IsDone, answered};
 
 use crate::desk::{Desk, DeskSeat};
 use crate::gate::Gate;

@@ -47,7 +47,9 @@ abbrev Grown : Shared → Shared → Type 0
 Grown before after = (caller : ℕ) → Extends (learnt_by after caller) (learnt_by before caller)
 
 -- what a caller has learnt once some caller learns
-learnt_after : (shared : Shared) (caller row : ℕ) (c : Content) (who : ℕ) → (learnt_by (learning shared caller row c) who ≡ learnt_by shared who) ⊎ (learnt_by (learning shared caller row c) who ≡ set (learnt_by shared who) row (Some c))
+learnt_after : (shared : Shared) (caller row : ℕ) (c : Content) (who : ℕ)
+    → (learnt_by (learning shared caller row c) who ≡ learnt_by shared who)
+    ⊎ (learnt_by (learning shared caller row c) who ≡ set (learnt_by shared who) row (Some c))
 learnt_after shared caller row c who =
     let new : Files = set (learnt_by shared caller) row (Some c) in
     elim (cases_eq who caller) [

@@ -48,7 +48,11 @@ held_is (Some h) profile row name p =
     let two : Some (record h { row = row }) ≡ Some (record h { row = row; name = name }) = ap (λ (n : List ℕ). Some (record h { row = row; name = n })) e.1 in
     one ∙ (two ∙ ap (λ (p : Profile). Some (held p row name h.content)) e.2)
 
-spot_by : (s : Spot) (profile : Profile) (row : ℕ) (name : List ℕ) (base : Option Content) (cell : ℕ) → name ≡ s.name → base ≡ option_map (λ (h : Held). h.content) s.base → cell ≡ s.cell → ((h : Held) → s.base ≡ Some h → IsPlaced profile row s.name h)
+spot_by : (s : Spot) (profile : Profile) (row : ℕ) (name : List ℕ) (base : Option Content) (cell : ℕ)
+    → name ≡ s.name
+    → base ≡ option_map (λ (h : Held). h.content) s.base
+    → cell ≡ s.cell
+    → ((h : Held) → s.base ≡ Some h → IsPlaced profile row s.name h)
     → s ≡ record { name = name; base = option_map (held profile row name) base; cell = cell }
 spot_by s profile row name base cell named based celled p =
     let contents : Option Content = option_map (λ (h : Held). h.content) s.base in
@@ -65,7 +69,8 @@ spot_is profile rows row spot placed within read =
     let base : Spot → Option Content = λ s. option_map (λ (h : Held). h.content) s.base in
     let cell : Spot → ℕ = λ s. s.cell in
     get_or_read rows row spot within read no_spot
-    ∙ spot_by (get_or rows row no_spot) profile row (name_in (names_of rows) row) (file_at (base_of rows) row) (get_or (cells_of rows) row 0) (get_or-map name rows row no_spot) (get_or-map base rows row no_spot) (get_or-map cell rows row no_spot) (placed row)
+    ∙ spot_by (get_or rows row no_spot) profile row (name_in (names_of rows) row) (file_at (base_of rows) row) (get_or (cells_of rows) row 0)
+    (get_or-map name rows row no_spot) (get_or-map base rows row no_spot) (get_or-map cell rows row no_spot) (placed row)
 
 -- ---- what a pass knows
 
@@ -91,7 +96,13 @@ filled_files may stock sights is row c d base known =
       | inr n ↦ absurd (none-some b (sym n.0 ∙ there))
     ]
 
-pub placed_read : (profile : Profile) (stock : List Spot) (row : ℕ) (spot : Spot) → Placed profile stock → row < length stock → spot ≡ get_or stock row spot → (h : Held) → spot.base ≡ Some h → IsPlaced profile row spot.name h
+pub placed_read : (profile : Profile) (stock : List Spot) (row : ℕ) (spot : Spot)
+    → Placed profile stock
+    → row < length stock
+    → spot ≡ get_or stock row spot
+    → (h : Held)
+    → spot.base ≡ Some h
+    → IsPlaced profile row spot.name h
 placed_read profile stock row spot placed within read h is =
     let same : spot ≡ get_or stock row no_spot = get_or_read stock row spot within read no_spot in
     let at : (get_or stock row no_spot).base ≡ Some h = ap (λ (s : Spot). s.base) (sym same) ∙ is in
@@ -120,7 +131,13 @@ get_or_last sights s row e = grind (arith, common_steps)
 get_or_front : (sights : List Sight) (s : Sight) (row : ℕ) → row < length sights → get_or (sights ++ s ∷ []) row no_sight ≡ get_or sights row no_sight
 get_or_front sights s row e = grind (arith, common_steps)
 
-pub unseen_more : (stock : List Spot) (sights : List Sight) (n : ℕ) (spot : Spot) (s : Sight) → Unseen stock sights n → n < length stock → spot ≡ get_or stock n spot → s.cell ≡ spot.cell → s.shown ≡ None → Unseen stock (sights ++ s ∷ []) (n + 1)
+pub unseen_more : (stock : List Spot) (sights : List Sight) (n : ℕ) (spot : Spot) (s : Sight)
+    → Unseen stock sights n
+    → n < length stock
+    → spot ≡ get_or stock n spot
+    → s.cell ≡ spot.cell
+    → s.shown ≡ None
+    → Unseen stock (sights ++ s ∷ []) (n + 1)
 unseen_more stock sights n spot s u within read cell shown = let len = u.len in record {
   len = omega (arith, length-append sights (s ∷ []));
   each = λ row below.
@@ -132,7 +149,9 @@ unseen_more stock sights n spot s u within read cell shown = let len = u.len in 
             let place : spot ≡ get_or stock row no_spot = get_or_read stock n spot within read no_spot ∙ ap (λ k. get_or stock k no_spot) (sym is) in
             (ap (λ (x : Sight). x.cell) at ∙ (cell ∙ ap (λ (x : Spot). x.cell) place), ap (λ (x : Sight). x.shown) at ∙ shown)
       ];
-  files = map-append content_of_sight sights (s ∷ []) ∙ (ap (λ (f : Files). f ++ content_of_sight s ∷ []) u.files ∙ (ap (λ (o : Option Held). replicate n None ++ option_map (λ (h : Held). h.content) o ∷ []) shown ∙ replicate_more n None));
+  files = map-append content_of_sight sights (s ∷ [])
+      ∙ (ap (λ (f : Files). f ++ content_of_sight s ∷ []) u.files
+      ∙ (ap (λ (o : Option Held). replicate n None ++ option_map (λ (h : Held). h.content) o ∷ []) shown ∙ replicate_more n None));
 }
 
 pub unseen_pass : (may : List ℕ → Content → Type 0) (profile : Profile) (rows : List Spot) (sights : List Sight) → Unseen rows sights (length rows) → IsPass may (stock_of profile rows) sights
@@ -152,7 +171,12 @@ set_there : (xs : List Sight) (n row : ℕ) (s : Sight) → (row ≡ n → ⊥) 
 set_there xs n row s e = get_or-set_other xs n row s no_sight e
 
 -- a row that was looked at again leaves a pass of the shelf
-pub pass_set : (may : List ℕ → Content → Type 0) (stock : Stock) (sights : List Sight) (row : ℕ) (spot : Spot) (s : Sight) → IsPass may stock sights → row < length stock.names → spot ≡ spot_at stock row → FitsRow may stock.profile row spot s → IsPass may stock (set sights row s)
+pub pass_set : (may : List ℕ → Content → Type 0) (stock : Stock) (sights : List Sight) (row : ℕ) (spot : Spot) (s : Sight)
+    → IsPass may stock sights
+    → row < length stock.names
+    → spot ≡ spot_at stock row
+    → FitsRow may stock.profile row spot s
+    → IsPass may stock (set sights row s)
 pass_set may stock sights n spot s is w at fits = record {
   len = length-set sights n s ∙ is.len;
   rows = λ row within.
@@ -171,7 +195,12 @@ pass_set may stock sights n spot s is w at fits = record {
 
 -- ---- a row of a shelf that is looked at
 
-pub fits_at : (may : List ℕ → Content → Type 0) (profile : Profile) (rows : List Spot) (stock : Stock) (sights : List Sight) (row : ℕ) (spot : Spot) (s : Sight) → Placed profile rows → stock ≡ stock_of profile rows → row < length rows → spot ≡ get_or rows row spot → IsPass may stock sights
+pub fits_at : (may : List ℕ → Content → Type 0) (profile : Profile) (rows : List Spot) (stock : Stock) (sights : List Sight) (row : ℕ) (spot : Spot) (s : Sight)
+    → Placed profile rows
+    → stock ≡ stock_of profile rows
+    → row < length rows
+    → spot ≡ get_or rows row spot
+    → IsPass may stock sights
     → s ≡ get_or sights row s → FitsRow may profile row spot s
 fits_at may profile rows stock sights row spot s placed same w read is mine =
     let count : length (names_of rows) ≡ length rows = length-map rows (λ (x : Spot). x.name) in
@@ -183,12 +212,19 @@ fits_at may profile rows stock sights row spot s placed same w read is mine =
     let R : Profile → Type 0 = λ p. FitsRow may p row (spot_at stock row) (get_or sights row no_sight) in
     subst P (sym (get_or_read sights row s (omega arith) mine no_sight)) (subst Q (sym at) (subst R (ap (λ (x : Stock). x.profile) same) (is.rows row (omega arith))))
 
-pub shown_pass : (may : List ℕ → Content → Type 0) (profile : Profile) (rows : List Spot) (stock : Stock) (sights : List Sight) (row : ℕ) (spot : Spot) (s : Sight) → Placed profile rows → stock ≡ stock_of profile rows → row < length rows → spot ≡ get_or rows row spot → IsPass may stock sights
+pub shown_pass : (may : List ℕ → Content → Type 0) (profile : Profile) (rows : List Spot) (stock : Stock) (sights : List Sight) (row : ℕ) (spot : Spot)
+    (s : Sight)
+    → Placed profile rows
+    → stock ≡ stock_of profile rows
+    → row < length rows
+    → spot ≡ get_or rows row spot
+    → IsPass may stock sights
     → FitsRow may profile row spot s → IsPass may stock (set sights row s)
 shown_pass may profile rows stock sights row spot s placed same w read is fits =
     let count : length (names_of rows) ≡ length rows = length-map rows (λ (x : Spot). x.name) in
     let long : length stock.names ≡ length (names_of rows) = ap (λ (x : Stock). length x.names) same in
-    pass_set may stock sights row spot s is (omega arith) (spot_is profile rows row spot placed w read ∙ ap (λ (x : Stock). spot_at x row) (sym same)) (let R : Profile → Type 0 = λ p. FitsRow may p row spot s in subst R (ap (λ (x : Stock). x.profile) (sym same)) fits)
+    pass_set may stock sights row spot s is (omega arith) (spot_is profile rows row spot placed w read ∙ ap (λ (x : Stock). spot_at x row) (sym same))
+    (let R : Profile → Type 0 = λ p. FitsRow may p row spot s in subst R (ap (λ (x : Stock). x.profile) (sym same)) fits)
 
 -- two passes have met at the rows from n on
 pub record Met (may : List ℕ → Content → Type 0) (stock : Stock) (old other new : List Sight) (n : ℕ) : Type 0 where
@@ -219,7 +255,10 @@ met_more may stock old other new n spot mine theirs s m w at mine_read theirs_is
           elim (cases_eq row n) [
             | inl e ↦
                 let P : ℕ → Type 0 = λ k. (get_or (set new n s) k no_sight).shown ≡ or_else (get_or old k no_sight).shown (get_or other k no_sight).shown in
-                subst P (sym e) (ap (λ (x : Sight). x.shown) (set_here new n n s refl (omega arith)) ∙ (shown ∙ (ap (λ (x : Sight). or_else x.shown theirs.shown) old_is ∙ ap (λ (x : Sight). or_else (get_or old n no_sight).shown x.shown) theirs_is)))
+                subst P (sym e)
+                (ap (λ (x : Sight). x.shown) (set_here new n n s refl (omega arith))
+                ∙ (shown
+                ∙ (ap (λ (x : Sight). or_else x.shown theirs.shown) old_is ∙ ap (λ (x : Sight). or_else (get_or old n no_sight).shown x.shown) theirs_is)))
             | inr e ↦ ap (λ (x : Sight). x.shown) (set_there new n row s e) ∙ m.joined row (omega arith) within
           ];
       agree = λ row above within h k a b.
@@ -241,7 +280,11 @@ or_else_content : (a b : Option Held) → option_map (λ (h : Held). h.content) 
 or_else_content None b = refl
 or_else_content (Some h) b = refl
 
-pub met_joined : (may : List ℕ → Content → Type 0) (stock : Stock) (old other new : List Sight) → Met may stock old other new 0 → length old ≡ length stock.names → length other ≡ length stock.names → Joined (files_of old) (files_of other) (files_of new)
+pub met_joined : (may : List ℕ → Content → Type 0) (stock : Stock) (old other new : List Sight)
+    → Met may stock old other new 0
+    → length old ≡ length stock.names
+    → length other ≡ length stock.names
+    → Joined (files_of old) (files_of other) (files_of new)
 met_joined may stock old other new m lo lt row =
     let ln = m.is.len in
     let cs : List Sight → Option Content = λ xs. content_of_sight (get_or xs row no_sight) in
@@ -260,7 +303,12 @@ popped_last other items len n theirs is value e = grind (arith, common_steps)
 pub popped_rest : (other items rest : List Sight) (len n : ℕ) → items ≡ take len other → rest ≡ take (len - 1) items → n + 1 ≡ len → rest ≡ take n other
 popped_rest other items rest len n is value e = grind (arith, common_steps)
 
-pub fits_read : (may : List ℕ → Content → Type 0) (stock : Stock) (sights : List Sight) (row : ℕ) (spot : Spot) (s : Sight) → IsPass may stock sights → row < length stock.names → spot ≡ spot_at stock row → s ≡ get_or sights row no_sight → FitsRow may stock.profile row spot s
+pub fits_read : (may : List ℕ → Content → Type 0) (stock : Stock) (sights : List Sight) (row : ℕ) (spot : Spot) (s : Sight)
+    → IsPass may stock sights
+    → row < length stock.names
+    → spot ≡ spot_at stock row
+    → s ≡ get_or sights row no_sight
+    → FitsRow may stock.profile row spot s
 fits_read may stock sights row spot s is w read at =
     let P : Sight → Type 0 = λ x. FitsRow may stock.profile row spot x in
     let Q : Spot → Type 0 = λ x. FitsRow may stock.profile row x (get_or sights row no_sight) in

@@ -25,7 +25,12 @@ same_row profile gives row s = record { name = refl; cell = refl; stays = λ h e
 pub none_filled : (profile : Profile) (gives : ℕ → List ℕ → Content → Type 0) (old : List Spot) → Filling profile gives old old 0
 none_filled profile gives old = record { turned = record { len = refl; rows = λ row w. same_row profile gives row (get_or old row no_spot) }; full = λ row w. absurd (omega arith); ahead = λ row w. refl }
 
-pub turned_set : (profile : Profile) (gives : ℕ → List ℕ → Content → Type 0) (old new : List Spot) (n : ℕ) (mine s : Spot) → Filling profile gives old new n → n < length old → mine ≡ get_or new n mine → FilledRow (gives n) profile n mine s → Turned profile gives old (set new n s)
+pub turned_set : (profile : Profile) (gives : ℕ → List ℕ → Content → Type 0) (old new : List Spot) (n : ℕ) (mine s : Spot)
+    → Filling profile gives old new n
+    → n < length old
+    → mine ≡ get_or new n mine
+    → FilledRow (gives n) profile n mine s
+    → Turned profile gives old (set new n s)
 turned_set profile gives old new n mine s f w read turned =
     let len = f.turned.len in
     let at : mine ≡ get_or old n no_spot = get_or_read new n mine (omega arith) read no_spot ∙ f.ahead n (omega arith) in
@@ -44,7 +49,12 @@ turned_set profile gives old new n mine s f w read turned =
           ];
     }
 
-pub filling_more : (profile : Profile) (gives : ℕ → List ℕ → Content → Type 0) (old new : List Spot) (n : ℕ) (mine s : Spot) → Filling profile gives old new n → n < length old → mine ≡ get_or new n mine → FilledRow (gives n) profile n mine s → IsSome s.base
+pub filling_more : (profile : Profile) (gives : ℕ → List ℕ → Content → Type 0) (old new : List Spot) (n : ℕ) (mine s : Spot)
+    → Filling profile gives old new n
+    → n < length old
+    → mine ≡ get_or new n mine
+    → FilledRow (gives n) profile n mine s
+    → IsSome s.base
     → Filling profile gives old (set new n s) (n + 1)
 filling_more profile gives old new n mine s f w read turned some = let len = f.turned.len in record {
   turned = turned_set profile gives old new n mine s f w read turned;
@@ -96,12 +106,17 @@ cells_turned profile gives old new t =
     let before : row < length old = let l = t.len in omega arith in
     get_or-map cell new row no_spot 0 within ∙ ((t.rows row before).cell ∙ sym (get_or-map cell old row no_spot 0 before)))
 
-filled_by : (P : Content → Type 0) (old new : Option Held) → ((h : Held) → old ≡ Some h → new ≡ Some h) → ((h : Held) → old ≡ None → new ≡ Some h → P h.content) → Filled P (option_map (λ (h : Held). h.content) old) (option_map (λ (h : Held). h.content) new)
+filled_by : (P : Content → Type 0) (old new : Option Held)
+    → ((h : Held) → old ≡ Some h → new ≡ Some h)
+    → ((h : Held) → old ≡ None → new ≡ Some h → P h.content)
+    → Filled P (option_map (λ (h : Held). h.content) old) (option_map (λ (h : Held). h.content) new)
 filled_by P (Some h) new stays put = ap (option_map (λ (h : Held). h.content)) (stays h refl)
 filled_by P None None stays put = tt
 filled_by P None (Some h) stays put = put h refl refl
 
-filled_row : (gives : List ℕ → Content → Type 0) (profile : Profile) (row : ℕ) (old new : Spot) → FilledRow gives profile row old new → Filled (gives old.name) (option_map (λ (h : Held). h.content) old.base) (option_map (λ (h : Held). h.content) new.base)
+filled_row : (gives : List ℕ → Content → Type 0) (profile : Profile) (row : ℕ) (old new : Spot)
+    → FilledRow gives profile row old new
+    → Filled (gives old.name) (option_map (λ (h : Held). h.content) old.base) (option_map (λ (h : Held). h.content) new.base)
 filled_row gives profile row old new f =
     filled_by (gives old.name) old.base new.base f.stays (λ h was now.
     let l = f.put h was now in
@@ -173,13 +188,21 @@ bytes_here contents row n bytes e t =
     subst P (sym e) (t.0, at)
 
 -- a row to which these bytes were moved has the content of its place
-pub given_row : (contents : List (Vec ℕ Global)) (profile : Profile) (row : ℕ) (bytes : List ℕ) (old new : Spot) → bytes ≡ bytes_at contents row → FilledRow (λ name c. c ≡ readable bytes) profile row old new → FilledRow (given contents row) profile row old new
+pub given_row : (contents : List (Vec ℕ Global)) (profile : Profile) (row : ℕ) (bytes : List ℕ) (old new : Spot)
+    → bytes ≡ bytes_at contents row
+    → FilledRow (λ name c. c ≡ readable bytes) profile row old new
+    → FilledRow (given contents row) profile row old new
 given_row contents profile row bytes old new e f =
     let P : List ℕ → Type 0 = λ b. FilledRow (λ (name : List ℕ) (c : Content). c ≡ readable b) profile row old new in
     subst P e f
 
 -- what is lawful for a row by its name is lawful for what stands there now
-pub lawful_here : (profile : Profile) (may : List ℕ → Content → Type 0) (gives : ℕ → List ℕ → Content → Type 0) (old new : List Spot) (row : ℕ) (mine : Spot) (bytes theirs : List ℕ) → Filling profile gives old new row → row < length old → mine ≡ get_or new row mine → bytes ≡ theirs
+pub lawful_here : (profile : Profile) (may : List ℕ → Content → Type 0) (gives : ℕ → List ℕ → Content → Type 0) (old new : List Spot) (row : ℕ) (mine : Spot)
+    (bytes theirs : List ℕ)
+    → Filling profile gives old new row
+    → row < length old
+    → mine ≡ get_or new row mine
+    → bytes ≡ theirs
     → Lawful may (name_in (names_of old) row) (readable theirs) → Lawful may mine.name (readable bytes)
 lawful_here profile may gives old new row mine bytes theirs f w read same lawful =
     let len = f.turned.len in

@@ -35,7 +35,12 @@ none_placed profile stock n e row h is =
     absurd (none-some h.content (sym (all_none n row) ∙ (ap (λ (f : Files). get_or f row None) (sym e) ∙ (get_or-map base stock row no_spot ∙ ap (λ (o : Option Held). option_map (λ (x : Held). x.content) o) is))))
 
 -- rows of these names, of which none is filled
-pub empty_shelf : (profile : Profile) (names : List (List ℕ)) (stock : List Spot) (n : ℕ) → names_of stock ≡ names → base_of stock ≡ replicate n None → length names ≤ most_rows → AreNames names → IsShelf profile names stock
+pub empty_shelf : (profile : Profile) (names : List (List ℕ)) (stock : List Spot) (n : ℕ)
+    → names_of stock ≡ names
+    → base_of stock ≡ replicate n None
+    → length names ≤ most_rows
+    → AreNames names
+    → IsShelf profile names stock
 empty_shelf profile names stock n named base small form = record {
   small = let l = length-map stock (λ (s : Spot). s.name) in let m = ap length named in omega arith;
   named = sym named;

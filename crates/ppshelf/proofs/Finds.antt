@@ -1,5 +1,6 @@
 -- The first of several names that a shelf has.
-use Rattle.std.proofs.Common.{◌≡◌, ℕ, ◌+◌, suc, ◌<◌, ◌≤◌, List, [], ◌∷◌, ◌++◌, length, get_or, drop, drop-cons, Option, Some, None, IfSome, IsSome, is_some, false, refl, sym, ap, ◌∙◌, subst, arith, inl, inr}
+use Rattle.std.proofs.Common.{◌≡◌, ℕ, ◌+◌, suc, ◌<◌, ◌≤◌, List, [], ◌∷◌, ◌++◌, length, get_or, drop, drop-cons, Option, Some, None}
+use Rattle.std.proofs.Common.{IfSome, IsSome, is_some, false, refl, sym, ap, ◌∙◌, subst, arith, inl, inr}
 use Rattle.std.proofs.lemmas.Grind.{common_steps}
 use Rattle.std.proofs.lemmas.Bool.{cases_lt, false≢true}
 use Rattle.ppshelf.specs.Names.{AreNames, IsRowOf}
@@ -42,7 +43,12 @@ module _ (names : List (List ℕ)) where
       let next : suc i ≡ i + 1 = omega arith in
       drop-cons folders i [] within ∙ (ap (λ (x : List ℕ). x ∷ drop (suc i) folders) (sym is) ∙ ap (λ k. folder ∷ drop k folders) next)
 
-  pub pass_over : (folders : List (List ℕ)) (text : List ℕ) (i : ℕ) (folder : List ℕ) (row : Option ℕ) → Passed folders text i → i < length folders → folder ≡ get_or folders i [] → is_some row ≡ false → IsFirstRow names (spelled (lead (lead (Some []) folder) text)) row
+  pub pass_over : (folders : List (List ℕ)) (text : List ℕ) (i : ℕ) (folder : List ℕ) (row : Option ℕ)
+      → Passed folders text i
+      → i < length folders
+      → folder ≡ get_or folders i []
+      → is_some row ≡ false
+      → IsFirstRow names (spelled (lead (lead (Some []) folder) text)) row
       → Passed folders text (i + 1)
   pass_over folders text i folder (Some row) p within is other none = absurd (false≢true (sym other))
   pass_over folders text i folder None p within is other none = record {
@@ -51,7 +57,12 @@ module _ (names : List (List ℕ)) where
         p.rest later (subst P (sym (there folders text i folder within is)) (first_later (spelled (lead (lead (Some []) folder) text)) (inside (drop (i + 1) folders) text) later none h));
   }
 
-  pub found_here : (folders : List (List ℕ)) (text : List ℕ) (i : ℕ) (folder : List ℕ) (row : Option ℕ) → Passed folders text i → i < length folders → folder ≡ get_or folders i [] → IsSome row → IsFirstRow names (spelled (lead (lead (Some []) folder) text)) row
+  pub found_here : (folders : List (List ℕ)) (text : List ℕ) (i : ℕ) (folder : List ℕ) (row : Option ℕ)
+      → Passed folders text i
+      → i < length folders
+      → folder ≡ get_or folders i []
+      → IsSome row
+      → IsFirstRow names (spelled (lead (lead (Some []) folder) text)) row
       → IsFirstRow names (inside folders text) row
   found_here folders text i folder row p within is some h =
       let P : List (List ℕ) → Type 0 = λ fs. IsFirstRow names (inside fs text) row in
@@ -71,7 +82,13 @@ module _ (names : List (List ℕ)) where
   pub found_second : (xs ys zs : List (List ℕ)) (first row : Option ℕ) → is_some first ≡ false → IsFirstRow names xs first → IsSome row → IsFirstRow names ys row → IsFirstRow names (xs ++ (ys ++ zs)) row
   found_second xs ys zs first row other none some h = first_later xs (ys ++ zs) row (none_of xs first other none) (first_here ys zs row h some)
 
-  pub found_third : (xs ys zs : List (List ℕ)) (first second row : Option ℕ) → is_some first ≡ false → IsFirstRow names xs first → is_some second ≡ false → IsFirstRow names ys second → IsFirstRow names zs row → IsFirstRow names (xs ++ (ys ++ zs)) row
+  pub found_third : (xs ys zs : List (List ℕ)) (first second row : Option ℕ)
+      → is_some first ≡ false
+      → IsFirstRow names xs first
+      → is_some second ≡ false
+      → IsFirstRow names ys second
+      → IsFirstRow names zs row
+      → IsFirstRow names (xs ++ (ys ++ zs)) row
   found_third xs ys zs first second row other none other_too none_too h = first_later xs (ys ++ zs) row (none_of xs first other none) (first_later ys zs row (none_of ys second other_too none_too) h)
 
 same_row : (names : List (List ℕ)) → AreNames names → (c : List ℕ) (a b : Option ℕ) → IsSome a → IsRowOf names c a → IsSome b → IsRowOf names c b → a ≡ b

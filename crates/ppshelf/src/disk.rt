@@ -1,5 +1,5 @@
 // Where files are read from.
-ghost use Rattle.std.specs.Prelude.{◌≡◌, ℕ, List, IfOk, IfErr};
+ghost use Rattle.std.specs.Prelude.{ℕ, List, IfOk, IfErr};
 ghost use Rattle.ppshelf.specs.Content.{Content, unreadable, readable};
 ghost use Rattle.ppshelf.specs.Faults.{IfUnreadable};
 

@@ -1,9 +1,9 @@
 // A kept content with its row, its name and the profile that it was read by.
-ghost use Rattle.std.specs.Prelude.{◌≡◌, ℕ, ◌<◌, ◌≤◌, ◌↔◌, List, length, Option, Ok, Err, option_copied};
+ghost use Rattle.std.specs.Prelude.{◌≡◌, ◌<◌, ◌≤◌, ◌↔◌, length, Ok, Err, option_copied};
 ghost use Rattle.std.specs.Prelude.{IfOk, IfSome, IsTrue, MatchOption, MatchResult, OnErr};
 ghost use Rattle.std.specs.String.{string_bytes};
 ghost use Rattle.pptext.specs.Sources.{Reads};
-ghost use Rattle.ppshelf.specs.Content.{Content, unreadable, readable, Lawful, longest, content_of, IsRead};
+ghost use Rattle.ppshelf.specs.Content.{unreadable, readable, Lawful, longest, content_of, IsRead};
 ghost use Rattle.ppshelf.specs.Files.{most_rows};
 ghost use Rattle.ppshelf.specs.Parsed.{parsed_content, HasReading};
 ghost use Rattle.ppshelf.specs.Shelved.{Held, IsPlaced};
@@ -30,9 +30,8 @@ pub struct Loaded<D: Disk> {
 }
 
 impl<D: Disk> Model for Loaded<D> {
-    ghost use Rattle.std.specs.Prelude.{ℕ, List};
     ghost use Rattle.std.specs.String.{string_bytes};
-    ghost use Rattle.ppshelf.specs.Content.{Content, Lawful};
+    ghost use Rattle.ppshelf.specs.Content.{Lawful};
     ghost use Rattle.ppshelf.specs.Shelved.{Held};
     ghost use Rattle.ppshelf.specs.Parsed.{parsed_content, HasReading};
 

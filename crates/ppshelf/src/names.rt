@@ -1,6 +1,6 @@
 // Names of files and folders.
-ghost use Rattle.std.specs.Prelude.{◌≡◌, ◌==◌};
-ghost use Rattle.std.specs.List.{list_all, slice_split};
+ghost use Rattle.std.specs.Prelude.{◌≡◌};
+ghost use Rattle.std.specs.List.{list_all};
 ghost use Rattle.ppshelf.specs.Names as spec;
 
 const LONGEST_NAME: usize = 1024;

@@ -1,5 +1,5 @@
 // Paths of included files.
-ghost use Rattle.std.specs.Prelude.{◌≡◌, ◌∷◌, [], ◌==◌, if◌then◌else◌, ℕ, List, length, ◌<◌, IfOk, IfSome, OnOk, ◌++◌, Some, None, option_copied};
+ghost use Rattle.std.specs.Prelude.{◌≡◌, ◌∷◌, [], if◌then◌else◌, ℕ, List, length, ◌<◌, IfOk, IfSome, OnOk, ◌++◌, Some, None, option_copied};
 ghost use Rattle.std.specs.List.{join_with_byte};
 ghost use Rattle.ppshelf.specs.Names.{segments, segments_left};
 ghost use Rattle.ppshelf.specs.Search as spec;

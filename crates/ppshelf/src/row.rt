@@ -1,5 +1,5 @@
 // Rows that are filled once, and what callers know of them.
-ghost use Rattle.std.specs.Prelude.{◌≡◌, ℕ, ◌<◌, IfOk, OnErr, OnOk, IsSome, IfSome, IsOkAnd, Some, None};
+ghost use Rattle.std.specs.Prelude.{◌≡◌, ◌<◌, IfOk, OnErr, OnOk, IsSome, IfSome, IsOkAnd, Some, None};
 ghost use Rattle.std.specs.String.{string_bytes};
 ghost use Rattle.ppshelf.specs.Content.{Lawful, readable};
 ghost use Rattle.ppshelf.specs.Files.{most_rows, or_else};

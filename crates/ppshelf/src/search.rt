@@ -1,5 +1,5 @@
 // The search for included files (6.10.2).
-ghost use Rattle.std.specs.Prelude.{◌≡◌, ◌<◌, ℕ, List, length, map, IfOk, IfSome, Some, []};
+ghost use Rattle.std.specs.Prelude.{◌<◌, length, map, IfOk, IfSome, Some, []};
 ghost use Rattle.std.specs.String.{string_bytes};
 ghost use Rattle.ppshelf.specs.Names.{name_in};
 ghost use Rattle.ppshelf.specs.Search as spec;

@@ -1,4 +1,4 @@
-ghost use Rattle.std.specs.Prelude.{◌≡◌, ℕ, ◌≤◌, IfOk, length};
+ghost use Rattle.std.specs.Prelude.{◌≡◌, ◌≤◌, IfOk, length};
 ghost use Rattle.std.specs.Vec.{vec_len};
 ghost use Rattle.ppshelf.specs.Files.{most_rows};
 
@@ -26,8 +26,6 @@ struct Counting {
 }
 
 impl Disk for Counting {
-    ghost use Rattle.std.specs.Prelude.{ℕ};
-
     ghost may = { λ name c. Unit {0} };
 
     ghost gives = { λ disk name c. Unit {0} };

@@ -61,7 +61,11 @@ pub same_line : (ls now : List Line) (behind : List ℕ) (at : ℕ) (d : Line) �
 same_line ls now behind at d l sofar =
     ap (λ (z : List Line). get_or z at d) (line_there ls now behind at d l sofar) ∙ get_or_at (take at ls) (get_or ls at d) (linked (at + 1) (drop (at + 1) ls)) d at (length-take-le at ls (omega arith))
 
-pub linked_step : (ls now : List Line) (behind after : List ℕ) (at : ℕ) (d : Line) (next : Option ℕ) → at < length ls → LinkedFrom ls (at + 1) now behind → (next, after) ≡ step_back at (line_role (get_or now at d)) behind → LinkedFrom ls at (set now at (record (get_or now at d) { next_branch = next })) after
+pub linked_step : (ls now : List Line) (behind after : List ℕ) (at : ℕ) (d : Line) (next : Option ℕ)
+    → at < length ls
+    → LinkedFrom ls (at + 1) now behind
+    → (next, after) ≡ step_back at (line_role (get_or now at d)) behind
+    → LinkedFrom ls at (set now at (record (get_or now at d) { next_branch = next })) after
 linked_step ls now behind after at d next l sofar e =
     let x = get_or ls at d in
     let rest = drop (at + 1) ls in
@@ -71,7 +75,11 @@ linked_step ls now behind after at d next l sofar e =
     let step : (next, after) ≡ step_back at (line_role x) (branches (at + 1) roles) = e ∙ ap (λ (z : Line). step_back at (line_role z) behind) same ∙ ap (λ (z : List ℕ). step_back at (line_role x) z) sofar.stack in
     let branch : next ≡ branch_of at (line_role x) roles = ap (λ (z : Option ℕ × List ℕ). z.0) step ∙ step_is at (line_role x) roles in
     record {
-      lines = ap (λ (z : Line). set now at (record z { next_branch = next })) same ∙ ap (λ (z : List Line). set z at (record x { next_branch = next })) (line_there ls now behind at d l sofar) ∙ set_at (take at ls) x (linked (at + 1) rest) (record x { next_branch = next }) at (length-take-le at ls (omega arith)) ∙ ap (λ (z : Option ℕ). take at ls ++ record x { next_branch = z } ∷ linked (at + 1) rest) branch ∙ ap (λ (z : List Line). take at ls ++ linked at z) (sym more);
+      lines = ap (λ (z : Line). set now at (record z { next_branch = next })) same
+          ∙ ap (λ (z : List Line). set z at (record x { next_branch = next })) (line_there ls now behind at d l sofar)
+          ∙ set_at (take at ls) x (linked (at + 1) rest) (record x { next_branch = next }) at (length-take-le at ls (omega arith))
+          ∙ ap (λ (z : Option ℕ). take at ls ++ record x { next_branch = z } ∷ linked (at + 1) rest) branch
+          ∙ ap (λ (z : List Line). take at ls ++ linked at z) (sym more);
       stack = ap (λ (z : Option ℕ × List ℕ). z.1) step ∙ ap (λ (z : List Line). branches at (map line_role z)) (sym more);
     }
 
@@ -98,7 +106,10 @@ linked_drafts k start [] = refl
 linked_drafts k start (r ∷ rs) =
     let stop = start + length r.tokens in
     let next : branch_of k (role r) (map line_role (drafts stop rs)) ≡ next_branch k (role r) rs = ap (branch_of k (role r)) (draft_roles stop rs) ∙ branch_next k (role r) rs in
-    ap (λ (z : Option ℕ). record { start = start; end = stop; number = r.number; directive = r.directive; next_branch = z } ∷ linked (k + 1) (drafts stop rs)) next ∙ ap (λ (z : List Line). record { start = start; end = stop; number = r.number; directive = r.directive; next_branch = next_branch k (role r) rs } ∷ z) (linked_drafts (k + 1) stop rs)
+    ap (λ (z : Option ℕ). record { start = start; end = stop; number = r.number; directive = r.directive; next_branch = z } ∷ linked (k + 1) (drafts stop rs))
+    next
+    ∙ ap (λ (z : List Line). record { start = start; end = stop; number = r.number; directive = r.directive; next_branch = next_branch k (role r) rs } ∷ z)
+    (linked_drafts (k + 1) stop rs)
 
 -- a link changes no line
 rows_of_linked : (ts : List Token) (k : ℕ) (ls : List Line) → lines_from ts (linked k ls) ≡ lines_from ts ls

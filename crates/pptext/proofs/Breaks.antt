@@ -1,5 +1,6 @@
 -- Stretches of bytes that are characters of their own, and tables of the breaks between them.
-use Rattle.std.proofs.Common.{◌≡◌, ℕ, zero, suc, ◌⊎◌, inl, inr, ◌+◌, ◌-◌, ◌<◌, ◌≤◌, Bool, true, false, ◌==◌, ◌||◌, if◌then◌else◌, List, [], ◌∷◌, ◌++◌, length, drop, get_or, refl, sym, ap, ◌∙◌, subst, arith, Option, None, Some, length-drop, append_assoc, add-zero}
+use Rattle.std.proofs.Common.{◌≡◌, ℕ, zero, suc, ◌⊎◌, inl, inr, ◌+◌, ◌-◌, ◌<◌, ◌≤◌, Bool, true, false, ◌==◌, ◌||◌, if◌then◌else◌, List, [], ◌∷◌, ◌++◌, length}
+use Rattle.std.proofs.Common.{drop, get_or, refl, sym, ap, ◌∙◌, subst, arith, Option, None, Some, length-drop, append_assoc, add-zero}
 use Rattle.std.proofs.lemmas.Bool.{false≢true, cases_lt}
 use Rattle.std.proofs.lemmas.List.{drop_more, drop-drop, drop_all, get_or-drop, get_or_past, append-nil}
 use Rattle.pptext.specs.declared.characters.steps.Step.TheVariants.{Code, Removed}
@@ -137,7 +138,13 @@ begun_none s raw = record { fits = omega arith; table = λ ns h. h }
 pub behind_at : (s : Bool) (raw : List ℕ) (offset len : ℕ) → step_len (step_of s (drop offset raw)) ≡ len → behind_break s (drop offset raw) ≡ drop (offset + len) raw
 behind_at s raw offset len is = ap (λ k. drop k (drop offset raw)) is ∙ drop-drop len offset raw
 
-pub begun_more : (s : Bool) (raw : List ℕ) (start n len : ℕ) (done : List ℕ) → Begun s raw start done → n < length (drop start raw) → Stretch s (drop start raw) n → step_len (step_of s (drop (start + n) raw)) ≡ len → start + n + len ≤ length raw → Begun s raw (start + n + len) (done ++ n ∷ [])
+pub begun_more : (s : Bool) (raw : List ℕ) (start n len : ℕ) (done : List ℕ)
+    → Begun s raw start done
+    → n < length (drop start raw)
+    → Stretch s (drop start raw) n
+    → step_len (step_of s (drop (start + n) raw)) ≡ len
+    → start + n + len ≤ length raw
+    → Begun s raw (start + n + len) (done ++ n ∷ [])
 begun_more s raw start n len done h room stretch is fits = record {
   fits = fits;
   table = λ ns rest. subst (IsTable s raw) (sym (append_assoc done (n ∷ []) ns)) (h.table (n ∷ ns) (room, stretch, subst (λ z. IsTable s z ns) behind rest));
@@ -157,7 +164,9 @@ drop_nil (suc n) = refl
 nothing : (s : Bool) → Stretch s [] 0
 nothing s = record { front = record { fits = omega arith; own = λ k lt. absurd (omega arith) }; stops = λ lt. absurd (omega arith) }
 
-pub table_next : (s : Bool) (bs breaks : List ℕ) (next : ℕ) → IsTable s bs (drop next breaks) → Stretch s bs (get_or breaks next (length bs)) × IsTable s (behind_break s (drop (get_or breaks next (length bs)) bs)) (drop (next + 1) breaks)
+pub table_next : (s : Bool) (bs breaks : List ℕ) (next : ℕ)
+    → IsTable s bs (drop next breaks)
+    → Stretch s bs (get_or breaks next (length bs)) × IsTable s (behind_break s (drop (get_or breaks next (length bs)) bs)) (drop (next + 1) breaks)
 table_next s bs breaks next h = by (cases_lt next (length breaks))
   where
     by : (next < length breaks) ⊎ (length breaks ≤ next) → Stretch s bs (get_or breaks next (length bs)) × IsTable s (behind_break s (drop (get_or breaks next (length bs)) bs)) (drop (next + 1) breaks)

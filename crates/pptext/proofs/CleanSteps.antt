@@ -1,5 +1,6 @@
 -- One step of phases 1 and 2 in one reading, against the three passes.
-use Rattle.std.proofs.Common.{◌≡◌, ℕ, zero, suc, ◌+◌, ◌<◌, ◌≤◌, Bool, true, false, ◌==◌, ◌&&◌, if◌then◌else◌, List, [], ◌∷◌, ◌++◌, length, take, drop, refl, sym, ap, ◌∙◌, subst, arith, Option, None, Some, length-append, length-drop}
+use Rattle.std.proofs.Common.{◌≡◌, ℕ, zero, suc, ◌+◌, ◌<◌, ◌≤◌, Bool, true, false, ◌==◌, ◌&&◌, if◌then◌else◌, List, [], ◌∷◌, ◌++◌, length, take}
+use Rattle.std.proofs.Common.{drop, refl, sym, ap, ◌∙◌, subst, arith, Option, None, Some, length-append, length-drop}
 use Rattle.std.proofs.lemmas.Bool.{false≢true, and_parts, eqb-true, ne_eqb}
 use Rattle.std.proofs.Math.Bool.{and-false}
 use Rattle.std.proofs.lemmas.Bool.Decides.{nat_tests}
@@ -199,7 +200,12 @@ if_not false x y p q = q
 
 trigraph_not : (n : ℕ) → (trigraph n == 10) ≡ false
 trigraph_not n =
-    if_not (n == 61) 35 _ refl (if_not (n == 40) 91 _ refl (if_not (n == 47) 92 _ refl (if_not (n == 41) 93 _ refl (if_not (n == 39) 94 _ refl (if_not (n == 60) 123 _ refl (if_not (n == 33) 124 _ refl (if_not (n == 62) 125 _ refl (if_not (n == 45) 126 0 refl refl))))))))
+    if_not (n == 61) 35 _ refl
+    (if_not (n == 40) 91 _ refl
+    (if_not (n == 47) 92 _ refl
+    (if_not (n == 41) 93 _ refl
+    (if_not (n == 39) 94 _ refl
+    (if_not (n == 60) 123 _ refl (if_not (n == 33) 124 _ refl (if_not (n == 62) 125 _ refl (if_not (n == 45) 126 0 refl refl))))))))
 
 trigraph_at_not : (cs : List Char) → (trigraph_at cs == 10) ≡ false
 trigraph_at_not [] = refl
@@ -320,7 +326,12 @@ as_code s e c cs code k lt fits is other =
     }
 
 -- a backslash and a new-line that the file or its end has
-splice_more : (s : Bool) (e : Place) (c : Char) (cs : List Char) (code k m : ℕ) → k ≤ suc (length cs) → logical s e (c ∷ cs) ≡ record { code = code; at = c.at } ∷ logical s e (drop k (c ∷ cs)) → code ≡ 92 → NewLine s e (drop k (c ∷ cs)) m → k + m < suc (length cs)
+splice_more : (s : Bool) (e : Place) (c : Char) (cs : List Char) (code k m : ℕ)
+    → k ≤ suc (length cs)
+    → logical s e (c ∷ cs) ≡ record { code = code; at = c.at } ∷ logical s e (drop k (c ∷ cs))
+    → code ≡ 92
+    → NewLine s e (drop k (c ∷ cs)) m
+    → k + m < suc (length cs)
     → (splices (logical s e (c ∷ cs)) ≡ splices (logical s e (drop (k + m) (c ∷ cs)))) × (splice_at_end (logical s e (c ∷ cs)) ≡ splice_at_end (logical s e (drop (k + m) (c ∷ cs))))
 splice_more s e c cs code k zero fits is p line lt =
     let l = length-drop k (c ∷ cs) in
@@ -338,7 +349,13 @@ splice_more s e c cs code k (suc m) fits is p line lt =
       ap splice_at_end (is ∙ ap (λ z. x ∷ z) f.2) ∙ end_more x f.0 ys f.1 (logical_some s e (drop (suc m) rest) (omega arith)) ∙ ap (λ z. splice_at_end (logical s e z)) same,
     )
 
-splice_last : (s : Bool) (e : Place) (c : Char) (cs : List Char) (code k m : ℕ) → k ≤ suc (length cs) → logical s e (c ∷ cs) ≡ record { code = code; at = c.at } ∷ logical s e (drop k (c ∷ cs)) → code ≡ 92 → NewLine s e (drop k (c ∷ cs)) m → k + m ≡ suc (length cs) → s ≡ open_end (codes_of (c ∷ cs))
+splice_last : (s : Bool) (e : Place) (c : Char) (cs : List Char) (code k m : ℕ)
+    → k ≤ suc (length cs)
+    → logical s e (c ∷ cs) ≡ record { code = code; at = c.at } ∷ logical s e (drop k (c ∷ cs))
+    → code ≡ 92
+    → NewLine s e (drop k (c ∷ cs)) m
+    → k + m ≡ suc (length cs)
+    → s ≡ open_end (codes_of (c ∷ cs))
     → splice_at_end (logical s e (c ∷ cs)) ≡ Some c.at
 splice_last s e c cs code k zero fits is p line lt o =
     let x : Char = record { code = code; at = c.at } in
@@ -356,7 +373,13 @@ splice_last s e c cs code k (suc m) fits is p line lt o =
     let none = drop_all (suc m) rest (omega arith) in
     ap splice_at_end (is ∙ ap (λ z. x ∷ z) f.2 ∙ ap (λ z. x ∷ f.0 ∷ logical s e z) none ∙ ap (λ t. x ∷ f.0 ∷ logical t e []) closed) ∙ end_here x f.0 p f.1
 
-as_splice : (s : Bool) (e : Place) (c : Char) (cs : List Char) (code k m : ℕ) → 0 < k → k ≤ suc (length cs) → logical s e (c ∷ cs) ≡ record { code = code; at = c.at } ∷ logical s e (drop k (c ∷ cs)) → code ≡ 92 → NewLine s e (drop k (c ∷ cs)) m → RemovedStep s e c cs (k + m)
+as_splice : (s : Bool) (e : Place) (c : Char) (cs : List Char) (code k m : ℕ)
+    → 0 < k
+    → k ≤ suc (length cs)
+    → logical s e (c ∷ cs) ≡ record { code = code; at = c.at } ∷ logical s e (drop k (c ∷ cs))
+    → code ≡ 92
+    → NewLine s e (drop k (c ∷ cs)) m
+    → RemovedStep s e c cs (k + m)
 as_splice s e c cs code k m lt fits is p line =
     let l = length-drop k (c ∷ cs) in
     let f = line.fits in
@@ -369,7 +392,11 @@ as_splice s e c cs code k m lt fits is p line =
     }
 
 -- a character in front, spliced or not
-as_coded : (s : Bool) (e : Place) (c : Char) (cs : List Char) (code k : ℕ) → 0 < k → k ≤ suc (length cs) → logical s e (c ∷ cs) ≡ record { code = code; at = c.at } ∷ logical s e (drop k (c ∷ cs)) → Outcome s e c cs (coded s (codes_of (c ∷ cs)) code k)
+as_coded : (s : Bool) (e : Place) (c : Char) (cs : List Char) (code k : ℕ)
+    → 0 < k
+    → k ≤ suc (length cs)
+    → logical s e (c ∷ cs) ≡ record { code = code; at = c.at } ∷ logical s e (drop k (c ∷ cs))
+    → Outcome s e c cs (coded s (codes_of (c ∷ cs)) code k)
 as_coded s e c cs code k lt fits is = by (code == 92) refl
   where
     rest : List Char
@@ -418,7 +445,13 @@ outcome s e c cs = first (return_front (codes_of (c ∷ cs))) refl
     second r true z = one r z
     second r false z = three_bytes z
 
-    first : (t : Bool) → return_front (codes_of (c ∷ cs)) ≡ t → Outcome s e c cs (if t then Removed 1 else (if trigraph_front (codes_of (c ∷ cs)) == 0 then coded s (codes_of (c ∷ cs)) c.code 1 else coded s (codes_of (c ∷ cs)) (trigraph_front (codes_of (c ∷ cs))) 3))
+    first : (t : Bool)
+        → return_front (codes_of (c ∷ cs)) ≡ t
+        → Outcome s e c cs
+        (if t then Removed 1
+        else (if trigraph_front (codes_of (c ∷ cs)) == 0 then coded s (codes_of (c ∷ cs)) c.code 1
+        else coded s (codes_of (c ∷ cs)) (trigraph_front (codes_of (c ∷ cs))) 3))
     first true h = as_return s e c cs (sym (return_same (c ∷ cs)) ∙ h)
     first false h =
-        subst (λ n. Outcome s e c cs (if n == 0 then coded s (codes_of (c ∷ cs)) c.code 1 else coded s (codes_of (c ∷ cs)) n 3)) (sym (trigraph_same (c ∷ cs))) (second (sym (return_same (c ∷ cs)) ∙ h) (trigraph_at (c ∷ cs) == 0) refl)
+        subst (λ n. Outcome s e c cs (if n == 0 then coded s (codes_of (c ∷ cs)) c.code 1 else coded s (codes_of (c ∷ cs)) n 3)) (sym (trigraph_same (c ∷ cs)))
+        (second (sym (return_same (c ∷ cs)) ∙ h) (trigraph_at (c ∷ cs) == 0) refl)

@@ -1,5 +1,6 @@
 -- Parts up to a closing character that begins none of them.
-use Rattle.std.proofs.Common.{◌≡◌, ℕ, ◌+◌, ◌-◌, ◌<◌, ◌≤◌, Bool, true, false, not, ◌||◌, ◌==◌, List, [], ◌∷◌, ◌++◌, length, take, drop, refl, sym, ap, ◌∙◌, subst, inl, inr, ◌⊎◌, arith, length-drop, append_assoc, get_or}
+use Rattle.std.proofs.Common.{◌≡◌, ℕ, ◌+◌, ◌-◌, ◌<◌, ◌≤◌, Bool, true, false, not, ◌||◌, ◌==◌, List, [], ◌∷◌, ◌++◌, length, take, drop}
+use Rattle.std.proofs.Common.{refl, sym, ap, ◌∙◌, subst, inl, inr, ◌⊎◌, arith, length-drop, append_assoc, get_or}
 use Rattle.std.specs.List.{flat_map}
 use Rattle.std.proofs.lemmas.List.{drop-drop}
 use Rattle.std.proofs.Math.Seq.{take-add}
@@ -19,7 +20,10 @@ abbrev pub Inner : ℕ → List ℕ → Type 0
 Inner q = One (λ c. not (c == q || c == 10))
 
 -- The closing character alone, or a part first.
-pub closed_front : (P : List ℕ → Type 0) (q : ℕ) (text : List ℕ) (m : ℕ) → m ≤ length text → Closed P q (take m text) → ((m ≡ 1) × (0 < length text) × (get_or text 0 0 ≡ q)) ⊎ ((j : ℕ) × (j ≤ m) × P (take j text) × Closed P q (take (m - j) (drop j text)))
+pub closed_front : (P : List ℕ → Type 0) (q : ℕ) (text : List ℕ) (m : ℕ)
+    → m ≤ length text
+    → Closed P q (take m text)
+    → ((m ≡ 1) × (0 < length text) × (get_or text 0 0 ≡ q)) ⊎ ((j : ℕ) × (j ≤ m) × P (take j text) × Closed P q (take (m - j) (drop j text)))
 closed_front P q text m fits (a, b, e, ([], all, ea), eb) =
     let e' : take m text ≡ (q ∷ []) ++ [] = cc in
     let l : length (q ∷ []) + 0 ≡ m = front_length text (q ∷ []) [] m fits e' in
@@ -51,10 +55,17 @@ closes_nowhere P q text h none m fits t = cases (closed_front P q text m fits t)
     cases (inr (j, le, p, u)) = none j (omega arith) p
 
 -- one part first
-closed_behind : (P : List ℕ → Type 0) (q : ℕ) (text : List ℕ) (n : ℕ) → (get_or text 0 0 ≡ q → ⊥) → IsOnly P text n → (m : ℕ) → m ≤ length text → Closed P q (take m text) → (n ≤ m) × (m - n ≤ length (drop n text)) × Closed P q (take (m - n) (drop n text))
+closed_behind : (P : List ℕ → Type 0) (q : ℕ) (text : List ℕ) (n : ℕ)
+    → (get_or text 0 0 ≡ q → ⊥)
+    → IsOnly P text n
+    → (m : ℕ)
+    → m ≤ length text
+    → Closed P q (take m text)
+    → (n ≤ m) × (m - n ≤ length (drop n text)) × Closed P q (take (m - n) (drop n text))
 closed_behind P q text n h p m fits t = cases (closed_front P q text m fits t)
   where
-    cases : ((m ≡ 1) × (0 < length text) × (get_or text 0 0 ≡ q)) ⊎ ((j : ℕ) × (j ≤ m) × P (take j text) × Closed P q (take (m - j) (drop j text))) → (n ≤ m) × (m - n ≤ length (drop n text)) × Closed P q (take (m - n) (drop n text))
+    cases : ((m ≡ 1) × (0 < length text) × (get_or text 0 0 ≡ q)) ⊎ ((j : ℕ) × (j ≤ m) × P (take j text) × Closed P q (take (m - j) (drop j text)))
+        → (n ≤ m) × (m - n ≤ length (drop n text)) × Closed P q (take (m - n) (drop n text))
     cases (inl a) = absurd (h a.2)
     cases (inr (j, le, r, u)) =
         let same : j ≡ n = p.only j (omega arith) r in
@@ -82,7 +93,12 @@ pub lacks_later : (P : List ℕ → Type 0) (q : ℕ) (text : List ℕ) (n : ℕ
 lacks_later P q text n h p none m fits t = let c = closed_behind P q text n h p m fits t in none (m - n) c.1 c.2
 
 -- one more part, in the form of a loop
-pub one_more : (P : List ℕ → Type 0) (q : ℕ) (text : List ℕ) (at n : ℕ) → at ≤ length text → (get_or (drop at text) 0 0 ≡ q → ⊥) → IsOnly P (drop at text) n → ((k : ℕ) → IsOnly (Closed P q) (drop at text) k → IsOnly (Closed P q) text (at + k)) → (NoFront (Closed P q) (drop at text) → NoFront (Closed P q) text)
+pub one_more : (P : List ℕ → Type 0) (q : ℕ) (text : List ℕ) (at n : ℕ)
+    → at ≤ length text
+    → (get_or (drop at text) 0 0 ≡ q → ⊥)
+    → IsOnly P (drop at text) n
+    → ((k : ℕ) → IsOnly (Closed P q) (drop at text) k → IsOnly (Closed P q) text (at + k))
+    → (NoFront (Closed P q) (drop at text) → NoFront (Closed P q) text)
     → (at + n ≤ length text) × ((k : ℕ) → IsOnly (Closed P q) (drop (at + n) text) k → IsOnly (Closed P q) text ((at + n) + k)) × (NoFront (Closed P q) (drop (at + n) text) → NoFront (Closed P q) text)
 one_more P q text at n within h p closes lacks =
     let d = length-drop at text in (
@@ -121,7 +137,12 @@ inner_empty q text l = one_empty (inner q) text l
 abbrev Between : ℕ → ℕ → List ℕ → Type 0
 Between p q = Then (Exactly (p ∷ [])) (Then (Inner q) (Closed (Inner q) q))
 
-opens_between : (p q : ℕ) (text : List ℕ) → 2 ≤ length text → get_or text 0 0 ≡ p → (get_or text 1 0 ≡ q → ⊥) → (get_or text 1 0 ≡ 10 → ⊥) → IsOnly (Exactly (p ∷ [])) text 1 × IsOnly (Inner q) (drop 1 text) 1
+opens_between : (p q : ℕ) (text : List ℕ)
+    → 2 ≤ length text
+    → get_or text 0 0 ≡ p
+    → (get_or text 1 0 ≡ q → ⊥)
+    → (get_or text 1 0 ≡ 10 → ⊥)
+    → IsOnly (Exactly (p ∷ [])) text 1 × IsOnly (Inner q) (drop 1 text) 1
 opens_between p q text l e h g =
     let d : length (drop 1 text) ≡ length text - 1 = length-drop 1 text in
     (exactly_here (p ∷ []) text (omega arith) (one_begins text p (omega arith) e) (omega arith), inner_here q (drop 1 text) (omega arith) (λ f. h (sym (head_behind text) ∙ f)) (λ f. g (sym (head_behind text) ∙ f)))
@@ -131,13 +152,27 @@ twice [] = refl
 twice (x ∷ []) = refl
 twice (x ∷ y ∷ text) = refl
 
-pub between_none : (p q : ℕ) (text : List ℕ) (k : ℕ) → 2 ≤ length text → get_or text 0 0 ≡ p → (get_or text 1 0 ≡ q → ⊥) → (get_or text 1 0 ≡ 10 → ⊥) → OnlyPart (Closed (Inner q) q) (drop 2 text) k → k ≡ 0 → OnlyPart (Between p q) text 0
+pub between_none : (p q : ℕ) (text : List ℕ) (k : ℕ)
+    → 2 ≤ length text
+    → get_or text 0 0 ≡ p
+    → (get_or text 1 0 ≡ q → ⊥)
+    → (get_or text 1 0 ≡ 10 → ⊥)
+    → OnlyPart (Closed (Inner q) q) (drop 2 text) k
+    → k ≡ 0
+    → OnlyPart (Between p q) text 0
 between_none p q text k l e h g c z =
     let o = opens_between p q text l e h g in
     let none : NoFront (Closed (Inner q) q) (drop 1 (drop 1 text)) = subst (λ t. NoFront (Closed (Inner q) q) t) (sym (twice text)) (c.0 z) in
     only_zero (Between p q) text (then_lacks_rest (Exactly (p ∷ [])) (Then (Inner q) (Closed (Inner q) q)) text 1 o.0 (then_lacks_rest (Inner q) (Closed (Inner q) q) (drop 1 text) 1 o.1 none))
 
-pub between_some : (p q : ℕ) (text : List ℕ) (k : ℕ) → 2 ≤ length text → get_or text 0 0 ≡ p → (get_or text 1 0 ≡ q → ⊥) → (get_or text 1 0 ≡ 10 → ⊥) → OnlyPart (Closed (Inner q) q) (drop 2 text) k → (k ≡ 0 → ⊥) → OnlyPart (Between p q) text (k + 2)
+pub between_some : (p q : ℕ) (text : List ℕ) (k : ℕ)
+    → 2 ≤ length text
+    → get_or text 0 0 ≡ p
+    → (get_or text 1 0 ≡ q → ⊥)
+    → (get_or text 1 0 ≡ 10 → ⊥)
+    → OnlyPart (Closed (Inner q) q) (drop 2 text) k
+    → (k ≡ 0 → ⊥)
+    → OnlyPart (Between p q) text (k + 2)
 between_some p q text k l e h g c z =
     let o = opens_between p q text l e h g in
     let s : 0 < k = grind arith in

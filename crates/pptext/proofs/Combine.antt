@@ -131,7 +131,11 @@ completed P text at n within h p =
     )
 
 -- the same, from the answer of a call
-pub completed_next : (P : List ℕ → Type 0) (text : List ℕ) (at n : ℕ) → at ≤ length text → ((k : ℕ) → Longest (Repeated P) (drop at text) k → Longest (Repeated P) text (at + k)) → NextPart P (drop at text) n → (n ≡ 0 → ⊥)
+pub completed_next : (P : List ℕ → Type 0) (text : List ℕ) (at n : ℕ)
+    → at ≤ length text
+    → ((k : ℕ) → Longest (Repeated P) (drop at text) k → Longest (Repeated P) text (at + k))
+    → NextPart P (drop at text) n
+    → (n ≡ 0 → ⊥)
     → (at + n ≤ length text) × ((k : ℕ) → Longest (Repeated P) (drop (at + n) text) k → Longest (Repeated P) text ((at + n) + k))
 completed_next P text at n within h p some = let s : 0 < n = grind arith in completed P text at n within h (p.1 s)
 
@@ -166,7 +170,12 @@ exactly_lacks c w text h m fits e =
     h (begins_one text c w (sym (front_of text (c ∷ w) [] m fits (e ∙ sym (append-nil (c ∷ w)))))).1
 
 -- a first part of a known length, and then what a search behind it answered
-pub then_found : (P Q : List ℕ → Type 0) (text : List ℕ) (n k : ℕ) → OnlyPart P text n → (n ≡ 0 → ⊥) → (k ≡ 0 → NoFront Q (drop n text)) → (0 < k → (n < k) × IsOnly Q (drop n text) (k - n)) → OnlyPart (Then P Q) text k
+pub then_found : (P Q : List ℕ → Type 0) (text : List ℕ) (n k : ℕ)
+    → OnlyPart P text n
+    → (n ≡ 0 → ⊥)
+    → (k ≡ 0 → NoFront Q (drop n text))
+    → (0 < k → (n < k) × IsOnly Q (drop n text) (k - n))
+    → OnlyPart (Then P Q) text k
 then_found P Q text n k p some none found = (λ z. then_lacks_rest P Q text n first (none z), λ s. whole (found s))
   where
     first : IsOnly P text n

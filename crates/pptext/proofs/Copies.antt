@@ -1,5 +1,6 @@
 -- A file's text from an offset on, one step of the reading after another, and the copy made of it.
-use Rattle.std.proofs.Common.{◌≡◌, ℕ, zero, suc, ◌+◌, ◌<◌, ◌≤◌, Bool, true, false, not, ◌==◌, if◌then◌else◌, List, [], ◌∷◌, ◌++◌, length, take, drop, get_or, refl, sym, ap, ◌∙◌, subst, arith, None, Some, Ok, Err, length-drop, append_assoc, length-append, add-zero, zero-add}
+use Rattle.std.proofs.Common.{◌≡◌, ℕ, zero, suc, ◌+◌, ◌<◌, ◌≤◌, Bool, true, false, not, ◌==◌, if◌then◌else◌, List, [], ◌∷◌, ◌++◌, length, take, drop, get_or}
+use Rattle.std.proofs.Common.{refl, sym, ap, ◌∙◌, subst, arith, None, Some, Ok, Err, length-drop, append_assoc, length-append, add-zero, zero-add}
 use Rattle.std.proofs.Math.Bool.{and-false}
 use Rattle.std.proofs.lemmas.List.{drop_more, drop-drop, drop_all, take_all, length-map, append-nil}
 use Rattle.pptext.specs.declared.tokens.Place.{Place}
@@ -50,7 +51,10 @@ code_at file raw offset code n lt is =
     record {
       some = o.some;
       fits = omega (arith, o.fits);
-      text = ap splices (front file raw offset h) ∙ o.text ∙ ap (λ (p : Place). record { code = code; at = p } ∷ splices (logical (open_end raw) (end_place file raw) (drop n (h.head ∷ h.rest)))) h.at ∙ ap (λ z. record { code = code; at = place_behind (start file) (take offset raw) } ∷ splices z) (behind file raw offset h n);
+      text = ap splices (front file raw offset h)
+          ∙ o.text
+          ∙ ap (λ (p : Place). record { code = code; at = p } ∷ splices (logical (open_end raw) (end_place file raw) (drop n (h.head ∷ h.rest)))) h.at
+          ∙ ap (λ z. record { code = code; at = place_behind (start file) (take offset raw) } ∷ splices z) (behind file raw offset h n);
       ends = ap splice_at_end (front file raw offset h) ∙ o.ends ∙ ap splice_at_end (behind file raw offset h n);
     }
 
@@ -79,13 +83,22 @@ at_end file raw =
     alone false = refl
 
 -- The copy grows by a character, by a plain run, or not at all.
-pub copied_code : (raw : List ℕ) (offset : ℕ) (done : List ℕ) (code n : ℕ) → Copied raw offset done → offset < length raw → step_of (open_end raw) (drop offset raw) ≡ Code code n → Copied raw (offset + n) (done ++ code ∷ [])
+pub copied_code : (raw : List ℕ) (offset : ℕ) (done : List ℕ) (code n : ℕ)
+    → Copied raw offset done
+    → offset < length raw
+    → step_of (open_end raw) (drop offset raw) ≡ Code code n
+    → Copied raw (offset + n) (done ++ code ∷ [])
 copied_code raw offset done code n h lt is = record {
   codes = λ file. h.codes file ∙ ap (λ z. done ++ codes_of z) (code_at file raw offset code n lt is).text ∙ sym (append_assoc done (code ∷ []) (codes_of (text_from file raw (offset + n))));
   ends = λ file. h.ends file ∙ (code_at file raw offset code n lt is).ends;
 }
 
-pub copied_removed : (raw : List ℕ) (offset : ℕ) (done : List ℕ) (n : ℕ) → Copied raw offset done → offset < length raw → step_of (open_end raw) (drop offset raw) ≡ Removed n → offset + n < length raw → Copied raw (offset + n) done
+pub copied_removed : (raw : List ℕ) (offset : ℕ) (done : List ℕ) (n : ℕ)
+    → Copied raw offset done
+    → offset < length raw
+    → step_of (open_end raw) (drop offset raw) ≡ Removed n
+    → offset + n < length raw
+    → Copied raw (offset + n) done
 copied_removed raw offset done n h lt is more = record {
   codes = λ file. h.codes file ∙ ap (λ z. done ++ codes_of z) ((removed_at file raw offset n lt is).text more);
   ends = λ file. h.ends file ∙ (removed_at file raw offset n lt is).ends more;
@@ -113,7 +126,9 @@ own_at raw offset n front =
       };
     }
 
-pub own_from : (n : ℕ) (file : ℕ) (raw : List ℕ) (offset : ℕ) → OwnFront (open_end raw) (drop offset raw) n → (drop n (text_from file raw offset) ≡ text_from file raw (offset + n)) × (end_from file raw offset ≡ end_from file raw (offset + n))
+pub own_from : (n : ℕ) (file : ℕ) (raw : List ℕ) (offset : ℕ)
+    → OwnFront (open_end raw) (drop offset raw) n
+    → (drop n (text_from file raw offset) ≡ text_from file raw (offset + n)) × (end_from file raw offset ≡ end_from file raw (offset + n))
 own_from zero file raw offset front = (ap (text_from file raw) (sym (add-zero offset)), ap (end_from file raw) (sym (add-zero offset)))
 own_from (suc n) file raw offset front =
     let one = own_at raw offset n front in
@@ -130,7 +145,9 @@ copied_own (suc n) raw offset done h front =
     let rest = drop (offset + 1) raw in
     let e : offset + 1 + n ≡ offset + suc n = omega arith in
     subst (λ k. Copied raw k (done ++ take (suc n) (drop offset raw))) e
-    (subst (λ z. Copied raw (offset + 1 + n) z) (append_assoc done (b ∷ []) (take n rest) ∙ ap (λ z. done ++ take (suc n) z) (sym (drop_more raw offset 0 one.room))) (copied_own n raw (offset + 1) (done ++ b ∷ []) (copied_code raw offset done b 1 h one.room one.step) one.more))
+    (subst (λ z. Copied raw (offset + 1 + n) z)
+    (append_assoc done (b ∷ []) (take n rest) ∙ ap (λ z. done ++ take (suc n) z) (sym (drop_more raw offset 0 one.room)))
+    (copied_own n raw (offset + 1) (done ++ b ∷ []) (copied_code raw offset done b 1 h one.room one.step) one.more))
 
 -- behind the last byte ends no splice
 pub no_splice : (file : ℕ) (raw : List ℕ) → end_from file raw (length raw) ≡ None
@@ -212,7 +229,15 @@ pub counted_none : (raw : List ℕ) → Counted raw 0 0
 counted_none raw = record { breaks = []; length = refl; below = omega arith; begun = begun_none (open_end raw) raw; ends = λ file. refl }
 
 -- the table of breaks, and the end, where bytes stand behind a break
-pub counted_more : (raw : List ℕ) (start count n : ℕ) (step : Step) → Counted raw start count → n < length (drop start raw) → Stretch (open_end raw) (drop start raw) n → step_of (open_end raw) (drop (start + n) raw) ≡ step → 0 < step_len step → start + n + step_len step ≤ length raw → ((file : ℕ) → end_from file raw (start + n) ≡ end_from file raw (start + n + step_len step)) → Counted raw (start + n + step_len step) (count + 1)
+pub counted_more : (raw : List ℕ) (start count n : ℕ) (step : Step)
+    → Counted raw start count
+    → n < length (drop start raw)
+    → Stretch (open_end raw) (drop start raw) n
+    → step_of (open_end raw) (drop (start + n) raw) ≡ step
+    → 0 < step_len step
+    → start + n + step_len step ≤ length raw
+    → ((file : ℕ) → end_from file raw (start + n) ≡ end_from file raw (start + n + step_len step))
+    → Counted raw (start + n + step_len step) (count + 1)
 counted_more raw start count n step h room stretch is some fits ends = record {
   breaks = h.breaks ++ n ∷ [];
   length = omega (arith, length-append h.breaks (n ∷ []), h.length);
@@ -221,14 +246,25 @@ counted_more raw start count n step h room stretch is some fits ends = record {
   ends = λ file. h.ends file ∙ (own_from n file raw start stretch.front).1 ∙ ends file;
 }
 
-pub counted_code : (raw : List ℕ) (start count n code len : ℕ) → Counted raw start count → n < length (drop start raw) → Stretch (open_end raw) (drop start raw) n → step_of (open_end raw) (drop (start + n) raw) ≡ Code code len → Counted raw (start + n + len) (count + 1)
+pub counted_code : (raw : List ℕ) (start count n code len : ℕ)
+    → Counted raw start count
+    → n < length (drop start raw)
+    → Stretch (open_end raw) (drop start raw) n
+    → step_of (open_end raw) (drop (start + n) raw) ≡ Code code len
+    → Counted raw (start + n + len) (count + 1)
 counted_code raw start count n code len h room stretch is =
     let l = length-drop start raw in
     let here : start + n < length raw = omega arith in
     let one = code_at 0 raw (start + n) code len here is in
     counted_more raw start count n (Code code len) h room stretch is one.some one.fits (λ file. (code_at file raw (start + n) code len here is).ends)
 
-pub counted_removed : (raw : List ℕ) (start count n len : ℕ) → Counted raw start count → n < length (drop start raw) → Stretch (open_end raw) (drop start raw) n → step_of (open_end raw) (drop (start + n) raw) ≡ Removed len → (start + n + len ≡ length raw → ⊥) → Counted raw (start + n + len) (count + 1)
+pub counted_removed : (raw : List ℕ) (start count n len : ℕ)
+    → Counted raw start count
+    → n < length (drop start raw)
+    → Stretch (open_end raw) (drop start raw) n
+    → step_of (open_end raw) (drop (start + n) raw) ≡ Removed len
+    → (start + n + len ≡ length raw → ⊥)
+    → Counted raw (start + n + len) (count + 1)
 counted_removed raw start count n len h room stretch is no_end =
     let l = length-drop start raw in
     let here : start + n < length raw = omega arith in
@@ -236,7 +272,13 @@ counted_removed raw start count n len h room stretch is no_end =
     let more : start + n + len < length raw = omega (arith, one.fits, no_end) in
     counted_more raw start count n (Removed len) h room stretch is one.some one.fits (λ file. (removed_at file raw (start + n) len here is).ends more)
 
-pub counted_last : (raw : List ℕ) (start count n len : ℕ) → Counted raw start count → n < length (drop start raw) → Stretch (open_end raw) (drop start raw) n → step_of (open_end raw) (drop (start + n) raw) ≡ Removed len → start + n + len ≡ length raw → EndsAt raw (start + n)
+pub counted_last : (raw : List ℕ) (start count n len : ℕ)
+    → Counted raw start count
+    → n < length (drop start raw)
+    → Stretch (open_end raw) (drop start raw) n
+    → step_of (open_end raw) (drop (start + n) raw) ≡ Removed len
+    → start + n + len ≡ length raw
+    → EndsAt raw (start + n)
 counted_last raw start count n len h room stretch is end =
     let l = length-drop start raw in
     let here : start + n < length raw = omega arith in
@@ -269,7 +311,12 @@ pub record Copies (raw : List ℕ) (start : ℕ) (codes breaks : List ℕ) : Typ
 pub copies_none : (raw : List ℕ) → Copies raw 0 [] []
 copies_none raw = record { copied = copied_none raw; begun = begun_none (open_end raw) raw }
 
-pub copies_code : (raw : List ℕ) (start n code len : ℕ) (codes breaks : List ℕ) → Copies raw start codes breaks → n < length (drop start raw) → Stretch (open_end raw) (drop start raw) n → step_of (open_end raw) (drop (start + n) raw) ≡ Code code len → Copies raw (start + n + len) (codes ++ take n (drop start raw) ++ code ∷ []) (breaks ++ n ∷ [])
+pub copies_code : (raw : List ℕ) (start n code len : ℕ) (codes breaks : List ℕ)
+    → Copies raw start codes breaks
+    → n < length (drop start raw)
+    → Stretch (open_end raw) (drop start raw) n
+    → step_of (open_end raw) (drop (start + n) raw) ≡ Code code len
+    → Copies raw (start + n + len) (codes ++ take n (drop start raw) ++ code ∷ []) (breaks ++ n ∷ [])
 copies_code raw start n code len codes breaks h room stretch is =
     let l = length-drop start raw in
     let here : start + n < length raw = omega arith in
@@ -279,7 +326,13 @@ copies_code raw start n code len codes breaks h room stretch is =
       begun = begun_more (open_end raw) raw start n len breaks h.begun room stretch (ap step_len is) (code_at 0 raw (start + n) code len here is).fits;
     }
 
-pub copies_removed : (raw : List ℕ) (start n len : ℕ) (codes breaks : List ℕ) → Copies raw start codes breaks → end_from 0 raw 0 ≡ None → n < length (drop start raw) → Stretch (open_end raw) (drop start raw) n → step_of (open_end raw) (drop (start + n) raw) ≡ Removed len → Copies raw (start + n + len) (codes ++ take n (drop start raw)) (breaks ++ n ∷ [])
+pub copies_removed : (raw : List ℕ) (start n len : ℕ) (codes breaks : List ℕ)
+    → Copies raw start codes breaks
+    → end_from 0 raw 0 ≡ None
+    → n < length (drop start raw)
+    → Stretch (open_end raw) (drop start raw) n
+    → step_of (open_end raw) (drop (start + n) raw) ≡ Removed len
+    → Copies raw (start + n + len) (codes ++ take n (drop start raw)) (breaks ++ n ∷ [])
 copies_removed raw start n len codes breaks h ends room stretch is =
     let l = length-drop start raw in
     let here : start + n < length raw = omega arith in
@@ -291,7 +344,10 @@ copies_removed raw start n len codes breaks h ends room stretch is =
     }
 
 -- the copy at the end of the file, and the table
-pub copies_all : (raw : List ℕ) (start : ℕ) (codes breaks : List ℕ) → Copies raw start codes breaks → Stretch (open_end raw) (drop start raw) (length (drop start raw)) → Copied raw (length raw) (codes ++ drop start raw) × IsTable (open_end raw) raw breaks
+pub copies_all : (raw : List ℕ) (start : ℕ) (codes breaks : List ℕ)
+    → Copies raw start codes breaks
+    → Stretch (open_end raw) (drop start raw) (length (drop start raw))
+    → Copied raw (length raw) (codes ++ drop start raw) × IsTable (open_end raw) raw breaks
 copies_all raw start codes breaks h last =
     let l = length-drop start raw in
     let fits = h.begun.fits in

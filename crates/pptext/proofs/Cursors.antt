@@ -29,7 +29,9 @@ bounds file raw breaks c s =
     record { same_file = f ∙ b.file; line = omega (arith, b.line); col = omega (arith, b.col) }
 
 moved : (file : ℕ) (raw breaks : List ℕ) (c : Cursor) (n : ℕ) → Stands file raw breaks c → place_behind c.at (take n (drop c.offset raw)) ≡ place_behind (start file) (take (c.offset + n) raw)
-moved file raw breaks c n s = ap (λ p. place_behind p (take n (drop c.offset raw))) s.at ∙ sym (behind_append (take c.offset raw) (take n (drop c.offset raw)) (start file)) ∙ ap (place_behind (start file)) (sym (take_add c.offset n raw))
+moved file raw breaks c n s = ap (λ p. place_behind p (take n (drop c.offset raw))) s.at
+    ∙ sym (behind_append (take c.offset raw) (take n (drop c.offset raw)) (start file))
+    ∙ ap (place_behind (start file)) (sym (take_add c.offset n raw))
 
 -- a cursor at a break, whose bytes it passes
 abbrev pub behind : List ℕ → List ℕ → Cursor → ℕ → ℕ → Cursor
@@ -55,7 +57,12 @@ onward file raw breaks c n s none is = record { stretch = read.0; table = subst 
     read : Reads raw breaks (c.offset + n) c.next (length raw - (c.offset + n))
     read = subst (Reads raw breaks (c.offset + n) c.next) (length-drop (c.offset + n) raw) (table_next (open_end raw) (drop (c.offset + n) raw) breaks c.next rest)
 
-pub skip_removed : (file : ℕ) (raw breaks : List ℕ) (c : Cursor) (n : ℕ) → Stands file raw breaks c → c.plain ≡ 0 → c.offset < length raw → step_of (open_end raw) (drop c.offset raw) ≡ Removed n → (c.offset < c.offset + n) × (c.offset + n ≤ length raw) × Stands file raw breaks (behind raw breaks c c.passed n)
+pub skip_removed : (file : ℕ) (raw breaks : List ℕ) (c : Cursor) (n : ℕ)
+    → Stands file raw breaks c
+    → c.plain ≡ 0
+    → c.offset < length raw
+    → step_of (open_end raw) (drop c.offset raw) ≡ Removed n
+    → (c.offset < c.offset + n) × (c.offset + n ≤ length raw) × Stands file raw breaks (behind raw breaks c c.passed n)
 skip_removed file raw breaks c n s none lt is =
     let r = removed_at file raw c.offset n lt is in
     let inner = removed_inside file raw c.offset n lt is s.ends in
@@ -74,7 +81,12 @@ skip_removed file raw breaks c n s none lt is =
       },
     )
 
-pub pass_code : (file : ℕ) (raw breaks : List ℕ) (c : Cursor) (code n : ℕ) → Stands file raw breaks c → c.plain ≡ 0 → c.offset < length raw → step_of (open_end raw) (drop c.offset raw) ≡ Code code n → (c.offset < c.offset + n) × (c.offset + n ≤ length raw) × Stands file raw breaks (behind raw breaks c (c.passed + 1) n)
+pub pass_code : (file : ℕ) (raw breaks : List ℕ) (c : Cursor) (code n : ℕ)
+    → Stands file raw breaks c
+    → c.plain ≡ 0
+    → c.offset < length raw
+    → step_of (open_end raw) (drop c.offset raw) ≡ Code code n
+    → (c.offset < c.offset + n) × (c.offset + n ≤ length raw) × Stands file raw breaks (behind raw breaks c (c.passed + 1) n)
 pass_code file raw breaks c code n s none lt is =
     let r = code_at file raw c.offset code n lt is in
     let o = onward file raw breaks c n s none (ap step_len is) in
@@ -92,7 +104,12 @@ pass_code file raw breaks c code n s none lt is =
       },
     )
 
-pub pass_plain : (file : ℕ) (raw breaks : List ℕ) (c : Cursor) (n : ℕ) → Stands file raw breaks c → n ≤ c.plain → (c.offset + n ≤ length raw) × Stands file raw breaks (record { passed = c.passed + n; offset = c.offset + n; plain = c.plain - n; next = c.next; at = place_behind c.at (take n (drop c.offset raw)) })
+pub pass_plain : (file : ℕ) (raw breaks : List ℕ) (c : Cursor) (n : ℕ)
+    → Stands file raw breaks c
+    → n ≤ c.plain
+    → (c.offset + n ≤ length raw)
+    × Stands file raw breaks
+    (record { passed = c.passed + n; offset = c.offset + n; plain = c.plain - n; next = c.next; at = place_behind c.at (take n (drop c.offset raw)) })
 pass_plain file raw breaks c n s le =
     let front = own_less (open_end raw) (drop c.offset raw) n c.plain le s.stretch.front in
     let p = own_from n file raw c.offset front in
@@ -113,7 +130,10 @@ pass_plain file raw breaks c n s le =
       },
     )
 
-pub stands_first : (file : ℕ) (raw breaks : List ℕ) → end_from file raw 0 ≡ None → IsTable (open_end raw) raw breaks → Stands file raw breaks (record { passed = 0; offset = 0; plain = get_or breaks 0 (length raw); next = 1; at = start file })
+pub stands_first : (file : ℕ) (raw breaks : List ℕ)
+    → end_from file raw 0 ≡ None
+    → IsTable (open_end raw) raw breaks
+    → Stands file raw breaks (record { passed = 0; offset = 0; plain = get_or breaks 0 (length raw); next = 1; at = start file })
 stands_first file raw breaks ends table =
     let read = table_next (open_end raw) raw breaks 0 table in
     record { within = omega arith; at = refl; rest = refl; ends = ends; stretch = read.0; next = omega arith; table = rw zero-add read.1 }
@@ -121,7 +141,11 @@ stands_first file raw breaks ends table =
 head_at : (cs : List Char) (n : ℕ) (d x : Char) (xs : List Char) → drop n cs ≡ x ∷ xs → get_or cs n d ≡ x
 head_at cs n d x xs e = sym (get_or-drop n cs 0 d ∙ ap (λ k. get_or cs k d) (add-zero n)) ∙ ap (λ z. get_or z 0 d) e
 
-pub stands_at_code : (file : ℕ) (raw breaks : List ℕ) (c : Cursor) (code n : ℕ) (d : Char) → Stands file raw breaks c → c.offset < length raw → step_of (open_end raw) (drop c.offset raw) ≡ Code code n → c.at ≡ (get_or (text_from file raw 0) c.passed d).at
+pub stands_at_code : (file : ℕ) (raw breaks : List ℕ) (c : Cursor) (code n : ℕ) (d : Char)
+    → Stands file raw breaks c
+    → c.offset < length raw
+    → step_of (open_end raw) (drop c.offset raw) ≡ Code code n
+    → c.at ≡ (get_or (text_from file raw 0) c.passed d).at
 stands_at_code file raw breaks c code n d s lt is =
     let r = code_at file raw c.offset code n lt is in
     s.at ∙ sym (ap (λ (x : Char). x.at) (head_at (text_from file raw 0) c.passed d _ _ (s.rest ∙ r.text)))
@@ -133,7 +157,18 @@ stands_at_plain file raw breaks c d s some =
     stands_at_code file raw breaks c (get_or raw c.offset 0) 1 d s one.room one.step
 
 -- a cursor that is moved to the character sought, over this many plain bytes
-pub arrives : (file : ℕ) (raw breaks : List ℕ) (c after : Cursor) (to : ℕ) → Stands file raw breaks c → c.passed ≤ to → to - c.passed < c.plain → after ≡ record { passed = c.passed + (to - c.passed); offset = c.offset + (to - c.passed); plain = c.plain - (to - c.passed); next = c.next; at = place_behind c.at (take (to - c.passed) (drop c.offset raw)) } → Stands file raw breaks after × (0 < after.plain) × (after.passed ≡ to)
+pub arrives : (file : ℕ) (raw breaks : List ℕ) (c after : Cursor) (to : ℕ)
+    → Stands file raw breaks c
+    → c.passed ≤ to
+    → to - c.passed < c.plain
+    → after ≡ record {
+      passed = c.passed + (to - c.passed);
+      offset = c.offset + (to - c.passed);
+      plain = c.plain - (to - c.passed);
+      next = c.next;
+      at = place_behind c.at (take (to - c.passed) (drop c.offset raw));
+    }
+    → Stands file raw breaks after × (0 < after.plain) × (after.passed ≡ to)
 arrives file raw breaks c after to stands forward near is =
     let s = pass_plain file raw breaks c (to - c.passed) stands (omega arith) in
     let some : after.plain ≡ c.plain - (to - c.passed) = ap (λ (x : Cursor). x.plain) is in
@@ -144,7 +179,12 @@ arrives file raw breaks c after to stands forward near is =
 abbrev end_text : ℕ → List ℕ → Bool → List Char
 end_text file raw t = splices (supply t (place_behind (start file) raw))
 
-pub stands_at_end : (file : ℕ) (raw breaks : List ℕ) (c : Cursor) (to : ℕ) → Stands file raw breaks c → length raw ≤ c.offset → c.passed ≤ to → to < length (text_from file raw 0) → (c.passed ≡ to) × ((d : Char) → c.at ≡ (get_or (text_from file raw 0) to d).at)
+pub stands_at_end : (file : ℕ) (raw breaks : List ℕ) (c : Cursor) (to : ℕ)
+    → Stands file raw breaks c
+    → length raw ≤ c.offset
+    → c.passed ≤ to
+    → to < length (text_from file raw 0)
+    → (c.passed ≡ to) × ((d : Char) → c.at ≡ (get_or (text_from file raw 0) to d).at)
 stands_at_end file raw breaks c to s past forward within =
     let w = s.within in
     let e : c.offset ≡ length raw = omega arith in

@@ -1,5 +1,6 @@
 -- The loop that cuts a text: what it keeps, and each of its turns.
-use Rattle.std.proofs.Common.{◌≡◌, ℕ, zero, suc, ◌+◌, ◌-◌, ◌<◌, ◌≤◌, Bool, true, false, List, [], ◌∷◌, ◌++◌, length, take, drop, refl, sym, ap, ◌∙◌, subst, arith, length-drop, get_or, None, Ok, IsTrue, add-zero}
+use Rattle.std.proofs.Common.{◌≡◌, ℕ, zero, suc, ◌+◌, ◌-◌, ◌<◌, ◌≤◌, Bool, true, false, List, [], ◌∷◌, ◌++◌, length, take, drop, refl}
+use Rattle.std.proofs.Common.{sym, ap, ◌∙◌, subst, arith, length-drop, get_or, None, Ok, IsTrue, add-zero}
 use Rattle.std.proofs.lemmas.List.{append-nil, length-map, take-append-drop, drop-drop, length-take-le, take-append-le, drop-append-le, drop_all, length_push, take-map, drop-map, drop_more, take_all}
 use Rattle.pptext.specs.declared.tokens.Token.{Token}
 use Rattle.pptext.specs.declared.tokens.Place.{Place}
@@ -70,7 +71,10 @@ pub codes_length : (chars : List Char) → length (codes_of chars) ≡ length ch
 codes_length chars = length-map chars (λ (c : Char). c.code)
 
 module _ (profile : Profile) (chars : List Char) where
-  pub grown : (at start n : ℕ) (space : Bool) (ts : List Token) (ls : List Line) (s : Sort) (st : State profile chars at start space ts ls) → n ≤ length (drop at (codes_of chars)) → StandsAt (spelled (drop start ts)) (drop at (codes_of chars)) n s → Grown profile chars at n s space st.rows (drop start ts) st.pieces
+  pub grown : (at start n : ℕ) (space : Bool) (ts : List Token) (ls : List Line) (s : Sort) (st : State profile chars at start space ts ls)
+      → n ≤ length (drop at (codes_of chars))
+      → StandsAt (spelled (drop start ts)) (drop at (codes_of chars)) n s
+      → Grown profile chars at n s space st.rows (drop start ts) st.pieces
   grown at start n space ts ls s st fits here =
       let p = piece_at chars at n s in
       let l = codes_length chars in
@@ -87,31 +91,76 @@ module _ (profile : Profile) (chars : List Char) where
       }
 
   -- one blank
-  skip_blank : (at start : ℕ) (space : Bool) (ts : List Token) (ls : List Line) → State profile chars at start space ts ls → at < length chars → IsTrue (is_blank (get_or (codes_of chars) at 0)) → State profile chars (at + 1) start true ts ls
+  skip_blank : (at start : ℕ) (space : Bool) (ts : List Token) (ls : List Line)
+      → State profile chars at start space ts ls
+      → at < length chars
+      → IsTrue (is_blank (get_or (codes_of chars) at 0))
+      → State profile chars (at + 1) start true ts ls
   skip_blank at start space ts ls st lt here =
       let l = codes_length chars in
       let d = length-drop at (codes_of chars) in
       let begins : BeginsWith (drop at (codes_of chars)) (get_or (codes_of chars) at 0 ∷ []) = rw (drop_more (codes_of chars) at 0 (omega arith)) refl in
       let g = grown at start 1 space ts ls Blank st (omega arith) (refl, get_or (codes_of chars) at 0, begins, here) in
-      record { within = g.room; started = st.started; few = omega (arith, st.few); pieces = st.pieces ++ piece_at chars at 1 Blank ∷ []; cut = g.cut; rows = st.rows; tokens = st.tokens; lines = st.lines; sofar = subst (λ (z : List LogicalLine). LinesSoFar profile (st.pieces ++ piece_at chars at 1 Blank ∷ []) z true (drop start ts)) (append-nil st.rows) g.sofar; line = g.line }
+      record {
+        within = g.room;
+        started = st.started;
+        few = omega (arith, st.few);
+        pieces = st.pieces ++ piece_at chars at 1 Blank ∷ [];
+        cut = g.cut;
+        rows = st.rows;
+        tokens = st.tokens;
+        lines = st.lines;
+        sofar = subst (λ (z : List LogicalLine). LinesSoFar profile (st.pieces ++ piece_at chars at 1 Blank ∷ []) z true (drop start ts))
+            (append-nil st.rows) g.sofar;
+        line = g.line;
+      }
 
   -- blanks
-  pub skip_blanks : (n at start : ℕ) (space : Bool) (ts : List Token) (ls : List Line) → State profile chars at start space ts ls → 0 < n → at + n ≤ length chars → ((k : ℕ) → k < n → IsTrue (is_blank (get_or (codes_of chars) (at + k) 0))) → State profile chars (at + n) start true ts ls
+  pub skip_blanks : (n at start : ℕ) (space : Bool) (ts : List Token) (ls : List Line)
+      → State profile chars at start space ts ls
+      → 0 < n
+      → at + n ≤ length chars
+      → ((k : ℕ) → k < n → IsTrue (is_blank (get_or (codes_of chars) (at + k) 0)))
+      → State profile chars (at + n) start true ts ls
   skip_blanks zero at start space ts ls st some fits blank = absurd (omega arith)
   skip_blanks (suc zero) at start space ts ls st some fits blank =
       skip_blank at start space ts ls st (omega arith) (rw add-zero at (blank 0 (omega arith)))
   skip_blanks (suc (suc n)) at start space ts ls st some fits blank =
       let one = skip_blank at start space ts ls st (omega arith) (rw add-zero at (blank 0 (omega arith))) in
-      subst (λ z. State profile chars z start true ts ls) (omega arith) (skip_blanks (suc n) (at + 1) start true ts ls one (omega arith) (omega arith) (λ k lt. subst (λ z. IsTrue (is_blank (get_or (codes_of chars) z 0))) (omega arith) (blank (k + 1) (omega arith))))
+      subst (λ z. State profile chars z start true ts ls) (omega arith)
+      (skip_blanks (suc n) (at + 1) start true ts ls one (omega arith) (omega arith)
+      (λ k lt. subst (λ z. IsTrue (is_blank (get_or (codes_of chars) z 0))) (omega arith) (blank (k + 1) (omega arith))))
 
   -- a comment
-  pub skip_comment : (at start n : ℕ) (space : Bool) (ts : List Token) (ls : List Line) → State profile chars at start space ts ls → n ≤ length (drop at (codes_of chars)) → StandsAt (spelled (drop start ts)) (drop at (codes_of chars)) n Comment → State profile chars (at + n) start true ts ls
+  pub skip_comment : (at start n : ℕ) (space : Bool) (ts : List Token) (ls : List Line)
+      → State profile chars at start space ts ls
+      → n ≤ length (drop at (codes_of chars))
+      → StandsAt (spelled (drop start ts)) (drop at (codes_of chars)) n Comment
+      → State profile chars (at + n) start true ts ls
   skip_comment at start n space ts ls st fits here =
       let g = grown at start n space ts ls Comment st fits here in
-      record { within = g.room; started = st.started; few = omega (arith, st.few); pieces = st.pieces ++ piece_at chars at n Comment ∷ []; cut = g.cut; rows = st.rows; tokens = st.tokens; lines = st.lines; sofar = subst (λ (z : List LogicalLine). LinesSoFar profile (st.pieces ++ piece_at chars at n Comment ∷ []) z true (drop start ts)) (append-nil st.rows) g.sofar; line = g.line }
+      record {
+        within = g.room;
+        started = st.started;
+        few = omega (arith, st.few);
+        pieces = st.pieces ++ piece_at chars at n Comment ∷ [];
+        cut = g.cut;
+        rows = st.rows;
+        tokens = st.tokens;
+        lines = st.lines;
+        sofar = subst (λ (z : List LogicalLine). LinesSoFar profile (st.pieces ++ piece_at chars at n Comment ∷ []) z true (drop start ts))
+            (append-nil st.rows) g.sofar;
+        line = g.line;
+      }
 
   -- a new-line
-  pub end_line : (at start stop : ℕ) (space : Bool) (ts : List Token) (ls : List Line) (number : ℕ) → State profile chars at start space ts ls → stop ≡ length ts → number ≡ (head_place (take 1 (drop at chars))).line → 1 ≤ length (drop at (codes_of chars)) → StandsAt (spelled (drop start ts)) (drop at (codes_of chars)) 1 NewLine → State profile chars (at + 1) stop true ts (ls ++ draft start (line_of profile (drop start ts) number) ∷ [])
+  pub end_line : (at start stop : ℕ) (space : Bool) (ts : List Token) (ls : List Line) (number : ℕ)
+      → State profile chars at start space ts ls
+      → stop ≡ length ts
+      → number ≡ (head_place (take 1 (drop at chars))).line
+      → 1 ≤ length (drop at (codes_of chars))
+      → StandsAt (spelled (drop start ts)) (drop at (codes_of chars)) 1 NewLine
+      → State profile chars (at + 1) stop true ts (ls ++ draft start (line_of profile (drop start ts) number) ∷ [])
   end_line at start stop space ts ls number st stop_is number_is fits here =
       let g = grown at start 1 space ts ls NewLine st fits here in
       let row : LogicalLine = line_of profile (drop start ts) number in
@@ -132,7 +181,12 @@ module _ (profile : Profile) (chars : List Char) where
       }
 
   -- a token
-  pub add_token : (at start n : ℕ) (space : Bool) (ts : List Token) (ls : List Line) (k : Kind) (t : Token) → State profile chars at start space ts ls → t ≡ token_of k space (take n (drop at chars)) → n ≤ length (drop at (codes_of chars)) → StandsAt (spelled (drop start ts)) (drop at (codes_of chars)) n (Spelled k) → State profile chars (at + n) start false (ts ++ t ∷ []) ls
+  pub add_token : (at start n : ℕ) (space : Bool) (ts : List Token) (ls : List Line) (k : Kind) (t : Token)
+      → State profile chars at start space ts ls
+      → t ≡ token_of k space (take n (drop at chars))
+      → n ≤ length (drop at (codes_of chars))
+      → StandsAt (spelled (drop start ts)) (drop at (codes_of chars)) n (Spelled k)
+      → State profile chars (at + n) start false (ts ++ t ∷ []) ls
   add_token at start n space ts ls k t st is fits here =
       let g = grown at start n space ts ls (Spelled k) st fits here in
       let wider : length (ts ++ t ∷ []) ≡ length ts + 1 = length_push ts t in
@@ -147,7 +201,9 @@ module _ (profile : Profile) (chars : List Char) where
         rows = st.rows;
         tokens = st.tokens ∙ sym (take-append-le start ts (t ∷ []) st.started);
         lines = st.lines;
-        sofar = subst (λ (z : List Token). LinesSoFar profile (st.pieces ++ piece_at chars at n (Spelled k) ∷ []) st.rows false z) (opened ∙ sym more) (subst (λ (z : List LogicalLine). LinesSoFar profile (st.pieces ++ piece_at chars at n (Spelled k) ∷ []) z false (tokens_after space (drop start ts) (take n (drop at chars)) (Spelled k))) (append-nil st.rows) g.sofar);
+        sofar = subst (λ (z : List Token). LinesSoFar profile (st.pieces ++ piece_at chars at n (Spelled k) ∷ []) st.rows false z) (opened ∙ sym more)
+            (subst (λ (z : List LogicalLine). LinesSoFar profile (st.pieces ++ piece_at chars at n (Spelled k) ∷ []) z false
+            (tokens_after space (drop start ts) (take n (drop at chars)) (Spelled k))) (append-nil st.rows) g.sofar);
         line = g.line ∙ ap (λ (z : List ℕ). spelled (drop start ts) ++ z ∷ []) (sym (ap (λ (u : Token). u.text) is)) ∙ sym (ap spelled more ∙ spelled-append (drop start ts) t);
       }
 
@@ -160,5 +216,9 @@ module _ (profile : Profile) (chars : List Char) where
       let are = drafts_are (take start ts) ls st.rows st.tokens st.lines (profile, subst (AllByRecursion (IsDirected profile)) all (pieces_are_directed profile st.pieces)) in
       (st.pieces, subst (CutUpTo chars st.pieces) none st.cut, all ∙ sym are.0, are.1, omega (arith, st.few, st.within))
 
-  pub never_closed : (at start : ℕ) (space : Bool) (ts : List Token) (ls : List Line) (p : Place) → State profile chars at start space ts ls → p ≡ head_place (drop at chars) → OpensBlock (drop at (codes_of chars)) × ClosesAt (drop at (codes_of chars)) None → Unclosed chars p
+  pub never_closed : (at start : ℕ) (space : Bool) (ts : List Token) (ls : List Line) (p : Place)
+      → State profile chars at start space ts ls
+      → p ≡ head_place (drop at chars)
+      → OpensBlock (drop at (codes_of chars)) × ClosesAt (drop at (codes_of chars)) None
+      → Unclosed chars p
   never_closed at start space ts ls p st is open_block = record { pieces = st.pieces; rest = drop at chars; cut = st.cut; opens = rw (codes_from chars at) open_block.0; never = rw (codes_from chars at) open_block.1; here = is }

@@ -16,13 +16,19 @@ laid_one : (p : Piece) (ps : List Piece) (rest : List Char) → laid (ps ++ p �
 laid_one p ps rest =
     ap (λ z. z ++ rest) (laid-append ps (p ∷ []) ∙ ap (λ z. laid ps ++ z) (append-nil p.chars)) ∙ append_assoc (laid ps) p.chars rest
 
-each_more : (line : List (List ℕ)) (ps : List Piece) (p : Piece) (rest : List Char) → EachStands line ps (p.chars ++ rest) → StandsAt (line_after line ps) (codes_of (p.chars ++ rest)) (length p.chars) p.sort → EachStands line (ps ++ p ∷ []) rest
+each_more : (line : List (List ℕ)) (ps : List Piece) (p : Piece) (rest : List Char)
+    → EachStands line ps (p.chars ++ rest)
+    → StandsAt (line_after line ps) (codes_of (p.chars ++ rest)) (length p.chars) p.sort
+    → EachStands line (ps ++ p ∷ []) rest
 each_more line [] p rest each here = (here, tt)
 each_more line (q ∷ qs) p rest each here =
     (subst (λ z. StandsAt line (codes_of (q.chars ++ z)) (length q.chars) q.sort) (sym (laid_one p qs rest)) each.0, each_more (with_piece line q q.sort) qs p rest each.1 here)
 
 -- one more piece
-pub cut_more : (chars : List Char) (ps : List Piece) (p : Piece) (rest : List Char) → CutUpTo chars ps (p.chars ++ rest) → StandsAt (line_after [] ps) (codes_of (p.chars ++ rest)) (length p.chars) p.sort → CutUpTo chars (ps ++ p ∷ []) rest
+pub cut_more : (chars : List Char) (ps : List Piece) (p : Piece) (rest : List Char)
+    → CutUpTo chars ps (p.chars ++ rest)
+    → StandsAt (line_after [] ps) (codes_of (p.chars ++ rest)) (length p.chars) p.sort
+    → CutUpTo chars (ps ++ p ∷ []) rest
 cut_more chars ps p rest cut here = record {
   whole = laid_one p ps rest ∙ cut.whole;
   each = each_more [] ps p rest cut.each here;
@@ -44,10 +50,15 @@ pub lines_start : (profile : Profile) → LinesSoFar profile [] [] true []
 unfolding LinesSoFar
 lines_start profile more = refl
 
-pub lines_more : (profile : Profile) (ps : List Piece) (done : List LogicalLine) (space : Bool) (ts : List Token) (p : Piece) → LinesSoFar profile ps done space ts → LinesSoFar profile (ps ++ p ∷ []) (done ++ lines_ended profile ts p.chars p.sort) (leaves_space p.sort) (tokens_after space ts p.chars p.sort)
+pub lines_more : (profile : Profile) (ps : List Piece) (done : List LogicalLine) (space : Bool) (ts : List Token) (p : Piece)
+    → LinesSoFar profile ps done space ts
+    → LinesSoFar profile (ps ++ p ∷ []) (done ++ lines_ended profile ts p.chars p.sort) (leaves_space p.sort) (tokens_after space ts p.chars p.sort)
 unfolding LinesSoFar
 lines_more profile ps done space ts p sofar more =
-    ap (lines_behind profile true []) (append_assoc ps (p ∷ []) more) ∙ sofar (p ∷ more) ∙ sym (append_assoc done (lines_ended profile ts p.chars p.sort) (lines_behind profile (leaves_space p.sort) (tokens_after space ts p.chars p.sort) more))
+    ap (lines_behind profile true []) (append_assoc ps (p ∷ []) more)
+    ∙ sofar (p ∷ more)
+    ∙ sym
+    (append_assoc done (lines_ended profile ts p.chars p.sort) (lines_behind profile (leaves_space p.sort) (tokens_after space ts p.chars p.sort) more))
 
 pub lines_all : (profile : Profile) (ps : List Piece) (done : List LogicalLine) (space : Bool) (ts : List Token) → LinesSoFar profile ps done space ts → lines_behind profile true [] ps ≡ done
 unfolding LinesSoFar

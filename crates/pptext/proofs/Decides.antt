@@ -1,5 +1,6 @@
 -- Each test of `Kinds` passes the texts of its language (6.4), and no others.
-use Rattle.std.proofs.Common.{◌≡◌, ℕ, zero, suc, Bool, true, false, not, ◌||◌, ◌&&◌, ◌==◌, List, [], ◌∷◌, ◌++◌, length, refl, sym, ap, ◌∙◌, subst, inl, inr, ◌⊎◌, arith, Option, Some, None, if◌then◌else◌}
+use Rattle.std.proofs.Common.{◌≡◌, ℕ, zero, suc, Bool, true, false, not, ◌||◌, ◌&&◌, ◌==◌, List, [], ◌∷◌, ◌++◌, length, refl, sym}
+use Rattle.std.proofs.Common.{ap, ◌∙◌, subst, inl, inr, ◌⊎◌, arith, Option, Some, None, if◌then◌else◌}
 use Rattle.std.specs.Prelude.{Contains, Decides}
 use Rattle.std.specs.List.{AllByRecursion, list_all, flat_map}
 use Rattle.std.specs.Str.{bytes_eq}
@@ -181,4 +182,7 @@ no_kind s a b c d e f Other h = f h
 
 pub spelled_kind_is : (s : List ℕ) → HasKind s (spelled_kind s)
 spelled_kind_is s =
-    try s Ident _ (ident.at s) (λ a. try s Number _ (number.at s) (λ b. try s CharConst _ (char_const.at s) (λ c. try s Str _ (str.at s) (λ d. try s Punct _ (punct.at s) (λ e. try s Other _ (other.at s) (λ f. no_kind s a b c d e f))))))
+    try s Ident _ (ident.at s)
+    (λ a. try s Number _ (number.at s)
+    (λ b. try s CharConst _ (char_const.at s)
+    (λ c. try s Str _ (str.at s) (λ d. try s Punct _ (punct.at s) (λ e. try s Other _ (other.at s) (λ f. no_kind s a b c d e f))))))

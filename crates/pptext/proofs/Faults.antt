@@ -1,5 +1,6 @@
 -- The first fault of a file's groups, with the open sections kept as their opening lines' indices.
-use Rattle.std.proofs.Common.{◌≡◌, ℕ, suc, ◌+◌, ◌-◌, ◌<◌, ◌≤◌, Bool, true, false, List, [], ◌∷◌, ◌++◌, map, length, take, drop, get_or, refl, sym, ap, ◌∙◌, subst, arith, Option, None, Some, if◌then◌else◌, ◌||◌, codes}
+use Rattle.std.proofs.Common.{◌≡◌, ℕ, suc, ◌+◌, ◌-◌, ◌<◌, ◌≤◌, Bool, true, false, List, [], ◌∷◌, ◌++◌, map, length, take, drop, get_or}
+use Rattle.std.proofs.Common.{refl, sym, ap, ◌∙◌, subst, arith, Option, None, Some, if◌then◌else◌, ◌||◌, codes}
 use Rattle.std.specs.Str.{bytes_eq}
 use Rattle.std.specs.List.{AllByRecursion}
 use Rattle.std.proofs.lemmas.List.{at_drop_more, at_drop_all, length-map, get_or_default, drop_more, reverse-append}
@@ -88,12 +89,19 @@ module _ (ts : List Token) (ls : List Line) (lines : AreLines ts ls) where
       ap role (x.row blank_line)
 
   -- what the line at an index does
-  step_at : (at : ℕ) (os : List (ℕ × Bool)) (d : Line) → at < length ls → FaultsSoFar ts ls at os → fault_or (get_or (lines_from ts ls) at blank_line) (opened (line_role (get_or ls at d)) at os).0 (group_fault (open_rows (lines_from ts ls) (opened (line_role (get_or ls at d)) at os).1) (drop (at + 1) (lines_from ts ls))) ≡ group_fault [] (lines_from ts ls)
+  step_at : (at : ℕ) (os : List (ℕ × Bool)) (d : Line)
+      → at < length ls
+      → FaultsSoFar ts ls at os
+      → fault_or (get_or (lines_from ts ls) at blank_line) (opened (line_role (get_or ls at d)) at os).0
+      (group_fault (open_rows (lines_from ts ls) (opened (line_role (get_or ls at d)) at os).1) (drop (at + 1) (lines_from ts ls)))
+      ≡ group_fault [] (lines_from ts ls)
   step_at at os d l sofar =
       let rs = lines_from ts ls in
       let r = get_or rs at blank_line in
       let m : at < length rs = omega (arith, length-map ls (row_of ts)) in
-      let step : opened (role r) r (open_rows rs os) ≡ ((opened (line_role (get_or ls at d)) at os).0, open_rows rs (opened (line_role (get_or ls at d)) at os).1) = ap (λ (z : Role). opened z r (open_rows rs os)) (role_at at d l) ∙ opened_rows rs (line_role (get_or ls at d)) at os in
+      let step : opened (role r) r (open_rows rs os)
+      ≡ ((opened (line_role (get_or ls at d)) at os).0, open_rows rs (opened (line_role (get_or ls at d)) at os).1) =
+      ap (λ (z : Role). opened z r (open_rows rs os)) (role_at at d l) ∙ opened_rows rs (line_role (get_or ls at d)) at os in
       sym (ap (λ (z : Option ℕ × List Open). fault_or r z.0 (group_fault z.1 (drop (at + 1) rs))) step) ∙ sym (at_drop_more (group_fault (open_rows rs os)) rs at blank_line m) ∙ sofar.same
 
   pub faults_step : (at : ℕ) (os after : List (ℕ × Bool)) (d : Line) → at < length ls → FaultsSoFar ts ls at os → opened (line_role (get_or ls at d)) at os ≡ (None, after) → FaultsSoFar ts ls (at + 1) after
@@ -106,7 +114,11 @@ module _ (ts : List Token) (ls : List Line) (lines : AreLines ts ls) where
         opens = subst (λ (z : Option ℕ × List (ℕ × Bool)). AllByRecursion (λ o. OpensAt ls o.0) z.1) e (opened_all (OpensAt ls) (line_role (get_or ls at d)) at os sofar.opens here);
       }
 
-  pub fault_here : (at n : ℕ) (os : List (ℕ × Bool)) (d : Line) → at < length ls → FaultsSoFar ts ls at os → (opened (line_role (get_or ls at d)) at os).0 ≡ Some n → Some (fault_at n (get_or (lines_from ts ls) at blank_line)) ≡ group_fault [] (lines_from ts ls)
+  pub fault_here : (at n : ℕ) (os : List (ℕ × Bool)) (d : Line)
+      → at < length ls
+      → FaultsSoFar ts ls at os
+      → (opened (line_role (get_or ls at d)) at os).0 ≡ Some n
+      → Some (fault_at n (get_or (lines_from ts ls) at blank_line)) ≡ group_fault [] (lines_from ts ls)
   fault_here at n os d l sofar e =
       let rs = lines_from ts ls in
       sym (ap (λ (z : Option ℕ). fault_or (get_or rs at blank_line) z (group_fault (open_rows rs (opened (line_role (get_or ls at d)) at os).1) (drop (at + 1) rs))) e) ∙ step_at at os d l sofar
@@ -132,7 +144,11 @@ module _ (ts : List Token) (ls : List Line) (lines : AreLines ts ls) where
       let two : 2 ≤ length (row_of ts x).tokens = two_tokens a.directed.0 (row_of ts x).tokens (subst (λ (z : Option Directive). IsBranching (role_by z)) a.directed.1 b) in
       omega (arith, a.begins, a.behind, a.tokens, two)
 
-  pub fault_is : (at number : ℕ) (d : Line) (e : Token) (r : LogicalLine) → at < length ls → IsBranching (line_role (get_or ls at d)) → record { number = number; at = (get_or ts (get_or ls at d).start e).at; text = (get_or ts ((get_or ls at d).start + 1) e).text } ≡ fault_at number (get_or (lines_from ts ls) at r)
+  pub fault_is : (at number : ℕ) (d : Line) (e : Token) (r : LogicalLine)
+      → at < length ls
+      → IsBranching (line_role (get_or ls at d))
+      → record { number = number; at = (get_or ts (get_or ls at d).start e).at; text = (get_or ts ((get_or ls at d).start + 1) e).text }
+      ≡ fault_at number (get_or (lines_from ts ls) at r)
   fault_is at number d e r l branching =
       let x = get_or ls at d in
       let start = x.start in
@@ -145,5 +161,9 @@ module _ (ts : List Token) (ls : List Line) (lines : AreLines ts ls) where
       let tokens : (row_of ts x).tokens ≡ get_or ts start e ∷ get_or ts (start + 1) e ∷ take more (drop (start + 1 + 1) ts) = ap (λ (z : ℕ). take z (drop start ts)) count ∙ ap (take (suc (suc more))) rest in
       sym (ap (fault_at number) (n.row r) ∙ ap (λ (z : List Token). record { number = number; at = sign_place z; text = name_of z }) tokens)
 
-  pub fault_last : (at : ℕ) (o : ℕ × Bool) (os : List (ℕ × Bool)) (f : Fault) → length ls ≤ at → FaultsSoFar ts ls at (o ∷ os) → f ≡ fault_at 5 (get_or (lines_from ts ls) o.0 blank_line) → Some f ≡ group_fault [] (lines_from ts ls)
+  pub fault_last : (at : ℕ) (o : ℕ × Bool) (os : List (ℕ × Bool)) (f : Fault)
+      → length ls ≤ at
+      → FaultsSoFar ts ls at (o ∷ os)
+      → f ≡ fault_at 5 (get_or (lines_from ts ls) o.0 blank_line)
+      → Some f ≡ group_fault [] (lines_from ts ls)
   fault_last at o os f l sofar e = ap Some e ∙ fault_at_last at (o ∷ os) l sofar

@@ -1,5 +1,6 @@
 -- Fronts of a text in a language.
-use Rattle.std.proofs.Common.{◌≡◌, ℕ, ◌+◌, ◌-◌, ◌<◌, ◌≤◌, Bool, true, false, List, [], ◌∷◌, ◌++◌, length, take, drop, refl, sym, ap, ◌∙◌, subst, inl, inr, ◌⊎◌, arith, length-drop, IsTrue, get_or}
+use Rattle.std.proofs.Common.{◌≡◌, ℕ, ◌+◌, ◌-◌, ◌<◌, ◌≤◌, Bool, true, false, List, [], ◌∷◌, ◌++◌, length, take, drop, refl}
+use Rattle.std.proofs.Common.{sym, ap, ◌∙◌, subst, inl, inr, ◌⊎◌, arith, length-drop, IsTrue, get_or}
 use Rattle.std.specs.List.{AllPass}
 use Rattle.std.proofs.lemmas.List.{length-take-le}
 use Rattle.std.proofs.Math.Seq.{take-add}
@@ -31,7 +32,11 @@ one_front test text m fits (c, e, t) =
     (omega arith, c, sym (front_of text (c ∷ []) [] m fits e), t)
 
 -- the universal character names that begin a text
-pub universal_fronts : (text : List ℕ) (m : ℕ) → m ≤ length text → IsUniversal (take m text) → (BeginsWith text (92 ∷ 117 ∷ []) × (m ≡ 6) × AllPass is_hex (take 4 (drop 2 text))) ⊎ (BeginsWith text (92 ∷ 85 ∷ []) × (m ≡ 10) × AllPass is_hex (take 8 (drop 2 text)))
+pub universal_fronts : (text : List ℕ) (m : ℕ)
+    → m ≤ length text
+    → IsUniversal (take m text)
+    → (BeginsWith text (92 ∷ 117 ∷ []) × (m ≡ 6) × AllPass is_hex (take 4 (drop 2 text)))
+    ⊎ (BeginsWith text (92 ∷ 85 ∷ []) × (m ≡ 10) × AllPass is_hex (take 8 (drop 2 text)))
 universal_fronts text m fits (inl t) =
     let f = exactly_then (IsRun 4 is_hex) (92 ∷ 117 ∷ []) text m fits t in
     let d : length (drop 2 text) ≡ length text - 2 = length-drop 2 text in
@@ -68,7 +73,10 @@ pub record Begun (text : List ℕ) (digits : ℕ) : Type 0 where
 universal_is : (text : List ℕ) (digits m : ℕ) → Begun text digits → m ≤ length text → IsUniversal (take m text) → (m ≡ digits + 2) × AllPass is_hex (take digits (drop 2 text))
 universal_is text digits m b fits u = cases b.values (universal_fronts text m fits u)
   where
-    cases : (digits ≡ 4) ⊎ (digits ≡ 8) → (BeginsWith text (92 ∷ 117 ∷ []) × (m ≡ 6) × AllPass is_hex (take 4 (drop 2 text))) ⊎ (BeginsWith text (92 ∷ 85 ∷ []) × (m ≡ 10) × AllPass is_hex (take 8 (drop 2 text))) → (m ≡ digits + 2) × AllPass is_hex (take digits (drop 2 text))
+    cases : (digits ≡ 4) ⊎ (digits ≡ 8)
+        → (BeginsWith text (92 ∷ 117 ∷ []) × (m ≡ 6) × AllPass is_hex (take 4 (drop 2 text)))
+        ⊎ (BeginsWith text (92 ∷ 85 ∷ []) × (m ≡ 10) × AllPass is_hex (take 8 (drop 2 text)))
+        → (m ≡ digits + 2) × AllPass is_hex (take digits (drop 2 text))
     cases (inl four) (inl a) = (omega (arith, a.1), rw four a.2)
     cases (inr eight) (inr a) = (omega (arith, a.1), rw eight a.2)
     cases (inl four) (inr a) =
@@ -179,7 +187,9 @@ nondigit_later text n f u = either_right (One is_nondigit) IsUniversal text n (o
 
 pub nondigit_none : (text : List ℕ) → length text ≡ 0 → OnlyPart IsNondigit text 0
 nondigit_none text l =
-    only_zero IsNondigit text (either_lacks (One is_nondigit) IsUniversal text (one_empty is_nondigit text l) (no_universal text (λ b. let k = begins_length text 92 (117 ∷ []) b in omega arith, λ b. let k = begins_length text 92 (85 ∷ []) b in omega arith)))
+    only_zero IsNondigit text
+    (either_lacks (One is_nondigit) IsUniversal text (one_empty is_nondigit text l)
+    (no_universal text (λ b. let k = begins_length text 92 (117 ∷ []) b in omega arith, λ b. let k = begins_length text 92 (85 ∷ []) b in omega arith)))
 
 digit_no_nondigit : (x : ℕ) → is_digit x ≡ true → is_nondigit x ≡ false
 digit_no_nondigit x t = grind (arith, nat_tests)

@@ -1,5 +1,6 @@
 -- The flat form of the guard, as the lines' spans and next branch lines show it.
-use Rattle.std.proofs.Common.{◌≡◌, ◌↔◌, ℕ, zero, suc, ◌+◌, ◌-◌, ◌<◌, ◌≤◌, List, [], ◌∷◌, map, length, take, drop, get_or, refl, sym, ap, ◌∙◌, subst, Option, None, Some, IfNone, IfSome, MatchOption, inl, inr, arith}
+use Rattle.std.proofs.Common.{◌≡◌, ◌↔◌, ℕ, zero, suc, ◌+◌, ◌-◌, ◌<◌, ◌≤◌, List, [], ◌∷◌, map, length, take, drop, get_or, refl, sym}
+use Rattle.std.proofs.Common.{ap, ◌∙◌, subst, Option, None, Some, IfNone, IfSome, MatchOption, inl, inr, arith}
 use Rattle.std.specs.List.{AllByRecursion}
 use Rattle.std.proofs.lemmas.List.{drop_all, drop_more, drop-drop, length-append, length-map, length-drop, length-take-le, nil_from_length, get_or-take, get_or-drop}
 use Rattle.pptext.specs.declared.tokens.Token.{Token}
@@ -35,7 +36,11 @@ blank_if_none (r ∷ rs) e =
     (nil_from_length r.tokens (omega arith), blank_if_none rs (omega arith))
 
 -- the token at an index of a part
-pub part_index : (ts : List Token) (start end i : ℕ) (t : Token) → start ≤ end → end ≤ length ts → i < length (take (end - start) (drop start ts)) → (start + i < length ts) × (get_or (take (end - start) (drop start ts)) i t ≡ get_or ts (start + i) t)
+pub part_index : (ts : List Token) (start end i : ℕ) (t : Token)
+    → start ≤ end
+    → end ≤ length ts
+    → i < length (take (end - start) (drop start ts))
+    → (start + i < length ts) × (get_or (take (end - start) (drop start ts)) i t ≡ get_or ts (start + i) t)
 part_index ts start end i t l m n =
     let w : i < end - start = omega (arith, length-take-le (end - start) (drop start ts) (omega (arith, length-drop start ts))) in
     (omega arith, get_or-take (end - start) (drop start ts) i t w ∙ get_or-drop start ts i t)
@@ -73,7 +78,13 @@ module _ (ts : List Token) (ls : List Line) (lines : AreLines ts ls) where
       let same = next_is at d l opens in
       cc
 
-  pub closed_if : (at last : ℕ) (d f : Line) → at < length ls → line_role (get_or ls at d) ≡ Opens → (get_or ls at d).next_branch ≡ Some last → line_role (get_or ls last f) ≡ Closes → (get_or ls last f).end ≡ length ts → ClosedAtOnce (at + 1) (drop (at + 1) (lines_from ts ls))
+  pub closed_if : (at last : ℕ) (d f : Line)
+      → at < length ls
+      → line_role (get_or ls at d) ≡ Opens
+      → (get_or ls at d).next_branch ≡ Some last
+      → line_role (get_or ls last f) ≡ Closes
+      → (get_or ls last f).end ≡ length ts
+      → ClosedAtOnce (at + 1) (drop (at + 1) (lines_from ts ls))
   closed_if at last d f l opens e closes end =
       let rs = lines_from ts ls in
       let w = branch_in at last d l opens e in
@@ -90,7 +101,12 @@ module _ (ts : List Token) (ls : List Line) (lines : AreLines ts ls) where
         blank = blank_if_none (drop (last + 1) rs) (omega arith);
       }
 
-  pub closed_only_if : (at last : ℕ) (d f : Line) → at < length ls → line_role (get_or ls at d) ≡ Opens → (get_or ls at d).next_branch ≡ Some last → ClosedAtOnce (at + 1) (drop (at + 1) (lines_from ts ls)) → (line_role (get_or ls last f) ≡ Closes) × ((get_or ls last f).end ≡ length ts)
+  pub closed_only_if : (at last : ℕ) (d f : Line)
+      → at < length ls
+      → line_role (get_or ls at d) ≡ Opens
+      → (get_or ls at d).next_branch ≡ Some last
+      → ClosedAtOnce (at + 1) (drop (at + 1) (lines_from ts ls))
+      → (line_role (get_or ls last f) ≡ Closes) × ((get_or ls last f).end ≡ length ts)
   closed_only_if at last d f l opens e closed =
       let rs = lines_from ts ls in
       let w = branch_in at last d l opens e in
@@ -105,17 +121,31 @@ module _ (ts : List Token) (ls : List Line) (lines : AreLines ts ls) where
       (sym (role_is last f w.1) ∙ ap role head ∙ closed.closes, omega arith)
 
   -- at a line with tokens
-  pub flat_here : (at : ℕ) (d : Line) (x : List ℕ) → at < length ls → line_role (get_or ls at d) ≡ Opens → guard_name (row_of ts (get_or ls at d)).tokens ≡ Some x → ClosedAtOnce (at + 1) (drop (at + 1) (lines_from ts ls)) → FlatGuard at (drop at (lines_from ts ls)) x
+  pub flat_here : (at : ℕ) (d : Line) (x : List ℕ)
+      → at < length ls
+      → line_role (get_or ls at d) ≡ Opens
+      → guard_name (row_of ts (get_or ls at d)).tokens ≡ Some x
+      → ClosedAtOnce (at + 1) (drop (at + 1) (lines_from ts ls))
+      → FlatGuard at (drop at (lines_from ts ls)) x
   flat_here at d x l opens name closed =
       subst (λ (z : List LogicalLine). FlatGuard at z x) (sym (rest_at at d l)) (inr (role_is at d l ∙ opens, name, closed))
 
-  pub only_here : (at : ℕ) (d : Line) (x : List ℕ) → at < length ls → (get_or ls at d).start < (get_or ls at d).end → FlatGuard at (drop at (lines_from ts ls)) x → (line_role (get_or ls at d) ≡ Opens) × (guard_name (row_of ts (get_or ls at d)).tokens ≡ Some x) × ClosedAtOnce (at + 1) (drop (at + 1) (lines_from ts ls))
+  pub only_here : (at : ℕ) (d : Line) (x : List ℕ)
+      → at < length ls
+      → (get_or ls at d).start < (get_or ls at d).end
+      → FlatGuard at (drop at (lines_from ts ls)) x
+      → (line_role (get_or ls at d) ≡ Opens)
+      × (guard_name (row_of ts (get_or ls at d)).tokens ≡ Some x)
+      × ClosedAtOnce (at + 1) (drop (at + 1) (lines_from ts ls))
   only_here at d x l some flat = cases (subst (λ (z : List LogicalLine). FlatGuard at z x) (rest_at at d l) flat)
     where
       r : LogicalLine
       r = row_of ts (get_or ls at d)
 
-      cases : FlatGuard at (row_of ts (get_or ls at d) ∷ drop (at + 1) (lines_from ts ls)) x → (line_role (get_or ls at d) ≡ Opens) × (guard_name (row_of ts (get_or ls at d)).tokens ≡ Some x) × ClosedAtOnce (at + 1) (drop (at + 1) (lines_from ts ls))
+      cases : FlatGuard at (row_of ts (get_or ls at d) ∷ drop (at + 1) (lines_from ts ls)) x
+          → (line_role (get_or ls at d) ≡ Opens)
+          × (guard_name (row_of ts (get_or ls at d)).tokens ≡ Some x)
+          × ClosedAtOnce (at + 1) (drop (at + 1) (lines_from ts ls))
       cases (inl here) = absurd (omega (arith, ap length here.0, (line_at ts ls at d lines l).tokens, some))
       cases (inr here) = (sym (role_is at d l) ∙ here.0, here.1, here.2)
 
@@ -135,10 +165,22 @@ module _ (ts : List Token) (ls : List Line) (lines : AreLines ts ls) where
   flat_never at x l flat = subst (λ (z : List LogicalLine). FlatGuard at z x) (drop_all at (lines_from ts ls) (omega (arith, length-map ls (row_of ts)))) flat
 
 -- of a file without fault the token that was found is the guard's name
-pub guard_found : (ts ts' : List Token) (ls ls' : List Line) (r : Option ℕ) → ts' ≡ ts → ls' ≡ ls → AreDirected (lines_from ts ls) → group_fault [] (lines_from ts ls) ≡ None → IfNone r ((x : List ℕ) → ¬ FlatGuard 0 (lines_from ts' ls') x) → IfSome r (λ i. (i < length ts') × ((d : Token) → FlatGuard 0 (lines_from ts' ls') (get_or ts' i d).text)) → MatchOption r ((x : List ℕ) → GuardedBy (lines_from ts ls) x → ⊥) (λ i. (i < length ts) × ((d : Token) → GuardedBy (lines_from ts ls) (get_or ts i d).text))
+pub guard_found : (ts ts' : List Token) (ls ls' : List Line) (r : Option ℕ)
+    → ts' ≡ ts
+    → ls' ≡ ls
+    → AreDirected (lines_from ts ls)
+    → group_fault [] (lines_from ts ls) ≡ None
+    → IfNone r ((x : List ℕ) → ¬ FlatGuard 0 (lines_from ts' ls') x)
+    → IfSome r (λ i. (i < length ts') × ((d : Token) → FlatGuard 0 (lines_from ts' ls') (get_or ts' i d).text))
+    → MatchOption r ((x : List ℕ) → GuardedBy (lines_from ts ls) x → ⊥)
+    (λ i. (i < length ts) × ((d : Token) → GuardedBy (lines_from ts ls) (get_or ts i d).text))
 guard_found ts ts' ls ls' None st sl directed e none some =
     let same : lines_from ts ls ≡ lines_from ts' ls' = sym (same_rows ts ts' ls ls' st sl) in
     λ x g. none x (subst (λ (z : List LogicalLine). FlatGuard 0 z x) same (flat_by_guarded (lines_from ts ls) x g))
 guard_found ts ts' ls ls' (Some i) st sl directed e none some =
-    let same : lines_from ts' ls' ≡ lines_from ts ls = same_rows ts ts' ls ls' st sl in
-    (subst (λ (z : List Token). i < length z) st some.0, λ d. guarded_by_flat (lines_from ts ls) (get_or ts i d).text directed e (subst (λ (z : List Token). FlatGuard 0 (lines_from ts ls) (get_or z i d).text) st (subst (λ (z : List LogicalLine). FlatGuard 0 z (get_or ts' i d).text) same (some.1 d))))
+    let same : lines_from ts' ls' ≡ lines_from ts ls = same_rows ts ts' ls ls' st sl in (
+      subst (λ (z : List Token). i < length z) st some.0,
+      λ d. guarded_by_flat (lines_from ts ls) (get_or ts i d).text directed e
+          (subst (λ (z : List Token). FlatGuard 0 (lines_from ts ls) (get_or z i d).text) st
+          (subst (λ (z : List LogicalLine). FlatGuard 0 z (get_or ts' i d).text) same (some.1 d))),
+    )

@@ -24,16 +24,31 @@ mutual
   pub behind_parts : (ps : Parts) (depth k : ℕ) (rest : List LogicalLine) → AreParts ps → branch_behind depth k (map role (part_lines ps ++ rest)) ≡ branch_behind depth (k + length (part_lines ps)) (map role rest)
   behind_parts Done depth k rest are = ap (λ (z : ℕ). branch_behind depth z (map role rest)) (omega arith)
   behind_parts (Run rs ps) depth k rest are =
-      ap (λ (z : List LogicalLine). branch_behind depth k (map role z)) (append_assoc rs (part_lines ps) rest) ∙ text_roles rs depth k (part_lines ps ++ rest) are.1 ∙ behind_parts ps depth (k + length rs) rest are.3 ∙ ap (λ (z : ℕ). branch_behind depth z (map role rest)) (omega (arith, length-append rs (part_lines ps)))
+      ap (λ (z : List LogicalLine). branch_behind depth k (map role z)) (append_assoc rs (part_lines ps) rest)
+      ∙ text_roles rs depth k (part_lines ps ++ rest) are.1
+      ∙ behind_parts ps depth (k + length rs) rest are.3
+      ∙ ap (λ (z : ℕ). branch_behind depth z (map role rest)) (omega (arith, length-append rs (part_lines ps)))
   behind_parts (Control r ps) depth k rest are =
       one_role depth k r (part_lines ps ++ rest) ControlLine are.0 ∙ behind_parts ps depth (k + 1) rest are.1 ∙ ap (λ (z : ℕ). branch_behind depth z (map role rest)) (omega arith)
   behind_parts (Section r ps bs qs) depth k rest are =
-      ap (λ (z : List LogicalLine). branch_behind depth k (map role z)) (section_lines r ps qs bs rest) ∙ one_role depth k r (part_lines ps ++ (branch_lines bs ++ (part_lines qs ++ rest))) Opens are.0 ∙ behind_parts ps (suc depth) (k + 1) (branch_lines bs ++ (part_lines qs ++ rest)) are.1 ∙ behind_branches bs false depth (k + 1 + length (part_lines ps)) (part_lines qs ++ rest) are.2 ∙ behind_parts qs depth (k + 1 + length (part_lines ps) + length (branch_lines bs)) rest are.3 ∙ ap (λ (z : ℕ). branch_behind depth z (map role rest)) (omega (arith, length-append (part_lines ps ++ branch_lines bs) (part_lines qs), length-append (part_lines ps) (branch_lines bs)))
+      ap (λ (z : List LogicalLine). branch_behind depth k (map role z)) (section_lines r ps qs bs rest)
+      ∙ one_role depth k r (part_lines ps ++ (branch_lines bs ++ (part_lines qs ++ rest))) Opens are.0
+      ∙ behind_parts ps (suc depth) (k + 1) (branch_lines bs ++ (part_lines qs ++ rest)) are.1
+      ∙ behind_branches bs false depth (k + 1 + length (part_lines ps)) (part_lines qs ++ rest) are.2
+      ∙ behind_parts qs depth (k + 1 + length (part_lines ps) + length (branch_lines bs)) rest are.3
+      ∙ ap (λ (z : ℕ). branch_behind depth z (map role rest))
+      (omega (arith, length-append (part_lines ps ++ branch_lines bs) (part_lines qs), length-append (part_lines ps) (branch_lines bs)))
 
-  pub behind_branches : (bs : Branches) (last : Bool) (depth k : ℕ) (rest : List LogicalLine) → AreBranches last bs → branch_behind (suc depth) k (map role (branch_lines bs ++ rest)) ≡ branch_behind depth (k + length (branch_lines bs)) (map role rest)
+  pub behind_branches : (bs : Branches) (last : Bool) (depth k : ℕ) (rest : List LogicalLine)
+      → AreBranches last bs
+      → branch_behind (suc depth) k (map role (branch_lines bs ++ rest)) ≡ branch_behind depth (k + length (branch_lines bs)) (map role rest)
   behind_branches (End r) last depth k rest are = one_role (suc depth) k r rest Closes are
   behind_branches (Branch r ps bs) last depth k rest (first, final, is, parts, more) =
-      ap (λ (z : List LogicalLine). branch_behind (suc depth) k (map role z)) (branch_line r ps bs rest) ∙ one_role (suc depth) k r (part_lines ps ++ (branch_lines bs ++ rest)) (Elses final) is ∙ behind_parts ps (suc depth) (k + 1) (branch_lines bs ++ rest) parts ∙ behind_branches bs final depth (k + 1 + length (part_lines ps)) rest more ∙ ap (λ (z : ℕ). branch_behind depth z (map role rest)) (omega (arith, length-append (part_lines ps) (branch_lines bs)))
+      ap (λ (z : List LogicalLine). branch_behind (suc depth) k (map role z)) (branch_line r ps bs rest)
+      ∙ one_role (suc depth) k r (part_lines ps ++ (branch_lines bs ++ rest)) (Elses final) is
+      ∙ behind_parts ps (suc depth) (k + 1) (branch_lines bs ++ rest) parts
+      ∙ behind_branches bs final depth (k + 1 + length (part_lines ps)) rest more
+      ∙ ap (λ (z : ℕ). branch_behind depth z (map role rest)) (omega (arith, length-append (part_lines ps) (branch_lines bs)))
 
 -- lines without tokens
 
@@ -103,7 +118,11 @@ text_front (r ∷ rs) rest k x all (inl here) = let later = text_front rs rest (
 text_front (r ∷ rs) rest k x all (inr here) = let opens = here.0 in let text = all.0 in absurd (cc)
 
 -- the first line behind the parts of a section is its next branch line
-closed_first : (ps : Parts) (h : LogicalLine) (rest : List LogicalLine) (k : ℕ) → AreParts ps → ((j : ℕ) → branch_behind 0 j (map role (h ∷ rest)) ≡ Some j) → ClosedAtOnce k (part_lines ps ++ (h ∷ rest)) → (role h ≡ Closes) × AllByRecursion IsBlankLine rest
+closed_first : (ps : Parts) (h : LogicalLine) (rest : List LogicalLine) (k : ℕ)
+    → AreParts ps
+    → ((j : ℕ) → branch_behind 0 j (map role (h ∷ rest)) ≡ Some j)
+    → ClosedAtOnce k (part_lines ps ++ (h ∷ rest))
+    → (role h ≡ Closes) × AllByRecursion IsBlankLine rest
 closed_first ps h rest k are here closed =
     let n = length (part_lines ps) in
     let next : Some (k + n) ≡ Some (k + closed.skipped) = sym (behind_parts ps 0 k (h ∷ rest) are ∙ here (k + n)) ∙ closed.next in
@@ -114,7 +133,12 @@ closed_first ps h rest k are here closed =
     let tail : closed.rest ≡ rest = cc in
     (ap role head ∙ closed.closes, subst (AllByRecursion IsBlankLine) tail closed.blank)
 
-flat_section : (r : LogicalLine) (ps qs : Parts) (bs : Branches) (x : List ℕ) (k : ℕ) → AreParts (Section r ps bs qs) → AllByRecursion IsTextIfBlank (part_lines (Section r ps bs qs)) → guard_name r.tokens ≡ Some x → ClosedAtOnce k (part_lines ps ++ branch_lines bs ++ part_lines qs) → GuardedParts (Section r ps bs qs) x
+flat_section : (r : LogicalLine) (ps qs : Parts) (bs : Branches) (x : List ℕ) (k : ℕ)
+    → AreParts (Section r ps bs qs)
+    → AllByRecursion IsTextIfBlank (part_lines (Section r ps bs qs))
+    → guard_name r.tokens ≡ Some x
+    → ClosedAtOnce k (part_lines ps ++ branch_lines bs ++ part_lines qs)
+    → GuardedParts (Section r ps bs qs) x
 flat_section r ps qs (End e) x k are texts name closed =
     let first = closed_first ps e (part_lines qs) k are.1 (λ j. one_role 0 j e (part_lines qs) Closes are.2) (subst (ClosedAtOnce k) (append_assoc (part_lines ps) (e ∷ []) (part_lines qs)) closed) in
     (name, blank_parts qs are.3 (parted IsTextIfBlank (part_lines ps ++ (e ∷ [])) (part_lines qs) texts.1).1 first.1)

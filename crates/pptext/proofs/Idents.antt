@@ -26,7 +26,8 @@ ident_byte text l t = next_from_only IdentPart text 1 (cases (is_nondigit (get_o
 
 pub ident_universal : (text : List ℕ) (n : ℕ) → is_nondigit (get_or text 0 0) || is_digit (get_or text 0 0) ≡ false → OnlyPart IsUniversal text n → NextPart IdentPart text n
 ident_universal text n f u =
-    let whole : OnlyPart IdentPart text n = ident_part_later text n (or_right (is_nondigit (get_or text 0 0)) (is_digit (get_or text 0 0)) f) (nondigit_later text n (or_left (is_nondigit (get_or text 0 0)) (is_digit (get_or text 0 0)) f) u) in
+    let whole : OnlyPart IdentPart text n = ident_part_later text n (or_right (is_nondigit (get_or text 0 0)) (is_digit (get_or text 0 0)) f)
+    (nondigit_later text n (or_left (is_nondigit (get_or text 0 0)) (is_digit (get_or text 0 0)) f) u) in
     (whole.0, λ some. next_from_only IdentPart text n (whole.1 some))
 
 pub ident_end : (text : List ℕ) → length text ≡ 0 → NoFront IdentPart text

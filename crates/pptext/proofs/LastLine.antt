@@ -1,5 +1,6 @@
 -- A cleaned text ends in a new-line, so that each token stands on a line.
-use Rattle.std.proofs.Common.{◌≡◌, ℕ, zero, suc, ◌+◌, ◌<◌, Bool, true, false, ◌&&◌, ◌==◌, if◌then◌else◌, List, [], ◌∷◌, ◌++◌, length, drop, refl, sym, ap, ◌∙◌, subst, inl, inr, ◌⊎◌, arith, append_assoc, length-append, get_or, IsTrue, None, Some, Ok}
+use Rattle.std.proofs.Common.{◌≡◌, ℕ, zero, suc, ◌+◌, ◌<◌, Bool, true, false, ◌&&◌, ◌==◌, if◌then◌else◌, List, [], ◌∷◌, ◌++◌, length, drop, refl, sym}
+use Rattle.std.proofs.Common.{ap, ◌∙◌, subst, inl, inr, ◌⊎◌, arith, append_assoc, length-append, get_or, IsTrue, None, Some, Ok}
 use Rattle.std.specs.Prelude.{Option}
 use Rattle.std.proofs.lemmas.Bool.{false≢true}
 use Rattle.std.proofs.lemmas.Bool.Decides.{nat_tests}
@@ -59,12 +60,22 @@ trigraphs_end zero (c ∷ d ∷ f ∷ []) e = cases (trigraph_at (c ∷ d ∷ f 
     none true = ap (λ z. trigraph z == 0) e
     none false = refl
 
-    cases : (b : Bool) → (trigraph_at (c ∷ d ∷ f ∷ []) == 0) ≡ b → last (codes_of (trigraphs_behind 0 (d ∷ f ∷ []))) ≡ 10 → last (codes_of (if b then c ∷ trigraphs_behind 0 (d ∷ f ∷ []) else record { code = trigraph_at (c ∷ d ∷ f ∷ []); at = c.at } ∷ trigraphs_behind 2 (d ∷ f ∷ []))) ≡ 10
+    cases : (b : Bool)
+        → (trigraph_at (c ∷ d ∷ f ∷ []) == 0) ≡ b
+        → last (codes_of (trigraphs_behind 0 (d ∷ f ∷ []))) ≡ 10
+        → last (codes_of
+        (if b then c ∷ trigraphs_behind 0 (d ∷ f ∷ []) else record { code = trigraph_at (c ∷ d ∷ f ∷ []); at = c.at } ∷ trigraphs_behind 2 (d ∷ f ∷ [])))
+        ≡ 10
     cases true is later = last_behind c.code (codes_of (trigraphs_behind 0 (d ∷ f ∷ []))) later
     cases false is later = absurd (false≢true (sym is ∙ none (c.code == 63 && d.code == 63)))
 trigraphs_end zero (c ∷ d ∷ f ∷ g ∷ cs) e = cases (trigraph_at (c ∷ d ∷ f ∷ g ∷ cs) == 0) (trigraphs_end zero (d ∷ f ∷ g ∷ cs) e) (trigraphs_end zero (g ∷ cs) e)
   where
-    cases : (b : Bool) → last (codes_of (trigraphs_behind 0 (d ∷ f ∷ g ∷ cs))) ≡ 10 → last (codes_of (trigraphs_behind 0 (g ∷ cs))) ≡ 10 → last (codes_of (if b then c ∷ trigraphs_behind 0 (d ∷ f ∷ g ∷ cs) else record { code = trigraph_at (c ∷ d ∷ f ∷ g ∷ cs); at = c.at } ∷ trigraphs_behind 2 (d ∷ f ∷ g ∷ cs))) ≡ 10
+    cases : (b : Bool)
+        → last (codes_of (trigraphs_behind 0 (d ∷ f ∷ g ∷ cs))) ≡ 10
+        → last (codes_of (trigraphs_behind 0 (g ∷ cs))) ≡ 10
+        → last (codes_of (if b then c ∷ trigraphs_behind 0 (d ∷ f ∷ g ∷ cs)
+        else record { code = trigraph_at (c ∷ d ∷ f ∷ g ∷ cs); at = c.at } ∷ trigraphs_behind 2 (d ∷ f ∷ g ∷ cs)))
+        ≡ 10
     cases true later last_later = last_behind c.code (codes_of (trigraphs_behind 0 (d ∷ f ∷ g ∷ cs))) later
     cases false later last_later = last_behind (trigraph_at (c ∷ d ∷ f ∷ g ∷ cs)) (codes_of (trigraphs_behind 0 (g ∷ cs))) last_later
 
@@ -93,7 +104,10 @@ splices_end zero (c ∷ d ∷ []) none e = cases (splice_at (c ∷ d ∷ [])) (n
 splices_end zero (c ∷ d ∷ f ∷ cs) none e =
     cases (splice_at (c ∷ d ∷ f ∷ cs)) (splices_end zero (d ∷ f ∷ cs) (no_splice c (d ∷ f ∷ cs) none).1 e) (splices_end zero (f ∷ cs) (no_splice d (f ∷ cs) (no_splice c (d ∷ f ∷ cs) none).1).1 e)
   where
-    cases : (b : Bool) → last (codes_of (splices_behind 0 (d ∷ f ∷ cs))) ≡ 10 → last (codes_of (splices_behind 0 (f ∷ cs))) ≡ 10 → last (codes_of (if b then splices_behind 1 (d ∷ f ∷ cs) else c ∷ splices_behind 0 (d ∷ f ∷ cs))) ≡ 10
+    cases : (b : Bool)
+        → last (codes_of (splices_behind 0 (d ∷ f ∷ cs))) ≡ 10
+        → last (codes_of (splices_behind 0 (f ∷ cs))) ≡ 10
+        → last (codes_of (if b then splices_behind 1 (d ∷ f ∷ cs) else c ∷ splices_behind 0 (d ∷ f ∷ cs))) ≡ 10
     cases true later after = after
     cases false later after = last_behind c.code (codes_of (splices_behind 0 (d ∷ f ∷ cs))) later
 
@@ -169,20 +183,27 @@ pieces_end line (p ∷ q ∷ ps) each e =
     let some = some_piece (with_piece line p p.sort) (codes_of (q.chars ++ (laid ps ++ []))) (length q.chars) q.sort each.1.0 in
     let l = length-append q.chars (laid ps) in
     let m = length-map (laid (q ∷ ps)) (λ (c : Char). c.code) in
-    let split : last (codes_of (p.chars ++ laid (q ∷ ps))) ≡ last (codes_of (laid (q ∷ ps))) = ap last (map-append (λ (c : Char). c.code) p.chars (laid (q ∷ ps))) ∙ last-append (codes_of p.chars) (codes_of (laid (q ∷ ps))) (omega arith) in
+    let split : last (codes_of (p.chars ++ laid (q ∷ ps))) ≡ last (codes_of (laid (q ∷ ps))) =
+    ap last (map-append (λ (c : Char). c.code) p.chars (laid (q ∷ ps))) ∙ last-append (codes_of p.chars) (codes_of (laid (q ∷ ps))) (omega arith) in
     pieces_end (with_piece line p p.sort) (q ∷ ps) each.1 (sym split ∙ e)
 
 spelled-append : (a b : List Token) → spelled (a ++ b) ≡ spelled a ++ spelled b
 spelled-append [] b = refl
 spelled-append (t ∷ a) b = ap (λ z. t.text ∷ z) (spelled-append a b)
 
-kept_one : (profile : Profile) (space : Bool) (ts : List Token) (chars : List Char) (s : Sort) → s ≡ NewLine → spelled (tokens_of (lines_ended profile ts chars s ++ lines_behind profile (leaves_space s) (tokens_after space ts chars s) [])) ≡ spelled ts ++ (spelling_of chars s ++ [])
+kept_one : (profile : Profile) (space : Bool) (ts : List Token) (chars : List Char) (s : Sort)
+    → s ≡ NewLine
+    → spelled (tokens_of (lines_ended profile ts chars s ++ lines_behind profile (leaves_space s) (tokens_after space ts chars s) []))
+    ≡ spelled ts ++ (spelling_of chars s ++ [])
 kept_one profile space ts chars NewLine e = ap spelled (append-nil ts) ∙ sym (append-nil (spelled ts))
 kept_one profile space ts chars Blank e = cc
 kept_one profile space ts chars Comment e = cc
 kept_one profile space ts chars (Spelled k) e = cc
 
-kept_more : (profile : Profile) (space : Bool) (ts : List Token) (chars : List Char) (s : Sort) (ps : List Piece) → ((after : Bool) (us : List Token) → spelled (tokens_of (lines_behind profile after us ps)) ≡ spelled us ++ spellings_of ps) → spelled (tokens_of (lines_ended profile ts chars s ++ lines_behind profile (leaves_space s) (tokens_after space ts chars s) ps)) ≡ spelled ts ++ (spelling_of chars s ++ spellings_of ps)
+kept_more : (profile : Profile) (space : Bool) (ts : List Token) (chars : List Char) (s : Sort) (ps : List Piece)
+    → ((after : Bool) (us : List Token) → spelled (tokens_of (lines_behind profile after us ps)) ≡ spelled us ++ spellings_of ps)
+    → spelled (tokens_of (lines_ended profile ts chars s ++ lines_behind profile (leaves_space s) (tokens_after space ts chars s) ps))
+    ≡ spelled ts ++ (spelling_of chars s ++ spellings_of ps)
 kept_more profile space ts chars NewLine ps later = spelled-append ts (tokens_of (lines_behind profile true [] ps)) ∙ ap (λ z. spelled ts ++ z) (later true [])
 kept_more profile space ts chars Blank ps later = later true ts
 kept_more profile space ts chars Comment ps later = later true ts
@@ -194,7 +215,10 @@ kept profile space ts [] e = absurd e
 kept profile space ts (p ∷ []) e = kept_one profile space ts p.chars p.sort e
 kept profile space ts (p ∷ q ∷ ps) e = kept_more profile space ts p.chars p.sort (q ∷ ps) (λ after us. kept profile after us (q ∷ ps) e)
 
-pub keeps_every_token : (profile : Profile) (file : ℕ) (bytes : List ℕ) (chars : List Char) (pieces : List Piece) → cleaned file bytes ≡ Ok chars → Cut chars pieces → spelled (tokens_of (lines_of profile pieces)) ≡ spellings_of pieces
+pub keeps_every_token : (profile : Profile) (file : ℕ) (bytes : List ℕ) (chars : List Char) (pieces : List Piece)
+    → cleaned file bytes ≡ Ok chars
+    → Cut chars pieces
+    → spelled (tokens_of (lines_of profile pieces)) ≡ spellings_of pieces
 keeps_every_token profile file bytes chars [] clean cut = refl
 keeps_every_token profile file bytes chars (p ∷ ps) clean cut = cases (cleaned_end file bytes chars clean)
   where

@@ -33,7 +33,9 @@ trigraphs_length (suc skip) (c ∷ cs) = let more = trigraphs_length skip cs in 
 trigraphs_length zero (c ∷ cs) =
     let plain = trigraphs_length 0 cs in
     let replaced = trigraphs_length 2 cs in
-    elim (trigraph_at (c ∷ cs) == 0) as (λ t. length (if t then c ∷ trigraphs_behind 0 cs else record { code = trigraph_at (c ∷ cs); at = c.at } ∷ trigraphs_behind 2 cs) ≤ suc (length cs)) [ true ↦ omega arith | false ↦ omega arith ]
+    elim (trigraph_at (c ∷ cs) == 0) as
+    (λ t. length (if t then c ∷ trigraphs_behind 0 cs else record { code = trigraph_at (c ∷ cs); at = c.at } ∷ trigraphs_behind 2 cs) ≤ suc (length cs))
+    [ true ↦ omega arith | false ↦ omega arith ]
 
 splices_length : (skip : ℕ) (cs : List Char) → length (splices_behind skip cs) ≤ length cs
 splices_length zero [] = omega arith
@@ -54,4 +56,14 @@ cleaned_length file bytes chars e =
     let kept = without_returns (placed file 1 1 raw) in
     let ended = terminated kept in
     let same : splices (trigraphs ended) ≡ chars = unless_ok (splice_at_end (trigraphs ended)) (splices (trigraphs ended)) chars e in
-    omega (arith, ap length same, splices_length 0 (trigraphs ended), trigraphs_length 0 ended, length-append kept (missing_newline kept), missing_length kept, returns_length (placed file 1 1 raw), placed_length file 1 1 raw, unmarked_length bytes)
+    omega (
+      arith,
+      ap length same,
+      splices_length 0 (trigraphs ended),
+      trigraphs_length 0 ended,
+      length-append kept (missing_newline kept),
+      missing_length kept,
+      returns_length (placed file 1 1 raw),
+      placed_length file 1 1 raw,
+      unmarked_length bytes,
+    )

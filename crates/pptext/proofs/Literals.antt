@@ -1,5 +1,6 @@
 -- Character constants and string literals: what opens them, their elements, and their end.
-use Rattle.std.proofs.Common.{◌≡◌, ℕ, zero, suc, ◌+◌, ◌-◌, ◌<◌, ◌≤◌, Bool, true, false, not, ◌||◌, ◌==◌, List, [], ◌∷◌, ◌++◌, length, take, drop, refl, sym, ap, ◌∙◌, inl, inr, ◌⊎◌, arith, length-drop, get_or, Contains}
+use Rattle.std.proofs.Common.{◌≡◌, ℕ, zero, suc, ◌+◌, ◌-◌, ◌<◌, ◌≤◌, Bool, true, false, not, ◌||◌, ◌==◌, List, [], ◌∷◌, ◌++◌, length}
+use Rattle.std.proofs.Common.{take, drop, refl, sym, ap, ◌∙◌, inl, inr, ◌⊎◌, arith, length-drop, get_or, Contains}
 use Rattle.std.proofs.lemmas.List.{append-nil}
 use Rattle.std.proofs.lemmas.Bool.Decides.{nat_tests}
 use Rattle.pptext.specs.Languages.{Exactly, One, Then, Repeated, NoFront, IsOnly, OnlyPart}
@@ -43,13 +44,17 @@ backslash_here text l e = exactly_here (92 ∷ []) text (omega arith) (one_begin
 -- `\` before a new-line
 pub escape_lacks : (quote : ℕ) (text : List ℕ) → 2 ≤ length text → get_or text 0 0 ≡ 92 → get_or text 1 0 ≡ 10 → OnlyPart (IsElement quote) text 0
 escape_lacks quote text l e f =
-    only_zero (IsElement quote) text (either_lacks (One (plain quote)) Escape text (one_lacks (plain quote) text (plain-no_backslash quote (get_or text 0 0) e)) (then_lacks_rest (Exactly (92 ∷ [])) (One escaped) text 1 (backslash_here text l e) (one_lacks escaped (drop 1 text) (escaped-no_newline (get_or (drop 1 text) 0 0) (head_behind text ∙ f)))))
+    only_zero (IsElement quote) text
+    (either_lacks (One (plain quote)) Escape text (one_lacks (plain quote) text (plain-no_backslash quote (get_or text 0 0) e))
+    (then_lacks_rest (Exactly (92 ∷ [])) (One escaped) text 1 (backslash_here text l e)
+    (one_lacks escaped (drop 1 text) (escaped-no_newline (get_or (drop 1 text) 0 0) (head_behind text ∙ f)))))
 
 pub escape_here : (quote : ℕ) (text : List ℕ) → 2 ≤ length text → get_or text 0 0 ≡ 92 → (get_or text 1 0 ≡ 10 → ⊥) → OnlyPart (IsElement quote) text 2
 escape_here quote text l e f =
     let d : length (drop 1 text) ≡ length text - 1 = length-drop 1 text in
     let second : IsOnly (One escaped) (drop 1 text) 1 = one_here escaped (drop 1 text) (omega arith) (escaped-other (get_or (drop 1 text) 0 0) (λ g. f (sym (head_behind text) ∙ g))) in
-    either_right (One (plain quote)) Escape text 2 (one_lacks (plain quote) text (plain-no_backslash quote (get_or text 0 0) e)) (only_some Escape text 2 (then_only (Exactly (92 ∷ [])) (One escaped) text 1 1 (backslash_here text l e) second))
+    either_right (One (plain quote)) Escape text 2 (one_lacks (plain quote) text (plain-no_backslash quote (get_or text 0 0) e))
+    (only_some Escape text 2 (then_only (Exactly (92 ∷ [])) (One escaped) text 1 1 (backslash_here text l e) second))
 
 abbrev pub IsLetter : ℕ → Type 0
 IsLetter c = (c ≡ 117) ⊎ ((c ≡ 85) ⊎ (c ≡ 76))
@@ -109,7 +114,12 @@ letter-no_quote c q (inr (inl e)) f l = absurd (omega arith)
 letter-no_quote c q (inr (inr e)) f l = absurd (omega arith)
 
 -- a letter and the quote
-letter_opening : (prefixes : List (List ℕ)) (q : ℕ) (text : List ℕ) → ((c : ℕ) → IsLetter c → Contains prefixes (c ∷ [])) → 2 ≤ length text → IsLetter (get_or text 0 0) → get_or text 1 0 ≡ q → Then (Contains prefixes) (Exactly (q ∷ [])) (take 2 text)
+letter_opening : (prefixes : List (List ℕ)) (q : ℕ) (text : List ℕ)
+    → ((c : ℕ) → IsLetter c → Contains prefixes (c ∷ []))
+    → 2 ≤ length text
+    → IsLetter (get_or text 0 0)
+    → get_or text 1 0 ≡ q
+    → Then (Contains prefixes) (Exactly (q ∷ [])) (take 2 text)
 letter_opening prefixes q [] h l p e = absurd (omega arith)
 letter_opening prefixes q (x ∷ []) h l p e = absurd (omega arith)
 letter_opening prefixes q (x ∷ y ∷ text) h l p e = (x ∷ [], y ∷ [], refl, h x p, ap (λ z. z ∷ []) e)
@@ -171,7 +181,8 @@ Opened prefixes q rest = Then (Contains prefixes) (Then (Exactly (q ∷ [])) res
 
 opened_part : (prefixes : List (List ℕ)) (q : ℕ) (rest : List ℕ → Type 0) (text : List ℕ) (n : ℕ) → OnlyPart (Then (Then (Contains prefixes) (Exactly (q ∷ []))) rest) text n → OnlyPart (Opened prefixes q rest) text n
 opened_part prefixes q rest text n p =
-    part_along (Then (Then (Contains prefixes) (Exactly (q ∷ []))) rest) (Opened prefixes q rest) text n (λ s t. then_right (Contains prefixes) (Exactly (q ∷ [])) rest s t) (λ s t. then_left (Contains prefixes) (Exactly (q ∷ [])) rest s t) p
+    part_along (Then (Then (Contains prefixes) (Exactly (q ∷ []))) rest) (Opened prefixes q rest) text n
+    (λ s t. then_right (Contains prefixes) (Exactly (q ∷ [])) rest s t) (λ s t. then_left (Contains prefixes) (Exactly (q ∷ [])) rest s t) p
 
 pub char_const_part : (text : List ℕ) (n : ℕ) → OnlyPart (Then CharOpening (Then (IsElement 39) (Then (Repeated (IsElement 39)) (Exactly (39 ∷ []))))) text n → OnlyPart IsCharConst text n
 char_const_part text n p = opened_part char_prefixes 39 (Then (IsElement 39) (Then (Repeated (IsElement 39)) (Exactly (39 ∷ [])))) text n p

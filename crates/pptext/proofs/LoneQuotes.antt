@@ -56,7 +56,12 @@ element_quote quote text n h p j lt e = cases p.part
 abbrev pub Passed : ℕ → List ℕ → ℕ → Type 0
 Passed quote text at = (r : ℕ) → r < at → get_or text r 0 ≡ quote → NoFront (IsQuoted quote) (drop at text) → NoFront (IsQuoted quote) (drop (r + 1) text)
 
-pub passed_more : (quote : ℕ) (text : List ℕ) (at n : ℕ) → (quote ≡ 92 → ⊥) → (get_or (drop at text) 0 0 ≡ quote → ⊥) → IsOnly (IsElement quote) (drop at text) n → Passed quote text at → Passed quote text (at + n)
+pub passed_more : (quote : ℕ) (text : List ℕ) (at n : ℕ)
+    → (quote ≡ 92 → ⊥)
+    → (get_or (drop at text) 0 0 ≡ quote → ⊥)
+    → IsOnly (IsElement quote) (drop at text) n
+    → Passed quote text at
+    → Passed quote text (at + n)
 passed_more quote text at n h apart p passed r lt e none = cases (cases_lt r at)
   where
     cases : (r < at) ⊎ (at ≤ r) → NoFront (IsQuoted quote) (drop (r + 1) text)
@@ -74,7 +79,11 @@ lone_opening quote text opening n some le e h =
     subst (λ i. NoFront (IsQuoted quote) (drop i text)) same (h (opening - 1) le e)
 
 -- the opening and what was searched behind it
-pub lone_literal : (quote : ℕ) (text : List ℕ) (opening n : ℕ) → ((r : ℕ) → r + 1 < opening → get_or text r 0 ≡ quote → ⊥) → NoFront (IsQuoted quote) (drop opening text) → AreLone quote (drop opening text) n → AreLone quote text (opening + n)
+pub lone_literal : (quote : ℕ) (text : List ℕ) (opening n : ℕ)
+    → ((r : ℕ) → r + 1 < opening → get_or text r 0 ≡ quote → ⊥)
+    → NoFront (IsQuoted quote) (drop opening text)
+    → AreLone quote (drop opening text) n
+    → AreLone quote text (opening + n)
 lone_literal quote text opening n first none lone r lt e = cases (cases_lt r opening)
   where
     cases : (r < opening) ⊎ (opening ≤ r) → NoFront (IsQuoted quote) (drop (r + 1) text)

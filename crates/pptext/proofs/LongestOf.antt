@@ -1,5 +1,6 @@
 -- The longest spelling that begins a text, from the longest of each kind.
-use Rattle.std.proofs.Common.{◌≡◌, ℕ, zero, suc, ◌-◌, ◌<◌, ◌≤◌, Bool, true, false, not, ◌||◌, ◌&&◌, ◌==◌, List, [], ◌∷◌, length, take, drop, refl, sym, ap, ◌∙◌, subst, inl, inr, ◌⊎◌, arith, length-drop, get_or, Contains}
+use Rattle.std.proofs.Common.{◌≡◌, ℕ, zero, suc, ◌-◌, ◌<◌, ◌≤◌, Bool, true, false, not, ◌||◌, ◌&&◌, ◌==◌, List, [], ◌∷◌, length, take}
+use Rattle.std.proofs.Common.{drop, refl, sym, ap, ◌∙◌, subst, inl, inr, ◌⊎◌, arith, length-drop, get_or, Contains}
 use Rattle.std.proofs.lemmas.Bool.{false≢true}
 use Rattle.std.proofs.lemmas.Bool.Decides.{nat_tests}
 use Rattle.pptext.specs.declared.tokens.Kind.{Kind}
@@ -81,7 +82,9 @@ number_head-period c e f = grind (arith, nat_tests)
 
 pub number_lacks : (text : List ℕ) → is_number_head (get_or text 0 0) ≡ false → NoFront IsNumber text
 number_lacks text e =
-    then_lacks NumberStart (Repeated IsNumberPart) text (either_lacks (One is_digit) Fraction text (one_lacks is_digit text (number_head-digit (get_or text 0 0) e)) (then_lacks (Exactly (46 ∷ [])) (One is_digit) text (exactly_lacks 46 [] text (number_head-period (get_or text 0 0) e))))
+    then_lacks NumberStart (Repeated IsNumberPart) text
+    (either_lacks (One is_digit) Fraction text (one_lacks is_digit text (number_head-digit (get_or text 0 0) e))
+    (then_lacks (Exactly (46 ∷ [])) (One is_digit) text (exactly_lacks 46 [] text (number_head-period (get_or text 0 0) e))))
 
 -- no punctuator begins as a word or a literal does
 abbrev pub begins_word : ℕ → Bool
@@ -197,7 +200,15 @@ pub other_here : (text : List ℕ) → 0 < length text → is_blank (get_or text
 other_here text l e f ident number punct =
     ((get_or text 0 0, one_begins text (get_or text 0 0) l refl, visible (get_or text 0 0) e f), ident 1 (omega arith), number 1 (omega arith), punct 1 (omega arith))
 
-pub other_longest : (text : List ℕ) → 0 < length text → IsOther (take 1 text) → NoFront IsCharConst text → NoFront IsStr text → NoFront IsIdent text → NoFront IsNumber text → NoFront IsPunct text → Longest IsSpelling text 1
+pub other_longest : (text : List ℕ)
+    → 0 < length text
+    → IsOther (take 1 text)
+    → NoFront IsCharConst text
+    → NoFront IsStr text
+    → NoFront IsIdent text
+    → NoFront IsNumber text
+    → NoFront IsPunct text
+    → Longest IsSpelling text 1
 other_longest text l p char_const string ident number punct =
     longest_spelling text 1 Other (omega arith) (omega arith) p (record {
       ident = none_longer IsIdent text 1 ident;

@@ -62,7 +62,14 @@ digit_part text l t =
     next_some IsNumberPart text 1 (next_from_only IsNumberPart text 1 (whole.1 (omega arith)))
 
 -- the letter alone is a part too, and then the sign would stand before a part
-exponent_others : (text : List ℕ) → 2 ≤ length text → is_exponent (get_or text 0 0) ≡ true → is_sign (get_or text 1 0) ≡ true → (m : ℕ) → m ≤ length text → IsNumberPart (take m text) → (m ≡ 2) ⊎ ((m < 2) × NoFront IsNumberPart (drop m text))
+exponent_others : (text : List ℕ)
+    → 2 ≤ length text
+    → is_exponent (get_or text 0 0) ≡ true
+    → is_sign (get_or text 1 0) ≡ true
+    → (m : ℕ)
+    → m ≤ length text
+    → IsNumberPart (take m text)
+    → (m ≡ 2) ⊎ ((m < 2) × NoFront IsNumberPart (drop m text))
 exponent_others text l t s m fits (inl nondigit) =
     let one : m ≡ 1 = ((nondigit_here text (omega arith) (exponent-nondigit (get_or text 0 0) t)).1 (omega arith)).only m fits nondigit in
     let none : NoFront IsNumberPart (drop 1 text) = sign_begins_none (drop 1 text) (ap is_sign (head_behind text) ∙ s) in
@@ -79,9 +86,15 @@ exponent_part text l t s =
       others = λ m fits p. exponent_others text l t s m fits p;
     })
 
-pub nondigit_part : (text : List ℕ) (n : ℕ) → digit_or_period (get_or text 0 0) ≡ false → ((2 ≤ length text) × (is_exponent (get_or text 0 0) ≡ true) × (is_sign (get_or text 1 0) ≡ true) → ⊥) → OnlyPart IsNondigit text n → NextPart IsNumberPart text n
+pub nondigit_part : (text : List ℕ) (n : ℕ)
+    → digit_or_period (get_or text 0 0) ≡ false
+    → ((2 ≤ length text) × (is_exponent (get_or text 0 0) ≡ true) × (is_sign (get_or text 1 0) ≡ true) → ⊥)
+    → OnlyPart IsNondigit text n
+    → NextPart IsNumberPart text n
 nondigit_part text n f g p =
-    let lacks : NoFront (Either (One digit_or_period) Exponent) text = either_lacks (One digit_or_period) Exponent text (one_lacks digit_or_period text f) (λ m fits e. let h = two_front is_exponent is_sign text m fits e in g (h.1, h.2, h.3)) in
+    let lacks : NoFront (Either (One digit_or_period) Exponent) text =
+    either_lacks (One digit_or_period) Exponent text (one_lacks digit_or_period text f)
+    (λ m fits e. let h = two_front is_exponent is_sign text m fits e in g (h.1, h.2, h.3)) in
     let whole : OnlyPart IsNumberPart text n = either_left_part IsNondigit (Either (One digit_or_period) Exponent) text n p lacks in
     (whole.0, λ some. next_from_only IsNumberPart text n (whole.1 some))
 

@@ -1,5 +1,6 @@
 -- A file's characters from an offset on, and where they stand.
-use Rattle.std.proofs.Common.{◌≡◌, ℕ, zero, suc, ◌+◌, ◌-◌, ◌<◌, ◌≤◌, true, false, not, ◌==◌, if◌then◌else◌, List, [], ◌∷◌, ◌++◌, length, take, drop, get_or, refl, sym, ap, ◌∙◌, arith, length-drop}
+use Rattle.std.proofs.Common.{◌≡◌, ℕ, zero, suc, ◌+◌, ◌-◌, ◌<◌, ◌≤◌, true, false, not, ◌==◌, if◌then◌else◌, List, [], ◌∷◌}
+use Rattle.std.proofs.Common.{◌++◌, length, take, drop, get_or, refl, sym, ap, ◌∙◌, arith, length-drop}
 use Rattle.std.proofs.lemmas.List.{drop_more, take-append-drop, take-take, drop-take, length-map}
 use Rattle.pptext.specs.declared.tokens.Place.{Place}
 use Rattle.pptext.specs.declared.characters.Char.{Char}
@@ -19,7 +20,8 @@ placed_at p bs = placed p.file p.line p.col bs
 
 pub placed_tail : (p : Place) (b : ℕ) (bs : List ℕ) → placed_at p (b ∷ bs) ≡ record { code = b; at = p } ∷ placed_at (behind_byte b p) bs
 placed_tail p b bs =
-    elim (b == newline) as (λ t. record { code = b; at = p } ∷ (if t then placed p.file (p.line + 1) 1 bs else placed p.file p.line (p.col + 1) bs) ≡ record { code = b; at = p } ∷ placed_at (if t then place p.file (p.line + 1) 1 else next_col p) bs) [
+    elim (b == newline) as (λ t. record { code = b; at = p } ∷ (if t then placed p.file (p.line + 1) 1 bs else placed p.file p.line (p.col + 1) bs)
+    ≡ record { code = b; at = p } ∷ placed_at (if t then place p.file (p.line + 1) 1 else next_col p) bs) [
       | true ↦ refl
       | false ↦ refl
     ]

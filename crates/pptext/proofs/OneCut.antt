@@ -29,7 +29,9 @@ one_each line [] (q ∷ qs) r s a b x y e = absurd (halts_here line q qs s r x e
 one_each line (p ∷ ps) [] r s a b x y e = absurd (halts_here line p ps r s y (sym e) a.0)
 one_each line (p ∷ ps) (q ∷ qs) r s a b x y e =
     let whole : p.chars ++ (laid ps ++ r) ≡ q.chars ++ (laid qs ++ s) = sym (append_assoc p.chars (laid ps) r) ∙ e ∙ append_assoc q.chars (laid qs) s in
-    let same : (length p.chars ≡ length q.chars) × (p.sort ≡ q.sort) = one_piece line (codes_of (p.chars ++ (laid ps ++ r))) (length p.chars) (length q.chars) p.sort q.sort a.0 (subst (λ z. StandsAt line (codes_of z) (length q.chars) q.sort) (sym whole) b.0) in
+    let same : (length p.chars ≡ length q.chars) × (p.sort ≡ q.sort) =
+    one_piece line (codes_of (p.chars ++ (laid ps ++ r))) (length p.chars) (length q.chars) p.sort q.sort a.0
+    (subst (λ z. StandsAt line (codes_of z) (length q.chars) q.sort) (sym whole) b.0) in
     let chars : p.chars ≡ q.chars = sym (take_at p.chars (laid ps ++ r) (length q.chars) same.0) ∙ ap (take (length q.chars)) whole ∙ take_at q.chars (laid qs ++ s) (length q.chars) refl in
     let behind : laid ps ++ r ≡ laid qs ++ s = sym (drop_at p.chars (laid ps ++ r) (length q.chars) same.0) ∙ ap (drop (length q.chars)) whole ∙ drop_at q.chars (laid qs ++ s) (length q.chars) refl in
     let piece : p ≡ q = same_piece p q chars same.1 in

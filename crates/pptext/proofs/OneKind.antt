@@ -109,7 +109,9 @@ run_plain n s (l, all) = list_all-from_AllPass is_plain s (λ k d lt. hex_passes
 universal_plain : Plain IsUniversal
 unfolding is_plain
 universal_plain =
-    either_plain (Then (Exactly (92 ∷ 117 ∷ [])) (IsRun 4 is_hex)) (Then (Exactly (92 ∷ 85 ∷ [])) (IsRun 8 is_hex)) (then_plain (Exactly (92 ∷ 117 ∷ [])) (IsRun 4 is_hex) (exactly_plain (92 ∷ 117 ∷ []) refl) (run_plain 4)) (then_plain (Exactly (92 ∷ 85 ∷ [])) (IsRun 8 is_hex) (exactly_plain (92 ∷ 85 ∷ []) refl) (run_plain 8))
+    either_plain (Then (Exactly (92 ∷ 117 ∷ [])) (IsRun 4 is_hex)) (Then (Exactly (92 ∷ 85 ∷ [])) (IsRun 8 is_hex))
+    (then_plain (Exactly (92 ∷ 117 ∷ [])) (IsRun 4 is_hex) (exactly_plain (92 ∷ 117 ∷ []) refl) (run_plain 4))
+    (then_plain (Exactly (92 ∷ 85 ∷ [])) (IsRun 8 is_hex) (exactly_plain (92 ∷ 85 ∷ []) refl) (run_plain 8))
 
 nondigit_plain : Plain IsNondigit
 nondigit_plain = either_plain (One is_nondigit) IsUniversal (one_plain is_nondigit nondigit_passes) universal_plain
@@ -120,12 +122,17 @@ ident_plain =
 
 number_part_plain : Plain IsNumberPart
 number_part_plain =
-    either_plain IsNondigit (Either (One (λ c. is_digit c || c == 46)) (Then (One is_exponent) (One is_sign))) nondigit_plain (either_plain (One (λ c. is_digit c || c == 46)) (Then (One is_exponent) (One is_sign)) (one_plain (λ c. is_digit c || c == 46) dot_passes) (then_plain (One is_exponent) (One is_sign) (one_plain is_exponent exponent_passes) (one_plain is_sign sign_passes)))
+    either_plain IsNondigit (Either (One (λ c. is_digit c || c == 46)) (Then (One is_exponent) (One is_sign))) nondigit_plain
+    (either_plain (One (λ c. is_digit c || c == 46)) (Then (One is_exponent) (One is_sign)) (one_plain (λ c. is_digit c || c == 46) dot_passes)
+    (then_plain (One is_exponent) (One is_sign) (one_plain is_exponent exponent_passes) (one_plain is_sign sign_passes)))
 
 number_plain : Plain IsNumber
 unfolding is_plain
 number_plain =
-    then_plain (Either (One is_digit) (Then (Exactly (46 ∷ [])) (One is_digit))) (Repeated IsNumberPart) (either_plain (One is_digit) (Then (Exactly (46 ∷ [])) (One is_digit)) (one_plain is_digit digit_passes) (then_plain (Exactly (46 ∷ [])) (One is_digit) (exactly_plain (46 ∷ []) refl) (one_plain is_digit digit_passes))) (repeated_plain IsNumberPart number_part_plain)
+    then_plain (Either (One is_digit) (Then (Exactly (46 ∷ [])) (One is_digit))) (Repeated IsNumberPart)
+    (either_plain (One is_digit) (Then (Exactly (46 ∷ [])) (One is_digit)) (one_plain is_digit digit_passes)
+    (then_plain (Exactly (46 ∷ [])) (One is_digit) (exactly_plain (46 ∷ []) refl) (one_plain is_digit digit_passes)))
+    (repeated_plain IsNumberPart number_part_plain)
 
 punct_passes : (test : List ℕ → Bool) → list_all test punctuators ≡ true → (s : List ℕ) → IsPunct s → test s ≡ true
 punct_passes test all s p = any_passes test punctuators s all p
@@ -163,7 +170,10 @@ char_ends s (a, b, e, p, (c, d, f, q, (g, h, i, el, (j, k, l, r, m)))) = (a ++ (
     long = let u = length-append a (c ++ (g ++ j)) in let v = length-append c (g ++ j) in let w = ap length q in omega arith
 
     whole : s ≡ (a ++ (c ++ (g ++ j))) ++ 39 ∷ []
-    whole = e ∙ ap (λ z. a ++ z) (f ∙ ap (λ z. c ++ z) (i ∙ ap (λ z. g ++ z) (l ∙ ap (λ z. j ++ z) m) ∙ sym (append_assoc g j (39 ∷ []))) ∙ sym (append_assoc c (g ++ j) (39 ∷ []))) ∙ sym (append_assoc a (c ++ (g ++ j)) (39 ∷ []))
+    whole = e
+        ∙ ap (λ z. a ++ z)
+        (f ∙ ap (λ z. c ++ z) (i ∙ ap (λ z. g ++ z) (l ∙ ap (λ z. j ++ z) m) ∙ sym (append_assoc g j (39 ∷ []))) ∙ sym (append_assoc c (g ++ j) (39 ∷ [])))
+        ∙ sym (append_assoc a (c ++ (g ++ j)) (39 ∷ []))
 
 str_ends : (s : List ℕ) → IsStr s → EndsIn 34 s
 str_ends s (a, b, e, p, (c, d, f, q, (j, k, l, r, m))) = (a ++ (c ++ j), long, whole)

@@ -1,5 +1,6 @@
 -- At each place of a text one piece can stand, and it isn't empty; where an unclosed comment opens, none can.
-use Rattle.std.proofs.Common.{◌≡◌, ℕ, zero, suc, ◌+◌, ◌<◌, ◌≤◌, Bool, true, false, not, ◌||◌, ◌==◌, List, [], ◌∷◌, ◌++◌, length, take, drop, refl, sym, ap, ◌∙◌, subst, inl, inr, ◌⊎◌, arith, append_assoc, length-append, IsTrue, None, Some}
+use Rattle.std.proofs.Common.{◌≡◌, ℕ, zero, suc, ◌+◌, ◌<◌, ◌≤◌, Bool, true, false, not, ◌||◌, ◌==◌, List, [], ◌∷◌, ◌++◌, length, take, drop, refl}
+use Rattle.std.proofs.Common.{sym, ap, ◌∙◌, subst, inl, inr, ◌⊎◌, arith, append_assoc, length-append, IsTrue, None, Some}
 use Rattle.std.specs.Prelude.{Option, codes, unwrap_or}
 use Rattle.std.specs.List.{list_all, AllByRecursion, flat_map}
 use Rattle.std.proofs.lemmas.Bool.{false≢true, and_parts, and_from, cases_lt}
@@ -80,16 +81,26 @@ pub record Between (open_code close_code : ℕ) (inner : ℕ → Bool) (s : List
 pub between : (open_code close_code : ℕ) (s : List ℕ) → IsBetween open_code close_code s → Between open_code close_code (λ c. not (c == close_code || c == 10)) s
 between open_code close_code s (a, b, e, p, (c, d, f, (x, g, t), (j, k, l, (parts, all, h), m))) = record {
   body = x ∷ j;
-  passes = and_from (not (x == close_code || x == 10)) (list_all (λ z. not (z == close_code || z == 10)) j) t (subst (λ z. list_all (λ c. not (c == close_code || c == 10)) z ≡ true) (sym h) (parts_pass (λ c. not (c == close_code || c == 10)) parts all));
+  passes = and_from (not (x == close_code || x == 10)) (list_all (λ z. not (z == close_code || z == 10)) j) t
+      (subst (λ z. list_all (λ c. not (c == close_code || c == 10)) z ≡ true) (sym h) (parts_pass (λ c. not (c == close_code || c == 10)) parts all));
   is = e ∙ ap (λ z. z ++ b) p ∙ ap (λ z. open_code ∷ z) (f ∙ ap (λ z. z ++ d) g ∙ ap (λ z. x ∷ z) (l ∙ ap (λ z. j ++ z) m));
 }
 
-one_between : (open_code close_code : ℕ) → not (close_code == close_code || close_code == 10) ≡ false → (text : List ℕ) (m n : ℕ) → m ≤ length text → n ≤ length text → IsBetween open_code close_code (take m text) → IsBetween open_code close_code (take n text) → m ≡ n
+one_between : (open_code close_code : ℕ)
+    → not (close_code == close_code || close_code == 10) ≡ false
+    → (text : List ℕ) (m n : ℕ)
+    → m ≤ length text
+    → n ≤ length text
+    → IsBetween open_code close_code (take m text)
+    → IsBetween open_code close_code (take n text)
+    → m ≡ n
 one_between open_code close_code none text m n fm fn a b =
     let p = between open_code close_code (take m text) a in
     let q = between open_code close_code (take n text) b in
-    let whole_m : open_code ∷ (p.body ++ close_code ∷ drop m text) ≡ text = ap (λ z. open_code ∷ z) (sym (append_assoc p.body (close_code ∷ []) (drop m text))) ∙ ap (λ z. z ++ drop m text) (sym p.is) ∙ take-append-drop m text in
-    let whole_n : open_code ∷ (q.body ++ close_code ∷ drop n text) ≡ text = ap (λ z. open_code ∷ z) (sym (append_assoc q.body (close_code ∷ []) (drop n text))) ∙ ap (λ z. z ++ drop n text) (sym q.is) ∙ take-append-drop n text in
+    let whole_m : open_code ∷ (p.body ++ close_code ∷ drop m text) ≡ text =
+    ap (λ z. open_code ∷ z) (sym (append_assoc p.body (close_code ∷ []) (drop m text))) ∙ ap (λ z. z ++ drop m text) (sym p.is) ∙ take-append-drop m text in
+    let whole_n : open_code ∷ (q.body ++ close_code ∷ drop n text) ≡ text =
+    ap (λ z. open_code ∷ z) (sym (append_assoc q.body (close_code ∷ []) (drop n text))) ∙ ap (λ z. z ++ drop n text) (sym q.is) ∙ take-append-drop n text in
     let same : p.body ++ close_code ∷ drop m text ≡ q.body ++ close_code ∷ drop n text = cc in
     let l : length p.body ≡ length q.body = one_end (λ c. not (c == close_code || c == 10)) close_code none p.body q.body (drop m text) (drop n text) p.passes q.passes same in
     let lm : length (take m text) ≡ m = length-take-le m text fm in

@@ -1,5 +1,6 @@
 -- A text that is one token, and what the scanner finds there.
-use Rattle.std.proofs.Common.{◌≡◌, ℕ, ◌+◌, ◌<◌, ◌≤◌, Bool, true, false, if◌then◌else◌, ◌==◌, List, [], ◌∷◌, ◌++◌, length, take, refl, sym, ap, ◌∙◌, subst, inl, inr, ◌⊎◌, zero, suc, ◌≢◌, arith, get_or}
+use Rattle.std.proofs.Common.{◌≡◌, ℕ, ◌+◌, ◌<◌, ◌≤◌, Bool, true, false, if◌then◌else◌, ◌==◌, List, [], ◌∷◌, ◌++◌, length, take}
+use Rattle.std.proofs.Common.{refl, sym, ap, ◌∙◌, subst, inl, inr, ◌⊎◌, zero, suc, ◌≢◌, arith, get_or}
 use Rattle.std.proofs.lemmas.List.{append-nil, length-map, take_at, take_all, map-append}
 use Rattle.std.specs.Prelude.{Contains}
 use Rattle.pptext.specs.declared.tokens.Kind.{Kind}
@@ -67,7 +68,11 @@ stands_alone line s t k plain (inr p) =
     no_header m (inr e) = cc
 
 -- the place of a piece among its line and the text behind it
-stands_within : (line : List (List ℕ)) (ps : List Piece) (rest : List Char) (i : ℕ) (p : Piece) → EachStands line ps rest → i < length ps → get_or ps i p ≡ p → (before : List (List ℕ)) × (behind : List Char) × StandsAt before (codes_of (p.chars ++ behind)) (length p.chars) p.sort
+stands_within : (line : List (List ℕ)) (ps : List Piece) (rest : List Char) (i : ℕ) (p : Piece)
+    → EachStands line ps rest
+    → i < length ps
+    → get_or ps i p ≡ p
+    → (before : List (List ℕ)) × (behind : List Char) × StandsAt before (codes_of (p.chars ++ behind)) (length p.chars) p.sort
 stands_within line [] rest i p each lt e = absurd (omega arith)
 stands_within line (q ∷ qs) rest zero p each lt e = (line, laid qs ++ rest, subst (λ (z : Piece). StandsAt line (codes_of (z.chars ++ (laid qs ++ rest))) (length z.chars) z.sort) e each.0)
 stands_within line (q ∷ qs) rest (suc i) p each lt e = stands_within (with_piece line q q.sort) qs rest i p each.1 (omega arith) e

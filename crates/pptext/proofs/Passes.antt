@@ -1,5 +1,6 @@
 -- One step of each pass of phases 1 and 2.
-use Rattle.std.proofs.Common.{◌≡◌, ℕ, zero, suc, ◌+◌, ◌-◌, ◌<◌, ◌≤◌, Bool, true, false, cond, ◌==◌, ◌&&◌, List, [], ◌∷◌, ◌++◌, length, drop, refl, sym, ap, ◌∙◌, arith, get_or, append_assoc, add-zero, Some, None}
+use Rattle.std.proofs.Common.{◌≡◌, ℕ, zero, suc, ◌+◌, ◌-◌, ◌<◌, ◌≤◌, true, false, cond, ◌==◌, List, [], ◌∷◌, ◌++◌, length, drop}
+use Rattle.std.proofs.Common.{refl, sym, ap, ◌∙◌, arith, get_or, append_assoc, add-zero, Some, None}
 use Rattle.std.proofs.lemmas.Bool.{false≢true, ne_eqb}
 use Rattle.std.proofs.Math.Bool.{and-false}
 use Rattle.std.proofs.lemmas.Bool.Decides.{nat_tests}
@@ -42,7 +43,11 @@ trigraph_step (x ∷ y ∷ z ∷ xs) c p q h = rw (ne_eqb (trigraph_at (x ∷ y 
     same : record { code = trigraph_at (x ∷ y ∷ z ∷ xs); at = x.at } ≡ c
     same = ap (λ (n : ℕ). record { code = n; at = x.at }) (sym q) ∙ ap (λ (a : Place). record { code = c.code; at = a }) (sym p)
 
-pub trigraph_more : (cs : List Char) (i : ℕ) (c : Char) → c.at ≡ (char_at (drop i cs)).at → c.code ≡ trigraph_at (drop i cs) → (trigraph_at (drop i cs) ≡ 0 → ⊥) → (i + 3 ≤ length cs) × (trigraphs_behind 0 (drop i cs) ≡ c ∷ trigraphs_behind 0 (drop (i + 3) cs))
+pub trigraph_more : (cs : List Char) (i : ℕ) (c : Char)
+    → c.at ≡ (char_at (drop i cs)).at
+    → c.code ≡ trigraph_at (drop i cs)
+    → (trigraph_at (drop i cs) ≡ 0 → ⊥)
+    → (i + 3 ≤ length cs) × (trigraphs_behind 0 (drop i cs) ≡ c ∷ trigraphs_behind 0 (drop (i + 3) cs))
 trigraph_more cs i c p q h =
     let room = trigraph_room (drop i cs) h in
     let l : length (drop i cs) ≡ length cs - i = length-drop i cs in

@@ -30,7 +30,9 @@ span_at k start (r ∷ rs) zero d e l =
 span_at k start (r ∷ rs) (suc i) d e l =
     let n : k + 1 + i ≡ k + suc i = omega arith in
     let m : start + length r.tokens + length (tokens_of (take i rs)) ≡ start + length (r.tokens ++ tokens_of (take i rs)) = omega (arith, length-append r.tokens (tokens_of (take i rs))) in
-    span_at (k + 1) (start + length r.tokens) rs i d e (omega arith) ∙ ap (λ (z : ℕ). span z (start + length r.tokens + length (tokens_of (take i rs))) (get_or rs i e) (drop (suc i) rs)) n ∙ ap (λ (z : ℕ). span (k + suc i) z (get_or rs i e) (drop (suc i) rs)) m
+    span_at (k + 1) (start + length r.tokens) rs i d e (omega arith)
+    ∙ ap (λ (z : ℕ). span z (start + length r.tokens + length (tokens_of (take i rs))) (get_or rs i e) (drop (suc i) rs)) n
+    ∙ ap (λ (z : ℕ). span (k + suc i) z (get_or rs i e) (drop (suc i) rs)) m
 
 -- the tokens before, on and behind a line
 pub tokens_parted : (rs : List LogicalLine) (i : ℕ) (r : LogicalLine) → i < length rs → length (tokens_of (take i rs)) + length (get_or rs i r).tokens + length (tokens_of (drop (suc i) rs)) ≡ length (tokens_of rs)
@@ -66,11 +68,16 @@ line_at ts ls i d lines l =
     let m : i < length rs = omega (arith, length-map ls (row_of ts)) in
     let same : get_or rs i r ≡ r = rows_at ts ls i d r l in
     let is : x ≡ span i (length (tokens_of (take i rs))) r (drop (suc i) rs) =
-    ap (λ (z : List Line). get_or z i d) (sym lines.1) ∙ span_at 0 0 rs i d r m ∙ ap (λ (z : ℕ). span z (0 + length (tokens_of (take i rs))) (get_or rs i r) (drop (suc i) rs)) (zero-add i) ∙ ap (λ (z : ℕ). span i z (get_or rs i r) (drop (suc i) rs)) (zero-add (length (tokens_of (take i rs)))) ∙ ap (λ (z : LogicalLine). span i (length (tokens_of (take i rs))) z (drop (suc i) rs)) same in
+    ap (λ (z : List Line). get_or z i d) (sym lines.1)
+    ∙ span_at 0 0 rs i d r m
+    ∙ ap (λ (z : ℕ). span z (0 + length (tokens_of (take i rs))) (get_or rs i r) (drop (suc i) rs)) (zero-add i)
+    ∙ ap (λ (z : ℕ). span i z (get_or rs i r) (drop (suc i) rs)) (zero-add (length (tokens_of (take i rs))))
+    ∙ ap (λ (z : LogicalLine). span i (length (tokens_of (take i rs))) z (drop (suc i) rs)) same in
     let start : x.start ≡ length (tokens_of (take i rs)) = ap (λ (z : Line). z.start) is in
     let end : x.end ≡ length (tokens_of (take i rs)) + length r.tokens = ap (λ (z : Line). z.end) is in
     let whole : length (tokens_of rs) ≡ length ts = ap length lines.0 in
-    let parted : length (tokens_of (take i rs)) + length r.tokens + length (tokens_of (drop (suc i) rs)) ≡ length (tokens_of rs) = ap (λ (z : LogicalLine). length (tokens_of (take i rs)) + length z.tokens + length (tokens_of (drop (suc i) rs))) (sym same) ∙ tokens_parted rs i r m in
+    let parted : length (tokens_of (take i rs)) + length r.tokens + length (tokens_of (drop (suc i) rs)) ≡ length (tokens_of rs) =
+    ap (λ (z : LogicalLine). length (tokens_of (take i rs)) + length z.tokens + length (tokens_of (drop (suc i) rs))) (sym same) ∙ tokens_parted rs i r m in
     record {
       begins = omega arith;
       behind = omega arith;
@@ -86,9 +93,17 @@ pub rows_of_drafts : (before : List Token) (rs : List LogicalLine) → lines_fro
 rows_of_drafts before [] = refl
 rows_of_drafts before (r ∷ rs) =
     let wider : length (before ++ r.tokens) ≡ length before + length r.tokens = length-append before r.tokens in
-    let here : take (length before + length r.tokens - length before) (drop (length before) (before ++ (r.tokens ++ tokens_of rs))) ≡ r.tokens = ap (take (length before + length r.tokens - length before)) (drop-append_seam before (r.tokens ++ tokens_of rs)) ∙ ap (λ (n : ℕ). take n (r.tokens ++ tokens_of rs)) (omega arith) ∙ take-append_seam r.tokens (tokens_of rs) in
-    let rest : lines_from (before ++ (r.tokens ++ tokens_of rs)) (drafts (length before + length r.tokens) rs) ≡ rs = ap (λ (z : List Token). lines_from z (drafts (length before + length r.tokens) rs)) (sym (append_assoc before r.tokens (tokens_of rs))) ∙ ap (λ (n : ℕ). lines_from ((before ++ r.tokens) ++ tokens_of rs) (drafts n rs)) (sym wider) ∙ rows_of_drafts (before ++ r.tokens) rs in
-    ap (λ (z : List Token). record { tokens = z; number = r.number; directive = r.directive } ∷ lines_from (before ++ (r.tokens ++ tokens_of rs)) (drafts (length before + length r.tokens) rs)) here ∙ ap (λ (z : List LogicalLine). r ∷ z) rest
+    let here : take (length before + length r.tokens - length before) (drop (length before) (before ++ (r.tokens ++ tokens_of rs))) ≡ r.tokens =
+    ap (take (length before + length r.tokens - length before)) (drop-append_seam before (r.tokens ++ tokens_of rs))
+    ∙ ap (λ (n : ℕ). take n (r.tokens ++ tokens_of rs)) (omega arith)
+    ∙ take-append_seam r.tokens (tokens_of rs) in
+    let rest : lines_from (before ++ (r.tokens ++ tokens_of rs)) (drafts (length before + length r.tokens) rs) ≡ rs =
+    ap (λ (z : List Token). lines_from z (drafts (length before + length r.tokens) rs)) (sym (append_assoc before r.tokens (tokens_of rs)))
+    ∙ ap (λ (n : ℕ). lines_from ((before ++ r.tokens) ++ tokens_of rs) (drafts n rs)) (sym wider)
+    ∙ rows_of_drafts (before ++ r.tokens) rs in
+    ap (λ (z : List Token). record { tokens = z; number = r.number; directive = r.directive }
+    ∷ lines_from (before ++ (r.tokens ++ tokens_of rs)) (drafts (length before + length r.tokens) rs)) here
+    ∙ ap (λ (z : List LogicalLine). r ∷ z) rest
 
 -- the lines that a text is cut into
 pub drafts_are : (ts : List Token) (ls : List Line) (rs : List LogicalLine) → tokens_of rs ≡ ts → ls ≡ drafts 0 rs → AreDirected rs → (lines_from ts ls ≡ rs) × AreDrafts ts ls

@@ -3,7 +3,8 @@ use Rattle.std.proofs.Common.{◌≡◌, ◌↔◌, Bool, true, false, List, [],
 use Rattle.std.specs.List.{AllByRecursion}
 use Rattle.std.proofs.lemmas.List.{append-nil}
 use Rattle.pptext.specs.Lines.{LogicalLine}
-use Rattle.pptext.specs.Tree.{Role, TextLine, ControlLine, Opens, Elses, Closes, Parts, Done, Run, Control, Section, Branches, End, Branch, part_lines, branch_lines, BeginsRun, AreParts, AreBranches, Tree, role, Open, opened, fault_or, group_fault}
+use Rattle.pptext.specs.Tree.{Role, TextLine, ControlLine, Opens, Elses, Closes, Parts, Done, Run, Control, Section, Branches, End, Branch, part_lines}
+use Rattle.pptext.specs.Tree.{branch_lines, BeginsRun, AreParts, AreBranches, Tree, role, Open, opened, fault_or, group_fault}
 
 -- a tree has no fault
 
@@ -27,12 +28,20 @@ mutual
       ap (group_fault os) (append_assoc rs (part_lines ps) rest) ∙ text_lines os rs (part_lines ps ++ rest) are.1 ∙ parts_pass ps os rest are.3
   parts_pass (Control r ps) os rest are = one_line os r (part_lines ps ++ rest) ControlLine are.0 ∙ parts_pass ps os rest are.1
   parts_pass (Section r ps bs qs) os rest are =
-      ap (group_fault os) (section_lines r ps qs bs rest) ∙ one_line os r (part_lines ps ++ (branch_lines bs ++ (part_lines qs ++ rest))) Opens are.0 ∙ parts_pass ps ((r, false) ∷ os) (branch_lines bs ++ (part_lines qs ++ rest)) are.1 ∙ branches_pass bs r false os (part_lines qs ++ rest) are.2 ∙ parts_pass qs os rest are.3
+      ap (group_fault os) (section_lines r ps qs bs rest)
+      ∙ one_line os r (part_lines ps ++ (branch_lines bs ++ (part_lines qs ++ rest))) Opens are.0
+      ∙ parts_pass ps ((r, false) ∷ os) (branch_lines bs ++ (part_lines qs ++ rest)) are.1
+      ∙ branches_pass bs r false os (part_lines qs ++ rest) are.2
+      ∙ parts_pass qs os rest are.3
 
   branches_pass : (bs : Branches) (o : LogicalLine) (last : Bool) (os : List Open) (rest : List LogicalLine) → AreBranches last bs → group_fault ((o, last) ∷ os) (branch_lines bs ++ rest) ≡ group_fault os rest
   branches_pass (End r) o last os rest are = one_line ((o, last) ∷ os) r rest Closes are
   branches_pass (Branch r ps bs) o last os rest (first, final, is, parts, more) =
-      ap (group_fault ((o, last) ∷ os)) (branch_line r ps bs rest) ∙ ap (λ (z : Bool). group_fault ((o, z) ∷ os) (r ∷ part_lines ps ++ (branch_lines bs ++ rest))) first ∙ one_line ((o, false) ∷ os) r (part_lines ps ++ (branch_lines bs ++ rest)) (Elses final) is ∙ parts_pass ps ((o, final) ∷ os) (branch_lines bs ++ rest) parts ∙ branches_pass bs o final os rest more
+      ap (group_fault ((o, last) ∷ os)) (branch_line r ps bs rest)
+      ∙ ap (λ (z : Bool). group_fault ((o, z) ∷ os) (r ∷ part_lines ps ++ (branch_lines bs ++ rest))) first
+      ∙ one_line ((o, false) ∷ os) r (part_lines ps ++ (branch_lines bs ++ rest)) (Elses final) is
+      ∙ parts_pass ps ((o, final) ∷ os) (branch_lines bs ++ rest) parts
+      ∙ branches_pass bs o final os rest more
 
 no_fault : (lines : List LogicalLine) (parts : Parts) → Tree lines parts → group_fault [] lines ≡ None
 no_fault lines parts tree =
@@ -58,7 +67,11 @@ with_text r (Control q ps) is are = (Run (r ∷ []) (Control q ps), ((λ (e : r 
 with_text r (Section q ps bs qs) is are = (Run (r ∷ []) (Section q ps bs qs), ((λ (e : r ∷ [] ≡ []). cc), (is, tt), (λ (e : ⊥). e), are), refl)
 
 -- what a line adds to the fronts of the later lines
-front_at : (r : LogicalLine) (rs : List LogicalLine) (os : List Open) (s : Role) → role r ≡ s → ((before : List Open) → group_fault before rs ≡ None → Front (Behind before) rs) → fault_or r (opened s r os).0 (group_fault (opened s r os).1 rs) ≡ None → Front (Behind os) (r ∷ rs)
+front_at : (r : LogicalLine) (rs : List LogicalLine) (os : List Open) (s : Role)
+    → role r ≡ s
+    → ((before : List Open) → group_fault before rs ≡ None → Front (Behind before) rs)
+    → fault_or r (opened s r os).0 (group_fault (opened s r os).1 rs) ≡ None
+    → Front (Behind os) (r ∷ rs)
 front_at r rs os TextLine is later e =
     let f = later os e in
     let w = with_text r f.parts is f.are in
@@ -74,7 +87,9 @@ front_at r rs os Opens is later e =
       parts = Section r f.parts b.0 g.parts;
       rest = g.rest;
       are = (is, f.are, b.2, g.are);
-      whole = section_lines r f.parts g.parts b.0 g.rest ∙ ap (λ (z : List LogicalLine). r ∷ part_lines f.parts ++ z) (ap (λ (z : List LogicalLine). branch_lines b.0 ++ z) g.whole ∙ b.3) ∙ ap (λ (z : List LogicalLine). r ∷ z) f.whole;
+      whole = section_lines r f.parts g.parts b.0 g.rest
+          ∙ ap (λ (z : List LogicalLine). r ∷ part_lines f.parts ++ z) (ap (λ (z : List LogicalLine). branch_lines b.0 ++ z) g.whole ∙ b.3)
+          ∙ ap (λ (z : List LogicalLine). r ∷ z) f.whole;
       behind = g.behind;
     }
 front_at r rs [] (Elses final) is later e = absurd (cc)
@@ -139,7 +154,12 @@ text_first r (Run rs ps) alone = absurd (alone tt)
 text_first r (Control q ps) alone = refl
 text_first r (Section q ps bs qs) alone = refl
 
-read_run : (r : LogicalLine) (rs rest : List LogicalLine) (ps : Parts) (bs : List (Branches × Parts)) → role r ≡ TextLine → AllByRecursion (λ r. role r ≡ TextLine) rs → (¬ BeginsRun ps) → read rest ≡ (ps, bs) → read (r ∷ rs ++ rest) ≡ (Run (r ∷ rs) ps, bs)
+read_run : (r : LogicalLine) (rs rest : List LogicalLine) (ps : Parts) (bs : List (Branches × Parts))
+    → role r ≡ TextLine
+    → AllByRecursion (λ r. role r ≡ TextLine) rs
+    → (¬ BeginsRun ps)
+    → read rest ≡ (ps, bs)
+    → read (r ∷ rs ++ rest) ≡ (Run (r ∷ rs) ps, bs)
 read_run r [] rest ps bs is all alone e = read_line r rest TextLine (ps, bs) is e ∙ ap (λ (z : Parts). (z, bs)) (text_first r ps alone)
 read_run r (q ∷ rs) rest ps bs is all alone e =
     read_line r (q ∷ rs ++ rest) TextLine (Run (q ∷ rs) ps, bs) is (read_run q rs rest ps bs all.0 all.1 alone e)
@@ -152,12 +172,17 @@ mutual
       ap read (append_assoc (r ∷ rs) (part_lines ps) rest) ∙ read_run r rs (part_lines ps ++ rest) ps bs are.1.0 are.1.1 are.2 (read_parts ps rest bs are.3 e)
   read_parts (Control r ps) rest bs are e = read_line r (part_lines ps ++ rest) ControlLine (ps, bs) are.0 (read_parts ps rest bs are.1 e)
   read_parts (Section r ps b qs) rest bs are e =
-      ap read (section_lines r ps qs b rest) ∙ read_line r (part_lines ps ++ (branch_lines b ++ (part_lines qs ++ rest))) Opens (ps, (b, qs) ∷ bs) are.0 (read_parts ps (branch_lines b ++ (part_lines qs ++ rest)) ((b, qs) ∷ bs) are.1 (read_branches b false (part_lines qs ++ rest) qs bs are.2 (read_parts qs rest bs are.3 e)))
+      ap read (section_lines r ps qs b rest)
+      ∙ read_line r (part_lines ps ++ (branch_lines b ++ (part_lines qs ++ rest))) Opens (ps, (b, qs) ∷ bs) are.0
+      (read_parts ps (branch_lines b ++ (part_lines qs ++ rest)) ((b, qs) ∷ bs) are.1
+      (read_branches b false (part_lines qs ++ rest) qs bs are.2 (read_parts qs rest bs are.3 e)))
 
   read_branches : (b : Branches) (last : Bool) (rest : List LogicalLine) (qs : Parts) (bs : List (Branches × Parts)) → AreBranches last b → read rest ≡ (qs, bs) → read (branch_lines b ++ rest) ≡ (Done, (b, qs) ∷ bs)
   read_branches (End r) last rest qs bs are e = read_line r rest Closes (qs, bs) are e
   read_branches (Branch r ps b) last rest qs bs (first, final, is, parts, more) e =
-      ap read (branch_line r ps b rest) ∙ read_line r (part_lines ps ++ (branch_lines b ++ rest)) (Elses final) (ps, (b, qs) ∷ bs) is (read_parts ps (branch_lines b ++ rest) ((b, qs) ∷ bs) parts (read_branches b final rest qs bs more e))
+      ap read (branch_line r ps b rest)
+      ∙ read_line r (part_lines ps ++ (branch_lines b ++ rest)) (Elses final) (ps, (b, qs) ∷ bs) is
+      (read_parts ps (branch_lines b ++ rest) ((b, qs) ∷ bs) parts (read_branches b final rest qs bs more e))
 
 read_tree : (lines : List LogicalLine) (parts : Parts) → Tree lines parts → read lines ≡ (parts, [])
 read_tree lines parts tree =

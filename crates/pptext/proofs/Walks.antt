@@ -1,5 +1,5 @@
 -- What a walk over the lines of a file knows of the next branch lines.
-use Rattle.std.proofs.Common.{◌≡◌, ℕ, zero, suc, ◌+◌, ◌<◌, ◌≤◌, Bool, List, [], ◌∷◌, ◌++◌, map, length, ap, ◌∙◌, arith, None, Some}
+use Rattle.std.proofs.Common.{◌≡◌, ℕ, ◌+◌, ◌<◌, Bool, List, [], ◌∷◌, ◌++◌, map, length, ap, ◌∙◌, arith, None, Some}
 use Rattle.std.proofs.lemmas.List.{length-map}
 use Rattle.pptext.specs.Lines.{LogicalLine}
 use Rattle.pptext.specs.Tree.{Role, TextLine, ControlLine, Opens, Elses, Closes, Parts, Branches, End, Branch, part_lines, branch_lines, AreParts, AreBranches, role, branch_behind}
@@ -34,5 +34,8 @@ first_branch (End r) last k rest is = ap (λ (z : Role). branch_behind 0 k (z �
 first_branch (Branch r ps bs) last k rest (before, final, is, parts, more) = ap (λ (z : Role). branch_behind 0 k (z ∷ map role (part_lines ps ++ branch_lines bs ++ rest))) is
 
 -- it is the first line of the branches behind the parts of the group
-pub next_behind : (ps : Parts) (bs : Branches) (last : Bool) (k : ℕ) (rest : List LogicalLine) → AreParts ps → AreBranches last bs → branch_behind 0 k (map role (part_lines ps ++ (branch_lines bs ++ rest))) ≡ Some (k + length (part_lines ps))
+pub next_behind : (ps : Parts) (bs : Branches) (last : Bool) (k : ℕ) (rest : List LogicalLine)
+    → AreParts ps
+    → AreBranches last bs
+    → branch_behind 0 k (map role (part_lines ps ++ (branch_lines bs ++ rest))) ≡ Some (k + length (part_lines ps))
 next_behind ps bs last k rest parts are = behind_parts ps 0 k (branch_lines bs ++ rest) parts ∙ first_branch bs last (k + length (part_lines ps)) rest are

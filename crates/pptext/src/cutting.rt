@@ -1,7 +1,7 @@
 // The text cut into lines of tokens.
 ghost use Rattle.std.specs.Prelude.{◌≡◌, ◌↔◌, ◌+◌, ◌<◌, ◌≤◌, ℕ, [], length, take, drop, IsTrue, slice_index, None, IfOk, IfSome, IfNone};
 ghost use Rattle.pptext.specs.Spellings.{is_blank};
-ghost use Rattle.pptext.specs.Cut.{OpensBlock, OpensLine, CommentAt, ClosesAt, StandsAt, Spelled};
+ghost use Rattle.pptext.specs.Cut.{OpensBlock, OpensLine, CommentAt, ClosesAt};
 ghost use Rattle.pptext.specs.Lines.{token_of, line_of};
 ghost use Rattle.pptext.specs.Lone.{KnowsLone};
 ghost use Rattle.pptext.specs.Tokens.{spelled};

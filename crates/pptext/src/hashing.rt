@@ -1,5 +1,5 @@
 // How names are hashed.
-ghost use Rattle.std.specs.Prelude.{◌≡◌, ◌+◌, ◌≤◌, ◌<◌, length, bit_xor};
+ghost use Rattle.std.specs.Prelude.{◌≡◌, ◌+◌, ◌≤◌, length};
 ghost use Rattle.std.specs.Hash.FoldHasher.{folded_multiply, read_u32, read_u64, read_short};
 ghost use Rattle.pptext.specs.Hashed as hashed;
 ghost use Rattle.pptext.specs.Hashed.{behind, drawn};

@@ -1,6 +1,6 @@
 // Punctuators.
-ghost use Rattle.std.specs.Prelude.{◌≡◌, ◌↔◌, ◌<◌, ◌≤◌, ℕ, List, length, take, drop, IsTrue, slice_index, Contains, [], ◌∷◌};
-ghost use Rattle.pptext.specs.Spellings.{IsPunct, is_punct1, is_punct2, is_punct3, is_punctuator};
+ghost use Rattle.std.specs.Prelude.{◌≡◌, ◌↔◌, ◌≤◌, length, take, IsTrue, [], ◌∷◌};
+ghost use Rattle.pptext.specs.Spellings.{is_punct1, is_punct2, is_punct3, is_punctuator};
 ghost use Rattle.pptext.specs.Languages.{LongestOrNone};
 
 /// Whether the byte is a punctuator by itself.

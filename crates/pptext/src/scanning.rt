@@ -1,5 +1,5 @@
 // Bytes, universal character names and identifiers: what begins a text, by its length.
-ghost use Rattle.std.specs.Prelude.{◌≡◌, ◌≢◌, ◌↔◌, ◌⊎◌, [], ◌∷◌, ◌+◌, ◌-◌, ◌||◌, ◌<◌, ◌≤◌, ℕ, List, length, take, drop, IsTrue, slice_index};
+ghost use Rattle.std.specs.Prelude.{◌≡◌, ◌↔◌, ◌⊎◌, [], ◌∷◌, ◌||◌, ◌<◌, ◌≤◌, length, take, IsTrue};
 ghost use Rattle.std.specs.List.{AllPass};
 ghost use Rattle.pptext.specs.Languages.{OnlyPart, LongestOrNone, Longest, Repeated, One, Either};
 ghost use Rattle.pptext.specs.Cut.{BeginsWith};

@@ -92,7 +92,10 @@ impl Model for Source {
 
     ghost view = { λ s. lines_from s.tokens.items s.lines.items };
 
-    ghost invariant = { λ s. (tokens_of (lines_from s.tokens.items s.lines.items) ≡ s.tokens.items) × (spans 0 0 (lines_from s.tokens.items s.lines.items) ≡ s.lines.items) × MatchOption s.guard ((x : List ℕ) → GuardedBy (lines_from s.tokens.items s.lines.items) x → ⊥) (λ i. (i < length s.tokens.items) × ((d : Token) → GuardedBy (lines_from s.tokens.items s.lines.items) (slice_index_or s.tokens.items i d).text)) };
+    ghost invariant = { λ s. (tokens_of (lines_from s.tokens.items s.lines.items) ≡ s.tokens.items)
+        × (spans 0 0 (lines_from s.tokens.items s.lines.items) ≡ s.lines.items)
+        × MatchOption s.guard ((x : List ℕ) → GuardedBy (lines_from s.tokens.items s.lines.items) x → ⊥)
+        (λ i. (i < length s.tokens.items) × ((d : Token) → GuardedBy (lines_from s.tokens.items s.lines.items) (slice_index_or s.tokens.items i d).text)) };
 }
 
 /// Why a file can't be read.

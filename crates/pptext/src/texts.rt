@@ -59,7 +59,13 @@ impl Cursor {
         requires next { self.next ≤ self.offset + 1 }
         requires line { self.at.line ≤ self.offset + 1 }
         requires col { self.at.col ≤ self.offset + 1 }
-        ensures { result ≡ record { passed = self.passed; offset = self.offset + len; plain = slice_index_or breaks.now self.next (length raw.now - (self.offset + len)); next = self.next + 1; at = place_behind self.at (take len (drop self.offset raw.now)) } }
+        ensures { result ≡ record {
+          passed = self.passed;
+          offset = self.offset + len;
+          plain = slice_index_or breaks.now self.next (length raw.now - (self.offset + len));
+          next = self.next + 1;
+          at = place_behind self.at (take len (drop self.offset raw.now));
+        } }
     {
         let offset = self.offset + len;
         Cursor {

@@ -1,5 +1,5 @@
 // The token that begins a text: the longest that some kind's grammar allows (6.4).
-ghost use Rattle.std.specs.Prelude.{◌≡◌, ◌≢◌, ◌↔◌, ◌<◌, ◌≤◌, ℕ, List, length, take, IsTrue, IfNone, IfSome, slice_index, false};
+ghost use Rattle.std.specs.Prelude.{◌≡◌, ◌≢◌, ◌↔◌, ◌<◌, ◌≤◌, ℕ, length, take, IsTrue, IfNone, IfSome, slice_index, false};
 ghost use Rattle.pptext.specs.Languages.{Longest, NoFront};
 ghost use Rattle.pptext.specs.Spellings.{IsCharConst, IsSpelling, IsStr, Spells, is_blank};
 ghost use Rattle.pptext.specs.Cut.{OpensBlock, OpensLine, AwaitsHeader, HeaderAt, StandsAt, Spelled};

@@ -1,6 +1,6 @@
 // Whether a line of an if-section takes the group behind it (6.10.1, and for `#elifdef` and `#elifndef` 6.10.2 of
 // ISO/IEC 9899:2024).
-ghost use Rattle.std.specs.Prelude.{◌≡◌, ℕ, Bool, true, false};
+ghost use Rattle.std.specs.Prelude.{◌≡◌, ℕ, true, false};
 ghost use Rattle.pptext.specs.Stops.{IfSettled};
 ghost use Rattle.pptext.specs.Tree.{sign_place};
 ghost use Rattle.ppexpr.specs.Conditions.{IsCondition};

@@ -4,7 +4,6 @@ ghost use Rattle.std.specs.Result.{result_err};
 ghost use Rattle.pptext.specs.Stops.{IfSettled};
 ghost use Rattle.ppunit.specs.Directives as spec;
 ghost use Rattle.ppunit.specs.Lines as spec_lines;
-ghost use Rattle.ppunit.specs.States.{Reached};
 
 use crate::line_control::renumber;
 use crate::lines::{line_fault, name, operands, sign};

@@ -1,5 +1,5 @@
 // `#line` (6.10.4).
-ghost use Rattle.std.specs.Prelude.{◌≡◌, IfOk, Option};
+ghost use Rattle.std.specs.Prelude.{◌≡◌, IfOk};
 ghost use Rattle.std.specs.Result.{result_err};
 ghost use Rattle.pptext.specs.Spellings.{is_digit};
 ghost use Rattle.pptext.specs.Stops.{IfSettled};

@@ -1,7 +1,6 @@
 // Opening a file (6.10.2): its dependency, its content, and what the predefined names stand for in it.
 ghost use Rattle.std.specs.Prelude.{◌≡◌, ◌<◌, ◌^◌, pos, map, length, string_bytes, IfOk, IfSome};
 ghost use Rattle.pptext.specs.Stops.{IfSettled};
-ghost use Rattle.pptext.specs.Tokens.{fault};
 ghost use Rattle.ppshelf.specs.Files.{Files, Extends};
 ghost use Rattle.ppunit.specs.Directives.{Finds};
 ghost use Rattle.ppunit.specs.Group.{Opened};

@@ -1,5 +1,5 @@
 // Where phase 4 stands in a unit.
-ghost use Rattle.std.specs.Prelude.{◌≡◌, IfOk, OnOk, [], ◌∷◌, ◌++◌};
+ghost use Rattle.std.specs.Prelude.{◌≡◌, IfOk, OnOk, [], ◌∷◌};
 ghost use Rattle.ppunit.specs.States.{passed, depending, reading_once, is_spent, paying, literal};
 ghost use Rattle.ppunit.specs.Unit.{beginning};
 ghost use Rattle.ppunit.specs.declared.units.Item.TheVariants as item;

@@ -2,7 +2,7 @@
 ghost use Rattle.std.specs.Prelude.{◌≡◌};
 ghost use Rattle.std.specs.FinMap as finite_map;
 ghost use Rattle.std.specs.Cmp.Lexicographic.{pointwise};
-ghost use Rattle.ppmacro.specs.Define.{same_token, same_body, same_shape, agrees, clashes};
+ghost use Rattle.ppmacro.specs.Define.{same_token, same_body, same_shape, clashes};
 
 use crate::macros::{Definition, Shape};
 use crate::tables::Table;

@@ -1,5 +1,5 @@
 // Disks that fail at one of their reads, and runs that are made again after want of memory.
-ghost use Rattle.std.specs.Prelude.{◌≡◌, ◌<◌, ◌≤◌, All, IfOk, length};
+ghost use Rattle.std.specs.Prelude.{◌≡◌, ◌≤◌, All, IfOk, length};
 ghost use Rattle.pptext.specs.declared.sources.Profile.TheVariants.{C11};
 ghost use Rattle.ppshelf.specs.Files.{most_rows};
 ghost use Rattle.ppunit.specs.Unit.{IsUnitOf};

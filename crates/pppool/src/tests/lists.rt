@@ -1,6 +1,5 @@
 // Units of small files, what they give as texts, disks, and a gate that holds nobody.
-ghost use Rattle.std.specs.Prelude.{◌≡◌, ◌<◌, ◌≤◌, IfOk, All, length};
-ghost use Rattle.std.specs.Vec.{vec_len};
+ghost use Rattle.std.specs.Prelude.{◌≡◌, ◌≤◌, IfOk, All, length};
 ghost use Rattle.pptext.specs.declared.sources.Profile.TheVariants.{C11};
 ghost use Rattle.ppshelf.specs.Files.{most_rows};
 ghost use Rattle.ppunit.specs.Unit.{IsUnitOf};
@@ -29,8 +28,6 @@ pub(crate) struct Changing {
 }
 
 impl Disk for Changing {
-    ghost use Rattle.std.specs.Prelude.{ℕ};
-
     ghost may = { λ name c. Unit {0} };
 
     ghost gives = { λ disk name c. Unit {0} };

@@ -1,5 +1,5 @@
 // Lists of units, run by several workers.
-ghost use Rattle.std.specs.Prelude.{◌≡◌, ◌<◌, ◌≤◌, All, length};
+ghost use Rattle.std.specs.Prelude.{◌≡◌, ◌≤◌, All, length};
 ghost use Rattle.pptext.specs.declared.sources.Profile.TheVariants.{C11};
 ghost use Rattle.ppshelf.specs.Files.{most_rows};
 ghost use Rattle.ppunit.specs.Unit.{IsUnitOf};

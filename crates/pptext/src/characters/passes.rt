@@ -1,6 +1,6 @@
 // Phases 1 and 2 as plain passes over lists of characters: what the tests compare the cleaned text with.
-ghost use Rattle.std.specs.Prelude.{◌≡◌, ◌+◌, ◌<◌, ◌≤◌, ℕ, List, length, IfOk, OnOk, OnErr, Some, None, All, ◌-◌, ◌^◌};
-ghost use Rattle.pptext.specs.Clean.{longest, placed, is_return_at, without_returns, terminated, trigraphs, trigraph_at, trigraph, splice_at, splices, unmarked, splice_at_end};
+ghost use Rattle.std.specs.Prelude.{◌≡◌, ◌<◌, ◌≤◌, length, IfOk, OnOk, OnErr, Some, None, All, ◌-◌, ◌^◌};
+ghost use Rattle.pptext.specs.Clean.{longest, placed, is_return_at, without_returns, terminated, trigraphs, trigraph_at, splice_at, splices, splice_at_end};
 
 use crate::characters::Char;
 use crate::characters::steps::trigraph;

@@ -1,5 +1,5 @@
 // Header names (6.4.7).
-ghost use Rattle.std.specs.Prelude.{◌≡◌, ◌≢◌, ◌↔◌, ◌<◌, ◌≤◌, ◌||◌, ◌==◌, not, ℕ, List, [], ◌∷◌, length, IsTrue};
+ghost use Rattle.std.specs.Prelude.{◌||◌, ◌==◌, not, [], ◌∷◌};
 ghost use Rattle.pptext.specs.Languages.{OnlyPart, Repeated, Then, Exactly, One};
 ghost use Rattle.pptext.specs.Spellings.{IsBetween, IsHeader};
 

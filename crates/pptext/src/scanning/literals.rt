@@ -1,5 +1,5 @@
 // Character constants (6.4.4.4) and string literals (6.4.5).
-ghost use Rattle.std.specs.Prelude.{◌≡◌, ◌≢◌, ◌↔◌, ◌⊎◌, ◌+◌, ◌-◌, ◌<◌, ◌≤◌, ℕ, List, [], ◌∷◌, length, drop, IsTrue, slice_index, Contains};
+ghost use Rattle.std.specs.Prelude.{◌≡◌, ◌≢◌, ◌↔◌, ◌⊎◌, ◌+◌, ◌-◌, ◌<◌, ◌≤◌, ℕ, [], ◌∷◌, length, drop, IsTrue, slice_index, Contains};
 ghost use Rattle.pptext.specs.Languages.{OnlyPart, NoFront, IsOnly, Then, Exactly};
 ghost use Rattle.pptext.specs.Spellings.{IsElement, IsCharConst, IsStr, char_prefixes, str_prefixes};
 ghost use Rattle.pptext.specs.Lone.{IsQuoted, AreLone, FollowsQuote};

@@ -1,5 +1,5 @@
 // Preprocessing numbers (6.4.8).
-ghost use Rattle.std.specs.Prelude.{◌≡◌, ◌↔◌, ◌||◌, ◌==◌, ◌<◌, ◌≤◌, ℕ, List, [], ◌∷◌, length, IsTrue, slice_index};
+ghost use Rattle.std.specs.Prelude.{◌≡◌, ◌↔◌, ◌||◌, ◌==◌, ◌≤◌, [], ◌∷◌, length, IsTrue, slice_index};
 ghost use Rattle.pptext.specs.Languages.{NextPart, OnlyPart, LongestOrNone, Longest, Repeated, Then, Either, Exactly, One};
 ghost use Rattle.pptext.specs.Spellings.{is_digit, is_exponent, is_sign, IsNumberPart, IsNumber};
 

@@ -16,4 +16,6 @@ returns-clause-files c =
     let moved : length given ≡ length c.args.contents = sym (length-map given bytes) ∙ ap length c.into_vec.ensures in
     let count : length given ≡ length shelf.names = moved ∙ (c.requires.count ∙ sym named) in
     let P : ℕ → Type 0 = λ n. shelf.base ≡ replicate n None in
-    filled_files given shelf c.fill_with.new.self (subst P (sym named) c.in_ok-shelf.ensures.empty) count c.fill_with.ensures.shelf.0 c.fill_with.ensures.len c.fill_with.ensures.base c.in_ok-fill_with.ensures.full ∙ ap files_of c.into_vec.ensures
+    filled_files given shelf c.fill_with.new.self (subst P (sym named) c.in_ok-shelf.ensures.empty) count c.fill_with.ensures.shelf.0 c.fill_with.ensures.len
+    c.fill_with.ensures.base c.in_ok-fill_with.ensures.full
+    ∙ ap files_of c.into_vec.ensures

@@ -1,5 +1,5 @@
 use Rattle.std.proofs.Common.{◌≡◌, ◌∙◌, ap, length, map}
-use Rattle.ppshelf.specs.Files.{Stock, Agree}
+use Rattle.ppshelf.specs.Files.{Stock}
 use Rattle.pppool.specs.declared.keeping.Keep.{Keep}
 use Rattle.pppool.specs.Kept.{kept}
 use Rattle.cppunits.proofs.Giving.{knows_files}

@@ -1,6 +1,4 @@
-use Rattle.std.proofs.Common.{◌≡◌, ◌∙◌, refl, ap, sym, length}
-use Rattle.ppunit.specs.declared.units.Unit.{Unit as UnitOfList}
-use Rattle.ppunit.specs.declared.units.UnitOut.{UnitOut}
+use Rattle.std.proofs.Common.{◌∙◌, refl, ap, sym, length}
 use Rattle.cppunits.specs.Needed.{needed}
 use Rattle.cppunits.proofs.Giving.{broken_off, can_run, few_units, gives_from, if_ok_then, one_each, served}
 use Rattle.cppunits.proofs.serving.serve_from.Goals as goal

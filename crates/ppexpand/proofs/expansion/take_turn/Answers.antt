@@ -80,7 +80,8 @@ pub returns-in-Called-clause-on : goal.returns-in-Called-clause-on
 returns-in-Called-clause-on c =
     let s = c.next_turn.new.sets in
     let list = c.next_turn.new.list in
-    let t : turn_within c.args.table.now c.args.env.now c.args.left.now (hidings c.args.sets.now c.args.list.now) ≡ Called (call_in s c.in-Called.found list) = sym (ap (turn_in s list) (sym c.in-Called.is) ∙ c.in_ok-next_turn.ensures.is) in
+    let t : turn_within c.args.table.now c.args.env.now c.args.left.now (hidings c.args.sets.now c.args.list.now) ≡ Called (call_in s c.in-Called.found list) =
+    sym (ap (turn_in s list) (sym c.in-Called.is) ∙ c.in_ok-next_turn.ensures.is) in
     (t, c.requires.no_fault, c.less_one-in-Called.ensures, hidings-keeps _ c.in_ok-next_turn.ensures.keeps c.requires.passed_known)
 
 pub returns-in-Called-clause-passed_known : goal.returns-in-Called-clause-passed_known

@@ -7,7 +7,10 @@ use Rattle.ppmacro.proofs.chains.put.Goals as goal
 pub returns-then-not-joined : goal.returns-then-not-joined
 returns-then-not-joined c =
     let apart : c.args.joined ≡ false = c.if-not-joined.true in
-    let more : c.begin_chain.new.chains.items ≡ c.args.chains.now.items ++ record { mark = c.args.mark; operands = c.args.operand ∷ [] } ∷ [] → (is : List Item) → resumed false c.begin_chain.new.chains.items is ≡ resumed c.args.joined c.args.chains.now.items (Operates c.args.mark c.args.operand ∷ is) = λ e is.
+    let more : c.begin_chain.new.chains.items ≡ c.args.chains.now.items ++ record { mark = c.args.mark; operands = c.args.operand ∷ [] } ∷ []
+    → (is : List Item)
+    → resumed false c.begin_chain.new.chains.items is ≡ resumed c.args.joined c.args.chains.now.items (Operates c.args.mark c.args.operand ∷ is) =
+    λ e is.
     ap (λ cs. resumed false cs is) e
     ∙ resumed-begin c.args.chains.now.items c.args.mark c.args.operand is
     ∙ ap (λ j. resumed j c.args.chains.now.items (Operates c.args.mark c.args.operand ∷ is)) (sym apart) in

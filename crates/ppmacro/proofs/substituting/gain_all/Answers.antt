@@ -34,7 +34,8 @@ loop-hidden-preserved c =
     let made = take_more_set now i one within in
     record {
       same = ap (hidings u) made
-          ∙ gained-more s t u c.args.gain c.args.used (take i now) (take i start) item one c.loop-hidden.invariant.keeps c.in_ok-gain_one.ensures.keeps c.requires.gain c.loop-hidden.invariant.done_known known.each.0 c.in_ok-gain_one.ensures.is c.loop-hidden.invariant.same
+          ∙ gained-more s t u c.args.gain c.args.used (take i now) (take i start) item one c.loop-hidden.invariant.keeps c.in_ok-gain_one.ensures.keeps
+          c.requires.gain c.loop-hidden.invariant.done_known known.each.0 c.in_ok-gain_one.ensures.is c.loop-hidden.invariant.same
           ∙ ap (λ hs. map (gained (set_at s c.args.gain) c.args.used) (hidings s hs)) (sym ((λ j. take (more j) start) ∙ after.0));
       rest = drop-set-lt (i + 1) now i one (omega arith) ∙ sym ((λ j. drop (more j) start) ∙ after.1);
       done_known = subst (AllKnown u) (sym made) (known-append (take i now) (one ∷ []) (known-keeps (take i now) c.in_ok-gain_one.ensures.keeps c.loop-hidden.invariant.done_known) (record { each = (c.in_ok-gain_one.ensures.known, tt) }));

@@ -27,5 +27,7 @@ returns-clause-is c =
     let used = c.args.used in
     let made = hidings c.gain_all.new.sets c.gain_all.new.tokens.items in
     let same = hidings-keeps tokens c.in_ok-gain.ensures.keeps c.requires.tokens in
-    let more : made ≡ map (gained (set_at t c.in_ok-gain.gain) used) (hidings t tokens) → made ≡ map (gained (set.insert (set_at s c.args.base) c.args.name.now) used) (hidings s tokens) = λ e. e ∙ (λ i. map (gained (c.in_ok-gain.ensures.set i) used) (same i)) in
+    let more : made ≡ map (gained (set_at t c.in_ok-gain.gain) used) (hidings t tokens)
+    → made ≡ map (gained (set.insert (set_at s c.args.base) c.args.name.now) used) (hidings s tokens) = λ e.
+    e ∙ (λ i. map (gained (c.in_ok-gain.ensures.set i) used) (same i)) in
     on_ok_weaker c.gain_all.result more c.gain_all.ensures.is

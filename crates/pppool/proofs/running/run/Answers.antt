@@ -1,4 +1,3 @@
-use Rattle.ppunit.specs.Units.{AreUnits}
 use Rattle.pppool.proofs.Kept.{all_kept}
 use Rattle.pppool.proofs.Placing.{are_within, are_capped}
 use Rattle.pppool.proofs.running.run.Goals as goal

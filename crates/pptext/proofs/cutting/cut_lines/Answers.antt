@@ -29,12 +29,17 @@ loop-at-preserved-in-NewLine c =
     let same = c.codes-in-loop-at.ensures ∙ ap codes_of c.loop-at.invariant.same in
     let found = simp (take_rest, same) at c.in-NewLine.ensures.finds in
     let first_length = ap length (c.codes.ensures ∙ ap codes_of c.loop-at.invariant.same) in
-    let number = ap (λ (p : Place). p.line) (c.place-number.ensures.place first ∙ ap (λ (z : List Char). (get_or z c.loop-at.at first).at) c.loop-at.invariant.same ∙ head_of_take chars c.loop-at.at 1 first (omega arith) (omega arith)) in
+    let number = ap (λ (p : Place). p.line)
+    (c.place-number.ensures.place first
+    ∙ ap (λ (z : List Char). (get_or z c.loop-at.at first).at) c.loop-at.invariant.same
+    ∙ head_of_take chars c.loop-at.at 1 first (omega arith) (omega arith)) in
     let known : KnowsLone (drop c.loop-at.at (codes_of chars)) c.piece_at.new.lone = simp (take_rest, same) at c.piece_at.ensures.lone in
     record {
       same = ap (λ (r : Reading). r.chars) c.place-number.ensures.after ∙ c.loop-at.invariant.same;
       passed = omega (arith, ap (λ (r : Reading). r.passed) c.place-number.ensures.after);
-      state = rw (c.in_ok-push-in-NewLine.ensures.items, c.draft_line.ensures, c.deref-in-NewLine.ensures.value) (end_line c.args.profile chars c.loop-at.at c.loop-at.start c.len-start.result c.loop-at.space c.loop-at.tokens.items c.loop-at.lines.items c.place-number.result.line c.loop-at.invariant.state (c.len-start.ensures ∙ c.loop-at.tokens.ok.0) number (omega arith) found);
+      state = rw (c.in_ok-push-in-NewLine.ensures.items, c.draft_line.ensures, c.deref-in-NewLine.ensures.value)
+          (end_line c.args.profile chars c.loop-at.at c.loop-at.start c.len-start.result c.loop-at.space c.loop-at.tokens.items c.loop-at.lines.items
+          c.place-number.result.line c.loop-at.invariant.state (c.len-start.ensures ∙ c.loop-at.tokens.ok.0) number (omega arith) found);
       lone = knows_later (codes_of chars) c.loop-at.at 1 c.piece_at.new.lone known;
     }
 
@@ -49,7 +54,8 @@ loop-at-preserved-in-Blank c =
     record {
       same = c.loop-at.invariant.same;
       passed = omega (arith, c.loop-at.invariant.passed);
-      state = skip_blanks c.args.profile chars c.in-Blank.n c.loop-at.at c.loop-at.start c.loop-at.space c.loop-at.tokens.items c.loop-at.lines.items c.loop-at.invariant.state found.1 (omega (arith, found.0, c.loop-at.invariant.state.within)) (λ k lt. simp get_or-drop at (found.2 k lt));
+      state = skip_blanks c.args.profile chars c.in-Blank.n c.loop-at.at c.loop-at.start c.loop-at.space c.loop-at.tokens.items c.loop-at.lines.items
+          c.loop-at.invariant.state found.1 (omega (arith, found.0, c.loop-at.invariant.state.within)) (λ k lt. simp get_or-drop at (found.2 k lt));
       lone = knows_later (codes_of chars) c.loop-at.at c.in-Blank.n c.piece_at.new.lone known;
     }
 
@@ -76,7 +82,9 @@ loop-at-preserved c =
     record {
       same = c.token_from.ensures.chars ∙ c.loop-at.invariant.same;
       passed = omega (arith, c.token_from.ensures.passed);
-      state = rw c.in_ok-push-in-Token.ensures.items (add_token c.args.profile chars c.loop-at.at c.loop-at.start c.in-Token.n c.loop-at.space c.loop-at.tokens.items c.loop-at.lines.items c.in-Token.kind c.in_ok-token_from-in-Token.field-0 c.loop-at.invariant.state token found.0 found.2);
+      state = rw c.in_ok-push-in-Token.ensures.items
+          (add_token c.args.profile chars c.loop-at.at c.loop-at.start c.in-Token.n c.loop-at.space c.loop-at.tokens.items c.loop-at.lines.items c.in-Token.kind
+          c.in_ok-token_from-in-Token.field-0 c.loop-at.invariant.state token found.0 found.2);
       lone = knows_later (codes_of chars) c.loop-at.at c.in-Token.n c.piece_at.new.lone known;
     }
 

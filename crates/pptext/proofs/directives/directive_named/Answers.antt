@@ -24,7 +24,10 @@ known_later : (names more : List (List ℕ × Directive)) (name : List ℕ) → 
 known_later [] more name each unknown = refl
 known_later ((text, d) ∷ names) more name each unknown = cases (bytes_eq name text) (known_later names more name each.1) unknown
   where
-    cases : (b : Bool) → (named_in names name ≡ Unknown → named_in (names ++ more) name ≡ named_in more name) → (if b then d else named_in names name) ≡ Unknown → (if b then d else named_in (names ++ more) name) ≡ named_in more name
+    cases : (b : Bool)
+        → (named_in names name ≡ Unknown → named_in (names ++ more) name ≡ named_in more name)
+        → (if b then d else named_in names name) ≡ Unknown
+        → (if b then d else named_in (names ++ more) name) ≡ named_in more name
     cases true later unknown = absurd (each.0 unknown)
     cases false later unknown = later unknown
 
@@ -34,7 +37,9 @@ all_known = ((λ e. cc), ((λ e. cc), ((λ e. cc), ((λ e. cc), ((λ e. cc), ((�
 pub returns-in-Later-Unknown : goal.returns-in-Later-Unknown
 returns-in-Later-Unknown c =
     let name = c.args.name.now in
-    c.later_directive.ensures ∙ sym (known_later directive_names later_names name all_known (sym c.plain_directive-directive.ensures ∙ c.in-Later-Unknown.is-1)) ∙ ap (λ (z : Profile). directive_named z name) (sym c.in-Later-Unknown.is-0)
+    c.later_directive.ensures
+    ∙ sym (known_later directive_names later_names name all_known (sym c.plain_directive-directive.ensures ∙ c.in-Later-Unknown.is-1))
+    ∙ ap (λ (z : Profile). directive_named z name) (sym c.in-Later-Unknown.is-0)
 
 pub returns-in_default : goal.returns-in_default
 returns-in_default c =

@@ -17,7 +17,12 @@ use Rattle.pptext.proofs.Lengths.{cleaned_length}
 use Rattle.pptext.proofs.reading.read_source.Goals as goal
 
 -- what grouping answers is what reading answers
-grouped : (profile : Profile) (file : ℕ) (bytes : List ℕ) (chars : List Char) (pieces : List Piece) (lines : List LogicalLine) (r : Result Source SourceFault) → cleaned file bytes ≡ Ok chars → Cut chars pieces → lines_of profile pieces ≡ lines → GroupsInto lines r → Answers r (Reads profile file bytes)
+grouped : (profile : Profile) (file : ℕ) (bytes : List ℕ) (chars : List Char) (pieces : List Piece) (lines : List LogicalLine) (r : Result Source SourceFault)
+    → cleaned file bytes ≡ Ok chars
+    → Cut chars pieces
+    → lines_of profile pieces ≡ lines
+    → GroupsInto lines r
+    → Answers r (Reads profile file bytes)
 grouped profile file bytes chars pieces lines (Ok s) clean cut are groups =
     record { chars = chars; pieces = pieces; cleaned = clean; cut = cut; grouped = ap (group_fault []) are ∙ groups.1; same = groups.0 ∙ sym are }
 grouped profile file bytes chars pieces lines (Err (Bad f)) clean cut are groups = bad_groups clean cut (ap (group_fault []) are ∙ groups)

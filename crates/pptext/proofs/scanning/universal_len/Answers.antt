@@ -22,10 +22,12 @@ pub returns-then-not-begins_with_hexes : goal.returns-then-not-begins_with_hexes
 returns-then-not-begins_with_hexes c =
     let text = c.args.text.now in
     let e = c.universal_digits-digits.ensures in
-    universal_unless text c.universal_digits-digits.result (record { short = e.short; long = e.long; values = some_values _ e.values c.if-digits-eq0.false }) (λ h. lacks_none _ c.if-not-begins_with_hexes.true (simp take_rest at (c.begins_with_hexes.ensures.1)) h)
+    universal_unless text c.universal_digits-digits.result (record { short = e.short; long = e.long; values = some_values _ e.values c.if-digits-eq0.false })
+    (λ h. lacks_none _ c.if-not-begins_with_hexes.true (simp take_rest at (c.begins_with_hexes.ensures.1)) h)
 
 pub returns : goal.returns
 returns c =
     let text = c.args.text.now in
     let e = c.universal_digits-digits.ensures in
-    universal_of text c.universal_digits-digits.result (record { short = e.short; long = e.long; values = some_values _ e.values c.if-digits-eq0.false }) ((simp take_rest at c.begins_with_hexes.ensures.0) c.if-not-begins_with_hexes.false) (e.room (nonzero _ c.if-digits-eq0.false))
+    universal_of text c.universal_digits-digits.result (record { short = e.short; long = e.long; values = some_values _ e.values c.if-digits-eq0.false })
+    ((simp take_rest at c.begins_with_hexes.ensures.0) c.if-not-begins_with_hexes.false) (e.room (nonzero _ c.if-digits-eq0.false))

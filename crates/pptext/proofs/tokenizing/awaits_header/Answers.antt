@@ -28,7 +28,12 @@ same_bytes a b r e f = go (bytes_eq a b) refl (sym e ∙ f)
     go true h g = (bytes_eq-Decides a b).0 h
     go false h g = absurd (false≢true (sym g))
 
-awaits_by : (line : List Token) (first second : List ℕ) (h : Bool) → spelled line ≡ first ∷ second ∷ [] → second ≡ codes "include" → (IsTrue h → (first ≡ codes "#") ⊎ (first ≡ codes "%:")) → ((first ≡ codes "#") ⊎ (first ≡ codes "%:") → IsTrue h) → (IsTrue h → AwaitsHeader (spelled line)) × (AwaitsHeader (spelled line) → IsTrue h)
+awaits_by : (line : List Token) (first second : List ℕ) (h : Bool)
+    → spelled line ≡ first ∷ second ∷ []
+    → second ≡ codes "include"
+    → (IsTrue h → (first ≡ codes "#") ⊎ (first ≡ codes "%:"))
+    → ((first ≡ codes "#") ⊎ (first ≡ codes "%:") → IsTrue h)
+    → (IsTrue h → AwaitsHeader (spelled line)) × (AwaitsHeader (spelled line) → IsTrue h)
 awaits_by line first second h e i forth back = (λ t. into (forth t), λ a. back (out a))
   where
     into : (first ≡ codes "#") ⊎ (first ≡ codes "%:") → AwaitsHeader (spelled line)
@@ -60,4 +65,5 @@ returns c =
     let second : (get_or line 1 c.index-line-1.result).text ≡ codes "include" = sym c.as_bytes.ensures ∙ same ∙ c.as_slice.ensures in
     let first = (get_or line 0 c.index-line-0.result).text in
     let hash : c.is_hash.result ≡ (bytes_eq first (codes "#") || bytes_eq first (codes "%:")) = c.is_hash.ensures ∙ ap (λ (z : List ℕ). bytes_eq z (codes "#") || bytes_eq z (codes "%:")) c.as_bytes-2.ensures in
-    awaits_by line first (get_or line 1 c.index-line-1.result).text c.is_hash.result e second (λ t. hash_forth first (bytes_eq first (codes "#")) (bytes_eq first (codes "%:")) refl refl (sym hash ∙ t)) (λ is. hash ∙ hash_back first is)
+    awaits_by line first (get_or line 1 c.index-line-1.result).text c.is_hash.result e second
+    (λ t. hash_forth first (bytes_eq first (codes "#")) (bytes_eq first (codes "%:")) refl refl (sym hash ∙ t)) (λ is. hash ∙ hash_back first is)

@@ -15,7 +15,8 @@ pub returns-then-punct-gt0-clause-longest : goal.returns-then-punct-gt0-clause-l
 returns-then-punct-gt0-clause-longest c =
     let ident : c.ident_len-ident.result ≡ 0 = omega arith in
     let number : c.number_len-number.result ≡ 0 = omega arith in
-    punct_longest c.args.text.now c.punct_len-punct.result c.if-punct-gt0.true (c.punct_len-punct.ensures.1 c.if-punct-gt0.true) c.in_default.ensures.none.0 c.in_default.ensures.none.1 (c.ident_len-ident.ensures.0 ident) (c.number_len-number.ensures.0 number)
+    punct_longest c.args.text.now c.punct_len-punct.result c.if-punct-gt0.true (c.punct_len-punct.ensures.1 c.if-punct-gt0.true) c.in_default.ensures.none.0
+    c.in_default.ensures.none.1 (c.ident_len-ident.ensures.0 ident) (c.number_len-number.ensures.0 number)
 
 pub returns-clause-spelled : goal.returns-clause-spelled
 returns-clause-spelled c =
@@ -29,4 +30,5 @@ returns-clause-longest c =
     let ident : c.ident_len-ident.result ≡ 0 = omega arith in
     let number : c.number_len-number.result ≡ 0 = omega arith in
     let punct : c.punct_len-punct.result ≡ 0 = omega arith in
-    other_longest c.args.text.now c.requires.some (returns-clause-spelled c) c.in_default.ensures.none.0 c.in_default.ensures.none.1 (c.ident_len-ident.ensures.0 ident) (c.number_len-number.ensures.0 number) (c.punct_len-punct.ensures.0 punct)
+    other_longest c.args.text.now c.requires.some (returns-clause-spelled c) c.in_default.ensures.none.0 c.in_default.ensures.none.1
+    (c.ident_len-ident.ensures.0 ident) (c.number_len-number.ensures.0 number) (c.punct_len-punct.ensures.0 punct)

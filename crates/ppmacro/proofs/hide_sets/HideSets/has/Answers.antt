@@ -21,7 +21,9 @@ returns-in-Some c =
     let sets = ap (λ s. s.sets) c.self.view_is in
     let l = node-known names ns c.args.self.now c.hide.inside.number c.args.hide sets c.hide.view_is c.requires in
     let found = c.in-Some.ensures.found in
-    c.has.ensures ∙ has-own names ns c.hide.inside.number c.in-Some.number c.args.name.now c.self.invariant.distinct found.0 found.1 ∙ ap (λ s. set.contains s c.args.name.now) (set-seen names ns c.args.self.now c.hide.inside.number c.args.hide sets c.hide.view_is l)
+    c.has.ensures
+    ∙ has-own names ns c.hide.inside.number c.in-Some.number c.args.name.now c.self.invariant.distinct found.0 found.1
+    ∙ ap (λ s. set.contains s c.args.name.now) (set-seen names ns c.args.self.now c.hide.inside.number c.args.hide sets c.hide.view_is l)
 
 pub returns-in-None : goal.returns-in-None
 returns-in-None c =
@@ -29,4 +31,5 @@ returns-in-None c =
     let ns = c.self.inside.nodes.keys in
     let sets = ap (λ s. s.sets) c.self.view_is in
     let l = node-known names ns c.args.self.now c.hide.inside.number c.args.hide sets c.hide.view_is c.requires in
-    has-none names ns c.hide.inside.number c.args.name.now c.self.invariant.distinct c.in-None.ensures.none ∙ ap (λ s. set.contains s c.args.name.now) (set-seen names ns c.args.self.now c.hide.inside.number c.args.hide sets c.hide.view_is l)
+    has-none names ns c.hide.inside.number c.args.name.now c.self.invariant.distinct c.in-None.ensures.none
+    ∙ ap (λ s. set.contains s c.args.name.now) (set-seen names ns c.args.self.now c.hide.inside.number c.args.hide sets c.hide.view_is l)

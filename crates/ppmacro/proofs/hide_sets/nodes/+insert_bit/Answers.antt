@@ -20,34 +20,49 @@ pub returns-then-index-eq0-clause-set : goal.returns-then-index-eq0-clause-set
 returns-then-index-eq0-clause-set t c = λ w.
     let old = c.args.nodes.now.keys in
     let is = c.in_ok-whole.ensures.is ∙ (λ i. record { here = bit_or (c.read-node.ensures i).here (one_shl c.args.bit 64 c.requires.bit i); left = (c.read-node.ensures i).left; right = (c.read-node.ensures i).right }) in
-    insert-here old c.number_for.new.nodes.keys c.args.set c.in_ok-whole.whole c.args.bit w c.requires.pool c.requires.known c.in_ok-whole.ensures.keeps is ∙ (λ i. bit_or (word old c.args.set w) (word_with (sym c.if-index-eq0.true i) c.args.bit w))
+    insert-here old c.number_for.new.nodes.keys c.args.set c.in_ok-whole.whole c.args.bit w c.requires.pool c.requires.known c.in_ok-whole.ensures.keeps is
+    ∙ (λ i. bit_or (word old c.args.set w) (word_with (sym c.if-index-eq0.true i) c.args.bit w))
 
 pub returns-in_ok-odd-clause-set : goal.returns-in_ok-odd-clause-set
 returns-in_ok-odd-clause-set t c = λ w.
     let old = c.args.nodes.now.keys in
     let is = c.in_ok-odd.ensures.is ∙ (λ i. record { here = (c.read-node.ensures i).here; left = c.in_ok-left.left; right = (c.read-node.ensures i).right }) in
-    insert-left old c.insert_bit.new.nodes.keys c.number_for-then-rest-eq0.new.nodes.keys c.args.set c.in_ok-left.left c.in_ok-odd.odd c.args.index c.args.bit w c.requires.pool c.in_ok-left.ensures.pool c.requires.known c.in_ok-left.ensures.known c.in_ok-left.ensures.keeps c.in_ok-odd.ensures.keeps (pos-of c.args.index c.if-index-eq0.false) c.if-rest-eq0.true (λ y. c.in_ok-left.ensures.set y ∙ (λ i. bit_or (word old (c.read-node.ensures i).left y) (word_with ((c.args.index - 1) / 2) c.args.bit y))) is
+    insert-left old c.insert_bit.new.nodes.keys c.number_for-then-rest-eq0.new.nodes.keys c.args.set c.in_ok-left.left c.in_ok-odd.odd c.args.index c.args.bit w
+    c.requires.pool c.in_ok-left.ensures.pool c.requires.known c.in_ok-left.ensures.known c.in_ok-left.ensures.keeps c.in_ok-odd.ensures.keeps
+    (pos-of c.args.index c.if-index-eq0.false) c.if-rest-eq0.true
+    (λ y. c.in_ok-left.ensures.set y ∙ (λ i. bit_or (word old (c.read-node.ensures i).left y) (word_with ((c.args.index - 1) / 2) c.args.bit y))) is
 
 pub returns-in_ok-even-clause-set : goal.returns-in_ok-even-clause-set
 returns-in_ok-even-clause-set t c = λ w.
     let old = c.args.nodes.now.keys in
     let is = c.in_ok-even.ensures.is ∙ (λ i. record { here = (c.read-node.ensures i).here; left = (c.read-node.ensures i).left; right = c.in_ok-right.right }) in
-    insert-right old c.insert_bit-else-rest-eq0.new.nodes.keys c.number_for-else-rest-eq0.new.nodes.keys c.args.set c.in_ok-right.right c.in_ok-even.even c.args.index c.args.bit w c.requires.pool c.in_ok-right.ensures.pool c.requires.known c.in_ok-right.ensures.known c.in_ok-right.ensures.keeps c.in_ok-even.ensures.keeps (pos-of c.args.index c.if-index-eq0.false) c.if-rest-eq0.false (λ y. c.in_ok-right.ensures.set y ∙ (λ i. bit_or (word old (c.read-node.ensures i).right y) (word_with ((c.args.index - 1) / 2) c.args.bit y))) is
+    insert-right old c.insert_bit-else-rest-eq0.new.nodes.keys c.number_for-else-rest-eq0.new.nodes.keys c.args.set c.in_ok-right.right c.in_ok-even.even
+    c.args.index c.args.bit w c.requires.pool c.in_ok-right.ensures.pool c.requires.known c.in_ok-right.ensures.known c.in_ok-right.ensures.keeps
+    c.in_ok-even.ensures.keeps (pos-of c.args.index c.if-index-eq0.false) c.if-rest-eq0.false
+    (λ y. c.in_ok-right.ensures.set y ∙ (λ i. bit_or (word old (c.read-node.ensures i).right y) (word_with ((c.args.index - 1) / 2) c.args.bit y))) is
 
 pub returns-then-index-eq0-clause-bounded : goal.returns-then-index-eq0-clause-bounded
 returns-then-index-eq0-clause-bounded t c = λ limit l b.
     let old = c.args.nodes.now.keys in
     let new = c.number_for.new.nodes.keys in
-    bounded-on limit old new c.in_ok-whole.whole c.requires.pool c.in_ok-whole.ensures.keeps b c.in_ok-whole.ensures.fresh (bounded-insert limit (c.args.index * 64 + c.args.bit) old new c.args.set c.in_ok-whole.whole l b c.requires.known (member-inserted old new c.args.set c.in_ok-whole.whole c.args.index c.args.bit c.requires.bit (returns-then-index-eq0-clause-set t c)))
+    bounded-on limit old new c.in_ok-whole.whole c.requires.pool c.in_ok-whole.ensures.keeps b c.in_ok-whole.ensures.fresh
+    (bounded-insert limit (c.args.index * 64 + c.args.bit) old new c.args.set c.in_ok-whole.whole l b c.requires.known
+    (member-inserted old new c.args.set c.in_ok-whole.whole c.args.index c.args.bit c.requires.bit (returns-then-index-eq0-clause-set t c)))
 
 pub returns-in_ok-odd-clause-bounded : goal.returns-in_ok-odd-clause-bounded
 returns-in_ok-odd-clause-bounded t c = λ limit l b.
     let old = c.args.nodes.now.keys in
     let new = c.number_for-then-rest-eq0.new.nodes.keys in
-    bounded-on limit c.insert_bit.new.nodes.keys new c.in_ok-odd.odd c.in_ok-left.ensures.pool c.in_ok-odd.ensures.keeps (c.in_ok-left.ensures.bounded limit (half-below c.args.index c.args.bit limit l) b) c.in_ok-odd.ensures.fresh (bounded-insert limit (c.args.index * 64 + c.args.bit) old new c.args.set c.in_ok-odd.odd l b c.requires.known (member-inserted old new c.args.set c.in_ok-odd.odd c.args.index c.args.bit c.requires.bit (returns-in_ok-odd-clause-set t c)))
+    bounded-on limit c.insert_bit.new.nodes.keys new c.in_ok-odd.odd c.in_ok-left.ensures.pool c.in_ok-odd.ensures.keeps
+    (c.in_ok-left.ensures.bounded limit (half-below c.args.index c.args.bit limit l) b) c.in_ok-odd.ensures.fresh
+    (bounded-insert limit (c.args.index * 64 + c.args.bit) old new c.args.set c.in_ok-odd.odd l b c.requires.known
+    (member-inserted old new c.args.set c.in_ok-odd.odd c.args.index c.args.bit c.requires.bit (returns-in_ok-odd-clause-set t c)))
 
 pub returns-in_ok-even-clause-bounded : goal.returns-in_ok-even-clause-bounded
 returns-in_ok-even-clause-bounded t c = λ limit l b.
     let old = c.args.nodes.now.keys in
     let new = c.number_for-else-rest-eq0.new.nodes.keys in
-    bounded-on limit c.insert_bit-else-rest-eq0.new.nodes.keys new c.in_ok-even.even c.in_ok-right.ensures.pool c.in_ok-even.ensures.keeps (c.in_ok-right.ensures.bounded limit (half-below c.args.index c.args.bit limit l) b) c.in_ok-even.ensures.fresh (bounded-insert limit (c.args.index * 64 + c.args.bit) old new c.args.set c.in_ok-even.even l b c.requires.known (member-inserted old new c.args.set c.in_ok-even.even c.args.index c.args.bit c.requires.bit (returns-in_ok-even-clause-set t c)))
+    bounded-on limit c.insert_bit-else-rest-eq0.new.nodes.keys new c.in_ok-even.even c.in_ok-right.ensures.pool c.in_ok-even.ensures.keeps
+    (c.in_ok-right.ensures.bounded limit (half-below c.args.index c.args.bit limit l) b) c.in_ok-even.ensures.fresh
+    (bounded-insert limit (c.args.index * 64 + c.args.bit) old new c.args.set c.in_ok-even.even l b c.requires.known
+    (member-inserted old new c.args.set c.in_ok-even.even c.args.index c.args.bit c.requires.bit (returns-in_ok-even-clause-set t c)))

@@ -7,16 +7,21 @@ use Rattle.ppmacro.proofs.Remembering.{known-is, unknown, known-by, answers-keep
 use Rattle.ppmacro.proofs.hide_sets.nodes.join.Goals as goal
 
 pub returns-in-Some-clause-known : goal.returns-in-Some-clause-known
-returns-in-Some-clause-known c = (known-is c.args.operation c.args.nodes.now.keys c.args.pairs.now c.args.one c.args.two c.in-Some.number c.requires.pool c.requires.answers c.requires.one c.requires.two (sym c.known.ensures ∙ c.in-Some.is)).within
+returns-in-Some-clause-known c = (known-is c.args.operation c.args.nodes.now.keys c.args.pairs.now c.args.one c.args.two c.in-Some.number c.requires.pool
+    c.requires.answers c.requires.one c.requires.two (sym c.known.ensures ∙ c.in-Some.is)).within
 
 pub returns-in-Some-clause-set : goal.returns-in-Some-clause-set
-returns-in-Some-clause-set c = (known-is c.args.operation c.args.nodes.now.keys c.args.pairs.now c.args.one c.args.two c.in-Some.number c.requires.pool c.requires.answers c.requires.one c.requires.two (sym c.known.ensures ∙ c.in-Some.is)).is
+returns-in-Some-clause-set c = (known-is c.args.operation c.args.nodes.now.keys c.args.pairs.now c.args.one c.args.two c.in-Some.number c.requires.pool
+    c.requires.answers c.requires.one c.requires.two (sym c.known.ensures ∙ c.in-Some.is)).is
 
 pub returns-in_err-both-in-None-clause-answers : goal.returns-in_err-both-in-None-clause-answers
 returns-in_err-both-in-None-clause-answers c = answers-keep (joined c.args.operation) c.args.nodes.now.keys c.make.new.nodes.keys c.args.pairs.now c.requires.pool c.make.ensures.keeps c.requires.answers
 
 pub returns-in_err-put-in-None-clause-answers : goal.returns-in_err-put-in-None-clause-answers
-returns-in_err-put-in-None-clause-answers c = subst (AreAnswers (joined c.args.operation) c.make.new.nodes.keys) (sym c.in_err-put-in-None.ensures.err) (answers-keep (joined c.args.operation) c.args.nodes.now.keys c.make.new.nodes.keys c.args.pairs.now c.requires.pool c.make.ensures.keeps c.requires.answers)
+returns-in_err-put-in-None-clause-answers c =
+    subst (AreAnswers (joined c.args.operation) c.make.new.nodes.keys) (sym c.in_err-put-in-None.ensures.err)
+    (answers-keep (joined c.args.operation) c.args.nodes.now.keys c.make.new.nodes.keys c.args.pairs.now c.requires.pool c.make.ensures.keeps
+    c.requires.answers)
 
 pub returns-in_ok-put-in-None-clause-set : goal.returns-in_ok-put-in-None-clause-set
 returns-in_ok-put-in-None-clause-set c = member-joined c.args.operation c.args.nodes.now.keys c.make.new.nodes.keys c.args.one c.args.two c.in_ok-both-in-None.both c.in_ok-both-in-None.ensures.set
@@ -28,7 +33,8 @@ returns-in_ok-put-in-None-clause-answers c =
     subst (AreAnswers (joined c.args.operation) new) (sym c.in_ok-put-in-None.ensures.ok)
     (answers-put (joined c.args.operation) new c.args.pairs.now ((c.args.one, c.args.two), c.in_ok-both-in-None.both)
     (answers-keep (joined c.args.operation) old new c.args.pairs.now c.requires.pool c.make.ensures.keeps c.requires.answers)
-    (is-answer (joined c.args.operation) old new c.args.one c.args.two c.in_ok-both-in-None.both c.requires.pool c.make.ensures.keeps c.requires.one c.requires.two c.in_ok-both-in-None.ensures.known (returns-in_ok-put-in-None-clause-set c)))
+    (is-answer (joined c.args.operation) old new c.args.one c.args.two c.in_ok-both-in-None.both c.requires.pool c.make.ensures.keeps c.requires.one
+    c.requires.two c.in_ok-both-in-None.ensures.known (returns-in_ok-put-in-None-clause-set c)))
 
 pub returns-in_ok-put-in-None-clause-remembered : goal.returns-in_ok-put-in-None-clause-remembered
 returns-in_ok-put-in-None-clause-remembered c =

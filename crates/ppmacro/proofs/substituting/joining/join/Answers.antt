@@ -41,7 +41,9 @@ returns-clause-known c =
     let left : c.args.left.now.items ≡ c.pop.new.self.items ++ c.in-Some-pop.last ∷ [] = c.in-Some-pop.ensures.items in
     let right : c.args.right.now ≡ first ∷ rest = split-first c.args.right.now first c.in-Some.ensures.value in
     let made : c.push_joined.new.tokens.items ≡ c.pop.new.self.items ++ c.in_ok-hidden.hidden ∷ rest = c.in_ok-push_joined.ensures ∙ ap (λ hs. c.pop.new.self.items ++ c.in_ok-hidden.hidden ∷ hs) (take_rest c.args.right.now 1) in
-    subst (AllKnown t) (sym made) (known-joined s t c.pop.new.self.items c.in-Some-pop.last first c.in_ok-hidden.hidden rest c.in_ok-hidden.ensures.keeps (subst (AllKnown s) left c.requires.left) (subst (AllKnown s) right c.requires.right) c.in_ok-hidden.ensures.known)
+    subst (AllKnown t) (sym made)
+    (known-joined s t c.pop.new.self.items c.in-Some-pop.last first c.in_ok-hidden.hidden rest c.in_ok-hidden.ensures.keeps
+    (subst (AllKnown s) left c.requires.left) (subst (AllKnown s) right c.requires.right) c.in_ok-hidden.ensures.known)
 
 pub returns-in_err-hidden-clause-is : goal.returns-in_err-hidden-clause-is
 returns-in_err-hidden-clause-is c =
@@ -56,7 +58,8 @@ returns-in_err-hidden-clause-is c =
 
 pub returns-clause-whole : goal.returns-clause-whole
 returns-clause-whole c = λ one.
-    let made : c.push_joined.new.tokens.items ≡ c.pop.new.self.items ++ c.in_ok-hidden.hidden ∷ drop 1 c.args.right.now = c.in_ok-push_joined.ensures ∙ ap (λ hs. c.pop.new.self.items ++ c.in_ok-hidden.hidden ∷ hs) (take_rest c.args.right.now 1) in
+    let made : c.push_joined.new.tokens.items ≡ c.pop.new.self.items ++ c.in_ok-hidden.hidden ∷ drop 1 c.args.right.now =
+    c.in_ok-push_joined.ensures ∙ ap (λ hs. c.pop.new.self.items ++ c.in_ok-hidden.hidden ∷ hs) (take_rest c.args.right.now 1) in
     let rest = drop 1 c.args.right.now in
     let right : c.args.right.now ≡ c.in-Some.first.now ∷ rest = split-first c.args.right.now c.in-Some.first.now c.in-Some.ensures.value in
     let size : length c.args.right.now ≡ 1 = eqb-true (length c.args.right.now) 1 one in

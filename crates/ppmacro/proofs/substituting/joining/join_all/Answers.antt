@@ -14,7 +14,8 @@ returns-in_err-whole-clause-is c =
     let vs = c.args.lists.now in
     let next : drop i vs ≡ c.right-item.result ∷ drop (i + 1) vs = lists-drop vs i c.right-item.result c.loop-right-test.true c.right-item.is in
     let known : ListsKnown s (c.right-item.result ∷ drop (i + 1) vs) = subst (ListsKnown s) next c.loop-right.invariant.rest_known in
-    let here : hidings c.loop-right.sets c.as_slice.result.now ≡ hidings s c.right-item.result.items = ap (hidings c.loop-right.sets) c.as_slice.ensures.value ∙ hidings-keeps c.right-item.result.items c.loop-right.invariant.keeps known.each.0 in
+    let here : hidings c.loop-right.sets c.as_slice.result.now ≡ hidings s c.right-item.result.items =
+    ap (hidings c.loop-right.sets) c.as_slice.ensures.value ∙ hidings-keeps c.right-item.result.items c.loop-right.invariant.keeps known.each.0 in
     stops _ _ _ _ _ _ c.from_residual.ensures.1 c.in_err-whole.ensures.is (λ fault e.
     let refused : Err fault ≡ join (hidings c.loop-right.sets c.loop-right.left.items) (hidings s c.right-item.result.items) c.args.used =
     e ∙ ap (λ ts. join (hidings c.loop-right.sets c.loop-right.left.items) ts c.args.used) here in
@@ -29,7 +30,8 @@ loop-right-preserved c =
     let vs = c.args.lists.now in
     let next : drop i vs ≡ c.right-item.result ∷ drop (i + 1) vs = lists-drop vs i c.right-item.result c.loop-right-test.true c.right-item.is in
     let known : ListsKnown s (c.right-item.result ∷ drop (i + 1) vs) = subst (ListsKnown s) next c.loop-right.invariant.rest_known in
-    let here : hidings c.loop-right.sets c.as_slice.result.now ≡ hidings s c.right-item.result.items = ap (hidings c.loop-right.sets) c.as_slice.ensures.value ∙ hidings-keeps c.right-item.result.items c.loop-right.invariant.keeps known.each.0 in
+    let here : hidings c.loop-right.sets c.as_slice.result.now ≡ hidings s c.right-item.result.items =
+    ap (hidings c.loop-right.sets) c.as_slice.ensures.value ∙ hidings-keeps c.right-item.result.items c.loop-right.invariant.keeps known.each.0 in
     record {
       same =
           (let joined : Ok (hidings c.join.new.sets c.join.new.left.items) ≡ join (hidings c.loop-right.sets c.loop-right.left.items) (hidings s c.right-item.result.items) c.args.used =

@@ -24,11 +24,14 @@ module _ (c : goal.After-turn) where
 
 pub returns-then-branch-clause-is : goal.returns-then-branch-clause-is
 returns-then-branch-clause-is c =
-    carried-pasted c.args.last c.args.first.now c.extend.new.self c.turn.new.self c.in_ok-hide.hide c.args.used (c.requires.whole (c.if-is_carried_on.ensures.whole refl)) (c.if-is_carried_on.ensures.kind refl) (more c) (grown c) c.turn.ensures c.args.sets.now c.meet.new.self (met c)
+    carried-pasted c.args.last c.args.first.now c.extend.new.self c.turn.new.self c.in_ok-hide.hide c.args.used
+    (c.requires.whole (c.if-is_carried_on.ensures.whole refl)) (c.if-is_carried_on.ensures.kind refl) (more c) (grown c) c.turn.ensures c.args.sets.now
+    c.meet.new.self (met c)
 
 pub returns-then-branch-clause-whole : goal.returns-then-branch-clause-whole
 returns-then-branch-clause-whole c =
-    carried-whole c.args.last c.args.first.now c.extend.new.self c.turn.new.self c.in_ok-hide.hide c.args.used (c.requires.whole (c.if-is_carried_on.ensures.whole refl)) (c.if-is_carried_on.ensures.kind refl) (more c) (grown c) c.turn.ensures
+    carried-whole c.args.last c.args.first.now c.extend.new.self c.turn.new.self c.in_ok-hide.hide c.args.used
+    (c.requires.whole (c.if-is_carried_on.ensures.whole refl)) (c.if-is_carried_on.ensures.kind refl) (more c) (grown c) c.turn.ensures
 
 pub returns-clause-whole : goal.returns-clause-whole
 returns-clause-whole c = paste-whole c.args.sets.now c.pasted.new.sets _ c.args.first.now c.args.used c.pasted.result c.pasted.ensures.is

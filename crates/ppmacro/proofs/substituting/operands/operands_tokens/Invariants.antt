@@ -6,6 +6,8 @@ use Rattle.ppmacro.proofs.substituting.operands.operands_tokens.Given as goal
 
 abbrev pub invariant-loop-operand : goal.invariant-loop-operand
 invariant-loop-operand l = record {
-  same : behind (map (hidings l.sets) (lists_of l.lists.items)) (operands_tokens l.beside (arguments_in l.sets l.given l.expanded) l.used (drop l.operand-index l.operands)) ≡ operands_tokens l.beside (arguments_in l.sets l.given l.expanded) l.used l.operands;
+  same : behind (map (hidings l.sets) (lists_of l.lists.items))
+      (operands_tokens l.beside (arguments_in l.sets l.given l.expanded) l.used (drop l.operand-index l.operands))
+      ≡ operands_tokens l.beside (arguments_in l.sets l.given l.expanded) l.used l.operands;
   known : ListsKnown l.sets l.lists.items;
 }

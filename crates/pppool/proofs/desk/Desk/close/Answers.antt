@@ -52,7 +52,8 @@ loop-other-preserved-then-found_empty c =
       ap (λ (m : Me ℕ Hand). m.0.plan) j.2 ∙ k.2,
       omega arith,
       omega arith,
-      (λ x. joined_times x c.loop-other.seats.items c.pop-in-loop-other.new.self.items c.in-Some-pop.other c.loop-other.all.me.0.claims c.into_parts-seat.result.0.me.0.claims c.join_seat.new.seat.me.0.claims _ (ap (λ (m : Me ℕ Hand). m.0.claims) j.2) p.items e.seat.2 (k.5 x)),
+      (λ x. joined_times x c.loop-other.seats.items c.pop-in-loop-other.new.self.items c.in-Some-pop.other c.loop-other.all.me.0.claims
+          c.into_parts-seat.result.0.me.0.claims c.join_seat.new.seat.me.0.claims _ (ap (λ (m : Me ℕ Hand). m.0.claims) j.2) p.items e.seat.2 (k.5 x)),
       or_when_true c.loop-other.found_empty (any_empty c.loop-other.seats.items) (any_empty c.pop-in-loop-other.new.self.items) (any_empty c.args.seats.items) c.if-found_empty.true k.6,
       (λ is. let m = k.7 is in omega arith),
       front_all c.args.self c.loop-other.seats.items c.pop-in-loop-other.new.self.items c.in-Some-pop.other p.items k.8,
@@ -71,8 +72,10 @@ loop-other-preserved c =
       ap (λ (m : Me ℕ Hand). m.0.plan) j.2 ∙ k.2,
       omega arith,
       omega arith,
-      (λ x. joined_times x c.loop-other.seats.items c.pop-in-loop-other.new.self.items c.in-Some-pop.other c.loop-other.all.me.0.claims c.into_parts-seat.result.0.me.0.claims c.join_seat.new.seat.me.0.claims _ (ap (λ (m : Me ℕ Hand). m.0.claims) j.2) p.items e.seat.2 (k.5 x)),
-      empty_popped c.loop-other.seats.items c.pop-in-loop-other.new.self.items c.in-Some-pop.other c.into_parts-seat.result.1 p.items e.mark.0 ∙ or_when_false c.loop-other.found_empty (any_empty c.loop-other.seats.items) (any_empty c.args.seats.items) c.if-found_empty.false k.6,
+      (λ x. joined_times x c.loop-other.seats.items c.pop-in-loop-other.new.self.items c.in-Some-pop.other c.loop-other.all.me.0.claims
+          c.into_parts-seat.result.0.me.0.claims c.join_seat.new.seat.me.0.claims _ (ap (λ (m : Me ℕ Hand). m.0.claims) j.2) p.items e.seat.2 (k.5 x)),
+      empty_popped c.loop-other.seats.items c.pop-in-loop-other.new.self.items c.in-Some-pop.other c.into_parts-seat.result.1 p.items e.mark.0
+          ∙ or_when_false c.loop-other.found_empty (any_empty c.loop-other.seats.items) (any_empty c.args.seats.items) c.if-found_empty.false k.6,
       (λ is. let m = marked_now c.into_parts-seat.result.1 c.into_parts-seat.result.0.me.0.marks e.mark.1 is in omega arith),
       front_all c.args.self c.loop-other.seats.items c.pop-in-loop-other.new.self.items c.in-Some-pop.other p.items k.8,
     )

@@ -21,6 +21,7 @@ loop-number-preserved g c =
       ap (λ (v : SeatView). v.desk) e.seat ∙ s.desk,
       e.shelf,
       e.answers,
-      all_answered_push (length c.args.job.now.units.now) c.args.job.now.block c.in-Some.number c.loop-number.self.seat.claims c.work_block.new.self.seat.claims (answered c.loop-number.self.answers.items) (answered c.work_block.new.self.answers.items)
+      all_answered_push (length c.args.job.now.units.now) c.args.job.now.block c.in-Some.number c.loop-number.self.seat.claims c.work_block.new.self.seat.claims
+          (answered c.loop-number.self.answers.items) (answered c.work_block.new.self.answers.items)
           claims k.3 e.stay e.block,
     )

@@ -10,7 +10,8 @@ pub returns-then-has_name-clause-bytes : goal.returns-then-has_name-clause-bytes
 returns-then-has_name-clause-bytes c =
     let P : List File → Type 0 = λ xs. IsFile xs c.args.name.now (readable c.in-Ok.bytes.items) in
     subst P c.deref-file-items.ensures.value (c.loop-file.invariant (readable c.in-Ok.bytes.items)
-    (found c.deref-file-items.result.now c.loop-file.file-index c.file-item.result c.args.name.now (readable c.in-Ok.bytes.items) (omega arith) c.file-item.is (c.has_name.ensures.0 c.if-has_name.true) (ap readable (c.in-Ok.ensures.items ∙ c.as_slice.ensures.value))))
+    (found c.deref-file-items.result.now c.loop-file.file-index c.file-item.result c.args.name.now (readable c.in-Ok.bytes.items) (omega arith) c.file-item.is
+    (c.has_name.ensures.0 c.if-has_name.true) (ap readable (c.in-Ok.ensures.items ∙ c.as_slice.ensures.value))))
 
 pub loop-file-preserved : goal.loop-file-preserved
 loop-file-preserved c x later =

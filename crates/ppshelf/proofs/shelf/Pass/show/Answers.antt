@@ -18,7 +18,8 @@ look-requires-clause-fits g c =
     let count : length (names_of rows) ≡ length rows = length-map rows (λ (s : Spot). s.name) in
     let w : c.args.row < length rows = let e = ap (λ (s : Stock). length s.names) c.shelf.view_is in let r = c.requires.row in omega arith in
     let same : c.self.inside.shelf.now ≡ stock_of c.shelf.inside.profile rows = ap (λ (k : Known). k.shelf) c.self.view_is ∙ (c.requires.shelf ∙ sym c.shelf.view_is) in
-    fits_at g.D.Disk.may c.shelf.inside.profile rows c.self.inside.shelf.now c.self.inside.rows.items c.args.row c.index.result.now c.index_mut-seen.result.now c.shelf.invariant.placed same w c.index.ensures c.self.invariant c.index_mut-seen.ensures.value
+    fits_at g.D.Disk.may c.shelf.inside.profile rows c.self.inside.shelf.now c.self.inside.rows.items c.args.row c.index.result.now c.index_mut-seen.result.now
+    c.shelf.invariant.placed same w c.index.ensures c.self.invariant c.index_mut-seen.ensures.value
 
 pub invariant_of-self : goal.invariant_of-self
 invariant_of-self g c =
@@ -38,7 +39,9 @@ invariant_of-self-2 g c =
 
 pub returns-clause-known : goal.returns-clause-known
 returns-clause-known g c =
-    let e : files_of (set c.self.inside.rows.items c.args.row c.look.new.seen) ≡ set (files_of c.self.inside.rows.items) c.args.row (Some c.in-Ok.loaded.now.content) = files_of-set c.self.inside.rows.items c.args.row c.look.new.seen c.in-Ok.loaded.now c.in-Ok.ensures.shown in
+    let e : files_of (set c.self.inside.rows.items c.args.row c.look.new.seen)
+    ≡ set (files_of c.self.inside.rows.items) c.args.row (Some c.in-Ok.loaded.now.content) =
+    files_of-set c.self.inside.rows.items c.args.row c.look.new.seen c.in-Ok.loaded.now c.in-Ok.ensures.shown in
     let f : files_of c.self.inside.rows.items ≡ c.args.self.now.files = ap (λ (k : Known). k.files) c.self.view_is in
     rw (← f) e
 

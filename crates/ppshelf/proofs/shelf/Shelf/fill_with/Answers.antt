@@ -12,7 +12,9 @@ use Rattle.ppshelf.proofs.shelf.Shelf.fill_with.Goals as goal
 pub invariant_of-self : goal.invariant_of-self
 invariant_of-self g c =
     let P : List (List ℕ) → Type 0 = λ x. IsShelf c.self.inside.profile x c.loop-bytes.self-inside.rows.items in
-    kept_shelf _ _ _ c.loop-bytes.self-inside.profile (sym c.loop-bytes.invariant.profile_is) (subst P (sym c.loop-bytes.invariant.index_is) (shelf_turned c.self.inside.profile (given c.args.contents.items) _ _ _ c.self.invariant c.loop-bytes.invariant.filling.turned))
+    kept_shelf _ _ _ c.loop-bytes.self-inside.profile (sym c.loop-bytes.invariant.profile_is)
+    (subst P (sym c.loop-bytes.invariant.index_is)
+    (shelf_turned c.self.inside.profile (given c.args.contents.items) _ _ _ c.self.invariant c.loop-bytes.invariant.filling.turned))
 
 pub put-requires-clause-lawful : goal.put-requires-clause-lawful
 put-requires-clause-lawful g c =
@@ -21,7 +23,9 @@ put-requires-clause-lawful g c =
     let bytes = c.in-Some.bytes in
     let filling = c.loop-bytes.invariant.filling in
     let yields = YieldsList-from_vec {s = c.into_iter-bytes-iterator.result} contents c.into_iter-bytes-iterator.ensures.into_iter_gives.0 (c.into_iter-bytes-iterator.ensures.into_iter_gives.1 ∙ c.args.contents.ok.0) in
-    let here = bytes_here contents row (length c.loop-bytes.yielded) bytes c.loop-bytes.invariant.row_is (YieldsList-turn yields c.loop-bytes.yielded c.loop-bytes.bytes-iterator c.loop-bytes.yielded_by c.next.result c.next.new.self bytes c.in-Some.is c.next.ensures.steps) in
+    let here = bytes_here contents row (length c.loop-bytes.yielded) bytes c.loop-bytes.invariant.row_is
+    (YieldsList-turn yields c.loop-bytes.yielded c.loop-bytes.bytes-iterator c.loop-bytes.yielded_by c.next.result c.next.new.self bytes c.in-Some.is
+    c.next.ensures.steps) in
     let within : row < length c.self.inside.rows.items = let k = length-map c.self.inside.rows.items (λ (s : Spot). s.name) in let l = ap (λ (s : Stock). length s.names) c.self.view_is in let m = c.requires.count in omega arith in
     let at : row < length c.args.self.now.names = let k = length-map c.self.inside.rows.items (λ (s : Spot). s.name) in let l = ap (λ (s : Stock). length s.names) c.self.view_is in omega arith in
     let P : Stock → Type 0 = λ stock. Lawful g.D.Disk.may (name_in stock.names row) (readable (bytes_at contents row)) in
@@ -34,7 +38,9 @@ invariant_of-self-in_err-put g c =
     let bytes = c.in-Some.bytes in
     let filling = c.loop-bytes.invariant.filling in
     let yields = YieldsList-from_vec {s = c.into_iter-bytes-iterator.result} contents c.into_iter-bytes-iterator.ensures.into_iter_gives.0 (c.into_iter-bytes-iterator.ensures.into_iter_gives.1 ∙ c.args.contents.ok.0) in
-    let here = bytes_here contents row (length c.loop-bytes.yielded) bytes c.loop-bytes.invariant.row_is (YieldsList-turn yields c.loop-bytes.yielded c.loop-bytes.bytes-iterator c.loop-bytes.yielded_by c.next.result c.next.new.self bytes c.in-Some.is c.next.ensures.steps) in
+    let here = bytes_here contents row (length c.loop-bytes.yielded) bytes c.loop-bytes.invariant.row_is
+    (YieldsList-turn yields c.loop-bytes.yielded c.loop-bytes.bytes-iterator c.loop-bytes.yielded_by c.next.result c.next.new.self bytes c.in-Some.is
+    c.next.ensures.steps) in
     let within : row < length c.self.inside.rows.items = let k = length-map c.self.inside.rows.items (λ (s : Spot). s.name) in let l = ap (λ (s : Stock). length s.names) c.self.view_is in let m = c.requires.count in omega arith in
     let put = given_row contents c.self.inside.profile row bytes.items c.index_mut.result.now c.put.new.self here.1 c.put.ensures.turned in
     let turned = turned_set c.self.inside.profile (given contents) _ _ row c.index_mut.result.now c.put.new.self filling within c.index_mut.ensures.value put in
@@ -49,7 +55,9 @@ returns-in_err-put g c =
     let bytes = c.in-Some.bytes in
     let filling = c.loop-bytes.invariant.filling in
     let yields = YieldsList-from_vec {s = c.into_iter-bytes-iterator.result} contents c.into_iter-bytes-iterator.ensures.into_iter_gives.0 (c.into_iter-bytes-iterator.ensures.into_iter_gives.1 ∙ c.args.contents.ok.0) in
-    let here = bytes_here contents row (length c.loop-bytes.yielded) bytes c.loop-bytes.invariant.row_is (YieldsList-turn yields c.loop-bytes.yielded c.loop-bytes.bytes-iterator c.loop-bytes.yielded_by c.next.result c.next.new.self bytes c.in-Some.is c.next.ensures.steps) in
+    let here = bytes_here contents row (length c.loop-bytes.yielded) bytes c.loop-bytes.invariant.row_is
+    (YieldsList-turn yields c.loop-bytes.yielded c.loop-bytes.bytes-iterator c.loop-bytes.yielded_by c.next.result c.next.new.self bytes c.in-Some.is
+    c.next.ensures.steps) in
     let within : row < length c.self.inside.rows.items = let k = length-map c.self.inside.rows.items (λ (s : Spot). s.name) in let l = ap (λ (s : Stock). length s.names) c.self.view_is in let m = c.requires.count in omega arith in
     let put = given_row contents c.self.inside.profile row bytes.items c.index_mut.result.now c.put.new.self here.1 c.put.ensures.turned in
     let turned = turned_set c.self.inside.profile (given contents) _ _ row c.index_mut.result.now c.put.new.self filling within c.index_mut.ensures.value put in
@@ -65,7 +73,9 @@ loop-bytes-preserved g c =
     let bytes = c.in-Some.bytes in
     let filling = c.loop-bytes.invariant.filling in
     let yields = YieldsList-from_vec {s = c.into_iter-bytes-iterator.result} contents c.into_iter-bytes-iterator.ensures.into_iter_gives.0 (c.into_iter-bytes-iterator.ensures.into_iter_gives.1 ∙ c.args.contents.ok.0) in
-    let here = bytes_here contents row (length c.loop-bytes.yielded) bytes c.loop-bytes.invariant.row_is (YieldsList-turn yields c.loop-bytes.yielded c.loop-bytes.bytes-iterator c.loop-bytes.yielded_by c.next.result c.next.new.self bytes c.in-Some.is c.next.ensures.steps) in
+    let here = bytes_here contents row (length c.loop-bytes.yielded) bytes c.loop-bytes.invariant.row_is
+    (YieldsList-turn yields c.loop-bytes.yielded c.loop-bytes.bytes-iterator c.loop-bytes.yielded_by c.next.result c.next.new.self bytes c.in-Some.is
+    c.next.ensures.steps) in
     let within : row < length c.self.inside.rows.items = let k = length-map c.self.inside.rows.items (λ (s : Spot). s.name) in let l = ap (λ (s : Stock). length s.names) c.self.view_is in let m = c.requires.count in omega arith in
     let put = given_row contents c.self.inside.profile row bytes.items c.index_mut.result.now c.put.new.self here.1 c.put.ensures.turned in
     record {
@@ -80,7 +90,10 @@ returns g c =
     let contents = c.args.contents.items in
     let yields = YieldsList-from_vec {s = c.into_iter-bytes-iterator.result} contents c.into_iter-bytes-iterator.ensures.into_iter_gives.0 (c.into_iter-bytes-iterator.ensures.into_iter_gives.1 ∙ c.args.contents.ok.0) in
     let all : length c.loop-bytes.yielded ≡ length contents = (YieldsList-end yields c.loop-bytes.yielded c.loop-bytes.bytes-iterator c.loop-bytes.yielded_by c.next.result c.next.new.self c.in-None.is c.next.ensures.steps).1 in
-    let done : length c.self.inside.rows.items ≤ c.loop-bytes.row = let k = length-map c.self.inside.rows.items (λ (s : Spot). s.name) in let l = ap (λ (s : Stock). length s.names) c.self.view_is in let m = c.requires.count in let r = c.loop-bytes.invariant.row_is in omega arith in
+    let done : length c.self.inside.rows.items ≤ c.loop-bytes.row =
+    let k = length-map c.self.inside.rows.items (λ (s : Spot). s.name) in
+    let l = ap (λ (s : Stock). length s.names) c.self.view_is in let m = c.requires.count in let r = c.loop-bytes.invariant.row_is in omega arith in
     let P : Stock → Type 0 = λ old. Fills (given contents) old (stock_of c.self.inside.profile c.loop-bytes.self-inside.rows.items) in
-    let fills = kept_fills (given contents) _ _ _ c.loop-bytes.self-inside.profile (sym c.loop-bytes.invariant.profile_is) (subst P c.self.view_is (fills_turned c.self.inside.profile (given contents) _ _ c.loop-bytes.invariant.filling.turned)) in
+    let fills = kept_fills (given contents) _ _ _ c.loop-bytes.self-inside.profile (sym c.loop-bytes.invariant.profile_is)
+    (subst P c.self.view_is (fills_turned c.self.inside.profile (given contents) _ _ c.loop-bytes.invariant.filling.turned)) in
     record { shelf = fills.shelf; base = fills.base; len = fills.len; full = full_turned c.self.inside.profile (given contents) _ _ c.loop-bytes.row done c.loop-bytes.invariant.filling }

@@ -12,7 +12,9 @@ pub loop-at-preserved : goal.loop-at-preserved
 loop-at-preserved c =
     let at : c.loop-at.at ≡ c.loop-at.at - 1 + 1 = omega (arith, c.loop-at-test.true) in
     let sofar = subst (λ (z : ℕ). LinkedFrom c.args.lines.now z c.loop-at.lines (reverse c.loop-at.behind.items)) at c.loop-at.invariant in
-    linked_step c.args.lines.now c.loop-at.lines (reverse c.loop-at.behind.items) (reverse c.step_back.new.behind.items) (c.loop-at.at - 1) no_line c.in_ok-next.next (omega (arith, c.loop-at-test.true)) sofar (c.in_ok-next.ensures ∙ ap (λ (z : Role). step_back (c.loop-at.at - 1) z (reverse c.loop-at.behind.items)) c.role_of.ensures)
+    linked_step c.args.lines.now c.loop-at.lines (reverse c.loop-at.behind.items) (reverse c.step_back.new.behind.items) (c.loop-at.at - 1) no_line
+    c.in_ok-next.next (omega (arith, c.loop-at-test.true)) sofar
+    (c.in_ok-next.ensures ∙ ap (λ (z : Role). step_back (c.loop-at.at - 1) z (reverse c.loop-at.behind.items)) c.role_of.ensures)
 
 pub returns : goal.returns
 returns c = linked_all c.args.lines.now c.loop-at.lines (reverse c.loop-at.behind.items) c.loop-at.at c.loop-at-test.false c.loop-at.invariant

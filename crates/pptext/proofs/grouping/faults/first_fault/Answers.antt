@@ -17,7 +17,9 @@ returns-in-Some c =
     let role = line_role (get_or c.args.lines.now c.loop-at.at no_line) in
     let before = sections c.loop-at.open_sections.items in
     let after = sections c.take_line.new.open_sections.items in
-    let step : (opened role c.loop-at.at before).0 ≡ Some c.in-Some.number = ap (λ (z : Role). (opened z c.loop-at.at before).0) (sym c.role_of.ensures) ∙ subst (λ (z : Option ℕ). Takes (opened (role_meant c.role_of.result) c.loop-at.at before) z after) c.in-Some.is c.in_ok-number.ensures in
+    let step : (opened role c.loop-at.at before).0 ≡ Some c.in-Some.number =
+    ap (λ (z : Role). (opened z c.loop-at.at before).0) (sym c.role_of.ensures)
+    ∙ subst (λ (z : Option ℕ). Takes (opened (role_meant c.role_of.result) c.loop-at.at before) z after) c.in-Some.is c.in_ok-number.ensures in
     ap Some (c.in_ok-fault_at.ensures blank_line) ∙ fault_here c.args.tokens.now c.args.lines.now c.requires.are_lines c.loop-at.at c.in-Some.number before no_line c.loop-at-test.true c.loop-at.invariant step
 
 pub loop-at-preserved : goal.loop-at-preserved
@@ -25,7 +27,9 @@ loop-at-preserved c =
     let role = line_role (get_or c.args.lines.now c.loop-at.at no_line) in
     let before = sections c.loop-at.open_sections.items in
     let after = sections c.take_line.new.open_sections.items in
-    let step : opened role c.loop-at.at before ≡ (None, after) = ap (λ (z : Role). opened z c.loop-at.at before) (sym c.role_of.ensures) ∙ subst (λ (z : Option ℕ). Takes (opened (role_meant c.role_of.result) c.loop-at.at before) z after) c.in_default.is c.in_ok-number.ensures in
+    let step : opened role c.loop-at.at before ≡ (None, after) =
+    ap (λ (z : Role). opened z c.loop-at.at before) (sym c.role_of.ensures)
+    ∙ subst (λ (z : Option ℕ). Takes (opened (role_meant c.role_of.result) c.loop-at.at before) z after) c.in_default.is c.in_ok-number.ensures in
     faults_step c.args.tokens.now c.args.lines.now c.requires.are_lines c.loop-at.at before after no_line c.loop-at-test.true c.loop-at.invariant step
 
 pub returns-in-None : goal.returns-in-None
@@ -44,4 +48,5 @@ pub returns : goal.returns
 returns c =
     let top = ap sections c.in-Some-pop.ensures.items ∙ sections_more c.pop.new.self.items c.in-Some-pop.section in
     let sofar = subst (FaultsSoFar c.args.tokens.now c.args.lines.now c.loop-at.at) top c.loop-at.invariant in
-    fault_last c.args.tokens.now c.args.lines.now c.requires.are_lines c.loop-at.at (c.in-Some-pop.section.opening, c.in-Some-pop.section.last) (sections c.pop.new.self.items) c.in_ok-fault_at-in-Some-pop.field-0 c.loop-at-test.false sofar (c.in_ok-fault_at-in-Some-pop.ensures blank_line)
+    fault_last c.args.tokens.now c.args.lines.now c.requires.are_lines c.loop-at.at (c.in-Some-pop.section.opening, c.in-Some-pop.section.last)
+    (sections c.pop.new.self.items) c.in_ok-fault_at-in-Some-pop.field-0 c.loop-at-test.false sofar (c.in_ok-fault_at-in-Some-pop.ensures blank_line)

@@ -24,4 +24,8 @@ returns-clause-part c =
     let text = c.args.text.now in
     let opening = c.char_opening_len-opening.result in
     let full : (0 < length (drop opening text)) × (get_or (drop opening text) 0 0 ≡ 39) → c.begins_with_byte.result ≡ true = simp take_rest at c.begins_with_byte.ensures.1 in
-    char_const_part text c.literal_len.result (then_found CharOpening CharRest text opening c.literal_len.result c.char_opening_len-opening.ensures c.if-opening-eq0.false (λ z. char_rest_lacks (drop opening text) (c.literal_len.ensures.none z)) (λ s. let f = c.literal_len.ensures.some s in (f.0, char_rest_only (drop opening text) (c.literal_len.result - opening) (λ h. false≢true (sym c.if-begins_with_byte.false ∙ full h)) f.1)))
+    char_const_part text c.literal_len.result
+    (then_found CharOpening CharRest text opening c.literal_len.result c.char_opening_len-opening.ensures c.if-opening-eq0.false
+    (λ z. char_rest_lacks (drop opening text) (c.literal_len.ensures.none z))
+    (λ s. let f = c.literal_len.ensures.some s in
+    (f.0, char_rest_only (drop opening text) (c.literal_len.result - opening) (λ h. false≢true (sym c.if-begins_with_byte.false ∙ full h)) f.1)))

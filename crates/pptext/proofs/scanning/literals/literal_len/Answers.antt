@@ -16,7 +16,10 @@ returns-in-Closed-clause-some c =
 
 pub returns-in-Lone-clause-none : goal.returns-in-Lone-clause-none
 returns-in-Lone-clause-none c =
-    let found : (c.in-Lone.n ≤ length (drop c.args.opening c.args.text.now)) × NoFront (IsQuoted c.args.quote) (drop c.args.opening c.args.text.now) × AreLone c.args.quote (drop c.args.opening c.args.text.now) c.in-Lone.n = simp take_rest at c.in-Lone.ensures in
+    let found : (c.in-Lone.n ≤ length (drop c.args.opening c.args.text.now))
+    × NoFront (IsQuoted c.args.quote) (drop c.args.opening c.args.text.now)
+    × AreLone c.args.quote (drop c.args.opening c.args.text.now) c.in-Lone.n =
+    simp take_rest at c.in-Lone.ensures in
     λ _. found.1
 
 pub returns-in-Lone-clause-lone : goal.returns-in-Lone-clause-lone

@@ -9,4 +9,6 @@ returns-then-opening-eq0-clause-part c =
 
 pub returns-clause-part : goal.returns-clause-part
 returns-clause-part c =
-    str_part c.args.text.now c.literal_len.result (then_found StrOpening (IsQuoted 34) c.args.text.now c.str_opening_len-opening.result c.literal_len.result c.str_opening_len-opening.ensures c.if-opening-eq0.false c.literal_len.ensures.none c.literal_len.ensures.some)
+    str_part c.args.text.now c.literal_len.result
+    (then_found StrOpening (IsQuoted 34) c.args.text.now c.str_opening_len-opening.result c.literal_len.result c.str_opening_len-opening.ensures
+    c.if-opening-eq0.false c.literal_len.ensures.none c.literal_len.ensures.some)

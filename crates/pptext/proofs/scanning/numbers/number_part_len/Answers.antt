@@ -14,4 +14,5 @@ returns-then-begins_with_exponent c =
 
 pub returns : goal.returns
 returns c =
-    nondigit_part c.args.text.now c.nondigit_len.result (sym c.is_digit_or_period.ensures ∙ c.if-is_digit_or_period.false) (λ h. false≢true (sym c.if-begins_with_exponent.false ∙ c.begins_with_exponent.ensures.1 h)) c.nondigit_len.ensures
+    nondigit_part c.args.text.now c.nondigit_len.result (sym c.is_digit_or_period.ensures ∙ c.if-is_digit_or_period.false)
+    (λ h. false≢true (sym c.if-begins_with_exponent.false ∙ c.begins_with_exponent.ensures.1 h)) c.nondigit_len.ensures

@@ -11,7 +11,13 @@ Known rows ts g = MatchOption g ((x : List ℕ) → GuardedBy rows x → ⊥) (�
 known_none : (rows same : List LogicalLine) (ts : List Token) (g : Option ℕ) → Known rows ts g → g ≡ None → rows ≡ same → (x : List ℕ) → GuardedBy same x → ⊥
 known_none rows same ts g k is e = subst (λ (z : List LogicalLine). (x : List ℕ) → GuardedBy z x → ⊥) e (subst (Known rows ts) is k)
 
-known_some : (rows same : List LogicalLine) (ts : List Token) (g : Option ℕ) (i : ℕ) (t : Token) (text : List ℕ) → Known rows ts g → g ≡ Some i → rows ≡ same → t ≡ slice_index_or ts i t → text ≡ t.text → GuardedBy same text
+known_some : (rows same : List LogicalLine) (ts : List Token) (g : Option ℕ) (i : ℕ) (t : Token) (text : List ℕ)
+    → Known rows ts g
+    → g ≡ Some i
+    → rows ≡ same
+    → t ≡ slice_index_or ts i t
+    → text ≡ t.text
+    → GuardedBy same text
 known_some rows same ts g i t text k is e at said =
     let h = (subst (Known rows ts) is k).1 t in
     subst (λ (z : List LogicalLine). GuardedBy z text) e (subst (λ (z : List ℕ). GuardedBy rows z) (ap (λ (u : Token). u.text) (sym at) ∙ sym said) h)
