@@ -7,7 +7,9 @@ PROGRAM is by default crates/cppunits/out/cppunits, which `rt ci` and `rt run` l
 at three sizes, each twice the one before, and run by `cppunits --workers 1 dump` and, where there is one text,
 `gcc -E -std=c11 -pedantic-errors -x c`, both with their output thrown away.  Printed are the processor seconds and the most
 memory, each with the factor to the size before, for both programs: for cppunits the least of N runs (2 by default), for gcc
-those of one run.  A run is stopped that takes 30 seconds of the processor or 8 GB; gcc's are `-` where it doesn't end by itself.
+those of one run.  A shape that seems to grow too fast is measured again, up to 9 rounds of all its sizes, and of each factor
+the least of a round counts: a machine that others share gets slower and faster, but what grows too fast does in every round.
+A run is stopped that takes 30 seconds of the processor or 8 GB; gcc's are `-` where it doesn't end by itself.
 
 A shape falls short where time or memory grows more than 2.3 times a doubling, where memory passes 80 bytes a token (a line,
 where there are no tokens) of the shapes that count them, and where the status isn't the one that is due.  Less than 0.05
@@ -34,8 +36,8 @@ MOST_GROWTH = 2.3
 LEAST_SECONDS, LEAST_MEMORY = 0.05, 32 * MEGABYTE
 BYTES_A_THING = 80
 MOST_SECONDS, MOST_MEMORY = 30, 8_000 * MEGABYTE
-# so long a run needs no second; shorter ones that seem to grow too fast are measured so often again
-LONG_SECONDS, AGAIN = 4, 8
+# so long a run needs no second; a shape that seems to grow too fast is measured in so many rounds
+LONG_SECONDS, MOST_ROUNDS = 4, 9
 GCC = ["gcc", "-E", "-std=c11", "-pedantic-errors", "-x", "c", "-"]
 HEADING = ("shape", "size", "seconds", "factor", "MB", "factor", "gcc: seconds", "factor", "MB", "factor")
 NOTHING = ("-", "", "", "")
@@ -49,7 +51,7 @@ class Cost:
     status: int
 
     def least(self, other):
-        return Cost(min(self.seconds, other.seconds), min(self.memory, other.memory), self.status)
+        return Cost(min(self.seconds, other.seconds), min(self.memory, other.memory), min(self.status, other.status))
 
 
 def bounded():
@@ -92,37 +94,46 @@ def write_texts(shape, sizes, folder):
                 file.write(shape.text(size))
 
 
-def seems_fast(costs):
-    """Whether something grew too much in runs so short that other programs may have been in the way."""
-    return costs[-1].seconds < LONG_SECONDS and max(factor for pair in factors(costs) for factor in pair) > MOST_GROWTH
-
-
-def measured(command, paths, runs):
+def one_round(command, paths, runs):
     """The costs of the sizes, up to one that is stopped."""
     costs = []
     for path in paths:
         costs.append(best(command, path, runs))
         if costs[-1].status < 0:
-            return costs
-    for _ in range(AGAIN):
-        if seems_fast(costs):
-            costs = [cost.least(best(command, path, runs)) for cost, path in zip(costs, paths)]
+            break
     return costs
 
 
-def cells(costs):
+def seems_fast(grows):
+    return max((factor for pair in grows for factor in pair), default=0) > MOST_GROWTH
+
+
+def measured(command, paths, runs):
+    """The least costs of the sizes, up to one that is stopped, and the least factors of a round."""
+    costs = one_round(command, paths, runs)
+    grows = factors(costs)
+    for _ in range(MOST_ROUNDS - 1):
+        if costs[-1].status < 0 or not seems_fast(grows):
+            break
+        again = one_round(command, paths, runs)
+        costs = [cost.least(other) for cost, other in zip(costs, again)]
+        grows = [tuple(map(min, *pairs)) for pairs in zip(grows, factors(again))]
+    return costs, grows
+
+
+def cells(costs, grows):
     """Seconds, factor, memory and factor of each size, as they are printed."""
-    grows = [("", "")] + [("%.2f" % time, "%.2f" % memory) for time, memory in factors(costs)]
-    return [("%.3f" % cost.seconds, time, "%.1f" % (cost.memory / MEGABYTE), memory) for cost, (time, memory) in zip(costs, grows)]
+    shown = [("", "")] + [("%.2f" % time, "%.2f" % memory) for time, memory in grows]
+    return [("%.3f" % cost.seconds, time, "%.1f" % (cost.memory / MEGABYTE), memory) for cost, (time, memory) in zip(costs, shown)]
 
 
-def shortfalls(shape, sizes, costs):
+def shortfalls(shape, sizes, costs, grows):
     for size, cost in zip(sizes, costs):
         if cost.status < 0:
             yield "stopped at %d, by %s" % (size, signal.Signals(-cost.status).name)
         elif cost.status != shape.status:
             yield "status %d in place of %d at %d" % (cost.status, shape.status, size)
-    for size, (time, memory) in zip(sizes[1:], factors(costs)):
+    for size, (time, memory) in zip(sizes[1:], grows):
         if time > MOST_GROWTH:
             yield "%.2f times the time at %d, twice the size before" % (time, size)
         if memory > MOST_GROWTH:
@@ -138,14 +149,14 @@ def compared(program, shape, sizes, runs):
     with tempfile.TemporaryDirectory() as folder:
         apart(write_texts, shape, sizes, folder)
         paths = [os.path.join(folder, "%d" % size) for size in sizes]
-        own = measured([program, "--workers", "1", "dump"], [path + ".json" for path in paths], runs)
+        own, grows = measured([program, "--workers", "1", "dump"], [path + ".json" for path in paths], runs)
         other = [NOTHING] * len(sizes)
         if shape.text:
             found = [run(GCC, path + ".c") for path in paths]
-            other = [cell if cost.status in (0, 1) else NOTHING for cost, cell in zip(found, cells(found))]
-    for size, cell, gcc in zip(sizes, cells(own), other):
+            other = [cell if cost.status in (0, 1) else NOTHING for cost, cell in zip(found, cells(found, factors(found)))]
+    for size, cell, gcc in zip(sizes, cells(own, grows), other):
         print(FORM % (shape.name, "{:,}".format(size), *cell, *gcc), flush=True)
-    return ["%s: %s" % (shape.name, problem) for problem in shortfalls(shape, sizes, own)]
+    return ["%s: %s" % (shape.name, problem) for problem in shortfalls(shape, sizes, own, grows)]
 
 
 def main():
