@@ -4,7 +4,7 @@ ghost use Rattle.ppmacro.specs.Chains.{chains_of};
 ghost use Rattle.std.specs.Option.{option_copied};
 ghost use Rattle.ppmacro.specs.Substituting.{tokens_of};
 ghost use Rattle.ppmacro.specs.HideSets.{hidings, AllKnown, Keeps};
-ghost use Rattle.ppmacro.specs.Define.{fault as fault_at};
+ghost use Rattle.pptext.specs.Tokens.{fault as fault_at};
 ghost use Rattle.ppmacro.specs.declared.flying.Hidden.{Hidden};
 ghost use Rattle.ppexpand.specs.Turn.{wanted};
 ghost use Rattle.ppexpand.specs.Expansion.{ExpandsTo, ExpandsArguments, IsExpansion};

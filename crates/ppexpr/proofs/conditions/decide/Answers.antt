@@ -4,7 +4,7 @@ use Rattle.pptext.proofs.Stopping.{if_settled-weaker, raises}
 use Rattle.ppexpr.proofs.conditions.decide.Goals as goal
 
 pub returns-then-has_defined : goal.returns-then-has_defined
-returns-then-has_defined c = rw c.in_ok-fault.ensures (made_defined (sym c.if-has_defined.ensures))
+returns-then-has_defined c = rw c.bare.ensures (made_defined (sym c.if-has_defined.ensures))
 
 pub returns : goal.returns
 returns c =

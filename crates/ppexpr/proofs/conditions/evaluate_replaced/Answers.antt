@@ -6,7 +6,7 @@ use Rattle.ppexpr.proofs.conditions.evaluate_replaced.Goals as goal
 pub returns-in_default : goal.returns-in_default
 returns-in_default c =
     let none = rw c.in_default.is at c.in_ok-asked.ensures in
-    rw c.in_ok-fault.ensures (ill_formed none)
+    rw c.bare.ensures (ill_formed none)
 
 pub returns-in-Some-fault : goal.returns-in-Some-fault
 returns-in-Some-fault c =

@@ -5,7 +5,7 @@ use Rattle.pptext.proofs.Stopping.{if_settled-weaker}
 use Rattle.ppexpr.proofs.conditions.judge.Goals as goal
 
 pub returns-then-is_too_nested : goal.returns-then-is_too_nested
-returns-then-is_too_nested c = let h = c.if-is_too_nested.ensures in rw c.in_ok-fault.ensures (too_nested (h.0 refl))
+returns-then-is_too_nested c = let h = c.if-is_too_nested.ensures in rw c.bare.ensures (too_nested (h.0 refl))
 
 pub returns : goal.returns
 returns c = let n = c.if-is_too_nested.ensures in if_settled-weaker _ _ _ (λ x h. not_nested (λ t. false≢true (n.1 t)) h) c.evaluate_symbols.ensures

@@ -1,4 +1,5 @@
 use Rattle.std.proofs.Common.{rules, ◌≡◌, ◌^◌, ◌<◌, length, sym, ap, ◌∙◌, arith}
+use Rattle.pptext.specs.Tokens.{fault}
 use Rattle.ppshelf.specs.Files.{Stock}
 use Rattle.ppshelf.specs.Names.{name_in}
 use Rattle.ppunit.specs.States.{State, paying, surroundings_of}
@@ -11,13 +12,14 @@ use Rattle.ppunit.proofs.opening.open.Goals as goal
 pub returns-then-depth-gt-DEEPEST-clause-opened : goal.returns-then-depth-gt-DEEPEST-clause-opened
 returns-then-depth-gt-DEEPEST-clause-opened g c more grows =
     opens_deep (surroundings_of c.args.around.now more) c.args.depth c.args.row c.args.at c.args.state.now c.name-name.result.now
-    c.in_ok-file_fault.field-0 c.if-depth-gt-DEEPEST.true
-    (ap (λ (z : Stock). name_in z.names c.args.row) (sym c.shelf-shelf.ensures) ∙ sym c.name-name.ensures) c.in_ok-file_fault.ensures
+    c.in_ok-new.field-0 c.if-depth-gt-DEEPEST.true
+    (ap (λ (z : Stock). name_in z.names c.args.row) (sym c.shelf-shelf.ensures) ∙ sym c.name-name.ensures)
+    (c.in_ok-new.ensures ∙ ap (fault 32 c.args.at) c.as_bytes.ensures.value)
 
 pub returns-then-is_spent-clause-opened : goal.returns-then-is_spent-clause-opened
 returns-then-is_spent-clause-opened g c more grows =
-    opens_over (surroundings_of c.args.around.now more) c.args.depth c.args.row c.args.at c.args.state.now c.in_ok-file_fault-2.field-0
-    c.if-depth-gt-DEEPEST.false (sym c.is_spent.ensures ∙ c.if-is_spent.true) c.in_ok-file_fault-2.ensures
+    opens_over (surroundings_of c.args.around.now more) c.args.depth c.args.row c.args.at c.args.state.now c.bare.result
+    c.if-depth-gt-DEEPEST.false (sym c.is_spent.ensures ∙ c.if-is_spent.true) c.bare.ensures
 
 pub returns-then-contains-clause-opened : goal.returns-then-contains-clause-opened
 returns-then-contains-clause-opened g c more grows =
@@ -34,9 +36,9 @@ returns-in_default-lines-clause-opened g c more grows =
     let named = ap (λ (z : Stock). name_in z.names c.args.row) (sym c.shelf-shelf.ensures) ∙ sym c.name-name.ensures in
     opens_unreadable (surroundings_of c.args.around.now more) c.args.depth c.args.row c.args.at c.args.state.now c.depend.new.self
     c.name-name.result.now
-    c.in_ok-file_fault-3.field-0 c.in-Ok.loaded.now.content c.if-depth-gt-DEEPEST.false (sym c.is_spent.ensures ∙ c.if-is_spent.false) new
-    (grows c.args.row c.in-Ok.loaded.now.content c.in-Ok.ensures.knows) c.in_default-lines.ensures named c.in_ok-file_fault-3.ensures
-    pays
+    c.in_ok-new-2.field-0 c.in-Ok.loaded.now.content c.if-depth-gt-DEEPEST.false (sym c.is_spent.ensures ∙ c.if-is_spent.false) new
+    (grows c.args.row c.in-Ok.loaded.now.content c.in-Ok.ensures.knows) c.in_default-lines.ensures named
+    (c.in_ok-new-2.ensures ∙ ap (fault 6 c.args.at) c.as_bytes-2.ensures.value) pays
 
 pub returns-in-Err-clause-opened : goal.returns-in-Err-clause-opened
 returns-in-Err-clause-opened g c more grows =
