@@ -12,4 +12,4 @@ returns c =
 
 pub returns-in_err-symbols : goal.returns-in_err-symbols
 returns-in_err-symbols c =
-    raises _ _ _ _ _ c.from_residual-in_err-symbols.ensures.1 c.in_err-symbols.ensures (λ f e. bad_constant (sym c.if-has_defined.ensures) (sym e))
+    raises _ _ _ _ _ c.from_residual.ensures.1 c.in_err-symbols.ensures (λ f e. bad_constant (sym c.if-has_defined.ensures) (sym e))
