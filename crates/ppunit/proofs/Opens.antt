@@ -63,11 +63,11 @@ pub opens_unreadable : (around : Surroundings) (depth row : ℕ) (at : Place) (s
     → f ≡ fault 6 at name
     → t ≡ depending (paying s) row
     → Opened around depth at s row (stopped t f)
-opens_unreadable around depth row at s t name f content fits more new known is named fault same =
+opens_unreadable around depth row at s t name f content fits more new known is named told same =
     let first = still_new row s t same new in
     let here = Opened.not_readable {depth = depth} {at = at} {s = s} fits more first (known ∙ ap (λ (z : Content). Some z) is) in
     subst (λ (z : State). Opened around depth at s row (stopped z f)) (sym same)
-    (subst (λ (z : Fault). Opened around depth at s row (stopped (depending (paying s) row) z)) (ap (fault 6 at) named ∙ sym fault) here)
+    (subst (λ (z : Fault). Opened around depth at s row (stopped (depending (paying s) row) z)) (ap (fault 6 at) named ∙ sym told) here)
 
 -- what was read is the file of this row, by this profile
 reads_at : (profile by : Profile) (row from : ℕ) (bytes : List ℕ) (lines : Result (List LogicalLine) Fault)
