@@ -38,7 +38,7 @@ returns-in_default-lines-clause-opened g c more grows =
     c.name-name.result.now
     c.in_ok-new-2.field-0 c.in-Ok.loaded.now.content c.if-depth-gt-DEEPEST.false (sym c.is_spent.ensures ∙ c.if-is_spent.false) new
     (grows c.args.row c.in-Ok.loaded.now.content c.in-Ok.ensures.knows) c.in_default-lines.ensures named
-    (c.in_ok-new-2.ensures ∙ ap (fault 6 c.args.at) c.as_bytes-2.ensures.value) pays
+    (c.in_ok-new-2.ensures ∙ ap (fault 6 c.args.at) c.as_bytes-in_default-lines.ensures.value) pays
 
 pub returns-in-Err-clause-opened : goal.returns-in-Err-clause-opened
 returns-in-Err-clause-opened g c more grows =
