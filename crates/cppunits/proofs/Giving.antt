@@ -5,6 +5,7 @@ use Rattle.std.specs.List.{AllZip}
 use Rattle.std.specs.String.{string_bytes}
 use Rattle.std.specs.declared.alloc.Global.{Global}
 use Rattle.std.proofs.lemmas.Bool.{cases_lt, false≢true}
+use Rattle.std.proofs.lemmas.List.Elements.{All-weaker}
 use Rattle.std.proofs.lemmas.List.{ext_get_or, get_or_past, get_or-map, get_or-replicate, length-map}
 use Rattle.std.proofs.lemmas.Option.{none-some}
 use Rattle.std.proofs.lemmas.Slice.Zip.{AllZip-long}
@@ -14,6 +15,7 @@ use Rattle.ppunit.specs.declared.units.Setting.{Setting}
 use Rattle.ppunit.specs.declared.units.Unit.{Unit as UnitOfList}
 use Rattle.ppunit.specs.declared.units.UnitOut.{UnitOut}
 use Rattle.ppunit.specs.Unit.{IsUnit, IsUnitOf}
+use Rattle.ppunit.proofs.Tested.{unit_of}
 use Rattle.pppool.specs.declared.keeping.Keep.{Keep}
 use Rattle.pppool.specs.Kept.{AreKept, kept}
 use Rattle.cppunits.specs.declared.list.List.{List as CompilationList}
@@ -94,7 +96,8 @@ pub can_run : (list : CompilationList) (names : List (List ℕ)) (units : List U
 can_run list names units runs named same =
     let P : List UnitOfList → Type 0 = λ us. All (IsUnitOf (length list.names) list.setting.profile) us in
     let Q : List (List ℕ) → Type 0 = λ ns. All (IsUnitOf (length ns) list.setting.profile) units in
-    subst Q (sym named) (subst P (sym same) runs.units)
+    let good = All-weaker _ (IsUnitOf (length list.names) list.setting.profile) (λ u h. unit_of (length list.names) list.setting.profile list.setting.profile u refl h) list.units runs.units in
+    subst Q (sym named) (subst P (sym same) good)
 
 -- they aren't too many
 pub few_units : (list : CompilationList) (units : List UnitOfList) → IsRunnable list → units ≡ list.units → length units ≤ most_rows

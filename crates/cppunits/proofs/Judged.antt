@@ -1,5 +1,5 @@
 -- The steps to a list's outcome, and what an accepted list keeps to.
-use Rattle.std.proofs.Common.{◌≡◌, ℕ, ◌<◌, ◌≤◌, ◌&&◌, Bool, true, false, not, List, [], refl, sym, subst, ◌∙◌, arith, length, map, All, Option, Some, None, nat_le, nat_lt, if◌then◌else◌, unwrap_or}
+use Rattle.std.proofs.Common.{◌≡◌, ℕ, ◌<◌, ◌≤◌, ◌&&◌, Bool, true, false, not, List, [], refl, sym, subst, ◌∙◌, arith, length, map, All, get_or, Option, Some, None, nat_le, nat_lt, if◌then◌else◌, unwrap_or}
 use Rattle.std.specs.Option.{is_some}
 use Rattle.std.specs.List.{list_all}
 use Rattle.std.specs.Str.{bytes_eq}
@@ -10,8 +10,10 @@ use Rattle.std.proofs.lemmas.List.Elements.{All-map, All-weaker, All-nil}
 use Rattle.std.proofs.lemmas.List.Quantifiers.{position-Some}
 use Rattle.std.proofs.lemmas.List.Sums.{AllPass-from_list_all}
 use Rattle.serde_json.specs.Data.{Data}
-use Rattle.ppunit.specs.Forms.{is_one_line}
-use Rattle.ppunit.specs.Unit.{IsUnitOf, command_text}
+use Rattle.pptext.specs.declared.sources.Profile.{Profile}
+use Rattle.pptext.specs.declared.sources.Profile.TheVariants.{C11, Later}
+use Rattle.ppunit.specs.Forms.{is_one_line, is_same, is_unit}
+use Rattle.ppunit.specs.Unit.{command_text}
 use Rattle.ppunit.specs.declared.units.Unit.{Unit as UnitOfList}
 use Rattle.cppunits.specs.Drafting.{draft}
 use Rattle.ppshelf.specs.Content.{longest}
@@ -81,6 +83,21 @@ below_by t names (Some i) e h = (position-Some (bytes_eq t) names i [] e).0
 place_below : (t : List ℕ) (names : List (List ℕ)) → is_some (row_among t names) ≡ true → unwrap_or (row_among t names) 0 < length names
 place_below t names h = below_by t names (row_among t names) refl h
 
+same_as_itself : (p : Profile) → is_same p p ≡ true
+same_as_itself C11 = refl
+same_as_itself Later = refl
+
+less_test : (a b : ℕ) → a < b → nat_lt a b ≡ true
+less_test a b h = grind (arith, nat_tests)
+
+-- a unit of a list, whose file is known, and whose definitions are single lines and not too long
+unit_passes : (names : List (List ℕ)) (p : Profile) (u : DraftUnit) → is_some (row_among u.file names) ≡ true → list_all is_one_line u.defines ≡ true
+    → nat_le (length (command_text u.defines)) longest ≡ true
+    → is_unit (length names) p (listed_unit p names u) ≡ true
+unit_passes names p u known lines fits =
+    let below : nat_lt (unwrap_or (row_among u.file names) 0) (length names) ≡ true = less_test _ _ (place_below u.file names known) in
+    rw (below, same_as_itself p, lines, fits) refl
+
 contents-small : (inline : Bool) (d : Draft) → All (λ (f : DraftFile). length f.content ≤ longest) d.files → All (λ bytes. length bytes ≤ longest) (listed inline d).contents
 contents-small true d h = All-map (λ (bytes : List ℕ). length bytes ≤ longest) (λ (f : DraftFile). f.content) d.files h
 contents-small false d h = All-nil (λ (bytes : List ℕ). length bytes ≤ longest)
@@ -91,7 +108,6 @@ judged-runnable inline d l e =
     let p = judged-passed inline d l e in
     let names = names_of d.files in
     let listing = listed_unit (profile_of d.setting) names in
-    let commands_pass = (both _ _ p.sizes_pass).1 in
     let contents_pass = (both _ _ (both _ _ p.sizes_pass).0).1 in
     let files_pass = (both _ _ (both _ _ (both _ _ p.sizes_pass).0).0).0 in
     let count : length d.files ≤ most_rows = leb-true (length d.files) most_rows files_pass in
@@ -102,30 +118,19 @@ judged-runnable inline d l e =
     let short : All (λ (f : DraftFile). length f.content ≤ longest) d.files =
     All-weaker _ _ (λ f h. leb-true (length f.content) longest h) d.files
     (AllPass-from_list_all (λ (f : DraftFile). nat_le (length f.content) longest) d.files contents_pass) in
-    let known : All (λ (u : DraftUnit). unwrap_or (row_among u.file names) 0 < length names) d.units =
-    All-weaker _ _ (λ u h. place_below u.file names h) d.units
-    (AllPass-from_list_all (λ (u : DraftUnit). is_some (row_among u.file names)) d.units p.files_pass) in
-    let fit : All (λ (u : DraftUnit). length (command_text u.defines) ≤ longest) d.units =
-    All-weaker _ _ (λ u h. leb-true (length (command_text u.defines)) longest h) d.units
-    (AllPass-from_list_all (λ (u : DraftUnit). nat_le (length (command_text u.defines)) longest) d.units commands_pass) in
-    let IsKnown = λ (u : DraftUnit). unwrap_or (row_among u.file names) 0 < length names in
-    let IsGood = IsUnitOf (length names) (profile_of d.setting) in
-    let placed : All (λ (u : DraftUnit). IsGood (listing u)) d.units = All-weaker IsKnown (λ (u : DraftUnit). IsGood (listing u)) (λ u h. (h, refl)) d.units known in
-    let files : All IsGood (map listing d.units) = All-map IsGood listing d.units placed in
-    let commands : All (λ (u : UnitOfList). length (command_text u.defines.texts) ≤ longest) (map listing d.units) = All-map (λ (u : UnitOfList). length (command_text u.defines.texts) ≤ longest) listing d.units fit in
-    let lines : All (λ (u : UnitOfList). list_all is_one_line u.defines.texts ≡ true) (map listing d.units) =
-    All-map (λ (u : UnitOfList). list_all is_one_line u.defines.texts ≡ true) listing d.units
-    (AllPass-from_list_all (λ (u : DraftUnit). list_all is_one_line u.defines) d.units p.lines_pass) in
+    let known = AllPass-from_list_all (λ (u : DraftUnit). is_some (row_among u.file names)) d.units p.files_pass in
+    let lines = AllPass-from_list_all (λ (u : DraftUnit). list_all is_one_line u.defines) d.units p.lines_pass in
+    let fit = AllPass-from_list_all (λ (u : DraftUnit). nat_le (length (command_text u.defines)) longest) d.units (both _ _ p.sizes_pass).1 in
+    let IsGood = λ (u : UnitOfList). is_unit (length names) (profile_of d.setting) u ≡ true in
+    let good : All (λ (u : DraftUnit). IsGood (listing u)) d.units =
+    λ k x lt. unit_passes names (profile_of d.setting) (get_or d.units k x) (known k x lt) (lines k x lt) (fit k x lt) in
     subst IsRunnable p.is_list (record {
       names = names_from_test names p.names_pass;
       few = rw same count;
       many = rw same_units unit_count;
       small = contents-small inline d short;
-      date = (both _ _ p.times_pass).0;
-      time = (both _ _ p.times_pass).1;
-      units = files;
-      commands = commands;
-      lines = lines;
+      setting = p.times_pass;
+      units = All-map IsGood listing d.units good;
     })
 
 -- there is a content for each name

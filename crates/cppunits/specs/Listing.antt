@@ -11,8 +11,8 @@ use Rattle.pptext.specs.declared.sources.Profile.TheVariants.{C11, Later}
 use Rattle.ppshelf.specs.Content.{longest}
 use Rattle.ppshelf.specs.Files.{most_rows}
 use Rattle.ppshelf.specs.Names.{AreNames, are_names, is_folder, row_among}
-use Rattle.ppunit.specs.Forms.{is_date, is_time, is_one_line}
-use Rattle.ppunit.specs.Unit.{IsUnitOf, command_text}
+use Rattle.ppunit.specs.Forms.{is_date, is_time, is_one_line, is_setting, is_unit}
+use Rattle.ppunit.specs.Unit.{command_text}
 use Rattle.ppunit.specs.declared.units.Setting.{Setting}
 use Rattle.ppunit.specs.declared.units.Unit.{Unit as UnitOfList}
 use Rattle.cppunits.specs.Drafting.{draft}
@@ -170,8 +170,5 @@ pub record IsRunnable (l : CompilationList) : Type 0 where
   pub few : length l.names ≤ most_rows
   pub many : length l.units ≤ most_rows
   pub small : All (λ bytes. length bytes ≤ longest) l.contents
-  pub date : is_date l.setting.date ≡ true
-  pub time : is_time l.setting.time ≡ true
-  pub units : All (IsUnitOf (length l.names) l.setting.profile) l.units
-  pub commands : All (λ (u : UnitOfList). length (command_text u.defines.texts) ≤ longest) l.units
-  pub lines : All (λ (u : UnitOfList). list_all is_one_line u.defines.texts ≡ true) l.units
+  pub setting : is_setting l.setting ≡ true
+  pub units : All (λ (u : UnitOfList). is_unit (length l.names) l.setting.profile u ≡ true) l.units
