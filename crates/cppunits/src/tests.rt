@@ -6,7 +6,7 @@ use crate::output::Mode;
 use crate::serving::{RunFault, serve, serve_from};
 use crate::streams::{Failed, Feed, ReaderFeed, Sink, SliceFeed, VecSink, WriterSink};
 use ppshelf::{File, MemoryDisk};
-use pptext::Hashing;
+use pptext::{Hashing, Memory};
 use std::alloc::{AllocError, Global};
 use std::fmt::Debug;
 use std::process::Abort;
@@ -97,16 +97,38 @@ fn run_from<R: Threads + AllocGlobal + Sync>(
     RunEnd { outcome, writer }
 }
 
+/// Want of memory is a test's error: the run's own, before which nothing is written, or that of the writer, to which a beginning of
+/// this went out.
+fn pass_memory(rt: &impl Abort, run: &RunEnd, want: &str) -> Result<(), Fail> {
+    let went = run.writer.bytes();
+    if run.writer.failed() {
+        assert!(rt; matches!(run.outcome, Err(RunFault::Write)));
+        assert!(rt; want.as_bytes().starts_with(went), "a failed writer");
+        return Err(Fail::from(Memory));
+    }
+    if !matches!(run.outcome, Err(RunFault::Memory)) {
+        return Ok(());
+    }
+    assert!(rt; went.is_empty(), "written before want of memory");
+    Err(Fail::from(Memory))
+}
+
 /// That a run wrote this, and that its status is 1 where the last line tells a fault, and 0 else.
-fn assert_ended(rt: &impl Abort, run: &RunEnd, want: &str, at: &str) {
+fn assert_ended(rt: &impl Abort, run: &RunEnd, want: &str, at: &str) -> Result<(), Fail> {
+    pass_memory(rt, run, want)?;
     assert!(rt; run.writer.bytes() == want.as_bytes(), "at {at}");
     let faulty = !(want.is_empty() || want.ends_with("ok\n"));
     assert_same(rt, &status(&run.outcome), &u8::from(faulty));
+    Ok(())
 }
 
 /// That four workers print this of a list that holds its files.
-fn assert_prints<R: Threads + AllocGlobal + Abort + Sync>(rt: &R, list: &str, want: &str) {
-    assert_ended(rt, &run_list(rt, list, Mode::Dump, 4, 8), want, list);
+fn assert_prints<R: Threads + AllocGlobal + Abort + Sync>(
+    rt: &R,
+    list: &str,
+    want: &str,
+) -> Result<(), Fail> {
+    assert_ended(rt, &run_list(rt, list, Mode::Dump, 4, 8), want, list)
 }
 
 /// The file's `text` or `hex`, what is printed between the unit's name and its dependency, and the last line.
@@ -120,8 +142,7 @@ fn prints<R: Threads + AllocGlobal + Abort + Sync>(
         "{{\"date\":\"Feb  9 2024\",\"time\":\"08:05:03\",\"files\":[{{\"name\":\"a.c\",{content}}}],\"units\":[{{\"file\":\"a.c\"}}]}}"
     )?;
     let want = format!(in rt.alloc(); "unit 0 a.c\n{items}dep 0 a.c\n{last}")?;
-    assert_prints(rt, list.as_str(), want.as_str());
-    Ok(())
+    assert_prints(rt, list.as_str(), want.as_str())
 }
 
 #[test]
@@ -209,8 +230,8 @@ fault 16 65535:2:1 N
 "#;
 
 #[test]
-fn prints_units_over_a_shared_header(rt: HostRuntime) {
-    assert_prints(&rt, SHARED, SHARED_OUTPUT);
+fn prints_units_over_a_shared_header(rt: HostRuntime) -> Result<(), Fail> {
+    assert_prints(&rt, SHARED, SHARED_OUTPUT)
 }
 
 /// The same without the items.
@@ -227,28 +248,32 @@ fault 16 65535:2:1 N
 "#;
 
 #[test]
-fn prints_dependencies_alone(rt: HostRuntime) {
+fn prints_dependencies_alone(rt: HostRuntime) -> Result<(), Fail> {
     let run = run_list(&rt, SHARED, Mode::Deps, 4, 8);
-    assert_ended(&rt, &run, SHARED_DEPS, "dependencies alone");
+    assert_ended(&rt, &run, SHARED_DEPS, "dependencies alone")
 }
 
 /// That so many workers, in blocks of so many units, print the same of the shared list.
-fn assert_shared<R: Threads + AllocGlobal + Abort + Sync>(rt: &R, workers: usize, block: usize)
+fn assert_shared<R: Threads + AllocGlobal + Abort + Sync>(
+    rt: &R,
+    workers: usize,
+    block: usize,
+) -> Result<(), Fail>
     requires workers { (1 ≤ workers) × (workers ≤ 64) }
     requires block { (1 ≤ block) × (block ≤ 1024) }
 {
     let run = run_list(rt, SHARED, Mode::Dump, workers, block);
-    assert_ended(rt, &run, SHARED_OUTPUT, "shared");
+    assert_ended(rt, &run, SHARED_OUTPUT, "shared")
 }
 
 #[test]
-fn gives_the_same_by_any_workers_and_blocks(rt: HostRuntime) {
-    assert_shared(&rt, 1, 1);
-    assert_shared(&rt, 1, 1024);
-    assert_shared(&rt, 2, 1);
-    assert_shared(&rt, 2, 3);
-    assert_shared(&rt, 7, 1);
-    assert_shared(&rt, 64, 2);
+fn gives_the_same_by_any_workers_and_blocks(rt: HostRuntime) -> Result<(), Fail> {
+    assert_shared(&rt, 1, 1)?;
+    assert_shared(&rt, 1, 1024)?;
+    assert_shared(&rt, 2, 1)?;
+    assert_shared(&rt, 2, 3)?;
+    assert_shared(&rt, 7, 1)?;
+    assert_shared(&rt, 64, 2)
 }
 
 /// The same list with names alone.
@@ -282,14 +307,13 @@ fn shared_disk(alloc: Global) -> Result<MemoryDisk, AllocError> {
 fn serves_the_files_of_a_disk(rt: HostRuntime) -> Result<(), Fail> {
     let disk = shared_disk(rt.alloc())?;
     let dumped = run_from(&rt, SHARED_NAMES, &disk, Mode::Dump, 2, 1);
-    assert_ended(&rt, &dumped, SHARED_OUTPUT, "all that units give");
+    assert_ended(&rt, &dumped, SHARED_OUTPUT, "all that units give")?;
     let deps = run_from(&rt, SHARED_NAMES, &disk, Mode::Deps, 2, 1);
-    assert_ended(&rt, &deps, SHARED_DEPS, "dependencies alone");
-    Ok(())
+    assert_ended(&rt, &deps, SHARED_DEPS, "dependencies alone")
 }
 
 #[test]
-fn tells_a_file_that_the_disk_lacks(rt: HostRuntime) {
+fn tells_a_file_that_the_disk_lacks(rt: HostRuntime) -> Result<(), Fail> {
     let disk = MemoryDisk {
         files: Vec::new(rt.alloc()),
     };
@@ -297,14 +321,14 @@ fn tells_a_file_that_the_disk_lacks(rt: HostRuntime) {
         r#"{"date":"Feb  9 2024","time":"08:05:03","files":[{"name":"a.c"}],"units":[{"file":"a.c"}]}"#;
     let run = run_from(&rt, list, &disk, Mode::Dump, 4, 8);
     let want = "unit 0 a.c\ndep 0 a.c\nfault 6 0:1:1 a.c\n";
-    assert_ended(&rt, &run, want, list);
+    assert_ended(&rt, &run, want, list)
 }
 
 #[test]
-fn prints_nothing_without_units(rt: HostRuntime) {
+fn prints_nothing_without_units(rt: HostRuntime) -> Result<(), Fail> {
     let list =
         r#"{"date":"Feb  9 2024","time":"08:05:03","files":[{"name":"a.c","text":"/*"}],"units":[]}"#;
-    assert_prints(&rt, list, "");
+    assert_prints(&rt, list, "")
 }
 
 /// A list of one file whose name has so many bytes.
@@ -324,12 +348,18 @@ fn refusal(outcome: &Result<bool, RunFault>) -> u8 {
 }
 
 /// That a list is refused by this number, with nothing written.
-fn assert_refused<R: Threads + AllocGlobal + Abort + Sync>(rt: &R, list: &str, number: u8) {
+fn assert_refused<R: Threads + AllocGlobal + Abort + Sync>(
+    rt: &R,
+    list: &str,
+    number: u8,
+) -> Result<(), Fail> {
     let run = run_list(rt, list, Mode::Dump, 4, 8);
+    pass_memory(rt, &run, "")?;
     let found = refusal(&run.outcome);
     assert!(rt; found == number, "{found} in place of {number} at {list}");
     assert_same(rt, &status(&run.outcome), &3);
     assert!(rt; run.writer.bytes().is_empty());
+    Ok(())
 }
 
 const REFUSED: [(&str, u8); 7] = [
@@ -366,13 +396,12 @@ const REFUSED: [(&str, u8); 7] = [
 #[test]
 fn refuses_by_the_least_number(rt: HostRuntime) -> Result<(), Fail> {
     for (list, number) in &REFUSED {
-        assert_refused(&rt, list, *number);
+        assert_refused(&rt, list, *number)?;
     }
     let alloc = rt.alloc();
-    assert_refused(&rt, arrays(alloc, 100)?.as_str(), 2);
-    assert_refused(&rt, arrays(alloc, 200)?.as_str(), 1);
-    assert_refused(&rt, long_named(alloc, 1025)?.as_str(), 3);
-    Ok(())
+    assert_refused(&rt, arrays(alloc, 100)?.as_str(), 2)?;
+    assert_refused(&rt, arrays(alloc, 200)?.as_str(), 1)?;
+    assert_refused(&rt, long_named(alloc, 1025)?.as_str(), 3)
 }
 
 /// That a list of this profile prints this of one file with this text between the unit's name and its dependency, and then this last line.
@@ -387,8 +416,7 @@ fn printed_by<R: Threads + AllocGlobal + Abort + Sync>(
         "{{\"profile\":\"{profile}\",\"date\":\"Feb  9 2024\",\"time\":\"08:05:03\",\"files\":[{{\"name\":\"s.c\",\"text\":\"{text}\"}}],\"units\":[{{\"file\":\"s.c\"}}]}}"
     )?;
     let want = format!(in rt.alloc(); "unit 0 s.c\n{items}dep 0 s.c\n{last}")?;
-    assert_prints(rt, list.as_str(), want.as_str());
-    Ok(())
+    assert_prints(rt, list.as_str(), want.as_str())
 }
 
 #[test]
@@ -412,8 +440,7 @@ fn printed_within<R: Threads + AllocGlobal + Abort + Sync>(
     let list = format!(in rt.alloc();
         "{{\"budget\":{budget},\"date\":\"Feb  9 2024\",\"time\":\"08:05:03\",\"files\":[{{\"name\":\"a.c\",\"text\":\"#define f(a) a*g\\n#define g(a) f(a)\\nf(2)(9)\\n\"}}],\"units\":[{{\"file\":\"a.c\"}}]}}"
     )?;
-    assert_prints(rt, list.as_str(), want);
-    Ok(())
+    assert_prints(rt, list.as_str(), want)
 }
 
 #[test]
@@ -433,8 +460,7 @@ fn prints_a_name_of_1024_bytes(rt: HostRuntime) -> Result<(), Fail> {
     let list = long_named(rt.alloc(), 1024)?;
     let name = name_of(rt.alloc(), 1024)?;
     let want = format!(in rt.alloc(); "unit 0 {name}\ndep 0 {name}\nok\n")?;
-    assert_prints(&rt, list.as_str(), want.as_str());
-    Ok(())
+    assert_prints(&rt, list.as_str(), want.as_str())
 }
 
 /// Gives 30 bytes, and then fails.
@@ -487,11 +513,14 @@ fn writes_nothing_after_a_failed_read(rt: HostRuntime) -> Result<(), Fail> {
         8,
         Hashing::fixed(),
     );
+    assert!(rt; writer.bytes().is_empty());
+    if matches!(outcome, Err(RunFault::Memory)) {
+        return Err(Fail::from(Memory));
+    }
     assert!(rt; matches!(outcome, Err(RunFault::Read)));
     assert_same(&rt, &status(&outcome), &5);
     assert!(rt; reader.failed());
     assert!(rt; !writer.failed());
-    assert!(rt; writer.bytes().is_empty());
     Ok(())
 }
 
@@ -545,12 +574,18 @@ fn breaks_off_at_a_failed_write(rt: HostRuntime) -> Result<(), Fail> {
         8,
         Hashing::fixed(),
     );
+    let went = writer.bytes.bytes();
+    assert!(rt; b"unit 0 a.c".as_slice().starts_with(went));
+    if matches!(outcome, Err(RunFault::Memory)) || writer.bytes.failed() {
+        assert!(rt; writer.failed() || went.is_empty());
+        return Err(Fail::from(Memory));
+    }
     assert!(rt; matches!(outcome, Err(RunFault::Write)));
     assert_same(&rt, &status(&outcome), &5);
     assert!(rt; writer.failed());
     assert!(rt; !reader.failed());
     assert_same(&rt, &writer.calls, &3);
-    assert!(rt; writer.bytes.bytes() == b"unit 0 a.c".as_slice());
+    assert_same(&rt, &went.len(), &10);
     Ok(())
 }
 
@@ -569,8 +604,12 @@ fn serves_over_a_reader_and_a_writer(rt: HostRuntime) -> Result<(), Fail> {
         8,
         Hashing::fixed(),
     );
+    assert!(rt; EXAMPLE_OUTPUT.as_bytes().starts_with(bytes.as_slice()));
+    if matches!(outcome, Err(RunFault::Memory) | Err(RunFault::Write)) {
+        return Err(Fail::from(Memory));
+    }
     assert_same(&rt, &status(&outcome), &0);
-    assert!(rt; bytes.as_slice() == EXAMPLE_OUTPUT.as_bytes());
+    assert_same(&rt, &bytes.len(), &EXAMPLE_OUTPUT.len());
     Ok(())
 }
 

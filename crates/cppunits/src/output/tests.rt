@@ -6,7 +6,7 @@ use crate::list::{Contents, List, Units};
 use crate::page::Page;
 use crate::streams::{Failed, Sink, VecSink};
 use crate::tests::assert_same;
-use pptext::{Fault, Place, Profile, Spelling};
+use pptext::{Fault, Memory, Place, Profile, Spelling};
 use ppunit::{Definitions, Items, Rows, Setting, Text, Texts, Unit, UnitOut, fits_command};
 use std::alloc::{AllocError, Global};
 use std::process::Abort;
@@ -220,13 +220,22 @@ fn send(
     })
 }
 
+/// Want of memory of the writer that a test writes to is the test's error.
+fn pass_memory(writer: &Short) -> Result<(), Fail> {
+    if writer.bytes.failed() {
+        return Err(Fail::from(Memory));
+    }
+    Ok(())
+}
+
 /// That what went out is a beginning of the whole, and that no write came after one that failed.
 fn assert_beginning(rt: &impl Abort, sent: &Sent, whole: &[u8]) {
     let (writer, fails_at) = (&sent.writer, sent.writer.fails_at);
     let went = writer.bytes.bytes();
     assert!(rt; whole.starts_with(went), "at call {fails_at}");
     assert_same(rt, &sent.all, &(went.len() == whole.len()));
-    assert_same(rt, &sent.all, &(writer.calls < fails_at));
+    let failed = writer.bytes.failed() || writer.calls >= fails_at;
+    assert_same(rt, &sent.all, &!failed);
     assert!(rt; writer.calls <= fails_at, "at call {fails_at}");
 }
 
@@ -243,6 +252,7 @@ fn assert_sent(
     let outs = outs_of(alloc, 2)?;
     let sent = send(alloc, list, outs.as_slice(), most, fails_at)?;
     assert_beginning(rt, &sent, whole);
+    pass_memory(&sent.writer)?;
     assert!(rt; sent.all == all, "at call {fails_at}");
     Ok(())
 }
@@ -271,10 +281,12 @@ fn puts_more_than_a_page_holds(rt: HostRuntime) -> Result<(), Fail> {
     page.put(&mut writer, b"ab");
     assert_same(&rt, &writer.calls, &0);
     page.put(&mut writer, long.as_bytes());
+    pass_memory(&writer)?;
     assert_same(&rt, &writer.calls, &2);
     page.put(&mut writer, b"c");
     assert_same(&rt, &writer.bytes.bytes().len(), &65_539);
     page.send(&mut writer);
+    pass_memory(&writer)?;
     assert_same(&rt, &writer.bytes.bytes().len(), &65_540);
     Ok(())
 }

@@ -130,8 +130,8 @@ fn keeps_sets_where_memory_is_refused(rt: HostRuntime) -> Result<(), Fail> {
     sets_are_kept(&rt, &mut sets)
 }
 
-/// Asserts that a second call gives what the first gave. It asks for no memory: `rt try --test --fail-alloc N` refuses all
-/// from the Nth request on, and the test then fails where a second call is refused.
+/// Asserts that a second call gives what the first gave. It asks for no memory: `tests/refused_in_tests.py` refuses all from the
+/// Nth request on, for each N, and the test then fails where a second call is refused.
 fn assert_again<R: Abort>(rt: &R, again: Result<Set, Memory>, first: Set) {
     match again {
         Ok(second) => assert!(rt; second == first),

@@ -8,7 +8,7 @@ use super::lists::{Open, disk_of, setting_of, shelf_of, told, unit_of};
 use crate::run;
 use ppshelf::{Disk, MemoryDisk, Pass, ReadFault, Shelf};
 use pptext::Memory;
-use ppunit::{Setting, Unit, UnitOut};
+use ppunit::{Setting, Texts, Unit, UnitOut};
 use std::alloc::{AllocError, Global};
 use std::process::Abort;
 use std::sync::atomic::AtomicU64;
@@ -16,16 +16,45 @@ use std::sync::atomic::Ordering::SeqCst;
 use std::test::Fail;
 use std::thread::Threads;
 
-/// The rows: a file that includes a guarded header twice, and the header.
-const NAMES: &[&str] = &["a.c", "h.h"];
+/// Files by their rows, and what two units of the first give, one with no definition and one with `H`.
+#[derive(Clone, Copy, Drop)]
+struct Given<'g> {
+    files: &'g [(&'g str, &'g str)],
+    told: &'g str,
+}
 
-const FILES: &[(&str, &str)] = &[
+/// A file that includes a guarded header twice, and the header.
+const GUARDED: &[(&str, &str)] = &[
     ("a.c", "#include \"h.h\"\n#include \"h.h\"\n"),
     ("h.h", "#ifndef H\n#define H\nint a;\n#endif\n"),
 ];
 
-/// What the two units of `a.c` give, one with no definition and one with `H`.
-const GIVEN: &str = "int a ; | 0 1 | ok; | 0 1 | ok; ";
+const GUARDED_TOLD: &str = "int a ; | 0 1 | ok; | 0 1 | ok; ";
+
+const ONE_TOKEN: &[(&str, &str)] = &[("a.c", "x\n")];
+
+/// An invocation that reaches behind what it is replaced by.
+const INVOCATION: &[(&str, &str)] = &[("a.c", "#define f(a) a*g\n#define g(a) f(a)\nf(2)(9)\n")];
+
+/// Headers that are looked for beside a file, in the folder `inc`, and in vain.
+const SEARCHED: &[(&str, &str)] = &[
+    (
+        "src/a.c",
+        "#include \"x.h\"\n#include <x.h>\n#include \"../inc/x.h\"\n#include <y.h>\n",
+    ),
+    ("src/x.h", "1"),
+    ("inc/x.h", "2"),
+];
+
+const GIVEN: &[(&[(&str, &str)], &str)] = &[
+    (ONE_TOKEN, "x | 0 | ok; x | 0 | ok; "),
+    (INVOCATION, "2 * 9 * g | 0 | ok; 2 * 9 * g | 0 | ok; "),
+    (GUARDED, GUARDED_TOLD),
+    (
+        SEARCHED,
+        "1 2 2 | 0 1 2 | 31 0:4:1 y.h; 1 2 2 | 0 1 2 | 31 0:4:1 y.h; ",
+    ),
+];
 
 // A disk that answers one of its reads by a fault, and the others by its files. Reads have the numbers 1, 2 and so on.
 #[derive(Drop)]
@@ -51,9 +80,14 @@ impl Disk for Failing {
     }
 }
 
-fn failing_at(alloc: Global, failing: u64, fault: ReadFault) -> Result<Failing, AllocError> {
+fn failing_at(
+    alloc: Global,
+    files: &[(&str, &str)],
+    failing: u64,
+    fault: ReadFault,
+) -> Result<Failing, AllocError> {
     Ok(Failing {
-        files: disk_of(alloc, FILES)?,
+        files: disk_of(alloc, files)?,
         next: AtomicU64::new(1),
         failing,
         fault,
@@ -123,7 +157,7 @@ fn run_again<'a, R: Threads + Sync + Abort>(
     Ok(outs)
 }
 
-// What units give over a disk: by one worker where one of its reads fails, and otherwise by two.
+// What units give over a disk.
 fn run_over<'a, R: Threads + Sync + Abort>(
     rt: &R,
     alloc: Global,
@@ -131,13 +165,14 @@ fn run_over<'a, R: Threads + Sync + Abort>(
     disk: &Failing,
     setting: &Setting,
     units: &'a [Unit],
+    workers: usize,
 ) -> Result<Vec<UnitOut<'a>>, Memory>
     requires count { length units.now ≤ most_rows }
     requires profile { shelf.now.profile ≡ setting.now.profile }
     requires rows { All (IsUnitOf (length shelf.now.names) setting.now.profile) units.now }
+    requires workers { (1 ≤ workers) × (workers ≤ 64) }
 {
     let mut pass = shelf.pass()?;
-    let workers = if disk.failing == 0 { 2 } else { 1 };
     match disk.fault {
         ReadFault::Unreadable => {
             run_one_by_one(rt, alloc, shelf, &mut pass, disk, setting, units, workers)
@@ -169,14 +204,27 @@ fn assert_given<R: Threads + Sync + Abort>(
     disk: &Failing,
     setting: &Setting,
     units: &[Unit],
+    workers: usize,
     wanted: &str,
 ) -> Result<(), Memory>
     requires count { length units.now ≤ most_rows }
     requires profile { shelf.now.profile ≡ setting.now.profile }
     requires rows { All (IsUnitOf (length shelf.now.names) setting.now.profile) units.now }
+    requires workers { (1 ≤ workers) × (workers ≤ 64) }
 {
-    let outs = run_over(rt, alloc, shelf, disk, setting, units)?;
+    let outs = run_over(rt, alloc, shelf, disk, setting, units, workers)?;
     Ok(assert_told(rt, alloc, outs.as_slice(), wanted)?)
+}
+
+// A setting in which the folder `inc` is searched.
+fn searching(alloc: Global) -> Result<Setting, AllocError>
+    ensures { IfOk result (λ s. s.profile ≡ C11) }
+{
+    let mut folders = Vec::new(alloc);
+    folders.push(String::from_str(alloc, "inc")?)?;
+    let mut setting = setting_of(alloc)?;
+    setting.search = Texts::new(folders);
+    Ok(setting)
 }
 
 // That the two units give this text.
@@ -185,36 +233,47 @@ fn assert_over<R: Threads + Sync + Abort>(
     alloc: Global,
     shelf: &Shelf<Failing>,
     disk: &Failing,
+    workers: usize,
     wanted: &str,
 ) -> Result<(), Fail>
-    requires { shelf.now.profile ≡ C11 }
+    requires profile { shelf.now.profile ≡ C11 }
+    requires workers { (1 ≤ workers) × (workers ≤ 64) }
 {
-    let setting = setting_of(alloc)?;
+    let setting = searching(alloc)?;
     let units = two_units(alloc, shelf)?;
-    Ok(assert_given(rt, alloc, shelf, disk, &setting, units.as_slice(), wanted)?)
+    let units = units.as_slice();
+    Ok(assert_given(rt, alloc, shelf, disk, &setting, units, workers, wanted)?)
 }
 
-// That the two units give this text over a new shelf.
+// That the two units give what they are to over a new shelf.
 fn assert_by<R: Threads + Sync + Abort>(
     rt: &R,
     alloc: Global,
     disk: &Failing,
-    wanted: &str,
-) -> Result<(), Fail> {
-    let shelf = shelf_of(alloc, NAMES)?;
-    assert_over(rt, alloc, &shelf, disk, wanted)
+    workers: usize,
+    given: Given,
+) -> Result<(), Fail>
+    requires { (1 ≤ workers) × (workers ≤ 64) }
+{
+    let mut names = Vec::new(alloc);
+    for (name, _) in given.files {
+        names.push(*name)?;
+    }
+    let shelf = shelf_of(alloc, names.as_slice())?;
+    assert_over(rt, alloc, &shelf, disk, workers, given.told)
 }
 
-// That the two units give this text over a disk that answers the read of a number by a fault, and how often it is read.
+// What two units of the guarded header's file give over a disk that answers the read of a number by a fault, and how often it is read.
 fn assert_failing<R: Threads + Sync + Abort>(
     rt: &R,
     alloc: Global,
     (failing, fault): (u64, ReadFault),
     reads: u64,
-    wanted: &str,
+    told: &str,
 ) -> Result<(), Fail> {
-    let disk = failing_at(alloc, failing, fault)?;
-    assert_by(rt, alloc, &disk, wanted)?;
+    let files = GUARDED;
+    let disk = failing_at(alloc, files, failing, fault)?;
+    assert_by(rt, alloc, &disk, 1, Given { files, told })?;
     assert!(rt;
         disk.next.load(SeqCst) == reads.saturating_add(1),
         "read {failing}"
@@ -226,14 +285,14 @@ fn assert_failing<R: Threads + Sync + Abort>(
 const UNREADABLE: &[(u64, u64, &str)] = &[
     (1, 1, "| 0 | 6 0:1:1 a.c; | 0 | 6 0:1:1 a.c; "),
     (2, 2, "| 0 1 | 6 0:1:1 h.h; | 0 1 | 6 0:1:1 h.h; "),
-    (3, 2, GIVEN),
+    (3, 2, GUARDED_TOLD),
 ];
 
 #[test]
 fn a_read_fails(rt: HostRuntime) -> Result<(), Fail> {
-    for &(failing, reads, wanted) in UNREADABLE {
+    for &(failing, reads, told) in UNREADABLE {
         let failing = (failing, ReadFault::Unreadable);
-        assert_failing(&rt, rt.alloc(), failing, reads, wanted)?;
+        assert_failing(&rt, rt.alloc(), failing, reads, told)?;
     }
     Ok(())
 }
@@ -241,13 +300,28 @@ fn a_read_fails(rt: HostRuntime) -> Result<(), Fail> {
 // The read that has no memory is made again.
 #[test]
 fn a_read_has_no_memory(rt: HostRuntime) -> Result<(), Fail> {
-    assert_failing(&rt, rt.alloc(), (1, ReadFault::Memory), 3, GIVEN)?;
-    assert_failing(&rt, rt.alloc(), (2, ReadFault::Memory), 3, GIVEN)
+    assert_failing(&rt, rt.alloc(), (1, ReadFault::Memory), 3, GUARDED_TOLD)?;
+    assert_failing(&rt, rt.alloc(), (2, ReadFault::Memory), 3, GUARDED_TOLD)
 }
 
-// No read fails. A test that refuses a request for memory has the run made again.
+// No read fails. Where a request for memory is refused, the run is made again over the same shelf and pass.
+fn assert_again<R: Threads + Sync + Abort>(
+    rt: &R,
+    alloc: Global,
+    workers: usize,
+    given: Given,
+) -> Result<(), Fail>
+    requires { (1 ≤ workers) × (workers ≤ 64) }
+{
+    let disk = failing_at(alloc, given.files, 0, ReadFault::Memory)?;
+    assert_by(rt, alloc, &disk, workers, given)
+}
+
 #[test]
 fn a_run_is_made_again_after_want_of_memory(rt: HostRuntime) -> Result<(), Fail> {
-    let disk = failing_at(rt.alloc(), 0, ReadFault::Memory)?;
-    assert_by(&rt, rt.alloc(), &disk, GIVEN)
+    for &(files, told) in GIVEN {
+        assert_again(&rt, rt.alloc(), 1, Given { files, told })?;
+        assert_again(&rt, rt.alloc(), 2, Given { files, told })?;
+    }
+    Ok(())
 }
