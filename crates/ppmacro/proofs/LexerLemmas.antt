@@ -3,7 +3,7 @@ use Rattle.std.proofs.Common.{◌≡◌, ℕ, List, Option, Some, None, IfNone, 
 use Rattle.pptext.specs.declared.tokens.Kind.{Kind}
 use Rattle.pptext.specs.Sources.{IsOneToken, IsLoneQuote}
 use Rattle.pptext.specs.Lexing.{Lexes, IsLexer}
-use Rattle.pptext.proofs.Lexer.{lexer_is, one_kind}
+use Rattle.pptext.proofs.Lexer.{lexer_is, one_lexing}
 use Rattle.ppmacro.specs.Lexing.{kind_of}
 
 pub kind_of_is : IsLexer kind_of
@@ -15,4 +15,4 @@ lexed text (Some k) n s = s
 
 -- what the lexer answers
 pub lexes-same : (text : List ℕ) (r : Option Kind) → IfNone r ((k : Kind) → IsOneToken text k → IsLoneQuote text) → IfSome r (λ k. IsOneToken text k × (¬ IsLoneQuote text)) → r ≡ kind_of text
-lexes-same text r n s = one_kind text r (kind_of text) (lexed text r n s) (kind_of_is.each text)
+lexes-same text r n s = one_lexing text r (kind_of text) (lexed text r n s) (kind_of_is.each text)

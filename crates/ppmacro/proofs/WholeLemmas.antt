@@ -9,7 +9,7 @@ use Rattle.pptext.specs.declared.tokens.Place.{Place}
 use Rattle.pptext.specs.declared.tokens.Fault.{Fault}
 use Rattle.pptext.specs.Spellings.{is_ident_byte}
 use Rattle.pptext.specs.Lexing.{Lexes}
-use Rattle.pptext.proofs.Lexer.{one_kind}
+use Rattle.pptext.proofs.Lexer.{one_lexing}
 use Rattle.pptext.proofs.Carried.{carried_on}
 use Rattle.ppmacro.specs.Numbered.{Numbered}
 use Rattle.ppmacro.specs.HideSets.{set_at, Hiding, hiding}
@@ -28,7 +28,7 @@ ok-same e = cc e
 carried_kind : (text more : List ℕ) (k : Kind) → kind_of text ≡ Some k → (k ≡ Ident) ⊎ (k ≡ Number) → AllPass is_ident_byte more → kind_of (text ++ more) ≡ Some k
 carried_kind text more k e word all =
     let one : Lexes text (Some k) = subst (Lexes text) e (kind_of_is.each text) in
-    one_kind (text ++ more) (kind_of (text ++ more)) (Some k) (kind_of_is.each (text ++ more)) (carried_on text more k one.0 word all)
+    one_lexing (text ++ more) (kind_of (text ++ more)) (Some k) (kind_of_is.each (text ++ more)) (carried_on text more k one.0 word all)
 
 -- what carries a token on is pasted to it
 module _ (last first grown turned : Hidden) (n : ℕ) (used : Place) (whole : IsWhole last) (word : (last.token.kind ≡ Ident) ⊎ (last.token.kind ≡ Number))

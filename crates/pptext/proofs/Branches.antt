@@ -7,7 +7,7 @@ use Rattle.pptext.specs.Lines.{LogicalLine}
 use Rattle.pptext.specs.Tree.{Role, TextLine, ControlLine, Opens, Elses, Closes, role, branch_behind}
 use Rattle.pptext.specs.Sources.{next_branch, spans, tokens_of, lines_from}
 use Rattle.pptext.specs.Grouping.{drafts, AreDirected, AreDrafts, AreLines, line_role, branch_of, linked, first, step_back}
-use Rattle.pptext.proofs.Spans.{row_of}
+use Rattle.pptext.proofs.Spans.{line_from}
 
 -- the next branch line of each section that is open before these lines, the innermost first
 abbrev pub branches : ℕ → List Role → List ℕ
@@ -112,13 +112,13 @@ linked_drafts k start (r ∷ rs) =
     (linked_drafts (k + 1) stop rs)
 
 -- a link changes no line
-rows_of_linked : (ts : List Token) (k : ℕ) (ls : List Line) → lines_from ts (linked k ls) ≡ lines_from ts ls
-rows_of_linked ts k [] = refl
-rows_of_linked ts k (l ∷ ls) = ap (λ (z : List LogicalLine). row_of ts l ∷ z) (rows_of_linked ts (k + 1) ls)
+lines_of_linked : (ts : List Token) (k : ℕ) (ls : List Line) → lines_from ts (linked k ls) ≡ lines_from ts ls
+lines_of_linked ts k [] = refl
+lines_of_linked ts k (l ∷ ls) = ap (λ (z : List LogicalLine). line_from ts l ∷ z) (lines_of_linked ts (k + 1) ls)
 
 pub linked_are : (ts : List Token) (ls now : List Line) → AreDrafts ts ls → now ≡ linked 0 ls → (lines_from ts now ≡ lines_from ts ls) × AreLines ts now
 linked_are ts ls now are is =
-    let same : lines_from ts now ≡ lines_from ts ls = ap (lines_from ts) is ∙ rows_of_linked ts 0 ls in
+    let same : lines_from ts now ≡ lines_from ts ls = ap (lines_from ts) is ∙ lines_of_linked ts 0 ls in
     let spans_are : spans 0 0 (lines_from ts ls) ≡ now = sym (linked_drafts 0 0 (lines_from ts ls)) ∙ ap (linked 0) are.1 ∙ sym is in
     (same, (ap tokens_of same ∙ are.0, ap (spans 0 0) same ∙ spans_are, subst AreDirected (sym same) are.2))
 

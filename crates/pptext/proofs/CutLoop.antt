@@ -32,14 +32,14 @@ pub record State (profile : Profile) (chars : List Char) (at start : ℕ) (space
   pub few : length ls ≤ at
   pub pieces : List Piece
   pub cut : CutUpTo chars pieces (drop at chars)
-  pub rows : List LogicalLine
-  pub tokens : tokens_of rows ≡ take start ts
-  pub lines : ls ≡ drafts 0 rows
-  pub sofar : LinesSoFar profile pieces rows space (drop start ts)
+  pub lines : List LogicalLine
+  pub tokens : tokens_of lines ≡ take start ts
+  pub spans : ls ≡ drafts 0 lines
+  pub sofar : LinesSoFar profile pieces lines space (drop start ts)
   pub line : line_after [] pieces ≡ spelled (drop start ts)
 
 pub state_start : (profile : Profile) (chars : List Char) → State profile chars 0 0 true [] []
-state_start profile chars = record { within = omega arith; started = omega arith; few = omega arith; pieces = []; cut = no_piece chars; rows = []; tokens = refl; lines = refl; sofar = lines_start profile; line = refl }
+state_start profile chars = record { within = omega arith; started = omega arith; few = omega arith; pieces = []; cut = no_piece chars; lines = []; tokens = refl; spans = refl; sofar = lines_start profile; line = refl }
 
 abbrev pub piece_at : List Char → ℕ → ℕ → Sort → Piece
 piece_at chars at n s = record { sort = s; chars = take n (drop at chars) }
@@ -74,7 +74,7 @@ module _ (profile : Profile) (chars : List Char) where
   pub grown : (at start n : ℕ) (space : Bool) (ts : List Token) (ls : List Line) (s : Sort) (st : State profile chars at start space ts ls)
       → n ≤ length (drop at (codes_of chars))
       → StandsAt (spelled (drop start ts)) (drop at (codes_of chars)) n s
-      → Grown profile chars at n s space st.rows (drop start ts) st.pieces
+      → Grown profile chars at n s space st.lines (drop start ts) st.pieces
   grown at start n space ts ls s st fits here =
       let p = piece_at chars at n s in
       let l = codes_length chars in
@@ -86,7 +86,7 @@ module _ (profile : Profile) (chars : List Char) where
       record {
         room = omega (arith, st.within);
         cut = cut_more chars st.pieces p (drop (at + n) chars) (subst (CutUpTo chars st.pieces) (sym split) st.cut) standing;
-        sofar = lines_more profile st.pieces st.rows space (drop start ts) p st.sofar;
+        sofar = lines_more profile st.pieces st.lines space (drop start ts) p st.sofar;
         line = line_after-append [] st.pieces p ∙ ap (λ z. with_piece z p s) st.line;
       }
 
@@ -107,11 +107,11 @@ module _ (profile : Profile) (chars : List Char) where
         few = omega (arith, st.few);
         pieces = st.pieces ++ piece_at chars at 1 Blank ∷ [];
         cut = g.cut;
-        rows = st.rows;
-        tokens = st.tokens;
         lines = st.lines;
+        tokens = st.tokens;
+        spans = st.spans;
         sofar = subst (λ (z : List LogicalLine). LinesSoFar profile (st.pieces ++ piece_at chars at 1 Blank ∷ []) z true (drop start ts))
-            (append-nil st.rows) g.sofar;
+            (append-nil st.lines) g.sofar;
         line = g.line;
       }
 
@@ -145,11 +145,11 @@ module _ (profile : Profile) (chars : List Char) where
         few = omega (arith, st.few);
         pieces = st.pieces ++ piece_at chars at n Comment ∷ [];
         cut = g.cut;
-        rows = st.rows;
-        tokens = st.tokens;
         lines = st.lines;
+        tokens = st.tokens;
+        spans = st.spans;
         sofar = subst (λ (z : List LogicalLine). LinesSoFar profile (st.pieces ++ piece_at chars at n Comment ∷ []) z true (drop start ts))
-            (append-nil st.rows) g.sofar;
+            (append-nil st.lines) g.sofar;
         line = g.line;
       }
 
@@ -163,19 +163,19 @@ module _ (profile : Profile) (chars : List Char) where
       → State profile chars (at + 1) stop true ts (ls ++ draft start (line_of profile (drop start ts) number) ∷ [])
   end_line at start stop space ts ls number st stop_is number_is fits here =
       let g = grown at start 1 space ts ls NewLine st fits here in
-      let row : LogicalLine = line_of profile (drop start ts) number in
+      let line : LogicalLine = line_of profile (drop start ts) number in
       let none : drop stop ts ≡ [] = drop_all stop ts (omega arith) in
-      let before : 0 + length (tokens_of st.rows) ≡ start = omega (arith, ap length st.tokens, length-take-le start ts st.started) in
-      let done : st.rows ++ lines_ended profile (drop start ts) (take 1 (drop at chars)) NewLine ≡ st.rows ++ row ∷ [] = ap (λ (z : ℕ). st.rows ++ line_of profile (drop start ts) z ∷ []) (sym number_is) in
+      let before : 0 + length (tokens_of st.lines) ≡ start = omega (arith, ap length st.tokens, length-take-le start ts st.started) in
+      let done : st.lines ++ lines_ended profile (drop start ts) (take 1 (drop at chars)) NewLine ≡ st.lines ++ line ∷ [] = ap (λ (z : ℕ). st.lines ++ line_of profile (drop start ts) z ∷ []) (sym number_is) in
       record {
         within = g.room;
         started = omega arith;
         few = omega (arith, st.few, length_push ls (draft start (line_of profile (drop start ts) number)));
         pieces = st.pieces ++ piece_at chars at 1 NewLine ∷ [];
         cut = g.cut;
-        rows = st.rows ++ row ∷ [];
-        tokens = tokens_of-append st.rows row ∙ ap (λ (z : List Token). z ++ drop start ts) st.tokens ∙ take-append-drop start ts ∙ sym (take_all stop ts (omega arith));
-        lines = ap (λ (z : List Line). z ++ draft start (line_of profile (drop start ts) number) ∷ []) st.lines ∙ ap (λ (n : ℕ). drafts 0 st.rows ++ draft n row ∷ []) (sym before) ∙ sym (drafts-append 0 st.rows row);
+        lines = st.lines ++ line ∷ [];
+        tokens = tokens_of-append st.lines line ∙ ap (λ (z : List Token). z ++ drop start ts) st.tokens ∙ take-append-drop start ts ∙ sym (take_all stop ts (omega arith));
+        spans = ap (λ (z : List Line). z ++ draft start (line_of profile (drop start ts) number) ∷ []) st.spans ∙ ap (λ (n : ℕ). drafts 0 st.lines ++ draft n line ∷ []) (sym before) ∙ sym (drafts-append 0 st.lines line);
         sofar = rw (none, sym done) g.sofar;
         line = rw none g.line;
       }
@@ -198,12 +198,12 @@ module _ (profile : Profile) (chars : List Char) where
         few = omega (arith, st.few);
         pieces = st.pieces ++ piece_at chars at n (Spelled k) ∷ [];
         cut = g.cut;
-        rows = st.rows;
-        tokens = st.tokens ∙ sym (take-append-le start ts (t ∷ []) st.started);
         lines = st.lines;
-        sofar = subst (λ (z : List Token). LinesSoFar profile (st.pieces ++ piece_at chars at n (Spelled k) ∷ []) st.rows false z) (opened ∙ sym more)
+        tokens = st.tokens ∙ sym (take-append-le start ts (t ∷ []) st.started);
+        spans = st.spans;
+        sofar = subst (λ (z : List Token). LinesSoFar profile (st.pieces ++ piece_at chars at n (Spelled k) ∷ []) st.lines false z) (opened ∙ sym more)
             (subst (λ (z : List LogicalLine). LinesSoFar profile (st.pieces ++ piece_at chars at n (Spelled k) ∷ []) z false
-            (tokens_after space (drop start ts) (take n (drop at chars)) (Spelled k))) (append-nil st.rows) g.sofar);
+            (tokens_after space (drop start ts) (take n (drop at chars)) (Spelled k))) (append-nil st.lines) g.sofar);
         line = g.line ∙ ap (λ (z : List ℕ). spelled (drop start ts) ++ z ∷ []) (sym (ap (λ (u : Token). u.text) is)) ∙ sym (ap spelled more ∙ spelled-append (drop start ts) t);
       }
 
@@ -212,8 +212,8 @@ module _ (profile : Profile) (chars : List Char) where
   cut_all at start space ts ls st past =
       let l = codes_length chars in
       let none : drop at chars ≡ [] = drop_all at chars (omega arith) in
-      let all = lines_all profile st.pieces st.rows space (drop start ts) st.sofar in
-      let are = drafts_are (take start ts) ls st.rows st.tokens st.lines (profile, subst (AllByRecursion (IsDirected profile)) all (pieces_are_directed profile st.pieces)) in
+      let all = lines_all profile st.pieces st.lines space (drop start ts) st.sofar in
+      let are = drafts_are (take start ts) ls st.lines st.tokens st.spans (profile, subst (AllByRecursion (IsDirected profile)) all (pieces_are_directed profile st.pieces)) in
       (st.pieces, subst (CutUpTo chars st.pieces) none st.cut, all ∙ sym are.0, are.1, omega (arith, st.few, st.within))
 
   pub never_closed : (at start : ℕ) (space : Bool) (ts : List Token) (ls : List Line) (p : Place)

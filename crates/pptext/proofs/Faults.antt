@@ -17,7 +17,7 @@ use Rattle.pptext.specs.Tree.{Role, TextLine, ControlLine, Opens, Elses, Closes,
 use Rattle.pptext.specs.Sources.{lines_from}
 use Rattle.pptext.specs.Grouping.{AreLines, line_role, IsBranching, sections}
 use Rattle.pptext.specs.declared.grouping.faults.Section.{Section}
-use Rattle.pptext.proofs.Spans.{line_at, row_of}
+use Rattle.pptext.proofs.Spans.{line_at, line_from}
 
 pub no_token : Token
 no_token = record { kind = Ident; text = []; space = false; at = place 0 0 0; used = place 0 0 0 }
@@ -36,18 +36,18 @@ two_tokens profile (a ∷ []) h = absurd (lone (bytes_eq a.text (codes "#") || b
 two_tokens profile (a ∷ b ∷ ts) h = omega arith
 
 -- the open sections by their opening lines
-abbrev pub open_rows : List LogicalLine → List (ℕ × Bool) → List Open
-open_rows rs os = map (λ o. (get_or rs o.0 blank_line, o.1)) os
+abbrev pub open_lines : List LogicalLine → List (ℕ × Bool) → List Open
+open_lines rs os = map (λ o. (get_or rs o.0 blank_line, o.1)) os
 
-opened_rows : (rs : List LogicalLine) (s : Role) (at : ℕ) (os : List (ℕ × Bool)) → opened s (get_or rs at blank_line) (open_rows rs os) ≡ ((opened s at os).0, open_rows rs (opened s at os).1)
-opened_rows rs Opens at os = refl
-opened_rows rs (Elses final) at [] = refl
-opened_rows rs (Elses final) at ((o, true) ∷ os) = refl
-opened_rows rs (Elses final) at ((o, false) ∷ os) = refl
-opened_rows rs Closes at [] = refl
-opened_rows rs Closes at (o ∷ os) = refl
-opened_rows rs TextLine at os = refl
-opened_rows rs ControlLine at os = refl
+opened_lines : (rs : List LogicalLine) (s : Role) (at : ℕ) (os : List (ℕ × Bool)) → opened s (get_or rs at blank_line) (open_lines rs os) ≡ ((opened s at os).0, open_lines rs (opened s at os).1)
+opened_lines rs Opens at os = refl
+opened_lines rs (Elses final) at [] = refl
+opened_lines rs (Elses final) at ((o, true) ∷ os) = refl
+opened_lines rs (Elses final) at ((o, false) ∷ os) = refl
+opened_lines rs Closes at [] = refl
+opened_lines rs Closes at (o ∷ os) = refl
+opened_lines rs TextLine at os = refl
+opened_lines rs ControlLine at os = refl
 
 opened_all : (Q : ℕ → Type 0) (s : Role) (at : ℕ) (os : List (ℕ × Bool)) → AllByRecursion (λ o. Q o.0) os → (s ≡ Opens → Q at) → AllByRecursion (λ o. Q o.0) (opened s at os).1
 opened_all Q Opens at os all here = (here refl, all)
@@ -76,7 +76,7 @@ sections_more ss s = ap (map (λ (z : Section). (z.opening, z.last))) (reverse-a
 
 -- before the line at an index, with these sections open
 pub record FaultsSoFar (ts : List Token) (ls : List Line) (at : ℕ) (os : List (ℕ × Bool)) : Type 0 where
-  pub same : group_fault (open_rows (lines_from ts ls) os) (drop at (lines_from ts ls)) ≡ group_fault [] (lines_from ts ls)
+  pub same : group_fault (open_lines (lines_from ts ls) os) (drop at (lines_from ts ls)) ≡ group_fault [] (lines_from ts ls)
   pub opens : AllByRecursion (λ o. OpensAt ls o.0) os
 
 pub faults_start : (ts : List Token) (ls : List Line) → FaultsSoFar ts ls 0 []
@@ -86,23 +86,23 @@ module _ (ts : List Token) (ls : List Line) (lines : AreLines ts ls) where
   role_at : (at : ℕ) (d : Line) → at < length ls → role (get_or (lines_from ts ls) at blank_line) ≡ line_role (get_or ls at d)
   role_at at d l =
       let x = line_at ts ls at d lines l in
-      ap role (x.row blank_line)
+      ap role (x.line blank_line)
 
   -- what the line at an index does
   step_at : (at : ℕ) (os : List (ℕ × Bool)) (d : Line)
       → at < length ls
       → FaultsSoFar ts ls at os
       → fault_or (get_or (lines_from ts ls) at blank_line) (opened (line_role (get_or ls at d)) at os).0
-      (group_fault (open_rows (lines_from ts ls) (opened (line_role (get_or ls at d)) at os).1) (drop (at + 1) (lines_from ts ls)))
+      (group_fault (open_lines (lines_from ts ls) (opened (line_role (get_or ls at d)) at os).1) (drop (at + 1) (lines_from ts ls)))
       ≡ group_fault [] (lines_from ts ls)
   step_at at os d l sofar =
       let rs = lines_from ts ls in
       let r = get_or rs at blank_line in
-      let m : at < length rs = omega (arith, length-map ls (row_of ts)) in
-      let step : opened (role r) r (open_rows rs os)
-      ≡ ((opened (line_role (get_or ls at d)) at os).0, open_rows rs (opened (line_role (get_or ls at d)) at os).1) =
-      ap (λ (z : Role). opened z r (open_rows rs os)) (role_at at d l) ∙ opened_rows rs (line_role (get_or ls at d)) at os in
-      sym (ap (λ (z : Option ℕ × List Open). fault_or r z.0 (group_fault z.1 (drop (at + 1) rs))) step) ∙ sym (at_drop_more (group_fault (open_rows rs os)) rs at blank_line m) ∙ sofar.same
+      let m : at < length rs = omega (arith, length-map ls (line_from ts)) in
+      let step : opened (role r) r (open_lines rs os)
+      ≡ ((opened (line_role (get_or ls at d)) at os).0, open_lines rs (opened (line_role (get_or ls at d)) at os).1) =
+      ap (λ (z : Role). opened z r (open_lines rs os)) (role_at at d l) ∙ opened_lines rs (line_role (get_or ls at d)) at os in
+      sym (ap (λ (z : Option ℕ × List Open). fault_or r z.0 (group_fault z.1 (drop (at + 1) rs))) step) ∙ sym (at_drop_more (group_fault (open_lines rs os)) rs at blank_line m) ∙ sofar.same
 
   pub faults_step : (at : ℕ) (os after : List (ℕ × Bool)) (d : Line) → at < length ls → FaultsSoFar ts ls at os → opened (line_role (get_or ls at d)) at os ≡ (None, after) → FaultsSoFar ts ls (at + 1) after
   faults_step at os after d l sofar e =
@@ -110,7 +110,7 @@ module _ (ts : List Token) (ls : List Line) (lines : AreLines ts ls) where
       let r = get_or rs at blank_line in
       let here : line_role (get_or ls at d) ≡ Opens → OpensAt ls at = λ (o : line_role (get_or ls at d) ≡ Opens). record { within = l; opens = λ (f : Line). ap line_role (get_or_default ls at f d l) ∙ o } in
       record {
-        same = sym (ap (λ (z : Option ℕ × List (ℕ × Bool)). fault_or r z.0 (group_fault (open_rows rs z.1) (drop (at + 1) rs))) e) ∙ step_at at os d l sofar;
+        same = sym (ap (λ (z : Option ℕ × List (ℕ × Bool)). fault_or r z.0 (group_fault (open_lines rs z.1) (drop (at + 1) rs))) e) ∙ step_at at os d l sofar;
         opens = subst (λ (z : Option ℕ × List (ℕ × Bool)). AllByRecursion (λ o. OpensAt ls o.0) z.1) e (opened_all (OpensAt ls) (line_role (get_or ls at d)) at os sofar.opens here);
       }
 
@@ -121,17 +121,17 @@ module _ (ts : List Token) (ls : List Line) (lines : AreLines ts ls) where
       → Some (fault_at n (get_or (lines_from ts ls) at blank_line)) ≡ group_fault [] (lines_from ts ls)
   fault_here at n os d l sofar e =
       let rs = lines_from ts ls in
-      sym (ap (λ (z : Option ℕ). fault_or (get_or rs at blank_line) z (group_fault (open_rows rs (opened (line_role (get_or ls at d)) at os).1) (drop (at + 1) rs))) e) ∙ step_at at os d l sofar
+      sym (ap (λ (z : Option ℕ). fault_or (get_or rs at blank_line) z (group_fault (open_lines rs (opened (line_role (get_or ls at d)) at os).1) (drop (at + 1) rs))) e) ∙ step_at at os d l sofar
 
   pub branching_here : (at n : ℕ) (os : List (ℕ × Bool)) (d f : Line) → at < length ls → (opened (line_role (get_or ls at d)) at os).0 ≡ Some n → IsBranching (line_role (get_or ls at f))
   branching_here at n os d f l e =
       subst (λ (z : Line). IsBranching (line_role z)) (get_or_default ls at d f l) (faulty_branches (line_role (get_or ls at d)) at n os e)
 
   -- at the end
-  pub fault_at_last : (at : ℕ) (os : List (ℕ × Bool)) → length ls ≤ at → FaultsSoFar ts ls at os → fault_at_end (open_rows (lines_from ts ls) os) ≡ group_fault [] (lines_from ts ls)
+  pub fault_at_last : (at : ℕ) (os : List (ℕ × Bool)) → length ls ≤ at → FaultsSoFar ts ls at os → fault_at_end (open_lines (lines_from ts ls) os) ≡ group_fault [] (lines_from ts ls)
   fault_at_last at os l sofar =
       let rs = lines_from ts ls in
-      sym (at_drop_all (group_fault (open_rows rs os)) rs at (omega (arith, length-map ls (row_of ts)))) ∙ sofar.same
+      sym (at_drop_all (group_fault (open_lines rs os)) rs at (omega (arith, length-map ls (line_from ts)))) ∙ sofar.same
 
   pub opens_branching : (at : ℕ) → OpensAt ls at → (d : Line) → IsBranching (line_role (get_or ls at d))
   opens_branching at opens d = subst IsBranching (sym (opens.opens d)) tt
@@ -141,7 +141,7 @@ module _ (ts : List Token) (ls : List Line) (lines : AreLines ts ls) where
   named_within at d l b =
       let x = get_or ls at d in
       let a = line_at ts ls at d lines l in
-      let two : 2 ≤ length (row_of ts x).tokens = two_tokens a.directed.0 (row_of ts x).tokens (subst (λ (z : Option Directive). IsBranching (role_by z)) a.directed.1 b) in
+      let two : 2 ≤ length (line_from ts x).tokens = two_tokens a.directed.0 (line_from ts x).tokens (subst (λ (z : Option Directive). IsBranching (role_by z)) a.directed.1 b) in
       omega (arith, a.begins, a.behind, a.tokens, two)
 
   pub fault_is : (at number : ℕ) (d : Line) (e : Token) (r : LogicalLine)
@@ -154,12 +154,12 @@ module _ (ts : List Token) (ls : List Line) (lines : AreLines ts ls) where
       let start = x.start in
       let more = x.end - start - 2 in
       let n = line_at ts ls at d lines l in
-      let two : 2 ≤ length (row_of ts x).tokens = two_tokens n.directed.0 (row_of ts x).tokens (subst (λ (z : Option Directive). IsBranching (role_by z)) n.directed.1 branching) in
+      let two : 2 ≤ length (line_from ts x).tokens = two_tokens n.directed.0 (line_from ts x).tokens (subst (λ (z : Option Directive). IsBranching (role_by z)) n.directed.1 branching) in
       let within : start + 1 < length ts = named_within at d l branching in
       let count : x.end - start ≡ suc (suc more) = omega (arith, n.tokens, two) in
       let rest : drop start ts ≡ get_or ts start e ∷ get_or ts (start + 1) e ∷ drop (start + 1 + 1) ts = drop_more ts start e (omega arith) ∙ ap (λ (z : List Token). get_or ts start e ∷ z) (drop_more ts (start + 1) e within) in
-      let tokens : (row_of ts x).tokens ≡ get_or ts start e ∷ get_or ts (start + 1) e ∷ take more (drop (start + 1 + 1) ts) = ap (λ (z : ℕ). take z (drop start ts)) count ∙ ap (take (suc (suc more))) rest in
-      sym (ap (fault_at number) (n.row r) ∙ ap (λ (z : List Token). record { number = number; at = sign_place z; text = name_of z }) tokens)
+      let tokens : (line_from ts x).tokens ≡ get_or ts start e ∷ get_or ts (start + 1) e ∷ take more (drop (start + 1 + 1) ts) = ap (λ (z : ℕ). take z (drop start ts)) count ∙ ap (take (suc (suc more))) rest in
+      sym (ap (fault_at number) (n.line r) ∙ ap (λ (z : List Token). record { number = number; at = sign_place z; text = name_of z }) tokens)
 
   pub fault_last : (at : ℕ) (o : ℕ × Bool) (os : List (ℕ × Bool)) (f : Fault)
       → length ls ≤ at

@@ -10,7 +10,7 @@ use Rattle.pptext.specs.Tree.{Role, TextLine, ControlLine, Opens, Elses, Closes,
 use Rattle.pptext.specs.Sources.{next_branch, tokens_of, lines_from}
 use Rattle.pptext.specs.Guard.{IsBlankLine, GuardedBy, guard_name}
 use Rattle.pptext.specs.Grouping.{AreDirected, AreLines, line_role, ClosedAtOnce, FlatGuard}
-use Rattle.pptext.proofs.Spans.{line_at, row_of, same_rows}
+use Rattle.pptext.proofs.Spans.{line_at, line_from, same_lines}
 use Rattle.pptext.proofs.Faults.{blank_line}
 use Rattle.pptext.proofs.Guards.{blank_role, guarded_by_flat, flat_by_guarded}
 
@@ -54,12 +54,12 @@ if_some None P Q f p = tt
 if_some (Some x) P Q f p = f x p
 
 module _ (ts : List Token) (ls : List Line) (lines : AreLines ts ls) where
-  role_is : (at : ℕ) (d : Line) → at < length ls → role (row_of ts (get_or ls at d)) ≡ line_role (get_or ls at d)
+  role_is : (at : ℕ) (d : Line) → at < length ls → role (line_from ts (get_or ls at d)) ≡ line_role (get_or ls at d)
   role_is at d l = refl
 
-  rest_at : (at : ℕ) (d : Line) → at < length ls → drop at (lines_from ts ls) ≡ row_of ts (get_or ls at d) ∷ drop (at + 1) (lines_from ts ls)
+  rest_at : (at : ℕ) (d : Line) → at < length ls → drop at (lines_from ts ls) ≡ line_from ts (get_or ls at d) ∷ drop (at + 1) (lines_from ts ls)
   rest_at at d l =
-      drop_more (lines_from ts ls) at blank_line (omega (arith, length-map ls (row_of ts))) ∙ ap (λ (z : LogicalLine). z ∷ drop (at + 1) (lines_from ts ls)) ((line_at ts ls at d lines l).row blank_line)
+      drop_more (lines_from ts ls) at blank_line (omega (arith, length-map ls (line_from ts))) ∙ ap (λ (z : LogicalLine). z ∷ drop (at + 1) (lines_from ts ls)) ((line_at ts ls at d lines l).line blank_line)
 
   next_is : (at : ℕ) (d : Line) → at < length ls → line_role (get_or ls at d) ≡ Opens → (get_or ls at d).next_branch ≡ branch_behind 0 (at + 1) (map role (drop (at + 1) (lines_from ts ls)))
   next_is at d l opens =
@@ -70,7 +70,7 @@ module _ (ts : List Token) (ls : List Line) (lines : AreLines ts ls) where
   branch_in at last d l opens e =
       let rs = lines_from ts ls in
       let w = branch_within 0 (at + 1) (map role (drop (at + 1) rs)) last (sym (next_is at d l opens) ∙ e) in
-      (omega (arith, w.0), omega (arith, w.1, length-map (drop (at + 1) rs) role, length-drop (at + 1) rs, length-map ls (row_of ts)))
+      (omega (arith, w.0), omega (arith, w.1, length-map (drop (at + 1) rs) role, length-drop (at + 1) rs, length-map ls (line_from ts)))
 
   pub never_closed : (at : ℕ) (d : Line) → at < length ls → line_role (get_or ls at d) ≡ Opens → (get_or ls at d).next_branch ≡ None → ClosedAtOnce (at + 1) (drop (at + 1) (lines_from ts ls)) → ⊥
   never_closed at d l opens e closed =
@@ -93,7 +93,7 @@ module _ (ts : List Token) (ls : List Line) (lines : AreLines ts ls) where
       let behind : (get_or ls last f).end + length (tokens_of (drop (last + 1) rs)) ≡ length ts = ap (λ (z : ℕ). (get_or ls last f).end + length (tokens_of (drop z rs))) (sym s) ∙ (line_at ts ls last f lines w.1).behind in
       record {
         skipped = last - (at + 1);
-        last = row_of ts (get_or ls last f);
+        last = line_from ts (get_or ls last f);
         rest = drop (last + 1) rs;
         next = sym (next_is at d l opens) ∙ e ∙ ap Some (sym n);
         there = drop-drop (last - (at + 1)) (at + 1) rs ∙ ap (λ (z : ℕ). drop z rs) n ∙ rest_at last f w.1;
@@ -113,8 +113,8 @@ module _ (ts : List Token) (ls : List Line) (lines : AreLines ts ls) where
       let next : Some (at + 1 + closed.skipped) ≡ Some last = sym closed.next ∙ sym (next_is at d l opens) ∙ e in
       let n : at + 1 + closed.skipped ≡ last = cc in
       let s : suc last ≡ last + 1 = omega arith in
-      let cons : closed.last ∷ closed.rest ≡ row_of ts (get_or ls last f) ∷ drop (last + 1) rs = sym closed.there ∙ drop-drop closed.skipped (at + 1) rs ∙ ap (λ (z : ℕ). drop z rs) n ∙ rest_at last f w.1 in
-      let head : row_of ts (get_or ls last f) ≡ closed.last = cc in
+      let cons : closed.last ∷ closed.rest ≡ line_from ts (get_or ls last f) ∷ drop (last + 1) rs = sym closed.there ∙ drop-drop closed.skipped (at + 1) rs ∙ ap (λ (z : ℕ). drop z rs) n ∙ rest_at last f w.1 in
+      let head : line_from ts (get_or ls last f) ≡ closed.last = cc in
       let tail : closed.rest ≡ drop (last + 1) rs = cc in
       let none : length (tokens_of (drop (last + 1) rs)) ≡ 0 = ap (λ (z : List LogicalLine). length (tokens_of z)) (sym tail) ∙ no_tokens closed.rest closed.blank in
       let behind : (get_or ls last f).end + length (tokens_of (drop (last + 1) rs)) ≡ length ts = ap (λ (z : ℕ). (get_or ls last f).end + length (tokens_of (drop z rs))) (sym s) ∙ (line_at ts ls last f lines w.1).behind in
@@ -124,7 +124,7 @@ module _ (ts : List Token) (ls : List Line) (lines : AreLines ts ls) where
   pub flat_here : (at : ℕ) (d : Line) (x : List ℕ)
       → at < length ls
       → line_role (get_or ls at d) ≡ Opens
-      → guard_name (row_of ts (get_or ls at d)).tokens ≡ Some x
+      → guard_name (line_from ts (get_or ls at d)).tokens ≡ Some x
       → ClosedAtOnce (at + 1) (drop (at + 1) (lines_from ts ls))
       → FlatGuard at (drop at (lines_from ts ls)) x
   flat_here at d x l opens name closed =
@@ -135,16 +135,16 @@ module _ (ts : List Token) (ls : List Line) (lines : AreLines ts ls) where
       → (get_or ls at d).start < (get_or ls at d).end
       → FlatGuard at (drop at (lines_from ts ls)) x
       → (line_role (get_or ls at d) ≡ Opens)
-      × (guard_name (row_of ts (get_or ls at d)).tokens ≡ Some x)
+      × (guard_name (line_from ts (get_or ls at d)).tokens ≡ Some x)
       × ClosedAtOnce (at + 1) (drop (at + 1) (lines_from ts ls))
   only_here at d x l some flat = cases (subst (λ (z : List LogicalLine). FlatGuard at z x) (rest_at at d l) flat)
     where
       r : LogicalLine
-      r = row_of ts (get_or ls at d)
+      r = line_from ts (get_or ls at d)
 
-      cases : FlatGuard at (row_of ts (get_or ls at d) ∷ drop (at + 1) (lines_from ts ls)) x
+      cases : FlatGuard at (line_from ts (get_or ls at d) ∷ drop (at + 1) (lines_from ts ls)) x
           → (line_role (get_or ls at d) ≡ Opens)
-          × (guard_name (row_of ts (get_or ls at d)).tokens ≡ Some x)
+          × (guard_name (line_from ts (get_or ls at d)).tokens ≡ Some x)
           × ClosedAtOnce (at + 1) (drop (at + 1) (lines_from ts ls))
       cases (inl here) = absurd (omega (arith, ap length here.0, (line_at ts ls at d lines l).tokens, some))
       cases (inr here) = (sym (role_is at d l) ∙ here.0, here.1, here.2)
@@ -154,15 +154,15 @@ module _ (ts : List Token) (ls : List Line) (lines : AreLines ts ls) where
   flat_past at d x l none =
       (λ flat. cases (subst (λ (z : List LogicalLine). FlatGuard at z x) (rest_at at d l) flat), λ later. subst (λ (z : List LogicalLine). FlatGuard at z x) (sym (rest_at at d l)) (inl (blank, later)))
     where
-      blank : IsBlankLine (row_of ts (get_or ls at d))
-      blank = nil_from_length (row_of ts (get_or ls at d)).tokens (omega (arith, (line_at ts ls at d lines l).tokens, none))
+      blank : IsBlankLine (line_from ts (get_or ls at d))
+      blank = nil_from_length (line_from ts (get_or ls at d)).tokens (omega (arith, (line_at ts ls at d lines l).tokens, none))
 
-      cases : FlatGuard at (row_of ts (get_or ls at d) ∷ drop (at + 1) (lines_from ts ls)) x → FlatGuard (at + 1) (drop (at + 1) (lines_from ts ls)) x
+      cases : FlatGuard at (line_from ts (get_or ls at d) ∷ drop (at + 1) (lines_from ts ls)) x → FlatGuard (at + 1) (drop (at + 1) (lines_from ts ls)) x
       cases (inl here) = here.1
-      cases (inr here) = let opens = here.0 in let a = (line_at ts ls at d lines l).directed in let text = blank_role a.0 (row_of ts (get_or ls at d)) a.1 blank in absurd (cc)
+      cases (inr here) = let opens = here.0 in let a = (line_at ts ls at d lines l).directed in let text = blank_role a.0 (line_from ts (get_or ls at d)) a.1 blank in absurd (cc)
 
   pub flat_never : (at : ℕ) (x : List ℕ) → length ls ≤ at → FlatGuard at (drop at (lines_from ts ls)) x → ⊥
-  flat_never at x l flat = subst (λ (z : List LogicalLine). FlatGuard at z x) (drop_all at (lines_from ts ls) (omega (arith, length-map ls (row_of ts)))) flat
+  flat_never at x l flat = subst (λ (z : List LogicalLine). FlatGuard at z x) (drop_all at (lines_from ts ls) (omega (arith, length-map ls (line_from ts)))) flat
 
 -- of a file without fault the token that was found is the guard's name
 pub guard_found : (ts ts' : List Token) (ls ls' : List Line) (r : Option ℕ)
@@ -175,10 +175,10 @@ pub guard_found : (ts ts' : List Token) (ls ls' : List Line) (r : Option ℕ)
     → MatchOption r ((x : List ℕ) → GuardedBy (lines_from ts ls) x → ⊥)
     (λ i. (i < length ts) × ((d : Token) → GuardedBy (lines_from ts ls) (get_or ts i d).text))
 guard_found ts ts' ls ls' None st sl directed e none some =
-    let same : lines_from ts ls ≡ lines_from ts' ls' = sym (same_rows ts ts' ls ls' st sl) in
+    let same : lines_from ts ls ≡ lines_from ts' ls' = sym (same_lines ts ts' ls ls' st sl) in
     λ x g. none x (subst (λ (z : List LogicalLine). FlatGuard 0 z x) same (flat_by_guarded (lines_from ts ls) x g))
 guard_found ts ts' ls ls' (Some i) st sl directed e none some =
-    let same : lines_from ts' ls' ≡ lines_from ts ls = same_rows ts ts' ls ls' st sl in (
+    let same : lines_from ts' ls' ≡ lines_from ts ls = same_lines ts ts' ls ls' st sl in (
       subst (λ (z : List Token). i < length z) st some.0,
       λ d. guarded_by_flat (lines_from ts ls) (get_or ts i d).text directed e
           (subst (λ (z : List Token). FlatGuard 0 (lines_from ts ls) (get_or z i d).text) st

@@ -60,12 +60,12 @@ first_kind : List Piece → Option Kind
 first_kind [] = None
 first_kind (p ∷ ps) = kind_in p.sort
 
-pub one_kind : (text : List ℕ) (k l : Option Kind) → Lexes text k → Lexes text l → k ≡ l
+pub one_lexing : (text : List ℕ) (k l : Option Kind) → Lexes text k → Lexes text l → k ≡ l
 unfolding kind_in first_kind
-one_kind text None None h g = refl
-one_kind text None (Some l) h g = absurd (g.1 (h l g.0))
-one_kind text (Some k) None h g = absurd (h.1 (g k h.0))
-one_kind text (Some k) (Some l) h g = ap first_kind (one_cut _ _ _ h.0 g.0)
+one_lexing text None None h g = refl
+one_lexing text None (Some l) h g = absurd (g.1 (h l g.0))
+one_lexing text (Some k) None h g = absurd (h.1 (g k h.0))
+one_lexing text (Some k) (Some l) h g = ap first_kind (one_cut _ _ _ h.0 g.0)
 
 pub has_one_lexer : HasOneLexer
-has_one_lexer = ((kind_of, lexer_is), λ a b x y text. one_kind text (a text) (b text) (x.each text) (y.each text))
+has_one_lexer = ((kind_of, lexer_is), λ a b x y text. one_lexing text (a text) (b text) (x.each text) (y.each text))

@@ -8,12 +8,12 @@ use Rattle.pptext.specs.Clean.{codes_of, newline, placed, place, next_col}
 use Rattle.pptext.specs.Steps.{open_end, behind_byte, place_behind}
 use Rattle.pptext.specs.Texts.{start}
 
-pub end_is : (n : ℕ) (bs : List ℕ) → length bs ≡ suc n → open_end bs ≡ not (get_or bs n 0 == 10)
-end_is n [] e = absurd (omega arith)
-end_is zero (b ∷ []) e = refl
-end_is zero (b ∷ c ∷ bs) e = absurd (omega arith)
-end_is (suc n) (b ∷ []) e = absurd (omega arith)
-end_is (suc n) (b ∷ c ∷ bs) e = end_is n (c ∷ bs) (omega arith)
+pub open_end_is : (n : ℕ) (bs : List ℕ) → length bs ≡ suc n → open_end bs ≡ not (get_or bs n 0 == 10)
+open_end_is n [] e = absurd (omega arith)
+open_end_is zero (b ∷ []) e = refl
+open_end_is zero (b ∷ c ∷ bs) e = absurd (omega arith)
+open_end_is (suc n) (b ∷ []) e = absurd (omega arith)
+open_end_is (suc n) (b ∷ c ∷ bs) e = open_end_is n (c ∷ bs) (omega arith)
 
 abbrev pub placed_at : Place → List ℕ → List Char
 placed_at p bs = placed p.file p.line p.col bs

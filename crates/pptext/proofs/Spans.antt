@@ -20,8 +20,8 @@ span k start r rest =
     record { start = start; end = start + length r.tokens; number = r.number; directive = r.directive; next_branch = next_branch k (role r) rest }
 
 -- the line of a span
-abbrev pub row_of : List Token → Line → LogicalLine
-row_of ts l = record { tokens = take (l.end - l.start) (drop l.start ts); number = l.number; directive = l.directive }
+abbrev pub line_from : List Token → Line → LogicalLine
+line_from ts l = record { tokens = take (l.end - l.start) (drop l.start ts); number = l.number; directive = l.directive }
 
 pub span_at : (k start : ℕ) (rs : List LogicalLine) (i : ℕ) (d : Line) (r : LogicalLine) → i < length rs → get_or (spans k start rs) i d ≡ span (k + i) (start + length (tokens_of (take i rs))) (get_or rs i r) (drop (suc i) rs)
 span_at k start [] i d r l = absurd (omega arith)
@@ -50,23 +50,23 @@ each_directed profile (q ∷ rs) (suc i) r all l = each_directed profile rs i r 
 pub record LineAt (ts : List Token) (ls : List Line) (i : ℕ) (l : Line) : Type 0 where
   pub begins : l.start ≤ l.end
   pub behind : l.end + length (tokens_of (drop (suc i) (lines_from ts ls))) ≡ length ts
-  pub row : (r : LogicalLine) → get_or (lines_from ts ls) i r ≡ row_of ts l
-  pub directed : (profile : Profile) × IsDirected profile (row_of ts l)
-  pub next : l.next_branch ≡ next_branch i (role (row_of ts l)) (drop (suc i) (lines_from ts ls))
-  pub tokens : length (row_of ts l).tokens ≡ l.end - l.start
+  pub line : (r : LogicalLine) → get_or (lines_from ts ls) i r ≡ line_from ts l
+  pub directed : (profile : Profile) × IsDirected profile (line_from ts l)
+  pub next : l.next_branch ≡ next_branch i (role (line_from ts l)) (drop (suc i) (lines_from ts ls))
+  pub tokens : length (line_from ts l).tokens ≡ l.end - l.start
 
-rows_at : (ts : List Token) (ls : List Line) (i : ℕ) (d : Line) (r : LogicalLine) → i < length ls → get_or (lines_from ts ls) i r ≡ row_of ts (get_or ls i d)
-rows_at ts [] i d r l = absurd (omega arith)
-rows_at ts (x ∷ ls) zero d r l = refl
-rows_at ts (x ∷ ls) (suc i) d r l = rows_at ts ls i d r (omega arith)
+lines_at : (ts : List Token) (ls : List Line) (i : ℕ) (d : Line) (r : LogicalLine) → i < length ls → get_or (lines_from ts ls) i r ≡ line_from ts (get_or ls i d)
+lines_at ts [] i d r l = absurd (omega arith)
+lines_at ts (x ∷ ls) zero d r l = refl
+lines_at ts (x ∷ ls) (suc i) d r l = lines_at ts ls i d r (omega arith)
 
 pub line_at : (ts : List Token) (ls : List Line) (i : ℕ) (d : Line) → AreLines ts ls → i < length ls → LineAt ts ls i (get_or ls i d)
 line_at ts ls i d lines l =
     let rs = lines_from ts ls in
     let x = get_or ls i d in
-    let r = row_of ts x in
-    let m : i < length rs = omega (arith, length-map ls (row_of ts)) in
-    let same : get_or rs i r ≡ r = rows_at ts ls i d r l in
+    let r = line_from ts x in
+    let m : i < length rs = omega (arith, length-map ls (line_from ts)) in
+    let same : get_or rs i r ≡ r = lines_at ts ls i d r l in
     let is : x ≡ span i (length (tokens_of (take i rs))) r (drop (suc i) rs) =
     ap (λ (z : List Line). get_or z i d) (sym lines.1)
     ∙ span_at 0 0 rs i d r m
@@ -81,7 +81,7 @@ line_at ts ls i d lines l =
     record {
       begins = omega arith;
       behind = omega arith;
-      row = λ e. rows_at ts ls i d e l;
+      line = λ e. lines_at ts ls i d e l;
       directed = (lines.2.0, subst (IsDirected lines.2.0) same (each_directed lines.2.0 rs i r lines.2.1 m));
       next = ap (λ (z : Line). z.next_branch) is;
       tokens = omega arith;
@@ -89,9 +89,9 @@ line_at ts ls i d lines l =
 
 -- the spans without next branch lines
 
-pub rows_of_drafts : (before : List Token) (rs : List LogicalLine) → lines_from (before ++ tokens_of rs) (drafts (length before) rs) ≡ rs
-rows_of_drafts before [] = refl
-rows_of_drafts before (r ∷ rs) =
+pub lines_of_drafts : (before : List Token) (rs : List LogicalLine) → lines_from (before ++ tokens_of rs) (drafts (length before) rs) ≡ rs
+lines_of_drafts before [] = refl
+lines_of_drafts before (r ∷ rs) =
     let wider : length (before ++ r.tokens) ≡ length before + length r.tokens = length-append before r.tokens in
     let here : take (length before + length r.tokens - length before) (drop (length before) (before ++ (r.tokens ++ tokens_of rs))) ≡ r.tokens =
     ap (take (length before + length r.tokens - length before)) (drop-append_seam before (r.tokens ++ tokens_of rs))
@@ -100,7 +100,7 @@ rows_of_drafts before (r ∷ rs) =
     let rest : lines_from (before ++ (r.tokens ++ tokens_of rs)) (drafts (length before + length r.tokens) rs) ≡ rs =
     ap (λ (z : List Token). lines_from z (drafts (length before + length r.tokens) rs)) (sym (append_assoc before r.tokens (tokens_of rs)))
     ∙ ap (λ (n : ℕ). lines_from ((before ++ r.tokens) ++ tokens_of rs) (drafts n rs)) (sym wider)
-    ∙ rows_of_drafts (before ++ r.tokens) rs in
+    ∙ lines_of_drafts (before ++ r.tokens) rs in
     ap (λ (z : List Token). record { tokens = z; number = r.number; directive = r.directive }
     ∷ lines_from (before ++ (r.tokens ++ tokens_of rs)) (drafts (length before + length r.tokens) rs)) here
     ∙ ap (λ (z : List LogicalLine). r ∷ z) rest
@@ -108,7 +108,7 @@ rows_of_drafts before (r ∷ rs) =
 -- the lines that a text is cut into
 pub drafts_are : (ts : List Token) (ls : List Line) (rs : List LogicalLine) → tokens_of rs ≡ ts → ls ≡ drafts 0 rs → AreDirected rs → (lines_from ts ls ≡ rs) × AreDrafts ts ls
 drafts_are ts ls rs tokens lines directed =
-    let same : lines_from ts ls ≡ rs = ap (lines_from ts) lines ∙ ap (λ (z : List Token). lines_from z (drafts 0 rs)) (sym tokens) ∙ rows_of_drafts [] rs in
+    let same : lines_from ts ls ≡ rs = ap (lines_from ts) lines ∙ ap (λ (z : List Token). lines_from z (drafts 0 rs)) (sym tokens) ∙ lines_of_drafts [] rs in
     (same, (ap tokens_of same ∙ tokens, ap (drafts 0) same ∙ sym lines, subst AreDirected (sym same) directed))
 
 pub drafts-append : (start : ℕ) (rs : List LogicalLine) (r : LogicalLine) → drafts start (rs ++ r ∷ []) ≡ drafts start rs ++ draft (start + length (tokens_of rs)) r ∷ []
@@ -122,5 +122,5 @@ tokens_of-append [] r = append-nil r.tokens
 tokens_of-append (q ∷ rs) r = ap (λ (z : List Token). q.tokens ++ z) (tokens_of-append rs r) ∙ sym (append_assoc q.tokens (tokens_of rs) r.tokens)
 
 -- the same lines of equal tokens and spans
-pub same_rows : (ts ts' : List Token) (ls ls' : List Line) → ts' ≡ ts → ls' ≡ ls → lines_from ts' ls' ≡ lines_from ts ls
-same_rows ts ts' ls ls' st sl = ap (λ (z : List Token). lines_from z ls') st ∙ ap (lines_from ts) sl
+pub same_lines : (ts ts' : List Token) (ls ls' : List Line) → ts' ≡ ts → ls' ≡ ls → lines_from ts' ls' ≡ lines_from ts ls
+same_lines ts ts' ls ls' st sl = ap (λ (z : List Token). lines_from z ls') st ∙ ap (lines_from ts) sl

@@ -7,27 +7,27 @@ use Rattle.pptext.specs.Sources.{next_branch}
 use Rattle.pptext.proofs.Guards.{behind_parts}
 use Rattle.pptext.proofs.GuardScan.{branch_within}
 
-next_role_within : (s : Role) (k : ℕ) (rows : List LogicalLine) (n : ℕ) → next_branch k s rows ≡ Some n → (k < n) × (n < k + 1 + length rows)
-next_role_within Opens k rows n e = let h = branch_within 0 (k + 1) (map role rows) n e in (omega (arith, h.0), omega (arith, h.1, length-map rows role))
-next_role_within (Elses final) k rows n e = let h = branch_within 0 (k + 1) (map role rows) n e in (omega (arith, h.0), omega (arith, h.1, length-map rows role))
-next_role_within Closes k rows n e = absurd (cc)
-next_role_within TextLine k rows n e = absurd (cc)
-next_role_within ControlLine k rows n e = absurd (cc)
+next_role_within : (s : Role) (k : ℕ) (lines : List LogicalLine) (n : ℕ) → next_branch k s lines ≡ Some n → (k < n) × (n < k + 1 + length lines)
+next_role_within Opens k lines n e = let h = branch_within 0 (k + 1) (map role lines) n e in (omega (arith, h.0), omega (arith, h.1, length-map lines role))
+next_role_within (Elses final) k lines n e = let h = branch_within 0 (k + 1) (map role lines) n e in (omega (arith, h.0), omega (arith, h.1, length-map lines role))
+next_role_within Closes k lines n e = absurd (cc)
+next_role_within TextLine k lines n e = absurd (cc)
+next_role_within ControlLine k lines n e = absurd (cc)
 
 -- the next branch line stands behind the line, in the file
-pub next_within : (r : LogicalLine) (k : ℕ) (rows : List LogicalLine) (n : ℕ) → next_branch k (role r) rows ≡ Some n → (k < n) × (n < k + 1 + length rows)
-next_within r k rows n e = next_role_within (role r) k rows n e
+pub next_within : (r : LogicalLine) (k : ℕ) (lines : List LogicalLine) (n : ℕ) → next_branch k (role r) lines ≡ Some n → (k < n) × (n < k + 1 + length lines)
+next_within r k lines n e = next_role_within (role r) k lines n e
 
 -- of an opening line and of `#elif` and `#else`
 
-pub next_of_opening : (r : LogicalLine) → role r ≡ Opens → (k : ℕ) (rows : List LogicalLine) → next_branch k (role r) rows ≡ branch_behind 0 (k + 1) (map role rows)
-next_of_opening r is k rows = ap (λ (z : Role). next_branch k z rows) is
+pub next_of_opening : (r : LogicalLine) → role r ≡ Opens → (k : ℕ) (lines : List LogicalLine) → next_branch k (role r) lines ≡ branch_behind 0 (k + 1) (map role lines)
+next_of_opening r is k lines = ap (λ (z : Role). next_branch k z lines) is
 
-pub next_of_branch : (r : LogicalLine) (final : Bool) → role r ≡ Elses final → (k : ℕ) (rows : List LogicalLine) → next_branch k (role r) rows ≡ branch_behind 0 (k + 1) (map role rows)
-next_of_branch r final is k rows = ap (λ (z : Role). next_branch k z rows) is
+pub next_of_branch : (r : LogicalLine) (final : Bool) → role r ≡ Elses final → (k : ℕ) (lines : List LogicalLine) → next_branch k (role r) lines ≡ branch_behind 0 (k + 1) (map role lines)
+next_of_branch r final is k lines = ap (λ (z : Role). next_branch k z lines) is
 
-pub next_of_end : (r : LogicalLine) → role r ≡ Closes → (k : ℕ) (rows : List LogicalLine) → next_branch k (role r) rows ≡ None
-next_of_end r is k rows = ap (λ (z : Role). next_branch k z rows) is
+pub next_of_end : (r : LogicalLine) → role r ≡ Closes → (k : ℕ) (lines : List LogicalLine) → next_branch k (role r) lines ≡ None
+next_of_end r is k lines = ap (λ (z : Role). next_branch k z lines) is
 
 first_branch : (bs : Branches) (last : Bool) (k : ℕ) (rest : List LogicalLine) → AreBranches last bs → branch_behind 0 k (map role (branch_lines bs ++ rest)) ≡ Some k
 first_branch (End r) last k rest is = ap (λ (z : Role). branch_behind 0 k (z ∷ map role rest)) is

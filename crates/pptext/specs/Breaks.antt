@@ -1,4 +1,5 @@
--- The table of breaks: where phases 1 and 2 (5.1.1.2) remove or replace bytes of a file.
+-- The table of breaks: where phases 1 and 2 (5.1.1.2) remove or replace bytes of a file. Only the contracts of private functions, and the view of a
+-- type's private fields, cite this.
 use Rattle.std.specs.Prelude.{◌≡◌, ◌<◌, ◌≤◌, ℕ, List, [], ◌∷◌, Bool, length, drop, slice_index}
 use Rattle.pptext.specs.declared.characters.steps.Step.{Step}
 use Rattle.pptext.specs.declared.characters.steps.Step.TheVariants.{Code, Removed}

@@ -1,4 +1,4 @@
--- What begins a text, and what a text is cut into, as the scanner answers them.
+-- What begins a text, and what a text is cut into, as the scanner answers them. Only the contracts of private functions cite this.
 use Rattle.std.specs.Prelude.{◌≡◌, ℕ, ◌<◌, ◌≤◌, List, length, None, Result, Ok, Err, IsTrue, slice_index}
 use Rattle.pptext.specs.declared.tokens.Token.{Token}
 use Rattle.pptext.specs.declared.sources.Line.{Line}

@@ -1,5 +1,5 @@
 -- Words of the pass that groups a file's lines: spans without branches, their links, the open sections by their lines' indices, and a
--- guard seen without the tree.
+-- guard seen without the tree. Only the contracts of private functions cite this.
 use Rattle.std.specs.Prelude.{◌≡◌, ℕ, ◌+◌, ◌⊎◌, List, [], ◌∷◌, map, reverse, length, drop, Bool, Option, None, Some}
 use Rattle.std.specs.List.{AllByRecursion}
 use Rattle.pptext.specs.declared.tokens.Token.{Token}
@@ -75,12 +75,12 @@ IsBranching Closes = Unit {0}
 IsBranching s = ⊥
 
 -- Of the lines behind an opening line, from place k on: the section's next branch line closes it, and no token stands behind that.
-pub record ClosedAtOnce (k : ℕ) (rows : List LogicalLine) : Type 0 where
+pub record ClosedAtOnce (k : ℕ) (lines : List LogicalLine) : Type 0 where
   pub skipped : ℕ
   pub last : LogicalLine
   pub rest : List LogicalLine
-  pub next : branch_behind 0 k (map role rows) ≡ Some (k + skipped)
-  pub there : drop skipped rows ≡ last ∷ rest
+  pub next : branch_behind 0 k (map role lines) ≡ Some (k + skipped)
+  pub there : drop skipped lines ≡ last ∷ rest
   pub closes : role last ≡ Closes
   pub blank : AllByRecursion IsBlankLine rest
 

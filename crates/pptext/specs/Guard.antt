@@ -1,11 +1,10 @@
 -- A file that is one guarded section: what a guard is, and of which lines it is one.
-use Rattle.std.specs.Prelude.{◌≡◌, ℕ, List, [], ◌∷◌, Bool, true, false, ◌&&◌, if◌then◌else◌, Option, None, Some, codes}
+use Rattle.std.specs.Prelude.{◌≡◌, ℕ, List, [], ◌∷◌, Bool, ◌&&◌, if◌then◌else◌, Option, None, Some, codes}
 use Rattle.std.specs.List.{AllByRecursion}
 use Rattle.std.specs.Str.{bytes_eq}
 use Rattle.pptext.specs.declared.tokens.Token.{Token}
-use Rattle.pptext.specs.declared.tokens.Kind.{Kind}
-use Rattle.pptext.specs.declared.tokens.Kind.TheVariants.{Ident}
 use Rattle.pptext.specs.Lines.{LogicalLine}
+use Rattle.pptext.specs.Tokens.{is_identifier_kind}
 use Rattle.pptext.specs.Tree.{Parts, Done, Run, Section, End, Tree}
 
 -- a line without tokens
@@ -17,15 +16,11 @@ AreBlank Done = Unit {0}
 AreBlank (Run rs ps) = AllByRecursion IsBlankLine rs × AreBlank ps
 AreBlank ps = ⊥
 
-abbrev pub is_ident : Kind → Bool
-is_ident Ident = true
-is_ident k = false
-
 abbrev pub named : Token → List ℕ → Bool
 named t text = bytes_eq t.text text
 
 abbrev pub ident_if : Bool → Token → Option (List ℕ)
-ident_if b t = if b && is_ident t.kind then Some t.text else None
+ident_if b t = if b && is_identifier_kind t.kind then Some t.text else None
 
 -- `if ! defined`
 abbrev pub is_not_defined : Token → Token → Token → Bool

@@ -1,4 +1,4 @@
--- Quotes that nothing closes in their line.
+-- Quotes that nothing closes in their line. Only the contracts of private functions cite this.
 use Rattle.std.specs.Prelude.{◌≡◌, ℕ, ◌+◌, ◌-◌, ◌<◌, ◌≤◌, List, [], ◌∷◌, length, drop, slice_index}
 use Rattle.pptext.specs.declared.scanning.literals.LoneQuotes.{LoneQuotes}
 use Rattle.pptext.specs.declared.scanning.literals.Quoted.{Quoted}

@@ -1,4 +1,4 @@
--- Which role of the definitions a role of the code is.
+-- Which role of the definitions a role of the code is. Only the contracts of private functions cite this.
 use Rattle.pptext.specs.Tree as definitions
 use Rattle.pptext.specs.declared.directives.Role.{Role}
 use Rattle.pptext.specs.declared.directives.Role.TheVariants.{Text, Control, Opens, Elses, Closes}

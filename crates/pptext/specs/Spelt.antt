@@ -1,4 +1,4 @@
--- How a spelling is kept.
+-- How a spelling is kept. Only the contracts of private functions, and the view of a type's private fields, cite this.
 use Rattle.std.specs.Prelude.{ℕ, List, ◌≤◌, take}
 use Rattle.pptext.specs.declared.tokens.Bytes.{Bytes}
 use Rattle.pptext.specs.declared.tokens.Bytes.TheVariants as bytes

@@ -1,4 +1,5 @@
--- What begins the rest of a file, for phases 1 and 2 in one reading (5.1.1.2).
+-- What begins the rest of a file, for phases 1 and 2 in one reading (5.1.1.2). Only the contracts of private functions, and the view of a type's
+-- private fields, cite this.
 use Rattle.std.specs.Prelude.{◌≡◌, ◌≢◌, ℕ, ◌+◌, ◌<◌, ◌≤◌, List, [], ◌∷◌, Bool, true, false, not, ◌&&◌, ◌||◌, ◌==◌, if◌then◌else◌, Option, None, Some, length, drop, slice_index}
 use Rattle.pptext.specs.declared.tokens.Place.{Place}
 use Rattle.pptext.specs.declared.characters.steps.Step.{Step}

@@ -1,4 +1,4 @@
--- A cleaned text that is read from the front.
+-- A cleaned text that is read from the front. Only the contracts of private functions, and the view of a type's private fields, cite this.
 use Rattle.std.specs.Prelude.{◌≡◌, ◌≤◌, ◌<◌, ◌+◌, ℕ, List, [], ◌∷◌, ◌++◌, Bool, Option, None, Some, Result, Ok, Err, length, take, drop, if◌then◌else◌}
 use Rattle.pptext.specs.declared.tokens.Place.{Place}
 use Rattle.pptext.specs.declared.characters.Char.{Char}

@@ -13,7 +13,7 @@ use Rattle.pptext.specs.declared.sources.Profile.TheVariants.{C11, Later}
 use Rattle.pptext.specs.Spellings.{Spells}
 use Rattle.pptext.specs.Lines.{LogicalLine, directive_of, directive_named}
 use Rattle.pptext.specs.Tree.{role, role_by, role_named}
-use Rattle.pptext.specs.Guard.{is_ident, named, is_not_defined, are_parentheses, ident_if, guard_name}
+use Rattle.pptext.specs.Guard.{named, is_not_defined, are_parentheses, ident_if, guard_name}
 use Rattle.pptext.proofs.OneKind.{begins}
 use Rattle.pptext.specs.Tokens.{is_identifier_kind}
 use Rattle.ppexpand.specs.Laws.{plus}
@@ -74,10 +74,10 @@ record IsGuard (b : Bool) (t : Token) (x : List ℕ) : Type 0 where
   name : t.text ≡ x
 
 ident_if_is : (b : Bool) (t : Token) (x : List ℕ) → ident_if b t ≡ Some x → IsGuard b t x
-ident_if_is b t x e = cases (b && is_ident t.kind) refl e
+ident_if_is b t x e = cases (b && is_identifier_kind t.kind) refl e
   where
-    cases : (c : Bool) → (b && is_ident t.kind) ≡ c → (if c then Some t.text else None) ≡ Some x → IsGuard b t x
-    cases true is f = let p = and_parts b (is_ident t.kind) is in let same : t.text ≡ x = cc in record { form = p.0; kind = is_ident_kind t.kind p.1; name = same }
+    cases : (c : Bool) → (b && is_identifier_kind t.kind) ≡ c → (if c then Some t.text else None) ≡ Some x → IsGuard b t x
+    cases true is f = let p = and_parts b (is_identifier_kind t.kind) is in let same : t.text ≡ x = cc in record { form = p.0; kind = is_ident_kind t.kind p.1; name = same }
     cases false is f = absurd (cc)
 
 -- the macro's name is that of the token

@@ -11,8 +11,8 @@ use Rattle.pptext.specs.declared.tokens.Kind.TheVariants.{Ident, Number, CharCon
 use Rattle.pptext.specs.declared.sources.Directive.{Directive}
 use Rattle.pptext.specs.declared.sources.Directive.TheVariants.{If}
 use Rattle.pptext.specs.Tree.{role_by, role_named}
-use Rattle.pptext.specs.Guard.{is_ident, named}
-use Rattle.pptext.specs.Tokens.{is_other_kind, is_lone_quote}
+use Rattle.pptext.specs.Guard.{named}
+use Rattle.pptext.specs.Tokens.{is_identifier_kind, is_other_kind, is_lone_quote}
 use Rattle.ppunit.specs.Quotes.{quote_fault, lone_quote}
 
 -- ---- tokens without quotes
@@ -23,7 +23,7 @@ is_quote text = bytes_eq text (codes "'") || bytes_eq text (34 ∷ [])
 text_unquoted : (t : Token) (text : List ℕ) → t.text ≡ text → is_quote text ≡ false → is_lone_quote t ≡ false
 text_unquoted t text e f = ap (λ (z : List ℕ). is_other_kind t.kind && is_quote z) e ∙ ap (λ (b : Bool). is_other_kind t.kind && b) f ∙ and-false (is_other_kind t.kind)
 
-pub is_ident_kind : (k : Kind) → is_ident k ≡ true → k ≡ Ident
+pub is_ident_kind : (k : Kind) → is_identifier_kind k ≡ true → k ≡ Ident
 is_ident_kind Ident e = refl
 is_ident_kind Number e = absurd (false≢true e)
 is_ident_kind CharConst e = absurd (false≢true e)

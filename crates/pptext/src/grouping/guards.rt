@@ -4,7 +4,8 @@ ghost use Rattle.std.specs.Str.{bytes_eq};
 ghost use Rattle.pptext.specs.declared.sources.Line.{Line};
 ghost use Rattle.pptext.specs.declared.tokens.Token.{Token};
 ghost use Rattle.pptext.specs.Sources.{lines_from};
-ghost use Rattle.pptext.specs.Guard.{are_parentheses, guard_name, ident_if, is_ident, is_not_defined};
+ghost use Rattle.pptext.specs.Tokens.{is_identifier_kind};
+ghost use Rattle.pptext.specs.Guard.{are_parentheses, guard_name, ident_if, is_not_defined};
 ghost use Rattle.pptext.specs.Tree.{Opens, Closes};
 ghost use Rattle.pptext.specs.Grouping.{AreLines, line_role, ClosedAtOnce, FlatGuard};
 
@@ -14,7 +15,7 @@ use crate::tokens::{Kind, Token};
 
 /// Whether an identifier.
 fn is_ident(kind: Kind) -> bool
-    ensures { result ≡ is_ident kind }
+    ensures { result ≡ is_identifier_kind kind }
 {
     match kind {
         Kind::Ident => true,

@@ -1,7 +1,7 @@
 use Rattle.std.proofs.Common.{◌∙◌, [], ap, sym, length, arith}
 use Rattle.pptext.specs.Tree.{group_fault}
 use Rattle.pptext.proofs.Branches.{linked_are, linked_length}
-use Rattle.pptext.proofs.Spans.{same_rows}
+use Rattle.pptext.proofs.Spans.{same_lines}
 use Rattle.pptext.proofs.grouping.group_lines.Goals as goal
 
 pub first_fault-requires-clause-are_lines : goal.first_fault-requires-clause-are_lines
@@ -14,7 +14,7 @@ first_fault-requires-clause-few c = omega (arith, ap length (c.as_slice-2.ensure
 pub returns-in-Some : goal.returns-in-Some
 returns-in-Some c =
     let are = linked_are c.args.tokens.items c.args.lines.items c.in_ok-lines.lines.items c.requires.are_drafts c.in_ok-lines.ensures in
-    let same = same_rows c.args.tokens.items c.as_slice.result.now c.in_ok-lines.lines.items c.as_slice-2.result.now c.as_slice.ensures.value c.as_slice-2.ensures.value in
+    let same = same_lines c.args.tokens.items c.as_slice.result.now c.in_ok-lines.lines.items c.as_slice-2.result.now c.as_slice.ensures.value c.as_slice-2.ensures.value in
     ap (group_fault []) (sym (same ∙ are.0)) ∙ sym c.in_ok-fault.ensures ∙ c.in-Some.is
 
 pub source_of-requires-clause-are_lines : goal.source_of-requires-clause-are_lines
@@ -22,11 +22,11 @@ source_of-requires-clause-are_lines c = (linked_are c.args.tokens.items c.args.l
 
 pub source_of-requires-clause-no_fault : goal.source_of-requires-clause-no_fault
 source_of-requires-clause-no_fault c =
-    let same = same_rows c.args.tokens.items c.as_slice.result.now c.in_ok-lines.lines.items c.as_slice-2.result.now c.as_slice.ensures.value c.as_slice-2.ensures.value in
+    let same = same_lines c.args.tokens.items c.as_slice.result.now c.in_ok-lines.lines.items c.as_slice-2.result.now c.as_slice.ensures.value c.as_slice-2.ensures.value in
     ap (group_fault []) (sym same) ∙ sym c.in_ok-fault.ensures ∙ c.in_default.is
 
 pub returns : goal.returns
 returns c =
     let are = linked_are c.args.tokens.items c.args.lines.items c.in_ok-lines.lines.items c.requires.are_drafts c.in_ok-lines.ensures in
-    let same = same_rows c.args.tokens.items c.as_slice.result.now c.in_ok-lines.lines.items c.as_slice-2.result.now c.as_slice.ensures.value c.as_slice-2.ensures.value in
+    let same = same_lines c.args.tokens.items c.as_slice.result.now c.in_ok-lines.lines.items c.as_slice-2.result.now c.as_slice.ensures.value c.as_slice-2.ensures.value in
     (c.source_of.ensures ∙ are.0, ap (group_fault []) (sym (same ∙ are.0)) ∙ sym c.in_ok-fault.ensures ∙ c.in_default.is)

@@ -12,7 +12,7 @@ use Rattle.pptext.specs.Tree.{group_fault}
 use Rattle.pptext.specs.Sources.{lines_from, Reads, spliced_end, open_comment, bad_groups}
 use Rattle.pptext.specs.Finds.{FailsToCut}
 use Rattle.pptext.specs.Texts.{Cleans}
-use Rattle.pptext.proofs.Spans.{same_rows}
+use Rattle.pptext.proofs.Spans.{same_lines}
 use Rattle.pptext.proofs.Lengths.{cleaned_length}
 use Rattle.pptext.proofs.reading.read_source.Goals as goal
 
@@ -47,6 +47,6 @@ returns-in-Err-Unclosed c =
 pub returns : goal.returns
 returns c =
     let text = subst (Cleans c.args.file c.args.bytes.now) c.in-Ok.is c.in_ok-text.ensures in
-    let same = same_rows c.cut_lines.new.tokens.items c.shrink_to_fit.new.self.items c.cut_lines.new.lines.items c.shrink_to_fit-2.new.self.items c.shrink_to_fit.ensures.items c.shrink_to_fit-2.ensures.items in
+    let same = same_lines c.cut_lines.new.tokens.items c.shrink_to_fit.new.self.items c.cut_lines.new.lines.items c.shrink_to_fit-2.new.self.items c.shrink_to_fit.ensures.items c.shrink_to_fit-2.ensures.items in
     let cut = c.in-Ok-cut_lines.ensures in
     grouped c.args.profile c.args.file c.args.bytes.now c.in-Ok.text.chars cut.0 (lines_from c.shrink_to_fit.new.self.items c.shrink_to_fit-2.new.self.items) c.group_lines.result text.0 cut.1 (cut.2 ∙ sym same) c.group_lines.ensures

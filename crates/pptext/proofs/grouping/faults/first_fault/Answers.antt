@@ -6,7 +6,7 @@ use Rattle.pptext.specs.Tree.{Role, opened, fault_at_end, group_fault}
 use Rattle.pptext.specs.Roles.{role_meant}
 use Rattle.pptext.specs.Grouping.{line_role, sections, Takes}
 use Rattle.pptext.proofs.Spans.{no_line}
-use Rattle.pptext.proofs.Faults.{FaultsSoFar, blank_line, faults_start, faults_step, fault_here, open_rows, sections_more, fault_at_last, fault_last, opens_branching}
+use Rattle.pptext.proofs.Faults.{FaultsSoFar, blank_line, faults_start, faults_step, fault_here, open_lines, sections_more, fault_at_last, fault_last, opens_branching}
 use Rattle.pptext.proofs.grouping.faults.first_fault.Goals as goal
 
 pub loop-at-init : goal.loop-at-init
@@ -36,7 +36,7 @@ pub returns-in-None : goal.returns-in-None
 returns-in-None c =
     let none : c.loop-at.open_sections.items ≡ [] = nil_from_length c.loop-at.open_sections.items (sym c.loop-at.open_sections.ok.0 ∙ c.in-None.ensures.cases.0) in
     let ended = fault_at_last c.args.tokens.now c.args.lines.now c.requires.are_lines c.loop-at.at (sections c.loop-at.open_sections.items) c.loop-at-test.false c.loop-at.invariant in
-    subst (λ (z : List Section). fault_at_end (open_rows (lines_from c.args.tokens.now c.args.lines.now) (sections z)) ≡ group_fault [] (lines_from c.args.tokens.now c.args.lines.now)) none ended
+    subst (λ (z : List Section). fault_at_end (open_lines (lines_from c.args.tokens.now c.args.lines.now) (sections z)) ≡ group_fault [] (lines_from c.args.tokens.now c.args.lines.now)) none ended
 
 pub fault_at-requires-in-Some-pop-clause-branching : goal.fault_at-requires-in-Some-pop-clause-branching
 fault_at-requires-in-Some-pop-clause-branching c =

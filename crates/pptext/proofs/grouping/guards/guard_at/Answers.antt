@@ -4,7 +4,7 @@ use Rattle.pptext.specs.Tree.{Opens}
 use Rattle.pptext.specs.Sources.{lines_from}
 use Rattle.pptext.specs.Guard.{guard_name}
 use Rattle.pptext.specs.Grouping.{line_role, FlatGuard}
-use Rattle.pptext.proofs.Spans.{no_line, line_at, row_of}
+use Rattle.pptext.proofs.Spans.{no_line, line_at, line_from}
 use Rattle.pptext.proofs.Roles.{opens_meant}
 use Rattle.pptext.proofs.GuardScan.{flat_here, only_here, if_none, if_some}
 use Rattle.pptext.proofs.grouping.guards.guard_at.Goals as goal
@@ -27,7 +27,7 @@ guard_index-requires-clause-within c = omega (arith, (line_at c.args.tokens.now 
 
 pub returns-clause-none : goal.returns-clause-none
 returns-clause-none c =
-    if_none c.guard_index.result (guard_name (row_of c.args.tokens.now (get_or c.args.lines.now c.args.at no_line)).tokens ≡ None)
+    if_none c.guard_index.result (guard_name (line_from c.args.tokens.now (get_or c.args.lines.now c.args.at no_line)).tokens ≡ None)
     ((x : List ℕ) → ¬ FlatGuard c.args.at (drop c.args.at (lines_from c.args.tokens.now c.args.lines.now)) x)
     (λ e x flat.
     let name = (only_here c.args.tokens.now c.args.lines.now c.requires.are_lines c.args.at no_line x c.requires.within (c.requires.some no_line) flat).1 in
@@ -37,7 +37,7 @@ pub returns-clause-some : goal.returns-clause-some
 returns-clause-some c =
     let opens : line_role (get_or c.args.lines.now c.args.at no_line) ≡ Opens = sym c.in-Opens.ensures in
     let closed = c.closes_file.ensures.0 c.if-not-closes_file.false in
-    let name = guard_name (row_of c.args.tokens.now (get_or c.args.lines.now c.args.at no_line)).tokens in
+    let name = guard_name (line_from c.args.tokens.now (get_or c.args.lines.now c.args.at no_line)).tokens in
     if_some c.guard_index.result (λ i. (i < length c.args.tokens.now) × ((d : Token) → name ≡ Some (get_or c.args.tokens.now i d).text))
     (λ i. (i < length c.args.tokens.now)
     × ((d : Token) → FlatGuard c.args.at (drop c.args.at (lines_from c.args.tokens.now c.args.lines.now)) (get_or c.args.tokens.now i d).text))

@@ -6,21 +6,21 @@ use Rattle.pptext.specs.Guard.{GuardedBy}
 use Rattle.pptext.proofs.sources.Source.guard.Goals as goal
 
 abbrev Known : List LogicalLine → List Token → Option ℕ → Type 0
-Known rows ts g = MatchOption g ((x : List ℕ) → GuardedBy rows x → ⊥) (λ i. (i < length ts) × ((d : Token) → GuardedBy rows (slice_index_or ts i d).text))
+Known lines ts g = MatchOption g ((x : List ℕ) → GuardedBy lines x → ⊥) (λ i. (i < length ts) × ((d : Token) → GuardedBy lines (slice_index_or ts i d).text))
 
-known_none : (rows same : List LogicalLine) (ts : List Token) (g : Option ℕ) → Known rows ts g → g ≡ None → rows ≡ same → (x : List ℕ) → GuardedBy same x → ⊥
-known_none rows same ts g k is e = subst (λ (z : List LogicalLine). (x : List ℕ) → GuardedBy z x → ⊥) e (subst (Known rows ts) is k)
+known_none : (lines same : List LogicalLine) (ts : List Token) (g : Option ℕ) → Known lines ts g → g ≡ None → lines ≡ same → (x : List ℕ) → GuardedBy same x → ⊥
+known_none lines same ts g k is e = subst (λ (z : List LogicalLine). (x : List ℕ) → GuardedBy z x → ⊥) e (subst (Known lines ts) is k)
 
-known_some : (rows same : List LogicalLine) (ts : List Token) (g : Option ℕ) (i : ℕ) (t : Token) (text : List ℕ)
-    → Known rows ts g
+known_some : (lines same : List LogicalLine) (ts : List Token) (g : Option ℕ) (i : ℕ) (t : Token) (text : List ℕ)
+    → Known lines ts g
     → g ≡ Some i
-    → rows ≡ same
+    → lines ≡ same
     → t ≡ slice_index_or ts i t
     → text ≡ t.text
     → GuardedBy same text
-known_some rows same ts g i t text k is e at said =
-    let h = (subst (Known rows ts) is k).1 t in
-    subst (λ (z : List LogicalLine). GuardedBy z text) e (subst (λ (z : List ℕ). GuardedBy rows z) (ap (λ (u : Token). u.text) (sym at) ∙ sym said) h)
+known_some lines same ts g i t text k is e at said =
+    let h = (subst (Known lines ts) is k).1 t in
+    subst (λ (z : List LogicalLine). GuardedBy z text) e (subst (λ (z : List ℕ). GuardedBy lines z) (ap (λ (u : Token). u.text) (sym at) ∙ sym said) h)
 
 pub returns-in-None-clause-none : goal.returns-in-None-clause-none
 returns-in-None-clause-none c = known_none _ c.args.self.now c.self.inside.tokens.items c.self.inside.guard c.self.invariant.2 c.in-None.is c.self.view_is
