@@ -1,9 +1,9 @@
 -- The steps to a list's outcome, and what an accepted list keeps to.
-use Rattle.std.proofs.Common.{◌≡◌, ℕ, ◌<◌, ◌≤◌, ◌&&◌, Bool, true, false, not, List, [], refl, sym, subst, ◌∙◌, arith, length, map, All, Option, Some, None, nat_le, nat_lt, if◌then◌else◌, unwrap_or}
+use Rattle.std.proofs.Common.{◌≡◌, ℕ, ◌<◌, ◌≤◌, Bool, true, false, not, List, [], refl, sym, subst, ◌∙◌, arith, length, map, All, Option, Some, None, nat_le, nat_lt, if◌then◌else◌, unwrap_or}
 use Rattle.std.specs.Option.{is_some}
 use Rattle.std.specs.List.{list_all}
 use Rattle.std.specs.Str.{bytes_eq}
-use Rattle.std.proofs.lemmas.Bool.{leb-true, false≢true}
+use Rattle.std.proofs.lemmas.Bool.{leb-true, false≢true, and_parts}
 use Rattle.std.proofs.lemmas.Bool.Decides.{nat_tests}
 use Rattle.std.proofs.lemmas.List.{length-map}
 use Rattle.std.proofs.lemmas.List.Elements.{All-map, All-weaker, All-nil}
@@ -69,10 +69,6 @@ judged-passed inline d l e =
     let s = d.setting in
     passed (listed inline d) (names_hold d.files) (sizes_hold d) (are_known (names_of d.files) d.units) (times_hold s) (lines_hold d.units) (folders_hold d) (profile_holds s) (budget_holds s) l e
 
-pub both : (a b : Bool) → (a && b) ≡ true → (a ≡ true) × (b ≡ true)
-both true b h = (refl, h)
-both false b h = absurd (cc)
-
 below_by : (t : List ℕ) (names : List (List ℕ)) (o : Option ℕ) → row_among t names ≡ o → is_some o ≡ true → unwrap_or o 0 < length names
 below_by t names None e h = absurd (false≢true h)
 below_by t names (Some i) e h = (position-Some (bytes_eq t) names i [] e).0
@@ -91,11 +87,11 @@ judged-runnable inline d l e =
     let p = judged-passed inline d l e in
     let names = names_of d.files in
     let listing = listed_unit (profile_of d.setting) names in
-    let commands_pass = (both _ _ p.sizes_pass).1 in
-    let contents_pass = (both _ _ (both _ _ p.sizes_pass).0).1 in
-    let files_pass = (both _ _ (both _ _ (both _ _ p.sizes_pass).0).0).0 in
+    let commands_pass = (and_parts _ _ p.sizes_pass).1 in
+    let contents_pass = (and_parts _ _ (and_parts _ _ p.sizes_pass).0).1 in
+    let files_pass = (and_parts _ _ (and_parts _ _ (and_parts _ _ p.sizes_pass).0).0).0 in
     let count : length d.files ≤ most_rows = leb-true (length d.files) most_rows files_pass in
-    let units_pass = (both _ _ (both _ _ (both _ _ p.sizes_pass).0).0).1 in
+    let units_pass = (and_parts _ _ (and_parts _ _ (and_parts _ _ p.sizes_pass).0).0).1 in
     let unit_count : length d.units ≤ most_rows = leb-true (length d.units) most_rows units_pass in
     let same_units : length (map listing d.units) ≡ length d.units = length-map d.units listing in
     let same : length names ≡ length d.files = length-map d.files (λ (f : DraftFile). f.name) in
@@ -121,8 +117,8 @@ judged-runnable inline d l e =
       few = rw same count;
       many = rw same_units unit_count;
       small = contents-small inline d short;
-      date = (both _ _ p.times_pass).0;
-      time = (both _ _ p.times_pass).1;
+      date = (and_parts _ _ p.times_pass).0;
+      time = (and_parts _ _ p.times_pass).1;
       units = files;
       commands = commands;
       lines = lines;

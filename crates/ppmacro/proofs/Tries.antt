@@ -3,7 +3,7 @@ use Rattle.std.proofs.Common.{◌≡◌, ℕ, zero, suc, ◌<◌, ◌+◌, ◌-�
 use Rattle.std.proofs.Common.{min, List, [], ◌∷◌, ◌++◌, length, refl, sym, ap, ◌∙◌, subst, arith, append-nil, length-append}
 use Rattle.std.proofs.Common.{true≢false, if◌then◌else◌, ◌⊎◌, inl, inr, Some, slice_get, ◌≤◌, ◌↔◌}
 use Rattle.std.proofs.lemmas.List.{get_or_append_left}
-use Rattle.std.proofs.lemmas.Bool.{eqb-true, eq-eqb, cases_lt}
+use Rattle.std.proofs.lemmas.Bool.{eqb-true, eq-eqb, cases_lt, and_parts}
 use Rattle.std.proofs.lemmas.List.Folds.{list_any_at}
 use Rattle.std.proofs.lemmas.Nat.{and_le_l, and_le_r, or_comm, or_disjoint}
 use Rattle.std.proofs.lemmas.Nat.Bits.{bit_at_or, bit_at_and, bit_at-zero, bit_at-lt, bit_at-pow_same, bit_at-pow_other, same_from_bits, same_from_bits_below}
@@ -337,15 +337,10 @@ at-got (x ∷ ns) (suc n) k e = at-got ns n k e
 abbrev pub same_node : Node → Node → Bool
 same_node s t = nat_eq s.here t.here && (nat_eq s.left t.left && nat_eq s.right t.right)
 
-both : (a b : Bool) → (a && b) ≡ true → (a ≡ true) × (b ≡ true)
-both true true h = (refl, refl)
-both true false h = absurd (true≢false (sym h))
-both false b h = absurd (true≢false (sym h))
-
 pub same_node-true : (s t : Node) → same_node s t ≡ true → s ≡ t
 same_node-true s t h =
-    let p = both (nat_eq s.here t.here) (nat_eq s.left t.left && nat_eq s.right t.right) h in
-    let q = both (nat_eq s.left t.left) (nat_eq s.right t.right) p.1 in
+    let p = and_parts (nat_eq s.here t.here) (nat_eq s.left t.left && nat_eq s.right t.right) h in
+    let q = and_parts (nat_eq s.left t.left) (nat_eq s.right t.right) p.1 in
     node-same s t (eqb-true s.here t.here p.0) (eqb-true s.left t.left q.0) (eqb-true s.right t.right q.1)
 
 same_node-self : (s : Node) → same_node s s ≡ true
@@ -633,7 +628,7 @@ bounded-insert limit number old new set m l b k is x e = elim (either (nat_eq x 
 -- what is made of two sets has no member that neither has
 one-of : (o : Operation) (a b : Bool) → joined o a b ≡ true → (a ≡ true) ⊎ (b ≡ true)
 one-of Union a b h = either a b h
-one-of Meet a b h = inl (both a b h).0
+one-of Meet a b h = inl (and_parts a b h).0
 
 pub bounded-join : (o : Operation) (limit : ℕ) (old new : List Node) (one two m : ℕ)
     → IsBounded limit old
