@@ -25,15 +25,15 @@ pub record IsUnknown (ps : Answered) (a b : ℕ) : Type 0 where
   pub apart : nat_eq a b ≡ false
   pub none : answer_of ps a b ≡ None
 
-chosen : (x y z : Bool) (p q r : ℕ) (o : Option ℕ) → (if x then Some p else (if y then Some q else (if z then Some r else o))) ≡ None → (x ≡ false) × (y ≡ false) × (z ≡ false) × (o ≡ None)
-chosen true y z p q r o h = absurd (cc h)
-chosen false true z p q r o h = absurd (cc h)
-chosen false false true p q r o h = absurd (cc h)
-chosen false false false p q r o h = (refl, refl, refl, h)
+none-chosen : (x y z : Bool) (p q r : ℕ) (o : Option ℕ) → (if x then Some p else (if y then Some q else (if z then Some r else o))) ≡ None → (x ≡ false) × (y ≡ false) × (z ≡ false) × (o ≡ None)
+none-chosen true y z p q r o h = absurd (cc h)
+none-chosen false true z p q r o h = absurd (cc h)
+none-chosen false false true p q r o h = absurd (cc h)
+none-chosen false false false p q r o h = (refl, refl, refl, h)
 
 pub unknown : (o : Operation) (ps : Answered) (a b : ℕ) → known o ps a b ≡ None → IsUnknown ps a b
-unknown Union ps a b h = let c = chosen (nat_eq a 0) (nat_eq b 0) (nat_eq a b) b a a (answer_of ps a b) h in record { left = c.0; right = c.1; apart = c.2; none = c.3 }
-unknown Meet ps a b h = let c = chosen (nat_eq a 0) (nat_eq b 0) (nat_eq a b) a b a (answer_of ps a b) h in record { left = c.0; right = c.1; apart = c.2; none = c.3 }
+unknown Union ps a b h = let c = none-chosen (nat_eq a 0) (nat_eq b 0) (nat_eq a b) b a a (answer_of ps a b) h in record { left = c.0; right = c.1; apart = c.2; none = c.3 }
+unknown Meet ps a b h = let c = none-chosen (nat_eq a 0) (nat_eq b 0) (nat_eq a b) a b a (answer_of ps a b) h in record { left = c.0; right = c.1; apart = c.2; none = c.3 }
 
 -- a pair is known where no work is left, or where it was answered
 pub settled-known : (o : Operation) (ps : Answered) (a b n : ℕ) → known o [] a b ≡ Some n → known o ps a b ≡ Some n

@@ -198,8 +198,8 @@ at-keeps old new n k l = ap (λ ns. node_at ns n) k.is ∙ get_or_append_left ol
 pub length-keeps : (old new : List Node) (n : ℕ) → Keeps old new → n < length old → n < length new
 length-keeps old new n k l = omega (arith, ap length k.is, length-append old k.more, l)
 
-pub keeps-all : (ns : List Node) → Keeps ns ns
-keeps-all ns = record { more = []; is = sym (append-nil ns) }
+pub keeps-itself : (ns : List Node) → Keeps ns ns
+keeps-itself ns = record { more = []; is = sym (append-nil ns) }
 
 below-keeps : (old new : List Node) (f n x : ℕ) → IsPool old → Keeps old new → n < length old → word_below new f n x ≡ word_below old f n x
 below-keeps old new zero n x p k l = refl
@@ -323,7 +323,7 @@ module _ (eq : Node → Node → Bool) (exact : (s t : Node) → Decides (eq s t
 
   pub keeps-insert : (ns : List Node) (node : Node) → Keeps ns (insert_key eq ns node)
   keeps-insert ns node = elim (list_any (eq node) ns) as (λ b. Keeps ns (if b then ns else ns ++ node ∷ [])) [
-    | true ↦ keeps-all ns
+    | true ↦ keeps-itself ns
     | false ↦ keeps-push ns node
   ]
 
@@ -352,8 +352,8 @@ same_node-Decides s t = (same_node-true s t, λ e. ap (same_node s) (sym e) ∙ 
 pub pool-after : (ns : List Node) (node : Node) → IsPool ns → IsWithin (length ns) node → IsPool (insert_key same_node ns node)
 pool-after = pool-insert same_node same_node-Decides
 
-pub keeps-after : (ns : List Node) (node : Node) → Keeps ns (insert_key same_node ns node)
-keeps-after = keeps-insert same_node same_node-Decides
+pub keeps-insert_node : (ns : List Node) (node : Node) → Keeps ns (insert_key same_node ns node)
+keeps-insert_node = keeps-insert same_node same_node-Decides
 
 -- ---- a step down
 
@@ -574,8 +574,8 @@ keeps-on xs ys zs a b = record { more = a.more ++ b.more; is = b.is ∙ ap (λ t
 pub below-one : (ns : List Node) (n : ℕ) → IsPool ns → n < length ns → nat_eq n 0 ≡ false → IsWithin n (node_at ns n)
 below-one ns n p l h = p.older n (pos-of n (λ z. true≢false (sym (eq-eqb n 0 z) ∙ h))) l
 
-pub apart : (a b : ℕ) → a < b → ¬ (b ≡ a)
-apart a b l e = omega (arith, l, e)
+pub lt-apart : (a b : ℕ) → a < b → ¬ (b ≡ a)
+lt-apart a b l e = omega (arith, l, e)
 
 pub lt-on : (a b c : ℕ) → a < b → b < c → a < c
 lt-on a b c k l = omega (arith, k, l)
