@@ -1,5 +1,5 @@
 -- What the units of a list give, over files that are known.
-use Rattle.std.proofs.Common.{Bool, Result, Ok, Err, IfOk, Vec, ◌≡◌, ℕ, ◌<◌, ◌≤◌, List, [], ◌∷◌, map, length, get_or, take, Option, Some}
+use Rattle.std.proofs.Common.{Bool, Vec, ◌≡◌, ℕ, ◌<◌, ◌≤◌, List, [], ◌∷◌, map, length, get_or, take, Option, Some}
 use Rattle.std.proofs.Common.{None, IsSome, String, All, sym, ap, ◌∙◌, subst, arith, refl, replicate, inl, inr}
 use Rattle.std.specs.List.{AllZip}
 use Rattle.std.specs.String.{string_bytes}
@@ -102,11 +102,6 @@ can_run list names units runs named same =
 -- they aren't too many
 pub few_units : (list : CompilationList) (units : List UnitOfList) → IsRunnable list → units ≡ list.units → length units ≤ most_rows
 few_units list units runs same = let P : List UnitOfList → Type 0 = λ us. length us ≤ most_rows in subst P (sym same) runs.many
-
--- what follows where a result is Ok
-pub if_ok_then : {T E : Type 0} (r : Result T E) {P Q : T → Type 0} → IfOk r P → ((x : T) → P x → Q x) → IfOk r Q
-if_ok_then (Ok x) p more = more x p
-if_ok_then (Err e) p more = tt
 
 -- the output of what is needed of a list's units is the list's output
 text_of : (mode : Mode) (list : CompilationList) (units : List UnitOfList) (shown outs : List UnitOut) → units ≡ list.units → shown ≡ map (kept (needed mode)) outs

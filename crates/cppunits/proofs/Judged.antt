@@ -1,9 +1,9 @@
 -- The steps to a list's outcome, and what an accepted list keeps to.
-use Rattle.std.proofs.Common.{◌≡◌, ℕ, ◌<◌, ◌≤◌, ◌&&◌, Bool, true, false, not, List, [], refl, sym, subst, ◌∙◌, arith, length, map, All, get_or, Option, Some, None, nat_le, nat_lt, if◌then◌else◌, unwrap_or}
+use Rattle.std.proofs.Common.{◌≡◌, ℕ, ◌<◌, ◌≤◌, Bool, true, false, not, List, [], refl, sym, subst, ◌∙◌, arith, length, map, All, get_or, Option, Some, None, nat_le, nat_lt, if◌then◌else◌, unwrap_or}
 use Rattle.std.specs.Option.{is_some}
 use Rattle.std.specs.List.{list_all}
 use Rattle.std.specs.Str.{bytes_eq}
-use Rattle.std.proofs.lemmas.Bool.{leb-true, false≢true}
+use Rattle.std.proofs.lemmas.Bool.{leb-true, false≢true, and_parts}
 use Rattle.std.proofs.lemmas.Bool.Decides.{nat_tests}
 use Rattle.std.proofs.lemmas.List.{length-map}
 use Rattle.std.proofs.lemmas.List.Elements.{All-map, All-weaker, All-nil}
@@ -71,10 +71,6 @@ judged-passed inline d l e =
     let s = d.setting in
     passed (listed inline d) (names_hold d.files) (sizes_hold d) (are_known (names_of d.files) d.units) (times_hold s) (lines_hold d.units) (folders_hold d) (profile_holds s) (budget_holds s) l e
 
-pub both : (a b : Bool) → (a && b) ≡ true → (a ≡ true) × (b ≡ true)
-both true b h = (refl, h)
-both false b h = absurd (cc)
-
 below_by : (t : List ℕ) (names : List (List ℕ)) (o : Option ℕ) → row_among t names ≡ o → is_some o ≡ true → unwrap_or o 0 < length names
 below_by t names None e h = absurd (false≢true h)
 below_by t names (Some i) e h = (position-Some (bytes_eq t) names i [] e).0
@@ -108,10 +104,10 @@ judged-runnable inline d l e =
     let p = judged-passed inline d l e in
     let names = names_of d.files in
     let listing = listed_unit (profile_of d.setting) names in
-    let contents_pass = (both _ _ (both _ _ p.sizes_pass).0).1 in
-    let files_pass = (both _ _ (both _ _ (both _ _ p.sizes_pass).0).0).0 in
+    let contents_pass = (and_parts _ _ (and_parts _ _ p.sizes_pass).0).1 in
+    let files_pass = (and_parts _ _ (and_parts _ _ (and_parts _ _ p.sizes_pass).0).0).0 in
     let count : length d.files ≤ most_rows = leb-true (length d.files) most_rows files_pass in
-    let units_pass = (both _ _ (both _ _ (both _ _ p.sizes_pass).0).0).1 in
+    let units_pass = (and_parts _ _ (and_parts _ _ (and_parts _ _ p.sizes_pass).0).0).1 in
     let unit_count : length d.units ≤ most_rows = leb-true (length d.units) most_rows units_pass in
     let same_units : length (map listing d.units) ≡ length d.units = length-map d.units listing in
     let same : length names ≡ length d.files = length-map d.files (λ (f : DraftFile). f.name) in
@@ -120,7 +116,7 @@ judged-runnable inline d l e =
     (AllPass-from_list_all (λ (f : DraftFile). nat_le (length f.content) longest) d.files contents_pass) in
     let known = AllPass-from_list_all (λ (u : DraftUnit). is_some (row_among u.file names)) d.units p.files_pass in
     let lines = AllPass-from_list_all (λ (u : DraftUnit). list_all is_one_line u.defines) d.units p.lines_pass in
-    let fit = AllPass-from_list_all (λ (u : DraftUnit). nat_le (length (command_text u.defines)) longest) d.units (both _ _ p.sizes_pass).1 in
+    let fit = AllPass-from_list_all (λ (u : DraftUnit). nat_le (length (command_text u.defines)) longest) d.units (and_parts _ _ p.sizes_pass).1 in
     let IsGood = λ (u : UnitOfList). is_unit (length names) (profile_of d.setting) u ≡ true in
     let good : All (λ (u : DraftUnit). IsGood (listing u)) d.units =
     λ k x lt. unit_passes names (profile_of d.setting) (get_or d.units k x) (known k x lt) (lines k x lt) (fit k x lt) in

@@ -32,7 +32,7 @@ over_is_free : (list : List Hiding) → IsFree (over list)
 over_is_free [] = tt
 over_is_free (t ∷ rest) = tt
 
-never_both : (t : Turn) → IsFree t → Costs t → ⊥
+pub never_both : (t : Turn) → IsFree t → Costs t → ⊥
 never_both Done f c = c
 never_both (Refused g) f c = c
 never_both (Passes t rest) f c = c
@@ -40,7 +40,7 @@ never_both (Failed g) f c = f
 never_both (Replaced next) f c = f
 never_both (Called call) f c = f
 
-nothing_is_free : (list : List Hiding) (t : Turn) → IsFree (within (Some zero) list t)
+pub nothing_is_free : (list : List Hiding) (t : Turn) → IsFree (within (Some zero) list t)
 nothing_is_free list Done = tt
 nothing_is_free list (Refused f) = tt
 nothing_is_free list (Passes t rest) = tt
@@ -49,7 +49,7 @@ nothing_is_free list (Replaced next) = over_is_free list
 nothing_is_free list (Called call) = over_is_free list
 
 -- a free turn is the same with any budget
-free_within : (left : Option ℕ) (list : List Hiding) (t : Turn) → IsFree t → within left list t ≡ t
+pub free_within : (left : Option ℕ) (list : List Hiding) (t : Turn) → IsFree t → within left list t ≡ t
 free_within None list t h = refl
 free_within (Some (suc n)) list t h = refl
 free_within (Some zero) list Done h = refl
@@ -68,15 +68,15 @@ over_within list (Replaced next) h = refl
 over_within list (Called call) h = refl
 
 -- so much was spent
-plus-plus : (m n : ℕ) (left : Option ℕ) → plus m (plus n left) ≡ plus (m + n) left
+pub plus-plus : (m n : ℕ) (left : Option ℕ) → plus m (plus n left) ≡ plus (m + n) left
 plus-plus m n None = refl
 plus-plus m n (Some k) = ap Some (omega arith)
 
-plus-nothing : (left : Option ℕ) → left ≡ plus 0 left
+pub plus-nothing : (left : Option ℕ) → left ≡ plus 0 left
 plus-nothing None = refl
 plus-nothing (Some n) = ap Some (omega arith)
 
-plus-none : (n : ℕ) (left : Option ℕ) → None ≡ plus n left → left ≡ None
+pub plus-none : (n : ℕ) (left : Option ℕ) → None ≡ plus n left → left ≡ None
 plus-none n None e = refl
 plus-none n (Some k) e = absurd (cc)
 
@@ -188,7 +188,7 @@ module _ (macros : Macros) (env : Env) where
   abbrev pub ArgumentsStop : ℕ → Call → ℕ → List (Option (List Hiding)) → Type 0
   ArgumentsStop level call b as' = (f : Fault) × (f.number ≡ 35) × ExpandsArguments macros env level call (Some b) as' (Some 0) (Err f)
 
-  stops_here : {level : ℕ} (list : List Hiding) (whole : Outcome) (t : Turn) → turn macros env list ≡ t → Costs t → Stops level 0 list whole
+  pub stops_here : {level : ℕ} (list : List Hiding) (whole : Outcome) (t : Turn) → turn macros env list ≡ t → Costs t → Stops level 0 list whole
   unfolding turn
   stops_here [] whole t e c = absurd (never_both t (subst IsFree e tt) c)
   stops_here (x ∷ rest) whole t e c = (
@@ -199,18 +199,18 @@ module _ (macros : Macros) (env : Env) where
     record { fault = record { number = 35; at = x.token.used; text = [] }; is = refl; number = refl; left = refl },
   )
 
-  stops_passed : {level b : ℕ} {list rest : List Hiding} {t : Hiding} (whole : Outcome)
+  pub stops_passed : {level b : ℕ} {list rest : List Hiding} {t : Hiding} (whole : Outcome)
       → turn_within macros env (Some b) list ≡ Passes t rest
       → Stops level b rest whole
       → Stops level b list (record { tokens = t ∷ whole.tokens; fault = whole.fault; left = whole.left })
   stops_passed {t = t} whole e s =
       (suc s.0, record { tokens = t ∷ s.1.tokens; fault = s.1.fault; left = s.1.left }, passes e s.2, (s.3.0, ap (λ xs. t ∷ xs) s.3.1), record { fault = s.4.fault; is = s.4.is; number = s.4.number; left = s.4.left })
 
-  stops_argument : {level b : ℕ} {list : List Hiding} {call : Call} (whole : Outcome) → turn macros env list ≡ Called call → ArgumentsStop level call b (wanted call) → Stops level (suc b) list whole
+  pub stops_argument : {level b : ℕ} {list : List Hiding} {call : Call} (whole : Outcome) → turn macros env list ≡ Called call → ArgumentsStop level call b (wanted call) → Stops level (suc b) list whole
   stops_argument whole e s =
       (0, record { tokens = []; fault = Some s.0; left = Some 0 }, argument_refused e s.2, (whole.tokens, refl), record { fault = s.0; is = refl; number = s.1; left = refl })
 
-  stops_used : {level b : ℕ} {call : Call} {list : List Hiding} {rest : List (Option (List Hiding))} (whole : Outcome) → level < 256 → Stops (suc level) b list whole → ArgumentsStop level call b (Some list ∷ rest)
+  pub stops_used : {level b : ℕ} {call : Call} {list : List Hiding} {rest : List (Option (List Hiding))} (whole : Outcome) → level < 256 → Stops (suc level) b list whole → ArgumentsStop level call b (Some list ∷ rest)
   stops_used {level = level} {b = b} {list = list} whole h s =
       let o = s.4 in
       (o.fault, o.number, used_refused h (subst (λ x. Expands macros env (suc level) (Some b) s.0 list x) (λ i. record { tokens = s.1.tokens; fault = o.is i; left = o.left i }) s.2))

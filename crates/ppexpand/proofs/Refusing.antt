@@ -24,8 +24,7 @@ use Rattle.ppexpand.specs.Arguments.{is_open, Gathered, Closed, Quoted, Unclosed
 use Rattle.ppexpand.specs.Turn.{Call, Turn, Refused, Passes, Failed, replaced_by, quote_fault, called, invoked, function_turn, no_arguments, macro_turn, named_turn, macro_of, turn, less_one, finished}
 use Rattle.ppexpand.specs.Expansion.{Outcome, ExpandedArguments, with_expanded, turn_within, Expands, done, refused, passes, failed, replaced, argument_refused, call_failed, call_replaced, ExpandsArguments, none, unused, too_deep}
 use Rattle.ppexpand.specs.Expansion.{used as was_used, used_refused, count, count_arguments, ExpandsTo, IsExpansion}
-use Rattle.ppexpand.specs.Laws.{plus}
-use Rattle.ppexpand.proofs.Budget.{spends, spends_arguments}
+use Rattle.ppexpand.proofs.Budget.{plus-none, spends, spends_arguments}
 
 -- the fault of a result, if it is one, has a smaller number
 abbrev IsBelow : {A : Type 0} → Result A Fault → Type 0
@@ -134,10 +133,6 @@ unfolding finished
 below_finished call expanded = below_replaced _ call.behind (below_substituted call.macro (record { given = call.arguments; expanded = expanded }) call.gain call.head.token.used call.head.token.space)
 
 -- ---- expansions: 21 and those
-
-plus-none : (n : ℕ) (left : Option ℕ) → None ≡ plus n left → left ≡ None
-plus-none n None e = refl
-plus-none n (Some k) e = absurd (cc)
 
 abbrev IsFaultBelow : Option Fault → Type 0
 IsFaultBelow None = Unit {0}

@@ -1,5 +1,6 @@
 -- A token that passes is settled.
-use Rattle.std.proofs.Common.{◌≡◌, ℕ, zero, suc, Bool, true, false, not, ◌||◌, List, [], ◌∷◌, Option, Some, None, Result, Ok, Err, if◌then◌else◌, refl, ap, ◌∙◌, subst}
+use Rattle.std.proofs.Common.{◌≡◌, ℕ, zero, suc, Bool, true, false, not, List, [], ◌∷◌, Option, Some, None, Result, Ok, Err, if◌then◌else◌, refl, ap, ◌∙◌, subst}
+use Rattle.std.proofs.lemmas.Bool.{or_right}
 use Rattle.std.proofs.lemmas.List.Elements.{All-cons, All-nil}
 use Rattle.std.specs.List.{AllPass}
 use Rattle.std.specs.FinSet as set
@@ -18,10 +19,6 @@ use Rattle.ppexpand.specs.Turn.{Turn, Done, Refused, Passes, Failed, Replaced, C
 use Rattle.ppexpand.specs.Expansion.{Outcome, Expands, done, refused, passes, failed, replaced, argument_refused, call_failed, call_replaced}
 use Rattle.ppexpand.specs.Laws.{is_settled, is_always_replaced}
 
-or_true : (a : Bool) → (a || true) ≡ true
-or_true true = refl
-or_true false = refl
-
 module _ (macros : Macros) (env : Env) where
   -- the token that passes, if one does, is settled
   abbrev Settles : Turn → Type 0
@@ -30,7 +27,7 @@ module _ (macros : Macros) (env : Env) where
 
   -- a name that is not always replaced
   by_name : (t : Hiding) → is_lone_quote t.token ≡ false → is_always_replaced (macro_of macros t.token) ≡ false → is_settled macros t ≡ true
-  by_name t unquoted spared = rw (unquoted, spared) (or_true (set.contains t.hide t.token.text))
+  by_name t unquoted spared = rw (unquoted, spared) (or_right (set.contains t.hide t.token.text) true refl)
 
   replaced_settles : (r : Result Marked Fault) (rest : List Hiding) → Settles (replaced_by r rest)
   replaced_settles (Ok m) rest = tt

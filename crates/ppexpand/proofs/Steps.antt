@@ -7,6 +7,7 @@ use Rattle.std.specs.Ordering.{nat_cmp, eq_by_cmp}
 use Rattle.std.specs.Cmp.Lexicographic.{slice_cmp}
 use Rattle.std.specs.Cmp.{Equal-is, tied_itself}
 use Rattle.std.specs.List.{list_any}
+use Rattle.std.proofs.lemmas.Bool.{or_right}
 use Rattle.std.proofs.lemmas.Cmp.{nat_list_cmp_total}
 use Rattle.pptext.specs.declared.tokens.Token.{Token}
 use Rattle.pptext.specs.declared.tokens.Fault.{Fault}
@@ -53,13 +54,9 @@ same_name_self x = ap is_eq (tied_itself nat_list_cmp_total x)
 abbrev pub HasGain : HideSet → Hiding → Type 0
 HasGain gain t = (q : Name) → set.contains gain q ≡ true → set.contains t.hide q ≡ true
 
-true_or : (a : Bool) → (a || true) ≡ true
-true_or true = refl
-true_or false = refl
-
 all_gained : (gain : HideSet) (used : Place) (ts : List Hiding) → Each (HasGain gain) (map (gained gain used) ts)
 all_gained gain used [] = tt
-all_gained gain used (t ∷ ts) = ((λ q e. set.contains-union nat_list_cmp_total t.hide gain q ∙ ap (λ b. set.contains t.hide q || b) e ∙ true_or _), all_gained gain used ts)
+all_gained gain used (t ∷ ts) = ((λ q e. set.contains-union nat_list_cmp_total t.hide gain q ∙ ap (λ b. set.contains t.hide q || b) e ∙ or_right _ true refl), all_gained gain used ts)
 
 gained_after : (r : Result Marked Fault) (gain : HideSet) (used : Place) (m : Marked) → after_ok r (λ m. Ok (record m { tokens = map (gained gain used) m.tokens })) ≡ Ok m → Each (HasGain gain) m.tokens
 gained_after (Ok n) gain used m e =
@@ -160,7 +157,7 @@ module _ (macros : Macros) (env : Env) where
   gains_sets h h' k gain is [] all = tt
   gains_sets h h' k gain is (t ∷ ts) all = (
     (
-      λ q in_h in_h'. all.0 q (rw is (set.contains-insert nat_list_cmp_total (set.intersection h h') k q ∙ ap (λ b. same_name q k || b) (set.contains-intersection nat_list_cmp_total h h' q ∙ (λ i. in_h i && in_h' i)) ∙ true_or _)),
+      λ q in_h in_h'. all.0 q (rw is (set.contains-insert nat_list_cmp_total (set.intersection h h') k q ∙ ap (λ b. same_name q k || b) (set.contains-intersection nat_list_cmp_total h h' q ∙ (λ i. in_h i && in_h' i)) ∙ or_right _ true refl)),
       all.0 k (rw is (set.contains-insert nat_list_cmp_total (set.intersection h h') k k ∙ ap (λ b. b || set.contains (set.intersection h h') k) (same_name_self k))),
     ),
     gains_sets h h' k gain is ts all.1,
@@ -172,7 +169,7 @@ module _ (macros : Macros) (env : Env) where
   gains_object h k [] all = tt
   gains_object h k (t ∷ ts) all = (
     (
-      λ q in_h _. all.0 q (set.contains-insert nat_list_cmp_total h k q ∙ ap (λ b. same_name q k || b) in_h ∙ true_or _),
+      λ q in_h _. all.0 q (set.contains-insert nat_list_cmp_total h k q ∙ ap (λ b. same_name q k || b) in_h ∙ or_right _ true refl),
       all.0 k (set.contains-insert nat_list_cmp_total h k k ∙ ap (λ b. b || set.contains h k) (same_name_self k)),
     ),
     gains_object h k ts all.1,
@@ -219,7 +216,7 @@ module _ (macros : Macros) (env : Env) where
   macro_steps : (t : Hiding) (rest : List Hiding) → Among t.token.text (table.keys macros) → set.contains t.hide t.token.text ≡ false → (d : Definition) (shape : Shape) → StepsTo (t ∷ rest) (macro_turn env t rest d shape)
   macro_steps t rest named free d (Predefined b) = object t.token.text named free (set.insert t.hide t.token.text ∷ []) (
     (
-      (λ q in_h _. set.contains-insert nat_list_cmp_total t.hide t.token.text q ∙ ap (λ b. same_name q t.token.text || b) in_h ∙ true_or _),
+      (λ q in_h _. set.contains-insert nat_list_cmp_total t.hide t.token.text q ∙ ap (λ b. same_name q t.token.text || b) in_h ∙ or_right _ true refl),
       set.contains-insert nat_list_cmp_total t.hide t.token.text t.token.text ∙ ap (λ b. b || set.contains t.hide t.token.text) (same_name_self t.token.text),
     ),
     tt,

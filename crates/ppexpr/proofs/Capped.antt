@@ -10,7 +10,7 @@ use Rattle.ppmacro.specs.Names.{Macros}
 use Rattle.ppexpand.specs.declared.env.Env.{Env}
 use Rattle.ppexpand.specs.Expansion.{IsExpansion, count_expansion}
 use Rattle.ppexpand.specs.Laws.{plus}
-use Rattle.ppexpand.proofs.Budget.{StopsEarly, expansion_spends, expansion_enough, expansion_short}
+use Rattle.ppexpand.proofs.Budget.{plus-nothing, StopsEarly, expansion_spends, expansion_enough, expansion_short}
 use Rattle.ppexpand.proofs.Refusing.{expansion_never_refused}
 use Rattle.ppexpr.specs.Outcomes.{Value, Failure, ZeroDivisor, Overflow, Shift}
 use Rattle.ppexpr.specs.Symbols.{Symbol}
@@ -18,10 +18,6 @@ use Rattle.ppexpr.specs.Tokens.{symbol_by, symbol_of, before, symbols_of, consta
 use Rattle.ppexpr.specs.Conditions.{Condition, taken, Evaluates, no_expression, has_value, Judges, too_nested, not_nested, Decides, made_defined, bad_constant, constants, IsCondition, ill_formed, not_replaced, replaced, count_condition}
 
 -- ---- the budget
-
-plus-nothing : (left : Option ℕ) → left ≡ plus 0 left
-plus-nothing None = refl
-plus-nothing (Some n) = ap Some (omega arith)
 
 -- what a condition spends and what it leaves are the budget
 pub condition_spends : {macros : Macros} {env : Env} {at : Place} {tokens : List Token} {left after : Option ℕ} {c : Condition} (d : IsCondition macros env at tokens left c after) → left ≡ plus (count_condition d) after

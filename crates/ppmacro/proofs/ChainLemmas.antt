@@ -2,7 +2,8 @@
 use Rattle.std.proofs.Common.{◌≡◌, ℕ, zero, suc, Bool, true, false, List, [], ◌∷◌, ◌++◌, length, set, get_or, refl, sym, ap, ◌∙◌, arith, append_assoc, append-nil}
 use Rattle.ppmacro.specs.declared.macros.Chain.{Chain}
 use Rattle.ppmacro.specs.declared.macros.Operand.{Operand}
-use Rattle.ppmacro.specs.Chains.{Item, Operates, Joins, begins_joined, join_first, grouped, joined_to, followed, resumed}
+use Rattle.ppmacro.specs.Chains.{Item, Operates, Joins, begins_joined, join_first, grouped}
+use Rattle.ppmacro.specs.Items.{joined_to, followed, resumed}
 
 -- ---- one operand more
 

@@ -153,8 +153,8 @@ has-none names ns n q d h = sym (contains-is names ns n q d ∙ at-absent (membe
 
 -- ---- sets while nodes and names are added
 
-pub set-keeps : (names : List Name) (old new : List Node) (n : ℕ) → IsPool old → Keeps old new → n < length old → hide_set names new n ≡ hide_set names old n
-set-keeps names old new n p k l = (λ j. set.from_list (kept (λ x. member-keeps old new n x p k l j) 0 names))
+pub hide_set-keeps : (names : List Name) (old new : List Node) (n : ℕ) → IsPool old → Keeps old new → n < length old → hide_set names new n ≡ hide_set names old n
+hide_set-keeps names old new n p k l = (λ j. set.from_list (kept (λ x. member-keeps old new n x p k l j) 0 names))
 
 pub set-at : (names : List Name) (ns : List Node) (n : ℕ) → n < length ns → get_or (hide_sets names ns) n set.empty ≡ hide_set names ns n
 set-at names ns n l = let e : 0 + n ≡ n = omega arith in at-counted (hide_set names ns) 0 n ns l ∙ ap (hide_set names ns) e
@@ -167,7 +167,7 @@ at-known names ns n l = subst (λ k. n < k) (length-counted (hide_set names ns) 
 
 pub sets-keep : (names : List Name) (old new : List Node) → IsPool old → (k : Keeps old new) → hide_sets names new ≡ hide_sets names old ++ counted (hide_set names new) (past-by 0 old) k.more
 sets-keep names old new p k =
-    (λ j. counted (hide_set names new) 0 (k.is j)) ∙ counted-more (hide_set names old) (hide_set names new) 0 old k.more (λ n a b. set-keeps names old new n p k (omega (arith, b)))
+    (λ j. counted (hide_set names new) 0 (k.is j)) ∙ counted-more (hide_set names old) (hide_set names new) 0 old k.more (λ n a b. hide_set-keeps names old new n p k (omega (arith, b)))
 
 -- names that join the others are in no set that is there
 kept-append : (p : ℕ → Bool) (i : ℕ) (xs ys : List Name) → ((k : ℕ) → i + length xs ≤ k → p k ≡ false) → kept p i (xs ++ ys) ≡ kept p i xs

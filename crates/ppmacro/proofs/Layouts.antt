@@ -58,17 +58,17 @@ at_comma comma ts e = rw e refl
 at_ellipsis : (t close : Token) (body : List Token) → is_punct (codes "...") t ≡ true → is_punct (codes ")") close ≡ true → parameters_from false (t ∷ (close ∷ body)) ≡ Some (heading [] true body)
 at_ellipsis t close body e closes = rw e (at_close true close body closes)
 
-at_name : (t : Token) (ts : List Token) (h : Heading) → is_identifier t ≡ true → parameters_from true ts ≡ Some h → parameters_from false (t ∷ ts) ≡ Some (with_name t.text h)
-at_name t ts h e on = rw (no_punct (codes "...") t e, e) (ap (option_map (with_name t.text)) on)
+at_identifier : (t : Token) (ts : List Token) (h : Heading) → is_identifier t ≡ true → parameters_from true ts ≡ Some h → parameters_from false (t ∷ ts) ≡ Some (with_name t.text h)
+at_identifier t ts h e on = rw (no_punct (codes "...") t e, e) (ap (option_map (with_name t.text)) on)
 
 behind_names : {ts : List Token} {ns : List Name}
     → IdentifierList ts ns
     → (rest : List Token) (v : Bool) (body : List Token)
     → parameters_from true rest ≡ Some (heading [] v body)
     → parameters_from false (ts ++ rest) ≡ Some (heading ns v body)
-behind_names (one {t = t} e) rest v body on = at_name t rest (heading [] v body) e on
+behind_names (one {t = t} e) rest v body on = at_identifier t rest (heading [] v body) e on
 behind_names (more {t = t} {comma = comma} {ts = ts} {names = ns} e is_comma l) rest v body on =
-    at_name t (comma ∷ (ts ++ rest)) (heading ns v body) e (at_comma comma (ts ++ rest) is_comma ∙ behind_names l rest v body on)
+    at_identifier t (comma ∷ (ts ++ rest)) (heading ns v body) e (at_comma comma (ts ++ rest) is_comma ∙ behind_names l rest v body on)
 
 -- a list that doesn't begin with `)`
 at_first : (t : Token) (ts : List Token) → is_punct (codes ")") t ≡ false → parameter_list (t ∷ ts) ≡ parameters_from false (t ∷ ts)

@@ -1,6 +1,6 @@
 -- Pairs that are known, while nodes and pairs are added.
-use Rattle.std.proofs.Common.{◌≡◌, ℕ, ◌<◌, Bool, true, false, cond, ◌&&◌, ◌||◌, nat_eq, List, [], ◌∷◌, ◌++◌, Option, Some, None, length, refl, sym, ap, ◌∙◌, subst, true≢false, if◌then◌else◌}
-use Rattle.std.proofs.lemmas.Bool.{eqb-true, eq-eqb}
+use Rattle.std.proofs.Common.{◌≡◌, ℕ, ◌<◌, Bool, true, false, cond, ◌&&◌, ◌||◌, nat_eq, List, [], ◌∷◌, ◌++◌, Option, Some, None, length, refl, sym, ap, ◌∙◌, subst, if◌then◌else◌}
+use Rattle.std.proofs.lemmas.Bool.{eqb-true, eq-eqb, and_parts}
 use Rattle.ppmacro.specs.declared.hide_sets.nodes.Node.{Node}
 use Rattle.ppmacro.specs.Nodes.{member, word, IsPool, Keeps}
 use Rattle.ppmacro.specs.declared.hide_sets.nodes.Operation.{Operation}
@@ -10,11 +10,6 @@ use Rattle.ppmacro.specs.Pairs.{Answered, same_pair, answer_of}
 use Rattle.ppmacro.specs.Remembered.{IsAnswer, AreAnswers}
 use Rattle.std.specs.Int.RustNames.{bit_or, bit_and}
 use Rattle.ppmacro.proofs.Tries.{member-keeps, length-keeps, member-none, word-none, or_none, none_or, or_self, none_and, and_none, and_self}
-
-both : (a b : Bool) → (a && b) ≡ true → (a ≡ true) × (b ≡ true)
-both true true h = (refl, refl)
-both true false h = absurd (true≢false (sym h))
-both false b h = absurd (true≢false (sym h))
 
 pub answer-put : (ps : Answered) (a b n : ℕ) → answer_of ps a b ≡ None → answer_of (ps ++ ((a, b), n) ∷ []) a b ≡ Some n
 answer-put [] a b n h = ap (λ t. cond t (Some n) None) (λ i. eq-eqb a a refl i && eq-eqb b b refl i)
@@ -30,15 +25,15 @@ pub record IsUnknown (ps : Answered) (a b : ℕ) : Type 0 where
   pub apart : nat_eq a b ≡ false
   pub none : answer_of ps a b ≡ None
 
-chosen : (x y z : Bool) (p q r : ℕ) (o : Option ℕ) → (if x then Some p else (if y then Some q else (if z then Some r else o))) ≡ None → (x ≡ false) × (y ≡ false) × (z ≡ false) × (o ≡ None)
-chosen true y z p q r o h = absurd (cc h)
-chosen false true z p q r o h = absurd (cc h)
-chosen false false true p q r o h = absurd (cc h)
-chosen false false false p q r o h = (refl, refl, refl, h)
+none-chosen : (x y z : Bool) (p q r : ℕ) (o : Option ℕ) → (if x then Some p else (if y then Some q else (if z then Some r else o))) ≡ None → (x ≡ false) × (y ≡ false) × (z ≡ false) × (o ≡ None)
+none-chosen true y z p q r o h = absurd (cc h)
+none-chosen false true z p q r o h = absurd (cc h)
+none-chosen false false true p q r o h = absurd (cc h)
+none-chosen false false false p q r o h = (refl, refl, refl, h)
 
 pub unknown : (o : Operation) (ps : Answered) (a b : ℕ) → known o ps a b ≡ None → IsUnknown ps a b
-unknown Union ps a b h = let c = chosen (nat_eq a 0) (nat_eq b 0) (nat_eq a b) b a a (answer_of ps a b) h in record { left = c.0; right = c.1; apart = c.2; none = c.3 }
-unknown Meet ps a b h = let c = chosen (nat_eq a 0) (nat_eq b 0) (nat_eq a b) a b a (answer_of ps a b) h in record { left = c.0; right = c.1; apart = c.2; none = c.3 }
+unknown Union ps a b h = let c = none-chosen (nat_eq a 0) (nat_eq b 0) (nat_eq a b) b a a (answer_of ps a b) h in record { left = c.0; right = c.1; apart = c.2; none = c.3 }
+unknown Meet ps a b h = let c = none-chosen (nat_eq a 0) (nat_eq b 0) (nat_eq a b) a b a (answer_of ps a b) h in record { left = c.0; right = c.1; apart = c.2; none = c.3 }
 
 -- a pair is known where no work is left, or where it was answered
 pub settled-known : (o : Operation) (ps : Answered) (a b n : ℕ) → known o [] a b ≡ Some n → known o ps a b ≡ Some n
@@ -91,7 +86,7 @@ answers-put op ns (f ∷ ps) e h k =
 found : (op : Bool → Bool → Bool) (ns : List Node) (ps : Answered) (a b n : ℕ) → AreAnswers op ns ps → answer_of ps a b ≡ Some n → IsAnswer op ns ((a, b), n)
 found op ns [] a b n h e = absurd (cc e)
 found op ns (f ∷ ps) a b n h e = elim (same_pair (a, b) f.0) as (λ t. same_pair (a, b) f.0 ≡ t → cond t (Some f.1) (answer_of ps a b) ≡ Some n → IsAnswer op ns ((a, b), n)) [
-  | true ↦ λ p g. (let parts = both (nat_eq a f.0.0) (nat_eq b f.0.1) p in
+  | true ↦ λ p g. (let parts = and_parts (nat_eq a f.0.0) (nat_eq b f.0.1) p in
       let one : a ≡ f.0.0 = eqb-true a f.0.0 parts.0 in
       let two : b ≡ f.0.1 = eqb-true b f.0.1 parts.1 in
       let three : f.1 ≡ n = cc g in

@@ -9,7 +9,7 @@ use Rattle.ppmacro.specs.Substituting.{hidden_in}
 use Rattle.ppmacro.specs.declared.flying.Hidden.{Hidden}
 use Rattle.pptext.specs.Stops.{Answers, settled}
 
-pub settled-is : (sets : Numbered) (r : Result Hidden Stop) (v : Result Hiding Fault) → Answers r (hiding sets) v → IfOk (settled r) (λ a. hidden_in sets a ≡ v)
-settled-is sets (Ok h) v e = e
-settled-is sets (Err (Faulted f)) v e = e
-settled-is sets (Err OutOfMemory) v e = tt
+pub settled-answers : (sets : Numbered) (r : Result Hidden Stop) (v : Result Hiding Fault) → Answers r (hiding sets) v → IfOk (settled r) (λ a. hidden_in sets a ≡ v)
+settled-answers sets (Ok h) v e = e
+settled-answers sets (Err (Faulted f)) v e = e
+settled-answers sets (Err OutOfMemory) v e = tt

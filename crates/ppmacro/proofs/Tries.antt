@@ -3,7 +3,7 @@ use Rattle.std.proofs.Common.{◌≡◌, ℕ, zero, suc, ◌<◌, ◌+◌, ◌-�
 use Rattle.std.proofs.Common.{min, List, [], ◌∷◌, ◌++◌, length, refl, sym, ap, ◌∙◌, subst, arith, append-nil, length-append}
 use Rattle.std.proofs.Common.{true≢false, if◌then◌else◌, ◌⊎◌, inl, inr, Some, slice_get, ◌≤◌, ◌↔◌}
 use Rattle.std.proofs.lemmas.List.{get_or_append_left}
-use Rattle.std.proofs.lemmas.Bool.{eqb-true, eq-eqb, cases_lt}
+use Rattle.std.proofs.lemmas.Bool.{eqb-true, eq-eqb, cases_lt, and_parts}
 use Rattle.std.proofs.lemmas.List.Folds.{list_any_at}
 use Rattle.std.proofs.lemmas.Nat.{and_le_l, and_le_r, or_comm, or_disjoint}
 use Rattle.std.proofs.lemmas.Nat.Bits.{bit_at_or, bit_at_and, bit_at-zero, bit_at-lt, bit_at-pow_same, bit_at-pow_other, same_from_bits, same_from_bits_below}
@@ -198,8 +198,8 @@ at-keeps old new n k l = ap (λ ns. node_at ns n) k.is ∙ get_or_append_left ol
 pub length-keeps : (old new : List Node) (n : ℕ) → Keeps old new → n < length old → n < length new
 length-keeps old new n k l = omega (arith, ap length k.is, length-append old k.more, l)
 
-pub keeps-all : (ns : List Node) → Keeps ns ns
-keeps-all ns = record { more = []; is = sym (append-nil ns) }
+pub keeps-itself : (ns : List Node) → Keeps ns ns
+keeps-itself ns = record { more = []; is = sym (append-nil ns) }
 
 below-keeps : (old new : List Node) (f n x : ℕ) → IsPool old → Keeps old new → n < length old → word_below new f n x ≡ word_below old f n x
 below-keeps old new zero n x p k l = refl
@@ -323,7 +323,7 @@ module _ (eq : Node → Node → Bool) (exact : (s t : Node) → Decides (eq s t
 
   pub keeps-insert : (ns : List Node) (node : Node) → Keeps ns (insert_key eq ns node)
   keeps-insert ns node = elim (list_any (eq node) ns) as (λ b. Keeps ns (if b then ns else ns ++ node ∷ [])) [
-    | true ↦ keeps-all ns
+    | true ↦ keeps-itself ns
     | false ↦ keeps-push ns node
   ]
 
@@ -337,15 +337,10 @@ at-got (x ∷ ns) (suc n) k e = at-got ns n k e
 abbrev pub same_node : Node → Node → Bool
 same_node s t = nat_eq s.here t.here && (nat_eq s.left t.left && nat_eq s.right t.right)
 
-both : (a b : Bool) → (a && b) ≡ true → (a ≡ true) × (b ≡ true)
-both true true h = (refl, refl)
-both true false h = absurd (true≢false (sym h))
-both false b h = absurd (true≢false (sym h))
-
 pub same_node-true : (s t : Node) → same_node s t ≡ true → s ≡ t
 same_node-true s t h =
-    let p = both (nat_eq s.here t.here) (nat_eq s.left t.left && nat_eq s.right t.right) h in
-    let q = both (nat_eq s.left t.left) (nat_eq s.right t.right) p.1 in
+    let p = and_parts (nat_eq s.here t.here) (nat_eq s.left t.left && nat_eq s.right t.right) h in
+    let q = and_parts (nat_eq s.left t.left) (nat_eq s.right t.right) p.1 in
     node-same s t (eqb-true s.here t.here p.0) (eqb-true s.left t.left q.0) (eqb-true s.right t.right q.1)
 
 same_node-self : (s : Node) → same_node s s ≡ true
@@ -357,8 +352,8 @@ same_node-Decides s t = (same_node-true s t, λ e. ap (same_node s) (sym e) ∙ 
 pub pool-after : (ns : List Node) (node : Node) → IsPool ns → IsWithin (length ns) node → IsPool (insert_key same_node ns node)
 pool-after = pool-insert same_node same_node-Decides
 
-pub keeps-after : (ns : List Node) (node : Node) → Keeps ns (insert_key same_node ns node)
-keeps-after = keeps-insert same_node same_node-Decides
+pub keeps-insert_node : (ns : List Node) (node : Node) → Keeps ns (insert_key same_node ns node)
+keeps-insert_node = keeps-insert same_node same_node-Decides
 
 -- ---- a step down
 
@@ -579,8 +574,8 @@ keeps-on xs ys zs a b = record { more = a.more ++ b.more; is = b.is ∙ ap (λ t
 pub below-one : (ns : List Node) (n : ℕ) → IsPool ns → n < length ns → nat_eq n 0 ≡ false → IsWithin n (node_at ns n)
 below-one ns n p l h = p.older n (pos-of n (λ z. true≢false (sym (eq-eqb n 0 z) ∙ h))) l
 
-pub apart : (a b : ℕ) → a < b → ¬ (b ≡ a)
-apart a b l e = omega (arith, l, e)
+pub lt-apart : (a b : ℕ) → a < b → ¬ (b ≡ a)
+lt-apart a b l e = omega (arith, l, e)
 
 pub lt-on : (a b c : ℕ) → a < b → b < c → a < c
 lt-on a b c k l = omega (arith, k, l)
@@ -633,7 +628,7 @@ bounded-insert limit number old new set m l b k is x e = elim (either (nat_eq x 
 -- what is made of two sets has no member that neither has
 one-of : (o : Operation) (a b : Bool) → joined o a b ≡ true → (a ≡ true) ⊎ (b ≡ true)
 one-of Union a b h = either a b h
-one-of Meet a b h = inl (both a b h).0
+one-of Meet a b h = inl (and_parts a b h).0
 
 pub bounded-join : (o : Operation) (limit : ℕ) (old new : List Node) (one two m : ℕ)
     → IsBounded limit old

@@ -21,10 +21,10 @@ drop-item xs i x h e = drop_more xs i x h ∙ ap (λ y. y ∷ drop (i + 1) xs) (
 pub take-item : {X : Type 0} (xs : List X) (i : ℕ) (x : X) → i < length xs → x ≡ get_or xs i x → take (i + 1) xs ≡ take i xs ++ x ∷ []
 take-item xs i x h e = take_more xs i x h ∙ ap (λ y. take i xs ++ y ∷ []) (sym e)
 
-pub known-at : (s : Numbered) (hs : List Hidden) (i : ℕ) (h : Hidden) → i < length hs → h ≡ get_or hs i h → AllKnown s hs → IsKnown s h.hide
-known-at s [] i h less e known = absurd (omega arith)
-known-at s (x ∷ hs) zero h less e known = rw e known.each.0
-known-at s (x ∷ hs) (suc i) h less e known = known-at s hs i h (omega arith) e (record { each = known.each.1 })
+pub known-each : (s : Numbered) (hs : List Hidden) (i : ℕ) (h : Hidden) → i < length hs → h ≡ get_or hs i h → AllKnown s hs → IsKnown s h.hide
+known-each s [] i h less e known = absurd (omega arith)
+known-each s (x ∷ hs) zero h less e known = rw e known.each.0
+known-each s (x ∷ hs) (suc i) h less e known = known-each s hs i h (omega arith) e (record { each = known.each.1 })
 
 -- ---- arguments stand for the same
 

@@ -1,5 +1,5 @@
 -- The replacement list as a list of chains, whose operands `##` joins (6.10.3.3).
-use Rattle.std.specs.Prelude.{ℕ, Bool, true, false, ◌&&◌, ◌||◌, List, [], ◌∷◌, ◌++◌, Option, Some, None, codes, length, position, if◌then◌else◌}
+use Rattle.std.specs.Prelude.{ℕ, Bool, true, false, ◌&&◌, List, [], ◌∷◌, Option, Some, None, codes, length, position, if◌then◌else◌}
 use Rattle.std.specs.Str.{bytes_eq}
 use Rattle.pptext.specs.declared.tokens.Place.{Place}
 use Rattle.pptext.specs.declared.tokens.Token.{Token}
@@ -78,11 +78,6 @@ items_behind shape None (t ∷ ts) =
     (items_behind shape None ts)
     (items_behind shape (Some (hash_sign t)) ts)
 
--- the items where this one is the next, or none at a `#`
-abbrev pub led_by : Shape → Token → Option Item → List Token → List Item
-led_by shape t (Some item) ts = item ∷ items_behind shape None ts
-led_by shape t None ts = items_behind shape (Some (hash_sign t)) ts
-
 abbrev pub begins_joined : List Item → Bool
 begins_joined (Joins ∷ is) = true
 begins_joined _ = false
@@ -99,19 +94,3 @@ grouped (Operates mark o ∷ is) = elim (begins_joined is) [ true ↦ join_first
 
 abbrev pub chains_of : Definition → List Chain
 chains_of d = grouped (items_behind d.shape None d.body)
-
--- a chain with more behind it, joined to the first
-abbrev pub joined_to : Chain → List Chain → List Chain
-joined_to c [] = c ∷ []
-joined_to c (d ∷ ds) = record { mark = c.mark; operands = c.operands ++ d.operands } ∷ ds
-
--- these chains with more behind them; `##` stands in between where it joins
-abbrev pub followed : Bool → List Chain → List Chain → List Chain
-followed false cs ds = cs ++ ds
-followed true [] ds = ds
-followed true (c ∷ []) ds = joined_to c ds
-followed true (c ∷ (b ∷ cs)) ds = c ∷ followed true (b ∷ cs) ds
-
--- the chains so far, and what these items add to them; `joined`: `##` stands directly before
-abbrev pub resumed : Bool → List Chain → List Item → List Chain
-resumed joined cs is = followed (joined || begins_joined is) cs (grouped is)

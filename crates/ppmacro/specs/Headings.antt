@@ -1,5 +1,5 @@
 -- Headings of function-like macros.
-use Rattle.std.specs.Prelude.{Bool, List, ◌++◌}
+use Rattle.std.specs.Prelude.{Bool, List}
 use Rattle.pptext.specs.declared.tokens.Token.{Token}
 use Rattle.ppmacro.specs.Names.{Name}
 
@@ -8,7 +8,3 @@ pub record Heading : Type 0 where
   pub names : List Name
   pub variadic : Bool
   pub body : List Token
-
--- these names before the others
-abbrev pub with_names : List Name → Heading → Heading
-with_names ns h = record h { names = ns ++ h.names }

@@ -1,4 +1,4 @@
--- The operands that a value holds.
+-- The operands that a value holds. Only the view of a type's private fields cites this.
 use Rattle.std.specs.Prelude.{List, [], ◌∷◌}
 use Rattle.ppmacro.specs.declared.macros.Operand.{Operand}
 use Rattle.ppmacro.specs.declared.macros.Held.{Held}

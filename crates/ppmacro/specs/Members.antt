@@ -1,4 +1,4 @@
--- Sets of names by the numbers of their nodes.
+-- Sets of names by the numbers of their nodes. Only the contracts of private functions, and the view of a type's private fields, cite this.
 use Rattle.std.specs.Global.{Global}
 use Rattle.std.specs.Prelude.{◌≡◌, ℕ, suc, ◌<◌, Bool, true, Vec, map, List, [], ◌∷◌, length, if◌then◌else◌}
 use Rattle.std.specs.Ordering.{nat_cmp, eq_by_cmp}

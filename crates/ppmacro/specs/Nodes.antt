@@ -1,4 +1,5 @@
--- Sets of numbers as nodes of a trie of words, each with 64 members: the number n is bit n % 64 of the word n / 64.
+-- Sets of numbers as nodes of a trie of words, each with 64 members: the number n is bit n % 64 of the word n / 64. Only the contracts of private
+-- functions, and the view of a type's private fields, cite this.
 use Rattle.std.specs.Prelude.{◌≡◌, ℕ, zero, suc, ◌<◌, ◌/◌, ◌%◌, ◌^◌, Bool, true, nat_eq, List, [], ◌∷◌, ◌++◌, length, slice_index_or, if◌then◌else◌}
 use Rattle.std.specs.Int.{bit_at}
 use Rattle.ppmacro.specs.declared.hide_sets.nodes.Node.{Node}

@@ -1,4 +1,4 @@
--- What two hide sets are made into.
+-- What two hide sets are made into. Only the contracts of private functions, and the invariant of a type's private fields, cite this.
 use Rattle.std.specs.Prelude.{ℕ, Bool, ◌||◌, ◌&&◌, Option}
 use Rattle.std.specs.Int.RustNames.{bit_and, bit_or}
 use Rattle.std.specs.FinSet as set

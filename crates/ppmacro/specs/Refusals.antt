@@ -1,4 +1,4 @@
--- Which refusal of the definitions a refusal of the code is.
+-- Which refusal of the definitions a refusal of the code is. Only the contracts of private functions cite this.
 use Rattle.std.specs.Prelude.{Result, Ok, Err}
 use Rattle.ppmacro.specs.Define as definitions
 use Rattle.ppmacro.specs.declared.macros.Definition.{Definition}

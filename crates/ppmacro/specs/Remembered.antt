@@ -1,4 +1,5 @@
--- Hide sets as they are kept, and pairs whose union or meet is known.
+-- Hide sets as they are kept, and pairs whose union or meet is known. Only the contracts of private functions, and the invariant of a type's private
+-- fields, cite this.
 use Rattle.std.specs.Prelude.{◌≡◌, ℕ, ◌<◌, Bool, List, length}
 use Rattle.std.specs.List.{AllByRecursion, IsDistinct}
 use Rattle.ppmacro.specs.declared.hide_sets.nodes.Node.{Node}

@@ -3,8 +3,8 @@ ghost use Rattle.std.specs.Prelude.{◌≡◌, IfOk, OnOk, None, List, [], ◌�
 ghost use Rattle.std.specs.Str.{bytes_eq};
 ghost use Rattle.std.specs.Option.{option_map};
 ghost use Rattle.ppmacro.specs.Chains as definitions;
-ghost use Rattle.ppmacro.specs.Chains.{names_in, or_at, parameter_named, parameter_of, is_function_like, is_operator_hash, plain_item, stringized_item, items_behind, led_by, grouped, resumed, chains_of};
-ghost use Rattle.ppmacro.specs.Items.{meant};
+ghost use Rattle.ppmacro.specs.Chains.{names_in, or_at, parameter_named, parameter_of, is_function_like, is_operator_hash, plain_item, stringized_item, items_behind, grouped, chains_of};
+ghost use Rattle.ppmacro.specs.Items.{meant, led_by, resumed};
 ghost use Rattle.pptext.specs.declared.tokens.Token.{Token};
 
 use crate::borrowed::Leaf;

@@ -159,6 +159,7 @@ filled_none count block seats slots is i w h = let e = ap (λ l. times (i / bloc
 pub none_at : (desk : DeskId) (seats : List SeatView) → seats ≡ [] → All (λ s. s.desk ≡ desk) seats
 none_at desk seats is k d w = let e = ap length is in absurd (omega arith)
 
+-- what follows where a result is Ok
 pub if_ok_then : {T E : Type 0} (r : Result T E) {P Q : T → Type 0} → IfOk r P → ((x : T) → P x → Q x) → IfOk r Q
 if_ok_then (Ok x) p more = more x p
 if_ok_then (Err e) p more = tt

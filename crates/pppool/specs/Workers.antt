@@ -1,4 +1,4 @@
--- Units in blocks, and what comes of the blocks that a worker claims.
+-- Units in blocks, and what comes of the blocks that a worker claims. Only the contracts of private functions cite this.
 use Rattle.std.specs.Prelude.{◌≡◌, ℕ, ◌<◌, ◌/◌, List, [], ◌∷◌, length, All, Option, Some, None, IfSome, IsSome, true, slice_index_or, slice_set}
 use Rattle.std.specs.List.{AllZip}
 use Rattle.ppshelf.specs.Files.{Files, Stock, Known}

@@ -1,4 +1,4 @@
--- What is kept of a file.
+-- What is kept of a file. Only the contracts of private functions, and the view and the invariant of a type's private fields, cite this.
 use Rattle.std.specs.Prelude.{ℕ, Option, Some, None}
 use Rattle.pptext.specs.Sources.{Reads}
 use Rattle.pptext.specs.declared.sources.Profile.{Profile}

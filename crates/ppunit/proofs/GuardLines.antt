@@ -23,7 +23,7 @@ use Rattle.ppexpr.proofs.Capped.{condition_spends, condition_enough}
 use Rattle.ppexpr.proofs.GuardConditions.{punctuator, as_defined, as_name, bare_false, parenthesized_false}
 use Rattle.ppunit.specs.States.{State}
 use Rattle.ppunit.specs.Quotes.{lone_quote}
-use Rattle.ppunit.specs.Conditions.{same_as, is_defined, by_name, Decides, DecidesBy, DecidesUnless}
+use Rattle.ppunit.specs.Conditions.{same_as, is_macro_name, by_name, Decides, DecidesBy, DecidesUnless}
 use Rattle.ppunit.specs.Counts.{count_decides_by, count_decides_unless, count_decides}
 use Rattle.ppunit.proofs.FileTokens.{IsSpelled, AreSpelled, IsSpelledLine, opens_header, kind_is, defined_spelled}
 use Rattle.std.specs.FinMap as table
@@ -81,7 +81,7 @@ ident_if_is b t x e = cases (b && is_identifier_kind t.kind) refl e
     cases false is f = absurd (cc)
 
 -- the macro's name is that of the token
-known_name : (s : State) (x : List ℕ) (t : Token) → t.text ≡ x → is_defined s.macros x ≡ true → is_some (table.get s.macros t.text) ≡ true
+known_name : (s : State) (x : List ℕ) (t : Token) → t.text ≡ x → is_macro_name s.macros x ≡ true → is_some (table.get s.macros t.text) ≡ true
 known_name s x t e known = ap (λ (z : List ℕ). is_some (table.get s.macros z)) e ∙ known
 
 punctuator_is : (t : Token) (text : List ℕ) → IsSpelled t → named t text ≡ true → Spells Punct text → begins opens_header text ≡ false → punctuator text t ≡ t
@@ -121,7 +121,7 @@ costs_nothing s at tokens condition None =
 by_ifndef : (s : State) (profile : Profile) (h d t : Token) (x : List ℕ)
     → is_hash h.text ≡ true
     → IsGuard (named d (codes "ifndef")) t x
-    → is_defined s.macros x ≡ true
+    → is_macro_name s.macros x ≡ true
     → Skips s (directive_of profile (h ∷ d ∷ t ∷ [])) (h ∷ d ∷ t ∷ [])
 by_ifndef s profile h d t x hash g known =
     let line = h ∷ d ∷ t ∷ [] in
@@ -139,7 +139,7 @@ by_bare : (s : State) (profile : Profile) (h d n f t : Token) (x : List ℕ)
     → IsSpelled f
     → is_hash h.text ≡ true
     → IsGuard (is_not_defined d n f) t x
-    → is_defined s.macros x ≡ true
+    → is_macro_name s.macros x ≡ true
     → Skips s (directive_of profile (h ∷ d ∷ n ∷ f ∷ t ∷ [])) (h ∷ d ∷ n ∷ f ∷ t ∷ [])
 by_bare s profile h d n f t x sn sf hash g known =
     let p = and_parts (named d (codes "if")) (named n (codes "!") && named f (codes "defined")) g.form in
@@ -160,7 +160,7 @@ by_parenthesized : (s : State) (profile : Profile) (h d n f l t r : Token) (x : 
     → IsSpelled r
     → is_hash h.text ≡ true
     → IsGuard (is_not_defined d n f && are_parentheses l r) t x
-    → is_defined s.macros x ≡ true
+    → is_macro_name s.macros x ≡ true
     → Skips s (directive_of profile (h ∷ d ∷ n ∷ f ∷ l ∷ t ∷ r ∷ [])) (h ∷ d ∷ n ∷ f ∷ l ∷ t ∷ r ∷ [])
 by_parenthesized s profile h d n f l t r x sn sf sl sr hash g known =
     let forms = and_parts (is_not_defined d n f) (are_parentheses l r) g.form in
@@ -187,7 +187,7 @@ guard_decides : (s : State) (profile : Profile) (tokens : List Token) (x : List 
     → AreSpelled tokens
     → role_by (directive_of profile tokens) ≡ role_named If
     → guard_name tokens ≡ Some x
-    → is_defined s.macros x ≡ true
+    → is_macro_name s.macros x ≡ true
     → Skips s (directive_of profile tokens) tokens
 guard_decides s profile [] x all opens is known = absurd (cc)
 guard_decides s profile (a ∷ []) x all opens is known = absurd (cc)
@@ -208,7 +208,7 @@ pub guard_line : (s : State) (profile : Profile) (r : LogicalLine) (x : List ℕ
     → IsSpelledLine profile r
     → role r ≡ role_named If
     → guard_name r.tokens ≡ Some x
-    → is_defined s.macros x ≡ true
+    → is_macro_name s.macros x ≡ true
     → (h : Decides s r s.left (Ok false)) × (count_decides s r s.left (Ok false) h ≡ 0)
 guard_line s profile r x (spelled, directed) opens is known =
     subst (λ (z : Option Directive). Skips s z r.tokens) (sym directed)

@@ -19,7 +19,7 @@ use Rattle.ppunit.specs.declared.units.Item.{Item}
 use Rattle.ppunit.specs.States.{State, Surroundings, going, depending, entering, is_spent, paying}
 use Rattle.ppunit.specs.Dependencies.{is_among}
 use Rattle.ppunit.specs.Lines.{run_tokens}
-use Rattle.ppunit.specs.Conditions.{is_defined}
+use Rattle.ppunit.specs.Conditions.{is_macro_name}
 use Rattle.ppunit.specs.Directives.{RunGives}
 use Rattle.ppunit.specs.Group.{deepest, Group, Branched, Opened}
 use Rattle.ppunit.specs.Counts.{count_group, count_opened}
@@ -83,7 +83,7 @@ module _ (around : Surroundings) (depth row : ℕ) (s : State) where
       → AllByRecursion (IsSpelledLine around.profile) (part_lines ps)
       → AreParts ps
       → GuardedParts ps x
-      → is_defined s.macros x ≡ true
+      → is_macro_name s.macros x ≡ true
       → Passes ps
   guarded_group Done x all are g known = absurd g
   guarded_group (Run rs ps) x all are g known =
@@ -136,10 +136,10 @@ opens_left_out around depth row from by at s a unreadable lines fits some known 
 opens_left_out around depth row from by at s a (readable bytes) lines fits some known one same reads is (x, guarded, defined) =
     let read = subst (λ (z : ℕ). Reads around.profile z bytes (Ok lines)) same (subst (λ (z : Profile). Reads z from bytes (Ok lines)) one reads) in
     subst (λ (z : State). Opened around depth at s row (going z)) (sym is)
-    (guards_leave_out around depth row at s bytes lines x fits known read guarded (subst (λ (z : State). is_defined z.macros x ≡ true) is defined) some).0
+    (guards_leave_out around depth row at s bytes lines x fits known read guarded (subst (λ (z : State). is_macro_name z.macros x ≡ true) is defined) some).0
 
-pub left_out_by : (s : State) (lines : List LogicalLine) (name : List ℕ) (b : Bool) → GuardedBy lines name → b ≡ is_defined s.macros name → IsTrue b ↔ IsLeftOut s lines
-left_out_by s lines name b guarded is = (λ e. (name, guarded, sym is ∙ e), λ l. is ∙ ap (λ (z : List ℕ). is_defined s.macros z) (one_guard lines name l.0 guarded l.1) ∙ l.2)
+pub left_out_by : (s : State) (lines : List LogicalLine) (name : List ℕ) (b : Bool) → GuardedBy lines name → b ≡ is_macro_name s.macros name → IsTrue b ↔ IsLeftOut s lines
+left_out_by s lines name b guarded is = (λ e. (name, guarded, sym is ∙ e), λ l. is ∙ ap (λ (z : List ℕ). is_macro_name s.macros z) (one_guard lines name l.0 guarded l.1) ∙ l.2)
 
 pub none_left_out : (s : State) (lines : List LogicalLine) → ((x : List ℕ) → ¬ GuardedBy lines x) → IsTrue false ↔ IsLeftOut s lines
 none_left_out s lines none = (λ e. absurd (false≢true e), λ l. absurd (none l.0 l.1))

@@ -1,5 +1,5 @@
 -- Expansion and conditions within a budget, beside the same within a larger one or without one.
-use Rattle.std.proofs.Common.{◌≡◌, ℕ, zero, suc, ◌+◌, ◌-◌, ◌<◌, List, [], ◌∷◌, Option, Some, None, Ok, Err, refl, sym, ap, ◌∙◌, subst, arith, map}
+use Rattle.std.proofs.Common.{◌≡◌, ℕ, zero, suc, ◌+◌, ◌-◌, ◌<◌, List, [], Option, Some, None, Ok, Err, refl, sym, ap, ◌∙◌, subst, arith, map}
 use Rattle.std.proofs.lemmas.List.{map-append}
 use Rattle.pptext.specs.declared.tokens.Place.{Place}
 use Rattle.pptext.specs.declared.tokens.Token.{Token}
@@ -9,14 +9,13 @@ use Rattle.ppmacro.specs.Names.{Macros}
 use Rattle.ppmacro.specs.HideSets.{Hiding}
 use Rattle.ppexpand.specs.declared.env.Env.{Env}
 use Rattle.ppexpand.specs.declared.expansion.Expanded.{Expanded}
-use Rattle.ppexpand.specs.Turn.{Call, Turn, Passes, Failed, Replaced, Called, turn, wanted, fault_at_use}
+use Rattle.ppexpand.specs.Turn.{Call, Turn, Failed, Replaced, Called, turn, fault_at_use}
 use Rattle.ppexpand.specs.Expansion.{Outcome, ExpandedArguments, turn_within, Expands, done, refused, passes, failed, replaced, argument_refused, call_failed, call_replaced, ExpandsArguments, none, unused, too_deep, used, used_refused}
 use Rattle.ppexpand.specs.Expansion.{count, count_arguments, IsExpansion, count_expansion}
-use Rattle.ppexpand.specs.Laws.{IsBeginning, IsOver}
-use Rattle.ppexpand.proofs.Budget.{Costs, IsFree, StopsEarly, spends, spends_arguments}
+use Rattle.ppexpand.proofs.Budget.{Costs, IsFree, Stops, ArgumentsStop, StopsEarly, spends, spends_arguments, stops_here, stops_passed, stops_argument, stops_used}
 use Rattle.ppexpr.specs.Conditions.{Condition, IsCondition, ill_formed, not_replaced, replaced as answered, count_condition}
 use native.Mathlib.Decide.{dec_lt}
-use Rattle.ppunit.proofs.LargerTurns.{Covers, covers_less, covers_rest, never_both, over_within, free_less, paid_whole}
+use Rattle.ppunit.proofs.LargerTurns.{Covers, covers_less, covers_rest, free_less, paid_whole}
 
 -- ---- expansion
 
@@ -88,61 +87,28 @@ module _ (macros : Macros) (env : Env) where
 
   -- ---- with less
 
-  abbrev pub Stops : ℕ → ℕ → List Hiding → Outcome → Type 0
-  Stops level b list whole = (turns : ℕ) × (out : Outcome) × Expands macros env level (Some b) turns list out × IsBeginning out.tokens whole.tokens × IsOver out
-
-  abbrev pub ArgumentsStop : ℕ → Call → ℕ → List (Option (List Hiding)) → Type 0
-  ArgumentsStop level call b as' = (f : Fault) × (f.number ≡ 35) × ExpandsArguments macros env level call (Some b) as' (Some 0) (Err f)
-
-  stops_here : {level : ℕ} (list : List Hiding) (whole : Outcome) (t : Turn) → turn macros env list ≡ t → Costs t → Stops level 0 list whole
-  unfolding turn
-  stops_here [] whole t e c = absurd (never_both t (subst IsFree e tt) c)
-  stops_here (x ∷ rest) whole t e c = (
-    0,
-    record { tokens = []; fault = Some (record { number = 35; at = x.token.used; text = [] }); left = Some 0 },
-    refused (over_within (x ∷ rest) (turn macros env (x ∷ rest)) (subst Costs (sym e) c)),
-    (whole.tokens, refl),
-    record { fault = record { number = 35; at = x.token.used; text = [] }; is = refl; number = refl; left = refl },
-  )
-
-  stops_passed : {level b : ℕ} {list rest : List Hiding} {t : Hiding} (whole : Outcome)
-      → turn_within macros env (Some b) list ≡ Passes t rest
-      → Stops level b rest whole
-      → Stops level b list (record { tokens = t ∷ whole.tokens; fault = whole.fault; left = whole.left })
-  stops_passed {t = t} whole e s =
-      (suc s.0, record { tokens = t ∷ s.1.tokens; fault = s.1.fault; left = s.1.left }, passes e s.2, (s.3.0, ap (λ xs. t ∷ xs) s.3.1), record { fault = s.4.fault; is = s.4.is; number = s.4.number; left = s.4.left })
-
-  stops_argument : {level b : ℕ} {list : List Hiding} {call : Call} (whole : Outcome) → turn macros env list ≡ Called call → ArgumentsStop level call b (wanted call) → Stops level (suc b) list whole
-  stops_argument whole e s =
-      (0, record { tokens = []; fault = Some s.0; left = Some 0 }, argument_refused e s.2, (whole.tokens, refl), record { fault = s.0; is = refl; number = s.1; left = refl })
-
-  stops_used : {level b : ℕ} {call : Call} {list : List Hiding} {rest : List (Option (List Hiding))} (whole : Outcome) → level < 256 → Stops (suc level) b list whole → ArgumentsStop level call b (Some list ∷ rest)
-  stops_used {level = level} {b = b} {list = list} whole h s =
-      let o = s.4 in
-      (o.fault, o.number, used_refused h (subst (λ x. Expands macros env (suc level) (Some b) s.0 list x) (λ i. record { tokens = s.1.tokens; fault = o.is i; left = o.left i }) s.2))
-
   mutual
     pub short : {level turns : ℕ} {left : Option ℕ} {list : List Hiding} {out : Outcome} (b : ℕ) → Covers left b
         → (d : Expands macros env level left turns list out)
         → b < count macros env d
-        → Stops level b list out
+        → Stops macros env level b list out
     short b is (done e) h = absurd (omega arith)
     short b is (refused e) h = absurd (omega arith)
-    short {list = list} b is (passes {out = out} e more) h = stops_passed out (free_turn list is e tt) (short b is more h)
-    short {list = list} {out = out} zero is (failed {f = f} e) h = stops_here list out (Failed f) (paid list is (Failed f) e tt) tt
+    short {list = list} b is (passes {out = out} e more) h = stops_passed macros env out (free_turn list is e tt) (short b is more h)
+    short {list = list} {out = out} zero is (failed {f = f} e) h = stops_here macros env list out (Failed f) (paid list is (Failed f) e tt) tt
     short (suc b) is (failed {f = f} e) h = absurd (omega arith)
-    short {list = list} {out = out} zero is (replaced {next = next} e more) h = stops_here list out (Replaced next) (paid list is (Replaced next) e tt) tt
+    short {list = list} {out = out} zero is (replaced {next = next} e more) h = stops_here macros env list out (Replaced next) (paid list is (Replaced next) e tt) tt
     short {list = list} (suc b) is (replaced {next = next} e more) h =
         let s = short b (covers_less is) more (omega arith) in
         (suc s.0, s.1, replaced (paid list is (Replaced next) e tt) s.2, s.3, s.4)
-    short {list = list} {out = out} zero is (argument_refused {call = call} e a) h = stops_here list out (Called call) (paid list is (Called call) e tt) tt
-    short {list = list} {out = out} (suc b) is (argument_refused {call = call} e a) h = stops_argument out (paid list is (Called call) e tt) (short_arguments b (covers_less is) a (omega arith))
-    short {list = list} {out = out} zero is (call_failed {call = call} e a f) h = stops_here list out (Called call) (paid list is (Called call) e tt) tt
-    short {list = list} {out = out} (suc b) is (call_failed {call = call} e a f) h = stops_argument out (paid list is (Called call) e tt) (short_arguments b (covers_less is) a (omega arith))
-    short {list = list} {out = out} zero is (call_replaced {call = call} e a f more) h = stops_here list out (Called call) (paid list is (Called call) e tt) tt
+    short {list = list} {out = out} zero is (argument_refused {call = call} e a) h = stops_here macros env list out (Called call) (paid list is (Called call) e tt) tt
+    short {list = list} {out = out} (suc b) is (argument_refused {call = call} e a) h = stops_argument macros env out (paid list is (Called call) e tt) (short_arguments b (covers_less is) a (omega arith))
+    short {list = list} {out = out} zero is (call_failed {call = call} e a f) h = stops_here macros env list out (Called call) (paid list is (Called call) e tt) tt
+    short {list = list} {out = out} (suc b) is (call_failed {call = call} e a f) h = stops_argument macros env out (paid list is (Called call) e tt) (short_arguments b (covers_less is) a (omega arith))
+    short {list = list} {out = out} zero is (call_replaced {call = call} e a f more) h = stops_here macros env list out (Called call) (paid list is (Called call) e tt) tt
     short {level = level} {list = list} {out = out} (suc b) is (call_replaced {call = call} e a f more) h =
         elim (dec_lt b (count_arguments macros env a)) [
-          | yes less ↦ stops_argument out (paid list is (Called call) e tt) (short_arguments b (covers_less is) a less)
+          | yes less ↦ stops_argument macros env out (paid list is (Called call) e tt) (short_arguments b (covers_less is) a less)
           | no not_less ↦
               (let m = count_arguments macros env a in
               let n = b - m in
@@ -154,7 +120,7 @@ module _ (macros : Macros) (env : Env) where
     pub short_arguments : {level : ℕ} {call : Call} {left after : Option ℕ} {as' : List (Option (List Hiding))} {r : ExpandedArguments} (b : ℕ) → Covers left b
         → (a : ExpandsArguments macros env level call left as' after r)
         → b < count_arguments macros env a
-        → ArgumentsStop level call b as'
+        → ArgumentsStop macros env level call b as'
     short_arguments b is none h = absurd (omega arith)
     short_arguments b is (unused more) h =
         let s = short_arguments b is more h in
@@ -162,7 +128,7 @@ module _ (macros : Macros) (env : Env) where
     short_arguments b is (too_deep deep) h = absurd (omega arith)
     short_arguments {level = level} {call = call} {as' = as'} b is (used {between = between} {tokens = tokens} low one more) h =
         elim (dec_lt b (count macros env one)) [
-          | yes less ↦ stops_used (record { tokens = tokens; fault = None; left = between }) low (short b is one less)
+          | yes less ↦ stops_used macros env (record { tokens = tokens; fault = None; left = between }) low (short b is one less)
           | no not_less ↦
               (let m = count macros env one in
               let n = b - m in
@@ -170,7 +136,7 @@ module _ (macros : Macros) (env : Env) where
               let s = short_arguments n (left_rest b n is one (sym sum)) more (omega arith) in
               (s.0, s.1, used {out = Err s.0} low (enough b is one n (sym sum)) s.2))
         ]
-    short_arguments b is (used_refused {after = after} {tokens = tokens} {f = f} low one) h = stops_used (record { tokens = tokens; fault = Some f; left = after }) low (short b is one h)
+    short_arguments b is (used_refused {after = after} {tokens = tokens} {f = f} low one) h = stops_used macros env (record { tokens = tokens; fault = Some f; left = after }) low (short b is one h)
 
   -- a budget that suffices gives the same, and leaves the rest
   pub expansion_enough : {left : Option ℕ} {tokens : List Token} {e : Expanded} (b : ℕ) → Covers left b

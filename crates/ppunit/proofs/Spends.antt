@@ -12,7 +12,7 @@ use Rattle.ppmacro.specs.Names.{Macros}
 use Rattle.ppexpand.specs.Turn.{less_one}
 use Rattle.ppexpand.specs.Expansion.{count_expansion}
 use Rattle.ppexpand.specs.Laws.{plus}
-use Rattle.ppexpand.proofs.Budget.{expansion_spends}
+use Rattle.ppexpand.proofs.Budget.{plus-plus, plus-nothing, expansion_spends}
 use Rattle.ppexpr.proofs.Capped.{condition_spends}
 use Rattle.ppshelf.specs.Files.{Files}
 use Rattle.ppunit.specs.declared.units.Unit.{Unit as UnitOfList}
@@ -32,21 +32,13 @@ use Rattle.ppunit.specs.Capped.{AtMost}
 
 -- ---- sums
 
-plus_nothing : (left : Option ℕ) → left ≡ plus 0 left
-plus_nothing None = refl
-plus_nothing (Some n) = ap Some (omega arith)
-
-plus_plus : (m n : ℕ) (left : Option ℕ) → plus m (plus n left) ≡ plus (m + n) left
-plus_plus m n None = refl
-plus_plus m n (Some k) = ap Some (omega arith)
-
 -- what was spent, and then more
 both : {a b : Option ℕ} (c : Option ℕ) (m n : ℕ) → a ≡ plus m b → b ≡ plus n c → a ≡ plus (m + n) c
-both c m n p q = p ∙ ap (plus m) q ∙ plus_plus m n c
+both c m n p q = p ∙ ap (plus m) q ∙ plus-plus m n c
 
 -- nothing was spent
 same_left : (left after : Option ℕ) → after ≡ left → left ≡ plus 0 after
-same_left left after e = sym e ∙ plus_nothing after
+same_left left after e = sym e ∙ plus-nothing after
 
 -- where there is no budget, none is left
 pub still_none : {left after : Option ℕ} (n : ℕ) → left ≡ None → left ≡ plus n after → after ≡ None
@@ -59,7 +51,7 @@ pays (Some zero) e = absurd (cc)
 pays (Some (suc n)) e = ap Some (omega arith)
 
 pays_then : (left after : Option ℕ) (n : ℕ) → is_spent left ≡ false → less_one left ≡ plus n after → left ≡ plus (suc n) after
-pays_then left after n e more = pays left e ∙ ap (plus 1) more ∙ plus_plus 1 n after ∙ ap (λ k. plus k after) (omega arith)
+pays_then left after n e more = pays left e ∙ ap (plus 1) more ∙ plus-plus 1 n after ∙ ap (λ k. plus k after) (omega arith)
 
 -- ---- lines
 
@@ -127,8 +119,8 @@ run_spends s tokens m g = expansion_spends s.macros s.env g.expands ∙ ap (plus
 module _ (around : Surroundings) where
   mutual
     pub group_spends : {depth row : ℕ} {r : Reached} {ps : Parts} {end : Reached} (d : Group around depth row r ps end) → r.state.left ≡ plus (count_group d) end.state.left
-    group_spends (Group.stays {s = s}) = plus_nothing s.left
-    group_spends (Group.done {s = s}) = plus_nothing s.left
+    group_spends (Group.stays {s = s}) = plus-nothing s.left
+    group_spends (Group.done {s = s}) = plus-nothing s.left
     group_spends (Group.run {s = s} {lines = lines} {m = m} gives rest) = both _ _ _ (run_spends s (run_tokens lines) m gives) (group_spends rest)
     group_spends (Group.control here rest) = both _ _ _ (control_spends here) (group_spends rest)
     group_spends (Group.taken {s = s} {line = line} {after = after} decides here rest) =
@@ -138,15 +130,15 @@ module _ (around : Surroundings) where
     group_spends (Group.refused {s = s} {line = line} {after = after} {f = f} decides) = decides_spends s line after (Err f) decides
 
     pub branches_spend : {depth row : ℕ} {s : State} {bs : Branches} {m : Reached} (d : Branched around depth row s bs m) → s.left ≡ plus (count_branched d) m.state.left
-    branches_spend (Branched.ended {s = s}) = plus_nothing s.left
+    branches_spend (Branched.ended {s = s}) = plus-nothing s.left
     branches_spend (Branched.otherwise e here) = group_spends here
     branches_spend (Branched.branch_taken {s = s} {line = line} {after = after} e decides here) = both _ _ _ (decides_spends s line after (Ok true) decides) (group_spends here)
     branches_spend (Branched.branch_skipped {s = s} {line = line} {after = after} e decides rest) = both _ _ _ (decides_spends s line after (Ok false) decides) (branches_spend rest)
     branches_spend (Branched.branch_refused {s = s} {line = line} {after = after} {f = f} e decides) = decides_spends s line after (Err f) decides
 
     pub control_spends : {depth row : ℕ} {s : State} {line : LogicalLine} {m : Reached} (d : Controls around depth row s line m) → s.left ≡ plus (count_control d) m.state.left
-    control_spends (Controls.error {s = s} e) = plus_nothing s.left
-    control_spends (Controls.quote {s = s} e q) = plus_nothing s.left
+    control_spends (Controls.error {s = s} e) = plus-nothing s.left
+    control_spends (Controls.quote {s = s} e q) = plus-nothing s.left
     control_spends {row = row} (Controls.other {s = s} {line = line} {m = m} q does) = control_by_spends around.profile row line.directive s line m does
     control_spends (Controls.include e q here) = includes_spend here
 
@@ -157,15 +149,15 @@ module _ (around : Surroundings) where
         both _ _ _ (asks_spends s line.tokens after (Ok a) asks) (opened_spends opens)
 
     pub opened_spends : {depth row : ℕ} {at : Place} {s : State} {m : Reached} (d : Opened around depth at s row m) → s.left ≡ plus (count_opened d) m.state.left
-    opened_spends (Opened.too_deep {s = s} deep) = plus_nothing s.left
-    opened_spends (Opened.over {s = s} fits spent) = plus_nothing s.left
+    opened_spends (Opened.too_deep {s = s} deep) = plus-nothing s.left
+    opened_spends (Opened.over {s = s} fits spent) = plus-nothing s.left
     opened_spends (Opened.known {s = s} fits more once) = pays s.left more
     opened_spends (Opened.not_readable {s = s} fits more once file) = pays s.left more
     opened_spends (Opened.faulty {s = s} fits more once file reads) = pays s.left more
     opened_spends (Opened.read {s = s} {m = m} fits more once file reads tree here) = pays_then s.left m.state.left _ more (group_spends here)
 
   pub defines_spends : {defines : List (List ℕ)} {s : State} {m : Reached} (d : Defines around defines s m) → s.left ≡ plus (count_defines d) m.state.left
-  defines_spends (unread {s = s} reads) = plus_nothing s.left
+  defines_spends (unread {s = s} reads) = plus-nothing s.left
   defines_spends (processed reads tree here) = group_spends here
 
   pub unit_spends : {defines : List (List ℕ)} {row : ℕ} {s : State} {m : Reached} (d : Translates around defines row s m) → s.left ≡ plus (count_translates d) m.state.left

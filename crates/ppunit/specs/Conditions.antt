@@ -14,8 +14,9 @@ use Rattle.ppunit.specs.States.{State}
 use Rattle.ppunit.specs.Lines.{operands, named_fault, one_identifier}
 use Rattle.ppunit.specs.Quotes.{lone_quote}
 
-abbrev pub is_defined : Macros → List ℕ → Bool
-is_defined macros name = is_some (table.get macros name)
+-- whether a name is a macro's
+abbrev pub is_macro_name : Macros → List ℕ → Bool
+is_macro_name macros name = is_some (table.get macros name)
 
 abbrev pub same_as : Bool → Bool → Bool
 same_as true b = b
@@ -24,7 +25,7 @@ same_as false b = not b
 -- `#ifdef` and `#elifdef` take the group of a defined name, `#ifndef` and `#elifndef` that of another; fault 9 where no name stands alone
 abbrev pub by_name : Bool → Macros → List Token → Option (List ℕ) → Result Bool Fault
 by_name wanted macros line None = Err (named_fault 9 line)
-by_name wanted macros line (Some name) = Ok (same_as wanted (is_defined macros name))
+by_name wanted macros line (Some name) = Ok (same_as wanted (is_macro_name macros name))
 
 -- the answer costs nothing
 abbrev pub DecidesFreely : State → Result Bool Fault → Option ℕ → Result Bool Fault → Type 0

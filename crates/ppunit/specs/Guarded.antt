@@ -8,7 +8,7 @@ use Rattle.ppshelf.specs.Names.{AreNames}
 use Rattle.ppshelf.specs.Content.{readable}
 use Rattle.ppshelf.specs.Files.{file_at}
 use Rattle.ppunit.specs.States.{State, Surroundings, Reached, going, depending, is_spent, paying}
-use Rattle.ppunit.specs.Conditions.{is_defined}
+use Rattle.ppunit.specs.Conditions.{is_macro_name}
 use Rattle.ppunit.specs.Group.{deepest, Opened}
 use Rattle.ppunit.specs.Counts.{count_opened}
 
@@ -20,7 +20,7 @@ GuardsLeaveOut =
     → file_at around.files row ≡ Some (readable bytes)
     → Reads around.profile row bytes (Ok lines)
     → GuardedBy lines x
-    → is_defined s.macros x ≡ true
+    → is_macro_name s.macros x ≡ true
     → is_spent s.left ≡ false
     → (d : Opened around depth at s row (going (depending (paying s) row))) × (count_opened d ≡ 1)
 
@@ -33,11 +33,11 @@ GuardsOnlyLeaveOut =
     → file_at around.files row ≡ Some (readable bytes)
     → Reads around.profile row bytes (Ok lines)
     → GuardedBy lines x
-    → is_defined s.macros x ≡ true
+    → is_macro_name s.macros x ≡ true
     → is_spent s.left ≡ false
     → Opened around depth at s row end
     → end ≡ going (depending (paying s) row)
 
 -- the lines are one section under a guard that is a macro's name
 abbrev pub IsLeftOut : State → List LogicalLine → Type 0
-IsLeftOut s lines = (x : List ℕ) × GuardedBy lines x × (is_defined s.macros x ≡ true)
+IsLeftOut s lines = (x : List ℕ) × GuardedBy lines x × (is_macro_name s.macros x ≡ true)

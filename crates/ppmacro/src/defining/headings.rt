@@ -4,7 +4,7 @@ ghost use Rattle.std.specs.List.{list_any};
 ghost use Rattle.std.specs.Option.{option_map};
 ghost use Rattle.std.specs.Str.{bytes_eq};
 ghost use Rattle.ppmacro.specs.Define.{closed, parameters_from, parameter_list, repeats};
-ghost use Rattle.ppmacro.specs.Headings.{with_names};
+ghost use Rattle.ppmacro.specs.Items.{with_names};
 
 use crate::borrowed::Body;
 use crate::macros::Names;

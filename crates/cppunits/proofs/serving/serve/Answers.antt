@@ -1,7 +1,8 @@
 use Rattle.std.proofs.Common.{◌∙◌, refl, ap, sym, length}
 use Rattle.cppunits.specs.Contents.{files_of}
 use Rattle.cppunits.specs.Needed.{needed}
-use Rattle.cppunits.proofs.Giving.{broken_off, can_run, few_units, gives_all, if_ok_then, one_each, served}
+use Rattle.pppool.proofs.Placing.{if_ok_then}
+use Rattle.cppunits.proofs.Giving.{broken_off, can_run, few_units, gives_all, one_each, served}
 use Rattle.cppunits.proofs.serving.serve.Goals as goal
 
 pub over_contents-requires-clause-count : goal.over_contents-requires-clause-count

@@ -1,6 +1,7 @@
 use Rattle.std.proofs.Common.{◌∙◌, refl, ap, sym, length}
 use Rattle.cppunits.specs.Needed.{needed}
-use Rattle.cppunits.proofs.Giving.{broken_off, can_run, few_units, gives_from, if_ok_then, one_each, served}
+use Rattle.pppool.proofs.Placing.{if_ok_then}
+use Rattle.cppunits.proofs.Giving.{broken_off, can_run, few_units, gives_from, one_each, served}
 use Rattle.cppunits.proofs.serving.serve_from.Goals as goal
 
 pub over_disk-requires-clause-count : goal.over_disk-requires-clause-count

@@ -1,6 +1,7 @@
 use Rattle.std.proofs.Common.{◌∙◌, sym, length, ◌≤◌, arith}
 use Rattle.std.proofs.lemmas.List.{at_drop_all}
-use Rattle.ppmacro.specs.Chains.{resumed, items_behind}
+use Rattle.ppmacro.specs.Chains.{items_behind}
+use Rattle.ppmacro.specs.Items.{resumed}
 use Rattle.ppmacro.proofs.ChainLemmas.{resumed-end}
 use Rattle.ppmacro.proofs.chains.chains_in.Goals as goal
 

@@ -1,5 +1,6 @@
 use Rattle.std.proofs.Common.{◌≡◌, drop, None}
-use Rattle.ppmacro.specs.Chains.{items_behind, resumed, grouped}
+use Rattle.ppmacro.specs.Chains.{items_behind, grouped}
+use Rattle.ppmacro.specs.Items.{resumed}
 use Rattle.ppmacro.proofs.chains.chains_in.Given as goal
 
 abbrev pub invariant-loop-token : goal.invariant-loop-token

@@ -1,6 +1,7 @@
 use Rattle.std.proofs.Common.{◌≡◌, ◌∙◌, suc, sym, ap, false, true, List, [], ◌∷◌, ◌++◌, length, arith, set}
 use Rattle.std.proofs.lemmas.Result.{on_ok_weaker}
-use Rattle.ppmacro.specs.Chains.{Item, Operates, resumed}
+use Rattle.ppmacro.specs.Chains.{Item, Operates}
+use Rattle.ppmacro.specs.Items.{resumed}
 use Rattle.ppmacro.proofs.ChainLemmas.{resumed-begin, resumed-joined}
 use Rattle.ppmacro.proofs.chains.put.Goals as goal
 

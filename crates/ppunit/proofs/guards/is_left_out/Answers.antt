@@ -1,11 +1,11 @@
 use Rattle.std.proofs.Common.{rules, ◌≡◌}
-use Rattle.ppunit.specs.Conditions.{is_defined}
+use Rattle.ppunit.specs.Conditions.{is_macro_name}
 use Rattle.ppunit.proofs.Guarding.{left_out_by, none_left_out}
 use Rattle.ppunit.proofs.guards.is_left_out.Goals as goal
 
 pub returns-in-Some : goal.returns-in-Some
 returns-in-Some c =
-    let answer : c.is_some.result ≡ is_defined c.args.state.now.macros c.in-Some.name.now = search rules in
+    let answer : c.is_some.result ≡ is_macro_name c.args.state.now.macros c.in-Some.name.now = search rules in
     left_out_by c.args.state.now c.args.source.now c.in-Some.name.now c.is_some.result c.in-Some.ensures.some answer
 
 pub returns-in-None : goal.returns-in-None

@@ -1,7 +1,7 @@
 use Rattle.std.proofs.Common.{◌≡◌, drop, false}
 use Rattle.std.specs.Option.{option_map}
 use Rattle.ppmacro.specs.Define.{parameters_from}
-use Rattle.ppmacro.specs.Headings.{with_names}
+use Rattle.ppmacro.specs.Items.{with_names}
 use Rattle.ppmacro.proofs.defining.headings.parameters.Given as goal
 
 abbrev pub invariant-loop-i : goal.invariant-loop-i
