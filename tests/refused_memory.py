@@ -19,7 +19,7 @@ import os
 import sys
 import tempfile
 
-from refusals import HERE, refusing_malloc, run, runs, tally
+from refusals import HERE, KINDS, refused, refusing_malloc, run, runs, tally
 
 PROGRAM = os.path.join(HERE, "..", "crates", "cppunits", "out", "cppunits")
 EXAMPLES = os.path.join(HERE, "..", "examples")
@@ -109,15 +109,14 @@ def problems(command, data, malloc, wanted=None):
     answer = outcome(run(command, malloc, 0, data)[0])
     if wanted not in (None, answer[0].decode()):
         yield "the answer is %r" % answer[0][:500]
-    for on in False, True:
+    for on, how in KINDS.items():
         requests = 0
         for call, done, met in runs(command, malloc, data, on):
             found = outcome(done)
             if found not in (OUT_OF_MEMORY, answer):
-                which = "all from request %d on" % call if on else "request %d" % call
-                yield "%s refused: status %d, output %r, words %r" % (which, found[2], found[0][:200], found[1][:200])
+                yield "%s: status %d, output %r, words %r" % (refused(call, on), found[2], found[0][:200], found[1][:200])
             requests += met
-        print("  %d requests, %s" % (requests, "each with all behind it" if on else "each alone"))
+        print("  %d requests, %s" % (requests, how))
 
 
 def cases(program, malloc):
