@@ -53,6 +53,7 @@ SEARCHED = {"src/a.c": '#include "x.h"\n#include <x.h>\n#include "../inc/x.h"\n#
 
 # files, units and folders, and what is printed of them
 ROWS = {
+    "one token": ({"a.c": "x\n"}, [{"file": "a.c"}], [], "unit 0 a.c\ntok 0:1:1 0:1:1 i+ x\ndep 0 a.c\nok\n"),
     "an invocation that reaches behind what it is replaced by": (
         INVOCATION, [{"file": "a.c"}], [],
         "unit 0 a.c\ntok 0:3:3 0:3:1 n+ 2\ntok 0:1:15 0:3:1 p- *\ntok 0:3:6 0:3:1 n- 9\ntok 0:1:15 0:3:1 p- *\ntok 0:1:16 0:3:1 i- g\n"
