@@ -4,8 +4,9 @@
 #
 #     tests/hostile.sh [PROGRAM]     PROGRAM is by default crates/cppunits/out/cppunits
 #
-# Each part says what it did; its whole output is shown where it fell short.  It takes some minutes, up to 2 GB of memory and
-# 300 MB of a folder for temporary files, and leaves nothing behind.  It needs Python 3 and gcc.
+# Each part says what it did; its whole output is shown where it fell short.  Refused memory in the tests of a crate is a part
+# where `rt test` or `rt ci` left them, and else a line that says so.  It takes some minutes, more with these parts, up to 2 GB of
+# memory and 300 MB of a folder for temporary files, and leaves nothing behind.  It needs Python 3 and gcc.
 #
 # status:
 #   0  nothing fell short
@@ -54,6 +55,14 @@ part() {
 }
 
 part "refused memory" python3 tests/refused_memory.py "$program"
+for folder in crates/*/; do
+    crate=$(basename "$folder")
+    if [ -x "crates/$crate/out/${crate}_tests" ]; then
+        part "refused memory in the tests of $crate" python3 tests/refused_in_tests.py "$crate"
+    else
+        echo "missed: refused memory in the tests of $crate: crates/$crate/out/${crate}_tests is missing (\`rt test\` in crates/$crate)"
+    fi
+done
 part "texts and lists cut to every length" python3 tests/truncated.py "$program"
 part "limits" python3 tests/hostile_limits.py "$program"
 part "streams and files that fail" python3 tests/hostile_devices.py "$program"
