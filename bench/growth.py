@@ -7,19 +7,21 @@ PROGRAM is by default crates/cppunits/out/cppunits, which `rt ci` and `rt run` l
 at three sizes, each twice the one before, and run by `cppunits --workers 1 dump` and, where there is one text,
 `gcc -E -std=c11 -pedantic-errors -x c`, both with their output thrown away.  Printed are the processor seconds and the most
 memory, each with the factor to the size before, for both programs: for cppunits the least of N runs (2 by default), for gcc
-those of one run.  A shape is measured again, up to 9 rounds of all its sizes, as long as it seems to grow too fast: of each
-size the least time and the least memory of all rounds count, and the factors are those of these leasts, since a machine that
-others share makes a run slower, and none quicker.  A run is stopped that takes 30 seconds of the processor or
-8 GB; gcc's are `-` where it doesn't end by itself.
+those of one run.  A shape is measured again, up to 9 rounds of all its sizes, as long as it falls short: of each size the
+least time and the least memory of all rounds count, and the factors are those of these leasts, since a machine that others
+share makes a run slower, and none quicker.  A run is stopped that takes 30 seconds of the processor or 8 GB; gcc's are `-`
+where it doesn't end by itself.
 
 A shape falls short where time or memory grows more than 2.3 times a doubling, where memory passes 80 bytes a token (a line,
-where there are no tokens) of the shapes that count them, and where the status isn't the one that is due.  --shapes runs
-those whose name begins so; --quick takes smaller sizes, mostly a quarter.
+where there are no tokens) of the shapes that count them, where a chain of 60,000 object-like macros takes more than a second
+or 200 MB, and where the status isn't the one that is due.  --shapes runs those whose name begins so; --quick takes smaller
+sizes, mostly a quarter.
 
 Less than 0.05 seconds and 32 MB count as these; a factor to a run below that floor is marked by `*`, since it isn't measured,
 or not all of it.  Below it lie, at each size, the time of the parameters and of the operands of `##`, and the memory of
-these, of the object-like chain, of the chain in an argument and of what goes through macros; by --quick also the time of the
-chain in an argument and of the floods, and the memory of all but the function-like chain, `#undef` and most of the bytes.
+these, of the object-like chain, of the budget, of the chain in an argument and of what goes through macros; by --quick also
+the time of the chain in an argument and of the floods, and the memory of all but the function-like chain, `#undef` and most
+of the bytes.
 
 status:
   0  no shape fell short
@@ -42,7 +44,7 @@ MOST_GROWTH = 2.3
 LEAST_SECONDS, LEAST_MEMORY = 0.05, 32 * MEGABYTE
 BYTES_A_THING = 80
 MOST_SECONDS, MOST_MEMORY = 30, 8_000 * MEGABYTE
-# so long a run needs no second; a shape that seems to grow too fast is measured in at most so many rounds
+# so long a run needs no second; a shape that falls short is measured in so many rounds
 LONG_SECONDS, MOST_ROUNDS = 4, 9
 GCC = ["gcc", "-E", "-std=c11", "-pedantic-errors", "-x", "c", "-"]
 HEADING = ("shape", "size", "seconds", "factor", "MB", "factor", "gcc: seconds", "factor", "MB", "factor")
@@ -119,15 +121,11 @@ def one_round(command, paths, runs):
     return costs
 
 
-def seems_fast(costs):
-    return max((factor.times for pair in factors(costs) for factor in pair), default=0) > MOST_GROWTH
-
-
-def measured(command, paths, runs):
-    """The least costs of the sizes over rounds, up to a size that is stopped; the rounds end where the factors hold."""
+def measured(command, paths, runs, falls_short):
+    """The least costs of the sizes over rounds, up to a size that is stopped; the rounds end where nothing falls short."""
     costs = one_round(command, paths, runs)
     for _ in range(MOST_ROUNDS - 1):
-        if costs[-1].status < 0 or not seems_fast(costs):
+        if costs[-1].status < 0 or not falls_short(costs):
             break
         costs = [cost.least(other) for cost, other in zip(costs, one_round(command, paths, runs))]
     return costs
@@ -154,6 +152,10 @@ def shortfalls(shape, sizes, costs):
         each = costs[-1].memory / shape.things(sizes[-1])
         if each > BYTES_A_THING:
             yield "%.0f bytes of memory a token or line at %d" % (each, sizes[-1])
+    if shape.goal and sizes[-1] == shape.sizes[-1] and len(costs) == len(sizes):
+        seconds, megabytes = shape.goal
+        if costs[-1].seconds > seconds or costs[-1].memory > megabytes * MEGABYTE:
+            yield "%d takes more than %d seconds or %d MB" % (sizes[-1], seconds, megabytes)
 
 
 def compared(program, shape, sizes, runs):
@@ -161,7 +163,8 @@ def compared(program, shape, sizes, runs):
     with tempfile.TemporaryDirectory() as folder:
         apart(write_texts, shape, sizes, folder)
         paths = [os.path.join(folder, "%d" % size) for size in sizes]
-        own = measured([program, "--workers", "1", "dump"], [path + ".json" for path in paths], runs)
+        lists = [path + ".json" for path in paths]
+        own = measured([program, "--workers", "1", "dump"], lists, runs, lambda costs: list(shortfalls(shape, sizes, costs)))
         other = [NOTHING] * len(sizes)
         if shape.text:
             found = [run(GCC, path + ".c") for path in paths]
