@@ -3,9 +3,9 @@
 
     tests/hostile_floods.py [PROGRAM] [-k NAME]
 
-Names of macros, of macros in hide sets and of files that collide under the kit's default hash cost at most ten times what as many
-ordinary names of the same length cost; less than a tenth of a second counts as that.  Where the system gives no random bytes,
-a run ends as where its input can't be read, with nothing printed.
+Names of macros, of macros in hide sets and of files that collide under the hash of names by its fixed key, or under the kit's
+default hash, cost at most ten times what as many ordinary names of the same length cost; less than a tenth of a second counts
+as that.  Where the system gives no random bytes, a run ends as where its input can't be read, with nothing printed.
 """
 import json
 import os
@@ -18,7 +18,7 @@ import unittest
 from counted import HERE, LIST, TOP, main, missed, program
 
 sys.path.insert(0, os.path.join(TOP, "bench"))
-from colliding import long_names, macro_names  # noqa: E402
+from colliding import kit_long_names, kit_macro_names, long_names, macro_names  # noqa: E402
 from shapes import defined, listed_files  # noqa: E402
 
 COUNT = 16_000
@@ -47,18 +47,20 @@ def seconds(asked):
 
 
 class Floods(unittest.TestCase):
-    def costs_no_more(self, list_of, made):
-        plain = max(seconds(list_of(ordinary(len(made[0])))), LEAST_SECONDS)
-        self.assertLess(seconds(list_of(made)), MOST_TIMES * plain)
+    def cost_no_more(self, list_of, *makers):
+        for maker in makers:
+            made = maker(COUNT)
+            plain = max(seconds(list_of(ordinary(len(made[0])))), LEAST_SECONDS)
+            self.assertLess(seconds(list_of(made)), MOST_TIMES * plain, maker.__name__)
 
     def test_macros(self):
-        self.costs_no_more(text_list, macro_names(COUNT))
+        self.cost_no_more(text_list, macro_names, kit_macro_names)
 
     def test_names_in_hide_sets(self):
-        self.costs_no_more(text_list, long_names(COUNT))
+        self.cost_no_more(text_list, long_names, kit_long_names)
 
     def test_files(self):
-        self.costs_no_more(listed_files, long_names(COUNT))
+        self.cost_no_more(listed_files, long_names, kit_long_names)
 
 
 class NoKey(unittest.TestCase):
