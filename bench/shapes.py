@@ -89,8 +89,13 @@ def names(count):
     return ["p%d" % i for i in range(count)]
 
 
+def invoked(made, body=""):
+    """A macro with these parameters, invoked with empty arguments."""
+    return lines("#define f(%s) %s" % (", ".join(made), body), "f(%s)" % ("," * (len(made) - 1)))
+
+
 def parameters(count, body=""):
-    return lines("#define f(%s) %s" % (", ".join(names(count)), body), "f(%s)" % ("," * (count - 1)))
+    return invoked(names(count), body)
 
 
 def parameters_used(count):
