@@ -2,7 +2,9 @@
 # What a service meets that preprocesses text from strangers, as far as the gate can't try it: refused memory, cut texts and
 # lists, limits, streams and files that fail, small stacks, and cost that is to grow as the work does.
 #
-#     tests/hostile.sh [PROGRAM]     PROGRAM is by default crates/cppunits/out/cppunits
+#     tests/hostile.sh [--full] [PROGRAM]     PROGRAM is by default crates/cppunits/out/cppunits
+#
+# --full measures the growth of cost at the sizes of bench/shapes.py, where else it is mostly at a quarter of them.
 #
 # Each part says what it did; its whole output is shown where it fell short.  Refused memory in the tests of a crate is a part
 # where `rt test` or `rt ci` left them, and else a line that says so.  It takes some minutes, more with these parts, up to 2 GB of
@@ -12,6 +14,11 @@
 #   0  nothing fell short
 #   1  something did, and is named at the end
 #   2  the program isn't there
+sizes=--quick
+if [ "${1:-}" = --full ]; then
+    sizes=
+    shift
+fi
 case ${1:-/} in
     -h | --help)
         sed -n '2,/^case/s/^# \{0,1\}//p' "$0"
@@ -68,7 +75,7 @@ part "limits" python3 tests/hostile_limits.py "$program"
 part "streams and files that fail" python3 tests/hostile_devices.py "$program"
 part "small stacks" python3 tests/hostile_stack.py "$program"
 part "names chosen to collide" python3 tests/hostile_floods.py "$program"
-part "growth of cost" python3 bench/growth.py --quick "$program"
+part "growth of cost" python3 bench/growth.py ${sizes:+"$sizes"} "$program"
 sed 's/^/fell short: /' "$kept/short"
 printf '%d passed, %d failed\n' "$passed" "$failed"
 [ "$failed" -eq 0 ]
