@@ -1,6 +1,7 @@
 #!/bin/sh
-# What a service meets that preprocesses text from strangers, as far as the gate can't try it: refused memory, cut texts and
-# lists, limits, streams and files that fail, small stacks, and cost that is to grow as the work does.
+# What a service meets that preprocesses text from strangers: refused memory, cut texts and lists, limits, streams and files
+# that fail, small stacks, names chosen to collide, and cost that is to grow as the work does.  Of these the gate, tests/all.sh,
+# has the program's refused memory, cut texts and lists, limits that take no seconds, and streams and files that fail.
 #
 #     tests/hostile.sh [--full] [PROGRAM]     PROGRAM is by default crates/cppunits/out/cppunits
 #
