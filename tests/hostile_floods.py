@@ -22,7 +22,7 @@ sys.path.insert(0, os.path.join(TOP, "bench"))
 from colliding import kit_long_names, kit_macro_names, long_names, macro_names  # noqa: E402
 from shapes import defined, invoked, list_of_text, listed_files  # noqa: E402
 
-COUNT = 16_000
+COUNT = 32_000
 MOST_TIMES, LEAST_SECONDS, MOST_SECONDS = 10, 0.1, 60
 NO_KEY = "int getentropy(void *bytes, unsigned long count) { (void)bytes; (void)count; return -1; }\n"
 READ_FAILED = (5, b"", b"cppunits: read failed\n")
