@@ -1,7 +1,8 @@
 """Texts whose work grows with a size, for growth.py.
 
-A shape makes a text of a size: so many macros, arguments, operands or bytes, or the list of one with so large a budget.
-Doubling the size doubles the work that the text asks for.  `things` counts what memory is measured by: tokens, and lines where a text has no tokens.
+A shape makes a text of a size: so many macros, arguments, operands or bytes, or a list with so large a budget.  Doubling the
+size doubles the work that is asked for.  `things` counts what memory is measured by: tokens, and lines where a text has no
+tokens.
 """
 import json
 from dataclasses import dataclass

@@ -110,7 +110,7 @@ def outcome(done):
 
 
 def spared(command, malloc):
-    """How many requests of a run without a list, each refused alone, leave its answer: of the program's words, where less room does."""
+    """How many requests of a run without a list, each refused alone, leave its answer: for the program's words less room does."""
     answer = outcome(run(command, malloc, 0, b"")[0])
     return sum(met and outcome(done) == answer for _, done, met in runs(command, malloc, b""))
 
