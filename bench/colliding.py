@@ -1,7 +1,9 @@
-"""Names that collide under the fixed seed of the kit's default hash, for shapes.py.
+"""Names that collide under hashes whose keys everybody knows, for shapes.py and hostile_floods.py.
 
-The hash is the one of core/src/hash/fold.rt in the kit: bytes go into a state of 64 bits, whose beginning is fixed.  A number
-is folded when it is multiplied by another and the halves of the product are joined by xor.
+`own` is the hash of crates/pptext/src/hashing.rt, by which names are hashed, with the key of `Hashing::fixed()`; `kit` is the
+kit's default one, core/src/hash/fold.rt there, which they were hashed by before.  A write takes a state of 64 bits and bytes
+to the next state; the first state is fixed, the last is the hash.  A number is folded when it is multiplied by another and the
+halves of the product are joined by xor.
 """
 import itertools
 import string
@@ -20,44 +22,97 @@ def number(data):
     return int.from_bytes(data, "little")
 
 
+def short(data):
+    """Up to 8 bytes as one number, by reads that may overlap."""
+    if len(data) >= 4:
+        return number(data[:4]) | number(data[-4:]) << 32
+    return data[0] | data[len(data) // 2] << 8 | data[-1] << 16 if data else 0
+
+
+def own(state, data):
+    factor = MULTIPLIER ^ len(data)
+    if len(data) < 8:
+        return folded(state ^ short(data), factor)
+    for at in range(0, len(data) - 8, 8):
+        state = folded(state ^ number(data[at:at + 8]), factor)
+    return folded(state ^ number(data[-8:]), factor)
+
+
 def block(state, data):
-    """The state after a block of 16 bytes, of which a text of 32 bytes has two."""
+    """The state of the kit's hash behind a block of 16 bytes of a longer text."""
     return folded(number(data[:8]) ^ state, number(data[8:]) ^ MULTIPLIER)
 
 
-def whole(name):
-    """The hash of a text of 32 bytes that is written whole, as the names of the macro table are."""
-    return block(block(SEED + 32, name[:16]), name[16:])
+def kit(state, data):
+    if len(data) <= 8:
+        return folded(state ^ short(data), MULTIPLIER ^ 2 * len(data))
+    state = state + len(data) & WORD
+    for at in range(0, len(data) - 16, 16):
+        state = block(state, data[at:at + 16])
+    return block(state, data[-16:])
 
 
-def each(name):
-    """The hash of a text that is written as its length and byte after byte, as a list of bytes is."""
-    state = folded(SEED ^ len(name), MULTIPLIER ^ 16)
+def whole(write, name):
+    """The hash of a text that is written whole, as the names of the macro table and of parameters are."""
+    return write(SEED, name)
+
+
+def each(write, name):
+    """The hash of a text that is written as its length and byte after byte, as the names of files and in hide sets are."""
+    state = write(SEED, len(name).to_bytes(8, "little"))
     for byte in name:
-        state = folded(state ^ byte * 0x10101, MULTIPLIER ^ 2)
+        state = write(state, bytes([byte]))
     return state
 
 
-def words(count, length):
-    """So many different words of this length."""
-    return ("".join(letters) for letters in itertools.islice(itertools.product(LETTERS, repeat=length), count))
-
-
-def macro_names(count):
-    """Identifiers of 32 bytes whose hash is 0: the first block's state stands as the next eight bytes, which takes it away, and
-    0 stays whatever the last eight bytes are."""
-    for start in ("a%015d" % i for i in itertools.count()):
-        state = block(SEED + 32, start.encode()).to_bytes(8, "little")
-        if all(byte in LETTERS.encode() for byte in state):
-            break
-    made = [start + state.decode() + word for word in words(count, 8)]
-    assert {whole(name.encode()) for name in (made[0], made[-1])} == {0}
+def colliding(made, hashed, write):
+    """These names; the first, the last and those between whose numbers are powers of 2 are seen to have one hash."""
+    seen = made[:1] + [made[2**i] for i in range((len(made) - 1).bit_length())] + made[-1:]
+    assert len({hashed(write, name.encode()) for name in seen}) == 1
     return made
 
 
+# ---- under the program's own hash
+
+# Eight bytes, behind which the state is itself eight letters, digits and `_`: these stand next, and take the state away, so that it
+# is 0. FIRST is so from the beginning of a text of 80 bytes, the others from 0; each takes a search of some 75,000 tries.
+FIRST = "aaaaabkD"
+OTHERS = (
+    "aaaaasv0", "aaaaaRCW", "aaaaa4YL", "aaaabgpv", "aaaabpLQ", "aaaaby_U", "aaaabLIB", "aaaacioq",
+    "aaaacKwh", "aaaaepA6", "aaaaeqWO", "aaaaezw2", "aaaaeEGJ", "aaaaeOLE", "aaaae03Y", "aaaae4Qh",
+)
 # each pair takes the state that the pairs before it leave, over a text of 208 bytes, to one state: found by a search of some
 # seconds a pair for two words that leave states which differ as two last bytes do
 PAIRS = (
+    ("xFckeFfrqsoda", "gucwDauAuowc2"), ("igAFnratgilda", "gwzzoDtFAixd3"), ("adFmqpmygwBdv", "fxonfipavglb9"),
+    ("juizdieCopjaa", "nmqmprAbgzocx"), ("knnlnygvgAAca", "DjdwybCshFbdg"), ("DAfwkgDFzybda", "hpAsnpwasdhaW"),
+    ("krBrxmDCoiBaB", "lwriaiiAqEld9"), ("zmEqFhlzhCAcd", "AlzFblrelCfbx"), ("vcllhgkiqAfcA", "lAwDbdBvtrtd0"),
+    ("krCyktdeFblcF", "jtychpsvyira8"), ("CetBFCtwDopdP", "xysfvvBtkrBb6"), ("BazgoionrtfcR", "eczmzDrFsFFc8"),
+    ("wrCBfDzdtFpbf", "hrcEydgtdsba8"), ("xpwzbEBbvDmba", "ryBoojkrvlwdX"), ("FrAxECFicaCce", "edEjchhjhhlbZ"),
+    ("tkFhDyxvfBgbp", "kbeDrFBowxpb6"),
+)
+
+
+def taken_away(state, text):
+    """The text with the state behind it, in a name of 80 bytes."""
+    return text + folded(state ^ number(text.encode()), MULTIPLIER ^ 80).to_bytes(8, "little").decode()
+
+
+def macro_names(count):
+    """Up to 65,536 identifiers of 80 bytes with the hash 0 where a name is hashed whole: of macros and of parameters."""
+    blocks = [taken_away(0, text) for text in OTHERS]
+    made = [taken_away(SEED, FIRST) + "".join(parts) for parts in itertools.islice(itertools.product(blocks, repeat=4), count)]
+    return colliding(made, whole, own)
+
+
+def long_names(count):
+    """Up to 65,536 names of 208 bytes with one hash where a name is hashed byte after byte: of files, and in hide sets."""
+    return colliding(["".join(parts) for parts in itertools.islice(itertools.product(*PAIRS), count)], each, own)
+
+
+# ---- under the kit's
+
+KIT_PAIRS = (
     ("aekfebigCxcaA", "pfgCCAdpoCAc4"), ("uxoDiqlkpFeca", "ovobDCAlFuia2"), ("DrgDyifmialaa", "ucgAcddCqlpb1"),
     ("iAqzuszkcCscP", "tDBbiglyupdb5"), ("tiFxDbinEkwba", "fpowAkbBjqCcu"), ("rdeBkdCiwClba", "recbcliyoAjdJ"),
     ("qpiwxmBmwcgaa", "wavpquhpFwldv"), ("adboslprCdsaa", "jFkddBDnlABbV"), ("xqnzrzmaDoacP", "lrrmftcDhmmb5"),
@@ -67,8 +122,16 @@ PAIRS = (
 )
 
 
-def long_names(count):
-    """Up to 65,536 names of 208 bytes with one hash where a name is hashed byte after byte: of files, and in hide sets."""
-    made = ["".join(parts) for parts in itertools.islice(itertools.product(*PAIRS), count)]
-    assert len({each(name.encode()) for name in made[:: max(1, count // 16)] + made[-1:]}) == 1
-    return made
+def kit_macro_names(count):
+    """Identifiers of 32 bytes with the hash 0: the state behind the first 16 bytes stands as the next eight, which takes it away, and
+    0 stays whatever the last eight are."""
+    for start in ("a%015d" % i for i in itertools.count()):
+        state = block(SEED + 32, start.encode()).to_bytes(8, "little")
+        if all(byte in LETTERS.encode() for byte in state):
+            break
+    ends = itertools.islice(itertools.product(LETTERS, repeat=8), count)
+    return colliding([start + state.decode() + "".join(end) for end in ends], whole, kit)
+
+
+def kit_long_names(count):
+    return colliding(["".join(parts) for parts in itertools.islice(itertools.product(*KIT_PAIRS), count)], each, kit)

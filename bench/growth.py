@@ -7,13 +7,21 @@ PROGRAM is by default crates/cppunits/out/cppunits, which `rt ci` and `rt run` l
 at three sizes, each twice the one before, and run by `cppunits --workers 1 dump` and, where there is one text,
 `gcc -E -std=c11 -pedantic-errors -x c`, both with their output thrown away.  Printed are the processor seconds and the most
 memory, each with the factor to the size before, for both programs: for cppunits the least of N runs (2 by default), for gcc
-those of one run.  A shape that seems to grow too fast is measured again, up to 9 rounds of all its sizes, and of each factor
-the least of a round counts: a machine that others share gets slower and faster, but what grows too fast does in every round.
-A run is stopped that takes 30 seconds of the processor or 8 GB; gcc's are `-` where it doesn't end by itself.
+those of one run.  A shape is measured again, up to 9 rounds of all its sizes, as long as it falls short: of each size the
+least time and the least memory of all rounds count, and the factors are those of these leasts, since a machine that others
+share makes a run slower, and none quicker.  A run is stopped that takes 30 seconds of the processor or 8 GB; gcc's are `-`
+where it doesn't end by itself.
 
 A shape falls short where time or memory grows more than 2.3 times a doubling, where memory passes 80 bytes a token (a line,
-where there are no tokens) of the shapes that count them, and where the status isn't the one that is due.  Less than 0.05
-seconds and 32 MB count as these.  --shapes runs those whose name begins so; --quick takes smaller sizes, mostly a quarter.
+where there are no tokens) of the shapes that count them, where a chain of 60,000 object-like macros takes more than a second
+or 200 MB, and where the status isn't the one that is due.  --shapes runs those whose name begins so; --quick takes smaller
+sizes, mostly a quarter.
+
+Less than 0.05 seconds and 32 MB count as these; a factor to a run below that floor is marked by `*`, since it isn't measured,
+or not all of it.  Below it lie, at each size, the time of the parameters and of the operands of `##`, and the memory of
+these, of the object-like chain, of the budget, of the chain in an argument and of what goes through macros; by --quick also
+the time of the chain in an argument and of the floods, and the memory of all but the function-like chain, `#undef` and most
+of the bytes.
 
 status:
   0  no shape fell short
@@ -36,7 +44,7 @@ MOST_GROWTH = 2.3
 LEAST_SECONDS, LEAST_MEMORY = 0.05, 32 * MEGABYTE
 BYTES_A_THING = 80
 MOST_SECONDS, MOST_MEMORY = 30, 8_000 * MEGABYTE
-# so long a run needs no second; a shape that seems to grow too fast is measured in so many rounds
+# so long a run needs no second; a shape that falls short is measured in so many rounds
 LONG_SECONDS, MOST_ROUNDS = 4, 9
 GCC = ["gcc", "-E", "-std=c11", "-pedantic-errors", "-x", "c", "-"]
 HEADING = ("shape", "size", "seconds", "factor", "MB", "factor", "gcc: seconds", "factor", "MB", "factor")
@@ -52,6 +60,15 @@ class Cost:
 
     def least(self, other):
         return Cost(min(self.seconds, other.seconds), min(self.memory, other.memory), min(self.status, other.status))
+
+
+@dataclass
+class Factor:
+    times: float
+    measured: bool  # the run before lies above the floor
+
+    def __str__(self):
+        return "%.2f%s" % (self.times, "" if self.measured else "*")
 
 
 def bounded():
@@ -75,8 +92,8 @@ def best(command, path, runs):
     return cost
 
 
-def grown(before, after, least):
-    return max(after, least) / max(before, least)
+def grown(before, after, floor):
+    return Factor(max(after, floor) / max(before, floor), before >= floor)
 
 
 def factors(costs):
@@ -104,44 +121,41 @@ def one_round(command, paths, runs):
     return costs
 
 
-def seems_fast(grows):
-    return max((factor for pair in grows for factor in pair), default=0) > MOST_GROWTH
-
-
-def measured(command, paths, runs):
-    """The least costs of the sizes, up to one that is stopped, and the least factors of a round."""
+def measured(command, paths, runs, falls_short):
+    """The least costs of the sizes over rounds, up to a size that is stopped; the rounds end where nothing falls short."""
     costs = one_round(command, paths, runs)
-    grows = factors(costs)
     for _ in range(MOST_ROUNDS - 1):
-        if costs[-1].status < 0 or not seems_fast(grows):
+        if costs[-1].status < 0 or not falls_short(costs):
             break
-        again = one_round(command, paths, runs)
-        costs = [cost.least(other) for cost, other in zip(costs, again)]
-        grows = [tuple(map(min, *pairs)) for pairs in zip(grows, factors(again))]
-    return costs, grows
+        costs = [cost.least(other) for cost, other in zip(costs, one_round(command, paths, runs))]
+    return costs
 
 
-def cells(costs, grows):
+def cells(costs):
     """Seconds, factor, memory and factor of each size, as they are printed."""
-    shown = [("", "")] + [("%.2f" % time, "%.2f" % memory) for time, memory in grows]
+    shown = [("", "")] + factors(costs)
     return [("%.3f" % cost.seconds, time, "%.1f" % (cost.memory / MEGABYTE), memory) for cost, (time, memory) in zip(costs, shown)]
 
 
-def shortfalls(shape, sizes, costs, grows):
+def shortfalls(shape, sizes, costs):
     for size, cost in zip(sizes, costs):
         if cost.status < 0:
             yield "stopped at %d, by %s" % (size, signal.Signals(-cost.status).name)
         elif cost.status != shape.status:
             yield "status %d in place of %d at %d" % (cost.status, shape.status, size)
-    for size, (time, memory) in zip(sizes[1:], grows):
-        if time > MOST_GROWTH:
-            yield "%.2f times the time at %d, twice the size before" % (time, size)
-        if memory > MOST_GROWTH:
-            yield "%.2f times the memory at %d, twice the size before" % (memory, size)
+    for size, (time, memory) in zip(sizes[1:], factors(costs)):
+        if time.times > MOST_GROWTH:
+            yield "%.2f times the time at %d, twice the size before" % (time.times, size)
+        if memory.times > MOST_GROWTH:
+            yield "%.2f times the memory at %d, twice the size before" % (memory.times, size)
     if shape.things and len(costs) == len(sizes):
         each = costs[-1].memory / shape.things(sizes[-1])
         if each > BYTES_A_THING:
             yield "%.0f bytes of memory a token or line at %d" % (each, sizes[-1])
+    if shape.goal and sizes[-1] == shape.sizes[-1] and len(costs) == len(sizes):
+        seconds, megabytes = shape.goal
+        if costs[-1].seconds > seconds or costs[-1].memory > megabytes * MEGABYTE:
+            yield "%d takes more than %d seconds or %d MB" % (sizes[-1], seconds, megabytes)
 
 
 def compared(program, shape, sizes, runs):
@@ -149,14 +163,15 @@ def compared(program, shape, sizes, runs):
     with tempfile.TemporaryDirectory() as folder:
         apart(write_texts, shape, sizes, folder)
         paths = [os.path.join(folder, "%d" % size) for size in sizes]
-        own, grows = measured([program, "--workers", "1", "dump"], [path + ".json" for path in paths], runs)
+        lists = [path + ".json" for path in paths]
+        own = measured([program, "--workers", "1", "dump"], lists, runs, lambda costs: list(shortfalls(shape, sizes, costs)))
         other = [NOTHING] * len(sizes)
         if shape.text:
             found = [run(GCC, path + ".c") for path in paths]
-            other = [cell if cost.status in (0, 1) else NOTHING for cost, cell in zip(found, cells(found, factors(found)))]
-    for size, cell, gcc in zip(sizes, cells(own, grows), other):
+            other = [cell if cost.status in (0, 1) else NOTHING for cost, cell in zip(found, cells(found))]
+    for size, cell, gcc in zip(sizes, cells(own), other):
         print(FORM % (shape.name, "{:,}".format(size), *cell, *gcc), flush=True)
-    return ["%s: %s" % (shape.name, problem) for problem in shortfalls(shape, sizes, own, grows)]
+    return ["%s: %s" % (shape.name, problem) for problem in shortfalls(shape, sizes, own)]
 
 
 def main():

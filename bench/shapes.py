@@ -1,7 +1,8 @@
 """Texts whose work grows with a size, for growth.py.
 
-A shape makes a text of a size: so many macros, arguments, operands or bytes.  Doubling the size doubles the work that the
-text asks for.  `things` counts what memory is measured by: tokens, and lines where a text has no tokens.
+A shape makes a text of a size: so many macros, arguments, operands or bytes, or a list with so large a budget.  Doubling the
+size doubles the work that is asked for.  `things` counts what memory is measured by: tokens, and lines where a text has no
+tokens.
 """
 import json
 from dataclasses import dataclass
@@ -22,6 +23,7 @@ class Shape:
     things: Optional[Callable] = None  # how many tokens or lines a size has
     status: int = 0
     quick: int = 4  # by how much --quick divides the sizes
+    goal: Optional[tuple] = None  # the seconds and megabytes that the last size may take
 
     def list_of(self, size):
         return json.dumps(self.listed(size) if self.listed else list_of_text(self.text(size))).encode()
@@ -54,6 +56,10 @@ def doubled(tokens):
     return lines("#define d0 x", ("#define d%d d%d d%d" % (i + 1, i, i) for i in range(depth)), "d%d" % depth)
 
 
+def within_budget(steps):
+    return dict(list_of_text(doubled(2**64)), budget=steps)
+
+
 def doubled_with_argument(tokens):
     depth = tokens.bit_length() - 1
     return lines("#define d0(x) x", ("#define d%d(x) d%d(x) d%d(x)" % (i + 1, i, i) for i in range(depth)), "d%d(1)" % depth)
@@ -84,8 +90,13 @@ def names(count):
     return ["p%d" % i for i in range(count)]
 
 
+def invoked(made, body=""):
+    """A macro with these parameters, invoked with empty arguments."""
+    return lines("#define f(%s) %s" % (", ".join(made), body), "f(%s)" % ("," * (len(made) - 1)))
+
+
 def parameters(count, body=""):
-    return lines("#define f(%s) %s" % (", ".join(names(count)), body), "f(%s)" % ("," * (count - 1)))
+    return invoked(names(count), body)
 
 
 def parameters_used(count):
@@ -117,11 +128,12 @@ def repeated(name, text, things, status=0):
 
 
 SHAPES = [
-    Shape("chain, object-like", (15_000, 30_000, 60_000), object_chain, quick=1),
+    Shape("chain, object-like", (15_000, 30_000, 60_000), object_chain, quick=1, goal=(1, 200)),
     Shape("chain, function-like", (15_000, 30_000, 60_000), function_chain, quick=1),
     Shape("d20", (2**18, 2**19, 2**20), doubled),
     Shape("d20 with an argument", (2**18, 2**19, 2**20), doubled_with_argument),
     Shape("d(d(..)) 20 deep", (2**18, 2**19, 2**20), doubled_within),
+    Shape("budget of d64", (2**17, 2**18, 2**19), listed=within_budget, status=1, quick=1),
     Shape("chain of 400 in an argument", (400, 800, 1_600), chain_in_argument),
     Shape("argument through 80 macros", (5_000, 10_000, 20_000), lambda size: argument_through(size, 80), quick=1),
     Shape("1,000 tokens through macros", (500, 1_000, 2_000), lambda size: argument_through(1_000, size), quick=1),

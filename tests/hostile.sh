@@ -1,16 +1,25 @@
 #!/bin/sh
-# What a service meets that preprocesses text from strangers, as far as the gate can't try it: refused memory, cut texts and
-# lists, limits, streams and files that fail, small stacks, and cost that is to grow as the work does.
+# What a service meets that preprocesses text from strangers: refused memory, cut texts and lists, limits, streams and files
+# that fail, small stacks, names chosen to collide, and cost that is to grow as the work does.  Of these the gate, tests/all.sh,
+# has the program's refused memory, cut texts and lists, limits that take no seconds, and streams and files that fail.
 #
-#     tests/hostile.sh [PROGRAM]     PROGRAM is by default crates/cppunits/out/cppunits
+#     tests/hostile.sh [--full] [PROGRAM]     PROGRAM is by default crates/cppunits/out/cppunits
 #
-# Each part says what it did; its whole output is shown where it fell short.  It takes some minutes, up to 2 GB of memory and
-# 300 MB of a folder for temporary files, and leaves nothing behind.  It needs Python 3 and gcc.
+# --full measures the growth of cost at the sizes of bench/shapes.py, where else it is mostly at a quarter of them.
+#
+# Each part says what it did; its whole output is shown where it fell short.  Refused memory in the tests of a crate is a part
+# where `rt test` or `rt ci` left them, and else a line that says so.  It takes some minutes, more with these parts, up to 2 GB of
+# memory and 300 MB of a folder for temporary files, and leaves nothing behind.  It needs Python 3 and gcc.
 #
 # status:
 #   0  nothing fell short
 #   1  something did, and is named at the end
 #   2  the program isn't there
+sizes=--quick
+if [ "${1:-}" = --full ]; then
+    sizes=
+    shift
+fi
 case ${1:-/} in
     -h | --help)
         sed -n '2,/^case/s/^# \{0,1\}//p' "$0"
@@ -54,12 +63,20 @@ part() {
 }
 
 part "refused memory" python3 tests/refused_memory.py "$program"
+for folder in crates/*/; do
+    crate=$(basename "$folder")
+    if [ -x "crates/$crate/out/${crate}_tests" ]; then
+        part "refused memory in the tests of $crate" python3 tests/refused_in_tests.py "$crate"
+    else
+        echo "missed: refused memory in the tests of $crate: crates/$crate/out/${crate}_tests is missing (\`rt test\` in crates/$crate)"
+    fi
+done
 part "texts and lists cut to every length" python3 tests/truncated.py "$program"
 part "limits" python3 tests/hostile_limits.py "$program"
 part "streams and files that fail" python3 tests/hostile_devices.py "$program"
 part "small stacks" python3 tests/hostile_stack.py "$program"
 part "names chosen to collide" python3 tests/hostile_floods.py "$program"
-part "growth of cost" python3 bench/growth.py --quick "$program"
+part "growth of cost" python3 bench/growth.py ${sizes:+"$sizes"} "$program"
 sed 's/^/fell short: /' "$kept/short"
 printf '%d passed, %d failed\n' "$passed" "$failed"
 [ "$failed" -eq 0 ]

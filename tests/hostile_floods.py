@@ -3,9 +3,10 @@
 
     tests/hostile_floods.py [PROGRAM] [-k NAME]
 
-Names of macros, of macros in hide sets and of files that collide under the kit's default hash cost at most ten times what as many
-ordinary names of the same length cost; less than a tenth of a second counts as that.  Where the system gives no random bytes,
-a run ends as where its input can't be read, with nothing printed.
+Names of macros, of one macro's parameters, of macros in hide sets and of files that collide under the hash of names by its
+fixed key, or under the kit's default hash, cost at most ten times what as many ordinary names of the same length cost; less
+than a tenth of a second counts as that.  Where the system gives no random bytes, a run ends as where its input can't be read,
+with nothing printed.
 """
 import json
 import os
@@ -15,13 +16,13 @@ import sys
 import tempfile
 import unittest
 
-from counted import HERE, LIST, TOP, main, missed, program
+from counted import TOP, main, missed, program
 
 sys.path.insert(0, os.path.join(TOP, "bench"))
-from colliding import long_names, macro_names  # noqa: E402
-from shapes import defined, listed_files  # noqa: E402
+from colliding import kit_long_names, kit_macro_names, long_names, macro_names  # noqa: E402
+from shapes import defined, invoked, list_of_text, listed_files  # noqa: E402
 
-COUNT = 16_000
+COUNT = 32_000
 MOST_TIMES, LEAST_SECONDS, MOST_SECONDS = 10, 0.1, 60
 NO_KEY = "int getentropy(void *bytes, unsigned long count) { (void)bytes; (void)count; return -1; }\n"
 READ_FAILED = (5, b"", b"cppunits: read failed\n")
@@ -31,8 +32,13 @@ def ordinary(length):
     return ["a%0*d" % (length - 1, number) for number in range(COUNT)]
 
 
-def text_list(names):
-    return dict(LIST, files=[{"name": "a.c", "text": defined(names)}], units=[{"file": "a.c"}])
+def macros(names):
+    return list_of_text(defined(names))
+
+
+def parameters(names):
+    """More than 16 have an index, where the macro is defined and where it is invoked."""
+    return list_of_text(invoked(names, names[-1]))
 
 
 def seconds(asked):
@@ -47,18 +53,23 @@ def seconds(asked):
 
 
 class Floods(unittest.TestCase):
-    def costs_no_more(self, list_of, made):
-        plain = max(seconds(list_of(ordinary(len(made[0])))), LEAST_SECONDS)
-        self.assertLess(seconds(list_of(made)), MOST_TIMES * plain)
+    def cost_no_more(self, list_of, *makers):
+        for maker in makers:
+            made = maker(COUNT)
+            plain = max(seconds(list_of(ordinary(len(made[0])))), LEAST_SECONDS)
+            self.assertLess(seconds(list_of(made)), MOST_TIMES * plain, maker.__name__)
 
     def test_macros(self):
-        self.costs_no_more(text_list, macro_names(COUNT))
+        self.cost_no_more(macros, macro_names, kit_macro_names)
+
+    def test_parameters(self):
+        self.cost_no_more(parameters, macro_names, kit_macro_names)
 
     def test_names_in_hide_sets(self):
-        self.costs_no_more(text_list, long_names(COUNT))
+        self.cost_no_more(macros, long_names, kit_long_names)
 
     def test_files(self):
-        self.costs_no_more(listed_files, long_names(COUNT))
+        self.cost_no_more(listed_files, long_names, kit_long_names)
 
 
 class NoKey(unittest.TestCase):
@@ -67,7 +78,7 @@ class NoKey(unittest.TestCase):
         with tempfile.TemporaryDirectory() as folder:
             library = os.path.join(folder, "no_key.so")
             subprocess.run(["gcc", "-shared", "-fPIC", "-x", "c", "-", "-o", library], input=NO_KEY.encode(), check=True)
-            done = subprocess.run([program(), "dump"], input=json.dumps(text_list(["a"])).encode(), capture_output=True,
+            done = subprocess.run([program(), "dump"], input=json.dumps(macros(["a"])).encode(), capture_output=True,
                                   env=dict(os.environ, LD_PRELOAD=library), timeout=MOST_SECONDS)
         self.assertEqual((done.returncode, done.stdout, done.stderr), READ_FAILED)
 

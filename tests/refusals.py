@@ -6,6 +6,12 @@ import tempfile
 
 HERE = os.path.dirname(os.path.abspath(__file__))
 MOST_RUNS = 20_000
+# whether all behind a request are refused with it, and how that is told
+KINDS = {False: "each alone", True: "each with all behind it"}
+
+
+def refused(call, on):
+    return "all from request %d on refused" % call if on else "request %d refused" % call
 
 
 @contextlib.contextmanager
