@@ -20,7 +20,7 @@ turn; `..-requires`: what a call wants) and, last, the clause of the contract. `
 log of the gate.
 """
 LINE = re.compile(r"must-fail (\w+)/([\w-]+)\.edit: refused, as it must be(.*)")
-GOAL = re.compile(r"(?:note: )?(src/[\w/]+\.rt):(\d+):\d+: (.*)")
+GOAL = re.compile(r"(?:note: )?((?:src|specs|proofs)/[\w+/-]+\.(?:rt|antt)):(\d+):\d+: (.*)")
 
 
 def function_at(crate, path, line):
