@@ -107,8 +107,10 @@ def arguments(count):
     return lines("#define f(...) __VA_ARGS__", "f(1%s)" % (", 1" * (count - 1)))
 
 
-def pasted(count):
-    return lines("#define p %s" % "##".join(["a"] * count), "p")
+def pasted(count, first="a", rest=("a",)):
+    """So many operands: the first, and then the others in turn."""
+    operands = [first] + [rest[i % len(rest)] for i in range(count - 1)]
+    return lines("#define p %s" % "##".join(operands), "p")
 
 
 # ---- names that collide
@@ -142,6 +144,9 @@ SHAPES = [
     Shape("parameters, used", (5_000, 10_000, 20_000), parameters_used, quick=2),
     Shape("arguments", (100_000, 200_000, 400_000), arguments),
     Shape("operands of ##", (10_000, 20_000, 40_000), pasted, quick=2),
+    Shape("periods behind ##", (10_000, 20_000, 40_000), lambda size: pasted(size, "0", (".",)), quick=2),
+    Shape("universal names behind ##", (10_000, 20_000, 40_000), lambda size: pasted(size, "a", ("\\u1234",)), quick=2),
+    Shape("signs behind ##", (10_000, 20_000, 40_000), lambda size: pasted(size, "0", ("e", "+")), quick=2),
     repeated("(", "(", lambda size: size),
     repeated("?", "?", lambda size: size),
     repeated("'", "'", lambda size: size, status=1),

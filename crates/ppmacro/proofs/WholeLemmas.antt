@@ -1,13 +1,11 @@
 -- Tokens whose kind is that of their spelling, as `##` makes them.
-use Rattle.std.proofs.Common.{◌≡◌, ℕ, List, [], ◌∷◌, ◌++◌, Option, Some, None, Result, Ok, Err, IfOk, refl, sym, ap, ◌∙◌, subst, ◌⊎◌, length, drop, length-append, arith}
+use Rattle.std.proofs.Common.{◌≡◌, ℕ, List, [], ◌∷◌, ◌++◌, Option, Some, None, Result, Ok, Err, IfOk, refl, sym, ap, ◌∙◌, subst, length, drop, length-append, arith}
 use Rattle.std.proofs.lemmas.List.{drop_at}
-use Rattle.std.specs.List.{AllPass}
 use Rattle.std.specs.FinSet as set
 use Rattle.pptext.specs.declared.tokens.Kind.{Kind}
-use Rattle.pptext.specs.declared.tokens.Kind.TheVariants.{Ident, Number}
 use Rattle.pptext.specs.declared.tokens.Place.{Place}
 use Rattle.pptext.specs.declared.tokens.Fault.{Fault}
-use Rattle.pptext.specs.Spellings.{is_ident_byte}
+use Rattle.pptext.specs.Carrying.{CarriesOn}
 use Rattle.pptext.specs.Lexing.{Lexes}
 use Rattle.pptext.proofs.Lexer.{one_lexing}
 use Rattle.pptext.proofs.Carried.{carried_on}
@@ -25,17 +23,17 @@ use Rattle.ppmacro.proofs.LexerLemmas.{kind_of_is}
 ok-same : {x y : Hiding} → ◌≡◌ {A = Result Hiding Fault} (Ok x) (Ok y) → x ≡ y
 ok-same e = cc e
 
-carried_kind : (text more : List ℕ) (k : Kind) → kind_of text ≡ Some k → (k ≡ Ident) ⊎ (k ≡ Number) → AllPass is_ident_byte more → kind_of (text ++ more) ≡ Some k
-carried_kind text more k e word all =
+carried_kind : (text more : List ℕ) (k : Kind) → kind_of text ≡ Some k → CarriesOn k text more → kind_of (text ++ more) ≡ Some k
+carried_kind text more k e rest =
     let one : Lexes text (Some k) = subst (Lexes text) e (kind_of_is.each text) in
-    one_lexing (text ++ more) (kind_of (text ++ more)) (Some k) (kind_of_is.each (text ++ more)) (carried_on text more k one.0 word all)
+    one_lexing (text ++ more) (kind_of (text ++ more)) (Some k) (kind_of_is.each (text ++ more)) (carried_on text more k one.0 rest)
 
 -- what carries a token on is pasted to it
-module _ (last first grown turned : Hidden) (n : ℕ) (used : Place) (whole : IsWhole last) (word : (last.token.kind ≡ Ident) ⊎ (last.token.kind ≡ Number))
-    (all : AllPass is_ident_byte first.token.text) (is_grown : grown ≡ extended last first.token.text)
+module _ (last first grown turned : Hidden) (n : ℕ) (used : Place) (whole : IsWhole last)
+    (rest : CarriesOn last.token.kind last.token.text first.token.text) (is_grown : grown ≡ extended last first.token.text)
     (is_turned : turned ≡ record { token = record grown.token { used = used }; hide = n }) where
   still-whole : kind_of (last.token.text ++ first.token.text) ≡ Some last.token.kind
-  still-whole = carried_kind last.token.text first.token.text last.token.kind whole word all
+  still-whole = carried_kind last.token.text first.token.text last.token.kind whole rest
 
   pub carried-whole : IsWhole turned
   carried-whole =

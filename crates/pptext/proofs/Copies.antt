@@ -10,10 +10,15 @@ use Rattle.pptext.specs.declared.characters.steps.Step.TheVariants.{Code, Remove
 use Rattle.pptext.specs.Clean.{cleaned, codes_of, newline, placed, place, next_col, without_returns, is_return_at, missing_newline, splices, splice_at_end, trigraphs, unless_at, unmarked}
 use Rattle.pptext.specs.Breaks.{IsTable, OwnFront, Stretch, step_len}
 use Rattle.pptext.specs.Steps.{open_end, step_of, behind_byte, place_behind}
-use Rattle.pptext.specs.Texts.{supply, logical, start, logical_from, text_from, end_from, Copied, EndsAt, HasBreaks, Whole}
+use Rattle.pptext.specs.Texts.{supply, logical, start, logical_from, text_from, end_from, EndsAt, HasBreaks, Whole}
 use Rattle.pptext.proofs.CleanSteps.{CodeStep, RemovedStep, Outcome, outcome, open_end_drop, dropped, kept, returns_some}
 use Rattle.pptext.proofs.Breaks.{Begun, begun_all, begun_more, begun_none}
 use Rattle.pptext.proofs.Offsets.{Here, here, placed_at, placed_codes, placed_tail}
+
+-- These are the codes of what stands in front of an offset.
+pub record Copied (raw : List ℕ) (offset : ℕ) (done : List ℕ) : Type 0 where
+  pub codes : (file : ℕ) → codes_of (text_from file raw 0) ≡ done ++ codes_of (text_from file raw offset)
+  pub ends : (file : ℕ) → end_from file raw 0 ≡ end_from file raw offset
 
 -- A character at an offset.
 pub record CodeAt (file : ℕ) (raw : List ℕ) (offset code n : ℕ) : Type 0 where

@@ -9,7 +9,7 @@ use Rattle.pptext.specs.declared.characters.Char.{Char}
 use Rattle.pptext.specs.declared.sources.Line.{Line}
 use Rattle.pptext.specs.declared.sources.Profile.{Profile}
 use Rattle.pptext.specs.Clean.{codes_of}
-use Rattle.pptext.specs.Cut.{Piece, Sort, NewLine, Blank, Comment, Spelled, line_after, with_piece, StandsAt, CutUpTo, head_place, Unclosed, OpensBlock, ClosesAt, BeginsWith}
+use Rattle.pptext.specs.Cut.{Piece, Sort, NewLine, Blank, Comment, Spelled, with_piece, StandsAt, CutUpTo, head_place, Unclosed, OpensBlock, ClosesAt, BeginsWith}
 use Rattle.std.specs.List.{AllByRecursion}
 use Rattle.pptext.specs.Lines.{LogicalLine, line_of, lines_ended, leaves_space, tokens_after, token_of, IsDirected}
 use Rattle.pptext.specs.Tokens.{spelled}
@@ -19,7 +19,7 @@ use Rattle.pptext.specs.Grouping.{draft, drafts}
 use Rattle.pptext.specs.Finds.{CutsInto}
 use Rattle.pptext.proofs.Spans.{drafts_are, drafts-append, tokens_of-append}
 use Rattle.pptext.proofs.Directed.{pieces_are_directed}
-use Rattle.pptext.proofs.CutSteps.{cut_more, no_piece, line_after-append, LinesSoFar, lines_start, lines_more, lines_all}
+use Rattle.pptext.proofs.CutSteps.{cut_more, no_piece, line_after, line_after-append, LinesSoFar, lines_start, lines_more, lines_all}
 
 spelled-append : (ts : List Token) (t : Token) → spelled (ts ++ t ∷ []) ≡ spelled ts ++ t.text ∷ []
 spelled-append [] t = refl

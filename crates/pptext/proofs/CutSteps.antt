@@ -5,8 +5,13 @@ use Rattle.pptext.specs.declared.tokens.Token.{Token}
 use Rattle.pptext.specs.declared.characters.Char.{Char}
 use Rattle.pptext.specs.declared.sources.Profile.{Profile}
 use Rattle.pptext.specs.Clean.{codes_of}
-use Rattle.pptext.specs.Cut.{Piece, laid, line_after, with_piece, StandsAt, EachStands, CutUpTo}
+use Rattle.pptext.specs.Cut.{Piece, laid, with_piece, StandsAt, EachStands, CutUpTo}
 use Rattle.pptext.specs.Lines.{LogicalLine, lines_behind, lines_ended, leaves_space, tokens_after}
+
+-- the line that is open behind the pieces
+abbrev pub line_after : List (List ℕ) → List Piece → List (List ℕ)
+line_after line [] = line
+line_after line (p ∷ ps) = line_after (with_piece line p p.sort) ps
 
 laid-append : (ps qs : List Piece) → laid (ps ++ qs) ≡ laid ps ++ laid qs
 laid-append [] qs = refl

@@ -74,6 +74,8 @@ pub mod Decides
 pub mod Lexer
 -- What carries on an identifier or a number.
 pub mod Carried
+-- How a text ends: in a universal character name, or in an exponent's letter; and what a sign begins.
+pub mod Carrying
 -- Phases 1 and 2 add one character at the most.
 pub mod Lengths
 -- What a walk over the lines of a file knows of the next branch lines.

@@ -1,5 +1,5 @@
 -- What a walk over the lines of a file knows of the next branch lines.
-use Rattle.std.proofs.Common.{◌≡◌, ℕ, ◌+◌, ◌<◌, Bool, List, [], ◌∷◌, ◌++◌, map, length, ap, ◌∙◌, arith, None, Some}
+use Rattle.std.proofs.Common.{◌≡◌, ℕ, ◌+◌, ◌<◌, Bool, List, ◌∷◌, ◌++◌, map, length, ap, ◌∙◌, arith, None, Some}
 use Rattle.std.proofs.lemmas.List.{length-map}
 use Rattle.pptext.specs.Lines.{LogicalLine}
 use Rattle.pptext.specs.Tree.{Role, TextLine, ControlLine, Opens, Elses, Closes, Parts, Branches, End, Branch, part_lines, branch_lines, AreParts, AreBranches, role, branch_behind}

@@ -32,10 +32,6 @@ with_piece line p Blank = line
 with_piece line p Comment = line
 with_piece line p (Spelled k) = line ++ codes_of p.chars ∷ []
 
-abbrev pub line_after : List (List ℕ) → List Piece → List (List ℕ)
-line_after line [] = line
-line_after line (p ∷ ps) = line_after (with_piece line p p.sort) ps
-
 -- `#` or `%:`, and `include`: a header name may follow (6.4.7)
 abbrev pub AwaitsHeader : List (List ℕ) → Type 0
 AwaitsHeader line = (line ≡ codes "#" ∷ codes "include" ∷ []) ⊎ (line ≡ codes "%:" ∷ codes "include" ∷ [])

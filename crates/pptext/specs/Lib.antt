@@ -6,6 +6,7 @@ pub mod Breaks
 pub mod Texts
 pub mod Languages
 pub mod Spellings
+pub mod Carrying
 pub mod Kinds
 pub mod Lone
 pub mod Cut

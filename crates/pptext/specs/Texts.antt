@@ -51,11 +51,6 @@ pub record Stands (file : ℕ) (raw breaks : List ℕ) (c : Cursor) : Type 0 whe
   pub next : c.next ≤ c.offset + 1
   pub table : IsTable (open_end raw) (behind_break (open_end raw) (drop (c.offset + c.plain) raw)) (drop c.next breaks)
 
--- These are the codes of what stands in front of an offset.
-pub record Copied (raw : List ℕ) (offset : ℕ) (done : List ℕ) : Type 0 where
-  pub codes : (file : ℕ) → codes_of (text_from file raw 0) ≡ done ++ codes_of (text_from file raw offset)
-  pub ends : (file : ℕ) → end_from file raw 0 ≡ end_from file raw offset
-
 -- These are the codes of a file whose end is no splice, and its table of breaks.
 pub record Whole (raw done breaks : List ℕ) : Type 0 where
   pub codes : (file : ℕ) → done ≡ codes_of (text_from file raw 0)

@@ -1,12 +1,11 @@
 // Laws of the definitions: functions that do nothing, whose contracts are the laws.
-ghost use Rattle.std.specs.Prelude.{◌≡◌, ◌≢◌, ◌↔◌, ◌⊎◌, ◌++◌, ℕ, List, [], None, Result, Ok, Contains};
+ghost use Rattle.std.specs.Prelude.{◌≡◌, ◌≢◌, ◌↔◌, ◌++◌, ℕ, List, [], None, Result, Ok, Contains};
 ghost use Rattle.pptext.specs.declared.tokens.Fault.{Fault};
 ghost use Rattle.pptext.specs.declared.sources.Profile.{Profile};
 ghost use Rattle.pptext.specs.declared.tokens.Kind.{Kind};
-ghost use Rattle.pptext.specs.declared.tokens.Kind.TheVariants.{Ident, Number, Header};
-ghost use Rattle.std.specs.List.{AllPass};
-ghost use Rattle.pptext.specs.Spellings.{is_ident_byte};
+ghost use Rattle.pptext.specs.declared.tokens.Kind.TheVariants.{Header};
 ghost use Rattle.pptext.specs.declared.characters.Char.{Char};
+ghost use Rattle.pptext.specs.Carrying.{CarriesOn};
 ghost use Rattle.pptext.specs.Clean.{cleaned, codes_of};
 ghost use Rattle.pptext.specs.Cut.{Piece, Spelled, Cut};
 ghost use Rattle.pptext.specs.Laws.{spellings_of};
@@ -37,10 +36,9 @@ pub fn relexes_what_is_cut()
     ensures { (chars : List Char) (pieces : List Piece) → Cut chars pieces → (p : Piece) (k : Kind) → Contains pieces p → p.sort ≡ Spelled k → k ≢ Header → IsOneToken (codes_of p.chars) k }
 {}
 
-/// Letters, digits, `_`, `$` and bytes from 128 up carry on an identifier (6.4.2) and a number (6.4.8): with what stands before them they
-/// are one token of that kind.
+/// What carries on an identifier (6.4.2) or a number (6.4.8) is one token of that kind with what stands before it.
 pub fn carried_on()
-    ensures { (text more : List ℕ) (k : Kind) → IsOneToken text k → (k ≡ Ident) ⊎ (k ≡ Number) → AllPass is_ident_byte more → IsOneToken (text ++ more) k }
+    ensures { (text more : List ℕ) (k : Kind) → IsOneToken text k → CarriesOn k text more → IsOneToken (text ++ more) k }
 {}
 
 /// A file's lines have a tree of groups (6.10) exactly where they have no fault.

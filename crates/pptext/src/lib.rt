@@ -27,7 +27,7 @@ pub use laws::{
     tree_unless_fault,
 };
 pub use reading::{read_source, relex};
-pub use scanning::carries_on;
+pub use scanning::carrying::carries_on;
 pub use sequences::Sequence;
 pub use sources::{Directive, LONGEST, Line, Profile, Source, SourceFault};
 pub use stops::{Stop, settled};

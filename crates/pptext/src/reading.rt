@@ -124,7 +124,7 @@ pub fn relex(text: &[u8]) -> Option<Kind>
 mod tests {
     use super::*;
     use crate::asserting::{assert_is_fault, assert_same};
-    use crate::scanning::carries_on;
+    use crate::scanning::carrying::carries_on;
     use crate::sources::Directive;
     use crate::tokens::Memory;
     use std::process::Abort;
@@ -285,14 +285,22 @@ mod tests {
 
     #[test]
     fn tells_what_carries_on(rt: HostRuntime) {
-        for (text, carries) in [
-            (b"".as_slice(), true),
-            (b"aZ_$09\xff".as_slice(), true),
-            (b"a.".as_slice(), false),
-            (b"+".as_slice(), false),
-            (b"a\\u00c0".as_slice(), false),
+        for (kind, text, more, carries) in [
+            (Kind::Ident, b"a".as_slice(), b"".as_slice(), true),
+            (Kind::Ident, b"a", b"aZ_$09\xff", true),
+            (Kind::Ident, b"a", b"\\u00c0b", true),
+            (Kind::Ident, b"a", b"\\u00c", false),
+            (Kind::Ident, b"a", b"a.", false),
+            (Kind::Number, b"1", b".5e+3x", true),
+            (Kind::Number, b"1", b"+", false),
+            (Kind::Number, b"1e", b"+2", true),
+            (Kind::Number, b"1P", b"-", true),
+            (Kind::Number, b"1\\u00ce", b"+", false),
+            (Kind::Number, b"1\\U000000ce", b"-", false),
+            (Kind::Ident, b"e", b"+", false),
+            (Kind::Punct, b".", b".", false),
         ] {
-            assert_same(&rt, text, &carries_on(text), &carries);
+            assert_same(&rt, more, &carries_on(kind, text, more), &carries);
         }
     }
 }

@@ -5,6 +5,7 @@ ghost use Rattle.pptext.specs.Languages.{OnlyPart, LongestOrNone, Longest, Repea
 ghost use Rattle.pptext.specs.Cut.{BeginsWith};
 ghost use Rattle.pptext.specs.Spellings.{is_digit, is_hex, is_nondigit, is_ident_byte, is_blank, IsUniversal, IsNondigit, IsIdent};
 
+pub(crate) mod carrying;
 pub(crate) mod headers;
 pub(crate) mod literals;
 pub(crate) mod numbers;
@@ -93,14 +94,6 @@ fn is_ident_byte(c: u8) -> bool
         return true;
     }
     is_nondigit(c) || is_digit(c)
-}
-
-/// Whether all bytes are letters, digits, `_`, `$` or from 128 up. Such a text carries on an identifier (6.4.2) and a number (6.4.8)
-/// that stand before it: both together are one token of that kind.
-pub fn carries_on(text: &[u8]) -> bool
-    ensures { IsTrue result ↔ AllPass is_ident_byte text.now }
-{
-    text.iter().all(|c| is_ident_byte(*c))
 }
 
 /// The length of the nondigits and digits that begin the text.

@@ -1,8 +1,6 @@
 // Lists that `##` joins (6.10.3.3).
-ghost use Rattle.std.specs.Prelude.{◌≡◌, ◌⊎◌, ◌++◌, ◌∷◌, IfOk, OnOk, IsTrue, [], map};
-ghost use Rattle.std.specs.List.{AllPass};
-ghost use Rattle.pptext.specs.declared.tokens.Kind.TheVariants.{Ident, Number};
-ghost use Rattle.pptext.specs.Spellings.{is_ident_byte};
+ghost use Rattle.std.specs.Prelude.{◌≡◌, ◌++◌, ◌∷◌, IfOk, OnOk, IsTrue, [], map};
+ghost use Rattle.pptext.specs.Carrying.{CarriesOn};
 ghost use Rattle.ppmacro.specs.HideSets.{hiding, hidings, IsKnown, AllKnown, Keeps};
 ghost use Rattle.ppmacro.specs.Substitution.{pasted, join, join_all};
 ghost use Rattle.pptext.specs.Stops.{Answers};
@@ -11,7 +9,7 @@ ghost use Rattle.ppmacro.specs.Substituting.{lists_of, ListsKnown, IsWhole, Ends
 use crate::flying::Hidden;
 use crate::hide_sets::HideSets;
 use crate::substituting::pasting::pasted;
-use pptext::{Kind, Place, Stop, carries_on};
+use pptext::{Place, Stop, carries_on};
 use std::alloc::{AllocError, Global};
 
 /// Puts tokens behind others.
@@ -36,13 +34,12 @@ fn push_joined<'a>(
     push_all(tokens, more)
 }
 
-// Whether the last token is an identifier or a number for sure, and these bytes carry it on.
+// Whether these bytes carry on the last token, whose kind is that of its spelling for sure.
 fn is_carried_on(last: &Hidden, whole: bool, more: &[u8]) -> bool
     ensures whole { IsTrue result → IsTrue whole }
-    ensures kind { IsTrue result → (last.now.token.kind ≡ Ident) ⊎ (last.now.token.kind ≡ Number) }
-    ensures more { IsTrue result → AllPass is_ident_byte more.now }
+    ensures more { IsTrue result → CarriesOn last.now.token.kind last.now.token.text more.now }
 {
-    whole && matches!(last.kind(), Kind::Ident | Kind::Number) && carries_on(more)
+    whole && carries_on(last.kind(), last.text(), more)
 }
 
 // Two tokens as one, as `paste` has it. `whole`: the last token's kind is that of its spelling, as it is once `##` made it. Such an

@@ -6,14 +6,14 @@ ghost use Rattle.pptext.specs.Spellings.{is_digit, is_exponent, is_sign, IsNumbe
 use super::{is_digit, nondigit_len};
 
 /// Whether e, E, p or P.
-fn is_exponent(c: u8) -> bool
+pub(super) fn is_exponent(c: u8) -> bool
     ensures { result ≡ is_exponent c }
 {
     c == b'e' || c == b'E' || c == b'p' || c == b'P'
 }
 
 /// Whether a sign.
-fn is_sign(c: u8) -> bool
+pub(super) fn is_sign(c: u8) -> bool
     ensures { result ≡ is_sign c }
 {
     c == b'+' || c == b'-'
@@ -63,7 +63,7 @@ fn number_part_len(text: &[u8]) -> usize
 }
 
 /// The length of the parts of a number that begin the text.
-fn number_rest_len(text: &[u8]) -> usize
+pub(super) fn number_rest_len(text: &[u8]) -> usize
     ensures fits { result ≤ length text.now }
     ensures longest { Longest (Repeated IsNumberPart) text.now result }
 {

@@ -1,6 +1,5 @@
 use Rattle.std.proofs.Common.{◌≡◌, ◌∙◌, refl, ap, subst, if◌then◌else◌}
-use Rattle.std.specs.List.{AllPass}
-use Rattle.pptext.specs.Spellings.{is_ident_byte}
+use Rattle.pptext.specs.Carrying.{CarriesOn}
 use Rattle.std.specs.FinSet as set
 use Rattle.ppmacro.specs.HideSets.{set_at}
 use Rattle.ppmacro.specs.Flying.{extended}
@@ -8,8 +7,8 @@ use Rattle.ppmacro.proofs.WholeLemmas.{carried-whole, carried-pasted, paste-whol
 use Rattle.ppmacro.proofs.substituting.joining.paste_onto.Goals as goal
 
 module _ (c : goal.After-turn) where
-  more : AllPass is_ident_byte c.args.first.now.token.text
-  more = subst (AllPass is_ident_byte) c.text.ensures (c.if-is_carried_on.ensures.more refl)
+  more : CarriesOn c.args.last.token.kind c.args.last.token.text c.args.first.now.token.text
+  more = subst (CarriesOn c.args.last.token.kind c.args.last.token.text) c.text.ensures (c.if-is_carried_on.ensures.more refl)
 
   grown : c.extend.new.self ≡ extended c.args.last c.args.first.now.token.text
   grown =
@@ -25,13 +24,13 @@ module _ (c : goal.After-turn) where
 pub returns-then-branch-clause-is : goal.returns-then-branch-clause-is
 returns-then-branch-clause-is c =
     carried-pasted c.args.last c.args.first.now c.extend.new.self c.turn.new.self c.in_ok-hide.hide c.args.used
-    (c.requires.whole (c.if-is_carried_on.ensures.whole refl)) (c.if-is_carried_on.ensures.kind refl) (more c) (grown c) c.turn.ensures c.args.sets.now
+    (c.requires.whole (c.if-is_carried_on.ensures.whole refl)) (more c) (grown c) c.turn.ensures c.args.sets.now
     c.meet.new.self (met c)
 
 pub returns-then-branch-clause-whole : goal.returns-then-branch-clause-whole
 returns-then-branch-clause-whole c =
     carried-whole c.args.last c.args.first.now c.extend.new.self c.turn.new.self c.in_ok-hide.hide c.args.used
-    (c.requires.whole (c.if-is_carried_on.ensures.whole refl)) (c.if-is_carried_on.ensures.kind refl) (more c) (grown c) c.turn.ensures
+    (c.requires.whole (c.if-is_carried_on.ensures.whole refl)) (more c) (grown c) c.turn.ensures
 
 pub returns-clause-whole : goal.returns-clause-whole
 returns-clause-whole c = paste-whole c.args.sets.now c.pasted.new.sets _ c.args.first.now c.args.used c.pasted.result c.pasted.ensures.is
