@@ -12,11 +12,21 @@ use Rattle.std.proofs.lemmas.Cmp.{nat_list_cmp_total}
 use Rattle.ppmacro.specs.declared.hide_sets.nodes.Node.{Node}
 use Rattle.ppmacro.specs.declared.hide_sets.nodes.Operation.{Operation}
 use Rattle.ppmacro.specs.declared.hide_sets.nodes.Operation.TheVariants.{Union, Meet}
-use Rattle.ppmacro.specs.Operations.{joined, made_of}
+use Rattle.ppmacro.specs.Operations.{joined}
 use Rattle.ppmacro.specs.Nodes.{member, IsPool, Keeps, IsBounded}
 use Rattle.ppmacro.specs.Names.{Name, HideSet}
-use Rattle.ppmacro.specs.Members.{same_name, kept, hide_set, counted, hide_sets, IsNamed}
+use Rattle.ppmacro.specs.Members.{same_name, kept, hide_set, counted, hide_sets}
 use Rattle.ppmacro.proofs.Tries.{member-keeps, lawful, differs}
+
+-- no member is past the names
+pub record IsNamed (names : List Name) (ns : List Node) : Type 0 where
+  pub distinct : IsDistinct same_name names
+  pub within : (n x : ℕ) → n < length ns → member ns n x ≡ true → x < length names
+
+-- what is made of two sets
+abbrev pub made_of : Operation → HideSet → HideSet → HideSet
+made_of Union s t = set.union s t
+made_of Meet s t = set.intersection s t
 
 name-is : (a b : Name) → same_name a b ≡ true → a ≡ b
 name-is a b e = set.slice_cmp-IsAntisymmetric set.nat_cmp-IsAntisymmetric a b ((Equal-is (slice_cmp nat_cmp a b)).0 e)

@@ -8,13 +8,13 @@ use Rattle.ppmacro.specs.declared.hide_sets.nodes.Operation.TheVariants.{Union, 
 use Rattle.ppmacro.specs.Names.{Name}
 use Rattle.ppmacro.specs.Nodes as nodes
 use Rattle.ppmacro.specs.Nodes.{IsPool, member, IsBounded}
-use Rattle.ppmacro.specs.Members.{same_name, hide_set, hide_sets, counted, IsNamed}
-use Rattle.ppmacro.specs.Operations.{joined, made_of}
+use Rattle.ppmacro.specs.Members.{same_name, hide_set, hide_sets, counted}
+use Rattle.ppmacro.specs.Operations.{joined}
 use Rattle.ppmacro.specs.Pairs.{Answered}
 use Rattle.ppmacro.specs.Numbered.{Numbered}
 use Rattle.ppmacro.specs.HideSets.{set_at, IsKnown, Keeps}
 use Rattle.ppmacro.specs.Remembered.{AreAnswers, AreKept}
-use Rattle.ppmacro.proofs.Hiding.{set-at, known-at, at-known, sets-keep, past-by, made-is, lawful-names, sets-named, bounded-more, insert-is, set-named, hide-none}
+use Rattle.ppmacro.proofs.Hiding.{IsNamed, made_of, set-at, known-at, at-known, sets-keep, past-by, made-is, lawful-names, sets-named, bounded-more, insert-is, set-named, hide-none}
 use Rattle.ppmacro.proofs.Remembering.{answers-keep}
 use Rattle.ppmacro.proofs.Tries.{member-none}
 

@@ -9,7 +9,7 @@ use Rattle.pptext.specs.declared.tokens.Fault.{Fault}
 use Rattle.ppmacro.specs.Numbered.{Numbered}
 use Rattle.ppmacro.specs.HideSets.{set_at, IsKnown, Hiding, hiding, hidings, AllKnown, Keeps}
 use Rattle.ppmacro.specs.Substitution.{Arguments, Marked, after_ok, argument_at, expanded_at, chain_tokens, mark_first, chains_tokens, gained}
-use Rattle.ppmacro.specs.Substituting.{lists_of, options_of, ArgumentsKnown, arguments_in, marked_behind, pushed, HasGained}
+use Rattle.ppmacro.specs.Substituting.{lists_of, options_of, ArgumentsKnown, arguments_in, pushed, HasGained}
 use Rattle.ppmacro.specs.declared.flying.Hidden.{Hidden}
 use Rattle.ppmacro.specs.declared.flying.Expansion.{Expansion}
 use Rattle.ppmacro.specs.declared.macros.Chain.{Chain}
@@ -53,6 +53,11 @@ arguments-known given expanded k known = record { given_known = λ i. known-keep
 
 abbrev goes_on : Arguments → Place → Bool → List Chain → List Hiding → Result Marked Fault
 goes_on args used mark cs ts = after_ok (chains_tokens args used (mark_first mark ts).pending false cs) (λ rest. Ok (record { tokens = (mark_first mark ts).tokens ++ rest.tokens; pending = rest.pending }))
+
+-- these tokens before what comes of the rest
+abbrev pub marked_behind : List Hiding → Result Marked Fault → Result Marked Fault
+marked_behind ts (Ok m) = Ok (record { tokens = ts ++ m.tokens; pending = m.pending })
+marked_behind ts (Err f) = Err f
 
 behind-behind : (xs ys : List Hiding) (r : Result Marked Fault) → marked_behind xs (after_ok r (λ m. Ok (record { tokens = ys ++ m.tokens; pending = m.pending }))) ≡ marked_behind (xs ++ ys) r
 behind-behind xs ys (Ok m) = λ i. Ok (record { tokens = sym (append_assoc xs ys m.tokens) i; pending = m.pending })

@@ -1,9 +1,8 @@
 -- Sets of names by the numbers of their nodes. Only the contracts of private functions, and the view of a type's private fields, cite this.
 use Rattle.std.specs.Global.{Global}
-use Rattle.std.specs.Prelude.{◌≡◌, ℕ, suc, ◌<◌, Bool, true, Vec, map, List, [], ◌∷◌, length, if◌then◌else◌}
+use Rattle.std.specs.Prelude.{ℕ, suc, Bool, Vec, map, List, [], ◌∷◌, if◌then◌else◌}
 use Rattle.std.specs.Ordering.{nat_cmp, eq_by_cmp}
 use Rattle.std.specs.Cmp.Lexicographic.{slice_cmp}
-use Rattle.std.specs.List.{IsDistinct}
 use Rattle.std.specs.FinSet as set
 use Rattle.ppmacro.specs.declared.hide_sets.nodes.Node.{Node}
 use Rattle.ppmacro.specs.Names.{Name, HideSet}
@@ -29,11 +28,6 @@ counted f i (x ∷ xs) = f i ∷ counted f (suc i) xs
 -- the sets in the order of their numbers
 abbrev pub hide_sets : List Name → List Node → List HideSet
 hide_sets names ns = counted (hide_set names ns) 0 ns
-
--- no member is past the names
-pub record IsNamed (names : List Name) (ns : List Node) : Type 0 where
-  pub distinct : IsDistinct same_name names
-  pub within : (n x : ℕ) → n < length ns → member ns n x ≡ true → x < length names
 
 abbrev pub texts : List (Vec ℕ Global) → List Name
 texts ks = map (λ v. v.items) ks

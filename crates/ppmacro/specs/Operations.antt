@@ -1,8 +1,6 @@
 -- What two hide sets are made into. Only the contracts of private functions, and the invariant of a type's private fields, cite this.
 use Rattle.std.specs.Prelude.{ℕ, Bool, ◌||◌, ◌&&◌, Option}
 use Rattle.std.specs.Int.RustNames.{bit_and, bit_or}
-use Rattle.std.specs.FinSet as set
-use Rattle.ppmacro.specs.Names.{HideSet}
 use Rattle.ppmacro.specs.Pairs.{Answered, union_known, meet_known}
 use Rattle.ppmacro.specs.declared.hide_sets.nodes.Operation.{Operation}
 use Rattle.ppmacro.specs.declared.hide_sets.nodes.Operation.TheVariants.{Union, Meet}
@@ -16,11 +14,6 @@ joined Meet a b = a && b
 abbrev pub joined_word : Operation → ℕ → ℕ → ℕ
 joined_word Union a b = bit_or a b
 joined_word Meet a b = bit_and a b
-
--- what is made of two sets
-abbrev pub made_of : Operation → HideSet → HideSet → HideSet
-made_of Union s t = set.union s t
-made_of Meet s t = set.intersection s t
 
 -- what is made of two sets by their numbers, where no work is left
 abbrev pub known : Operation → Answered → ℕ → ℕ → Option ℕ

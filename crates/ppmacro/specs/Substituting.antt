@@ -65,11 +65,6 @@ abbrev pub marked_in : Numbered → Result (Vec Hidden Global × Bool) Fault →
 marked_in sets (Ok m) = Ok (record { tokens = hidings sets m.0.items; pending = m.1 })
 marked_in sets (Err f) = Err f
 
--- these tokens before what comes of the rest
-abbrev pub marked_behind : List Hiding → Result Marked Fault → Result Marked Fault
-marked_behind ts (Ok m) = Ok (record { tokens = ts ++ m.tokens; pending = m.pending })
-marked_behind ts (Err f) = Err f
-
 -- a chain's tokens behind these, the first with this mark
 abbrev pub pushed : List Hiding → Bool → Result (List Hiding) Fault → Result Marked Fault
 pushed front mark (Ok ts) = Ok (record { tokens = front ++ (mark_first mark ts).tokens; pending = (mark_first mark ts).pending })

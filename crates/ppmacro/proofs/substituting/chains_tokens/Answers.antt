@@ -1,10 +1,10 @@
 use Rattle.std.proofs.Common.{◌≡◌, ◌∙◌, ◌+◌, refl, sym, ap, ◌∷◌, drop, not, ◌||◌, ◌&&◌, Ok, Err}
 use Rattle.ppmacro.specs.HideSets.{hidings}
 use Rattle.ppmacro.specs.Substitution.{chain_tokens, chains_tokens}
-use Rattle.ppmacro.specs.Substituting.{marked_behind, pushed, arguments_in}
+use Rattle.ppmacro.specs.Substituting.{pushed, arguments_in}
 use Rattle.pptext.proofs.Stopping.{stops}
 use Rattle.ppmacro.proofs.KeepLemmas.{keeps-after}
-use Rattle.ppmacro.proofs.WalkLemmas.{drop-item, arguments-keeps, arguments-known, chains-pushed, chains-refused-pushed}
+use Rattle.ppmacro.proofs.WalkLemmas.{marked_behind, drop-item, arguments-keeps, arguments-known, chains-pushed, chains-refused-pushed}
 use Rattle.ppmacro.proofs.substituting.chains_tokens.Goals as goal
 
 pub returns-in_err-pending-clause-is : goal.returns-in_err-pending-clause-is
