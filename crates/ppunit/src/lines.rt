@@ -7,7 +7,7 @@ ghost use Rattle.pptext.specs.Tree.{sign_place, name_of};
 ghost use Rattle.ppunit.specs.Lines as spec;
 ghost use Rattle.ppunit.specs.Quotes as quotes;
 
-use pptext::{Fault, Kind, Place, Stop, Token};
+use pptext::{Fault, Place, Stop, Token};
 use std::alloc::{AllocError, Global};
 
 /// The place of the `#`.
@@ -61,7 +61,7 @@ pub(crate) fn one_identifier(tokens: &[Token]) -> Option<&[u8]>
     ensures { option_copied result ≡ spec.one_identifier tokens.now }
 {
     match tokens {
-        [only] if only.kind == Kind::Ident => Some(only.text.as_bytes()),
+        [only] if only.is_identifier() => Some(only.text.as_bytes()),
         _ => None,
     }
 }
