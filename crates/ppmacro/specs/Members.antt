@@ -1,9 +1,10 @@
 -- Sets of names by the numbers of their nodes. Only the contracts of private functions, and the view of a type's private fields, cite this.
-use Rattle.std.specs.Global.{Global}
-use Rattle.std.specs.Prelude.{ℕ, suc, Bool, Vec, map, List, [], ◌∷◌, if◌then◌else◌}
+use Rattle.std.specs.Prelude.{ℕ, suc, Bool, List, [], ◌∷◌, if◌then◌else◌}
 use Rattle.std.specs.Ordering.{nat_cmp, eq_by_cmp}
 use Rattle.std.specs.Cmp.Lexicographic.{slice_cmp}
 use Rattle.std.specs.FinSet as set
+use Rattle.ppmacro.specs.declared.hide_sets.names.NameText.{NameText}
+use Rattle.ppmacro.specs.declared.hide_sets.names.NameText.TheVariants.{Kept, Sought}
 use Rattle.ppmacro.specs.declared.hide_sets.nodes.Node.{Node}
 use Rattle.ppmacro.specs.Names.{Name, HideSet}
 use Rattle.ppmacro.specs.Nodes.{member}
@@ -29,5 +30,7 @@ counted f i (x ∷ xs) = f i ∷ counted f (suc i) xs
 abbrev pub hide_sets : List Name → List Node → List HideSet
 hide_sets names ns = counted (hide_set names ns) 0 ns
 
-abbrev pub texts : List (Vec ℕ Global) → List Name
-texts ks = map (λ v. v.items) ks
+-- the bytes of a name
+abbrev pub name_text : NameText → Name
+name_text (Kept v) = v.items
+name_text (Sought b) = b.now

@@ -6,27 +6,95 @@ ghost use Rattle.ppmacro.specs.Members.{same_name};
 use indexmap::IndexSet;
 use pptext::Hashing;
 use std::alloc::{AllocError, Global};
+use std::hash::{Hash, Hasher};
 use std::marker::Model;
+
+/// The bytes of a name that is kept, or of one that is looked for.
+#[derive(Drop)]
+pub(crate) enum NameText<'n> {
+    Kept(Vec<u8>),
+    Sought(&'n [u8]),
+}
+
+/// A name, which contracts see as its bytes. It is hashed whole, as a table's names are, where a slice is hashed byte by byte.
+#[derive(Drop)]
+pub(crate) struct HiddenName<'n> {
+    text: NameText<'n>,
+}
+
+impl<'n> Model for HiddenName<'n> {
+    ghost use Rattle.std.specs.Prelude.{List, ℕ};
+    ghost use Rattle.ppmacro.specs.Members.{name_text};
+
+    ghost Value = { List ℕ };
+
+    ghost view = { λ n. name_text n.text };
+}
+
+impl HiddenName<'_> {
+    fn bytes(&self) -> &[u8]
+        ensures { result.now ≡ self.now }
+    {
+        match &self.text {
+            NameText::Kept(bytes) => bytes.as_slice(),
+            NameText::Sought(bytes) => bytes,
+        }
+    }
+}
+
+impl PartialEq for HiddenName<'_> {
+    ghost use Rattle.std.specs.Str.{bytes_eq};
+    ghost use Rattle.std.specs.Cmp as Cmp;
+    ghost use Rattle.std.specs.Cmp.Lexicographic.{nat_list_eq_equiv};
+
+    ghost eq = { bytes_eq };
+
+    ghost laws = { Cmp.partial_equiv_from_equiv nat_list_eq_equiv };
+
+    fn eq(&self, other: &Self) -> bool {
+        self.bytes() == other.bytes()
+    }
+}
+
+impl Eq for HiddenName<'_> {
+    ghost use Rattle.std.specs.Cmp.Lexicographic.{nat_list_eq_equiv};
+
+    ghost laws = { nat_list_eq_equiv };
+}
+
+impl Hash for HiddenName<'_> {
+    ghost use Rattle.std.specs.Prelude.{[], ◌∷◌};
+    ghost use Rattle.std.proofs.Common.{rules};
+    ghost use Rattle.std.specs.Cmp.Rules.{hashing};
+
+    ghost hash_input = { λ n. n ∷ [] };
+
+    ghost respects_eq = { Prim.search (hashing, rules) };
+
+    fn hash<H: Hasher>(&self, state: &mut H) {
+        state.write(self.bytes());
+    }
+}
 
 /// Names by their numbers, which count from 0, each once.
 #[derive(Drop)]
 pub(crate) struct NameNumbers {
-    names: IndexSet<Vec<u8>, Hashing>,
+    names: IndexSet<HiddenName<'static>, Hashing>,
 }
 
 impl Model for NameNumbers {
     ghost use Rattle.std.specs.Prelude.{List, ℕ};
     ghost use Rattle.std.specs.Coded.{coded_list, coded_ℕ};
     ghost use Rattle.std.specs.List.{IsDistinct};
-    ghost use Rattle.ppmacro.specs.Members.{same_name, texts};
+    ghost use Rattle.ppmacro.specs.Members.{same_name};
 
     ghost Value = { List (List ℕ) };
 
     ghost coded = { coded_list (coded_list coded_ℕ) };
 
-    ghost view = { λ s. texts s.names.keys };
+    ghost view = { λ s. s.names.keys };
 
-    ghost invariant = { λ s. IsDistinct same_name (texts s.names.keys) };
+    ghost invariant = { λ s. IsDistinct same_name s.names.keys };
 }
 
 impl NameNumbers {
@@ -45,7 +113,10 @@ impl NameNumbers {
         ensures none { IfNone result (AllByRecursion (λ y. same_name name.now y ≡ false) self.now) }
         ensures distinct { IsDistinct same_name self.now }
     {
-        self.names.get_index_of(name)
+        let sought = HiddenName {
+            text: NameText::Sought(name),
+        };
+        self.names.get_index_of(&sought)
     }
 
     /// The number of a name, which joins the others unless it is among them.
@@ -59,7 +130,10 @@ impl NameNumbers {
             return Ok(number);
         }
         let text = Vec::from_clones(alloc, name)?;
-        let Ok((number, _)) = self.names.insert_full(text) else {
+        let kept = HiddenName {
+            text: NameText::Kept(text),
+        };
+        let Ok((number, _)) = self.names.insert_full(kept) else {
             return Err(AllocError);
         };
         Ok(number)

@@ -1,8 +1,8 @@
 use Rattle.std.proofs.Common.{sym, subst}
 use Rattle.std.specs.List.{IsDistinct}
-use Rattle.ppmacro.specs.Members.{same_name, texts}
+use Rattle.ppmacro.specs.Members.{same_name}
 use Rattle.ppmacro.proofs.hide_sets.names.NameNumbers.new.Goals as goal
 
 pub invariant_of-result : goal.invariant_of-result
 unfolding IsDistinct
-invariant_of-result c = subst (λ ks. IsDistinct same_name (texts ks)) (sym c.with_hasher.ensures.empty) tt
+invariant_of-result c = subst (IsDistinct same_name) (sym c.with_hasher.ensures.empty) tt
