@@ -3,7 +3,8 @@
 
     rt ci | tee LOG; tests/edits_table.py LOG > docs/EDITS.md
 
-Edits that the log doesn't name, since an earlier run kept what it found of them, keep the sentence that docs/EDITS.md has.
+Edits that the log doesn't name, since it is of some crates alone or of a gate that was stopped, keep the sentence that docs/EDITS.md
+has; one that has none is left out, and counted.
 """
 import glob
 import os
@@ -17,14 +18,19 @@ Each edit of `crates/*/must-fail` turns the meaning of one function, and the gat
 which clause does: the first goal that can't be shown once the edit is made, by the function in which it arises. A goal's name says
 where (`returns-then-is_spent`: where the function returns because `is_spent` holds; `loop-.._preserved`: the invariant behind a
 turn; `..-requires`: what a call wants) and, last, the clause of the contract. `tests/edits_table.py` writes this page from the
-log of the gate.
+log of the gate. An edit that isn't here is tried by the gate like the others.
+
+An edit counts where its meaning is refused, and not only its form. Where one changes a value alone, the code as it stands is the right body of that
+form. Where one adds a statement or a branch to a function whose proof is written by hand, a right body of the same form was tried once, and is proved.
 """
 LINE = re.compile(r"must-fail (\w+)/([\w-]+)\.edit: refused, as it must be(.*)")
-GOAL = re.compile(r"(?:note: )?((?:src|specs|proofs)/[\w+/-]+\.(?:rt|antt)):(\d+):\d+: (.*)")
+GOAL = re.compile(r"(?:note: |\./)?((?:src|specs|proofs)/[\w+/-]+\.(?:rt|antt)):(\d+):\d+: (.*)")
 
 
 def function_at(crate, path, line):
-    """The function of the source around this line."""
+    """The function of the source around this line, or the one whose proof this file is."""
+    if path.startswith("proofs/"):
+        return os.path.basename(os.path.dirname(path))
     name = "?"
     with open(os.path.join(TOP, "crates", crate, path)) as source:
         for number, text in enumerate(source, 1):
@@ -53,7 +59,7 @@ def known():
         return found
     with open(page) as text:
         for line in text:
-            head = re.match(r"## (\w+)$", line)
+            head = re.match(r"## (\w+) \(", line)
             row = re.match(r"\| `([\w-]+)` \| (.*) \|$", line)
             if head:
                 crate = head.group(1)
@@ -72,11 +78,12 @@ def main():
     print(HEAD)
     for folder in sorted(glob.glob(os.path.join(TOP, "crates", "*", "must-fail"))):
         crate = os.path.basename(os.path.dirname(folder))
-        print("## %s\n\n| Edit | Refused by |\n|---|---|" % crate)
-        for edit in sorted(glob.glob(os.path.join(folder, "*.edit"))):
-            name = os.path.basename(edit)[:-len(".edit")]
-            print("| `%s` | %s |" % (name, found.get((crate, name), "not tried yet")))
-        print()
+        names = sorted(os.path.basename(edit)[:-len(".edit")] for edit in glob.glob(os.path.join(folder, "*.edit")))
+        told = [(name, found[crate, name]) for name in names if (crate, name) in found]
+        print("## %s (%d of %d)\n" % (crate, len(told), len(names)))
+        if told:
+            print("| Edit | Refused by |\n|---|---|")
+            print("\n".join("| `%s` | %s |" % row for row in told) + "\n")
 
 
 if __name__ == "__main__":
