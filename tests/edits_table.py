@@ -21,7 +21,8 @@ turn; `..-requires`: what a call wants) and, last, the clause of the contract. `
 log of the gate. An edit that isn't here is tried by the gate like the others.
 
 An edit counts where its meaning is refused, and not only its form. Where one changes a value alone, the code as it stands is the right body of that
-form. Where one adds a statement or a branch to a function whose proof is written by hand, a right body of the same form was tried once, and is proved.
+form. Where one was found to add a statement or a branch to a function whose proof is written by hand, a right body of the same form was tried once, and is
+proved; in some of them it answers want of memory, which shows only that the proof bears the form. Sentences of such trials stand here until the gate's do.
 """
 LINE = re.compile(r"must-fail (\w+)/([\w-]+)\.edit: refused, as it must be(.*)")
 GOAL = re.compile(r"(?:note: |\./)?((?:src|specs|proofs)/[\w+/-]+\.(?:rt|antt)):(\d+):\d+: (.*)")
