@@ -191,7 +191,8 @@ fn expand_argument<'x, 'a: 'x>(
     }
     let mut list = Cursor::over(alloc, Stretch::new(Default::default(), sets.empty()));
     list.push_clones(alloc, argument)?;
-    let mut passed = Passed::new(alloc);
+    // An argument mostly comes to about as many tokens as it has.
+    let mut passed = Passed::with_room(alloc, argument.len())?;
     expand_list(
         alloc,
         table,

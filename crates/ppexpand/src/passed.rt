@@ -60,6 +60,16 @@ impl<'a> Passed<'a> {
         }
     }
 
+    /// Nothing, with room for so many tokens that pass one by one.
+    pub(crate) fn with_room(alloc: Global, count: usize) -> Result<Passed<'a>, AllocError>
+        ensures { IfOk result (λ p. p ≡ []) }
+    {
+        Ok(Passed {
+            pieces: Vec::new(alloc),
+            singles: Vec::with_capacity(alloc, count)?,
+        })
+    }
+
     /// Puts a stretch behind the others.
     pub(crate) fn extend(&mut self, stretch: Stretch<'a>) -> Result<(), AllocError>
         ensures { OnOk result (self.new ≡ self.old ++ stretch.entry) }

@@ -38,7 +38,7 @@ impl Model for Set {
 pub struct HideSets {
     alloc: Global,
     names: NameNumbers,
-    nodes: IndexSet<Node>,
+    nodes: IndexSet<Node, Hashing>,
     unions: Pairs,
     meets: Pairs,
 }
@@ -72,9 +72,9 @@ impl HideSets {
         Ok(HideSets {
             alloc,
             names: NameNumbers::new(alloc, hashing),
-            nodes: nodes::start(alloc)?,
-            unions: Pairs::new(alloc),
-            meets: Pairs::new(alloc),
+            nodes: nodes::start(alloc, hashing)?,
+            unions: Pairs::new(alloc, hashing),
+            meets: Pairs::new(alloc, hashing),
         })
     }
 

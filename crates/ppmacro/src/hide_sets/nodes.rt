@@ -9,6 +9,7 @@ ghost use Rattle.ppmacro.specs.Remembered.{AreAnswers};
 
 use super::pairs::Pairs;
 use indexmap::IndexSet;
+use pptext::Hashing;
 use std::alloc::{AllocError, Global};
 
 /// How many numbers a word of members has: the number n is bit n % 64 of the word n / 64.
@@ -45,12 +46,12 @@ impl Operation {
 }
 
 /// The empty set alone.
-pub(crate) fn start(alloc: Global) -> Result<IndexSet<Node>, AllocError>
+pub(crate) fn start(alloc: Global, hashing: Hashing) -> Result<IndexSet<Node, Hashing>, AllocError>
     ensures pool { IfOk result (λ s. IsPool s.keys) }
     ensures bounded { IfOk result (λ s. IsBounded 0 s.keys) }
     ensures is { IfOk result (λ s. s.keys ≡ first) }
 {
-    let mut nodes = IndexSet::new(alloc);
+    let mut nodes = IndexSet::with_hasher(alloc, hashing);
     let none = Node {
         here: 0,
         left: 0,
@@ -63,7 +64,7 @@ pub(crate) fn start(alloc: Global) -> Result<IndexSet<Node>, AllocError>
 }
 
 // The node with this number.
-fn read(nodes: &IndexSet<Node>, number: u32) -> Node
+fn read(nodes: &IndexSet<Node, Hashing>, number: u32) -> Node
     requires { number < length nodes.now.keys }
     ensures { result ≡ node_at nodes.now.keys number }
 {
@@ -71,7 +72,7 @@ fn read(nodes: &IndexSet<Node>, number: u32) -> Node
 }
 
 // The number of a node, which joins the others unless it is among them.
-fn number_for(nodes: &mut IndexSet<Node>, node: Node) -> Result<u32, AllocError>
+fn number_for(nodes: &mut IndexSet<Node, Hashing>, node: Node) -> Result<u32, AllocError>
     requires pool { IsPool nodes.old.keys }
     requires within { IsWithin (length nodes.old.keys) node }
     ensures pool { IsPool nodes.new.keys }
@@ -92,7 +93,7 @@ fn number_for(nodes: &mut IndexSet<Node>, node: Node) -> Result<u32, AllocError>
 
 // The same, where the node may be that of one of two sets, which are looked at first.
 fn number_beside(
-    nodes: &mut IndexSet<Node>,
+    nodes: &mut IndexSet<Node, Hashing>,
     node: Node,
     one: u32,
     two: u32,
@@ -118,7 +119,7 @@ fn number_beside(
 }
 
 // A word of a set.
-fn word_of(nodes: &IndexSet<Node>, set: u32, index: usize) -> u64
+fn word_of(nodes: &IndexSet<Node, Hashing>, set: u32, index: usize) -> u64
     requires pool { IsPool nodes.now.keys }
     requires known { set < length nodes.now.keys }
     ensures { result ≡ word nodes.now.keys set index }
@@ -135,7 +136,7 @@ fn word_of(nodes: &IndexSet<Node>, set: u32, index: usize) -> u64
 }
 
 /// Whether a set has a number.
-pub(crate) fn has(nodes: &IndexSet<Node>, set: u32, number: usize) -> bool
+pub(crate) fn has(nodes: &IndexSet<Node, Hashing>, set: u32, number: usize) -> bool
     requires pool { IsPool nodes.now.keys }
     requires known { set < length nodes.now.keys }
     ensures { result ≡ member nodes.now.keys set number }
@@ -145,7 +146,11 @@ pub(crate) fn has(nodes: &IndexSet<Node>, set: u32, number: usize) -> bool
 }
 
 /// The number of a set with one member more.
-pub(crate) fn insert(nodes: &mut IndexSet<Node>, set: u32, number: usize) -> Result<u32, AllocError>
+pub(crate) fn insert(
+    nodes: &mut IndexSet<Node, Hashing>,
+    set: u32,
+    number: usize,
+) -> Result<u32, AllocError>
     requires pool { IsPool nodes.old.keys }
     requires known { set < length nodes.old.keys }
     ensures pool { IsPool nodes.new.keys }
@@ -160,7 +165,7 @@ pub(crate) fn insert(nodes: &mut IndexSet<Node>, set: u32, number: usize) -> Res
 
 // The number of a set with one bit more in its word with this index.
 fn insert_bit(
-    nodes: &mut IndexSet<Node>,
+    nodes: &mut IndexSet<Node, Hashing>,
     set: u32,
     index: usize,
     bit: usize,
@@ -243,7 +248,7 @@ fn known(pairs: &Pairs, operation: Operation, one: u32, two: u32) -> Option<u32>
 
 // The number of what two sets are made into, word by word.
 fn make(
-    nodes: &mut IndexSet<Node>,
+    nodes: &mut IndexSet<Node, Hashing>,
     operation: Operation,
     one: u32,
     two: u32,
@@ -273,7 +278,7 @@ fn make(
 
 /// The number of what two sets are made into. It answers their pair from then on.
 pub(crate) fn join(
-    nodes: &mut IndexSet<Node>,
+    nodes: &mut IndexSet<Node, Hashing>,
     pairs: &mut Pairs,
     operation: Operation,
     one: u32,

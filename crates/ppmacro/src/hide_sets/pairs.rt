@@ -3,13 +3,14 @@ ghost use Rattle.std.specs.Prelude.{◌≡◌, ◌∷◌, ◌++◌, [], OnOk, On
 ghost use Rattle.ppmacro.specs.Pairs.{answer_of};
 
 use indexmap::IndexMap;
+use pptext::Hashing;
 use std::alloc::{AllocError, Global};
 use std::marker::Model;
 
 /// Pairs of numbers, each with the number that answers it, in the order in which they were answered.
 #[derive(Drop)]
 pub(crate) struct Pairs {
-    answers: IndexMap<(u32, u32), u32>,
+    answers: IndexMap<(u32, u32), u32, Hashing>,
 }
 
 impl Model for Pairs {
@@ -24,11 +25,11 @@ impl Model for Pairs {
 
 impl Pairs {
     /// No pair.
-    pub(crate) fn new(alloc: Global) -> Pairs
+    pub(crate) fn new(alloc: Global, hashing: Hashing) -> Pairs
         ensures { result ≡ [] }
     {
         Pairs {
-            answers: IndexMap::new(alloc),
+            answers: IndexMap::with_hasher(alloc, hashing),
         }
     }
 
