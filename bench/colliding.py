@@ -53,12 +53,12 @@ def kit(state, data):
 
 
 def whole(write, name):
-    """The hash of a text that is written whole, as the names of the macro table and of parameters are."""
+    """The hash of a text that is written whole, as names of macros, of parameters and in hide sets are."""
     return write(SEED, name)
 
 
 def each(write, name):
-    """The hash of a text that is written as its length and byte after byte, as the names of files and in hide sets are."""
+    """The hash of a text that is written as its length and byte after byte, as names of files are."""
     state = write(SEED, len(name).to_bytes(8, "little"))
     for byte in name:
         state = write(state, bytes([byte]))
@@ -99,14 +99,14 @@ def taken_away(state, text):
 
 
 def macro_names(count):
-    """Up to 65,536 identifiers of 80 bytes with the hash 0 where a name is hashed whole: of macros and of parameters."""
+    """Up to 65,536 identifiers of 80 bytes with the hash 0 where a name is hashed whole: of macros, of parameters, in hide sets."""
     blocks = [taken_away(0, text) for text in OTHERS]
     made = [taken_away(SEED, FIRST) + "".join(parts) for parts in itertools.islice(itertools.product(blocks, repeat=4), count)]
     return colliding(made, whole, own)
 
 
 def long_names(count):
-    """Up to 65,536 names of 208 bytes with one hash where a name is hashed byte after byte: of files, and in hide sets."""
+    """Up to 65,536 names of 208 bytes with one hash where a name is hashed byte after byte: of files."""
     return colliding(["".join(parts) for parts in itertools.islice(itertools.product(*PAIRS), count)], each, own)
 
 

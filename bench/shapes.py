@@ -120,6 +120,11 @@ def defined(made):
     return lines(("#define %s x" % name for name in made), made)
 
 
+def hidden(made):
+    """A chain of these names, the last of which is used: the hide set of what it comes to has them all."""
+    return lines("#define %s x" % made[0], ("#define %s %s" % pair for pair in zip(made[1:], made)), made[-1])
+
+
 def listed_files(made):
     return dict(DATE, files=[{"name": name, "text": ""} for name in made], units=[{"file": made[-1]}])
 
@@ -158,6 +163,6 @@ SHAPES = [
     repeated("??/ and new-line", "??/\n", lambda size: size // 4, status=1),
     repeated("\\ and new-line", "\\\n", lambda size: size // 2, status=1),
     Shape("flood: macros", (8_000, 16_000, 32_000), lambda size: defined(macro_names(size))),
-    Shape("flood: names in hide sets", (8_000, 16_000, 32_000), lambda size: defined(long_names(size))),
+    Shape("flood: names in hide sets", (8_000, 16_000, 32_000), lambda size: hidden(macro_names(size))),
     Shape("flood: files", (8_000, 16_000, 32_000), listed=lambda size: listed_files(long_names(size))),
 ]

@@ -1,7 +1,7 @@
 #!/bin/sh
 # The gate: `rt ci`, and then, over the program that it leaves behind, the tests of the scripts, the examples of the README
 # and of docs/, cut texts and lists, the limits that take no seconds (names, contents of a folder, includes, conditions,
-# arguments, `#line`), streams and files that fail, and the runs with refused memory.  The last line is `N passed, N failed`
+# arguments, `#line`, options), streams and files that fail, and the runs with refused memory.  The last line is `N passed, N failed`
 # over all of it; before it stands which tests were missed, with the program that is missing and the Debian package that has
 # it.  What takes longer is in tests/hostile.sh.
 #
@@ -50,7 +50,7 @@ if has python3 python3 "the tests of the scripts and documents"; then
     count python3 tests/scripts_tests.py
     count python3 tests/docs_examples.py
     count python3 tests/truncated.py
-    count python3 tests/hostile_limits.py -k test_a_name -k test_a_content_of_a_folder -k Text.
+    count python3 tests/hostile_limits.py -k test_a_name -k test_a_content_of_a_folder -k Text. -k Options.
     count python3 tests/hostile_devices.py
     if has cc gcc "the runs with refused memory"; then
         count python3 tests/refused_memory.py "$CPPUNITS"

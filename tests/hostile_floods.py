@@ -20,7 +20,7 @@ from counted import TOP, main, missed, program
 
 sys.path.insert(0, os.path.join(TOP, "bench"))
 from colliding import kit_long_names, kit_macro_names, long_names, macro_names  # noqa: E402
-from shapes import defined, invoked, list_of_text, listed_files  # noqa: E402
+from shapes import defined, hidden, invoked, list_of_text, listed_files  # noqa: E402
 
 COUNT = 32_000
 MOST_TIMES, LEAST_SECONDS, MOST_SECONDS = 10, 0.1, 60
@@ -34,6 +34,10 @@ def ordinary(length):
 
 def macros(names):
     return list_of_text(defined(names))
+
+
+def hide_sets(names):
+    return list_of_text(hidden(names))
 
 
 def parameters(names):
@@ -66,7 +70,7 @@ class Floods(unittest.TestCase):
         self.cost_no_more(parameters, macro_names, kit_macro_names)
 
     def test_names_in_hide_sets(self):
-        self.cost_no_more(macros, long_names, kit_long_names)
+        self.cost_no_more(hide_sets, macro_names, kit_macro_names)
 
     def test_files(self):
         self.cost_no_more(listed_files, long_names, kit_long_names)
