@@ -14,16 +14,12 @@ abbrev pub branches : ℕ → List Role → List ℕ
 branches k [] = []
 branches k (s ∷ ss) = (step_back k s (branches (k + 1) ss)).1
 
-drop_none : (j : ℕ) → drop {A = ℕ} j [] ≡ []
-drop_none zero = refl
-drop_none (suc j) = refl
-
 drop_one_more : (j : ℕ) (ks : List ℕ) → drop j (drop 1 ks) ≡ drop (suc j) ks
-drop_one_more j [] = drop_none j
+drop_one_more j [] = drop_all j [] (omega arith)
 drop_one_more j (k ∷ ks) = refl
 
 branch_is : (j k : ℕ) (ss : List Role) → branch_behind j k ss ≡ first (drop j (branches k ss))
-branch_is j k [] = ap first (sym (drop_none j))
+branch_is j k [] = ap first (sym (drop_all j [] (omega arith)))
 branch_is j k (Opens ∷ ss) = branch_is (suc j) (k + 1) ss ∙ ap first (sym (drop_one_more j (branches (k + 1) ss)))
 branch_is zero k (Closes ∷ ss) = refl
 branch_is (suc j) k (Closes ∷ ss) = branch_is j (k + 1) ss

@@ -6,7 +6,7 @@ use Rattle.pptext.specs.declared.characters.Char.{Char}
 use Rattle.pptext.specs.Clean.{placed, unmarked, newline, next_col, is_return_at, without_returns, missing_newline, terminated, trigraph_at, trigraphs_behind, trigraphs, splice_at, splices_behind, splices, splice_at_end, unless_at, cleaned}
 use Rattle.pptext.proofs.Columns.{unmarked_length}
 
-placed_length : (file line col : ℕ) (bs : List ℕ) → length (placed file line col bs) ≡ length bs
+pub placed_length : (file line col : ℕ) (bs : List ℕ) → length (placed file line col bs) ≡ length bs
 placed_length file line col [] = refl
 placed_length file line col (b ∷ bs) =
     elim (b == newline) as (λ t. suc (length (if t then placed file (line + 1) 1 bs else placed file line (col + 1) bs)) ≡ suc (length bs)) [

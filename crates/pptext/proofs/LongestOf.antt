@@ -11,6 +11,7 @@ use Rattle.pptext.specs.Lone.{IsQuoted}
 use Rattle.pptext.proofs.Parts.{front_of, front_length, none_repeated, more_repeated, then_longest}
 use Rattle.pptext.proofs.Fronts.{one_front, one_lacks, either_lacks, nondigit_here}
 use Rattle.pptext.proofs.Table.{any_passes}
+use Rattle.pptext.proofs.OneKind.{is_ident_head, is_number_head}
 use Rattle.pptext.proofs.Combine.{then_lacks, exactly_lacks, head_behind, then_left, one_begins, begins_one}
 use Rattle.pptext.proofs.Numbers.{lacks_nondigit, Fraction, NumberStart, period_front}
 use Rattle.pptext.proofs.Idents.{IdentPart, ident_byte}
@@ -55,12 +56,6 @@ longest_spelling text n k some fits spelled none = record {
     longer m more within Other s = other_longer text n some m more within s
 
 -- by the first byte
-abbrev is_ident_head : ℕ → Bool
-is_ident_head c = is_nondigit c || c == 92
-
-abbrev is_number_head : ℕ → Bool
-is_number_head c = is_digit c || c == 46
-
 abbrev is_quote : ℕ → Bool
 is_quote c = c == 39 || c == 34
 

@@ -1,15 +1,13 @@
 -- The parts of a preprocessing number (6.4.8).
-use Rattle.std.proofs.Common.{◌≡◌, ℕ, ◌-◌, ◌<◌, ◌≤◌, Bool, true, false, ◌||◌, ◌==◌, List, [], ◌∷◌, ◌++◌, length, take, drop, sym, ap, ◌∙◌, inl, inr, ◌⊎◌, arith, length-drop, get_or}
+use Rattle.std.proofs.Common.{◌≡◌, ℕ, ◌-◌, ◌<◌, ◌≤◌, true, false, List, [], ◌∷◌, ◌++◌, length, take, drop, sym, ap, ◌∙◌, inl, inr, ◌⊎◌, arith, length-drop, get_or}
 use Rattle.std.proofs.lemmas.Bool.{false≢true}
 use Rattle.std.proofs.lemmas.Bool.Decides.{nat_tests}
 use Rattle.pptext.specs.Languages.{Exactly, One, Then, Either, NoFront, NextPart, IsOnly, OnlyPart}
 use Rattle.pptext.specs.Spellings.{is_digit, is_nondigit, is_exponent, is_sign, IsUniversal, IsNondigit, IsNumberPart}
 use Rattle.pptext.proofs.Fronts.{next_from_only, one_here, one_lacks, universal_lacks, either_lacks, either_left, either_right, either_left_part, nondigit_here, only_zero, only_some}
 use Rattle.pptext.proofs.Parts.{front_of}
+use Rattle.pptext.proofs.OneKind.{is_number_head}
 use Rattle.pptext.proofs.Combine.{begins_two, then_lacks, then_only, next_some, two_front, two_here, head_behind, exactly_here, one_begins}
-
-abbrev digit_or_period : ℕ → Bool
-digit_or_period c = is_digit c || c == 46
 
 abbrev Exponent : List ℕ → Type 0
 Exponent = Then (One is_exponent) (One is_sign)
@@ -17,19 +15,19 @@ Exponent = Then (One is_exponent) (One is_sign)
 pub lacks_nondigit : (text : List ℕ) → is_nondigit (get_or text 0 0) ≡ false → (get_or text 0 0 ≡ 92 → ⊥) → NoFront IsNondigit text
 lacks_nondigit text f g = either_lacks (One is_nondigit) IsUniversal text (one_lacks is_nondigit text f) (universal_lacks text g)
 
-digit_or_period-no_nondigit : (x : ℕ) → digit_or_period x ≡ true → is_nondigit x ≡ false
-digit_or_period-no_nondigit x t = grind (arith, nat_tests)
+number_head-no_nondigit : (x : ℕ) → is_number_head x ≡ true → is_nondigit x ≡ false
+number_head-no_nondigit x t = grind (arith, nat_tests)
 
-digit_or_period-no_backslash : (x : ℕ) → digit_or_period x ≡ true → x ≡ 92 → ⊥
-digit_or_period-no_backslash x t e = false≢true (ap digit_or_period (sym e) ∙ t)
+number_head-no_backslash : (x : ℕ) → is_number_head x ≡ true → x ≡ 92 → ⊥
+number_head-no_backslash x t e = false≢true (ap is_number_head (sym e) ∙ t)
 
-digit_or_period-no_exponent : (x : ℕ) → digit_or_period x ≡ true → is_exponent x ≡ false
-digit_or_period-no_exponent x t = grind (arith, nat_tests)
+number_head-no_exponent : (x : ℕ) → is_number_head x ≡ true → is_exponent x ≡ false
+number_head-no_exponent x t = grind (arith, nat_tests)
 
 exponent-nondigit : (x : ℕ) → is_exponent x ≡ true → is_nondigit x ≡ true
 exponent-nondigit x t = grind (arith, nat_tests)
 
-exponent-no_digit : (x : ℕ) → is_exponent x ≡ true → digit_or_period x ≡ false
+exponent-no_digit : (x : ℕ) → is_exponent x ≡ true → is_number_head x ≡ false
 exponent-no_digit x t = grind (arith, nat_tests)
 
 sign-no_nondigit : (x : ℕ) → is_sign x ≡ true → is_nondigit x ≡ false
@@ -38,7 +36,7 @@ sign-no_nondigit x t = grind (arith, nat_tests)
 sign-no_backslash : (x : ℕ) → is_sign x ≡ true → x ≡ 92 → ⊥
 sign-no_backslash x t e = false≢true (ap is_sign (sym e) ∙ t)
 
-sign-no_digit : (x : ℕ) → is_sign x ≡ true → digit_or_period x ≡ false
+sign-no_digit : (x : ℕ) → is_sign x ≡ true → is_number_head x ≡ false
 sign-no_digit x t = grind (arith, nat_tests)
 
 sign-no_exponent : (x : ℕ) → is_sign x ≡ true → is_exponent x ≡ false
@@ -48,17 +46,17 @@ sign-no_exponent x t = grind (arith, nat_tests)
 sign_begins_none : (text : List ℕ) → is_sign (get_or text 0 0) ≡ true → NoFront IsNumberPart text
 sign_begins_none text t =
     let x : ℕ = get_or text 0 0 in
-    either_lacks IsNondigit (Either (One digit_or_period) Exponent) text
+    either_lacks IsNondigit (Either (One is_number_head) Exponent) text
     (lacks_nondigit text (sign-no_nondigit x t) (sign-no_backslash x t))
-    (either_lacks (One digit_or_period) Exponent text (one_lacks digit_or_period text (sign-no_digit x t)) (then_lacks (One is_exponent) (One is_sign) text (one_lacks is_exponent text (sign-no_exponent x t))))
+    (either_lacks (One is_number_head) Exponent text (one_lacks is_number_head text (sign-no_digit x t)) (then_lacks (One is_exponent) (One is_sign) text (one_lacks is_exponent text (sign-no_exponent x t))))
 
-pub digit_part : (text : List ℕ) → 0 < length text → digit_or_period (get_or text 0 0) ≡ true → NextPart IsNumberPart text 1
+pub digit_part : (text : List ℕ) → 0 < length text → is_number_head (get_or text 0 0) ≡ true → NextPart IsNumberPart text 1
 digit_part text l t =
     let x : ℕ = get_or text 0 0 in
-    let inner : IsOnly (Either (One digit_or_period) Exponent) text 1 =
-    either_left (One digit_or_period) Exponent text 1 (one_here digit_or_period text l t) (then_lacks (One is_exponent) (One is_sign) text (one_lacks is_exponent text (digit_or_period-no_exponent x t))) in
+    let inner : IsOnly (Either (One is_number_head) Exponent) text 1 =
+    either_left (One is_number_head) Exponent text 1 (one_here is_number_head text l t) (then_lacks (One is_exponent) (One is_sign) text (one_lacks is_exponent text (number_head-no_exponent x t))) in
     let whole : OnlyPart IsNumberPart text 1 =
-    either_right IsNondigit (Either (One digit_or_period) Exponent) text 1 (lacks_nondigit text (digit_or_period-no_nondigit x t) (digit_or_period-no_backslash x t)) (only_some (Either (One digit_or_period) Exponent) text 1 inner) in
+    either_right IsNondigit (Either (One is_number_head) Exponent) text 1 (lacks_nondigit text (number_head-no_nondigit x t) (number_head-no_backslash x t)) (only_some (Either (One is_number_head) Exponent) text 1 inner) in
     next_some IsNumberPart text 1 (next_from_only IsNumberPart text 1 (whole.1 (omega arith)))
 
 -- the letter alone is a part too, and then the sign would stand before a part
@@ -74,7 +72,7 @@ exponent_others text l t s m fits (inl nondigit) =
     let one : m ≡ 1 = ((nondigit_here text (omega arith) (exponent-nondigit (get_or text 0 0) t)).1 (omega arith)).only m fits nondigit in
     let none : NoFront IsNumberPart (drop 1 text) = sign_begins_none (drop 1 text) (ap is_sign (head_behind text) ∙ s) in
     inr (omega arith, rw one none)
-exponent_others text l t s m fits (inr (inl digit)) = absurd (one_lacks digit_or_period text (exponent-no_digit (get_or text 0 0) t) m fits digit)
+exponent_others text l t s m fits (inr (inl digit)) = absurd (one_lacks is_number_head text (exponent-no_digit (get_or text 0 0) t) m fits digit)
 exponent_others text l t s m fits (inr (inr both)) = inl (two_front is_exponent is_sign text m fits both).0
 
 pub exponent_part : (text : List ℕ) → 2 ≤ length text → is_exponent (get_or text 0 0) ≡ true → is_sign (get_or text 1 0) ≡ true → NextPart IsNumberPart text 2
@@ -87,15 +85,15 @@ exponent_part text l t s =
     })
 
 pub nondigit_part : (text : List ℕ) (n : ℕ)
-    → digit_or_period (get_or text 0 0) ≡ false
+    → is_number_head (get_or text 0 0) ≡ false
     → ((2 ≤ length text) × (is_exponent (get_or text 0 0) ≡ true) × (is_sign (get_or text 1 0) ≡ true) → ⊥)
     → OnlyPart IsNondigit text n
     → NextPart IsNumberPart text n
 nondigit_part text n f g p =
-    let lacks : NoFront (Either (One digit_or_period) Exponent) text =
-    either_lacks (One digit_or_period) Exponent text (one_lacks digit_or_period text f)
+    let lacks : NoFront (Either (One is_number_head) Exponent) text =
+    either_lacks (One is_number_head) Exponent text (one_lacks is_number_head text f)
     (λ m fits e. let h = two_front is_exponent is_sign text m fits e in g (h.1, h.2, h.3)) in
-    let whole : OnlyPart IsNumberPart text n = either_left_part IsNondigit (Either (One digit_or_period) Exponent) text n p lacks in
+    let whole : OnlyPart IsNumberPart text n = either_left_part IsNondigit (Either (One is_number_head) Exponent) text n p lacks in
     (whole.0, λ some. next_from_only IsNumberPart text n (whole.1 some))
 
 -- with what a number begins

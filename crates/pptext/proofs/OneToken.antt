@@ -14,6 +14,7 @@ use Rattle.pptext.specs.Cut.{NewLine, Blank, Comment, Spelled, StandsAt, EachSta
 use Rattle.pptext.specs.Sources.{IsOneToken}
 use Rattle.pptext.specs.Finds.{Finds, AreBlanks}
 use Rattle.pptext.proofs.OnePiece.{one_piece, no_piece_open}
+use Rattle.pptext.proofs.Lengths.{placed_length}
 
 codes_of-placed : (file line col : ℕ) (bytes : List ℕ) → codes_of (placed file line col bytes) ≡ bytes
 codes_of-placed file line col [] = refl
@@ -23,22 +24,18 @@ codes_of-placed file line col (b ∷ bs) = ap (λ z. b ∷ z) (cases (b == newli
     cases true e f = e
     cases false e f = f
 
-placed-length : (file line col : ℕ) (bytes : List ℕ) → length (placed file line col bytes) ≡ length bytes
-placed-length file line col bytes =
-    sym (length-map (placed file line col bytes) (λ (c : Char). c.code)) ∙ ap length (codes_of-placed file line col bytes)
-
 module _ (text : List ℕ) where
   whole : codes_of (placed 0 1 1 text ++ ([] ++ [])) ≡ text
   whole = ap codes_of (append-nil (placed 0 1 1 text)) ∙ codes_of-placed 0 1 1 text
 
   pub one_token_stands : (k : Kind) → IsOneToken text k → StandsAt [] text (length text) (Spelled k)
   one_token_stands k cut =
-      subst (λ z. StandsAt [] text z (Spelled k)) (placed-length 0 1 1 text) (subst (λ z. StandsAt [] z (length (placed 0 1 1 text)) (Spelled k)) whole cut.each.0)
+      subst (λ z. StandsAt [] text z (Spelled k)) (placed_length 0 1 1 text) (subst (λ z. StandsAt [] z (length (placed 0 1 1 text)) (Spelled k)) whole cut.each.0)
 
   pub stands_one_token : (k : Kind) → StandsAt [] text (length text) (Spelled k) → IsOneToken text k
   stands_one_token k here = record {
     whole = append-nil (placed 0 1 1 text ++ []) ∙ append-nil (placed 0 1 1 text);
-    each = (subst (λ z. StandsAt [] z (length (placed 0 1 1 text)) (Spelled k)) (sym whole) (subst (λ z. StandsAt [] text z (Spelled k)) (sym (placed-length 0 1 1 text)) here), tt);
+    each = (subst (λ z. StandsAt [] z (length (placed 0 1 1 text)) (Spelled k)) (sym whole) (subst (λ z. StandsAt [] text z (Spelled k)) (sym (placed_length 0 1 1 text)) here), tt);
   }
 
 -- a text that opens no comment opens none where it stops sooner

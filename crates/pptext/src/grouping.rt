@@ -1,6 +1,7 @@
 // The groups of a file (6.10), by directive names alone.
 ghost use Rattle.std.specs.Prelude.{◌≡◌, ◌<◌, ◌≤◌, ◌^◌, [], length, None};
 ghost use Rattle.pptext.specs.Answers.{GroupsInto};
+ghost use Rattle.pptext.specs.Clean.{longest};
 ghost use Rattle.pptext.specs.Sources.{lines_from};
 ghost use Rattle.pptext.specs.Tree.{group_fault};
 ghost use Rattle.pptext.specs.Grouping.{AreDrafts, AreLines};
@@ -67,7 +68,7 @@ mod tests {
         at: Place,
         name: &[u8],
     ) -> Result<(), Memory>
-        requires { length bytes.now ≤ 16_777_216 }
+        requires { length bytes.now ≤ longest }
     {
         match read_source(alloc, bytes, 0, profile) {
             Err(SourceFault::Bad(fault)) => assert_is_fault(rt, bytes, &fault, number, at, name),
@@ -85,7 +86,7 @@ mod tests {
         bytes: &[u8],
         guard: Option<&[u8]>,
     ) -> Result<(), Memory>
-        requires { length bytes.now ≤ 16_777_216 }
+        requires { length bytes.now ≤ longest }
     {
         match read_source(alloc, bytes, 0, profile) {
             Ok(source) => assert_same(rt, bytes, &source.guard(), &guard),
@@ -207,7 +208,7 @@ mod tests {
         bytes: &[u8],
         wanted: &[(Option<Directive>, Option<usize>)],
     ) -> Result<(), Memory>
-        requires { length bytes.now ≤ 16_777_216 }
+        requires { length bytes.now ≤ longest }
     {
         match read_source(alloc, bytes, 0, profile) {
             Ok(source) => assert_linked(rt, bytes, source.lines(), wanted),

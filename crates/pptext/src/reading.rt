@@ -143,7 +143,7 @@ mod tests {
         at: Place,
         name: &[u8],
     ) -> Result<(), Memory>
-        requires { length bytes.now ≤ 16_777_216 }
+        requires { length bytes.now ≤ longest }
     {
         match read_source(alloc, bytes, 7, Profile::C11) {
             Err(SourceFault::Bad(fault)) => assert_is_fault(rt, bytes, &fault, number, at, name),
