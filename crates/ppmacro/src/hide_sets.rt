@@ -58,14 +58,14 @@ impl Model for HideSets {
 }
 
 impl HideSets {
-    /// The empty set alone. Names are hashed without a key: see `with_hasher`.
+    /// The empty set alone. Names and sets are hashed by a key that everybody knows: see `with_hasher`.
     pub fn new(alloc: Global) -> Result<HideSets, Memory>
         ensures { IfOk result (λ s. s ≡ starting) }
     {
         HideSets::with_hasher(alloc, Hashing::fixed())
     }
 
-    /// The same, with names that are hashed so, as a table's are.
+    /// The same, where names, the nodes of sets and the pairs that are remembered are hashed so, as a table's names are.
     pub fn with_hasher(alloc: Global, hashing: Hashing) -> Result<HideSets, Memory>
         ensures { IfOk result (λ s. s ≡ starting) }
     {

@@ -45,7 +45,7 @@ impl Operation {
     }
 }
 
-/// The empty set alone.
+/// The empty set alone. Nodes are hashed so.
 pub(crate) fn start(alloc: Global, hashing: Hashing) -> Result<IndexSet<Node, Hashing>, AllocError>
     ensures pool { IfOk result (λ s. IsPool s.keys) }
     ensures bounded { IfOk result (λ s. IsBounded 0 s.keys) }

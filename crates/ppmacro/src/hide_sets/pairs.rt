@@ -24,7 +24,7 @@ impl Model for Pairs {
 }
 
 impl Pairs {
-    /// No pair.
+    /// No pair. Pairs are hashed so.
     pub(crate) fn new(alloc: Global, hashing: Hashing) -> Pairs
         ensures { result ≡ [] }
     {

@@ -5,7 +5,7 @@ use Rattle.ppmacro.proofs.Tries.{pool-first, bounded-first, same_node}
 use Rattle.ppmacro.proofs.hide_sets.nodes.start.Goals as goal
 
 pub returns-clause-is : goal.returns-clause-is
-returns-clause-is c = c.in-Ok.ensures.keys ∙ ap (λ ns. insert_key same_node ns no_node) c.new-nodes.ensures.empty
+returns-clause-is c = c.in-Ok.ensures.keys ∙ ap (λ ns. insert_key same_node ns no_node) c.with_hasher-nodes.ensures.empty
 
 pub returns-clause-pool : goal.returns-clause-pool
 returns-clause-pool c = subst IsPool (sym (returns-clause-is c)) pool-first
