@@ -1,11 +1,13 @@
--- What a public call answers of a token that was made.
-use Rattle.std.proofs.Common.{◌≡◌, Result, Ok, Err, IfOk}
+-- What a public call answers of what a step made: a token, or tokens and the mark behind them.
+use Rattle.std.proofs.Common.{◌≡◌, Bool, Result, Ok, Err, IfOk, Vec}
+use Rattle.std.specs.Global.{Global}
 use Rattle.pptext.specs.declared.tokens.Fault.{Fault}
 use Rattle.pptext.specs.declared.stops.Stop.{Stop}
 use Rattle.pptext.specs.declared.stops.Stop.TheVariants.{Fault as Faulted, Memory as OutOfMemory}
 use Rattle.ppmacro.specs.Numbered.{Numbered}
 use Rattle.ppmacro.specs.HideSets.{Hiding, hiding}
-use Rattle.ppmacro.specs.Substituting.{hidden_in}
+use Rattle.ppmacro.specs.Substitution.{Marked}
+use Rattle.ppmacro.specs.Substituting.{hidden_in, left_with, marked_in}
 use Rattle.ppmacro.specs.declared.flying.Hidden.{Hidden}
 use Rattle.pptext.specs.Stops.{Answers, settled}
 
@@ -13,3 +15,9 @@ pub settled-answers : (sets : Numbered) (r : Result Hidden Stop) (v : Result Hid
 settled-answers sets (Ok h) v e = e
 settled-answers sets (Err (Faulted f)) v e = e
 settled-answers sets (Err OutOfMemory) v e = tt
+
+pub settled-marked : (sets : Numbered) (r : Result (Vec Hidden Global × Bool) Stop) (v : Result Marked Fault)
+    → Answers r (λ m. left_with sets m.0.items m.1) v → IfOk (settled r) (λ a. marked_in sets a ≡ v)
+settled-marked sets (Ok m) v e = e
+settled-marked sets (Err (Faulted f)) v e = e
+settled-marked sets (Err OutOfMemory) v e = tt

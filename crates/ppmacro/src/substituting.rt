@@ -261,6 +261,30 @@ fn gain_names(
     gain_all(sets, tokens, last, gain, used)
 }
 
+// What an invocation is replaced by, and the mark that is left pending, or fault 19 or 20.
+fn substituted_by<'x, 'a: 'x>(
+    alloc: Global,
+    sets: &mut HideSets,
+    chains: &[Chain<'a>],
+    given: &[Vec<Hidden<'x>>],
+    expanded: &[Expansion<'x>],
+    base: Set,
+    name: &[u8],
+    used: Place,
+    space: bool,
+) -> Result<(Vec<Hidden<'x>>, bool), Stop>
+    requires arguments { ArgumentsKnown sets.old given.now expanded.now }
+    requires base { IsKnown sets.old base }
+    ensures is { Answers result (λ m. left_with sets.new m.0.items m.1)
+        (substituted_by chains.now (arguments_in sets.old given.now expanded.now) (set.insert (set_at sets.old base) name.now) used space) }
+    ensures known { IfOk result (λ m. AllKnown sets.new m.0.items) }
+    ensures keeps { Keeps sets.old sets.new }
+{
+    let (mut tokens, pending) = chains_tokens(alloc, sets, given, expanded, used, space, chains)?;
+    gain_names(sets, &mut tokens, base, name, used)?;
+    Ok((tokens, pending))
+}
+
 /// What an invocation is replaced by, and the space mark that waits for the token behind it; or the first of the
 /// faults 19 and 20. `chains` are the macro's, `given` the arguments, `expanded` the expansions of those that stand away from `#` and
 /// `##`; the names of `base` and `name` are what each token gains, `used` is the place of the macro's name, `space` its mark.
@@ -281,11 +305,7 @@ pub fn substitute<'x, 'a: 'x>(
     ensures known { IfOk result (λ r. IfOk r (λ m. AllKnown sets.new m.0.items)) }
     ensures keeps { Keeps sets.old sets.new }
 {
-    match settled(chains_tokens(alloc, sets, given, expanded, used, space, chains))? {
-        Ok((mut tokens, pending)) => {
-            gain_names(sets, &mut tokens, base, name, used)?;
-            Ok(Ok((tokens, pending)))
-        }
-        Err(fault) => Ok(Err(fault)),
-    }
+    settled(substituted_by(
+        alloc, sets, chains, given, expanded, base, name, used, space,
+    ))
 }
