@@ -2,6 +2,7 @@
 // for memory. Where a call that is tested meets the refusal, the test looks at what the call left, and calls again.
 mod definitions;
 mod hide_sets;
+mod keys;
 mod substitution;
 
 use crate::{HideSets, Set, Shape, Table, define, undef};
