@@ -3,6 +3,7 @@ use Rattle.std.proofs.Common.{◌≡◌, ◌↔◌, ℕ, zero, suc, ◌<◌, Boo
 use Rattle.std.proofs.Common.{codes, if◌then◌else◌, refl, sym, ap, ◌∙◌, subst, true≢false, arith, append_assoc}
 use Rattle.std.specs.Option.{option_map}
 use Rattle.std.specs.Str.{bytes_eq}
+use Rattle.std.proofs.lemmas.Bool.{and_parts, and_right}
 use Rattle.std.proofs.lemmas.Slice.Eq.{bytes_eq-Decides}
 use Rattle.pptext.specs.declared.tokens.Token.{Token}
 use Rattle.pptext.specs.declared.tokens.Kind.{Kind}
@@ -27,19 +28,11 @@ no_punctuator Other b e = absurd (true≢false (sym e))
 pub no_punct : (text : List ℕ) (t : Token) → is_identifier t ≡ true → is_punct text t ≡ false
 no_punct text t e = no_punctuator t.kind (bytes_eq t.text text) e
 
-second : (a b : Bool) → (a && b) ≡ true → b ≡ true
-second true b e = e
-second false b e = absurd (true≢false (sym e))
-
-never : (a b : Bool) → b ≡ false → (a && b) ≡ false
-never true b e = e
-never false b e = refl
-
 -- a punctuator has one spelling
 pub other_punct : (text other : List ℕ) (t : Token) → bytes_eq text other ≡ false → is_punct text t ≡ true → is_punct other t ≡ false
 other_punct text other t unlike e =
-    let spelt : t.text ≡ text = (bytes_eq-Decides t.text text).0 (second _ _ e) in
-    never (is_punctuator_kind t.kind) (bytes_eq t.text other) (ap (λ x. bytes_eq x other) spelt ∙ unlike)
+    let spelt : t.text ≡ text = (bytes_eq-Decides t.text text).0 ((and_parts _ _ e).1) in
+    and_right (is_punctuator_kind t.kind) (bytes_eq t.text other) (ap (λ x. bytes_eq x other) spelt ∙ unlike)
 
 -- ---- what is laid out is read
 
