@@ -111,7 +111,7 @@ expand_argument-expand_list-requires m c =
     let s = c.args.sets.now in
     let list : c.push_clones.new.self ≡ c.args.argument.now = c.in_ok-push_clones.ensures ∙ search rules in (
       omega (arith, c.if-level-ge-DEEPEST.false),
-      (omega (arith, c.if-level-ge-DEEPEST.false), (subst (AllKnown s) (sym list) c.requires.known, (c.new-passed.ensures, c.requires.no_fault))),
+      (omega (arith, c.if-level-ge-DEEPEST.false), (subst (AllKnown s) (sym list) c.requires.known, (c.in_ok-passed.ensures, c.requires.no_fault))),
     )
 
 pub expand_argument-returns-then-is_some-clause-is : goal.expand_argument-returns-then-is_some-clause-is

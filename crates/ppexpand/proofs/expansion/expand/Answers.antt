@@ -11,7 +11,7 @@ use Rattle.ppexpand.proofs.expansion.expand.Goals as goal
 pub expand_list-requires-clause-known : goal.expand_list-requires-clause-known
 expand_list-requires-clause-known c =
     let s = c.in_ok-sets.sets in
-    subst (AllKnown s) (sym (c.over-list.ensures ∙ c.new-2.ensures)) (known-with_set s c.empty.result c.split_plain.result.1.now c.empty.ensures.known)
+    subst (AllKnown s) (sym (c.over-list.ensures ∙ c.new-2.ensures)) (known-with_set s c.empty.result _ c.empty.ensures.known)
 
 pub returns-then-is_empty : goal.returns-then-is_empty
 returns-then-is_empty c =
