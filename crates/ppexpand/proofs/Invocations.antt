@@ -1,5 +1,6 @@
 -- The arguments of an invocation are found exactly where they are laid out.
 use Rattle.std.proofs.Common.{◌≡◌, ◌↔◌, ℕ, zero, suc, ◌<◌, Bool, true, false, not, List, [], ◌∷◌, ◌++◌, length, Option, refl, sym, ap, ◌∙◌, subst, true≢false, arith, append_assoc, length-append}
+use Rattle.std.proofs.lemmas.Bool.{not-true}
 use Rattle.ppmacro.specs.HideSets.{Hiding}
 use Rattle.ppexpand.specs.Arguments.{mark_of, Gathered, Closed, Quoted, Unclosed, with_token, with_argument, separates, fewer, gather, Mark, Quote, Open, Close, Comma, Inner}
 use Rattle.ppexpand.specs.Laws.{Nested, nothing, inner, comma, pair, Separated, last, more, IsInvocation}
@@ -52,17 +53,13 @@ passed_over (pair o inside close ts is_open within is_close n) d c uncut ys =
     at_open d c o ((inside ++ close ∷ ts) ++ ys) is_open
     ∙ ap (with_token o) (ap (gather (suc d) c) (append_assoc inside (close ∷ ts) ys) ∙ shut ∙ sym (with_tokens-append inside (close ∷ ts) (gather d c ys)))
 
-not_cut : (b : Bool) → not b ≡ true → b ≡ false
-not_cut true e = absurd (cc)
-not_cut false e = refl
-
 found : {c : Option ℕ} {inside : List Hiding} {as' : List (List Hiding)}
     → Separated c inside as'
     → (close : Hiding) (behind : List Hiding)
     → mark_of close.token ≡ Close
     → gather 0 c (inside ++ close ∷ behind) ≡ Closed as' close behind
 found {c = c} (last {a = a} n) close behind is_close =
-    passed_over n 0 c (not_cut (separates 0 c)) (close ∷ behind) ∙ ap (with_tokens a) (at_end c close behind is_close) ∙ with_tokens-closed a [] close behind
+    passed_over n 0 c (not-true (separates 0 c)) (close ∷ behind) ∙ ap (with_tokens a) (at_end c close behind is_close) ∙ with_tokens-closed a [] close behind
 found {c = c} (more {as' = as'} a t rest cut n e s) close behind is_close =
     ap (gather 0 c) (append_assoc a (t ∷ rest) (close ∷ behind))
     ∙ passed_over n 0 c (λ h. absurd (true≢false (sym h))) (t ∷ (rest ++ close ∷ behind))
@@ -168,10 +165,10 @@ laid_behind {c = c} front alone before m =
     }
 
 -- the layout of lists that are shorter than n
-abbrev Lays : ℕ → Type 0
-Lays n = (c : Option ℕ) (list : List Hiding) → length list < n → IsClosed (gather 0 c list) → LaidOut c list
+abbrev LaidOutBelow : ℕ → Type 0
+LaidOutBelow n = (c : Option ℕ) (list : List Hiding) → length list < n → IsClosed (gather 0 c list) → LaidOut c list
 
-laid_at_separator : (c : Option ℕ) (t : Hiding) (ts : List Hiding) → Lays (suc (length ts)) → IsClosed (gather 0 c (t ∷ ts)) → mark_of t.token ≡ Comma → separates 0 c ≡ true → LaidOut c (t ∷ ts)
+laid_at_separator : (c : Option ℕ) (t : Hiding) (ts : List Hiding) → LaidOutBelow (suc (length ts)) → IsClosed (gather 0 c (t ∷ ts)) → mark_of t.token ≡ Comma → separates 0 c ≡ true → LaidOut c (t ∷ ts)
 laid_at_separator c t ts on closed e cut =
     let m : LaidOut (fewer c) ts = on (fewer c) ts (omega arith) (closed-argument _ (subst IsClosed (at_separator 0 c t ts e cut) closed)) in
     record {
@@ -181,12 +178,12 @@ laid_at_separator c t ts on closed e cut =
       is = record { inside = t ∷ m.is.inside; laid_out = ap (λ xs. t ∷ xs) m.is.laid_out; closes = m.is.closes; separated = more [] t m.is.inside cut nothing e m.is.separated };
     }
 
-laid_at_comma : (c : Option ℕ) (t : Hiding) (ts : List Hiding) → Lays (suc (length ts)) → IsClosed (gather 0 c (t ∷ ts)) → mark_of t.token ≡ Comma → separates 0 c ≡ false → LaidOut c (t ∷ ts)
+laid_at_comma : (c : Option ℕ) (t : Hiding) (ts : List Hiding) → LaidOutBelow (suc (length ts)) → IsClosed (gather 0 c (t ∷ ts)) → mark_of t.token ≡ Comma → separates 0 c ≡ false → LaidOut c (t ∷ ts)
 laid_at_comma c t ts on closed e uncut =
     laid_behind (t ∷ []) (λ xs n. subst (λ b. Nested b (t ∷ xs)) (sym (ap not uncut)) (comma e (subst (λ b. Nested b xs) (ap not uncut) n))) (λ cut. absurd (true≢false (sym cut ∙ uncut)))
     (on c ts (omega arith) (closed-token t _ (subst IsClosed (at_comma 0 c t ts e uncut) closed)))
 
-laid_by : (c : Option ℕ) (t : Hiding) (ts : List Hiding) → Lays (suc (length ts)) → IsClosed (gather 0 c (t ∷ ts)) → (m : Mark) → mark_of t.token ≡ m → LaidOut c (t ∷ ts)
+laid_by : (c : Option ℕ) (t : Hiding) (ts : List Hiding) → LaidOutBelow (suc (length ts)) → IsClosed (gather 0 c (t ∷ ts)) → (m : Mark) → mark_of t.token ≡ m → LaidOut c (t ∷ ts)
 laid_by c t ts on closed Quote e = absurd (subst IsClosed (at_quote 0 c t ts e) closed)
 laid_by c t ts on closed Open e =
     let m : Matched 0 c ts = matched (suc (length ts)) 0 c ts (omega arith) (closed-token t _ (subst IsClosed (at_open 0 c t ts e) closed)) in
@@ -199,7 +196,7 @@ laid_by c t ts on closed Close e = record { arguments = [] ∷ []; close = t; be
 laid_by c t ts on closed Comma e = elim (separates 0 c) as (λ b. separates 0 c ≡ b → LaidOut c (t ∷ ts)) [ true ↦ λ cut. laid_at_separator c t ts on closed e cut | false ↦ λ uncut. laid_at_comma c t ts on closed e uncut ] refl
 laid_by c t ts on closed Inner e = laid_behind (t ∷ []) (λ xs n. inner e n) (λ _ xs n. inner e n) (on c ts (omega arith) (closed-token t _ (subst IsClosed (at_inner 0 c t ts e) closed)))
 
-laid : (n : ℕ) → Lays n
+laid : (n : ℕ) → LaidOutBelow n
 laid zero c list short closed = absurd (omega arith)
 laid (suc n) c [] short closed = absurd closed
 laid (suc n) c (t ∷ ts) short closed = laid_by c t ts (λ c' list short'. laid n c' list (omega arith)) closed (mark_of t.token) refl

@@ -5,11 +5,12 @@ use Rattle.std.specs.FinSet as set
 use Rattle.ppmacro.specs.Names.{HideSet}
 use Rattle.ppmacro.specs.Numbered.{Numbered}
 use Rattle.ppmacro.specs.HideSets.{set_at, IsKnown, hiding, hidings, AllKnown, Keeps}
-use Rattle.ppmacro.specs.Substitution.{argument_at, expanded_at}
-use Rattle.ppmacro.specs.Substituting.{lists_of, option_of, options_of, ListsKnown, ArgumentsKnown}
+use Rattle.ppmacro.specs.Substitution.{expanded_at}
+use Rattle.ppmacro.specs.Substituting.{option_of, options_of, ListsKnown, ArgumentsKnown}
 use Rattle.ppmacro.specs.declared.flying.Hidden.{Hidden}
 use Rattle.ppmacro.specs.declared.flying.Expansion.{Expansion}
 use Rattle.ppmacro.specs.declared.flying.Expansion.TheVariants.{Unused, AsGiven, Made}
+use Rattle.ppmacro.proofs.ArgumentLemmas.{all-known}
 use Rattle.ppmacro.proofs.KeepLemmas.{set-keeps, hiding-keeps, hidings-keeps, known-keeps, known-set}
 use Rattle.ppexpand.specs.declared.turn.Invocation.{Invocation}
 use Rattle.ppexpand.specs.Shown.{given_in, expanded_in, held, ExpansionsKnown, call_in, CallKnown}
@@ -57,11 +58,6 @@ expanded_in-push s (w ∷ vs) [] e v rest h =
 expanded_in-push s [] (x ∷ es) e v rest h = absurd (cc h)
 expanded_in-push s (w ∷ vs) (x ∷ es) e v rest h = ap (λ xs. option_map (hidings s) (option_of w.items x) ∷ xs) (expanded_in-push s vs es e v rest h)
 
-given-at : {s : Numbered} (vs : List (Vec Hidden Global)) → ListsKnown s vs → (i : ℕ) → AllKnown s (argument_at (lists_of vs) i)
-given-at [] h i = record { each = tt }
-given-at (v ∷ vs) h zero = h.each.0
-given-at (v ∷ vs) h (suc i) = given-at vs (record { each = h.each.1 }) i
-
 option-at : {s : Numbered} (given : List Hidden) (e : Expansion) → AllKnown s given → AllKnown s (held e) → AllKnown s (unwrap_or (option_of given e) [])
 option-at given Unused g h = h
 option-at given AsGiven g h = g
@@ -75,7 +71,7 @@ expanded-at [] (e ∷ es) g h (suc i) = expanded-at [] es g (record { each = h.e
 expanded-at (v ∷ vs) (e ∷ es) g h (suc i) = expanded-at vs es (record { each = g.each.1 }) (record { each = h.each.1 }) i
 
 pub arguments_known : {s : Numbered} (vs : List (Vec Hidden Global)) (es : List Expansion) → ListsKnown s vs → ExpansionsKnown s es → ArgumentsKnown s vs es
-arguments_known vs es h k = record { given_known = given-at vs h; expanded_known = expanded-at vs es h k }
+arguments_known vs es h k = record { given_known = (all-known vs [] vs [] refl refl h (record { each = tt })).given_known; expanded_known = expanded-at vs es h k }
 
 pub no_arguments_known : (s : Numbered) → ArgumentsKnown s [] []
 no_arguments_known s = arguments_known [] [] (record { each = tt }) (record { each = tt })

@@ -1,20 +1,20 @@
 -- A turn that goes on is a step on the hide sets of the list.
 use Rattle.std.proofs.Common.{◌≡◌, ℕ, zero, suc, ◌⊎◌, inl, inr, Bool, true, false, ◌||◌, ◌&&◌, List, [], ◌∷◌, ◌++◌, map, Option, Some, None}
-use Rattle.std.proofs.Common.{Result, Ok, Err, if◌then◌else◌, refl, sym, ap, ◌∙◌, subst, true≢false, is_eq, is_some}
+use Rattle.std.proofs.Common.{Result, Ok, Err, if◌then◌else◌, refl, sym, ap, ◌∙◌, subst, true≢false, is_some}
 use Rattle.std.specs.FinSet as set
 use Rattle.std.specs.FinMap as table
-use Rattle.std.specs.Ordering.{nat_cmp, eq_by_cmp}
-use Rattle.std.specs.Cmp.Lexicographic.{slice_cmp}
-use Rattle.std.specs.Cmp.{Equal-is, tied_itself}
 use Rattle.std.specs.List.{list_any}
 use Rattle.std.proofs.lemmas.Bool.{or_right}
-use Rattle.std.proofs.lemmas.Cmp.{nat_list_cmp_total}
+use Rattle.std.proofs.lemmas.Cmp.{eq_by_cmp_equiv, nat_list_cmp_total}
+use Rattle.std.proofs.lemmas.Map.Lookups.{exact_bytes}
+use Rattle.std.proofs.lemmas.Map.Views.{tells_apart}
 use Rattle.pptext.specs.declared.tokens.Token.{Token}
 use Rattle.pptext.specs.declared.tokens.Fault.{Fault}
 use Rattle.pptext.specs.declared.tokens.Place.{Place}
 use Rattle.pptext.specs.Tokens.{is_identifier, is_lone_quote}
 use Rattle.ppmacro.specs.Names.{Name, HideSet, Macros}
 use Rattle.ppmacro.specs.HideSets.{Hiding}
+use Rattle.ppmacro.specs.Members.{same_name}
 use Rattle.ppmacro.specs.declared.macros.Definition.{Definition}
 use Rattle.ppmacro.specs.declared.macros.Shape.{Shape}
 use Rattle.ppmacro.specs.declared.macros.Shape.TheVariants.{Predefined, ObjectLike, FunctionLike}
@@ -41,15 +41,6 @@ hides-mark_next true [] = refl
 hides-mark_next true (x ∷ xs) = refl
 hides-mark_next false xs = refl
 
-abbrev pub same_name : Name → Name → Bool
-same_name x y = eq_by_cmp (slice_cmp nat_cmp) x y
-
-pub same_name_is : (x y : Name) → same_name x y ≡ true → x ≡ y
-same_name_is x y e = table.slice_cmp-IsAntisymmetric table.nat_cmp-IsAntisymmetric x y ((Equal-is (slice_cmp nat_cmp x y)).0 e)
-
-pub same_name_self : (x : Name) → same_name x x ≡ true
-same_name_self x = ap is_eq (tied_itself nat_list_cmp_total x)
-
 -- what the gain is contained in
 abbrev pub HasGain : HideSet → Hiding → Type 0
 HasGain gain t = (q : Name) → set.contains gain q ≡ true → set.contains t.hide q ≡ true
@@ -71,7 +62,7 @@ among_any : (k : Name) (names : List Name) → list_any (same_name k) names ≡ 
 among_any k [] e = true≢false (sym e)
 among_any k (n ∷ ns) e =
     elim (same_name k n) as (λ a. same_name k n ≡ a → (a || list_any (same_name k) ns) ≡ true → (n ≡ k) ⊎ Among k ns) [
-      | true ↦ λ here _. inl (sym (same_name_is k n here))
+      | true ↦ λ here _. inl (sym (tells_apart exact_bytes k n here))
       | false ↦ λ _ more. inr (among_any k ns more)
     ] refl e
 
@@ -155,13 +146,16 @@ module _ (macros : Macros) (env : Env) where
       → Each (HasGain gain) ts
       → Each (λ r. ((q : Name) → set.contains h q ≡ true → set.contains h' q ≡ true → set.contains r q ≡ true) × (set.contains r k ≡ true)) (hides ts)
   gains_sets h h' k gain is [] all = tt
-  gains_sets h h' k gain is (t ∷ ts) all = (
-    (
-      λ q in_h in_h'. all.0 q (rw is (set.contains-insert nat_list_cmp_total (set.intersection h h') k q ∙ ap (λ b. same_name q k || b) (set.contains-intersection nat_list_cmp_total h h' q ∙ (λ i. in_h i && in_h' i)) ∙ or_right _ true refl)),
-      all.0 k (rw is (set.contains-insert nat_list_cmp_total (set.intersection h h') k k ∙ ap (λ b. b || set.contains (set.intersection h h') k) (same_name_self k))),
-    ),
-    gains_sets h h' k gain is ts all.1,
-  )
+  gains_sets h h' k gain is (t ∷ ts) all =
+      let both = set.intersection h h' in
+      let in_both : (q : Name) → set.contains h q ≡ true → set.contains h' q ≡ true → set.contains both q ≡ true =
+      λ q in_h in_h'. set.contains-intersection nat_list_cmp_total h h' q ∙ (λ i. in_h i && in_h' i) in (
+        (
+          λ q in_h in_h'. all.0 q (rw is (set.contains-insert nat_list_cmp_total both k q ∙ ap (λ b. same_name q k || b) (in_both q in_h in_h') ∙ or_right _ true refl)),
+          all.0 k (rw is (set.contains-insert nat_list_cmp_total both k k ∙ ap (λ b. b || set.contains both k) ((eq_by_cmp_equiv nat_list_cmp_total).refl k))),
+        ),
+        gains_sets h h' k gain is ts all.1,
+      )
 
   gains_object : (h : HideSet) (k : Name) (ts : List Hiding)
       → Each (HasGain (set.insert h k)) ts
@@ -170,7 +164,7 @@ module _ (macros : Macros) (env : Env) where
   gains_object h k (t ∷ ts) all = (
     (
       λ q in_h _. all.0 q (set.contains-insert nat_list_cmp_total h k q ∙ ap (λ b. same_name q k || b) in_h ∙ or_right _ true refl),
-      all.0 k (set.contains-insert nat_list_cmp_total h k k ∙ ap (λ b. b || set.contains h k) (same_name_self k)),
+      all.0 k (set.contains-insert nat_list_cmp_total h k k ∙ ap (λ b. b || set.contains h k) ((eq_by_cmp_equiv nat_list_cmp_total).refl k)),
     ),
     gains_object h k ts all.1,
   )
@@ -217,7 +211,7 @@ module _ (macros : Macros) (env : Env) where
   macro_steps t rest named free d (Predefined b) = object t.token.text named free (set.insert t.hide t.token.text ∷ []) (
     (
       (λ q in_h _. set.contains-insert nat_list_cmp_total t.hide t.token.text q ∙ ap (λ b. same_name q t.token.text || b) in_h ∙ or_right _ true refl),
-      set.contains-insert nat_list_cmp_total t.hide t.token.text t.token.text ∙ ap (λ b. b || set.contains t.hide t.token.text) (same_name_self t.token.text),
+      set.contains-insert nat_list_cmp_total t.hide t.token.text t.token.text ∙ ap (λ b. b || set.contains t.hide t.token.text) ((eq_by_cmp_equiv nat_list_cmp_total).refl t.token.text),
     ),
     tt,
   ) refl

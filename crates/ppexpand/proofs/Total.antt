@@ -2,9 +2,13 @@
 use Rattle.std.proofs.Common.{◌≡◌, ℕ, zero, suc, ◌+◌, ◌<◌, ◌≤◌, List, [], ◌∷◌, Option, Some, None, Ok, Err, refl, subst, arith}
 use Rattle.std.specs.FinSet as set
 use Rattle.std.specs.FinMap as table
+use Rattle.std.proofs.lemmas.Cmp.{eq_by_cmp_equiv, nat_list_cmp_total}
+use Rattle.std.proofs.lemmas.Map.Lookups.{exact_bytes}
+use Rattle.std.proofs.lemmas.Map.Views.{tells_apart}
 use Rattle.pptext.specs.declared.tokens.Fault.{Fault}
 use Rattle.ppmacro.specs.Names.{HideSet, Macros}
 use Rattle.ppmacro.specs.HideSets.{Hiding}
+use Rattle.ppmacro.specs.Members.{same_name}
 use Rattle.ppexpand.specs.declared.env.Env.{Env}
 use Rattle.ppexpand.specs.Turn.{Call, Turn, Done, Refused, Passes, Failed, Replaced, Called, less_one, wanted, finished, fault_at_use}
 use Rattle.ppexpand.specs.Expansion.{Outcome, ExpandedArguments, with_expanded, turn_within, Expands, done, refused, passes, failed, replaced, argument_refused, call_failed, call_replaced, ExpandsArguments, none, unused, too_deep, used}
@@ -45,7 +49,7 @@ module _ (macros : Macros) (env : Env) where
       ]
 
   Ends : List HideSet → Type 0
-  Ends = ending.Ends set.contains steps.same_name (table.keys macros)
+  Ends = ending.Ends set.contains same_name (table.keys macros)
 
   abbrev Later : ℕ → List Hiding → Type 0
   Later level list = (left : Option ℕ) (next : List Hiding) → steps.HideStep macros env (steps.hides list) (steps.hides next) → HasOutcome level left next
@@ -96,7 +100,7 @@ module _ (macros : Macros) (env : Env) where
 
   all_end : (xs : List Hiding) → Ends (steps.hides xs)
   unfolding Ends
-  all_end xs = ending.all_end set.contains steps.same_name (table.keys macros) steps.same_name_is steps.same_name_self (steps.hides xs)
+  all_end xs = ending.all_end set.contains same_name (table.keys macros) (tells_apart exact_bytes) (eq_by_cmp_equiv nat_list_cmp_total).refl (steps.hides xs)
 
   by_levels : (room level : ℕ) → 256 ≤ level + room → (left : Option ℕ) (list : List Hiding) → HasOutcome level left list
   by_levels zero level h left list = list_total level (λ low. absurd (omega arith)) (steps.hides list) (all_end list) left list refl

@@ -74,10 +74,10 @@ layout_behind front wraps (stops f q behind n e) = subst Layout (append_assoc fr
 layout_behind front wraps (goes_on list n) = goes_on (front ++ list) (never_behind front wraps n)
 
 -- the layouts of lists that are shorter than n
-abbrev Lays : ℕ → Type 0
-Lays n = (list : List Hiding) → length list < n → Layout list
+abbrev LayoutsBelow : ℕ → Type 0
+LayoutsBelow n = (list : List Hiding) → length list < n → Layout list
 
-layout_at_open : (t : Hiding) {ts : List Hiding} → mark_of t.token ≡ Open → Lays (suc (length ts)) → Layout ts → Layout (t ∷ ts)
+layout_at_open : (t : Hiding) {ts : List Hiding} → mark_of t.token ≡ Open → LayoutsBelow (suc (length ts)) → Layout ts → Layout (t ∷ ts)
 layout_at_open t e on (ends inside close behind n e') =
     let wraps : Wraps (t ∷ (inside ++ close ∷ [])) = λ xs m. subst (λ ys. Nested true (t ∷ ys)) (sym (append_assoc inside (close ∷ []) xs)) (pair t inside close xs e n e' m) in
     let less : length behind < length (inside ++ close ∷ behind) = shorter (inside ++ close ∷ behind) inside close behind refl in
@@ -85,14 +85,14 @@ layout_at_open t e on (ends inside close behind n e') =
 layout_at_open t e on (stops f q behind n e') = stops (t ∷ f) q behind (deeper [] t f nothing e n) e'
 layout_at_open t e on (goes_on list n) = goes_on (t ∷ list) (deeper [] t list nothing e n)
 
-layout_by : (t : Hiding) (ts : List Hiding) → Lays (suc (length ts)) → (m : Mark) → mark_of t.token ≡ m → Layout (t ∷ ts)
+layout_by : (t : Hiding) (ts : List Hiding) → LayoutsBelow (suc (length ts)) → (m : Mark) → mark_of t.token ≡ m → Layout (t ∷ ts)
 layout_by t ts on Quote e = stops [] t ts (paired nothing) e
 layout_by t ts on Open e = layout_at_open t e on (on ts (omega arith))
 layout_by t ts on Close e = ends [] t ts nothing e
 layout_by t ts on Comma e = layout_behind (t ∷ []) (λ xs n. comma e n) (on ts (omega arith))
 layout_by t ts on Inner e = layout_behind (t ∷ []) (λ xs n. inner e n) (on ts (omega arith))
 
-layout : (n : ℕ) → Lays n
+layout : (n : ℕ) → LayoutsBelow n
 layout zero list short = absurd (omega arith)
 layout (suc n) [] short = goes_on [] (paired nothing)
 layout (suc n) (t ∷ ts) short = layout_by t ts (λ list short'. layout n list (omega arith)) (mark_of t.token) refl
