@@ -72,7 +72,7 @@ condition_leaves_none {after = Some n} d = let e = condition_spends d in absurd 
 -- ---- without a budget no fault is 35
 
 -- the fault of an answer is another one
-abbrev IsOther : {A : Type 0} → Result A Fault → Type 0
+abbrev pub IsOther : {A : Type 0} → Result A Fault → Type 0
 IsOther (Ok x) = Unit {0}
 IsOther (Err f) = f.number ≢ 35
 

@@ -19,8 +19,8 @@ grows worth base h (d ∷ ds) n =
     let rest : step worth base n d ≤ fold (step worth base) (step worth base n d) ds = grows worth base h ds (n * base + worth d) in
     omega (arith, more, rest)
 
-reaches : (worth : ℕ → ℕ) (base : ℕ) (ds : List ℕ) (i : ℕ) → 0 < base → i < length ds → step worth base (fold (step worth base) 0 (take i ds)) (get_or ds i 0) ≤ fold (step worth base) 0 ds
-reaches worth base ds i h within =
+front_no_larger : (worth : ℕ → ℕ) (base : ℕ) (ds : List ℕ) (i : ℕ) → 0 < base → i < length ds → step worth base (fold (step worth base) 0 (take i ds)) (get_or ds i 0) ≤ fold (step worth base) 0 ds
+front_no_larger worth base ds i h within =
     let split : fold (step worth base) 0 ds ≡ fold (step worth base) (fold (step worth base) 0 (take (i + 1) ds)) (drop (i + 1) ds) =
     ap (fold (step worth base) 0) (sym (take-append-drop (i + 1) ds)) ∙ fold-append (step worth base) 0 (take (i + 1) ds) (drop (i + 1) ds) in
     let rest : fold (step worth base) 0 (take (i + 1) ds) ≤ fold (step worth base) (fold (step worth base) 0 (take (i + 1) ds)) (drop (i + 1) ds) =
@@ -31,7 +31,7 @@ reaches worth base ds i h within =
 -- the number is no smaller than that of its first digits
 number_reaches : (base : ℕ) (ds : List ℕ) (i n : ℕ) → 0 < base → i < length ds → n ≡ number base (take i ds) → n * base + digit_value (get_or ds i 0) ≤ number base ds
 number_reaches base ds i n h within is =
-    subst (λ (m : ℕ). m * base + digit_value (get_or ds i 0) ≤ number base ds) (sym is) (reaches digit_value base ds i h within)
+    subst (λ (m : ℕ). m * base + digit_value (get_or ds i 0) ≤ number base ds) (sym is) (front_no_larger digit_value base ds i h within)
 
 -- a number is too large where its first digits write one, with the next digit or without it
 plain_sum : (n b base digit all bound shifted more : ℕ) → b ≡ base → n * base + digit ≤ all → shifted ≡ n * b → more ≡ digit → (shifted + more < bound → ⊥) → bound ≤ all

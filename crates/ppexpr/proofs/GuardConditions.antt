@@ -29,15 +29,15 @@ tree : Tree
 tree = Applied Not (Leaf (Signed (pos 1)))
 
 -- a unary expression is an expression
-whole : {s : List Symbol} {t : Tree} → Derives 12 s t → Derives 0 s t
-whole d = tighter {k = 0} (tighter {k = 1} (tighter {k = 2} (tighter {k = 3} (tighter {k = 4} (tighter {k = 5} (tighter {k = 6} (tighter {k = 7} (tighter {k = 8} (tighter {k = 9} (tighter {k = 10} (tighter {k = 11} d)))))))))))
+unary_is_expression : {s : List Symbol} {t : Tree} → Derives 12 s t → Derives 0 s t
+unary_is_expression d = tighter {k = 0} (tighter {k = 1} (tighter {k = 2} (tighter {k = 3} (tighter {k = 4} (tighter {k = 5} (tighter {k = 6} (tighter {k = 7} (tighter {k = 8} (tighter {k = 9} (tighter {k = 10} (tighter {k = 11} d)))))))))))
 
 shallow : ¬ IsTooNested symbols
 shallow = few_shallow symbols (omega arith)
 
 is_false : (at : Place) → Evaluates at symbols (Ok false)
 unfolding tree unary_outcome constant_outcome
-is_false at = has_value (tree, whole (unary Bang Not refl (tighter {k = 12} (constant (Signed (pos 1))))), refl)
+is_false at = has_value (tree, unary_is_expression (unary Bang Not refl (tighter {k = 12} (constant (Signed (pos 1))))), refl)
 
 -- ---- the tokens
 

@@ -42,17 +42,17 @@ pub nests : (s : List CodeSymbol) (k : ℕ) → count_by (of_meant is_close) (ta
 nests s k deep = (k, omega (arith, count_front is_close k s, count_front is_open k s))
 
 -- every beginning, whether its length is below the list's or not
-whole : (s : List CodeSymbol) (k : ℕ) → (j : ℕ) × (j ≤ length s) × (take k s ≡ take j s)
-whole [] zero = (0, omega arith, refl)
-whole [] (suc k) = (0, omega arith, refl)
-whole (x ∷ s) zero = (0, omega arith, refl)
-whole (x ∷ s) (suc k) = let w = whole s k in (suc w.0, omega (arith, w.1), ap (λ l. x ∷ l) w.2)
+beginning_within : (s : List CodeSymbol) (k : ℕ) → (j : ℕ) × (j ≤ length s) × (take k s ≡ take j s)
+beginning_within [] zero = (0, omega arith, refl)
+beginning_within [] (suc k) = (0, omega arith, refl)
+beginning_within (x ∷ s) zero = (0, omega arith, refl)
+beginning_within (x ∷ s) (suc k) = let w = beginning_within s k in (suc w.0, omega (arith, w.1), ap (λ l. x ∷ l) w.2)
 
 pub nests_not : (s : List CodeSymbol)
     → ((k : ℕ) → k ≤ length s → count_by (of_meant is_open) (take k s) < count_by (of_meant is_close) (take k s) + 257)
     → ¬ NestsParentheses (symbols_meant s)
 nests_not s shallow (k, deep) =
-    let w = whole s k in
+    let w = beginning_within s k in
     let opened = count_front is_open k s ∙ ap (count_by (of_meant is_open)) w.2 in
     let closed = count_front is_close k s ∙ ap (count_by (of_meant is_close)) w.2 in
     absurd (omega (arith, deep, opened, closed, shallow w.0 w.1))
@@ -64,5 +64,5 @@ nests_signs s k deep = (k, omega (arith, suffix_front is_sign k s))
 
 pub nests_signs_not : (s : List CodeSymbol) → ((k : ℕ) → k ≤ length s → suffix_len (of_meant is_sign) (take k s) < 257) → ¬ NestsSigns (symbols_meant s)
 nests_signs_not s few (k, deep) =
-    let w = whole s k in
+    let w = beginning_within s k in
     absurd (omega (arith, deep, suffix_front is_sign k s ∙ ap (suffix_len (of_meant is_sign)) w.2, few w.0 w.1))
