@@ -2,7 +2,7 @@
 use crate::{Env, Expanded, Piece, Run, TokenRef, expand};
 use ppmacro::{Hidden, Table, define, undef};
 use pptext::{
-    Directive, Fault, Line, Memory, Place, Profile, Source, Spelling, Token, read_source,
+    Directive, Fault, LONGEST, Line, Memory, Place, Profile, Source, Spelling, Token, read_source,
 };
 use std::alloc::{AllocError, Global};
 use std::process::Abort;
@@ -210,7 +210,7 @@ fn expanded_within(
     left: Option<u64>,
     text: &[u8],
 ) -> Result<Outcome, Fail> {
-    assert!(rt; text.len() <= 16_777_216);
+    assert!(rt; text.len() <= LONGEST);
     let env = env(alloc, shift)?;
     let source = read_source(alloc, text, 1, Profile::C11)?;
     expanded_of(rt, alloc, &env, left, &source)
@@ -238,7 +238,7 @@ fn assert_spelled(
     tokens: &[Token],
     given: &[u8],
 ) -> Result<(), Fail> {
-    assert!(rt; given.len() <= 16_777_216);
+    assert!(rt; given.len() <= LONGEST);
     let wanted = read_source(alloc, given, 2, Profile::C11)?;
     assert_spellings(rt, tokens, wanted.tokens());
     Ok(())
