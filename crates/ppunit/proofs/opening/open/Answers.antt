@@ -1,8 +1,9 @@
-use Rattle.std.proofs.Common.{rules, ◌≡◌, ◌^◌, ◌<◌, length, sym, ap, ◌∙◌, arith}
+use Rattle.std.proofs.Common.{rules, ◌≡◌, ◌^◌, ◌<◌, length, sym, ap, ◌∙◌, subst, arith}
 use Rattle.pptext.specs.Tokens.{fault}
 use Rattle.ppshelf.specs.Files.{Stock}
 use Rattle.ppshelf.specs.Names.{name_in}
-use Rattle.ppunit.specs.States.{State, paying, surroundings_of}
+use Rattle.ppunit.specs.States.{State, going, paying, surroundings_of}
+use Rattle.ppunit.specs.Group.{Opened}
 use Rattle.ppunit.specs.Dependencies.{is_among}
 use Rattle.ppunit.specs.declared.states.State.TheView.{view}
 use Rattle.ppunit.proofs.Opens.{opens_deep, opens_over, paid, opens_known, still_new, opens_unreadable, opens_faulty, entering_is, opens_read}
@@ -25,8 +26,9 @@ pub returns-then-contains-clause-opened : goal.returns-then-contains-clause-open
 returns-then-contains-clause-opened g c more grows =
     let pays = paid c.args.row c.args.state.now c.pay.new.self c.depend.new.self c.pay.ensures c.in_ok-depend.ensures in
     let once = ap (λ (z : State). is_among c.args.row z.once) (sym c.state.view_is) in
-    opens_known (surroundings_of c.args.around.now more) c.args.depth c.args.row c.args.at c.args.state.now c.depend.new.self
-    c.if-depth-gt-DEEPEST.false (sym c.is_spent.ensures ∙ c.if-is_spent.false) pays (once ∙ sym c.contains.ensures ∙ c.if-contains.true)
+    subst (λ (z : State). Opened (surroundings_of c.args.around.now more) c.args.depth c.args.at c.args.state.now c.args.row (going z)) (sym (search rules))
+    (opens_known (surroundings_of c.args.around.now more) c.args.depth c.args.row c.args.at c.args.state.now c.depend.new.self
+    c.if-depth-gt-DEEPEST.false (sym c.is_spent.ensures ∙ c.if-is_spent.false) pays (once ∙ sym c.contains.ensures ∙ c.if-contains.true))
 
 pub returns-in_default-lines-clause-opened : goal.returns-in_default-lines-clause-opened
 returns-in_default-lines-clause-opened g c more grows =
@@ -59,10 +61,11 @@ returns-then-is_left_out-clause-opened g c more grows =
     let lines = rw c.in-Ok-read.is at c.in-Some.ensures in
     let left = c.is_left_out.ensures.0 c.if-is_left_out.true in
     let by = c.in-Ok.ensures.place.2 ∙ ap (λ (z : Stock). z.profile) c.shelf-shelf.ensures in
-    opens_left_out (surroundings_of c.args.around.now more) c.args.depth c.args.row c.in-Ok.loaded.now.row c.in-Ok.loaded.now.profile c.args.at
+    subst (λ (z : State). Opened (surroundings_of c.args.around.now more) c.args.depth c.args.at c.args.state.now c.args.row (going z)) (sym (search rules))
+    (opens_left_out (surroundings_of c.args.around.now more) c.args.depth c.args.row c.in-Ok.loaded.now.row c.in-Ok.loaded.now.profile c.args.at
     c.args.state.now c.depend.new.self c.in-Ok.loaded.now.content c.in-Ok-read.source.now c.if-depth-gt-DEEPEST.false
     (sym c.is_spent.ensures ∙ c.if-is_spent.false) (grows c.args.row c.in-Ok.loaded.now.content c.in-Ok.ensures.knows) by
-    c.in-Ok.ensures.place.0 lines pays left
+    c.in-Ok.ensures.place.0 lines pays left)
 
 pub returns-clause-opened : goal.returns-clause-opened
 returns-clause-opened g c =
