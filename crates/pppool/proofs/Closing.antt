@@ -1,8 +1,7 @@
 -- Seats that are handed in one after the other, from the last.
-use Rattle.std.proofs.Common.{nat_eq, max, suc, ◌-◌, ℕ, ◌≡◌, ◌<◌, ◌≤◌, ◌+◌, ◌++◌, ap, sym, ◌∙◌, arith, List, [], ◌∷◌, refl}
+use Rattle.std.proofs.Common.{max, suc, ◌-◌, ℕ, ◌≡◌, ◌<◌, ◌≤◌, ◌+◌, ◌++◌, ap, sym, ◌∙◌, arith, List, [], ◌∷◌, refl}
 use Rattle.std.proofs.Common.{Bool, true, false, ◌||◌, if◌then◌else◌, All, length, get_or, length-append}
 use Rattle.std.proofs.lemmas.Grind.{common_steps}
-use Rattle.std.proofs.lemmas.Bool.Decides.{nat_tests}
 use Rattle.std.proofs.lemmas.Bool.{false≢true}
 use Rattle.pppool.specs.Desk.{DeskId, SeatView, times, claims_of, any_empty}
 use Rattle.pppool.proofs.Totals.{times-append}
@@ -76,9 +75,6 @@ joined_times n all rest x mine theirs both sum e is at before =
     let b = times-append n mine theirs in
     let c = ap (times n) e in
     omega arith
-
-pub eqb_true : (m n : ℕ) → nat_eq m n ≡ true → m ≡ n
-eqb_true m n e = grind (arith, nat_tests)
 
 -- one more than the greatest claim
 abbrev pub next_claim : List ℕ → ℕ

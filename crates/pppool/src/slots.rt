@@ -1,5 +1,5 @@
 // A slot for each unit of the list, into which workers' answers are put.
-ghost use Rattle.std.specs.Prelude.{◌≡◌, ◌<◌, length, All, IfOk, IsSome, Some, None, map, replicate};
+ghost use Rattle.std.specs.Prelude.{◌≡◌, ◌<◌, length, All, IfOk, IsSome, Some, None, map, replicate, slice_set};
 ghost use Rattle.pppool.specs.Workers.{placed};
 
 use crate::workers::Answer;
@@ -27,15 +27,16 @@ pub(crate) fn place<'a>(answers: Vec<Answer<'a>>, slots: &mut Vec<Option<UnitOut
     ensures { slots.new.items ≡ placed slots.old.items answers.entry.items }
 {
     for answer in answers {
-        let Answer { unit, out } = answer;
-        put(&mut slots[unit], out);
+        put(slots, answer);
     }
 }
 
-fn put<'a>(slot: &mut Option<UnitOut<'a>>, out: UnitOut<'a>)
-    ensures { slot.new ≡ Some out.entry }
+fn put<'a>(slots: &mut Vec<Option<UnitOut<'a>>>, answer: Answer<'a>)
+    requires { answer.unit < length slots.old.items }
+    ensures { slots.new.items ≡ slice_set slots.old.items answer.entry.unit (Some answer.entry.out) }
 {
-    *slot = Some(out);
+    let Answer { unit, out } = answer;
+    slots[unit] = Some(out);
 }
 
 /// What stands in the slots.

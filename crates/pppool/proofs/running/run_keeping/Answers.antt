@@ -1,4 +1,4 @@
-use Rattle.std.proofs.Common.{ℕ, ◌<◌, ◌/◌, List, length, ap, sym, subst, Some, Option}
+use Rattle.std.proofs.Common.{ℕ, ◌<◌, ◌/◌, List, length, ap, sym, subst, Option}
 use Rattle.ppshelf.specs.Files.{Agree, Stock}
 use Rattle.ppunit.specs.declared.units.UnitOut.{UnitOut}
 use Rattle.pppool.specs.declared.hand.Plan.{Plan}

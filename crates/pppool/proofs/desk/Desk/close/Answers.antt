@@ -2,10 +2,10 @@ use Rattle.std.proofs.Common.{ℕ, ◌≡◌, ◌+◌, ap, sym, ◌∙◌, arith
 use Rattle.atomic_table.specs.Table.{Me}
 use Rattle.pppool.specs.declared.hand.Hand.{Hand}
 use Rattle.pppool.specs.declared.hand.Plan.{Plan}
-use Rattle.std.proofs.lemmas.Bool.{false≢true}
+use Rattle.std.proofs.lemmas.Bool.{eqb-true, false≢true}
 use Rattle.pppool.specs.Desk.{DeskId, once_below, any_empty}
 use Rattle.pppool.proofs.Steps.{joins, whole, at_most_once}
-use Rattle.pppool.proofs.Closing.{front_all, last_all, times_popped, joined_times, empty_popped, marked_now, or_when_true, or_when_false, none_claimed, eqb_true}
+use Rattle.pppool.proofs.Closing.{front_all, last_all, times_popped, joined_times, empty_popped, marked_now, or_when_true, or_when_false, none_claimed}
 use Rattle.pppool.proofs.desk.Desk.close.Goals.{then-found_empty-2, else-found_empty-2}
 use Rattle.pppool.proofs.desk.Desk.close.Goals as goal
 
@@ -100,7 +100,7 @@ returns-clause-whole c is x =
     let blocks : once_below x c.self.inside.table.shared.key.blocks ≡ once_below x c.args.self.plan.blocks = ap (λ (q : Plan). once_below x q.blocks) key in
     elim c.if-found_empty-2.branch [
       | then-found_empty-2 w ↦
-          let same : c.len-count.result ≡ c.self.inside.plan.seats = eqb_true _ _ (sym w.whole-is ∙ is) in
+          let same : c.len-count.result ≡ c.self.inside.plan.seats = eqb-true _ _ (sym w.whole-is ∙ is) in
           let all : c.loop-other.all.me.0.seats ≡ c.self.inside.table.shared.key.seats = let z = c.in_default-pop.ensures.cases.0 in omega arith in
           let r = whole c.self.inside.table.shared.key v.0 c.loop-other.all.id c.loop-other.all.me.0 v.1.0 v.1.1 all (k.7 w.if-found_empty-2.true) x in
           omega arith
