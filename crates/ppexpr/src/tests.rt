@@ -2,7 +2,7 @@
 use crate::evaluate;
 use ppexpand::Env;
 use ppmacro::{Table, define};
-use pptext::{Directive, Fault, Profile, Source, Spelling, Token, read_source};
+use pptext::{Directive, Fault, LONGEST, Profile, Source, Spelling, Token, read_source};
 use std::alloc::{AllocError, Global};
 use std::process::Abort;
 use std::test::Fail;
@@ -84,7 +84,7 @@ fn condition_in(
     left: Option<u64>,
     text: &[u8],
 ) -> Result<(Result<bool, Fault>, Option<u64>), Fail> {
-    assert!(rt; text.len() <= 16_777_216);
+    assert!(rt; text.len() <= LONGEST);
     let source = read_source(alloc, text, 1, Profile::C11)?;
     condition_of(rt, alloc, left, &source)
 }

@@ -15,14 +15,17 @@ const GIVEN: &[(usize, &[&str], &str)] = &[
     (0, &["H"], "| 0 1 | ok"),
 ];
 
-/// An invocation that goes on behind the replacement of another (6.10.3.4).
-const GOING_ON: &[(&str, &str)] = &[(
-    "#define f(a) a*g\n#define g(a) f(a)\nf(2)(9)\n",
-    "2 * 9 * g | 0 | ok",
-)];
+/// One token; and an invocation that goes on behind the replacement of another (6.10.3.4).
+const TEXTS: &[(&str, &str)] = &[
+    ("a\n", "a | 0 | ok"),
+    (
+        "#define f(a) a*g\n#define g(a) f(a)\nf(2)(9)\n",
+        "2 * 9 * g | 0 | ok",
+    ),
+];
 
 #[test]
 fn gives_the_same_after_want_of_memory(rt: HostRuntime) -> Result<(), Fail> {
     assert_units(&rt, rt.alloc(), Profile::C11, GUARDED, GIVEN)?;
-    assert_contents(&rt, rt.alloc(), Profile::C11, GOING_ON)
+    assert_contents(&rt, rt.alloc(), Profile::C11, TEXTS)
 }
