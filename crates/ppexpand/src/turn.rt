@@ -1,12 +1,13 @@
 // What the next token of a list calls for (6.10.3, 6.10.3.4).
-ghost use Rattle.std.specs.Prelude.{◌≡◌, IfOk, OnOk, ◌∷◌, Some, None};
+ghost use Rattle.std.specs.Prelude.{◌≡◌, IfOk, OnOk, ◌∷◌, Some, None, map};
 ghost use Rattle.std.specs.Option.{option_copied};
 ghost use Rattle.std.specs.FinSet as set;
 ghost use Rattle.ppmacro.specs.Numbered.{Numbered};
 ghost use Rattle.ppmacro.specs.HideSets.{set_at, IsKnown, hiding, hidings, AllKnown, Keeps};
 ghost use Rattle.ppmacro.specs.Substituting.{ArgumentsKnown, arguments_in, tokens_of};
 ghost use Rattle.ppmacro.specs.Chains.{chains_of};
-ghost use Rattle.ppmacro.specs.Substitution.{substituted, substituted_by};
+ghost use Rattle.ppmacro.specs.Lone.{lone_chain};
+ghost use Rattle.ppmacro.specs.Substitution.{Arguments, substituted, substituted_by};
 ghost use Rattle.ppexpand.specs.Arguments.{gather, separators};
 ghost use Rattle.ppexpand.specs.declared.env.Env.{Env};
 ghost use Rattle.ppexpand.specs.Turn.{Replaced, macro_of, replaced_by, no_arguments, predefined_value, called, invoked, function_turn, macro_turn};
@@ -22,7 +23,10 @@ use crate::env::Env;
 use crate::predefined::predefined_value;
 use crate::spellings::{at_use, is_open, is_quote, lone_quote, over_budget};
 use crate::spending::is_spent;
-use ppmacro::{Builtin, Chain, Expansion, Hidden, HideSets, Macro, Set, Shape, Table, substitute};
+use ppmacro::{
+    Builtin, Chain, Expansion, Hidden, HideSets, Macro, Set, Shape, Table, substitute,
+    substitute_lone,
+};
 use pptext::{Fault, Memory, Spelling, Token};
 use std::alloc::{AllocError, Global};
 
@@ -108,6 +112,31 @@ fn replace<'x, 'a: 'x>(
     }
 }
 
+/// Puts the tokens of a replacement list without `##` before the rest of the list. Each token gains the names of `base` and that of the macro.
+fn replace_by<'x, 'a: 'x>(
+    alloc: Global,
+    sets: &mut HideSets,
+    body: &'a [Token],
+    base: Set,
+    head: &Hidden,
+    list: &mut Cursor<'x>,
+) -> Result<(), Memory>
+    requires base { IsKnown sets.old base }
+    requires list { AllKnown sets.old list.old }
+    ensures is { OnOk result ((arguments : Arguments) → Replaced (hidings sets.new list.new)
+        ≡ replaced_by (substituted_by (map lone_chain body.now) arguments
+        (set.insert (set_at sets.old base) head.now.token.text) head.now.token.used head.now.token.space)
+        (hidings sets.old list.old)) }
+    ensures known { OnOk result (AllKnown sets.new list.new) }
+    ensures keeps { Keeps sets.old sets.new }
+{
+    let (name, used, space) = (head.text(), head.used(), head.space());
+    let (tokens, pending) = substitute_lone(alloc, body, base, name, used, space, sets)?;
+    list.mark_next(pending);
+    list.push_all(tokens)?;
+    Ok(())
+}
+
 /// The turn of a predefined name.
 fn predefined_turn<'t, 'x, 'a: 'x>(
     alloc: Global,
@@ -147,8 +176,12 @@ fn object_turn<'t, 'x, 'a: 'x>(
     ensures known { IfOk result (λ n. NextKnown sets.new list.new n) }
     ensures keeps { Keeps sets.old sets.new }
 {
-    let chains = replaced.chains(alloc)?;
     let base = head.hide();
+    if let Some(body) = replaced.lone_tokens() {
+        replace_by(alloc, sets, body, base, &head, list)?;
+        return Ok(Next::Replaced);
+    }
+    let chains = replaced.chains(alloc)?;
     match replace(alloc, sets, chains.as_slice(), &[], &[], base, &head, list)? {
         Ok(()) => Ok(Next::Replaced),
         Err(fault) => Ok(Next::Failed(fault)),

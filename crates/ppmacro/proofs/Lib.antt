@@ -38,3 +38,5 @@ pub mod Repeating
 pub mod Layouts
 -- The chains of a replacement list, laid end to end, are the list.
 pub mod Chained
+-- Chains of a token alone, as they are where no `##` stands.
+pub mod Lonely

@@ -1,4 +1,5 @@
 pub mod Names
+pub mod Lone
 pub mod Marks
 pub mod Pairs
 pub mod Numbered

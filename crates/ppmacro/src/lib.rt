@@ -23,5 +23,7 @@ pub use flying::{Expansion, Hidden};
 pub use hide_sets::{HideSets, Set};
 pub use laws::{lays_out_chains, reads_headings};
 pub use macros::{Builtin, Chain, Chains, Definition, Macro, Names, Operand, Operands, Shape};
-pub use substituting::{paste, push_escaped, stringize, substitute, tells_each_kind};
+pub use substituting::{
+    paste, push_escaped, stringize, substitute, substitute_lone, tells_each_kind,
+};
 pub use tables::Table;

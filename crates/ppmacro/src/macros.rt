@@ -1,10 +1,15 @@
 // What a macro is.
-ghost use Rattle.std.specs.Prelude.{◌≡◌, OnOk, IfOk, ◌++◌, ◌∷◌, []};
+ghost use Rattle.std.specs.Prelude.{◌≡◌, OnOk, IfOk, IfSome, ◌++◌, ◌∷◌, [], map, false, true};
+ghost use Rattle.std.specs.List.{AllByRecursion};
 ghost use Rattle.ppmacro.specs.Chains.{chains_of};
+ghost use Rattle.ppmacro.specs.Lone.{lone_chain};
+ghost use Rattle.ppmacro.specs.declared.macros.Shape.TheVariants.{ObjectLike};
+ghost use Rattle.ppmacro.specs.Spellings.{is_paste};
 
 use crate::borrowed::{Body, Leaf};
 use crate::chains::chains_of;
-use pptext::{Hashing, Place, Sequence, Spelling};
+use crate::spellings::is_paste;
+use pptext::{Hashing, Place, Sequence, Spelling, Token};
 use std::alloc::{AllocError, Global};
 use std::marker::Model;
 use std::{mem, slice};
@@ -134,6 +139,25 @@ pub struct Chain<'a> {
 /// Chains, which contracts see as their list.
 pub type Chains<'a> = Sequence<Chain<'a>>;
 
+// Whether it has no parameters, and is none of the predefined.
+fn is_object_like(shape: &Shape) -> bool
+    ensures { result ≡ true → shape.now ≡ ObjectLike }
+{
+    matches!(shape, Shape::ObjectLike)
+}
+
+// Whether `##` stands among these tokens.
+fn has_paste(tokens: &[Token]) -> bool
+    ensures { result ≡ false → AllByRecursion (λ t. is_paste t ≡ false) tokens.now }
+{
+    for token in tokens {
+        if is_paste(token) {
+            return true;
+        }
+    }
+    false
+}
+
 /// A macro, which contracts see as its definition.
 #[derive(Drop)]
 pub struct Macro<'a> {
@@ -161,6 +185,17 @@ impl<'a> Macro<'a> {
         ensures { result.now ≡ self.now }
     {
         &self.definition
+    }
+
+    /// The replacement list of an object-like macro, where no `##` stands in it. Each of its chains is a token alone then.
+    pub fn lone_tokens(&self) -> Option<&'a [Token]>
+        ensures { IfSome result (λ body. chains_of self.now ≡ map lone_chain body.now) }
+    {
+        let body = self.definition.body.as_slice();
+        if !is_object_like(&self.definition.shape) || has_paste(body) {
+            return None;
+        }
+        Some(body)
     }
 
     /// The chains of its replacement list. Parameters are hashed without a key: see `chains_with_hasher`.

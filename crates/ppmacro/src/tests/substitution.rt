@@ -7,7 +7,7 @@ ghost use Rattle.ppmacro.specs.declared.flying.Expansion.TheVariants.{Made};
 use super::{HASH, all_lexed, assert_same, has, lexed, more, push_spelled, table_of};
 use crate::{
     Chain, Expansion, Hidden, HideSets, Macro, Set, Table, paste, stringize, substitute,
-    tells_each_kind,
+    substitute_lone, tells_each_kind,
 };
 use pptext::{Fault, Kind, Memory, Place, Token};
 use std::alloc::{AllocError, Global};
@@ -545,4 +545,95 @@ fn pastes_two_tokens(rt: HostRuntime) -> Result<(), Fail> {
     let alloc = rt.alloc();
     let tokens = lexed(alloc, "+ x 1")?;
     tokens_are_pasted(&rt, alloc, tokens.as_slice())
+}
+
+/// What `substitute_lone` answers, where `f` is the name. Where memory is refused, the set `base` has its member `b`, and the call is
+/// made again.
+fn substituted_lone<'a, R: Abort>(
+    rt: &R,
+    alloc: Global,
+    body: &'a [Token],
+    base: Set,
+    space: bool,
+    sets: &mut HideSets,
+) -> Result<(Vec<Hidden<'a>>, bool), Memory>
+    requires { IsKnown sets.old base }
+{
+    let Ok(answer) = substitute_lone(alloc, body, base, b"f", USED, space, sets) else {
+        assert!(rt; has(rt, sets, base, b"b") && !has(rt, sets, base, b"f"));
+        return substitute_lone(alloc, body, base, b"f", USED, space, sets);
+    };
+    Ok(answer)
+}
+
+/// Asserts that tokens are used where the macro's name is and have the names `b` and `f`, and what they spell.
+fn assert_gained<R: Abort>(
+    rt: &R,
+    alloc: Global,
+    sets: &HideSets,
+    tokens: &[Hidden],
+    wanted: &str,
+) -> Result<(), Fail> {
+    for hidden in tokens {
+        assert!(rt; has(rt, sets, hidden.hide(), b"f") && has(rt, sets, hidden.hide(), b"b"));
+        assert_same(rt, wanted, &hidden.used(), &USED);
+    }
+    Ok(assert_spelled(rt, alloc, tokens, wanted)?)
+}
+
+/// Asserts what the name of a macro with these lone tokens, with or without a space mark, is replaced by, and the mark that is left pending.
+fn assert_lone<R: Abort>(
+    rt: &R,
+    alloc: Global,
+    body: &[Token],
+    (space, wanted, mark): (bool, &str, bool),
+) -> Result<(), Fail> {
+    let mut sets = HideSets::new(alloc)?;
+    let none = sets.empty();
+    let base = more(rt, &mut sets, none, b"b")?;
+    assert!(rt; sets.knows(base));
+    let (tokens, pending) = substituted_lone(rt, alloc, body, base, space, &mut sets)?;
+    assert_same(rt, wanted, &pending, &mark);
+    assert_gained(rt, alloc, &sets, tokens.as_slice(), wanted)
+}
+
+/// Macros, whether the name has a space mark, and what it is replaced by with the mark left.
+const LONE: &[(&str, bool, &str, bool)] = &[
+    ("#define O (1-1)", false, "(1-1)", false),
+    ("#define O (1-1)", true, " (1-1)", false),
+    ("#define H # x", false, "# x", false),
+    ("#define E", false, "", false),
+    ("#define E", true, "", true),
+];
+
+// Where no `##` stands in its list, an object-like macro's name is replaced by the list.
+#[test]
+fn replaces_by_lone_tokens(rt: HostRuntime) -> Result<(), Fail> {
+    for &(line, space, wanted, mark) in LONE {
+        let line = lexed(rt.alloc(), line)?;
+        let table = table_of(&rt, rt.alloc(), line.as_slice())?;
+        let named = macro_of(&table, line.as_slice()).ok_or("no macro")?;
+        let body = named.lone_tokens().ok_or("no lone tokens")?;
+        assert_lone(&rt, rt.alloc(), body, (space, wanted, mark))?;
+    }
+    Ok(())
+}
+
+/// Macros with a `##` in the list, or with parameters.
+const JOINED: &[&str] = &[
+    "#define P a ## b",
+    "#define D a %:%: b",
+    "#define F() a",
+    "#define G(x) x",
+];
+
+#[test]
+fn has_no_lone_tokens(rt: HostRuntime) -> Result<(), Fail> {
+    for &line in JOINED {
+        let line = lexed(rt.alloc(), line)?;
+        let table = table_of(&rt, rt.alloc(), line.as_slice())?;
+        let named = macro_of(&table, line.as_slice()).ok_or("no macro")?;
+        assert!(&rt; named.lone_tokens().is_none());
+    }
+    Ok(())
 }

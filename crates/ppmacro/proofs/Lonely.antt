@@ -1,0 +1,67 @@
+-- Chains of a token alone, as they are where no `##` stands.
+use Rattle.std.proofs.Common.{◌≡◌, Bool, true, false, List, [], ◌∷◌, map, refl, ap, ◌∙◌, Option, Some, None, Ok, if◌then◌else◌, ℕ}
+use Rattle.std.specs.List.{AllByRecursion}
+use Rattle.pptext.specs.declared.tokens.Token.{Token}
+use Rattle.pptext.specs.declared.tokens.Place.{Place}
+use Rattle.pptext.specs.Tokens.{is_identifier}
+use Rattle.ppmacro.specs.Names.{HideSet}
+use Rattle.ppmacro.specs.Spellings.{is_paste}
+use Rattle.ppmacro.specs.declared.macros.Shape.TheVariants.{ObjectLike}
+use Rattle.ppmacro.specs.declared.macros.Operand.TheVariants.{Tok}
+use Rattle.ppmacro.specs.Chains.{Item, Operates, items_at, items_behind, plain_item, parameter_of, begins_joined, join_first, grouped, hash_sign}
+use Rattle.ppmacro.specs.Lone.{lone_chain}
+use Rattle.ppmacro.specs.Substitution.{Arguments, plain, with_mark, gained, chains_tokens, substituted_by}
+
+-- ---- the chains
+
+-- no name of a parameter
+unnamed : (t : Token) → parameter_of ObjectLike t ≡ None
+unnamed t = elim (is_identifier t) as (λ b. if◌then◌else◌ {A = Option ℕ} b None None ≡ None) [ true ↦ refl | false ↦ refl ]
+
+-- the items behind, where a `#` goes before them or doesn't
+abbrev behind_hash : Token → List Token → List Item
+behind_hash t ts = items_behind ObjectLike (Some (hash_sign t)) ts
+
+one_item : (t : Token) (ts : List Token) → is_paste t ≡ false → items_behind ObjectLike None (t ∷ ts) ≡ Operates t.space (Tok t) ∷ items_behind ObjectLike None ts
+one_item t ts h =
+    (λ i. items_at (h i) false (plain_item (parameter_of ObjectLike t) t) (items_behind ObjectLike None ts) (behind_hash t ts))
+    ∙ (λ i. plain_item (unnamed t i) t ∷ items_behind ObjectLike None ts)
+
+unjoined : (ts : List Token) → AllByRecursion (λ t. is_paste t ≡ false) ts → begins_joined (items_behind ObjectLike None ts) ≡ false
+unjoined [] a = refl
+unjoined (t ∷ ts) a = ap begins_joined (one_item t ts a.0)
+
+grouped_alone : (m : Bool) (t : Token) (is : List Item) → begins_joined is ≡ false → grouped (Operates m (Tok t) ∷ is) ≡ record { mark = m; operands = Tok t ∷ [] } ∷ grouped is
+grouped_alone m t is h = λ i. elim (h i) [ true ↦ join_first m (Tok t) (grouped is) | false ↦ record { mark = m; operands = Tok t ∷ [] } ∷ grouped is ]
+
+pub lone_chains : (ts : List Token) → AllByRecursion (λ t. is_paste t ≡ false) ts → grouped (items_behind ObjectLike None ts) ≡ map lone_chain ts
+lone_chains [] a = refl
+lone_chains (t ∷ ts) a =
+    ap grouped (one_item t ts a.0)
+    ∙ grouped_alone t.space t (items_behind ObjectLike None ts) (unjoined ts a.1)
+    ∙ ap (λ cs. lone_chain t ∷ cs) (lone_chains ts a.1)
+
+-- ---- their tokens
+
+others : (args : Arguments) (used : Place) (ts : List Token) → chains_tokens args used false false (map lone_chain ts) ≡ Ok (record { tokens = map plain ts; pending = false })
+others args used [] = refl
+others args used (t ∷ ts) = rw (others args used ts) refl
+
+marked_first : (args : Arguments) (used : Place) (space : Bool) (t : Token) (ts : List Token)
+    → chains_tokens args used space true (map lone_chain (t ∷ ts)) ≡ Ok (record { tokens = with_mark space (plain t) ∷ map plain ts; pending = false })
+marked_first args used true t ts = rw (others args used ts) refl
+marked_first args used false t ts = rw (others args used ts) refl
+
+gained_each : (gain : HideSet) (used : Place) (ts : List Token) → map (gained gain used) (map plain ts) ≡ map (λ t. gained gain used (plain t)) ts
+gained_each gain used [] = refl
+gained_each gain used (t ∷ ts) = ap (λ hs. gained gain used (plain t) ∷ hs) (gained_each gain used ts)
+
+-- of an empty list the mark is left pending
+pub lone_none : (args : Arguments) (gain : HideSet) (used : Place) (space : Bool) → substituted_by (map lone_chain []) args gain used space ≡ Ok (record { tokens = []; pending = space })
+lone_none args gain used space = refl
+
+pub lone_substituted : (args : Arguments) (gain : HideSet) (used : Place) (space : Bool) (t : Token) (ts : List Token)
+    → substituted_by (map lone_chain (t ∷ ts)) args gain used space
+    ≡ Ok (record { tokens = gained gain used (with_mark space (plain t)) ∷ map (λ t. gained gain used (plain t)) ts; pending = false })
+lone_substituted args gain used space t ts =
+    rw (marked_first args used space t ts) (λ i. Ok (record { tokens = gained gain used (with_mark space (plain t)) ∷ gained_each gain used ts i; pending = false }))
