@@ -1,21 +1,23 @@
 #!/usr/bin/env python3
 """Refuses each request for memory of crates' built tests in turn, alone and with all behind it.
 
-    tests/refused_in_tests.py NAME..
+    tests/refused_in_tests.py [--each-up-to N] NAME..
 
 For each NAME the tests are crates/NAME/out/NAME_tests, which `rt test` leaves behind.  Each test runs with its 1st, 2nd,
-3rd .. request refused, and with all refused from that one on, until a run meets no refusal; behind the 1,000th fewer and
-fewer requests are refused.  A test that looks at what a refused call left, and calls again, passes where the second call
-gets what it asks for; in another the want of memory is the test's own error.  Whatever else fails is a problem.
+3rd .. request refused, and with all refused from that one on, until a run meets no refusal; behind the Nth, by default the
+1,000th, fewer and fewer requests are refused.  As many tests run side by side as there are processors.  A test that looks at
+what a refused call left, and calls again, passes where the second call gets what it asks for; in another the want of memory is
+the test's own error.  Whatever else fails is a problem.
 """
+import argparse
 import os
 import re
 import subprocess
 import sys
+from concurrent.futures import ThreadPoolExecutor
 
 from refusals import HERE, KINDS, refused, refusing_malloc, run, tally
 
-EACH_UP_TO = 1_000
 WANT_OF_MEMORY = re.compile(rb"[Ee]rror: (Memory|AllocError|AllocFailed|Kind\(OutOfMemory\))")
 
 
@@ -24,39 +26,46 @@ def tests_of(program):
     return [line.rsplit(": ", 1)[0] for line in listed.splitlines() if "::" in line]
 
 
-def some_runs(command, malloc, on):
+def some_runs(command, malloc, on, each_up_to):
     """The runs with a request refused, each with the request's number, up to the first that meets no refusal."""
     call, met = 1, True
     while met:
         done, met = run(command, malloc, call, on=on)
         yield call, done, met
-        call += 1 + call // EACH_UP_TO
+        call += 1 + call // each_up_to
 
 
-def problems(program, test, malloc):
+def judged(name, test, malloc, each_up_to):
+    """A test's name with how many requests were refused, and its problems."""
+    program = os.path.join(HERE, "..", "crates", name, "out", name + "_tests")
+    told, problems = [name + " " + test], []
     for on, how in KINDS.items():
         refusals = went_on = 0
-        for call, done, met in some_runs([program, test], malloc, on):
+        for call, done, met in some_runs([program, test], malloc, on, each_up_to):
             passed = done.returncode == 0
             words = done.stdout + done.stderr
             if not passed and not (met and WANT_OF_MEMORY.match(words)):
-                yield "%s: %r" % (refused(call, on), words[:200])
+                problems.append("%s: %r" % (refused(call, on), words[:200]))
             refusals += met
             went_on += met and passed
-        print("  %d requests refused, %s, %d of them met by a call that is tested" % (refusals, how, went_on))
+        told.append("  %d requests refused, %s, %d of them met by a call that is tested" % (refusals, how, went_on))
+    return "\n".join(told), problems
 
 
-def cases(names, malloc):
-    for name in names:
-        program = os.path.join(HERE, "..", "crates", name, "out", name + "_tests")
-        for test in tests_of(program):
-            yield name + " " + test, problems(program, test, malloc)
+def cases(names, malloc, each_up_to):
+    tests = [(name, test) for name in names for test in tests_of(os.path.join(HERE, "..", "crates", name, "out", name + "_tests"))]
+    with ThreadPoolExecutor(os.cpu_count()) as pool:
+        yield from pool.map(lambda one: judged(*one, malloc, each_up_to), tests)
 
 
-def main(names):
+def main():
+    words = argparse.ArgumentParser(description=__doc__, formatter_class=argparse.RawDescriptionHelpFormatter)
+    words.add_argument("--each-up-to", type=int, default=1_000, metavar="N")
+    words.add_argument("names", nargs="+", metavar="NAME")
+    given = words.parse_args()
     with refusing_malloc() as malloc:
-        return tally(cases(names, malloc))
+        return tally(cases(given.names, malloc, given.each_up_to))
 
 
 if __name__ == "__main__":
-    sys.exit(main(sys.argv[1:]))
+    sys.exit(main())
