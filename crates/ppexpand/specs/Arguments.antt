@@ -1,5 +1,5 @@
 -- The arguments of an invocation: the lists between `(` and its matching `)` (6.10.3, paragraphs 4, 10 to 12).
-use Rattle.std.specs.Prelude.{ℕ, zero, suc, ◌==◌, ◌-◌, Bool, true, false, ◌||◌, List, [], ◌∷◌, length, Option, Some, None, codes, if◌then◌else◌}
+use Rattle.std.specs.Prelude.{ℕ, zero, suc, ◌==◌, ◌-◌, Bool, true, false, List, [], ◌∷◌, length, Option, Some, None, codes, if◌then◌else◌}
 use Rattle.pptext.specs.declared.tokens.Token.{Token}
 use Rattle.pptext.specs.Tokens.{is_punct, is_lone_quote}
 use Rattle.ppmacro.specs.Names.{Name}
