@@ -1,5 +1,5 @@
 -- The content that a list holds for a name, and a shelf that nothing fills yet.
-use Rattle.std.proofs.Common.{◌≤◌, Option, ◌≡◌, ◌≢◌, ℕ, ◌<◌, ◌+◌, suc, zero, List, ◌∷◌, length, get_or, drop, drop-cons, replicate, refl, sym, ap, ◌∙◌, subst, arith, None}
+use Rattle.std.proofs.Common.{◌≤◌, Option, ◌≡◌, ◌≢◌, ℕ, ◌<◌, ◌+◌, suc, List, ◌∷◌, length, get_or, drop, drop-cons, replicate, sym, ap, ◌∙◌, subst, arith, None}
 use Rattle.std.specs.String.{string_bytes}
 use Rattle.std.specs.Option.{option_map}
 use Rattle.std.proofs.Math.ListN.{get_or-map}
