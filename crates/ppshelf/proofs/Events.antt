@@ -1,10 +1,11 @@
 -- Whatever happens to a shelf, what its callers have learnt is what its rows keep.
-use Rattle.std.proofs.Common.{◌≡◌, ℕ, zero, suc, ◌≤◌, List, [], ◌∷◌, length, get_or, set, replicate, Option, Some, None, refl, sym, ◌∙◌, ap, arith, ◌⊎◌, inl, inr}
+use Rattle.std.proofs.Common.{◌≡◌, ℕ, zero, suc, ◌≤◌, List, [], ◌∷◌, length, get_or, set, Some, None, refl, sym, ◌∙◌, ap, arith, ◌⊎◌, inl, inr}
 use Rattle.std.proofs.lemmas.Bool.{cases_lt, cases_eq}
 use Rattle.std.proofs.lemmas.List.{get_or_past, get_or-set_other, get_or-set_same, length-set, set_past}
 use Rattle.std.proofs.lemmas.Option.{none-some, same_Some}
 use Rattle.ppshelf.specs.Content.{Content}
 use Rattle.ppshelf.specs.Files.{Files, file_at, Extends}
+use Rattle.ppshelf.proofs.Files.{none_known}
 use Rattle.ppshelf.specs.Events.{Shared, learnt_by, learning, keeping, Event, Happens, keeps, reads, Happen, none, next, beginning, LearntStays, CallersAgree}
 
 -- all that a caller has learnt is kept
@@ -95,11 +96,6 @@ happen before (event ∷ events) after (next {then = then} one more) sound =
     let first = happens before event then one sound in
     let rest = happen then events after more first.0 in
     (rest.0, λ caller at d e. rest.1 caller at d (first.1 caller at d e))
-
-none_known : (n at : ℕ) → ◌≡◌ {A = Option Content} (get_or (replicate n None) at None) None
-none_known zero at = refl
-none_known (suc n) zero = refl
-none_known (suc n) (suc at) = none_known n at
 
 none_learnt : (rows callers caller at : ℕ) → file_at (learnt_by (beginning rows callers) caller) at ≡ None
 none_learnt rows zero caller at = refl

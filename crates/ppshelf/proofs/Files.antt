@@ -1,5 +1,5 @@
 -- What a pass knows at a row.
-use Rattle.std.proofs.Common.{Option, take, ◌-◌, ◌+◌, ◌++◌, replicate, length-append, ◌≡◌, ℕ, ◌<◌, ◌≤◌, List, [], ◌∷◌, length, get_or, set, Some, None, refl, sym, ◌∙◌, ap, arith, inl, inr, subst}
+use Rattle.std.proofs.Common.{Option, zero, suc, take, ◌-◌, ◌+◌, ◌++◌, replicate, length-append, ◌≡◌, ℕ, ◌<◌, ◌≤◌, List, [], ◌∷◌, length, get_or, set, Some, None, refl, sym, ◌∙◌, ap, arith, inl, inr, subst}
 use Rattle.std.specs.Option.{option_map}
 use Rattle.std.proofs.lemmas.Grind.{common_steps}
 use Rattle.std.proofs.lemmas.List.{length-map, map-append, replicate_more, map-set, get_or_past, get_or_read, get_or-set_other, length-set}
@@ -12,6 +12,12 @@ use Rattle.ppshelf.specs.Names.{name_in}
 use Rattle.ppshelf.specs.Files.{Files, Stock, file_at, AllLawful, or_else, Agree, Joined, Extends}
 use Rattle.pptext.specs.declared.sources.Profile.{Profile}
 use Rattle.ppshelf.specs.Shelved.{Held, Spot, Sight, IsPlaced, FitsRow, Placed, IsPass, files_of, names_of, base_of, cells_of, stock_of, spot_at, no_sight, no_spot}
+
+-- a map that knows nothing knows no row
+pub none_known : (rows row : ℕ) → file_at (replicate rows None) row ≡ None
+none_known zero row = refl
+none_known (suc rows) zero = refl
+none_known (suc rows) (suc row) = none_known rows row
 
 abbrev pub content_of_sight : Sight → Option Content
 content_of_sight s = option_map (λ (h : Held). h.content) s.shown

@@ -19,11 +19,11 @@ pub record Filling (profile : Profile) (gives : ℕ → List ℕ → Content →
   pub full : (row : ℕ) → row < n → IsSome (get_or new row no_spot).base
   pub ahead : (row : ℕ) → n ≤ row → get_or new row no_spot ≡ get_or old row no_spot
 
-same_row : (profile : Profile) (gives : ℕ → List ℕ → Content → Type 0) (row : ℕ) (s : Spot) → FilledRow (gives row) profile row s s
-same_row profile gives row s = record { name = refl; cell = refl; stays = λ h e. e; put = λ h a b. absurd (none-some h (sym a ∙ b)) }
+untouched_row : (profile : Profile) (gives : ℕ → List ℕ → Content → Type 0) (row : ℕ) (s : Spot) → FilledRow (gives row) profile row s s
+untouched_row profile gives row s = record { name = refl; cell = refl; stays = λ h e. e; put = λ h a b. absurd (none-some h (sym a ∙ b)) }
 
 pub none_filled : (profile : Profile) (gives : ℕ → List ℕ → Content → Type 0) (old : List Spot) → Filling profile gives old old 0
-none_filled profile gives old = record { turned = record { len = refl; rows = λ row w. same_row profile gives row (get_or old row no_spot) }; full = λ row w. absurd (omega arith); ahead = λ row w. refl }
+none_filled profile gives old = record { turned = record { len = refl; rows = λ row w. untouched_row profile gives row (get_or old row no_spot) }; full = λ row w. absurd (omega arith); ahead = λ row w. refl }
 
 pub turned_set : (profile : Profile) (gives : ℕ → List ℕ → Content → Type 0) (old new : List Spot) (n : ℕ) (mine s : Spot)
     → Filling profile gives old new n

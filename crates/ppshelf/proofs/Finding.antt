@@ -1,5 +1,5 @@
 -- The content that a list holds for a name, and a shelf that nothing fills yet.
-use Rattle.std.proofs.Common.{◌≤◌, Option, ◌≡◌, ◌≢◌, ℕ, ◌<◌, ◌+◌, suc, zero, List, ◌∷◌, length, get_or, drop, drop-cons, replicate, refl, sym, ap, ◌∙◌, subst, arith, None}
+use Rattle.std.proofs.Common.{◌≤◌, Option, ◌≡◌, ◌≢◌, ℕ, ◌<◌, ◌+◌, suc, List, ◌∷◌, length, get_or, drop, drop-cons, replicate, sym, ap, ◌∙◌, subst, arith, None}
 use Rattle.std.specs.String.{string_bytes}
 use Rattle.std.specs.Option.{option_map}
 use Rattle.std.proofs.Math.ListN.{get_or-map}
@@ -12,6 +12,7 @@ use Rattle.ppshelf.specs.Files.{Files, most_rows}
 use Rattle.pptext.specs.declared.sources.Profile.{Profile}
 use Rattle.ppshelf.specs.Shelved.{Held, Spot, Placed, IsShelf, base_of, names_of, no_spot}
 use Rattle.ppshelf.specs.declared.memory_disk.File.{File}
+use Rattle.ppshelf.proofs.Files.{none_known}
 
 cons_at : (files : List File) (i : ℕ) (f : File) → i < length files → f ≡ get_or files i f → f ∷ drop (i + 1) files ≡ drop i files
 cons_at files i f w read =
@@ -24,26 +25,22 @@ found files i f name c w read e is = let P : List File → Type 0 = λ xs. IsFil
 pub skipped : (files : List File) (i : ℕ) (f : File) (name : List ℕ) (c : Content) → i < length files → f ≡ get_or files i f → string_bytes f.name ≢ name → IsFile (drop (i + 1) files) name c → IsFile (drop i files) name c
 skipped files i f name c w read other later = let P : List File → Type 0 = λ xs. IsFile xs name c in subst P (cons_at files i f w read) ((λ e. absurd (other e)), (λ _. later))
 
-all_none : (n row : ℕ) → ◌≡◌ {A = Option Content} (get_or (replicate n None) row None) None
-all_none zero row = refl
-all_none (suc n) zero = refl
-all_none (suc n) (suc row) = all_none n row
-
 pub none_placed : (profile : Profile) (stock : List Spot) (n : ℕ) → base_of stock ≡ replicate n None → Placed profile stock
 none_placed profile stock n e row h is =
     let base : Spot → Option Content = λ (s : Spot). option_map (λ (x : Held). x.content) s.base in
-    absurd (none-some h.content (sym (all_none n row) ∙ (ap (λ (f : Files). get_or f row None) (sym e) ∙ (get_or-map base stock row no_spot ∙ ap (λ (o : Option Held). option_map (λ (x : Held). x.content) o) is))))
+    absurd (none-some h.content (sym (none_known n row) ∙ (ap (λ (f : Files). get_or f row None) (sym e) ∙ (get_or-map base stock row no_spot ∙ ap (λ (o : Option Held). option_map (λ (x : Held). x.content) o) is))))
 
--- rows of these names, of which none is filled
-pub empty_shelf : (profile : Profile) (names : List (List ℕ)) (stock : List Spot) (n : ℕ)
+-- rows of these names, of which none is filled, with an index of the same names
+pub empty_shelf : (profile : Profile) (index names : List (List ℕ)) (stock : List Spot) (n : ℕ)
+    → index ≡ names
     → names_of stock ≡ names
     → base_of stock ≡ replicate n None
     → length names ≤ most_rows
-    → AreNames names
-    → IsShelf profile names stock
-empty_shelf profile names stock n named base small form = record {
+    → AreNames index
+    → IsShelf profile index stock
+empty_shelf profile index names stock n is named base small form = record {
   small = let l = length-map stock (λ (s : Spot). s.name) in let m = ap length named in omega arith;
-  named = sym named;
+  named = is ∙ sym named;
   form = form;
   placed = none_placed profile stock n base;
 }

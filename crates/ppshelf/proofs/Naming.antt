@@ -142,13 +142,13 @@ same_list [] = refl
 same_list (n ∷ ns) = ap (λ (l : List (List ℕ)). n ∷ l) (same_list ns)
 
 -- a name that the test doesn't find stands at no row, and one that it finds at some
-not_found : (name : List ℕ) (names : List (List ℕ)) → list_any (bytes_eq name) names ≡ false → IsRowOf names name None
-not_found name names e =
+at_no_row : (name : List ℕ) (names : List (List ℕ)) → list_any (bytes_eq name) names ≡ false → IsRowOf names name None
+at_no_row name names e =
     let P : List (List ℕ) → Type 0 = λ l. IsRowOf l name None in
     subst P (same_list names) (no_row (λ (n : List ℕ). n) name names e)
 
-found : (name : List ℕ) (names : List (List ℕ)) → list_any (bytes_eq name) names ≡ true → (row : ℕ) × IsRowOf names name (Some row)
-found name names e =
+at_some_row : (name : List ℕ) (names : List (List ℕ)) → list_any (bytes_eq name) names ≡ true → (row : ℕ) × IsRowOf names name (Some row)
+at_some_row name names e =
     let P : List (List ℕ) → Type 0 = λ l. (row : ℕ) × IsRowOf l name (Some row) in
     subst P (same_list names) (a_row (λ (n : List ℕ). n) name names e)
 
@@ -160,7 +160,7 @@ names_from_test (name ∷ more) e (suc row) within =
     let p = passes (is_name name) (not (list_any (bytes_eq name) more)) (are_names more) e in
     let inside : row < length more = omega arith in
     let later : IsNewName more row = names_from_test more p.2 row inside in
-    let apart : IsRowOf more name None = not_found name more (not-false (list_any (bytes_eq name) more) p.1) in
+    let apart : IsRowOf more name None = at_no_row name more (not-false (list_any (bytes_eq name) more) p.1) in
     record { form = later.form; once = once_by row inside later apart }
   where
     once_by : (row : ℕ) → row < length more → IsNewName more row → IsRowOf more name None
@@ -177,7 +177,7 @@ names_behind name more are row within = record {
 apart_by : (name : List ℕ) (more : List (List ℕ)) (b : Bool) → list_any (bytes_eq name) more ≡ b → AreNames (name ∷ more) → not b ≡ true
 apart_by name more false e are = refl
 apart_by name more true e are =
-    let f = found name more e in
+    let f = at_some_row name more e in
     let within = f.1.0 in
     absurd ((are (suc f.0) (omega arith)).once 0 (omega arith) (sym f.1.1))
 

@@ -29,6 +29,7 @@ is_name s = nat_le (length s) 1024 && list_all is_name_byte s && list_all is_seg
 abbrev pub is_folder : List ℕ → Bool
 is_folder s = bytes_eq s (codes ".") || is_name s
 
+-- the name of a row, and nothing past the last row
 abbrev pub name_in : List (List ℕ) → ℕ → List ℕ
 name_in names row = slice_index_or names row []
 

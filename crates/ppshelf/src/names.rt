@@ -3,7 +3,7 @@ ghost use Rattle.std.specs.Prelude.{◌≡◌};
 ghost use Rattle.std.specs.List.{list_all};
 ghost use Rattle.ppshelf.specs.Names as spec;
 
-const LONGEST_NAME: usize = 1024;
+pub(crate) const LONGEST_NAME: usize = 1024;
 
 /// Whether the text is a file's name in normal form: 1 to 1,024 bytes without control characters, in segments between `/`,
 /// none of which is empty, `.` or `..`.

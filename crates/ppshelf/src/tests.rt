@@ -10,7 +10,7 @@ mod naming;
 mod reading;
 mod searching;
 
-use crate::{Disk, File, MemoryDisk, Pass, ReadFault, Shelf};
+use crate::{Disk, File, Loaded, MemoryDisk, Pass, ReadFault, Shelf};
 use pptext::{Fault, Memory, Profile, Source};
 use std::alloc::{AllocError, Global};
 use std::process::Abort;
@@ -81,7 +81,26 @@ fn disk_of(alloc: Global, text: &[u8]) -> Result<MemoryDisk, AllocError> {
     Ok(MemoryDisk { files })
 }
 
-// What a pass is shown of a row.
+// What a pass is shown of a row, if there is one.
+fn shown_of<'a, D: Disk>(
+    shelf: &'a Shelf<D>,
+    pass: &mut Pass<'a, D>,
+    row: usize,
+    disk: &D,
+) -> Result<Option<&'a Loaded<D>>, Memory>
+    requires { pass.old.shelf ≡ shelf.now }
+    ensures { pass.new.shelf ≡ shelf.now }
+{
+    if row >= shelf.len() {
+        return Ok(None);
+    }
+    let Ok(loaded) = shelf.look(pass, row, disk) else {
+        return Err(Memory);
+    };
+    Ok(Some(loaded))
+}
+
+// The bytes that it is shown.
 fn bytes_of<'a, D: Disk>(
     shelf: &'a Shelf<D>,
     pass: &mut Pass<'a, D>,
@@ -91,16 +110,13 @@ fn bytes_of<'a, D: Disk>(
     requires { pass.old.shelf ≡ shelf.now }
     ensures { pass.new.shelf ≡ shelf.now }
 {
-    if row >= shelf.len() {
-        return Ok(None);
+    match shown_of(shelf, pass, row, disk)? {
+        Some(loaded) => Ok(loaded.bytes()),
+        None => Ok(None),
     }
-    let Ok(loaded) = shelf.look(pass, row, disk) else {
-        return Err(Memory);
-    };
-    Ok(loaded.bytes())
 }
 
-// The same for its lines.
+// And the lines.
 fn lines_of<'a, D: Disk>(
     shelf: &'a Shelf<D>,
     pass: &mut Pass<'a, D>,
@@ -110,13 +126,10 @@ fn lines_of<'a, D: Disk>(
     requires { pass.old.shelf ≡ shelf.now }
     ensures { pass.new.shelf ≡ shelf.now }
 {
-    if row >= shelf.len() {
-        return Ok(None);
+    match shown_of(shelf, pass, row, disk)? {
+        Some(loaded) => Ok(loaded.lines()),
+        None => Ok(None),
     }
-    let Ok(loaded) = shelf.look(pass, row, disk) else {
-        return Err(Memory);
-    };
-    Ok(loaded.lines())
 }
 
 // That a pass is shown these bytes of a row.

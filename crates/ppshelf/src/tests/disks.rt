@@ -1,6 +1,6 @@
 // Files from memory, and from a folder.
 use super::{assert_shown, disk_of, named};
-use crate::{Disk, FolderDisk, MemoryDisk, ReadFault, Shelf};
+use crate::{Disk, FolderDisk, LONGEST, MemoryDisk, ReadFault, Shelf};
 use pptext::Memory;
 use std::alloc::{AllocError, Global};
 use std::fs::OpenFile;
@@ -38,7 +38,7 @@ fn path_of(alloc: Global, folder: &str, name: &str) -> Result<String, AllocError
 // Makes the file that is longer than what is read of a file.
 fn make_long<R: Files + AllocGlobal>(rt: &R, folder: &str) -> Result<(), Fail> {
     let long = fs::create(rt, path_of(rt.alloc(), folder, "long")?)?;
-    long.set_len(20_000_000)?;
+    long.set_len(2 * LONGEST as u64)?;
     Ok(())
 }
 
@@ -57,7 +57,7 @@ fn assert_long_is_cut<R: Abort + Files + AllocGlobal>(
     disk: &FolderDisk<R>,
 ) -> Result<(), Memory> {
     match disk.read(rt.alloc(), "long") {
-        Ok(bytes) => assert!(rt; bytes.len() == 16_777_217),
+        Ok(bytes) => assert!(rt; bytes.len() == LONGEST + 1),
         Err(ReadFault::Memory) => return Err(Memory),
         Err(ReadFault::Unreadable) => assert!(rt; false, "the long file is unreadable"),
     }

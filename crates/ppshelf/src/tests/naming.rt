@@ -3,7 +3,8 @@ ghost use Rattle.std.specs.Prelude.{◌≤◌, length};
 ghost use Rattle.ppshelf.specs.Files.{most_rows};
 
 use super::{named, texts};
-use crate::{MemoryDisk, Shelf, ShelfFault, is_folder, is_name};
+use crate::names::LONGEST_NAME;
+use crate::{MOST_ROWS, MemoryDisk, Shelf, ShelfFault, is_folder, is_name};
 use pptext::{Hashing, Memory, Profile};
 use std::alloc::{AllocError, Global};
 use std::hash::RandomState;
@@ -40,8 +41,8 @@ fn names_have_one_form(rt: HostRuntime) -> Result<(), Fail> {
         ],
     );
     assert!(rt; is_folder(b".".as_slice()) && !is_name(b".".as_slice()));
-    let longest = Vec::from_elem(rt.alloc(), b'a', 1024)?;
-    let longer = Vec::from_elem(rt.alloc(), b'a', 1025)?;
+    let longest = Vec::from_elem(rt.alloc(), b'a', LONGEST_NAME)?;
+    let longer = Vec::from_elem(rt.alloc(), b'a', LONGEST_NAME + 1)?;
     assert!(rt; is_name(longest.as_slice()) && !is_name(longer.as_slice()));
     Ok(())
 }
@@ -96,8 +97,8 @@ fn a_shelf_by_a_key_finds_its_rows(rt: HostRuntime) -> Result<(), Fail> {
 
 // As many names as a shelf holds, in order.
 fn numbered(alloc: Global) -> Result<Vec<String>, AllocError> {
-    let mut names = Vec::with_capacity(alloc, 65535)?;
-    for i in 0..65535u32 {
+    let mut names = Vec::with_capacity(alloc, MOST_ROWS)?;
+    for i in 0..MOST_ROWS {
         names.push(format!(in alloc; "f{i:05}.h")?)?;
     }
     Ok(names)
@@ -106,7 +107,7 @@ fn numbered(alloc: Global) -> Result<Vec<String>, AllocError> {
 // A shelf of them.
 fn largest(alloc: Global) -> Result<Shelf<MemoryDisk>, Fail> {
     let names = numbered(alloc)?;
-    if names.len() != 65535 {
+    if names.len() != MOST_ROWS {
         return Err(Fail::new("not all names"));
     }
     Ok(Shelf::new(alloc, names, Profile::C11)?)
@@ -114,18 +115,18 @@ fn largest(alloc: Global) -> Result<Shelf<MemoryDisk>, Fail> {
 
 // That it has each name in its row.
 fn assert_is_largest(rt: &impl Abort, shelf: &Shelf<MemoryDisk>) -> Result<(), Fail> {
-    if shelf.len() != 65535 {
+    if shelf.len() != MOST_ROWS {
         return Err(Fail::new("not all names"));
     }
-    assert!(rt; shelf.len() == 65535 && shelf.name(65534) == "f65534.h");
+    assert!(rt; shelf.name(MOST_ROWS - 1) == "f65534.h");
     assert!(rt; shelf.row_of(b"f00000.h".as_slice()) == Some(0));
-    assert!(rt; shelf.row_of(b"f65534.h".as_slice()) == Some(65534));
+    assert!(rt; shelf.row_of(b"f65534.h".as_slice()) == Some(MOST_ROWS - 1));
     assert!(rt; shelf.row_of(b"f65535.h".as_slice()) == None);
     Ok(())
 }
 
 #[test]
-fn a_shelf_holds_65535_names(rt: HostRuntime) -> Result<(), Fail> {
+fn a_shelf_holds_its_most_names(rt: HostRuntime) -> Result<(), Fail> {
     let alloc = rt.alloc();
     assert_is_largest(&rt, &largest(alloc)?)?;
     let empty: Shelf<MemoryDisk> = named(alloc, &[])?;
