@@ -1,5 +1,5 @@
--- Expansion within a budget beside expansion without one.
-use Rattle.std.proofs.Common.{◌≡◌, ℕ, zero, suc, ◌+◌, ◌-◌, ◌<◌, List, [], ◌∷◌, Option, Some, None, Ok, Err, refl, sym, ap, ◌∙◌, subst, arith, append-nil, map}
+-- Expansion within a budget beside expansion within a larger one or without one.
+use Rattle.std.proofs.Common.{◌≡◌, ℕ, zero, suc, ◌+◌, ◌-◌, ◌<◌, ◌≤◌, List, [], ◌∷◌, Option, Some, None, Ok, Err, refl, sym, ap, ◌∙◌, subst, arith, append-nil, map}
 use Rattle.std.proofs.lemmas.List.{map-append}
 use Rattle.pptext.specs.declared.tokens.Token.{Token}
 use Rattle.ppexpand.specs.declared.expansion.Expanded.{Expanded}
@@ -80,6 +80,40 @@ pub plus-none : (n : ℕ) (left : Option ℕ) → None ≡ plus n left → left 
 plus-none n None e = refl
 plus-none n (Some k) e = absurd (cc)
 
+-- ---- two budgets
+
+-- there is no budget, or it is at least so large
+pub data Covers : Option ℕ → ℕ → Type 0 where
+  without : {b : ℕ} → Covers None b
+  larger : {b c : ℕ} → b ≤ c → Covers (Some c) b
+
+pub covers_less : {left : Option ℕ} {b : ℕ} → Covers left (suc b) → Covers (less_one left) b
+covers_less without = without
+covers_less (larger {c = zero} h) = absurd (omega arith)
+covers_less (larger {c = suc c} h) = larger (omega arith)
+
+-- what is left covers the rest
+pub covers_rest : {left : Option ℕ} {b : ℕ} (after : Option ℕ) (n m : ℕ) → Covers left b → left ≡ plus n after → b ≡ n + m → Covers after m
+covers_rest None n m without e sum = without
+covers_rest (Some k) n m without e sum = absurd (cc)
+covers_rest None n m (larger {c = c} h) e sum = absurd (cc)
+covers_rest (Some k) n m (larger {c = c} h) e sum = let all : c ≡ n + k = cc in larger (omega arith)
+
+-- ---- turns
+
+-- a turn that costs nothing is the same with a smaller budget
+pub free_less : {left : Option ℕ} (b : ℕ) (list : List Hiding) (u t : Turn) → Covers left b → within left list u ≡ t → IsFree t → within (Some b) list u ≡ t
+free_less b list u t without e h = free_within (Some b) list u (subst IsFree (sym e) h) ∙ e
+free_less zero list u t (larger {c = zero} low) e h = e
+free_less (suc b) list u t (larger {c = zero} low) e h = absurd (omega arith)
+free_less b list u t (larger {c = suc c} low) e h = free_within (Some b) list u (subst IsFree (sym e) h) ∙ e
+
+-- a replacement is that without a budget
+pub paid_whole : (left : Option ℕ) (list : List Hiding) (u t : Turn) → within left list u ≡ t → Costs t → u ≡ t
+paid_whole None list u t e h = e
+paid_whole (Some (suc n)) list u t e h = e
+paid_whole (Some zero) list u t e h = absurd (never_both t (subst IsFree e (nothing_is_free list u)) h)
+
 module _ (macros : Macros) (env : Env) where
   -- a replacement is paid
   pays : (left : Option ℕ) (list : List Hiding) (t : Turn) → Costs t → turn_within macros env left list ≡ t → left ≡ plus 1 (less_one left)
@@ -114,13 +148,11 @@ module _ (macros : Macros) (env : Env) where
 
   -- ---- with enough
 
-  free : {left : Option ℕ} (list : List Hiding) {t : Turn} → left ≡ None → turn_within macros env left list ≡ t → turn macros env list ≡ t
-  free list {t = t} is e = subst (λ l. turn_within macros env l list ≡ t) is e
+  free_turn : {left : Option ℕ} {b : ℕ} (list : List Hiding) {t : Turn} → Covers left b → turn_within macros env left list ≡ t → IsFree t → turn_within macros env (Some b) list ≡ t
+  free_turn {b = b} list {t = t} is e h = free_less b list (turn macros env list) t is e h
 
-  free_turn : {left : Option ℕ} (list : List Hiding) {t : Turn} → left ≡ None → turn_within macros env left list ≡ t → IsFree t → (n : ℕ) → turn_within macros env (Some n) list ≡ t
-  free_turn list {t = t} is e h n =
-      let here : turn macros env list ≡ t = free list is e in
-      free_within (Some n) list (turn macros env list) (subst IsFree (sym here) h) ∙ here
+  paid : {left : Option ℕ} {b : ℕ} (list : List Hiding) → Covers left b → (t : Turn) → turn_within macros env left list ≡ t → Costs t → turn macros env list ≡ t
+  paid {left = left} list is t e h = paid_whole left list (turn macros env list) t e h
 
   pub left_none : {level turns : ℕ} {left after : Option ℕ} {list tokens : List Hiding} {fault : Option Fault}
       → left ≡ None
@@ -131,54 +163,64 @@ module _ (macros : Macros) (env : Env) where
   pub arguments_none : {level : ℕ} {call : Call} {left after : Option ℕ} {as' : List (Option (List Hiding))} {r : ExpandedArguments} → left ≡ None → ExpandsArguments macros env level call left as' after r → after ≡ None
   arguments_none {after = after} is a = plus-none (count_arguments macros env a) after (sym is ∙ spends_arguments a)
 
+  left_rest : {level turns : ℕ} {left after : Option ℕ} {list tokens : List Hiding} {fault : Option Fault} (b m : ℕ) → Covers left b
+      → (d : Expands macros env level left turns list (record { tokens = tokens; fault = fault; left = after }))
+      → b ≡ count macros env d + m
+      → Covers after m
+  left_rest {after = after} b m is d sum = covers_rest after (count macros env d) m is (spends d) sum
+
+  arguments_rest : {level : ℕ} {call : Call} {left after : Option ℕ} {as' : List (Option (List Hiding))} {r : ExpandedArguments} (b m : ℕ) → Covers left b
+      → (a : ExpandsArguments macros env level call left as' after r)
+      → b ≡ count_arguments macros env a + m
+      → Covers after m
+  arguments_rest {after = after} b m is a sum = covers_rest after (count_arguments macros env a) m is (spends_arguments a) sum
+
   abbrev leaving : ℕ → Outcome → Outcome
   leaving n out = record { tokens = out.tokens; fault = out.fault; left = Some n }
 
   mutual
-    -- with as much as an expansion without a budget costs, and more, it is the same, and the rest is left
-    pub enough : {level turns : ℕ} {left : Option ℕ} {list : List Hiding} {out : Outcome}
-        → left ≡ None
-        → (d : Expands macros env level left turns list out) (b n : ℕ)
+    -- with as much as an expansion costs, and more, it is the same, and the rest is left
+    pub enough : {level turns : ℕ} {left : Option ℕ} {list : List Hiding} {out : Outcome} (b : ℕ) → Covers left b
+        → (d : Expands macros env level left turns list out) (n : ℕ)
         → b ≡ count macros env d + n
         → Expands macros env level (Some b) turns list (leaving n out)
-    enough {level = level} {list = list} is (done e) b n sum =
+    enough {level = level} {list = list} b is (done e) n sum =
         let same : b ≡ n = omega arith in
-        subst (λ x. Expands macros env level (Some b) 0 list (record { tokens = []; fault = None; left = Some x })) same (done (free_turn list is e tt b))
-    enough {level = level} {list = list} is (refused {f = f} e) b n sum =
+        subst (λ x. Expands macros env level (Some b) 0 list (record { tokens = []; fault = None; left = Some x })) same (done (free_turn list is e tt))
+    enough {level = level} {list = list} b is (refused {f = f} e) n sum =
         let same : b ≡ n = omega arith in
-        subst (λ x. Expands macros env level (Some b) 0 list (record { tokens = []; fault = Some f; left = Some x })) same (refused (free_turn list is e tt b))
-    enough {list = list} is (passes e more) b n sum = passes (free_turn list is e tt b) (enough is more b n sum)
-    enough is (failed e) zero n sum = absurd (omega arith)
-    enough {level = level} {list = list} is (failed {f = f} e) (suc b) n sum =
+        subst (λ x. Expands macros env level (Some b) 0 list (record { tokens = []; fault = Some f; left = Some x })) same (refused (free_turn list is e tt))
+    enough {list = list} b is (passes e more) n sum = passes (free_turn list is e tt) (enough b is more n sum)
+    enough zero is (failed {f = f} e) n sum = absurd (omega arith)
+    enough {level = level} {list = list} (suc b) is (failed {f = f} e) n sum =
         let same : b ≡ n = omega arith in
-        subst (λ x. Expands macros env level (Some (suc b)) 0 list (record { tokens = []; fault = Some f; left = Some x })) same (failed (free list is e))
-    enough is (replaced e more) zero n sum = absurd (omega arith)
-    enough {list = list} is (replaced e more) (suc b) n sum = replaced (free list is e) (enough (ap less_one is) more b n (omega arith))
-    enough is (argument_refused e a) zero n sum = absurd (omega arith)
-    enough {list = list} is (argument_refused e a) (suc b) n sum = argument_refused (free list is e) (enough_arguments (ap less_one is) a b n (omega arith))
-    enough is (call_failed e a f) zero n sum = absurd (omega arith)
-    enough {list = list} is (call_failed e a f) (suc b) n sum = call_failed (free list is e) (enough_arguments (ap less_one is) a b n (omega arith)) f
-    enough is (call_replaced e a f more) zero n sum = absurd (omega arith)
-    enough {list = list} is (call_replaced e a f more) (suc b) n sum =
+        subst (λ x. Expands macros env level (Some (suc b)) 0 list (record { tokens = []; fault = Some f; left = Some x })) same (failed (paid list is (Failed f) e tt))
+    enough zero is (replaced {next = next} e more) n sum = absurd (omega arith)
+    enough {list = list} (suc b) is (replaced {next = next} e more) n sum = replaced (paid list is (Replaced next) e tt) (enough b (covers_less is) more n (omega arith))
+    enough zero is (argument_refused {call = call} e a) n sum = absurd (omega arith)
+    enough {list = list} (suc b) is (argument_refused {call = call} e a) n sum = argument_refused (paid list is (Called call) e tt) (enough_arguments b (covers_less is) a n (omega arith))
+    enough zero is (call_failed {call = call} e a f) n sum = absurd (omega arith)
+    enough {list = list} (suc b) is (call_failed {call = call} e a f) n sum = call_failed (paid list is (Called call) e tt) (enough_arguments b (covers_less is) a n (omega arith)) f
+    enough zero is (call_replaced {call = call} e a f more) n sum = absurd (omega arith)
+    enough {list = list} (suc b) is (call_replaced {call = call} e a f more) n sum =
         let k = count macros env more in
-        call_replaced (free list is e) (enough_arguments (ap less_one is) a b (k + n) (omega arith)) f (enough (arguments_none (ap less_one is) a) more (k + n) n refl)
+        call_replaced (paid list is (Called call) e tt) (enough_arguments b (covers_less is) a (k + n) (omega arith)) f (enough (k + n) (arguments_rest b (k + n) (covers_less is) a (omega arith)) more n refl)
 
-    pub enough_arguments : {level : ℕ} {call : Call} {left after : Option ℕ} {as' : List (Option (List Hiding))} {r : ExpandedArguments}
-        → left ≡ None
-        → (a : ExpandsArguments macros env level call left as' after r) (b n : ℕ)
+    pub enough_arguments : {level : ℕ} {call : Call} {left after : Option ℕ} {as' : List (Option (List Hiding))} {r : ExpandedArguments} (b : ℕ) → Covers left b
+        → (a : ExpandsArguments macros env level call left as' after r) (n : ℕ)
         → b ≡ count_arguments macros env a + n
         → ExpandsArguments macros env level call (Some b) as' (Some n) r
-    enough_arguments {level = level} {call = call} is none b n sum =
+    enough_arguments {level = level} {call = call} b is none n sum =
         let same : b ≡ n = omega arith in
         subst (λ x. ExpandsArguments macros env level call (Some b) [] (Some x) (Ok [])) same none
-    enough_arguments is (unused more) b n sum = unused (enough_arguments is more b n sum)
-    enough_arguments {level = level} {call = call} {as' = as'} is (too_deep h) b n sum =
+    enough_arguments b is (unused more) n sum = unused (enough_arguments b is more n sum)
+    enough_arguments {level = level} {call = call} {as' = as'} b is (too_deep h) n sum =
         let same : b ≡ n = omega arith in
         subst (λ x. ExpandsArguments macros env level call (Some b) as' (Some x) (Err (fault_at_use 21 call.head))) same (too_deep h)
-    enough_arguments is (used h one more) b n sum =
+    enough_arguments b is (used h one more) n sum =
         let k = count_arguments macros env more in
-        used h (enough is one b (k + n) (omega arith)) (enough_arguments (left_none is one) more (k + n) n refl)
-    enough_arguments is (used_refused h one) b n sum = used_refused h (enough is one b n sum)
+        used h (enough b is one (k + n) (omega arith)) (enough_arguments (k + n) (left_rest b (k + n) is one (omega arith)) more n refl)
+    enough_arguments b is (used_refused h one) n sum = used_refused h (enough b is one n sum)
 
   -- ---- with less
 
@@ -216,53 +258,55 @@ module _ (macros : Macros) (env : Env) where
       (o.fault, o.number, used_refused h (subst (λ x. Expands macros env (suc level) (Some b) s.0 list x) (λ i. record { tokens = s.1.tokens; fault = o.is i; left = o.left i }) s.2))
 
   mutual
-    pub short : {level turns : ℕ} {left : Option ℕ} {list : List Hiding} {out : Outcome} → left ≡ None → (d : Expands macros env level left turns list out) (b : ℕ) → b < count macros env d → Stops level b list out
-    short is (done e) b h = absurd (omega arith)
-    short is (refused e) b h = absurd (omega arith)
-    short {list = list} is (passes {out = out} e more) b h = stops_passed out (free_turn list is e tt b) (short is more b h)
-    short {list = list} {out = out} is (failed {f = f} e) zero h = stops_here list out (Failed f) (free list is e) tt
-    short is (failed e) (suc b) h = absurd (omega arith)
-    short {list = list} {out = out} is (replaced {next = next} e more) zero h = stops_here list out (Replaced next) (free list is e) tt
-    short {list = list} is (replaced e more) (suc b) h =
-        let s = short (ap less_one is) more b (omega arith) in
-        (suc s.0, s.1, replaced (free list is e) s.2, s.3, s.4)
-    short {list = list} {out = out} is (argument_refused {call = call} e a) zero h = stops_here list out (Called call) (free list is e) tt
-    short {list = list} {out = out} is (argument_refused e a) (suc b) h = stops_argument out (free list is e) (short_arguments (ap less_one is) a b (omega arith))
-    short {list = list} {out = out} is (call_failed {call = call} e a f) zero h = stops_here list out (Called call) (free list is e) tt
-    short {list = list} {out = out} is (call_failed e a f) (suc b) h = stops_argument out (free list is e) (short_arguments (ap less_one is) a b (omega arith))
-    short {list = list} {out = out} is (call_replaced {call = call} e a f more) zero h = stops_here list out (Called call) (free list is e) tt
-    short {level = level} {list = list} {out = out} is (call_replaced e a f more) (suc b) h =
+    pub short : {level turns : ℕ} {left : Option ℕ} {list : List Hiding} {out : Outcome} (b : ℕ) → Covers left b
+        → (d : Expands macros env level left turns list out)
+        → b < count macros env d
+        → Stops level b list out
+    short b is (done e) h = absurd (omega arith)
+    short b is (refused e) h = absurd (omega arith)
+    short {list = list} b is (passes {out = out} e more) h = stops_passed out (free_turn list is e tt) (short b is more h)
+    short {list = list} {out = out} zero is (failed {f = f} e) h = stops_here list out (Failed f) (paid list is (Failed f) e tt) tt
+    short (suc b) is (failed {f = f} e) h = absurd (omega arith)
+    short {list = list} {out = out} zero is (replaced {next = next} e more) h = stops_here list out (Replaced next) (paid list is (Replaced next) e tt) tt
+    short {list = list} (suc b) is (replaced {next = next} e more) h =
+        let s = short b (covers_less is) more (omega arith) in
+        (suc s.0, s.1, replaced (paid list is (Replaced next) e tt) s.2, s.3, s.4)
+    short {list = list} {out = out} zero is (argument_refused {call = call} e a) h = stops_here list out (Called call) (paid list is (Called call) e tt) tt
+    short {list = list} {out = out} (suc b) is (argument_refused {call = call} e a) h = stops_argument out (paid list is (Called call) e tt) (short_arguments b (covers_less is) a (omega arith))
+    short {list = list} {out = out} zero is (call_failed {call = call} e a f) h = stops_here list out (Called call) (paid list is (Called call) e tt) tt
+    short {list = list} {out = out} (suc b) is (call_failed {call = call} e a f) h = stops_argument out (paid list is (Called call) e tt) (short_arguments b (covers_less is) a (omega arith))
+    short {list = list} {out = out} zero is (call_replaced {call = call} e a f more) h = stops_here list out (Called call) (paid list is (Called call) e tt) tt
+    short {level = level} {list = list} {out = out} (suc b) is (call_replaced {call = call} e a f more) h =
         elim (dec_lt b (count_arguments macros env a)) [
-          | yes less ↦ stops_argument out (free list is e) (short_arguments (ap less_one is) a b less)
+          | yes less ↦ stops_argument out (paid list is (Called call) e tt) (short_arguments b (covers_less is) a less)
           | no not_less ↦
               (let m = count_arguments macros env a in
               let n = b - m in
               let sum : m + n ≡ b = omega arith in
-              let s = short (arguments_none (ap less_one is) a) more n (omega arith) in
-              (suc s.0, s.1, call_replaced (free list is e) (enough_arguments (ap less_one is) a b n (sym sum)) f s.2, s.3, s.4))
+              let s = short n (arguments_rest b n (covers_less is) a (sym sum)) more (omega arith) in
+              (suc s.0, s.1, call_replaced {turns = s.0} {out = s.1} (paid list is (Called call) e tt) (enough_arguments b (covers_less is) a n (sym sum)) f s.2, s.3, s.4))
         ]
 
-    pub short_arguments : {level : ℕ} {call : Call} {left after : Option ℕ} {as' : List (Option (List Hiding))} {r : ExpandedArguments}
-        → left ≡ None
-        → (a : ExpandsArguments macros env level call left as' after r) (b : ℕ)
+    pub short_arguments : {level : ℕ} {call : Call} {left after : Option ℕ} {as' : List (Option (List Hiding))} {r : ExpandedArguments} (b : ℕ) → Covers left b
+        → (a : ExpandsArguments macros env level call left as' after r)
         → b < count_arguments macros env a
         → ArgumentsStop level call b as'
-    short_arguments is none b h = absurd (omega arith)
-    short_arguments is (unused more) b h =
-        let s = short_arguments is more b h in
+    short_arguments b is none h = absurd (omega arith)
+    short_arguments b is (unused more) h =
+        let s = short_arguments b is more h in
         (s.0, s.1, unused s.2)
-    short_arguments is (too_deep deep) b h = absurd (omega arith)
-    short_arguments {level = level} {call = call} {as' = as'} is (used {between = between} {tokens = tokens} low one more) b h =
+    short_arguments b is (too_deep deep) h = absurd (omega arith)
+    short_arguments {level = level} {call = call} {as' = as'} b is (used {between = between} {tokens = tokens} low one more) h =
         elim (dec_lt b (count macros env one)) [
-          | yes less ↦ stops_used (record { tokens = tokens; fault = None; left = between }) low (short is one b less)
+          | yes less ↦ stops_used (record { tokens = tokens; fault = None; left = between }) low (short b is one less)
           | no not_less ↦
               (let m = count macros env one in
               let n = b - m in
               let sum : m + n ≡ b = omega arith in
-              let s = short_arguments (left_none is one) more n (omega arith) in
-              (s.0, s.1, used low (enough is one b n (sym sum)) s.2))
+              let s = short_arguments n (left_rest b n is one (sym sum)) more (omega arith) in
+              (s.0, s.1, used {out = Err s.0} low (enough b is one n (sym sum)) s.2))
         ]
-    short_arguments is (used_refused {after = after} {tokens = tokens} {f = f} low one) b h = stops_used (record { tokens = tokens; fault = Some f; left = after }) low (short is one b h)
+    short_arguments b is (used_refused {after = after} {tokens = tokens} {f = f} low one) h = stops_used (record { tokens = tokens; fault = Some f; left = after }) low (short b is one h)
 
   -- an expansion within a budget, beside the one without
   pub capped : {level turns : ℕ} {list : List Hiding} {whole : Outcome} (d : Expands macros env level None turns list whole) (b n : ℕ) (out : Outcome)
@@ -272,14 +316,14 @@ module _ (macros : Macros) (env : Env) where
       let c = count macros env d in
       elim (dec_lt b c) [
         | yes less ↦
-            (let s = short refl d b less in
+            (let s = short b without d less in
             let same : s.1 ≡ out = (same_outcome macros env s.2 n out o).1 in
             subst (IsCapped b c whole) same
             (record { tokens = s.3; enough = λ h. absurd (omega arith); short = λ h. s.4 }))
         | no not_less ↦
             (let k = b - c in
             let sum : c + k ≡ b = omega arith in
-            let there : Expands macros env level (Some b) turns list (leaving k whole) = enough refl d b k (sym sum) in
+            let there : Expands macros env level (Some b) turns list (leaving k whole) = enough b without d k (sym sum) in
             let same : leaving k whole ≡ out = (same_outcome macros env there n out o).1 in
             subst (IsCapped b c whole) same
             (record { tokens = ([], sym (append-nil whole.tokens)); enough = λ h. (refl, refl, refl); short = λ h. absurd (omega arith) }))
@@ -290,12 +334,12 @@ module _ (macros : Macros) (env : Env) where
   pub expansion_spends : {left : Option ℕ} {tokens : List Token} {e : Expanded} (x : IsExpansion macros env left tokens e) → left ≡ plus (count_expansion x) e.left
   expansion_spends x = spends x.expands.1 ∙ ap (plus (count_expansion x)) (sym x.left_over)
 
-  pub expansion_enough : {left : Option ℕ} {tokens : List Token} {e : Expanded}
-      → left ≡ None
-      → (x : IsExpansion macros env left tokens e) (b n : ℕ)
+  -- a budget that suffices gives the same, and leaves the rest
+  pub expansion_enough : {left : Option ℕ} {tokens : List Token} {e : Expanded} (b : ℕ) → Covers left b
+      → (x : IsExpansion macros env left tokens e) (n : ℕ)
       → b ≡ count_expansion x + n
       → IsExpansion macros env (Some b) tokens (record e { left = Some n })
-  expansion_enough is x b n sum = record { outcome = leaving n x.outcome; expands = (x.expands.0, enough is x.expands.1 b n sum); passed = x.passed; ended = x.ended; left_over = refl }
+  expansion_enough b is x n sum = record { outcome = leaving n x.outcome; expands = (x.expands.0, enough b is x.expands.1 n sum); passed = x.passed; ended = x.ended; left_over = refl }
 
   -- a list of tokens that stops by fault 35
   pub record StopsEarly (b : ℕ) (tokens : List Token) (whole : Expanded) : Type 0 where
@@ -307,9 +351,13 @@ module _ (macros : Macros) (env : Env) where
     pub number : fault.number ≡ 35
     pub nothing : expanded.left ≡ Some 0
 
-  pub expansion_short : {left : Option ℕ} {tokens : List Token} {e : Expanded} → left ≡ None → (x : IsExpansion macros env left tokens e) (b : ℕ) → b < count_expansion x → StopsEarly b tokens e
-  expansion_short {e = e} is x b less =
-      let s = short is x.expands.1 b less in
+  -- a smaller one is used up
+  pub expansion_short : {left : Option ℕ} {tokens : List Token} {e : Expanded} (b : ℕ) → Covers left b
+      → (x : IsExpansion macros env left tokens e)
+      → b < count_expansion x
+      → StopsEarly b tokens e
+  expansion_short {e = e} b is x less =
+      let s = short b is x.expands.1 less in
       let text : Hiding → Token = λ t. t.token in
       record {
         expanded = record { tokens = map text s.1.tokens; fault = s.1.fault; left = s.1.left };
@@ -326,7 +374,7 @@ module _ (macros : Macros) (env : Env) where
   one_count {m = m} {n = n} {o = o} {p = p} d e =
       let j = count macros env d in
       let k = count macros env e in
-      let same : leaving k o ≡ leaving j p = (same_outcome macros env (enough refl d (j + k) k refl) n (leaving j p) (enough refl e (j + k) j (omega arith))).1 in
+      let same : leaving k o ≡ leaving j p = (same_outcome macros env (enough (j + k) without d k refl) n (leaving j p) (enough (j + k) without e j (omega arith))).1 in
       let lefts : Some k ≡ Some j = ap (λ x. x.left) same in
       let counts : k ≡ j = cc in
       sym counts

@@ -8,7 +8,7 @@ pub mod Steps
 pub mod Total
 -- A list has one outcome at most, after one number of turns.
 pub mod Unique
--- Expansion within a budget beside expansion without one.
+-- Expansion within a budget beside expansion within a larger one or without one.
 pub mod Budget
 -- Without a budget no expansion ends in fault 35: the numbers of the other faults are smaller.
 pub mod Refusing

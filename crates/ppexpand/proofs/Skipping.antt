@@ -33,14 +33,14 @@ both_false true b h = absurd (true≢false (sym h))
 both_false false true h = absurd (true≢false (sym h))
 both_false false false h = (refl, refl)
 
-none_of : {A : Type 0} (o : Option A) → is_some o ≡ false → o ≡ None
-none_of None h = refl
-none_of (Some a) h = absurd (true≢false h)
+pub none_by : {A : Type 0} (o : Option A) → is_some o ≡ false → o ≡ None
+none_by None h = refl
+none_by (Some a) h = absurd (true≢false h)
 
 turn-plain : (macros : Macros) (env : Env) (left : Option ℕ) (t : Hiding) (rest : List Hiding) → is_plain macros t.token ≡ true → turn_within macros env left (t ∷ rest) ≡ Passes t rest
 turn-plain macros env left t rest h =
     let parts = both_false (is_lone_quote t.token) (is_some (macro_of macros t.token)) h in
-    let none : macro_of macros t.token ≡ None = none_of (macro_of macros t.token) parts.1 in
+    let none : macro_of macros t.token ≡ None = none_by (macro_of macros t.token) parts.1 in
     ap (within left (t ∷ rest)) (turn-unnamed macros env t rest parts.0 none) ∙ passes-within left (t ∷ rest) t rest
 
 -- a list has this outcome in no fewer turns

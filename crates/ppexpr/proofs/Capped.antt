@@ -1,4 +1,4 @@
--- Conditions within a budget beside conditions without one.
+-- Conditions within a budget beside conditions within a larger one or without one.
 use Rattle.std.proofs.Common.{◌≡◌, ◌≢◌, ℕ, ◌+◌, ◌<◌, List, [], ◌∷◌, Option, Some, None, Result, Ok, Err, refl, ap, ◌∙◌, subst, arith}
 use Rattle.pptext.specs.declared.tokens.Place.{Place}
 use Rattle.pptext.specs.declared.tokens.Token.{Token}
@@ -10,7 +10,7 @@ use Rattle.ppmacro.specs.Names.{Macros}
 use Rattle.ppexpand.specs.declared.env.Env.{Env}
 use Rattle.ppexpand.specs.Expansion.{IsExpansion, count_expansion}
 use Rattle.ppexpand.specs.Laws.{plus}
-use Rattle.ppexpand.proofs.Budget.{plus-nothing, StopsEarly, expansion_spends, expansion_enough, expansion_short}
+use Rattle.ppexpand.proofs.Budget.{plus-nothing, Covers, StopsEarly, expansion_spends, expansion_enough, expansion_short}
 use Rattle.ppexpand.proofs.Refusing.{expansion_never_refused}
 use Rattle.ppexpr.specs.Outcomes.{Value, Failure, ZeroDivisor, Overflow, Shift}
 use Rattle.ppexpr.specs.Symbols.{Symbol}
@@ -25,43 +25,28 @@ condition_spends {left = left} (ill_formed none) = plus-nothing left
 condition_spends {macros} {env} (not_replaced asks x leaves faulty) = expansion_spends macros env x ∙ ap (plus (count_expansion x)) leaves
 condition_spends {macros} {env} (replaced asks x leaves whole decides) = expansion_spends macros env x ∙ ap (plus (count_expansion x)) leaves
 
--- where so much is left behind a budget, so much was spent
-spent : (count m b n : ℕ) → Some b ≡ plus count (Some n) → b ≡ m + n → count ≡ m
-spent count m b n e sum = let same : b ≡ count + n = cc in omega arith
-
-within_enough : {macros : Macros} {env : Env} {at : Place} {tokens : List Token} {left after : Option ℕ} {c : Condition}
-    → left ≡ None
-    → (d : IsCondition macros env at tokens left c after) (b n : ℕ)
+-- a budget that suffices changes nothing, and the rest of it is left
+pub condition_enough : {macros : Macros} {env : Env} {at : Place} {tokens : List Token} {left after : Option ℕ} {c : Condition} (b : ℕ) → Covers left b
+    → (d : IsCondition macros env at tokens left c after) (n : ℕ)
     → b ≡ count_condition d + n
     → IsCondition macros env at tokens (Some b) c (Some n)
-within_enough {macros} {env} {at} {tokens} is (ill_formed none) b n sum =
+condition_enough {macros} {env} {at} {tokens} b is (ill_formed bad) n sum =
     let same : b ≡ n = omega arith in
-    subst (λ x. IsCondition macros env at tokens (Some b) (Err (fault 22 at [])) (Some x)) same (ill_formed none)
-within_enough {macros} {env} is (not_replaced asks x leaves faulty) b n sum = not_replaced asks (expansion_enough macros env is x b n sum) refl faulty
-within_enough {macros} {env} is (replaced asks x leaves whole decides) b n sum = replaced asks (expansion_enough macros env is x b n sum) refl whole decides
-
--- a budget that suffices changes nothing, and the rest of it is left
-pub condition_enough : {macros : Macros} {env : Env} {at : Place} {tokens : List Token} {left after : Option ℕ} {c : Condition}
-    → left ≡ None
-    → (d : IsCondition macros env at tokens left c after) (b n : ℕ)
-    → b ≡ count_condition d + n
-    → (e : IsCondition macros env at tokens (Some b) c (Some n)) × (count_condition e ≡ count_condition d)
-condition_enough is d b n sum =
-    let e = within_enough is d b n sum in
-    (e, spent (count_condition e) (count_condition d) b n (condition_spends e) sum)
+    subst (λ x. IsCondition macros env at tokens (Some b) (Err (fault 22 at [])) (Some x)) same (ill_formed bad)
+condition_enough {macros} {env} b is (not_replaced asks x leaves faulty) n sum = not_replaced asks (expansion_enough macros env b is x n sum) refl faulty
+condition_enough {macros} {env} b is (replaced asks x leaves whole decides) n sum = replaced asks (expansion_enough macros env b is x n sum) refl whole decides
 
 -- a smaller budget is used up, and the condition is fault 35
-pub condition_short : {macros : Macros} {env : Env} {at : Place} {tokens : List Token} {left after : Option ℕ} {c : Condition}
-    → left ≡ None
-    → (d : IsCondition macros env at tokens left c after) (b : ℕ)
+pub condition_short : {macros : Macros} {env : Env} {at : Place} {tokens : List Token} {left after : Option ℕ} {c : Condition} (b : ℕ) → Covers left b
+    → (d : IsCondition macros env at tokens left c after)
     → b < count_condition d
     → (f : Fault) × (f.number ≡ 35) × IsCondition macros env at tokens (Some b) (Err f) (Some 0)
-condition_short is (ill_formed none) b less = absurd (omega arith)
-condition_short {macros} {env} is (not_replaced {asked = asked} {e = e} asks x leaves faulty) b less =
-    let s : StopsEarly macros env b asked e = expansion_short macros env is x b less in
+condition_short b is (ill_formed bad) less = absurd (omega arith)
+condition_short {macros} {env} b is (not_replaced {asked = asked} {e = e} asks x leaves faulty) less =
+    let s : StopsEarly macros env b asked e = expansion_short macros env b is x less in
     (s.fault, s.number, not_replaced asks s.is s.nothing s.stopped)
-condition_short {macros} {env} is (replaced {asked = asked} {e = e} asks x leaves whole decides) b less =
-    let s : StopsEarly macros env b asked e = expansion_short macros env is x b less in
+condition_short {macros} {env} b is (replaced {asked = asked} {e = e} asks x leaves whole decides) less =
+    let s : StopsEarly macros env b asked e = expansion_short macros env b is x less in
     (s.fault, s.number, not_replaced asks s.is s.nothing s.stopped)
 
 -- a condition without a budget leaves none

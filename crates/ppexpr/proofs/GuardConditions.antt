@@ -1,5 +1,5 @@
 -- The condition of a guard (6.10.1) whose name is a macro's.
-use Rattle.std.proofs.Common.{◌≡◌, ℕ, pos, Bool, true, false, List, [], ◌∷◌, Option, None, Ok, refl, ap, subst, codes, if◌then◌else◌, is_some, arith}
+use Rattle.std.proofs.Common.{◌≡◌, ℕ, zero, suc, pos, Bool, true, false, List, [], ◌∷◌, Option, None, Ok, refl, ap, subst, codes, if◌then◌else◌, is_some, arith}
 use Rattle.std.specs.FinMap as table
 use Rattle.pptext.specs.declared.tokens.Place.{Place}
 use Rattle.pptext.specs.declared.tokens.Token.{Token}
@@ -28,16 +28,17 @@ symbols = Operator Bang ∷ Constant (Signed (pos 1)) ∷ []
 tree : Tree
 tree = Applied Not (Leaf (Signed (pos 1)))
 
--- a unary expression is an expression
-unary_is_expression : {s : List Symbol} {t : Tree} → Derives 12 s t → Derives 0 s t
-unary_is_expression d = tighter {k = 0} (tighter {k = 1} (tighter {k = 2} (tighter {k = 3} (tighter {k = 4} (tighter {k = 5} (tighter {k = 6} (tighter {k = 7} (tighter {k = 8} (tighter {k = 9} (tighter {k = 10} (tighter {k = 11} d)))))))))))
+-- an expression of any level is an expression
+loosest : {s : List Symbol} {t : Tree} (k : ℕ) → Derives k s t → Derives 0 s t
+loosest zero d = d
+loosest (suc k) d = loosest k (tighter {k = k} d)
 
 shallow : ¬ IsTooNested symbols
 shallow = few_shallow symbols (omega arith)
 
 is_false : (at : Place) → Evaluates at symbols (Ok false)
 unfolding tree unary_outcome constant_outcome
-is_false at = has_value (tree, unary_is_expression (unary Bang Not refl (tighter {k = 12} (constant (Signed (pos 1))))), refl)
+is_false at = has_value (tree, loosest 12 (unary Bang Not refl (tighter {k = 12} (constant (Signed (pos 1))))), refl)
 
 -- ---- the tokens
 

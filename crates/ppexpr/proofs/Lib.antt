@@ -36,7 +36,7 @@ pub mod SomeCondition
 pub mod Types
 -- The condition of a guard (6.10.1) whose name is a macro's.
 pub mod GuardConditions
--- Conditions within a budget beside conditions without one.
+-- Conditions within a budget beside conditions within a larger one or without one.
 pub mod Capped
 -- Conditions without a budget are the standard's.
 pub mod Standard

@@ -5,12 +5,12 @@ use Rattle.pptext.specs.Lines.{LogicalLine}
 use Rattle.pptext.specs.Tree.{Parts, Branches}
 use Rattle.pptext.specs.Tokens.{fault}
 use Rattle.ppexpand.specs.Expansion.{count_expansion}
+use Rattle.ppexpand.proofs.Budget.{Covers, covers_less}
 use Rattle.ppunit.specs.States.{State, Surroundings, Reached, stopped, depending, with_left, paying}
 use Rattle.ppunit.specs.Lines.{run_tokens}
 use Rattle.ppunit.specs.Group.{deepest, Group, Branched, Controls, Includes, Opened}
 use Rattle.ppunit.specs.Counts.{count_decides, count_asks, count_group, count_branched, count_control, count_includes, count_opened}
 use Rattle.ppunit.specs.Unit.{Defines, unread, processed, Translates, undefined, translated, count_defines, count_translates}
-use Rattle.ppunit.proofs.LargerTurns.{Covers, covers_less}
 use Rattle.ppunit.proofs.Kept.{Before, same_state, before_then, depends, group_before, branches_before, opened_before}
 use Rattle.ppunit.proofs.EnoughForLines.{holding, run_enough, asks_enough, asks_rest, decides_enough, decides_rest, run_rest}
 use Rattle.ppunit.proofs.Enough.{group_rest, branches_rest}

@@ -8,7 +8,8 @@ use Rattle.pptext.specs.declared.sources.Directive.TheVariants.{If, Ifdef, Ifnde
 use Rattle.pptext.specs.declared.sources.Profile.{Profile}
 use Rattle.pptext.specs.Lines.{LogicalLine}
 use Rattle.ppexpand.specs.Expansion.{count_expansion}
-use Rattle.ppexpand.proofs.Budget.{StopsEarly}
+use Rattle.ppexpand.proofs.Budget.{StopsEarly, Covers, expansion_short}
+use Rattle.ppexpr.proofs.Capped.{condition_short}
 use Rattle.ppunit.specs.declared.units.Item.{Item}
 use Rattle.ppunit.specs.States.{State, Reached, stopped, passed, with_left}
 use Rattle.ppunit.specs.Lines.{operands, line_fault}
@@ -18,8 +19,6 @@ use Rattle.ppunit.specs.Including.{Asked, begins_with_header, asked_behind}
 use Rattle.ppunit.specs.Conditions.{DecidesBy, DecidesUnless, Decides}
 use Rattle.ppunit.specs.Directives.{RunGives, AsksBy, Asks, ControlBy, renumbered_by}
 use Rattle.ppunit.specs.Counts.{count_decides_by, count_decides_unless, count_decides, count_asks_by, count_asks, count_control_by}
-use Rattle.ppunit.proofs.LargerTurns.{Covers}
-use Rattle.ppunit.proofs.Larger.{expansion_short, condition_short}
 use Rattle.ppunit.proofs.Kept.{Before, before_then, control_by_before}
 use Rattle.ppunit.specs.declared.units.Item.TheVariants as item
 

@@ -4,12 +4,12 @@ use Rattle.pptext.specs.declared.tokens.Place.{Place}
 use Rattle.pptext.specs.Lines.{LogicalLine}
 use Rattle.pptext.specs.Tree.{Parts, Branches, Done, End}
 use Rattle.pptext.specs.Tokens.{fault}
+use Rattle.ppexpand.proofs.Budget.{Covers, without, covers_less, covers_rest}
 use Rattle.ppunit.specs.States.{State, Surroundings, Reached, going, stopped, with_left}
 use Rattle.ppunit.specs.Lines.{run_tokens}
 use Rattle.ppunit.specs.Group.{Group, Branched, Controls, Includes, Opened}
 use Rattle.ppunit.specs.Counts.{count_group, count_branched, count_control, count_includes, count_opened}
 use Rattle.ppunit.specs.Unit.{Defines, unread, processed, Translates, undefined, translated, count_defines, count_translates}
-use Rattle.ppunit.proofs.LargerTurns.{Covers, without, covers_less, covers_rest}
 use Rattle.ppunit.proofs.Spends.{group_spends, branches_spend, control_spends, defines_spends}
 use Rattle.ppunit.proofs.EnoughForLines.{holding, run_enough, asks_enough, decides_enough, control_by_enough, asks_rest, decides_rest, run_rest, covered}
 

@@ -9,7 +9,10 @@ use Rattle.pptext.specs.Lines.{LogicalLine}
 use Rattle.pptext.specs.Tree.{sign_place}
 use Rattle.ppmacro.specs.Names.{Macros}
 use Rattle.ppexpand.specs.Expansion.{count_expansion}
-use Rattle.ppunit.specs.States.{State, Reached, going, passed, reading_once, is_spent, with_left}
+use Rattle.ppexpand.specs.Turn.{is_spent}
+use Rattle.ppexpand.proofs.Budget.{Covers, larger, covers_rest, expansion_enough}
+use Rattle.ppexpr.proofs.Capped.{condition_enough}
+use Rattle.ppunit.specs.States.{State, Reached, going, passed, reading_once, with_left}
 use Rattle.ppunit.specs.Lines.{operands}
 use Rattle.ppunit.specs.Quotes.{lone_quote}
 use Rattle.ppunit.specs.LineControl.{Presumed, presumed}
@@ -17,8 +20,6 @@ use Rattle.ppunit.specs.Including.{Asked, begins_with_header}
 use Rattle.ppunit.specs.Conditions.{DecidesBy, DecidesUnless, Decides}
 use Rattle.ppunit.specs.Directives.{RunGives, AsksBy, Asks, ControlBy, with_macros, renumbered_by, is_once, noting_once}
 use Rattle.ppunit.specs.Counts.{count_decides_by, count_decides_unless, count_decides, count_asks_by, count_asks, count_control_by}
-use Rattle.ppunit.proofs.LargerTurns.{Covers, larger, covers_rest}
-use Rattle.ppunit.proofs.Larger.{expansion_enough, condition_enough}
 use Rattle.ppunit.proofs.Spends.{asks_spends, decides_spends, run_spends}
 use Rattle.ppunit.specs.declared.units.Item.TheVariants as item
 

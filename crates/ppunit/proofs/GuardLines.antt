@@ -16,14 +16,16 @@ use Rattle.pptext.specs.Tree.{role, role_by, role_named}
 use Rattle.pptext.specs.Guard.{named, is_not_defined, are_parentheses, ident_if, guard_name}
 use Rattle.pptext.proofs.OneKind.{begins}
 use Rattle.pptext.specs.Tokens.{is_identifier_kind}
+use Rattle.ppmacro.specs.Define.{same_bool}
 use Rattle.ppexpand.specs.Laws.{plus}
+use Rattle.ppexpand.proofs.Budget.{without}
 use Rattle.ppexpr.specs.Conditions.{IsCondition, count_condition}
 use Rattle.ppexpr.proofs.OneCondition.{same_condition}
 use Rattle.ppexpr.proofs.Capped.{condition_spends, condition_enough}
 use Rattle.ppexpr.proofs.GuardConditions.{punctuator, as_defined, as_name, bare_false, parenthesized_false}
 use Rattle.ppunit.specs.States.{State}
 use Rattle.ppunit.specs.Quotes.{lone_quote}
-use Rattle.ppunit.specs.Conditions.{same_as, is_macro_name, by_name, Decides, DecidesBy, DecidesUnless}
+use Rattle.ppunit.specs.Conditions.{is_macro_name, by_name, Decides, DecidesBy, DecidesUnless}
 use Rattle.ppunit.specs.Counts.{count_decides_by, count_decides_unless, count_decides}
 use Rattle.ppunit.proofs.FileTokens.{IsSpelled, AreSpelled, IsSpelledLine, opens_header, kind_is, defined_spelled}
 use Rattle.std.specs.FinMap as table
@@ -113,7 +115,7 @@ costs_nothing : (s : State) (at : Place) (tokens : List Token) (condition : IsFa
 costs_nothing s at tokens condition (Some n) = nothing_spent n (count_condition (condition (Some n))) (condition_spends (condition (Some n)))
 costs_nothing s at tokens condition None =
     let k = count_condition (condition None) in
-    let sufficed : IsCondition s.macros s.env at tokens (Some k) (Ok false) (Some 0) = (condition_enough refl (condition None) k 0 (omega arith)).0 in
+    let sufficed : IsCondition s.macros s.env at tokens (Some k) (Ok false) (Some 0) = condition_enough k without (condition None) 0 (omega arith) in
     let lefts : Some k ≡ Some 0 = (same_condition s.macros s.env at tokens (Some k) (Some k) (Some 0) (Ok false) (Ok false) (condition (Some k)) sufficed).1 in
     let counts : k ≡ 0 = cc in
     counts
@@ -129,7 +131,7 @@ by_ifndef s profile h d t x hash g known =
       (
         refl,
         sym (ap (λ (k : Kind). by_name false s.macros line (if is_identifier_kind k then Some t.text else None)) g.kind ∙ ap
-            (λ (b : Bool). Ok (same_as false b)) (known_name s x t g.name known)),
+            (λ (b : Bool). Ok (same_bool false b)) (known_name s x t g.name known)),
       ),
       refl,
     )

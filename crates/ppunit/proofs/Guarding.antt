@@ -11,12 +11,12 @@ use Rattle.pptext.specs.Lines.{LogicalLine}
 use Rattle.pptext.specs.Tree.{Parts, Done, Run, Control, Section, End, Branch, part_lines, AreParts}
 use Rattle.pptext.specs.Guard.{IsBlankLine, AreBlank, GuardedParts, GuardedBy}
 use Rattle.pptext.proofs.Trees.{at_most_one}
-use Rattle.ppexpand.specs.Turn.{turn}
+use Rattle.ppexpand.specs.Turn.{turn, is_spent}
 use Rattle.ppexpand.specs.Expansion.{ended, done, turn_within, count_expansion}
 use Rattle.ppshelf.specs.Content.{Content, unreadable, readable, IsRead}
 use Rattle.ppshelf.specs.Files.{file_at}
 use Rattle.ppunit.specs.declared.units.Item.{Item}
-use Rattle.ppunit.specs.States.{State, Surroundings, going, depending, entering, is_spent, paying}
+use Rattle.ppunit.specs.States.{State, Surroundings, going, depending, entering, paying}
 use Rattle.ppunit.specs.Dependencies.{is_among}
 use Rattle.ppunit.specs.Lines.{run_tokens}
 use Rattle.ppunit.specs.Conditions.{is_macro_name}

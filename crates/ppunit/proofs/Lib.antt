@@ -70,10 +70,6 @@ pub mod Guarding
 pub mod Tested
 -- What phase 4 does and what it leaves make up the budget.
 pub mod Spends
--- A turn within a budget, beside the same turn within a larger one or without one.
-pub mod LargerTurns
--- Expansion and conditions within a budget, beside the same within a larger one or without one.
-pub mod Larger
 -- What is passed on, and what a unit depends on, stays.
 pub mod Kept
 -- A line does the same within a budget that suffices for it, and leaves the rest.

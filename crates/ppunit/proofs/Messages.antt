@@ -2,16 +2,13 @@
 use Rattle.std.proofs.Common.{◌≡◌, ◌∙◌, refl, ap, ℕ, Bool, true, false, not, ◌&&◌, if◌then◌else◌, List, [], ◌∷◌, ◌++◌, flat_map, Option, None, codes}
 use Rattle.pptext.specs.declared.tokens.Token.{Token}
 use Rattle.pptext.specs.Tokens.{is_punct}
+use Rattle.ppmacro.specs.Substitution.{spelled_space}
 use Rattle.ppunit.specs.Lines.{spaced}
 use Rattle.ppunit.specs.Directives.{message}
 use Rattle.ppunit.specs.Including.{ended, prefixed, angle_rest, angle_name}
 
 abbrev mark : Bool → List ℕ
 mark b = if b then 32 ∷ [] else []
-
--- the space before a token
-abbrev pub space_at : Bool → Token → List ℕ
-space_at first t = if t.space && not first then 32 ∷ [] else []
 
 unmarked : (b : Bool) → mark (b && not true) ≡ []
 unmarked true = refl
@@ -25,7 +22,7 @@ marked false = refl
 
 abbrev pub told : Bool → List Token → List ℕ
 told first [] = []
-told first (t ∷ ts) = space_at first t ++ (t.text ++ told false ts)
+told first (t ∷ ts) = spelled_space first t ++ (t.text ++ told false ts)
 
 behind_mark : (b : Bool) (xs ys : List ℕ) → mark (b && not false) ++ (xs ++ ys) ≡ (mark b ++ xs) ++ ys
 behind_mark true xs ys = refl
@@ -43,7 +40,7 @@ told_message (t ∷ ts) = ap (λ (z : List ℕ). z ++ (t.text ++ told false ts))
 
 abbrev pub named : Bool → List Token → Option (List ℕ)
 named first [] = None
-named first (t ∷ ts) = if is_punct (codes ">") t then ended (space_at first t) ts else prefixed (space_at first t ++ t.text) (named false ts)
+named first (t ∷ ts) = if is_punct (codes ">") t then ended (spelled_space first t) ts else prefixed (spelled_space first t ++ t.text) (named false ts)
 
 -- a name from its first token on, by the space before that
 abbrev from : Token → List Token → Option (List ℕ) → List ℕ → Option (List ℕ)

@@ -6,11 +6,12 @@ use Rattle.pptext.specs.Lines.{LogicalLine}
 use Rattle.pptext.specs.Sources.{Reads}
 use Rattle.pptext.specs.Tree.{Parts, Tree}
 use Rattle.pptext.specs.Tokens.{fault}
+use Rattle.ppexpand.specs.Turn.{is_spent}
 use Rattle.ppshelf.specs.Content.{unreadable, readable}
 use Rattle.ppshelf.specs.Files.{file_at}
 use Rattle.ppshelf.specs.Names.{name_in}
 use Rattle.ppunit.specs.Dependencies.{is_among}
-use Rattle.ppunit.specs.States.{State, Surroundings, Reached, going, stopped, depending, entering, leaving, is_spent, paying}
+use Rattle.ppunit.specs.States.{State, Surroundings, Reached, going, stopped, depending, entering, leaving, paying}
 use Rattle.ppunit.specs.Group.{deepest, Group, Opened}
 use Rattle.ppunit.proofs.OneLine.{OneReading, OneTree}
 

@@ -9,11 +9,12 @@ use Rattle.pptext.specs.Tree.{Parts, Tree, group_fault}
 use Rattle.pptext.proofs.Trees.{a_tree}
 use Rattle.pptext.specs.Tokens.{fault}
 use Rattle.ppexpand.specs.declared.env.Env.{Env}
+use Rattle.ppexpand.specs.Turn.{is_spent}
 use Rattle.ppshelf.specs.Content.{Content, unreadable, readable, IsRead}
 use Rattle.ppshelf.specs.Names.{name_in}
 use Rattle.ppshelf.specs.Files.{Files, Extends, file_at}
 use Rattle.ppunit.specs.declared.opening.Entered.{Entered}
-use Rattle.ppunit.specs.States.{State, Surroundings, going, stopped, depending, entering, is_spent, paying, literal}
+use Rattle.ppunit.specs.States.{State, Surroundings, going, stopped, depending, entering, paying, literal}
 use Rattle.ppunit.specs.Dependencies.{is_among}
 use Rattle.ppunit.specs.Group.{deepest, Group, Opened}
 use Rattle.ppunit.specs.Walk.{EntersFile, back}

@@ -1,14 +1,10 @@
 -- Options that are none, or are not.
-use Rattle.std.proofs.Common.{◌≡◌, true, false, refl, Option, None, Some}
+use Rattle.std.proofs.Common.{◌≡◌, true, refl, Option, None, Some}
 use Rattle.std.specs.Option.{is_some}
 
 pub none_of : {A : Type 0} (o : Option A) → ((x : A) → o ≡ Some x → ⊥) → o ≡ None
 none_of None never = refl
 none_of (Some n) never = absurd (never n refl)
-
-pub none_by : {A : Type 0} (o : Option A) → is_some o ≡ false → o ≡ None
-none_by None never = refl
-none_by (Some x) never = absurd (cc)
 
 pub some_not : {A : Type 0} (o : Option A) → is_some o ≡ true → o ≡ None → ⊥
 some_not None is none = absurd (cc)

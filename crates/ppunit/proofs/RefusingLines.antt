@@ -16,7 +16,7 @@ use Rattle.ppexpand.specs.declared.env.Env.{Env}
 use Rattle.ppexpand.specs.declared.expansion.Expanded.{Expanded}
 use Rattle.ppexpand.specs.Expansion.{IsExpansion}
 use Rattle.ppexpand.proofs.Refusing.{expansion_never_refused}
-use Rattle.ppexpr.proofs.Capped.{condition_never_refused}
+use Rattle.ppexpr.proofs.Capped.{IsOther as IsOtherOr, condition_never_refused}
 use Rattle.ppunit.specs.States.{State, Surroundings, Reached, with_left}
 use Rattle.ppunit.specs.Lines.{operands, line_fault, one_identifier}
 use Rattle.ppunit.specs.Quotes.{quote_fault, lone_quote}
@@ -58,10 +58,6 @@ module _ (around : Surroundings) where
 abbrev pub IsOther : Option Fault → Type 0
 IsOther None = Unit {0}
 IsOther (Some f) = f.number ≢ 35
-
-abbrev IsOtherOr : {A : Type 0} → Result A Fault → Type 0
-IsOtherOr (Ok x) = Unit {0}
-IsOtherOr (Err f) = f.number ≢ 35
 
 each_other : (o : Option Fault) → ((f : Fault) → o ≡ Some f → f.number ≢ 35) → IsOther o
 each_other None h = tt

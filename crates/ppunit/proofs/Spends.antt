@@ -9,7 +9,7 @@ use Rattle.pptext.specs.declared.sources.Profile.{Profile}
 use Rattle.pptext.specs.Lines.{LogicalLine}
 use Rattle.pptext.specs.Tree.{Parts, Branches}
 use Rattle.ppmacro.specs.Names.{Macros}
-use Rattle.ppexpand.specs.Turn.{less_one}
+use Rattle.ppexpand.specs.Turn.{less_one, is_spent}
 use Rattle.ppexpand.specs.Expansion.{count_expansion}
 use Rattle.ppexpand.specs.Laws.{plus}
 use Rattle.ppexpand.proofs.Budget.{plus-plus, plus-nothing, expansion_spends}
@@ -18,7 +18,7 @@ use Rattle.ppshelf.specs.Files.{Files}
 use Rattle.ppunit.specs.declared.units.Unit.{Unit as UnitOfList}
 use Rattle.ppunit.specs.declared.units.Setting.{Setting}
 use Rattle.ppunit.specs.declared.units.UnitOut.{UnitOut}
-use Rattle.ppunit.specs.States.{State, Surroundings, Reached, is_spent, with_left, reading_once}
+use Rattle.ppunit.specs.States.{State, Surroundings, Reached, with_left, reading_once}
 use Rattle.ppunit.specs.Lines.{operands, run_tokens}
 use Rattle.ppunit.specs.Quotes.{lone_quote}
 use Rattle.ppunit.specs.LineControl.{Presumed, presumed}

@@ -6,11 +6,11 @@ use Rattle.pptext.specs.declared.sources.Directive.{Directive}
 use Rattle.pptext.specs.declared.sources.Directive.TheVariants.{If, Elif, Ifdef, Ifndef, Elifdef, Elifndef, Line}
 use Rattle.pptext.specs.declared.sources.Profile.{Profile}
 use Rattle.pptext.specs.Lines.{LogicalLine}
-use Rattle.ppexpand.specs.Turn.{less_one}
+use Rattle.ppexpand.specs.Turn.{less_one, is_spent}
 use Rattle.ppexpand.specs.declared.expansion.Expanded.{Expanded}
 use Rattle.ppexpand.proofs.Standard.{tokens_left, tokens_standard, tokens_unbudgeted}
 use Rattle.ppexpr.proofs.Standard.{condition_standard, condition_unbudgeted}
-use Rattle.ppunit.specs.States.{State, Reached, passed, is_spent, with_left, paying}
+use Rattle.ppunit.specs.States.{State, Reached, passed, with_left, paying}
 use Rattle.ppunit.specs.Lines.{operands}
 use Rattle.ppunit.specs.Quotes.{lone_quote}
 use Rattle.ppunit.specs.LineControl.{presumed}

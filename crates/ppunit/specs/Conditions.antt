@@ -1,5 +1,5 @@
 -- Whether a line of an if-section takes the group behind it (6.10.1).
-use Rattle.std.specs.Prelude.{◌≡◌, ℕ, Bool, true, false, not, List, Option, None, Some, Result, Ok, Err}
+use Rattle.std.specs.Prelude.{◌≡◌, ℕ, Bool, true, false, List, Option, None, Some, Result, Ok, Err}
 use Rattle.std.specs.Option.{is_some}
 use Rattle.std.specs.FinMap as table
 use Rattle.pptext.specs.declared.tokens.Token.{Token}
@@ -9,6 +9,7 @@ use Rattle.pptext.specs.declared.sources.Directive.TheVariants.{If, Ifdef, Ifnde
 use Rattle.pptext.specs.Lines.{LogicalLine}
 use Rattle.pptext.specs.Tree.{sign_place}
 use Rattle.ppmacro.specs.Names.{Macros}
+use Rattle.ppmacro.specs.Define.{same_bool}
 use Rattle.ppexpr.specs.Conditions.{IsCondition}
 use Rattle.ppunit.specs.States.{State}
 use Rattle.ppunit.specs.Lines.{operands, named_fault, one_identifier}
@@ -18,14 +19,10 @@ use Rattle.ppunit.specs.Quotes.{lone_quote}
 abbrev pub is_macro_name : Macros → List ℕ → Bool
 is_macro_name macros name = is_some (table.get macros name)
 
-abbrev pub same_as : Bool → Bool → Bool
-same_as true b = b
-same_as false b = not b
-
 -- `#ifdef` and `#elifdef` take the group of a defined name, `#ifndef` and `#elifndef` that of another; fault 9 where no name stands alone
 abbrev pub by_name : Bool → Macros → List Token → Option (List ℕ) → Result Bool Fault
 by_name wanted macros line None = Err (named_fault 9 line)
-by_name wanted macros line (Some name) = Ok (same_as wanted (is_macro_name macros name))
+by_name wanted macros line (Some name) = Ok (same_bool wanted (is_macro_name macros name))
 
 -- the answer costs nothing
 abbrev pub DecidesFreely : State → Result Bool Fault → Option ℕ → Result Bool Fault → Type 0

@@ -18,7 +18,7 @@ use Rattle.ppshelf.specs.Names.{name_in}
 use Rattle.ppshelf.specs.Search.{candidates, IsFirstRow}
 use Rattle.ppunit.specs.declared.units.Item.TheVariants as item
 use Rattle.ppunit.specs.States.{State, Surroundings, Reached, going, stopped, passed, reading_once, with_left}
-use Rattle.ppunit.specs.Lines.{operands, line_fault, spaced}
+use Rattle.ppunit.specs.Lines.{operands, line_fault, named_fault, spaced}
 use Rattle.ppunit.specs.LineControl.{Presumed, presumed, renumbered}
 use Rattle.ppunit.specs.Including.{Asked, begins_with_header, header_asked, asked_or, asked_behind, if_somewhere}
 
@@ -91,10 +91,6 @@ pragma_passed profile row s line = noting_once profile row (operands line) (pass
 
 -- ---- the other control lines
 
-abbrev pub unknown_name : List Token → List ℕ
-unknown_name (hash ∷ name ∷ ts) = name.text
-unknown_name ts = []
-
 -- a control line without lone quotes that includes no file, in the file of a row
 abbrev pub ControlBy : Profile → ℕ → Option Directive → State → LogicalLine → Reached → Type 0
 ControlBy profile row (Some Null) s line reached = reached ≡ going s
@@ -102,7 +98,7 @@ ControlBy profile row (Some Define) s line reached = reached ≡ with_macros s (
 ControlBy profile row (Some Undef) s line reached = reached ≡ with_macros s (after_undef s.macros (sign_place line.tokens) (operands line.tokens))
 ControlBy profile row (Some Line) s line reached = LineGives s line reached
 ControlBy profile row (Some Pragma) s line reached = reached ≡ going (pragma_passed profile row s line.tokens)
-ControlBy profile row (Some Unknown) s line reached = reached ≡ stopped s (line_fault 8 line.tokens (unknown_name line.tokens))
+ControlBy profile row (Some Unknown) s line reached = reached ≡ stopped s (named_fault 8 line.tokens)
 ControlBy _ _ _ s line reached = ⊥
 
 -- the control lines that open no file, but for `#error`

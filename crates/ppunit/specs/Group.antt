@@ -7,11 +7,12 @@ use Rattle.pptext.specs.Lines.{LogicalLine}
 use Rattle.pptext.specs.Sources.{Reads}
 use Rattle.pptext.specs.Tokens.{fault}
 use Rattle.pptext.specs.Tree.{sign_place, Parts, Done, Run, Control, Section, Branches, End, Branch, Tree}
+use Rattle.ppexpand.specs.Turn.{is_spent}
 use Rattle.ppshelf.specs.Content.{unreadable, readable}
 use Rattle.ppshelf.specs.Files.{file_at}
 use Rattle.ppshelf.specs.Names.{name_in}
 use Rattle.ppunit.specs.Dependencies.{is_among}
-use Rattle.ppunit.specs.States.{State, Surroundings, Reached, going, stopped, depending, entering, leaving, is_spent, with_left, paying}
+use Rattle.ppunit.specs.States.{State, Surroundings, Reached, going, stopped, depending, entering, leaving, with_left, paying}
 use Rattle.ppunit.specs.Lines.{operands, line_fault, run_tokens}
 use Rattle.ppunit.specs.Quotes.{lone_quote}
 use Rattle.ppunit.specs.Conditions.{Decides}

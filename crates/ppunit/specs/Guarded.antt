@@ -4,10 +4,11 @@ use Rattle.pptext.specs.declared.tokens.Place.{Place}
 use Rattle.pptext.specs.Lines.{LogicalLine}
 use Rattle.pptext.specs.Sources.{Reads}
 use Rattle.pptext.specs.Guard.{GuardedBy}
+use Rattle.ppexpand.specs.Turn.{is_spent}
 use Rattle.ppshelf.specs.Names.{AreNames}
 use Rattle.ppshelf.specs.Content.{readable}
 use Rattle.ppshelf.specs.Files.{file_at}
-use Rattle.ppunit.specs.States.{State, Surroundings, Reached, going, depending, is_spent, paying}
+use Rattle.ppunit.specs.States.{State, Surroundings, Reached, going, depending, paying}
 use Rattle.ppunit.specs.Conditions.{is_macro_name}
 use Rattle.ppunit.specs.Group.{deepest, Opened}
 use Rattle.ppunit.specs.Counts.{count_opened}

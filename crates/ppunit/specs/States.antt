@@ -1,5 +1,5 @@
 -- Where phase 4 stands in a unit (5.1.1.2, 6.10).
-use Rattle.std.specs.Prelude.{ℕ, zero, pos, List, [], ◌∷◌, ◌++◌, Bool, true, false, Option, Some, None}
+use Rattle.std.specs.Prelude.{ℕ, pos, List, [], ◌∷◌, ◌++◌, Option, Some, None}
 use Rattle.pptext.specs.declared.tokens.Fault.{Fault}
 use Rattle.pptext.specs.declared.sources.Profile.{Profile}
 use Rattle.ppmacro.specs.Substitution.{escaped}
@@ -73,11 +73,6 @@ depending s row = record s { deps = among row s.deps }
 -- the file joins those that are not read again
 abbrev pub reading_once : State → ℕ → State
 reading_once s row = record s { once = among row s.once }
-
--- there is a budget, and nothing is left of it
-abbrev pub is_spent : Option ℕ → Bool
-is_spent (Some zero) = true
-is_spent left = false
 
 -- so much is left of the budget
 abbrev pub with_left : State → Option ℕ → State

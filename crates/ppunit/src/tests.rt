@@ -8,7 +8,7 @@ use crate::{
     Definitions, Item, Items, Setting, Text, Texts, Unit, UnitOut, fits_command, preprocess,
     setting_ok, unit_ok,
 };
-use ppshelf::{File, MemoryDisk, Pass, Shelf};
+use ppshelf::{File, MOST_ROWS, MemoryDisk, Pass, Shelf};
 use pptext::{Fault, Memory, Place, Profile, Token};
 use std::alloc::{AllocError, Global};
 use std::process::Abort;
@@ -34,7 +34,7 @@ fn shelf_of(
     files: &[(&str, &str)],
 ) -> Result<Shelf<MemoryDisk>, Fail> {
     let names = names_of(alloc, files)?;
-    if names.len() > 65_535 {
+    if names.len() > MOST_ROWS {
         return Err(Fail::new("too many files"));
     }
     Ok(Shelf::new(alloc, names, profile)?)

@@ -2,7 +2,7 @@ use Rattle.std.proofs.Common.{rules, ◌≡◌, ◌^◌, ◌<◌, length, sym, a
 use Rattle.pptext.specs.Tokens.{fault}
 use Rattle.ppshelf.specs.Files.{Stock}
 use Rattle.ppshelf.specs.Names.{name_in}
-use Rattle.ppunit.specs.States.{State, going, paying, surroundings_of}
+use Rattle.ppunit.specs.States.{State, going, stopped, paying, surroundings_of}
 use Rattle.ppunit.specs.Group.{Opened}
 use Rattle.ppunit.specs.Dependencies.{is_among}
 use Rattle.ppunit.specs.declared.states.State.TheView.{view}
@@ -19,8 +19,10 @@ returns-then-depth-gt-DEEPEST-clause-opened g c more grows =
 
 pub returns-then-is_spent-clause-opened : goal.returns-then-is_spent-clause-opened
 returns-then-is_spent-clause-opened g c more grows =
-    opens_over (surroundings_of c.args.around.now more) c.args.depth c.args.row c.args.at c.args.state.now c.bare.result
-    c.if-depth-gt-DEEPEST.false (sym c.is_spent.ensures ∙ c.if-is_spent.true) c.bare.ensures
+    subst (λ (z : State). Opened (surroundings_of c.args.around.now more) c.args.depth c.args.at c.args.state.now c.args.row (stopped z c.bare.result))
+    (sym (search rules))
+    (opens_over (surroundings_of c.args.around.now more) c.args.depth c.args.row c.args.at c.args.state.now c.bare.result
+    c.if-depth-gt-DEEPEST.false (sym c.is_spent.ensures ∙ c.if-is_spent.true) c.bare.ensures)
 
 pub returns-then-contains-clause-opened : goal.returns-then-contains-clause-opened
 returns-then-contains-clause-opened g c more grows =

@@ -1,7 +1,8 @@
 use Rattle.std.proofs.Common.{◌∙◌, sym, arith}
 use Rattle.ppunit.specs.Walk.{line_at, IsTextLine}
 use Rattle.ppunit.proofs.RunEnd.{run_start, run_more, run_done}
-use Rattle.ppunit.proofs.Options.{none_by, some_not}
+use Rattle.ppexpand.proofs.Skipping.{none_by}
+use Rattle.ppunit.proofs.Options.{some_not}
 use Rattle.ppunit.proofs.walking.run_end.Goals as goal
 
 pub loop-end-init : goal.loop-end-init
