@@ -1,15 +1,17 @@
 -- Chains of a token alone, as they are where no `##` stands.
-use Rattle.std.proofs.Common.{◌≡◌, Bool, true, false, List, [], ◌∷◌, map, refl, ap, ◌∙◌, Option, Some, None, Ok, if◌then◌else◌, ℕ}
-use Rattle.std.specs.List.{AllByRecursion}
+use Rattle.std.proofs.Common.{◌≡◌, ◌||◌, Bool, true, false, List, [], ◌∷◌, map, refl, sym, ap, ◌∙◌, Option, Some, None, Ok, if◌then◌else◌, ℕ}
+use Rattle.std.specs.List.{list_any}
+use Rattle.std.proofs.lemmas.Bool.{false≢true}
 use Rattle.pptext.specs.declared.tokens.Token.{Token}
 use Rattle.pptext.specs.declared.tokens.Place.{Place}
 use Rattle.pptext.specs.Tokens.{is_identifier}
 use Rattle.ppmacro.specs.Names.{HideSet}
 use Rattle.ppmacro.specs.Spellings.{is_paste}
-use Rattle.ppmacro.specs.declared.macros.Shape.TheVariants.{ObjectLike}
+use Rattle.ppmacro.specs.declared.macros.Shape.{Shape}
+use Rattle.ppmacro.specs.declared.macros.Shape.TheVariants.{Predefined, ObjectLike, FunctionLike}
 use Rattle.ppmacro.specs.declared.macros.Operand.TheVariants.{Tok}
 use Rattle.ppmacro.specs.Chains.{Item, Operates, items_at, items_behind, plain_item, parameter_of, begins_joined, join_first, grouped, hash_sign}
-use Rattle.ppmacro.specs.Lone.{lone_chain}
+use Rattle.ppmacro.specs.Lone.{is_object_like, lone_chain}
 use Rattle.ppmacro.specs.Substitution.{Arguments, plain, with_mark, gained, chains_tokens, substituted_by}
 
 -- ---- the chains
@@ -27,19 +29,24 @@ one_item t ts h =
     (λ i. items_at (h i) false (plain_item (parameter_of ObjectLike t) t) (items_behind ObjectLike None ts) (behind_hash t ts))
     ∙ (λ i. plain_item (unnamed t i) t ∷ items_behind ObjectLike None ts)
 
-unjoined : (ts : List Token) → AllByRecursion (λ t. is_paste t ≡ false) ts → begins_joined (items_behind ObjectLike None ts) ≡ false
+both : (a b : Bool) → (a || b) ≡ false → (a ≡ false) × (b ≡ false)
+both false b h = (refl, h)
+both true b h = absurd (false≢true (sym h))
+
+unjoined : (ts : List Token) → list_any is_paste ts ≡ false → begins_joined (items_behind ObjectLike None ts) ≡ false
 unjoined [] a = refl
-unjoined (t ∷ ts) a = ap begins_joined (one_item t ts a.0)
+unjoined (t ∷ ts) a = ap begins_joined (one_item t ts (both (is_paste t) (list_any is_paste ts) a).0)
 
 grouped_alone : (m : Bool) (t : Token) (is : List Item) → begins_joined is ≡ false → grouped (Operates m (Tok t) ∷ is) ≡ record { mark = m; operands = Tok t ∷ [] } ∷ grouped is
 grouped_alone m t is h = λ i. elim (h i) [ true ↦ join_first m (Tok t) (grouped is) | false ↦ record { mark = m; operands = Tok t ∷ [] } ∷ grouped is ]
 
-pub lone_chains : (ts : List Token) → AllByRecursion (λ t. is_paste t ≡ false) ts → grouped (items_behind ObjectLike None ts) ≡ map lone_chain ts
+pub lone_chains : (ts : List Token) → list_any is_paste ts ≡ false → grouped (items_behind ObjectLike None ts) ≡ map lone_chain ts
 lone_chains [] a = refl
 lone_chains (t ∷ ts) a =
-    ap grouped (one_item t ts a.0)
-    ∙ grouped_alone t.space t (items_behind ObjectLike None ts) (unjoined ts a.1)
-    ∙ ap (λ cs. lone_chain t ∷ cs) (lone_chains ts a.1)
+    let none = both (is_paste t) (list_any is_paste ts) a in
+    ap grouped (one_item t ts none.0)
+    ∙ grouped_alone t.space t (items_behind ObjectLike None ts) (unjoined ts none.1)
+    ∙ ap (λ cs. lone_chain t ∷ cs) (lone_chains ts none.1)
 
 -- ---- their tokens
 
@@ -65,3 +72,10 @@ pub lone_substituted : (args : Arguments) (gain : HideSet) (used : Place) (space
     ≡ Ok (record { tokens = gained gain used (with_mark space (plain t)) ∷ map (λ t. gained gain used (plain t)) ts; pending = false })
 lone_substituted args gain used space t ts =
     rw (marked_first args used space t ts) (λ i. Ok (record { tokens = gained gain used (with_mark space (plain t)) ∷ gained_each gain used ts i; pending = false }))
+
+-- ---- the macros that have such lists
+
+pub object_like : (s : Shape) → is_object_like s ≡ true → s ≡ ObjectLike
+object_like ObjectLike e = refl
+object_like (Predefined builtin) e = absurd (false≢true e)
+object_like (FunctionLike parameters variadic) e = absurd (false≢true e)

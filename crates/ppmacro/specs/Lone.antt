@@ -1,8 +1,22 @@
--- Tokens of a replacement list that no `##` joins, as chains (6.10.3.3).
-use Rattle.std.specs.Prelude.{[], ◌∷◌}
+-- Replacement lists without `##`, whose tokens are chains alone (6.10.3.3).
+use Rattle.std.specs.Prelude.{Bool, true, false, not, ◌&&◌, List, [], ◌∷◌, Option, Some, None, if◌then◌else◌}
+use Rattle.std.specs.List.{list_any}
 use Rattle.pptext.specs.declared.tokens.Token.{Token}
+use Rattle.ppmacro.specs.Spellings.{is_paste}
+use Rattle.ppmacro.specs.declared.macros.Shape.{Shape}
+use Rattle.ppmacro.specs.declared.macros.Shape.TheVariants.{ObjectLike}
+use Rattle.ppmacro.specs.declared.macros.Definition.{Definition}
 use Rattle.ppmacro.specs.declared.macros.Chain.{Chain}
 use Rattle.ppmacro.specs.declared.macros.Operand.TheVariants.{Tok}
 
+abbrev pub is_object_like : Shape → Bool
+is_object_like ObjectLike = true
+is_object_like _ = false
+
+-- the replacement list of an object-like macro, where no `##` stands in it
+abbrev pub lone_tokens : Definition → Option (List Token)
+lone_tokens d = if is_object_like d.shape && not (list_any is_paste d.body) then Some d.body else None
+
+-- a token that no `##` joins, as a chain
 abbrev pub lone_chain : Token → Chain
 lone_chain t = record { mark = t.space; operands = Tok t ∷ [] }

@@ -1,9 +1,9 @@
 // What a macro is.
-ghost use Rattle.std.specs.Prelude.{◌≡◌, OnOk, IfOk, IfSome, ◌++◌, ◌∷◌, [], map, false, true};
-ghost use Rattle.std.specs.List.{AllByRecursion};
+ghost use Rattle.std.specs.Prelude.{◌≡◌, OnOk, IfOk, IfSome, ◌++◌, ◌∷◌, [], map};
+ghost use Rattle.std.specs.List.{list_any};
+ghost use Rattle.std.specs.Option.{option_copied};
 ghost use Rattle.ppmacro.specs.Chains.{chains_of};
-ghost use Rattle.ppmacro.specs.Lone.{lone_chain};
-ghost use Rattle.ppmacro.specs.declared.macros.Shape.TheVariants.{ObjectLike};
+ghost use Rattle.ppmacro.specs.Lone.{is_object_like, lone_tokens, lone_chain};
 ghost use Rattle.ppmacro.specs.Spellings.{is_paste};
 
 use crate::borrowed::{Body, Leaf};
@@ -141,21 +141,16 @@ pub type Chains<'a> = Sequence<Chain<'a>>;
 
 // Whether it has no parameters, and is none of the predefined.
 fn is_object_like(shape: &Shape) -> bool
-    ensures { result ≡ true → shape.now ≡ ObjectLike }
+    ensures { result ≡ is_object_like shape.now }
 {
     matches!(shape, Shape::ObjectLike)
 }
 
 // Whether `##` stands among these tokens.
 fn has_paste(tokens: &[Token]) -> bool
-    ensures { result ≡ false → AllByRecursion (λ t. is_paste t ≡ false) tokens.now }
+    ensures { result ≡ list_any is_paste tokens.now }
 {
-    for token in tokens {
-        if is_paste(token) {
-            return true;
-        }
-    }
-    false
+    tokens.iter().any(|token| is_paste(token))
 }
 
 /// A macro, which contracts see as its definition.
@@ -189,7 +184,8 @@ impl<'a> Macro<'a> {
 
     /// The replacement list of an object-like macro, where no `##` stands in it. Each of its chains is a token alone then.
     pub fn lone_tokens(&self) -> Option<&'a [Token]>
-        ensures { IfSome result (λ body. chains_of self.now ≡ map lone_chain body.now) }
+        ensures is { option_copied result ≡ lone_tokens self.now }
+        ensures chains { IfSome result (λ body. chains_of self.now ≡ map lone_chain body.now) }
     {
         let body = self.definition.body.as_slice();
         if !is_object_like(&self.definition.shape) || has_paste(body) {

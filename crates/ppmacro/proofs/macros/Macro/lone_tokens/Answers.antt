@@ -1,11 +1,14 @@
-use Rattle.std.proofs.Common.{rules, ◌≡◌, ◌∙◌, None}
-use Rattle.ppmacro.specs.declared.macros.Shape.TheVariants.{ObjectLike}
+use Rattle.std.proofs.Common.{rules, ◌≡◌, ◌∙◌, true, false, None}
+use Rattle.std.specs.List.{list_any}
+use Rattle.ppmacro.specs.Spellings.{is_paste}
+use Rattle.ppmacro.specs.Lone.{is_object_like}
 use Rattle.ppmacro.specs.Chains.{items_behind, grouped}
-use Rattle.ppmacro.proofs.Lonely.{lone_chains}
+use Rattle.ppmacro.proofs.Lonely.{lone_chains, object_like}
 use Rattle.ppmacro.proofs.macros.Macro.lone_tokens.Goals as goal
 
-pub returns : goal.returns
-returns c =
-    let shape : c.args.self.now.shape ≡ ObjectLike = search rules in
+pub returns-clause-chains : goal.returns-clause-chains
+returns-clause-chains c =
+    let is : is_object_like c.args.self.now.shape ≡ true = search rules in
     let body : c.args.self.now.body ≡ c.as_slice-body.result.now = search rules in
-    (λ i. grouped (items_behind (shape i) None (body i))) ∙ lone_chains c.as_slice-body.result.now (c.has_paste.ensures c.if-has_paste.false)
+    let none : list_any is_paste c.as_slice-body.result.now ≡ false = search rules in
+    (λ i. grouped (items_behind (object_like c.args.self.now.shape is i) None (body i))) ∙ lone_chains c.as_slice-body.result.now none
