@@ -22,7 +22,7 @@ use Rattle.cppunits.specs.declared.list.List.{List as CompilationList}
 use Rattle.cppunits.specs.Contents.{files_of, GiveOverSome}
 use Rattle.cppunits.specs.Listing.{IsRunnable}
 use Rattle.cppunits.specs.Output.{numbered, unit_lines, output_text}
-use Rattle.cppunits.specs.Serving.{some_fault, Comes, HandsOut, HandsOutFront, Serves, BreaksOff}
+use Rattle.cppunits.specs.Serving.{some_fault, Comes, Brings, HandsOut, HandsOutFront, Serves, BreaksOff}
 use Rattle.cppunits.specs.declared.output.Mode.{Mode}
 use Rattle.cppunits.specs.Needed.{needed}
 use Rattle.cppunits.proofs.Known.{appends_as}
@@ -110,28 +110,47 @@ text_of mode list units shown outs same is =
     ap (λ (us : List UnitOfList). numbered (unit_lines mode list.names) 0 us shown) same
     ∙ (ap (λ (os : List UnitOut). numbered (unit_lines mode list.names) 0 list.units os) is ∙ text_kept mode list.names 0 list.units outs)
 
--- a list that came, and whose output went out, was served
-pub served : {inline : Bool} {Such : CompilationList → Files → Type 0} {before after : Option (List ℕ)} (mode : Mode) (list : CompilationList)
-    (units : List UnitOfList) (shown outs : List UnitOut) (out_before out_after : Option (List ℕ)) (any : Bool)
+-- a list came, and what is shown of its units, over some such files, is kept of what they give
+pub record Came (inline : Bool) (Such : CompilationList → Files → Type 0) (mode : Mode) (before after : Option (List ℕ)) (list : CompilationList)
+    (units : List UnitOfList) (shown : List UnitOut) : Type 0 where
+  pub outs : List UnitOut
+  pub brings : Brings inline Such before after list outs
+  pub text : numbered (unit_lines mode list.names) 0 units shown ≡ output_text mode list outs
+  pub fault : some_fault shown ≡ some_fault outs
+
+pub came_of : {inline : Bool} {Such : CompilationList → Files → Type 0} {before after : Option (List ℕ)} (mode : Mode) (list : CompilationList)
+    (units : List UnitOfList) (shown outs : List UnitOut)
     → units ≡ list.units → shown ≡ outs → Comes inline before after list → (files : Files) → Such list files → AreKept (needed mode) list.names files list.setting list.units outs
-    → HandsOut mode list.names units shown out_before out_after any → Serves inline Such mode before after out_before out_after any
-served mode list units shown outs out_before out_after any same is came files such gives given = record {
-  list = list;
+    → Came inline Such mode before after list units shown
+came_of mode list units shown outs same is came files such gives = record {
   outs = gives.wholes;
-  came = record { came = came; files = files; such = such; gives = gives.values };
-  went = appends_as out_before out_after _ _ (text_of mode list units shown gives.wholes same (is ∙ gives.same)) given.went;
-  fault = given.fault ∙ (ap some_fault (is ∙ gives.same) ∙ some_fault_kept mode gives.wholes);
+  brings = record { came = came; files = files; such = such; gives = gives.values };
+  text = text_of mode list units shown gives.wholes same (is ∙ gives.same);
+  fault = ap some_fault (is ∙ gives.same) ∙ some_fault_kept mode gives.wholes;
 }
 
--- a list that came, and of whose output a beginning went out, was broken off
-pub broken_off : {inline : Bool} {Such : CompilationList → Files → Type 0} {before after : Option (List ℕ)} (mode : Mode) (list : CompilationList)
-    (units : List UnitOfList) (shown outs : List UnitOut) (out_before out_after : Option (List ℕ))
-    → units ≡ list.units → shown ≡ outs → Comes inline before after list → (files : Files) → Such list files → AreKept (needed mode) list.names files list.setting list.units outs
-    → HandsOutFront mode list.names units shown out_before out_after → BreaksOff inline Such mode before after out_before out_after
-broken_off mode list units shown outs out_before out_after same is came files such gives given = record {
+-- where its output went out, it was served
+pub served : {inline : Bool} {Such : CompilationList → Files → Type 0} {before after : Option (List ℕ)} (mode : Mode) (list : CompilationList)
+    (units : List UnitOfList) (shown : List UnitOut) (out_before out_after : Option (List ℕ)) (any : Bool)
+    → Came inline Such mode before after list units shown → HandsOut mode list.names units shown out_before out_after any
+    → Serves inline Such mode before after out_before out_after any
+served mode list units shown out_before out_after any came given = record {
   list = list;
-  outs = gives.wholes;
-  came = record { came = came; files = files; such = such; gives = gives.values };
+  outs = came.outs;
+  came = came.brings;
+  went = appends_as out_before out_after _ _ came.text given.went;
+  fault = given.fault ∙ came.fault;
+}
+
+-- and where a beginning of it went out, broken off
+pub broken_off : {inline : Bool} {Such : CompilationList → Files → Type 0} {before after : Option (List ℕ)} (mode : Mode) (list : CompilationList)
+    (units : List UnitOfList) (shown : List UnitOut) (out_before out_after : Option (List ℕ))
+    → Came inline Such mode before after list units shown → HandsOutFront mode list.names units shown out_before out_after
+    → BreaksOff inline Such mode before after out_before out_after
+broken_off mode list units shown out_before out_after came given = record {
+  list = list;
+  outs = came.outs;
+  came = came.brings;
   count = given.count;
-  went = appends_as out_before out_after _ _ (ap (take given.count) (text_of mode list units shown gives.wholes same (is ∙ gives.same))) given.went;
+  went = appends_as out_before out_after _ _ (ap (take given.count) came.text) given.went;
 }

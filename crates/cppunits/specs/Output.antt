@@ -1,11 +1,12 @@
 -- What is printed of a list's units.
 use Rattle.std.specs.Prelude.{ℕ, suc, ◌+◌, ◌/◌, ◌%◌, ◌==◌, ◌&&◌, Bool, true, false, not, List, [], ◌∷◌, ◌++◌}
-use Rattle.std.specs.Prelude.{if◌then◌else◌, nat_lt, nat_le, codes, decimal, slice_index_or, flat_map, Option, Some, None}
+use Rattle.std.specs.Prelude.{if◌then◌else◌, nat_lt, nat_le, codes, decimal, flat_map, Option, Some, None}
 use Rattle.pptext.specs.declared.tokens.Place.{Place}
 use Rattle.pptext.specs.declared.tokens.Kind.{Kind}
 use Rattle.pptext.specs.declared.tokens.Kind.TheVariants as kind
 use Rattle.pptext.specs.declared.tokens.Token.{Token}
 use Rattle.pptext.specs.declared.tokens.Fault.{Fault}
+use Rattle.ppshelf.specs.Names.{name_in}
 use Rattle.ppunit.specs.declared.units.Item.{Item}
 use Rattle.ppunit.specs.declared.units.Item.TheVariants as item
 use Rattle.ppunit.specs.declared.units.UnitOut.{UnitOut}
@@ -58,12 +59,8 @@ abbrev pub item_lines : Item → List ℕ
 item_lines (item.Token t) = codes "tok" ++ token_text t
 item_lines (item.Pragma at ts) = codes "prag " ++ place_text at ++ (10 ∷ []) ++ flat_map pragma_token_line ts
 
--- the name of a row, and nothing past the last row
-abbrev pub name_at : List (List ℕ) → ℕ → List ℕ
-name_at names row = slice_index_or names row []
-
 abbrev pub dep_line : List (List ℕ) → ℕ → List ℕ
-dep_line names row = codes "dep " ++ decimal row ++ codes " " ++ escaped (name_at names row) ++ (10 ∷ [])
+dep_line names row = codes "dep " ++ decimal row ++ codes " " ++ escaped (name_in names row) ++ (10 ∷ [])
 
 -- a space before a text that is not empty
 abbrev pub fault_text : List ℕ → List ℕ
@@ -80,7 +77,7 @@ shown_items Deps items = []
 
 abbrev pub unit_lines : Mode → List (List ℕ) → ℕ → UnitOfList → UnitOut → List ℕ
 unit_lines mode names i unit out =
-    codes "unit " ++ decimal i ++ codes " " ++ escaped (name_at names unit.file) ++ (10 ∷ [])
+    codes "unit " ++ decimal i ++ codes " " ++ escaped (name_in names unit.file) ++ (10 ∷ [])
     ++ shown_items mode out.items ++ flat_map (dep_line names) out.deps ++ last_line out.fault
 
 -- f of each pair, one after the other, numbered from n

@@ -3,11 +3,12 @@ ghost use Rattle.std.specs.Prelude.{◌≡◌, ℕ, ◌++◌, ◌∷◌, [], ◌
 ghost use Rattle.std.specs.Prelude.{OnOk, OnErr, IfOk, Some, codes, decimal, false, true, length, take, flat_map};
 ghost use Rattle.std.specs.Io.KnownBytes.{Appends};
 ghost use Rattle.cppunits.specs.Output.{escaped, escaped_byte, is_plain as plain, hex_digit, place_text, item_lines, pragma_token_line};
-ghost use Rattle.cppunits.specs.Output.{dep_line, name_at, fault_text, last_line, shown_items, unit_lines, numbered, output_text};
+ghost use Rattle.cppunits.specs.Output.{dep_line, fault_text, last_line, shown_items, unit_lines, numbered, output_text};
 ghost use Rattle.cppunits.specs.Printing.{Puts};
 ghost use Rattle.cppunits.specs.declared.output.Mode.TheVariants.{Dump, Deps};
 ghost use Rattle.ppmacro.specs.Substituting.{tokens_of};
 ghost use Rattle.ppexpand.specs.Pieces.{piece_list};
+ghost use Rattle.ppshelf.specs.Names.{name_in};
 ghost use Rattle.ppunit.specs.Parts.{part_items};
 ghost use Rattle.ppunit.specs.declared.units.Item.TheVariants as item;
 ghost use Rattle.cppunits.specs.Lines.{before_spelling, token_line};
@@ -295,7 +296,7 @@ fn put_dep<W: Sink>(page: &mut Page, writer: &mut W, names: &Texts, row: usize)
 }
 
 fn put_name<W: Sink>(page: &mut Page, writer: &mut W, names: &Texts, row: usize)
-    ensures { Puts W.written W.has_failed writer.old writer.new page.old page.new (escaped (name_at names.now row)) }
+    ensures { Puts W.written W.has_failed writer.old writer.new page.old page.new (escaped (name_in names.now row)) }
 {
     if let Some(name) = names.as_slice().get(row) {
         put_escaped(page, writer, name.as_bytes());

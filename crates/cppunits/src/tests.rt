@@ -200,8 +200,13 @@ fn prints_the_fault_of_a_file(rt: HostRuntime) -> Result<(), Fail> {
 }
 
 /// Two files over a header, which the first unit defines a macro for; the third unit defines it twice.
-const SHARED: &str =
-    r##"{"date":"Feb  9 2024","time":"08:05:03","search":["inc"],"files":[{"name":"a.c","text":"#include \"h.h\"\nN P(1) __FILE__\n"},{"name":"inc/h.h","text":"#ifndef H\n#define H\n#define P(x) x+N\n#pragma once n\n#endif\n"},{"name":"b.c","text":"#include <h.h>\nP(2)\n#error no M\nx\n"}],"units":[{"file":"a.c","define":["N 7"]},{"file":"b.c","search":["."]},{"file":"a.c","define":["N 7","N 8"]}]}"##;
+const SHARED: &str = concat!(
+    r##"{"date":"Feb  9 2024","time":"08:05:03","search":["inc"],"##,
+    r##""files":[{"name":"a.c","text":"#include \"h.h\"\nN P(1) __FILE__\n"},"##,
+    r##"{"name":"inc/h.h","text":"#ifndef H\n#define H\n#define P(x) x+N\n#pragma once n\n#endif\n"},"##,
+    r##"{"name":"b.c","text":"#include <h.h>\nP(2)\n#error no M\nx\n"}],"##,
+    r##""units":[{"file":"a.c","define":["N 7"]},{"file":"b.c","search":["."]},{"file":"a.c","define":["N 7","N 8"]}]}"##
+);
 
 const SHARED_OUTPUT: &str = r#"unit 0 a.c
 prag 1:4:1
@@ -277,8 +282,11 @@ fn gives_the_same_by_any_workers_and_blocks(rt: HostRuntime) -> Result<(), Fail>
 }
 
 /// The same list with names alone.
-const SHARED_NAMES: &str =
-    r##"{"date":"Feb  9 2024","time":"08:05:03","search":["inc"],"files":[{"name":"a.c"},{"name":"inc/h.h"},{"name":"b.c"}],"units":[{"file":"a.c","define":["N 7"]},{"file":"b.c","search":["."]},{"file":"a.c","define":["N 7","N 8"]}]}"##;
+const SHARED_NAMES: &str = concat!(
+    r#"{"date":"Feb  9 2024","time":"08:05:03","search":["inc"],"#,
+    r#""files":[{"name":"a.c"},{"name":"inc/h.h"},{"name":"b.c"}],"#,
+    r#""units":[{"file":"a.c","define":["N 7"]},{"file":"b.c","search":["."]},{"file":"a.c","define":["N 7","N 8"]}]}"#
+);
 
 fn file_of(alloc: Global, name: &str, text: &str) -> Result<File, AllocError> {
     Ok(File {

@@ -304,8 +304,11 @@ fn assert_three_units(rt: &impl Abort, units: &[Unit]) -> Result<(), Fail> {
 
 #[test]
 fn reads_many_files_and_units(rt: HostRuntime) -> Result<(), Fail> {
-    let text =
-        r#"{"search":["inc"],"date":"Feb  9 2024","time":"08:05:03","files":[{"name":"a.c","text":"1"},{"name":"inc/h.h","hex":"320a"},{"name":"b.c","text":"3"}],"units":[{"file":"b.c","define":["A 1","F(x) x"],"search":[".","inc/sub"]},{"file":"a.c"},{"file":"b.c"}]}"#;
+    let text = concat!(
+        r#"{"search":["inc"],"date":"Feb  9 2024","time":"08:05:03","#,
+        r#""files":[{"name":"a.c","text":"1"},{"name":"inc/h.h","hex":"320a"},{"name":"b.c","text":"3"}],"#,
+        r#""units":[{"file":"b.c","define":["A 1","F(x) x"],"search":[".","inc/sub"]},{"file":"a.c"},{"file":"b.c"}]}"#
+    );
     let list = read_list(rt.alloc(), text.as_bytes(), true, Hashing::fixed())?;
     let contents = [b"1".as_slice(), b"2\n".as_slice(), b"3".as_slice()];
     assert_texts(&rt, &list.names, &["a.c", "inc/h.h", "b.c"]);

@@ -2,7 +2,7 @@ use Rattle.std.proofs.Common.{◌∙◌, refl, ap, sym, length}
 use Rattle.cppunits.specs.Contents.{files_of}
 use Rattle.cppunits.specs.Needed.{needed}
 use Rattle.pppool.proofs.Placing.{if_ok_then}
-use Rattle.cppunits.proofs.Giving.{broken_off, can_run, few_units, gives_all, one_each, served}
+use Rattle.cppunits.proofs.Giving.{broken_off, came_of, can_run, few_units, gives_all, one_each, served}
 use Rattle.cppunits.proofs.serving.serve.Goals as goal
 
 pub over_contents-requires-clause-count : goal.over_contents-requires-clause-count
@@ -23,13 +23,13 @@ returns-clause-ok g c =
     let list = c.in_ok-list.list in
     let outs = c.in_ok-outs.outs.items in
     let gives = gives_all (needed c.args.mode) list c.in_ok-shelf.shelf c.as_slice-units.result.now outs c.in_ok-shelf.ensures.names c.in_ok-shelf.ensures.files c.as_slice-units.ensures c.in_ok-outs.ensures in
-    if_ok_then c.hand_out-answer.result c.hand_out-answer.ensures.ok (λ any given. served c.args.mode list c.as_slice-units.result.now c.as_slice.result.now outs _ _ any c.as_slice-units.ensures c.as_slice.ensures.value
-    c.in_ok-list.ensures.ok (files_of list.contents) refl gives given)
+    if_ok_then c.hand_out-answer.result c.hand_out-answer.ensures.ok (λ any given. served c.args.mode list _ _ _ _ any (came_of c.args.mode list c.as_slice-units.result.now c.as_slice.result.now outs
+    c.as_slice-units.ensures c.as_slice.ensures.value c.in_ok-list.ensures.ok (files_of list.contents) refl gives) given)
 
 pub returns-clause-broken_off : goal.returns-clause-broken_off
 returns-clause-broken_off g c = λ failed.
     let list = c.in_ok-list.list in
     let outs = c.in_ok-outs.outs.items in
     let gives = gives_all (needed c.args.mode) list c.in_ok-shelf.shelf c.as_slice-units.result.now outs c.in_ok-shelf.ensures.names c.in_ok-shelf.ensures.files c.as_slice-units.ensures c.in_ok-outs.ensures in
-    broken_off c.args.mode list c.as_slice-units.result.now c.as_slice.result.now outs _ _ c.as_slice-units.ensures c.as_slice.ensures.value
-    c.in_ok-list.ensures.ok (files_of list.contents) refl gives (c.hand_out-answer.ensures.front failed)
+    broken_off c.args.mode list _ _ _ _ (came_of c.args.mode list c.as_slice-units.result.now c.as_slice.result.now outs
+    c.as_slice-units.ensures c.as_slice.ensures.value c.in_ok-list.ensures.ok (files_of list.contents) refl gives) (c.hand_out-answer.ensures.front failed)
