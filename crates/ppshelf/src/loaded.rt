@@ -9,7 +9,7 @@ ghost use Rattle.ppshelf.specs.Parsed.{parsed_content, HasReading};
 ghost use Rattle.ppshelf.specs.Shelved.{Held, IsPlaced};
 
 use crate::disk::{Disk, ReadFault};
-use pptext::{Fault, LONGEST, Memory, Profile, Source, SourceFault, read_source};
+use pptext::{Fault, LONGEST, Memory, Profile, Source, read_lines};
 use std::alloc::Global;
 use std::marker::{Model, PhantomData};
 
@@ -54,24 +54,6 @@ impl<D: Disk> Drop for Loaded<D> {
     }
 }
 
-// The lines of a row's bytes, or their first fault.
-fn read_lines(
-    alloc: Global,
-    profile: Profile,
-    row: usize,
-    bytes: &[u8],
-) -> Result<Result<Source, Fault>, Memory>
-    requires row { row < most_rows }
-    requires short { length bytes.now ≤ longest }
-    ensures { IfOk result (λ lines. Reads profile row bytes.now lines) }
-{
-    match read_source(alloc, bytes, row as u32, profile) {
-        Ok(source) => Ok(Ok(source)),
-        Err(SourceFault::Bad(fault)) => Ok(Err(fault)),
-        Err(SourceFault::Memory) => Err(Memory),
-    }
-}
-
 // The bytes of a row's file with their lines.
 fn parsed_bytes(
     alloc: Global,
@@ -84,7 +66,7 @@ fn parsed_bytes(
     ensures bytes { IfOk result (λ p. p.bytes.items ≡ bytes.items) }
     ensures reading { IfOk result (λ p. Reads profile row p.bytes.items p.lines) }
 {
-    let lines = read_lines(alloc, profile, row, bytes.as_slice())?;
+    let lines = read_lines(alloc, bytes.as_slice(), row as u32, profile)?;
     Ok(Parsed { bytes, lines })
 }
 

@@ -26,7 +26,7 @@ pub use laws::{
     carried_on, keeps_every_token, one_cut, one_lexer, one_reading, one_tree, relexes_what_is_cut,
     tree_unless_fault,
 };
-pub use reading::{read_source, relex};
+pub use reading::{read_lines, read_source, relex};
 pub use scanning::carrying::carries_on;
 pub use sequences::Sequence;
 pub use sources::{Directive, LONGEST, Line, Profile, Source, SourceFault};

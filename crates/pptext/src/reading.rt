@@ -1,5 +1,5 @@
 // Reading a file.
-ghost use Rattle.std.specs.Prelude.{◌≡◌, ◌↔◌, ◌≤◌, ℕ, List, length, IsTrue, IfSome, IfNone};
+ghost use Rattle.std.specs.Prelude.{◌≡◌, ◌↔◌, ◌≤◌, ℕ, List, length, IsTrue, IfOk, IfSome, IfNone};
 ghost use Rattle.pptext.specs.Clean.{longest};
 ghost use Rattle.pptext.specs.declared.tokens.Kind.{Kind};
 ghost use Rattle.pptext.specs.declared.sources.SourceFault.TheVariants.{Bad};
@@ -11,7 +11,7 @@ use crate::cleaning::clean_text;
 use crate::cutting::{CutFault, Found, cut_lines, next_piece};
 use crate::grouping::group_lines;
 use crate::sources::{Line, Profile, Source, SourceFault};
-use crate::tokens::{Fault, Kind, Place, Token};
+use crate::tokens::{Fault, Kind, Memory, Place, Token};
 use std::alloc::Global;
 
 impl Source {
@@ -78,6 +78,28 @@ pub fn read_source(
     group_lines(alloc, tokens, lines)
 }
 
+/// Reads a file of at most `LONGEST` bytes as `read_source` does (5.1.1.2, 6.4, 6.10), for a caller that keeps what the file says
+/// whether it has a fault or not: its lines, or its first fault, with places of this file number, lines and bytes from 1.
+///
+/// # Errors
+///
+/// Memory ran out.
+pub fn read_lines(
+    alloc: Global,
+    bytes: &[u8],
+    file: u32,
+    profile: Profile,
+) -> Result<Result<Source, Fault>, Memory>
+    requires { length bytes.now ≤ longest }
+    ensures { IfOk result (λ lines. Reads profile file bytes.now lines) }
+{
+    match read_source(alloc, bytes, file, profile) {
+        Ok(source) => Ok(Ok(source)),
+        Err(SourceFault::Bad(fault)) => Ok(Err(fault)),
+        Err(SourceFault::Memory) => Err(Memory),
+    }
+}
+
 impl Source {
     /// The name X where the whole file is one if-section of `#ifndef X`, `#if !defined X` or `#if !defined ( X )` without other
     /// branches, and no line outside it has a token.
@@ -126,7 +148,6 @@ mod tests {
     use crate::asserting::{assert_is_fault, assert_same};
     use crate::scanning::carrying::carries_on;
     use crate::sources::Directive;
-    use crate::tokens::Memory;
     use std::process::Abort;
     use std::test::Fail;
 
@@ -255,6 +276,23 @@ mod tests {
             place(2, 1),
             b"ifdef",
         )?;
+        Ok(())
+    }
+
+    #[test]
+    fn keeps_lines_and_faults(rt: HostRuntime) -> Result<(), Fail> {
+        let text = b"#elifdef X\n";
+        match read_lines(rt.alloc(), text, 7, Profile::Later)? {
+            Ok(_source) => assert!(&rt; false, "no fault of {text:?}"),
+            Err(fault) => assert_is_fault(&rt, text, &fault, 3, place(1, 1), b"elifdef"),
+        }
+        match read_lines(rt.alloc(), text, 7, Profile::C11)? {
+            Ok(source) => {
+                let wanted = [line(0, 3, 1, Some(Directive::Unknown), None)];
+                assert_lines(&rt, text, source.lines(), &wanted);
+            }
+            Err(_fault) => assert!(&rt; false, "a fault of {text:?}"),
+        }
         Ok(())
     }
 

@@ -6,7 +6,7 @@ ghost use Rattle.ppunit.specs.Unit.{command_file, command_text, command_line};
 
 use crate::lists::Texts;
 use ppshelf::MOST_ROWS;
-use pptext::{Fault, Memory, Profile, Source, SourceFault, read_source};
+use pptext::{Fault, Memory, Profile, Source, read_lines};
 use std::alloc::{AllocError, Global};
 use std::fmt;
 use std::marker::Model;
@@ -48,7 +48,7 @@ impl Definitions {
         ensures { IfOk result (λ d. d ≡ record { texts = texts; profile = profile }) }
     {
         let text = command_text(alloc, &texts)?;
-        let lines = read_commands(alloc, text.as_slice(), profile)?;
+        let lines = read_lines(alloc, text.as_slice(), COMMAND_FILE, profile)?;
         Ok(Definitions {
             texts,
             profile,
@@ -97,20 +97,4 @@ fn command_text(alloc: Global, defines: &Texts) -> Result<Vec<u8>, AllocError>
         push_definition(&mut text, definition.as_str())?;
     }
     Ok(text)
-}
-
-// The lines of the file of the definitions, or its fault.
-fn read_commands(
-    alloc: Global,
-    text: &[u8],
-    profile: Profile,
-) -> Result<Result<Source, Fault>, Memory>
-    requires { length text.now ≤ longest }
-    ensures { IfOk result (λ lines. Reads profile command_file text.now lines) }
-{
-    match read_source(alloc, text, COMMAND_FILE, profile) {
-        Ok(source) => Ok(Ok(source)),
-        Err(SourceFault::Bad(fault)) => Ok(Err(fault)),
-        Err(SourceFault::Memory) => Err(Memory),
-    }
 }
