@@ -3,6 +3,7 @@ ghost use Rattle.std.specs.Prelude.{◌≡◌, ◌<◌, ◌++◌, List, ℕ, fal
 ghost use Rattle.std.specs.List.{AllByRecursion, IsDistinct};
 ghost use Rattle.ppmacro.specs.Members.{same_name};
 
+use crate::keys::Key;
 use indexmap::IndexSet;
 use pptext::Hashing;
 use std::alloc::{AllocError, Global};
@@ -16,7 +17,7 @@ pub(crate) enum NameText<'n> {
     Sought(&'n [u8]),
 }
 
-/// A name, which contracts see as its bytes. It is hashed whole, as a table's names are, where a slice is hashed byte by byte.
+/// A name, which contracts see as its bytes. It is compared and hashed as the key of a table is.
 #[derive(Drop)]
 pub(crate) struct HiddenName<'n> {
     text: NameText<'n>,
@@ -32,13 +33,14 @@ impl<'n> Model for HiddenName<'n> {
 }
 
 impl HiddenName<'_> {
-    fn bytes(&self) -> &[u8]
-        ensures { result.now ≡ self.now }
+    fn key(&self) -> Key<'_>
+        ensures { result ≡ self.now }
     {
-        match &self.text {
+        let bytes = match &self.text {
             NameText::Kept(bytes) => bytes.as_slice(),
             NameText::Sought(bytes) => bytes,
-        }
+        };
+        Key { bytes }
     }
 }
 
@@ -52,7 +54,7 @@ impl PartialEq for HiddenName<'_> {
     ghost laws = { Cmp.partial_equiv_from_equiv nat_list_eq_equiv };
 
     fn eq(&self, other: &Self) -> bool {
-        self.bytes() == other.bytes()
+        self.key() == other.key()
     }
 }
 
@@ -72,7 +74,7 @@ impl Hash for HiddenName<'_> {
     ghost respects_eq = { Prim.search (hashing, rules) };
 
     fn hash<H: Hasher>(&self, state: &mut H) {
-        state.write(self.bytes());
+        self.key().hash(state);
     }
 }
 
