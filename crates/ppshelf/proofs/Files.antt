@@ -1,5 +1,6 @@
 -- What a pass knows at a row.
-use Rattle.std.proofs.Common.{Option, zero, suc, take, ◌-◌, ◌+◌, ◌++◌, replicate, length-append, ◌≡◌, ℕ, ◌<◌, ◌≤◌, List, [], ◌∷◌, length, get_or, set, Some, None, refl, sym, ◌∙◌, ap, arith, inl, inr, subst}
+use Rattle.std.proofs.Common.{Option, zero, suc, take, ◌-◌, ◌+◌, ◌++◌, replicate, length-append, ◌≡◌, ℕ, ◌<◌, ◌≤◌, List, [], ◌∷◌, length, get_or, set}
+use Rattle.std.proofs.Common.{Some, None, refl, sym, ◌∙◌, ap, arith, inl, inr, subst}
 use Rattle.std.specs.Option.{option_map}
 use Rattle.std.proofs.lemmas.Grind.{common_steps}
 use Rattle.std.proofs.lemmas.List.{length-map, map-append, replicate_more, map-set, get_or_past, get_or_read, get_or-set_other, length-set}
