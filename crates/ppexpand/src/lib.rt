@@ -25,4 +25,5 @@ pub use laws::{
 };
 pub use passed::{Piece, Run};
 pub use run_iter::{RunIter, TokenRef};
+pub use spending::{is_spent, less_one};
 pub use stretch::Stretch;

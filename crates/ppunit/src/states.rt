@@ -7,7 +7,7 @@ ghost use Rattle.ppunit.specs.declared.units.Item.TheVariants as item;
 
 use crate::lists::{Items, Rows};
 use crate::units::Setting;
-use ppexpand::Env;
+use ppexpand::{Env, is_spent, less_one};
 use ppmacro::{Table, push_escaped};
 use pptext::{Hashing, Memory, Place, Spelling, Token};
 use std::alloc::{AllocError, Global};
@@ -83,17 +83,14 @@ impl<'x> State<'x> {
     pub(crate) fn is_spent(&self) -> bool
         ensures { result ≡ is_spent self.now.left }
     {
-        self.left == Some(0)
+        is_spent(self.left)
     }
 
     /// One file more is opened.
     pub(crate) fn pay(&mut self)
         ensures { self.new ≡ paying self.old }
     {
-        self.left = match self.left {
-            Some(left) if left > 0 => Some(left - 1),
-            left => left,
-        };
+        self.left = less_one(self.left);
     }
 
     /// The file of this row joins the dependencies, once.
