@@ -1,7 +1,7 @@
 -- Chains of a token alone, as they are where no `##` stands.
-use Rattle.std.proofs.Common.{◌≡◌, ◌||◌, Bool, true, false, List, [], ◌∷◌, map, refl, sym, ap, ◌∙◌, Option, Some, None, Ok, if◌then◌else◌, ℕ}
+use Rattle.std.proofs.Common.{◌≡◌, Bool, true, false, List, [], ◌∷◌, map, refl, ap, ◌∙◌, Option, Some, None, Ok, if◌then◌else◌, ℕ}
 use Rattle.std.specs.List.{list_any}
-use Rattle.std.proofs.lemmas.Bool.{false≢true}
+use Rattle.std.proofs.lemmas.Bool.{false≢true, or_parts}
 use Rattle.pptext.specs.declared.tokens.Token.{Token}
 use Rattle.pptext.specs.declared.tokens.Place.{Place}
 use Rattle.pptext.specs.Tokens.{is_identifier}
@@ -29,13 +29,9 @@ one_item t ts h =
     (λ i. items_at (h i) false (plain_item (parameter_of ObjectLike t) t) (items_behind ObjectLike None ts) (behind_hash t ts))
     ∙ (λ i. plain_item (unnamed t i) t ∷ items_behind ObjectLike None ts)
 
-both : (a b : Bool) → (a || b) ≡ false → (a ≡ false) × (b ≡ false)
-both false b h = (refl, h)
-both true b h = absurd (false≢true (sym h))
-
 unjoined : (ts : List Token) → list_any is_paste ts ≡ false → begins_joined (items_behind ObjectLike None ts) ≡ false
 unjoined [] a = refl
-unjoined (t ∷ ts) a = ap begins_joined (one_item t ts (both (is_paste t) (list_any is_paste ts) a).0)
+unjoined (t ∷ ts) a = ap begins_joined (one_item t ts (or_parts (is_paste t) (list_any is_paste ts) a).0)
 
 grouped_alone : (m : Bool) (t : Token) (is : List Item) → begins_joined is ≡ false → grouped (Operates m (Tok t) ∷ is) ≡ record { mark = m; operands = Tok t ∷ [] } ∷ grouped is
 grouped_alone m t is h = λ i. elim (h i) [ true ↦ join_first m (Tok t) (grouped is) | false ↦ record { mark = m; operands = Tok t ∷ [] } ∷ grouped is ]
@@ -43,7 +39,7 @@ grouped_alone m t is h = λ i. elim (h i) [ true ↦ join_first m (Tok t) (group
 pub lone_chains : (ts : List Token) → list_any is_paste ts ≡ false → grouped (items_behind ObjectLike None ts) ≡ map lone_chain ts
 lone_chains [] a = refl
 lone_chains (t ∷ ts) a =
-    let none = both (is_paste t) (list_any is_paste ts) a in
+    let none = or_parts (is_paste t) (list_any is_paste ts) a in
     ap grouped (one_item t ts none.0)
     ∙ grouped_alone t.space t (items_behind ObjectLike None ts) (unjoined ts none.1)
     ∙ ap (λ cs. lone_chain t ∷ cs) (lone_chains ts none.1)

@@ -5,15 +5,11 @@ use Rattle.std.specs.Option.{is_some}
 use Rattle.std.proofs.lemmas.Grind.{common_steps}
 use Rattle.std.specs.List.{list_any, position, position_or_len}
 use Rattle.std.specs.Str.{bytes_eq}
-use Rattle.std.proofs.lemmas.Bool.{false≢true}
+use Rattle.std.proofs.lemmas.Bool.{false≢true, or_parts}
 use Rattle.std.proofs.lemmas.List.{get_or-map, get_or-take, length-map, map-append, take_more}
 use Rattle.std.proofs.lemmas.List.Quantifiers.{position-Some}
 use Rattle.std.proofs.lemmas.Slice.Eq.{bytes_eq-Decides}
 use Rattle.ppshelf.specs.Names.{is_name, are_names, name_in, AreNames, IsNewName, IsPut, IsRowOf}
-
-neither : (a b : Bool) → (a || b) ≡ false → (a ≡ false) × (b ≡ false)
-neither false b e = (refl, e)
-neither true b e = absurd (false≢true (sym e))
 
 either : (a b : Bool) → (a || b) ≡ true → (a ≡ false) → b ≡ true
 either false b e f = e
@@ -26,8 +22,8 @@ module _ {X : Type 0} (items : X → List ℕ) (name : List ℕ) where
   -- a name that no key is stands at no row
   pub no_row : (keys : List X) → list_any (λ x. bytes_eq name (items x)) keys ≡ false → IsRowOf (map items keys) name None
   no_row [] e row within same = absurd (omega arith)
-  no_row (k ∷ ks) e zero within same = false≢true (sym (neither _ _ e).0 ∙ (bytes_eq-Decides name (items k)).1 (sym same))
-  no_row (k ∷ ks) e (suc row) within same = no_row ks (neither (bytes_eq name (items k)) (list_any (λ x. bytes_eq name (items x)) ks) e).1 row (omega arith) same
+  no_row (k ∷ ks) e zero within same = false≢true (sym (or_parts _ _ e).0 ∙ (bytes_eq-Decides name (items k)).1 (sym same))
+  no_row (k ∷ ks) e (suc row) within same = no_row ks (or_parts (bytes_eq name (items k)) (list_any (λ x. bytes_eq name (items x)) ks) e).1 row (omega arith) same
 
   a_row_below : (k : X) (ks : List X) → ((row : ℕ) × IsRowOf (map items ks) name (Some row)) → (row : ℕ) × IsRowOf (map items (k ∷ ks)) name (Some row)
   a_row_below k ks r = (suc r.0, (let h = r.1.0 in omega arith, r.1.1))

@@ -11,6 +11,10 @@ use Rattle.pptext.specs.Spellings.{is_digit, is_hex, is_nondigit, IsUniversal, I
 use Rattle.pptext.specs.Cut.{BeginsWith}
 use Rattle.pptext.proofs.Parts.{front_of, front_length, behind_front}
 
+-- where a test fails, nothing is so whose being so it passes
+pub lacks : {A : Type 0} (b : Bool) → b ≡ false → (A → b ≡ true) → A → ⊥
+lacks b e f a = false≢true (sym e ∙ f a)
+
 pub next_from_only : (P : List ℕ → Type 0) (text : List ℕ) (n : ℕ) → IsOnly P text n → IsNext P text n
 next_from_only P text n o = record { positive = o.positive; fits = o.fits; part = o.part; others = λ m fits p. inl (o.only m fits p) }
 

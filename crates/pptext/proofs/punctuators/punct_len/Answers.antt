@@ -1,10 +1,7 @@
-use Rattle.std.proofs.Common.{◌≡◌, sym, ◌∙◌, true, false, arith, Bool}
-use Rattle.std.proofs.lemmas.Bool.{false≢true}
+use Rattle.std.proofs.Common.{◌≡◌, arith}
+use Rattle.pptext.proofs.Fronts.{lacks}
 use Rattle.pptext.proofs.Table.{longest_at, none_at, above_two, above_one}
 use Rattle.pptext.proofs.punctuators.punct_len.Goals as goal
-
-lacks : {A : Type 0} (b : Bool) → b ≡ false → (A → b ≡ true) → A → ⊥
-lacks b e f a = false≢true (sym e ∙ f a)
 
 pub returns-then-begins_with_punct : goal.returns-then-begins_with_punct
 returns-then-begins_with_punct c =

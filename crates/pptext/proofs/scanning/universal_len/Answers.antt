@@ -1,7 +1,6 @@
-use Rattle.std.proofs.Common.{◌≡◌, ℕ, inl, inr, ◌⊎◌, ◌<◌, arith, Bool, true, false, sym, ◌∙◌}
+use Rattle.std.proofs.Common.{◌≡◌, ℕ, inl, inr, ◌⊎◌, ◌<◌, arith}
 use Rattle.std.proofs.lemmas.List.{take_rest}
-use Rattle.std.proofs.lemmas.Bool.{false≢true}
-use Rattle.pptext.proofs.Fronts.{only_zero, no_universal, universal_unless, universal_of}
+use Rattle.pptext.proofs.Fronts.{lacks, only_zero, no_universal, universal_unless, universal_of}
 use Rattle.pptext.specs.Spellings.{IsUniversal}
 use Rattle.pptext.proofs.scanning.universal_len.Goals as goal
 
@@ -15,15 +14,12 @@ some_values d (inr v) h = v
 nonzero : (d : ℕ) → (d ≡ 0 → ⊥) → 0 < d
 nonzero d h = grind arith
 
-lacks_none : {A : Type 0} (b : Bool) → b ≡ false → (A → b ≡ true) → A → ⊥
-lacks_none b e f a = false≢true (sym e ∙ f a)
-
 pub returns-then-not-begins_with_hexes : goal.returns-then-not-begins_with_hexes
 returns-then-not-begins_with_hexes c =
     let text = c.args.text.now in
     let e = c.universal_digits-digits.ensures in
     universal_unless text c.universal_digits-digits.result (record { short = e.short; long = e.long; values = some_values _ e.values c.if-digits-eq0.false })
-    (λ h. lacks_none _ c.if-not-begins_with_hexes.true (simp take_rest at (c.begins_with_hexes.ensures.1)) h)
+    (λ h. lacks _ c.if-not-begins_with_hexes.true (simp take_rest at (c.begins_with_hexes.ensures.1)) h)
 
 pub returns : goal.returns
 returns c =
