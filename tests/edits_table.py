@@ -22,9 +22,7 @@ log of the gate. An edit that isn't here is tried by the gate like the others.
 
 An edit counts where its meaning is refused, and not only its form. Where one changes a value alone, the code as it stands is the right body of that
 form. Where one was found to add a statement or a branch to a function whose proof is written by hand, a right body of the same form was tried once, and is
-proved; in some of them it answers want of memory, which shows only that the proof bears the form. Of three of ppunit's no right body of the form is known
-to prove, so that their refusal may show the form alone: `guarded-file-not-counted`, `once-set-asked-before-the-depth` and
-`dependency-of-a-file-that-the-budget-kept-shut`. Sentences of such trials stand here until the gate's do.
+proved; in some of them it answers want of memory, which shows only that the proof bears the form. Sentences of such trials stand here until the gate's do.
 """
 LINE = re.compile(r"must-fail (\w+)/([\w-]+)\.edit: refused, as it must be(.*)")
 GOAL = re.compile(r"(?:note: |\./)?((?:src|specs|proofs)/[\w+/-]+\.(?:rt|antt)):(\d+):\d+: (.*)")

@@ -5,8 +5,6 @@ use Rattle.std.proofs.lemmas.Bool.{false≢true}
 use Rattle.std.proofs.lemmas.List.{append-nil}
 use Rattle.pptext.specs.declared.tokens.Place.{Place}
 use Rattle.pptext.specs.declared.tokens.Token.{Token}
-use Rattle.pptext.specs.declared.sources.Profile.{Profile}
-use Rattle.pptext.specs.Sources.{Reads}
 use Rattle.pptext.specs.Lines.{LogicalLine}
 use Rattle.pptext.specs.Tree.{Parts, Done, Run, Control, Section, End, Branch, part_lines, AreParts}
 use Rattle.pptext.specs.Guard.{IsBlankLine, AreBlank, GuardedParts, GuardedBy}
@@ -121,22 +119,18 @@ pub one_guard : (lines : List LogicalLine) (x y : List ℕ) → GuardedBy lines 
 one_guard lines x y (parts, tree, guarded) (parts', tree', guarded') =
     parts_guard parts x y guarded (subst (λ (z : Parts). GuardedParts z y) (at_most_one lines parts' parts tree' tree) guarded')
 
-pub opens_left_out : (around : Surroundings) (depth row from : ℕ) (by : Profile) (at : Place) (s a : State) (content : Content)
-    (lines : List LogicalLine)
+pub opens_left_out : (around : Surroundings) (depth row : ℕ) (at : Place) (s a : State) (content : Content) (lines : List LogicalLine)
     → depth ≤ deepest
     → is_spent s.left ≡ false
     → file_at around.files row ≡ Some content
-    → by ≡ around.profile
-    → from ≡ row
-    → IsRead by from content (Ok lines)
+    → IsRead around.profile row content (Ok lines)
     → a ≡ depending (paying s) row
     → IsLeftOut a lines
-    → Opened around depth at s row (record { state = a; fault = None })
-opens_left_out around depth row from by at s a unreadable lines fits some known one same reads is left = absurd reads
-opens_left_out around depth row from by at s a (readable bytes) lines fits some known one same reads is (x, guarded, defined) =
-    let read = subst (λ (z : ℕ). Reads around.profile z bytes (Ok lines)) same (subst (λ (z : Profile). Reads z from bytes (Ok lines)) one reads) in
+    → Opened around depth at s row (going a)
+opens_left_out around depth row at s a unreadable lines fits some known reads is left = absurd reads
+opens_left_out around depth row at s a (readable bytes) lines fits some known reads is (x, guarded, defined) =
     subst (λ (z : State). Opened around depth at s row (going z)) (sym is)
-    (guards_leave_out around depth row at s bytes lines x fits known read guarded (subst (λ (z : State). is_macro_name z.macros x ≡ true) is defined) some).0
+    (guards_leave_out around depth row at s bytes lines x fits known reads guarded (subst (λ (z : State). is_macro_name z.macros x ≡ true) is defined) some).0
 
 pub left_out_by : (s : State) (lines : List LogicalLine) (name : List ℕ) (b : Bool) → GuardedBy lines name → b ≡ is_macro_name s.macros name → IsTrue b ↔ IsLeftOut s lines
 left_out_by s lines name b guarded is = (λ e. (name, guarded, sym is ∙ e), λ l. is ∙ ap (λ (z : List ℕ). is_macro_name s.macros z) (one_guard lines name l.0 guarded l.1) ∙ l.2)

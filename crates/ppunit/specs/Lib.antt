@@ -18,6 +18,7 @@ pub mod Capped
 pub mod Walk
 pub mod Forms
 pub mod Guarded
+pub mod Opening
 pub mod Parts
 pub mod PartsLeft
 pub mod Yielding

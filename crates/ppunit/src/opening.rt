@@ -1,10 +1,14 @@
 // Opening a file (6.10.2): its dependency, its content, and what the predefined names stand for in it.
-ghost use Rattle.std.specs.Prelude.{◌≡◌, ◌<◌, ◌^◌, pos, map, length, string_bytes, IfOk, IfSome};
+ghost use Rattle.std.specs.Prelude.{◌≡◌, ◌<◌, ◌^◌, pos, map, length, string_bytes, IfOk, OnOk, IfErr, IfSome};
+ghost use Rattle.std.specs.Result.{result_err};
 ghost use Rattle.pptext.specs.Stops.{IfSettled};
 ghost use Rattle.ppshelf.specs.Files.{Files, Extends};
+ghost use Rattle.ppshelf.specs.Names.{name_in};
+ghost use Rattle.ppunit.specs.Dependencies.{is_among};
 ghost use Rattle.ppunit.specs.Directives.{Finds};
 ghost use Rattle.ppunit.specs.Group.{Opened};
-ghost use Rattle.ppunit.specs.States.{Reached, literal, surroundings_of};
+ghost use Rattle.ppunit.specs.Opening.{Pays, HasLines, HasFault, Begins};
+ghost use Rattle.ppunit.specs.States.{Reached, depending, literal, surroundings_of};
 ghost use Rattle.ppunit.specs.Walk.{Leads};
 
 use crate::guards::is_left_out;
@@ -165,6 +169,87 @@ pub(crate) fn resolve_in<D: Disk>(
     resolve(around.alloc, shelf, 0, Form::Angle, name, folders)
 }
 
+// Takes one opening of what is left of the budget, where the file of a row may be opened at this depth. Faults 32, and 35 where
+// nothing is left.
+fn pay_for<D: Disk>(
+    around: &Around<'_, '_, D>,
+    state: &mut State,
+    depth: u32,
+    at: Place,
+    row: usize,
+) -> Result<(), Stop>
+    requires { row < length around.now.shelf.names }
+    ensures { IfSettled result (λ r. Pays depth at (name_in around.now.shelf.names row) state.old state.new (result_err r)) }
+{
+    if depth > DEEPEST {
+        let name = around.shelf().name(row);
+        return Err(Stop::Fault(Fault::new(around.alloc, 32, at, name.as_bytes())?));
+    }
+    if state.is_spent() {
+        return Err(Stop::Fault(Fault::bare(35, at)));
+    }
+    state.pay();
+    Ok(())
+}
+
+// The file of a row joins the dependencies. Whether it is one that is read once and was read.
+fn note(state: &mut State, row: usize) -> Result<bool, AllocError>
+    ensures joins { OnOk result (state.new ≡ depending state.old row) }
+    ensures known { IfOk result (λ known. known ≡ is_among row state.old.once) }
+{
+    let known = state.once.contains(row);
+    state.depend(row)?;
+    Ok(known)
+}
+
+// The lines of the file of a row. Fault 6 where it cannot be read, or its own.
+fn source_of<'a, D: Disk>(
+    around: &Around<'a, '_, D>,
+    pass: &mut Pass<'a, D>,
+    at: Place,
+    row: usize,
+) -> Result<&'a Source, Stop>
+    requires shelf { pass.old.shelf ≡ around.now.shelf }
+    requires row { row < length around.now.shelf.names }
+    ensures shelf { pass.new.shelf ≡ around.now.shelf }
+    ensures grows { Extends pass.new.files pass.old.files }
+    ensures lines { IfOk result (λ source. HasLines around.now.shelf pass.new.files row source.now) }
+    ensures fault { IfSettled result (λ r. IfErr r (λ f. HasFault around.now.shelf pass.new.files row at f)) }
+{
+    let shelf = around.shelf();
+    let Ok(loaded) = shelf.look(pass, row, around.disk) else {
+        return Err(Stop::Memory);
+    };
+    match loaded.lines() {
+        Some(Ok(source)) => Ok(source),
+        Some(Err(fault)) => Err(Stop::Fault(fault.clone()?)),
+        None => {
+            let name = shelf.name(row).as_bytes();
+            Err(Stop::Fault(Fault::new(around.alloc, 6, at, name)?))
+        }
+    }
+}
+
+// The file of a row that has this name and these lines, before its first line; or nothing where its guard is a macro's name: its
+// lines would do nothing.
+fn begin<'a>(
+    alloc: Global,
+    state: &mut State,
+    row: usize,
+    name: &str,
+    source: &'a Source,
+) -> Result<Option<Entered<'a>>, AllocError>
+    ensures { IfOk result (λ entered. Begins name.now row source.now state.old state.new entered) }
+{
+    if is_left_out(state, source) {
+        return Ok(None);
+    }
+    let inner = entering(alloc, &state.env, name)?;
+    let outer = replace(&mut state.env, inner);
+    let file = OpenFile::new(row, source);
+    Ok(Some(Entered { file, outer }))
+}
+
 /// Opens the file of a row for the line at this place, or leaves it out: one that is read once and was read, or one with a
 /// guard that is a macro's name. That takes one of the budget. Faults 32, 35 where nothing is left, and 6, or the file's own.
 pub(crate) fn open<'a, D: Disk>(
@@ -184,35 +269,11 @@ pub(crate) fn open<'a, D: Disk>(
         (λ (more : Files) (m : Reached). Opened (surroundings_of around.now more) depth at state.old row m)
         state.new leads) }
 {
-    let shelf = around.shelf();
-    let name = shelf.name(row);
-    if depth > DEEPEST {
-        return Err(Stop::Fault(Fault::new(around.alloc, 32, at, name.as_bytes())?));
-    }
-    if state.is_spent() {
-        return Err(Stop::Fault(Fault::bare(35, at)));
-    }
-    state.pay();
-    state.depend(row)?;
-    if state.once.contains(row) {
+    pay_for(around, state, depth, at, row)?;
+    if note(state, row)? {
         return Ok(None);
     }
-    let Ok(loaded) = shelf.look(pass, row, around.disk) else {
-        return Err(Stop::Memory);
-    };
-    let Some(read) = loaded.lines() else {
-        return Err(Stop::Fault(Fault::new(around.alloc, 6, at, name.as_bytes())?));
-    };
-    let source = match read {
-        Ok(source) => source,
-        Err(fault) => return Err(Stop::Fault(fault.clone()?)),
-    };
-    // The lines of a guarded file would do nothing.
-    if is_left_out(state, source) {
-        return Ok(None);
-    }
-    let inner = entering(around.alloc, &state.env, name)?;
-    let outer = replace(&mut state.env, inner);
-    let file = OpenFile::new(row, source);
-    Ok(Some(Entered { file, outer }))
+    let source = source_of(around, pass, at, row)?;
+    let name = around.shelf().name(row);
+    Ok(begin(around.alloc, state, row, name, source)?)
 }

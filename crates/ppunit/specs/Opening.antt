@@ -1,0 +1,41 @@
+-- The steps by which a file is opened (6.10.2). Only the contracts of private functions cite this.
+use Rattle.std.specs.Prelude.{◌≡◌, ℕ, ◌<◌, ◌≤◌, ◌^◌, pos, List, [], true, false, Option, None, Some, Ok, Err, ◌⊎◌, length}
+use Rattle.pptext.specs.declared.tokens.Place.{Place}
+use Rattle.pptext.specs.declared.tokens.Fault.{Fault}
+use Rattle.pptext.specs.Lines.{LogicalLine}
+use Rattle.pptext.specs.Tokens.{fault}
+use Rattle.ppexpand.specs.Turn.{is_spent}
+use Rattle.ppshelf.specs.Content.{Content, unreadable, IsRead}
+use Rattle.ppshelf.specs.Files.{Files, Stock, file_at}
+use Rattle.ppshelf.specs.Names.{name_in}
+use Rattle.ppunit.specs.declared.opening.Entered.{Entered}
+use Rattle.ppunit.specs.States.{State, paying, literal}
+use Rattle.ppunit.specs.Group.{deepest}
+use Rattle.ppunit.specs.Guarded.{IsLeftOut}
+
+-- why a file of this name is not opened: it is too deep, or else nothing is left
+abbrev pub IsUnpaid : ℕ → Place → List ℕ → State → Fault → Type 0
+IsUnpaid depth at name s f =
+    ((deepest < depth) × (f ≡ fault 32 at name)) ⊎ ((depth ≤ deepest) × (is_spent s.left ≡ true) × (f ≡ fault 35 at []))
+
+-- one opening is taken of what is left, unless there is such a fault, which changes nothing
+abbrev pub Pays : ℕ → Place → List ℕ → State → State → Option Fault → Type 0
+Pays depth at name s t None = (depth ≤ deepest) × (is_spent s.left ≡ false) × (t ≡ paying s)
+Pays depth at name s t (Some f) = (t ≡ s) × IsUnpaid depth at name s f
+
+-- the file of a row has these lines
+abbrev pub HasLines : Stock → Files → ℕ → List LogicalLine → Type 0
+HasLines shelf files row lines = (content : Content) × (file_at files row ≡ Some content) × IsRead shelf.profile row content (Ok lines)
+
+-- it cannot be read, which is told at this place, or it has a fault of its own
+abbrev pub HasFault : Stock → Files → ℕ → Place → Fault → Type 0
+HasFault shelf files row at f =
+    ((file_at files row ≡ Some unreadable) × (f ≡ fault 6 at (name_in shelf.names row)))
+    ⊎ ((content : Content) × (file_at files row ≡ Some content) × IsRead shelf.profile row content (Err f))
+
+-- A file of this name and these lines is left out, which changes nothing; or its first line comes next, and the predefined names stand for its own.
+abbrev pub Begins : List ℕ → ℕ → List LogicalLine → State → State → Option Entered → Type 0
+Begins name row lines s t None = IsLeftOut s lines × (t ≡ s)
+Begins name row lines s t (Some e) =
+    (e.file.row ≡ row) × (e.file.source.now ≡ lines) × (e.file.index ≡ 0) × (length lines < 2 ^ 64) × (e.outer ≡ s.env)
+    × (t ≡ record s { env = record s.env { name = literal name; shift = pos 0 } })
