@@ -3,10 +3,10 @@ use Rattle.std.specs.Prelude.{◌≡◌, ℕ, ◌+◌, ◌-◌, ◌*◌, ◌/◌
 use Rattle.std.specs.FinMap as table
 use Rattle.ppmacro.specs.Names.{Name, Macros}
 
--- by the first, the middle and the last byte, and the length
+-- by a byte of the front half, one of the back half and the last, and the length: first and middle bytes are alike in more names
 unfoldable pub mark_of : Name → ℕ
 mark_of name =
-    (slice_index_or name 0 0 * 41 + slice_index_or name (length name / 2) 0 * 1_021 + slice_index_or name (length name - 1) 0 * 211 + length name % 64 * 4_099) % 16_384
+    (slice_index_or name (length name / 4) 0 * 41 + slice_index_or name (length name - 1 - length name / 4) 0 * 1_021 + slice_index_or name (length name - 1) 0 * 211 + length name % 64 * 4_099) % 32_768
 
 -- whether the mark of a name was put
 abbrev pub shows : List Bool → Name → Bool

@@ -6,22 +6,23 @@ use std::alloc::{AllocError, Global};
 use std::marker::Model;
 
 /// How many marks there are.
-const MARKS: usize = 16_384;
+const MARKS: usize = 32_768;
 
 /// The mark of a name, which few others share.
 #[tactic(auto, unfolding(crate::specs::Marks::mark_of))]
 fn mark_of(name: &[u8]) -> usize
     ensures value { result ≡ mark_of name.now }
-    ensures bound { result < 16_384 }
+    ensures bound { result < 32_768 }
 {
     let length = name.len();
     if length == 0 {
         return 0;
     }
-    let first = usize::from(name[0]);
-    let middle = usize::from(name[length / 2]);
+    let quarter = length / 4;
+    let front = usize::from(name[quarter]);
+    let back = usize::from(name[length - 1 - quarter]);
     let last = usize::from(name[length - 1]);
-    (first * 41 + middle * 1_021 + last * 211 + length % 64 * 4_099) % MARKS
+    (front * 41 + back * 1_021 + last * 211 + length % 64 * 4_099) % MARKS
 }
 
 /// Which marks were put, by number.
@@ -37,7 +38,7 @@ impl Model for Marks {
 
     ghost view = { λ s. s.marks.items };
 
-    ghost invariant = { λ s. vec_len s.marks ≡ 16_384 };
+    ghost invariant = { λ s. vec_len s.marks ≡ 32_768 };
 }
 
 impl Marks {

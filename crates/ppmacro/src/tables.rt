@@ -14,8 +14,8 @@ use pptext::{Hashing, Memory};
 use std::alloc::{AllocError, Global};
 use std::marker::Model;
 
-// So many macros have room from the start; most units of a large project have more, and a table that grows moves what it has.
-const USUAL: usize = 1_024;
+// So many macros have room from the start: units of a large project have about as many, and a table that grows moves what it has.
+const USUAL: usize = 4_096;
 
 /// The macros of a unit, which contracts see as a finite map from names to definitions.
 ///
@@ -113,12 +113,22 @@ impl<'a> Table<'a> {
     }
 
     /// The macro of this name.
+    #[inline(always)]
     pub fn get(&self, name: &[u8]) -> Option<&Macro<'a>>
         ensures { option_copied result ≡ table.get self.now name.now }
     {
+        // Most names have no mark, and aren't worth a call.
         if !self.marks.shows(name) {
             return None;
         }
+        self.look_up(name)
+    }
+
+    // The macro of this name, whatever its mark.
+    #[inline(never)]
+    fn look_up(&self, name: &[u8]) -> Option<&Macro<'a>>
+        ensures { option_copied result ≡ table.get self.now name.now }
+    {
         let Some(index) = self.macros.get_index_of(&Key { bytes: name }) else {
             return None;
         };

@@ -6,6 +6,8 @@ pub mod Parts
 pub mod Fronts
 -- One step of each pass of phases 1 and 2.
 pub mod Passes
+-- Where bytes stand, by the lines that end among them.
+pub mod PlaceLines
 -- The columns of a file's characters are at most one more than its length.
 pub mod Columns
 -- One step of phases 1 and 2 in one reading, against the three passes.

@@ -1,5 +1,5 @@
 // The text cut into lines of tokens.
-ghost use Rattle.std.specs.Prelude.{◌≡◌, ◌↔◌, ◌+◌, ◌<◌, ◌≤◌, ℕ, [], length, take, drop, IsTrue, slice_index, None, IfOk, IfSome, IfNone};
+ghost use Rattle.std.specs.Prelude.{◌≡◌, ◌≢◌, ◌↔◌, ◌+◌, ◌<◌, ◌≤◌, ℕ, [], length, take, drop, IsTrue, slice_index, None, IfOk, IfSome, IfNone, false};
 ghost use Rattle.pptext.specs.Spellings.{is_blank};
 ghost use Rattle.pptext.specs.Cut.{OpensBlock, OpensLine, CommentAt, ClosesAt};
 ghost use Rattle.pptext.specs.Lines.{token_of, line_of};
@@ -111,19 +111,16 @@ fn blank_len(text: &[u8]) -> usize
     text.len()
 }
 
-/// What begins the text behind these tokens of its line, where this much is known of its quotes.
-fn piece_at(text: &[u8], line: &[Token], lone: &mut LoneQuotes) -> Found
+/// The same for a text that neither a new-line nor a blank begins.
+#[inline(never)]
+fn dark_piece_at(text: &[u8], line: &[Token], lone: &mut LoneQuotes) -> Found
     requires some { 0 < length text.now }
+    requires no_newline { slice_index text.now 0 ≢ 10 }
+    requires no_blank { is_blank (slice_index text.now 0) ≡ false }
     requires lone { KnowsLone text.now lone.old }
     ensures finds { Finds (spelled line.now) text.now result }
     ensures lone { KnowsLone text.now lone.new }
 {
-    if text[0] == b'\n' {
-        return Found::NewLine;
-    }
-    if is_blank(text[0]) {
-        return Found::Blank(blank_len(text));
-    }
     if opens_block(text) {
         return match block_len(text) {
             Some(n) => Found::Comment(n),
@@ -135,6 +132,24 @@ fn piece_at(text: &[u8], line: &[Token], lone: &mut LoneQuotes) -> Found
     }
     let (kind, n) = token_at(text, line, lone);
     Found::Token(kind, n)
+}
+
+/// What begins the text behind these tokens of its line, where this much is known of its quotes.
+#[inline(always)]
+fn piece_at(text: &[u8], line: &[Token], lone: &mut LoneQuotes) -> Found
+    requires some { 0 < length text.now }
+    requires lone { KnowsLone text.now lone.old }
+    ensures finds { Finds (spelled line.now) text.now result }
+    ensures lone { KnowsLone text.now lone.new }
+{
+    // More than a third of all pieces are new-lines and blanks, which aren't worth a call.
+    if text[0] == b'\n' {
+        return Found::NewLine;
+    }
+    if is_blank(text[0]) {
+        return Found::Blank(blank_len(text));
+    }
+    dark_piece_at(text, line, lone)
 }
 
 /// What begins the text behind these tokens of its line.

@@ -64,8 +64,8 @@ pub fn read_source(
         Err(place) => return Err(fault_at(2, place)),
     };
     // Room for about as many as ordinary C has, so that they seldom move while they grow.
-    let mut tokens = Vec::with_capacity(alloc, bytes.len() / 8)?;
-    let mut lines = Vec::with_capacity(alloc, bytes.len() / 32)?;
+    let mut tokens = Vec::with_capacity(alloc, bytes.len() / 5)?;
+    let mut lines = Vec::with_capacity(alloc, bytes.len() / 20)?;
     match cut_lines(alloc, &mut text, &mut tokens, &mut lines, profile) {
         Ok(()) => {}
         Err(CutFault::Unclosed(place)) => return Err(fault_at(1, place)),

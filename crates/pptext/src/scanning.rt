@@ -89,9 +89,12 @@ fn nondigit_len(text: &[u8]) -> usize
 fn is_ident_byte(c: u8) -> bool
     ensures { result ≡ is_ident_byte c }
 {
-    // Most are small letters.
+    // Most are small letters, and what ends an identifier mostly stands below the digits.
     if b'a' <= c && c <= b'z' {
         return true;
+    }
+    if c < b'0' {
+        return c == b'$';
     }
     is_nondigit(c) || is_digit(c)
 }

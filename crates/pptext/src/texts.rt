@@ -33,6 +33,7 @@ pub(crate) struct Cursor {
 
 impl Cursor {
     /// The cursor behind so many of the bytes in front of the next break.
+    #[inline(always)]
     fn pass(self, raw: &[u8], len: usize) -> Cursor
         requires small { length raw.now ≤ longest }
         requires fits { self.offset + len ≤ length raw.now }
@@ -77,22 +78,24 @@ impl Cursor {
         }
     }
 
-    /// The cursor in front of this character.
-    fn seek(self, raw: &[u8], breaks: &[u32], to: usize) -> Cursor
+    /// Brings the cursor in front of this character.
+    #[inline(always)]
+    fn seek(&mut self, raw: &[u8], breaks: &[u32], to: usize)
         requires small { length raw.now ≤ longest }
-        requires stands { Stands self.at.file raw.now breaks.now self }
-        requires forward { self.passed ≤ to }
-        requires within { to < length (text_from self.at.file raw.now 0) }
-        ensures stands { Stands self.at.file raw.now breaks.now result }
-        ensures passed { result.passed ≡ to }
-        ensures file { result.at.file ≡ self.at.file }
-        ensures place { (d : Char) → result.at ≡ (slice_index_or (text_from self.at.file raw.now 0) to d).at }
+        requires stands { Stands self.old.at.file raw.now breaks.now self.old }
+        requires forward { self.old.passed ≤ to }
+        requires within { to < length (text_from self.old.at.file raw.now 0) }
+        ensures stands { Stands self.old.at.file raw.now breaks.now self.new }
+        ensures passed { self.new.passed ≡ to }
+        ensures file { self.new.at.file ≡ self.old.at.file }
+        ensures place { (d : Char) → self.new.at ≡ (slice_index_or (text_from self.old.at.file raw.now 0) to d).at }
     {
         let ahead = to - self.passed;
         if ahead < self.plain {
-            return self.pass(raw, ahead);
+            *self = self.pass(raw, ahead);
+            return;
         }
-        self.walk(raw, breaks, to)
+        *self = self.walk(raw, breaks, to);
     }
 
     /// The same for a character that may stand behind breaks.
@@ -219,8 +222,7 @@ impl<'a> Text<'a> {
         ensures place { (d : Char) → result ≡ (slice_index_or self.old.chars at d).at }
         ensures after { self.new ≡ record { chars = self.old.chars; passed = at } }
     {
-        let cursor = self.cursor.seek(self.raw, breaks_of(&self.cleaned), at);
-        self.cursor = cursor;
-        cursor.at
+        self.cursor.seek(self.raw, breaks_of(&self.cleaned), at);
+        self.cursor.at
     }
 }
