@@ -8,7 +8,8 @@ ghost use Rattle.pptext.specs.Tokens.{fault as fault_at};
 ghost use Rattle.ppmacro.specs.declared.flying.Hidden.{Hidden};
 ghost use Rattle.ppexpand.specs.Turn.{wanted};
 ghost use Rattle.ppexpand.specs.Expansion.{ExpandsTo, ExpandsArguments, IsExpansion};
-ghost use Rattle.ppexpand.specs.Lists.{ArePlain, next_macro};
+ghost use Rattle.ppexpand.specs.Lists.{ArePlain, is_plain, next_macro};
+ghost use Rattle.std.specs.List.{AllByRecursion};
 ghost use Rattle.ppexpand.specs.Skipping.{HasSkipped};
 ghost use Rattle.ppexpand.specs.Shown.{expanded_in, ExpansionsKnown, call_in, CallKnown, finished_in, Raises, held, ExpandsArgument, HasExpanded};
 ghost use Rattle.ppexpand.specs.Shown.{Invokes, HasTaken, HasCalled};
@@ -369,6 +370,42 @@ pub struct Expanded<'a> {
     pub left: Option<u64>,
 }
 
+/// Expands a list of tokens of which the first are known to pass.
+#[inline(never)]
+fn expand_rest<'x, 'a: 'x>(
+    alloc: Global,
+    table: &Table<'a>,
+    env: &Env,
+    left: Option<u64>,
+    front: &'x [Token],
+    rest: &'x [Token],
+) -> Result<Expanded<'x>, Memory>
+    requires plain { AllByRecursion (λ t. is_plain table.now t ≡ true) front.now }
+    ensures { IfOk result (λ e. IsExpansion table.now env.now left (front.now ++ rest.now) e) }
+{
+    let mut sets = HideSets::with_hasher(alloc, table.hashing())?;
+    let mut list = Cursor::over(alloc, Stretch::new(rest, sets.empty()));
+    let mut passed = Passed::new(alloc);
+    let mut left = left;
+    let mut fault = None;
+    expand_list(
+        alloc,
+        table,
+        env,
+        0,
+        &mut left,
+        &mut sets,
+        &mut list,
+        &mut passed,
+        &mut fault,
+    )?;
+    Ok(Expanded {
+        tokens: Run::new(front, passed),
+        fault,
+        left,
+    })
+}
+
 /// Expands a list of tokens: each macro's name is replaced, and what it is replaced by is looked at again with what
 /// stands behind it (6.10.3.4), but for names that are hidden from replacement.
 ///
@@ -403,25 +440,5 @@ pub fn expand<'x, 'a: 'x>(
             left,
         });
     }
-    let mut sets = HideSets::with_hasher(alloc, table.hashing())?;
-    let mut list = Cursor::over(alloc, Stretch::new(rest, sets.empty()));
-    let mut passed = Passed::new(alloc);
-    let mut left = left;
-    let mut fault = None;
-    expand_list(
-        alloc,
-        table,
-        env,
-        0,
-        &mut left,
-        &mut sets,
-        &mut list,
-        &mut passed,
-        &mut fault,
-    )?;
-    Ok(Expanded {
-        tokens: Run::new(front, passed),
-        fault,
-        left,
-    })
+    expand_rest(alloc, table, env, left, front, rest)
 }

@@ -10,6 +10,9 @@ use std::alloc::{AllocError, Global};
 use std::marker::Model;
 use std::mem;
 
+// So many tokens of a file take less room one by one than as a piece of their own.
+const FEW: usize = 8;
+
 /// A stretch of a file, or tokens that passed one by one.
 #[derive(Drop)]
 pub enum Piece<'a> {
@@ -74,8 +77,8 @@ impl<'a> Passed<'a> {
     pub(crate) fn extend(&mut self, stretch: Stretch<'a>) -> Result<(), AllocError>
         ensures { OnOk result (self.new ≡ self.old ++ stretch.entry) }
     {
-        if stretch.is_empty() {
-            return Ok(());
+        if stretch.len() <= FEW {
+            return push_stretch(&mut self.singles, stretch);
         }
         close(&mut self.pieces, &mut self.singles)?;
         self.pieces.push(Piece::Shared(stretch))?;
@@ -86,6 +89,9 @@ impl<'a> Passed<'a> {
     pub(crate) fn push(&mut self, hidden: Hidden<'a>) -> Result<(), AllocError>
         ensures { OnOk result (self.new ≡ self.old ++ hidden.entry ∷ []) }
     {
+        if self.singles.is_empty() {
+            self.singles.reserve(FEW)?;
+        }
         self.singles.push(hidden)?;
         Ok(())
     }

@@ -74,11 +74,9 @@ impl<'a> Stretch<'a> {
         self.tokens
     }
 
-    /// Whether there is no token.
-    pub(crate) fn is_empty(&self) -> bool
-        ensures { result ≡ true → self.now ≡ [] }
-    {
-        self.tokens.is_empty()
+    /// How many tokens there are.
+    pub(crate) fn len(&self) -> usize {
+        self.tokens.len()
     }
 
     /// The first token, taken out.
