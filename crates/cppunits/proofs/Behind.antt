@@ -1,7 +1,9 @@
 -- Text behind the first bytes of a list.
-use Rattle.std.proofs.Common.{◌≡◌, ℕ, ◌+◌, ◌/◌, ◌%◌, ◌^◌, ◌<◌, ◌≤◌, List, [], ◌∷◌, ◌++◌, decimal, length, take, refl, sym, ap, ◌∙◌, arith, append_assoc, length-append}
+use Rattle.std.proofs.Common.{◌≡◌, ℕ, zero, suc, ◌+◌, ◌/◌, ◌%◌, ◌^◌, ◌<◌, ◌≤◌, List, [], ◌∷◌, ◌++◌, decimal, length, take, drop, refl, sym, ap, ◌∙◌, arith, append_assoc, length-append}
 use Rattle.std.proofs.Math.Seq.{take-append-add}
-use Rattle.std.proofs.lemmas.List.{take-append-le, length-take-le}
+use Rattle.std.proofs.lemmas.List.{take-append-le, take-take, length-take-le}
+use Rattle.cppunits.specs.Lines.{PlainBetween}
+use Rattle.cppunits.specs.Output.{escaped, escaped_byte}
 use Rattle.std.proofs.lemmas.Fmt.{decimal_digit, decimal_step, length-decimal-le}
 
 -- the first n of ys
@@ -9,6 +11,24 @@ pub take_behind : (xs ys zs : List ℕ) (a n : ℕ) → a ≤ length xs → n �
 take_behind xs ys zs a n h k =
     let e = take-append-add (take a xs) (ys ++ zs) n in
     rw (length-take-le a xs h, take-append-le n ys zs k) at e
+
+-- what stands before the place that a text is put at stays
+pub front_kept : (old new text : List ℕ) (at end result : ℕ) → at ≤ end → end ≤ length old → end ≤ result → take result new ≡ take end old ++ text → take at new ≡ take at old
+front_kept old new text at end result before within less is =
+    sym (take-take at result new (omega (arith, before, less))) ∙ ap (take at) is ∙ take-append-le at (take end old) text (omega (arith, length-take-le end old within, before)) ∙ take-take at end old before
+
+-- the front of what a slice over a vector's elements was left as
+pub front_left : (r l : ℕ) (new old : List ℕ) → r ≤ length new → r ≤ l → take r (take l (new ++ drop (length new) old)) ≡ take r new
+front_left r l new old within less = take-take r l (new ++ drop (length new) old) less ∙ take-append-le r new (drop (length new) old) within
+
+-- bytes that stand for themselves
+pub plain_take : (bytes : List ℕ) (n : ℕ) → n ≤ length bytes → PlainBetween bytes 0 n → escaped (take n bytes) ≡ take n bytes
+plain_take bytes zero within plain = refl
+plain_take [] (suc n) within plain = absurd (omega (arith, within))
+plain_take (b ∷ bs) (suc n) within plain =
+    let first : escaped_byte b ≡ b ∷ [] = rw (plain 0 (omega arith) (omega arith)) refl in
+    let rest = plain_take bs n (omega (arith, within)) (λ k from to. plain (suc k) (omega arith) (omega (arith, to))) in
+    rw (first, rest) refl
 
 abbrev pub pair : ℕ → List ℕ
 pair n = (48 + n % 100 / 10) ∷ ((48 + n % 10) ∷ [])

@@ -28,3 +28,5 @@ pub mod Printing
 pub mod Received
 -- Text behind the first bytes of a list.
 pub mod Behind
+-- From the mask of eight lanes to the bytes that stand for themselves.
+pub mod Lanes

@@ -22,7 +22,7 @@ use crate::streams::{Failed, Sink, VecSink};
 use itoa::Buffer;
 use ppexpand::{Piece, Run};
 use ppmacro::Hidden;
-use pptext::{Fault, Kind, Memory, Place, Token};
+use pptext::{Fault, Kind, Memory, Place, Spelling, Token};
 use ppunit::{Items, Part, Texts, Unit, UnitOut};
 use std::alloc::Global;
 
@@ -226,15 +226,15 @@ fn put_pragma_token<W: Sink>(page: &mut Page, writer: &mut W, token: &Token)
 fn put_hidden<W: Sink>(page: &mut Page, writer: &mut W, hidden: &Hidden)
     ensures { Puts W.written W.has_failed writer.old writer.new page.old page.new (token_line hidden.now.token) }
 {
-    let (at, used) = (hidden.at(), hidden.used());
+    let word = hidden.word();
     put_line(
         page,
         writer,
-        at,
-        used,
-        hidden.kind(),
+        word.at,
+        hidden.used(),
+        word.kind,
         hidden.space(),
-        hidden.text(),
+        &word.text,
     );
 }
 
@@ -243,18 +243,10 @@ fn put_token<W: Sink>(page: &mut Page, writer: &mut W, token: &Token)
     ensures { Puts W.written W.has_failed writer.old writer.new page.old page.new (token_line token.now) }
 {
     let (at, used) = (token.at, token.used);
-    put_line(
-        page,
-        writer,
-        at,
-        used,
-        token.kind,
-        token.space,
-        token.text.as_bytes(),
-    );
+    put_line(page, writer, at, used, token.kind, token.space, &token.text);
 }
 
-/// Puts a token's line. Most spellings are plain, and then the line is put in one turn.
+/// Puts a token's line. Most spellings are short and plain, and then the line is put in one turn.
 #[inline(always)]
 fn put_line<W: Sink>(
     page: &mut Page,
@@ -263,16 +255,26 @@ fn put_line<W: Sink>(
     used: Place,
     kind: Kind,
     space: bool,
-    spelling: &[u8],
+    spelling: &Spelling,
 )
     ensures { Puts W.written W.has_failed writer.old writer.new page.old page.new
         (codes "tok" ++ before_spelling at used kind space ++ escaped spelling.now ++ (10 ∷ [])) }
 {
     page.make_room(writer);
     page.add_beginning(at, used, kind, space);
-    if page.add_end(spelling) {
-        return;
+    if let Some((room, len)) = spelling.in_place() {
+        if page.add_end(room, len) {
+            return;
+        }
     }
+    put_end(page, writer, spelling.as_bytes());
+}
+
+/// Puts any spelling and the end of its line.
+#[inline(never)]
+fn put_end<W: Sink>(page: &mut Page, writer: &mut W, spelling: &[u8])
+    ensures { Puts W.written W.has_failed writer.old writer.new page.old page.new (escaped spelling.now ++ (10 ∷ [])) }
+{
     put_escaped(page, writer, spelling);
     page.put(writer, b"\n");
 }

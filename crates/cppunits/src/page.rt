@@ -1,17 +1,20 @@
 // The page that bytes wait on before they go out.
-ghost use Rattle.std.specs.Prelude.{◌≡◌, ◌+◌, ◌≤◌, ◌++◌, ◌∷◌, [], codes, length, true, false, IfOk};
+ghost use Rattle.std.specs.Prelude.{◌≡◌, ◌+◌, ◌≤◌, ◌++◌, ◌∷◌, [], codes, length, take, true, false, IfOk};
 ghost use Rattle.cppunits.specs.Lines.{before_spelling};
 ghost use Rattle.cppunits.specs.Output.{escaped};
 ghost use Rattle.cppunits.specs.Printing.{Puts};
 
 use crate::beginning::{Beginning, MOST};
 use crate::streams::Sink;
-use crate::writing::{put_byte, put_plain};
+use crate::writing::{plain_front, put_byte, put_front};
 use pptext::{Kind, Place};
 use std::alloc::{AllocError, Global};
 use std::marker::Model;
 
 const SIZE: usize = 65_536;
+
+/// The room of a short spelling.
+const SHORT: usize = 14;
 
 /// Bytes that wait. All its memory is there from the start, so nothing that is put on it is refused.
 #[derive(Drop)]
@@ -62,9 +65,9 @@ impl Page {
     #[inline(always)]
     pub(crate) fn make_room<W: Sink>(&mut self, writer: &mut W)
         ensures out { Puts W.written W.has_failed writer.old writer.new self.old self.new [] }
-        ensures room { length self.new + 73 ≤ 65_536 }
+        ensures room { length self.new + 88 ≤ 65_536 }
     {
-        if SIZE - self.used < MOST {
+        if SIZE - self.used < MOST + SHORT + 1 {
             self.send(writer);
         }
     }
@@ -73,27 +76,28 @@ impl Page {
     #[inline(always)]
     pub(crate) fn add_beginning(&mut self, at: Place, used: Place, kind: Kind, space: bool)
         requires { length self.old + 73 ≤ 65_536 }
-        ensures { self.new ≡ self.old ++ codes "tok" ++ before_spelling at used kind space }
+        ensures text { self.new ≡ self.old ++ codes "tok" ++ before_spelling at used kind space }
+        ensures within { length self.new ≤ length self.old + 73 }
     {
         let bytes = self.bytes.as_mut_slice();
         self.used = self.line.put(bytes, self.used, at, used, kind, space);
     }
 
-    /// Adds a spelling and the end of its line, where there is room and all its bytes stand for themselves.
+    /// Adds the spelling at the front of a room and the end of its line, where all its bytes stand for themselves. All of the room is
+    /// copied, and no branch is on the spelling's length, which nobody can predict.
     #[inline(always)]
-    pub(crate) fn add_end(&mut self, spelling: &[u8]) -> bool
-        ensures added { result ≡ true → self.new ≡ self.old ++ escaped spelling.now ++ (10 ∷ []) }
+    pub(crate) fn add_end(&mut self, room: &[u8; 14], len: usize) -> bool
+        requires room { length self.old + 15 ≤ 65_536 }
+        requires len { len ≤ 14 }
+        ensures added { result ≡ true → self.new ≡ self.old ++ escaped (take len room.now) ++ (10 ∷ []) }
         ensures refused { result ≡ false → self.new ≡ self.old }
     {
-        if spelling.len() >= SIZE - self.used {
+        if plain_front(room) < len {
             return false;
         }
         let bytes = self.bytes.as_mut_slice();
-        let count = put_plain(bytes, self.used, spelling);
-        if count < spelling.len() {
-            return false;
-        }
-        self.used = put_byte(bytes, self.used + count, b'\n');
+        let end = put_front(bytes, self.used, room, len);
+        self.used = put_byte(bytes, end, b'\n');
         true
     }
 
@@ -107,6 +111,7 @@ impl Page {
     }
 
     /// Sends out what waits.
+    #[inline(never)]
     pub(crate) fn send<W: Sink>(&mut self, writer: &mut W)
         ensures out { Puts W.written W.has_failed writer.old writer.new self.old self.new [] }
         ensures empty { self.new ≡ [] }

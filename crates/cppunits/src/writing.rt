@@ -1,8 +1,9 @@
 // Text that is put behind the first bytes of a slice. Each function gives where the text ends.
 ghost use Rattle.std.specs.Prelude.{◌≡◌, ◌+◌, ◌/◌, ◌%◌, ◌<◌, ◌≤◌, ◌∷◌, ◌++◌, [], decimal, length, take};
-ghost use Rattle.cppunits.specs.Output.{escaped};
+ghost use Rattle.cppunits.specs.Lines.{PlainBetween, first_set};
 
-use crate::output::is_plain;
+use std::marker::Model;
+use std::simd::prelude::*;
 
 /// Puts a byte.
 #[inline(always)]
@@ -28,21 +29,58 @@ pub(crate) fn put_front<const N: usize>(
     ensures text { take result bytes.new ≡ take end bytes.old ++ take len text.now }
     ensures end { result ≡ end + len }
 {
-    bytes[end..end + N].copy_from_slice(text);
+    let text = *text;
+    bytes[end..end + N].copy_from_slice(&text);
     end + len
 }
 
-/// Puts the first `len` of two bytes. Both are written, as in `put_front`.
-#[inline(always)]
-fn put_two(bytes: &mut [u8], end: usize, first: u8, second: u8, len: usize) -> usize
-    requires room { end + 2 ≤ length bytes.old }
-    requires len { len ≤ 2 }
-    ensures text { take result bytes.new ≡ take end bytes.old ++ take len (first ∷ (second ∷ [])) }
-    ensures end { result ≡ end + len }
-{
-    bytes[end] = first;
-    bytes[end + 1] = second;
-    end + len
+/// The decimal of a number below 100: the first so many of two bytes, so that both can be written in either case, since a branch on the
+/// number's length is often mispredicted.
+#[derive(Drop)]
+pub(crate) struct Digits {
+    first: u8,
+    second: u8,
+    len: usize,
+}
+
+impl Model for Digits {
+    ghost use Rattle.std.specs.Prelude.{◌≤◌, ℕ, List, [], ◌∷◌, take};
+
+    ghost Value = { List ℕ };
+
+    ghost view = { λ d. take d.len (d.first ∷ (d.second ∷ [])) };
+
+    ghost invariant = { λ d. d.len ≤ 2 };
+}
+
+impl Digits {
+    /// Of a number below 100.
+    #[inline(always)]
+    pub(crate) fn of(number: u32) -> Digits
+        requires { number < 100 }
+        ensures { result ≡ decimal number }
+    {
+        let (tens, ones) = (b'0' + (number / 10) as u8, b'0' + (number % 10) as u8);
+        let (first, len) = if number < 10 { (ones, 1) } else { (tens, 2) };
+        Digits {
+            first,
+            second: ones,
+            len,
+        }
+    }
+
+    /// Puts them.
+    #[inline(always)]
+    pub(crate) fn put(&self, bytes: &mut [u8], end: usize) -> usize
+        requires { end + 2 ≤ length bytes.old }
+        ensures text { take result bytes.new ≡ take end bytes.old ++ self.now }
+        ensures end { result ≡ end + length self.now }
+        ensures within { result ≤ end + 2 }
+    {
+        bytes[end] = self.first;
+        bytes[end + 1] = self.second;
+        end + self.len
+    }
 }
 
 /// Puts the two last digits of a number.
@@ -56,19 +94,6 @@ fn put_pair(bytes: &mut [u8], end: usize, number: u32) -> usize
     put_byte(bytes, end, b'0' + (number % 10) as u8)
 }
 
-/// Puts a number below 100 in decimal. Two bytes are written in either case, since a branch on the number's length is often mispredicted.
-#[inline(always)]
-fn put_small(bytes: &mut [u8], end: usize, number: u32) -> usize
-    requires small { number < 100 }
-    requires room { end + 2 ≤ length bytes.old }
-    ensures text { take result bytes.new ≡ take end bytes.old ++ decimal number }
-    ensures end { result ≡ end + length (decimal number) }
-{
-    let (tens, ones) = (b'0' + (number / 10) as u8, b'0' + (number % 10) as u8);
-    let (first, len) = if number < 10 { (ones, 1) } else { (tens, 2) };
-    put_two(bytes, end, first, ones, len)
-}
-
 /// Puts a number of at least 100 in decimal.
 #[inline(never)]
 fn put_large(bytes: &mut [u8], end: usize, number: u32) -> usize
@@ -78,7 +103,7 @@ fn put_large(bytes: &mut [u8], end: usize, number: u32) -> usize
     ensures end { result ≡ end + length (decimal number) }
 {
     if number < 10_000 {
-        let end = put_small(bytes, end, number / 100);
+        let end = Digits::of(number / 100).put(bytes, end);
         return put_pair(bytes, end, number);
     }
     let end = put_large(bytes, end, number / 100);
@@ -93,25 +118,42 @@ pub(crate) fn put_number(bytes: &mut [u8], end: usize, number: u32) -> usize
     ensures end { result ≡ end + length (decimal number) }
 {
     if number < 100 {
-        return put_small(bytes, end, number);
+        return Digits::of(number).put(bytes, end);
     }
     put_large(bytes, end, number)
 }
 
-/// Puts the bytes of a text up to the first that does not stand for itself, and gives their number.
+/// How many of the bytes of a room, from the first on, stand for themselves, by two loads that overlap.
 #[inline(always)]
-pub(crate) fn put_plain(bytes: &mut [u8], end: usize, text: &[u8]) -> usize
-    requires { end + length text.now ≤ length bytes.old }
-    ensures within { result ≤ length text.now }
-    ensures text { take (end + result) bytes.new ≡ take end bytes.old ++ take result text.now }
-    ensures before { take end bytes.new ≡ take end bytes.old }
-    ensures plain { escaped (take result text.now) ≡ take result text.now }
+pub(crate) fn plain_front(room: &[u8; 14]) -> usize
+    ensures { PlainBetween room.now 0 result }
 {
-    for (count, &byte) in text.iter().enumerate() {
-        if !is_plain(byte) {
-            return count;
-        }
-        bytes[end + count] = byte;
+    let (front, back) = (plain_run(room, 0), plain_run(room, 6));
+    if front < 8 { front } else { 6 + back }
+}
+
+/// How many of the eight bytes from a place on stand for themselves, before one does not.
+#[inline(always)]
+fn plain_run(bytes: &[u8], at: usize) -> usize
+    requires { at + 8 ≤ length bytes.now }
+    ensures within { result ≤ 8 }
+    ensures plain { PlainBetween bytes.now at (at + result) }
+{
+    let lanes = u8x8::from_slice(&bytes[at..]);
+    let others = lanes.simd_lt(u8x8::splat(32))
+        | lanes.simd_ge(u8x8::splat(127))
+        | lanes.simd_eq(u8x8::splat(b'%'));
+    first_set(others.to_bitmask())
+}
+
+/// The place of the first bit of eight that is set, or 8.
+#[inline(always)]
+fn first_set(mask: u64) -> usize
+    ensures { result ≡ first_set mask }
+{
+    if mask == 0 {
+        8
+    } else {
+        mask.trailing_zeros() as usize
     }
-    text.len()
 }

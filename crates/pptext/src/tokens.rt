@@ -1,5 +1,5 @@
 // Places, preprocessing tokens and faults.
-ghost use Rattle.std.specs.Prelude.{◌≡◌, ◌≤◌, List, ℕ, IfOk, OnOk, length, take, [], ◌++◌, Some, None};
+ghost use Rattle.std.specs.Prelude.{◌≡◌, ◌≤◌, List, ℕ, IfOk, IfSome, OnOk, length, take, [], ◌++◌, Some, None};
 ghost use Rattle.pptext.specs.Spelt.{IsSpelt, spelt};
 ghost use Rattle.pptext.specs.Tokens.{is_identifier, is_name, is_punct, is_lone_quote, fault};
 
@@ -155,6 +155,16 @@ impl Spelling {
         match &self.bytes {
             Bytes::Short(len, room) => &room[..*len as usize],
             Bytes::Long(bytes) => bytes.as_slice(),
+        }
+    }
+
+    /// Where the bytes stand in the value itself, the room that they are the first of, and their number.
+    pub fn in_place(&self) -> Option<(&[u8; 14], usize)>
+        ensures { IfSome result (λ room. (room.1 ≤ 14) × (take room.1 room.0.now ≡ self.now)) }
+    {
+        match &self.bytes {
+            Bytes::Short(len, room) => Some((room, *len as usize)),
+            Bytes::Long(_) => None,
         }
     }
 }

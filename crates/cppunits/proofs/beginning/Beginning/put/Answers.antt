@@ -10,11 +10,8 @@ returns-clause-text c =
       c.put_byte-end-3.ensures.text,
       c.put_byte-end-2.ensures.text,
       c.put_byte-end.ensures.text,
-      c.put-end-2.ensures.text,
-      c.put-end.ensures.text,
+      c.put_places-end.ensures.text,
       c.put_front-end.ensures.text,
-      c.turn.ensures,
-      c.turn-2.ensures,
       c.letter.ensures,
       c.mark.ensures,
     )
