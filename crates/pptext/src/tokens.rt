@@ -1,5 +1,5 @@
 // Places, preprocessing tokens and faults.
-ghost use Rattle.std.specs.Prelude.{◌≡◌, ◌≤◌, List, ℕ, IfOk, IfSome, OnOk, length, take, [], ◌++◌, Some, None};
+ghost use Rattle.std.specs.Prelude.{◌≡◌, ◌<◌, ◌≤◌, List, ℕ, IfOk, IfSome, IfNone, OnOk, length, take, [], ◌++◌, Some, None};
 ghost use Rattle.pptext.specs.Spelt.{IsSpelt, spelt};
 ghost use Rattle.pptext.specs.Tokens.{is_identifier, is_name, is_punct, is_lone_quote, fault};
 
@@ -158,9 +158,10 @@ impl Spelling {
         }
     }
 
-    /// Where the bytes stand in the value itself, the room that they are the first of, and their number.
+    /// The room in the value itself where up to 14 bytes stand, the first so many of it. None: there are more, which stand elsewhere.
     pub fn in_place(&self) -> Option<(&[u8; 14], usize)>
-        ensures { IfSome result (λ room. (room.1 ≤ 14) × (take room.1 room.0.now ≡ self.now)) }
+        ensures some { IfSome result (λ room. (room.1 ≤ 14) × (take room.1 room.0.now ≡ self.now)) }
+        ensures none { IfNone result (14 < length self.now) }
     {
         match &self.bytes {
             Bytes::Short(len, room) => Some((room, *len as usize)),
@@ -332,6 +333,16 @@ mod tests {
         let token = tokens.into_vec().pop().ok_or("no token")?;
         assert!(rt; token.at == at);
         assert_spells(&rt, &token.text, b"ab")?;
+        Ok(())
+    }
+
+    #[test]
+    fn tells_where_its_bytes_stand(rt: HostRuntime) -> Result<(), Fail> {
+        let short = Spelling::from_slice(rt.alloc(), b"ab")?;
+        let (room, len) = short.in_place().ok_or("no room")?;
+        assert_eq!(rt; &room[..len], b"ab".as_slice());
+        let long = Spelling::from_slice(rt.alloc(), b"fifteen letters")?;
+        assert!(rt; long.in_place().is_none());
         Ok(())
     }
 
