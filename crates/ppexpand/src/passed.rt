@@ -10,7 +10,7 @@ use std::alloc::{AllocError, Global};
 use std::marker::Model;
 use std::mem;
 
-// So many tokens of a file take less room one by one than as a piece of their own.
+// So many tokens of a file pass one by one: a piece of their own would end the list of those before them, and the next list asks for memory again.
 const FEW: usize = 8;
 
 /// A stretch of a file, or tokens that passed one by one.
@@ -89,7 +89,8 @@ impl<'a> Passed<'a> {
     pub(crate) fn push(&mut self, hidden: Hidden<'a>) -> Result<(), AllocError>
         ensures { OnOk result (self.new ≡ self.old ++ hidden.entry ∷ []) }
     {
-        if self.singles.is_empty() {
+        // A list that begins with room for so many seldom moves.
+        if self.singles.capacity() == 0 {
             self.singles.reserve(FEW)?;
         }
         self.singles.push(hidden)?;

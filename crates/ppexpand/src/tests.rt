@@ -560,9 +560,10 @@ fn assert_parts(rt: &impl Abort, alloc: Global, text: &[u8], wanted: &[u8]) -> R
 #[test]
 fn passes_stretches_of_the_file(rt: HostRuntime) -> Result<(), Fail> {
     let alloc = rt.alloc();
-    let text = b"#define X 1 + 2\na b X c X";
-    assert_parts(&rt, alloc, text, b".a.b!1!+!2.c!1!+!2")?;
-    assert_parts(&rt, alloc, b"#define X 1 + 2\nX c", b"!1!+!2.c")
+    let text = b"#define X 1 + 2\na b X c d e f g h i j k X";
+    let parts = b".a.b!1!+!2.c.d.e.f.g.h.i.j.k!1!+!2";
+    assert_parts(&rt, alloc, text, parts)?;
+    assert_parts(&rt, alloc, b"#define X 1 + 2\nX c X", b"!1!+!2!c!1!+!2")
 }
 
 /// That what a text is expanded to has these spellings, one by one.
@@ -577,6 +578,12 @@ fn yields_tokens_one_by_one(rt: HostRuntime) -> Result<(), Fail> {
     let alloc = rt.alloc();
     let text = b"#define X 1 + 2\n#define J(a,b) a##b\na b X c X J(d,e)";
     assert_yields(&rt, alloc, text, b" a b 1 + 2 c 1 + 2 de")?;
+    assert_yields(
+        &rt,
+        alloc,
+        b"#define X 1\nX a b c d e f g h i",
+        b" 1 a b c d e f g h i",
+    )?;
     assert_yields(&rt, alloc, b"#define X 1 + 2\nX c", b" 1 + 2 c")?;
     assert_yields(&rt, alloc, b"#define X 1\na b", b" a b")?;
     assert_yields(&rt, alloc, b"#define X\nX", b"")

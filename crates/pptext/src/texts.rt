@@ -80,12 +80,12 @@ impl Cursor {
 
     /// Brings the cursor in front of this character.
     #[inline(always)]
-    fn seek(&mut self, raw: &[u8], breaks: &[u32], to: usize)
+    fn seek(&mut self, raw: &[u8], cleaned: &Option<Cleaned>, to: usize)
         requires small { length raw.now ≤ longest }
-        requires stands { Stands self.old.at.file raw.now breaks.now self.old }
+        requires stands { Stands self.old.at.file raw.now (breaks_of cleaned.now) self.old }
         requires forward { self.old.passed ≤ to }
         requires within { to < length (text_from self.old.at.file raw.now 0) }
-        ensures stands { Stands self.old.at.file raw.now breaks.now self.new }
+        ensures stands { Stands self.old.at.file raw.now (breaks_of cleaned.now) self.new }
         ensures passed { self.new.passed ≡ to }
         ensures file { self.new.at.file ≡ self.old.at.file }
         ensures place { (d : Char) → self.new.at ≡ (slice_index_or (text_from self.old.at.file raw.now 0) to d).at }
@@ -95,7 +95,7 @@ impl Cursor {
             *self = self.pass(raw, ahead);
             return;
         }
-        *self = self.walk(raw, breaks, to);
+        *self = self.walk(raw, breaks_of(cleaned), to);
     }
 
     /// The same for a character that may stand behind breaks.
@@ -222,7 +222,7 @@ impl<'a> Text<'a> {
         ensures place { (d : Char) → result ≡ (slice_index_or self.old.chars at d).at }
         ensures after { self.new ≡ record { chars = self.old.chars; passed = at } }
     {
-        self.cursor.seek(self.raw, breaks_of(&self.cleaned), at);
+        self.cursor.seek(self.raw, &self.cleaned, at);
         self.cursor.at
     }
 }
