@@ -416,6 +416,18 @@ mod tests {
         Ok(())
     }
 
+    // Up to 14 bytes stand in the value itself, and are the first of its room.
+    #[test]
+    fn tells_where_short_spellings_stand(rt: HostRuntime) -> Result<(), Fail> {
+        let alloc = rt.alloc();
+        let short = Spelling::from_slice(alloc, b"abc")?;
+        let (room, len) = short.in_place().ok_or("not in place")?;
+        assert_eq!(rt; &room[..len], b"abc".as_slice());
+        let long = Spelling::from_slice(alloc, b"abcdefghijklmno")?;
+        assert!(rt; long.in_place().is_none());
+        Ok(())
+    }
+
     #[test]
     fn keeps_long_spellings(rt: HostRuntime) -> Result<(), Fail> {
         let alloc = rt.alloc();

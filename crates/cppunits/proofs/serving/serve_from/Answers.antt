@@ -1,4 +1,4 @@
-use Rattle.std.proofs.Common.{◌∙◌, refl, ap, sym, length}
+use Rattle.std.proofs.Common.{◌∙◌, ap, sym, length}
 use Rattle.cppunits.specs.Needed.{needed}
 use Rattle.pppool.proofs.Placing.{if_ok_then}
 use Rattle.cppunits.proofs.Giving.{broken_off, came_of, can_run, few_units, gives_from, one_each, served}

@@ -1,4 +1,4 @@
-use Rattle.std.proofs.Common.{ℕ, leb, cond, refl, arith}
+use Rattle.std.proofs.Common.{ℕ, leb, cond, refl}
 use Rattle.std.proofs.lemmas.Simd.{zip2_splat, length-chunk}
 use lib.Lanes.{chunk}
 use Rattle.cppunits.proofs.Lanes.{itself, joined, splat_is, run_within, run_plain}

@@ -1,4 +1,4 @@
-use Rattle.std.proofs.Common.{refl, arith}
+use Rattle.std.proofs.Common.{refl}
 use Rattle.cppunits.proofs.beginning.Start.put_twice.Goals as goal
 
 pub returns-clause-text : goal.returns-clause-text
