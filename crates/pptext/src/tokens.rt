@@ -336,16 +336,6 @@ mod tests {
         Ok(())
     }
 
-    #[test]
-    fn tells_where_its_bytes_stand(rt: HostRuntime) -> Result<(), Fail> {
-        let short = Spelling::from_slice(rt.alloc(), b"ab")?;
-        let (room, len) = short.in_place().ok_or("no room")?;
-        assert_eq!(rt; &room[..len], b"ab".as_slice());
-        let long = Spelling::from_slice(rt.alloc(), b"fifteen letters")?;
-        assert!(rt; long.in_place().is_none());
-        Ok(())
-    }
-
     /// A token of this kind and spelling.
     fn word(alloc: Global, kind: Kind, text: &str) -> Result<Token, AllocError> {
         let mut word = token(
