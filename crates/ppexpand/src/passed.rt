@@ -11,7 +11,7 @@ use std::marker::Model;
 use std::mem;
 
 // So many tokens of a file pass one by one: a piece of their own would end the list of those before them, and the next list asks for memory again.
-const FEW: usize = 8;
+const FEW: usize = 4;
 
 /// A stretch of a file, or tokens that passed one by one.
 #[derive(Drop)]
@@ -89,10 +89,6 @@ impl<'a> Passed<'a> {
     pub(crate) fn push(&mut self, hidden: Hidden<'a>) -> Result<(), AllocError>
         ensures { OnOk result (self.new ≡ self.old ++ hidden.entry ∷ []) }
     {
-        // A list that begins with room for so many seldom moves.
-        if self.singles.capacity() == 0 {
-            self.singles.reserve(FEW)?;
-        }
         self.singles.push(hidden)?;
         Ok(())
     }
