@@ -9,7 +9,7 @@ pub returns-then-add_end : goal.returns-then-add_end
 returns-then-add_end g c =
     let before = before_spelling c.args.at c.args.used c.args.kind c.args.space in
     let page = c.add_end.ensures.added c.if-add_end.true in
-    puts_then c.make_room.ensures.out (puts_joined _ (codes "tok") before (escaped c.args.spelling.now) (10 ∷ []) (rw (c.add_beginning.ensures.text, c.in-Some.ensures.1) at page))
+    puts_then c.make_room.ensures.out (puts_joined _ (codes "tok") before (escaped c.args.spelling.now) (10 ∷ []) (rw (c.add_beginning.ensures.text, c.in-Some.ensures.some.1) at page))
 
 pub returns : goal.returns
 returns g c =
