@@ -70,7 +70,7 @@ ROWS = {
     "searched folders": (
         SEARCHED, [{"file": "src/a.c"}], ["inc"],
         "unit 0 src/a.c\ntok 1:1:1 1:1:1 n+ 1\ntok 2:1:1 2:1:1 n+ 2\ntok 2:1:1 2:1:1 n+ 2\ndep 0 src/a.c\ndep 1 src/x.h\ndep 2 inc/x.h\n"
-        "fault 31 0:4:1 y.h\n", 6,
+        "fault 31 0:4:1 y.h\n", 7,
     ),
 }
 
