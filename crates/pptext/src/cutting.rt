@@ -111,7 +111,7 @@ fn blank_len(text: &[u8]) -> usize
     text.len()
 }
 
-/// The same for a text that neither a new-line nor a blank begins.
+/// What begins a text that begins neither with a new-line nor with a blank, behind these tokens of its line.
 #[inline(never)]
 fn dark_piece_at(text: &[u8], line: &[Token], lone: &mut LoneQuotes) -> Found
     requires some { 0 < length text.now }
