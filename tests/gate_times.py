@@ -1,0 +1,145 @@
+#!/usr/bin/env python3
+"""Tells what the gate's time goes to: the proof of each crate, that of its tests, and its must-fail edits.
+
+    tests/gate_times.py [--watch FOLDER] [--dearest N] [--] [COMMAND ..]
+
+Runs COMMAND, by default `sh tests/all.sh` at the top of this repository, and looks once a second at the checks that run on this machine, each a
+process of `rattle`; so nothing else may check there meanwhile.  --watch FOLDER runs no command: it waits for a gate that runs in this folder
+already, from when it is called on.  What `rt ci` has kept is not done again, and so not told: `rt ci --anew` does all.
+
+Printed is, of each crate, by the clock from the start when its proof and that of its tests ended, in minutes; processor seconds of the proof,
+of the tests, of the check that the edits begin with, of all edits, and how many these were; the most memory that one check took, in GB; and
+of all crates the N dearest edits (10 by default), since an edit whose refusal takes the prover long can mostly be told in a form
+that takes less.
+
+status: that of the command
+"""
+import argparse
+import glob
+import os
+import re
+import subprocess
+import sys
+import time
+from dataclasses import dataclass
+
+TOP = os.path.dirname(os.path.dirname(os.path.abspath(__file__)))
+TICK = os.sysconf("SC_CLK_TCK")
+PAGE = os.sysconf("SC_PAGE_SIZE")
+KINDS = ("proof", "tests", "seed", "edit")
+
+
+@dataclass
+class Check:
+    """A check that was seen: of which crate and kind, the number of its edit, and what it took."""
+    crate: str
+    kind: str
+    number: int
+    seconds: float
+    memory: int
+    seen: float
+
+
+def read(process, name):
+    with open("/proc/%s/%s" % (process, name), "rb") as file:
+        return file.read()
+
+
+def kind_of(words):
+    """The kind of a check by its command line, and an edit's number; None of what is no check of a crate."""
+    if words[1] == "build":
+        return ("tests" if "--test" in words else "proof"), 0
+    over = words[words.index("--incremental") + 1] if "--incremental" in words else ""
+    found = re.search(r"/rt-edits-[^/]*/(seed|\d+)$", over)
+    if words[1] != "check" or not found:
+        return None
+    return ("seed", 0) if found[1] == "seed" else ("edit", int(found[1]))
+
+
+def look(process):
+    """The check that a process is, or None."""
+    words = read(process, "cmdline").decode(errors="replace").split("\0")
+    if os.path.basename(words[0]) != "rattle" or "--crate-name" not in words:
+        return None
+    kind = kind_of(words)
+    if not kind:
+        return None
+    fields = read(process, "stat").decode(errors="replace").rsplit(")", 1)[1].split()
+    memory = int(read(process, "statm").split()[1]) * PAGE
+    return Check(words[words.index("--crate-name") + 1], *kind, (int(fields[11]) + int(fields[12])) / TICK, memory, time.time())
+
+
+def watch(goes_on):
+    """The checks that are seen while the gate goes on."""
+    seen = {}
+    while goes_on():
+        for process in filter(str.isdigit, os.listdir("/proc")):
+            try:
+                check = look(process)
+            except (OSError, IndexError, ValueError):
+                # it has ended
+                continue
+            if check:
+                before = seen.get((process, check.crate, check.kind, check.number))
+                check.memory = max(check.memory, before.memory if before else 0)
+                seen[process, check.crate, check.kind, check.number] = check
+        time.sleep(1)
+    return list(seen.values())
+
+
+def edits_of(top, crate):
+    """The crate's edits in the order in which they are numbered."""
+    found = glob.glob(os.path.join(top, "crates", crate, "must-fail", "*.edit"))
+    return [os.path.basename(path)[:-len(".edit")] for path in sorted(found)]
+
+
+def report(top, checks, start, dearest):
+    print("crate      proved at  tests at   proof s  tests s   seed s  edits s  edits  most GB")
+    for crate in sorted({check.crate for check in checks}, key=lambda name: min(it.seen for it in checks if it.crate == name)):
+        own = [check for check in checks if check.crate == crate]
+        spent = {kind: sum(it.seconds for it in own if it.kind == kind) for kind in KINDS}
+        ends = {kind: max((it.seen - start for it in own if it.kind == kind), default=0) / 60 for kind in KINDS}
+        count = len({it.number for it in own if it.kind == "edit"})
+        most = max(it.memory for it in own) / 1e9
+        print("%-10s %9.1f %9.1f %9.0f %8.0f %8.0f %8.0f %6d %8.1f" % (
+            crate, ends["proof"], ends["tests"], spent["proof"], spent["tests"], spent["seed"], spent["edit"], count, most))
+    whole = sum(check.seconds for check in checks)
+    print("%.1f minutes by the clock, %.1f of the processors" % ((time.time() - start) / 60, whole / 60))
+    edits = sorted((it for it in checks if it.kind == "edit"), key=lambda it: -it.seconds)
+    for check in edits[:dearest]:
+        names = edits_of(top, check.crate)
+        print("%6.0f s  %s/%s" % (check.seconds, check.crate, names[check.number] if check.number < len(names) else check.number))
+
+
+def runs_in(top):
+    """Whether an `rt` runs in this folder."""
+    for process in filter(str.isdigit, os.listdir("/proc")):
+        try:
+            words = read(process, "cmdline").decode(errors="replace").split("\0")
+            if any(os.path.basename(word) == "rt" for word in words[:2]) and os.path.samefile("/proc/%s/cwd" % process, top):
+                return True
+        except OSError:
+            continue
+    return False
+
+
+def main():
+    parser = argparse.ArgumentParser(description=__doc__, formatter_class=argparse.RawDescriptionHelpFormatter)
+    parser.add_argument("--watch", metavar="FOLDER")
+    parser.add_argument("--dearest", metavar="N", type=int, default=10)
+    parser.add_argument("command", nargs="*", metavar="COMMAND")
+    asked = parser.parse_args()
+    start, top, status = time.time(), asked.watch or TOP, 0
+    if asked.watch:
+        checks = watch(lambda: runs_in(top))
+    else:
+        gate = subprocess.Popen(asked.command or ["sh", "tests/all.sh"], cwd=TOP)
+        checks = watch(lambda: gate.poll() is None)
+        status = gate.returncode
+    if checks:
+        report(top, checks, start, asked.dearest)
+    return status
+
+
+if __name__ == "__main__":
+    sys.exit(main())
