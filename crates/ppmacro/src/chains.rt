@@ -72,16 +72,18 @@ fn names_in(shape: &Shape) -> &[Spelling]
 }
 
 impl<'p> Parameters<'p> {
-    /// Those of a macro of this kind, which are hashed so where they are many.
+    /// Those of a macro of this kind, whose replacement list has so many tokens. They are hashed so where they are many and many
+    /// tokens are compared with them.
     pub(crate) fn new(
         alloc: Global,
         shape: &'p Shape,
+        compared: usize,
         hashing: Hashing,
     ) -> Result<Parameters<'p>, AllocError>
         ensures { IfOk result (λ p. p ≡ shape.now) }
     {
         let names = names_in(shape);
-        if names.len() <= FEW {
+        if names.len() <= FEW || compared <= FEW {
             return Ok(Parameters { shape, index: None });
         }
         let index = index_of_each(alloc, names, hashing)?;
@@ -277,6 +279,7 @@ pub(crate) fn chains_of<'a>(
 ) -> Result<Chains<'a>, AllocError>
     ensures { IfOk result (λ c. c ≡ chains_of definition.now) }
 {
-    let shape = Parameters::new(alloc, &definition.shape, hashing)?;
-    chains_in(alloc, &shape, definition.body.as_slice())
+    let body = definition.body.as_slice();
+    let shape = Parameters::new(alloc, &definition.shape, body.len(), hashing)?;
+    chains_in(alloc, &shape, body)
 }

@@ -1,18 +1,51 @@
 // Tokens in flight: with their hide sets, and without copies where they stand in a file.
 ghost use Rattle.std.specs.Prelude.{◌≡◌, IfOk, if◌then◌else◌};
 ghost use Rattle.ppmacro.specs.Flying.{placed, extended};
-ghost use Rattle.ppmacro.specs.Words.{word_token};
+ghost use Rattle.ppmacro.specs.Words.{word_token, word_mark};
 
 use crate::hide_sets::Set;
 use pptext::{Kind, Place, Spelling, Token};
 use std::alloc::{AllocError, Global};
 use std::marker::Model;
 
-/// A token of a file, or one that was made.
+/// A token of a file, or one that was made, and the mark that it has now. Beside the enum the mark would take a quarter more room.
 #[derive(Drop)]
 pub(crate) enum Word<'a> {
-    Shared(&'a Token),
-    Made(Box<Token>),
+    Shared { space: bool, token: &'a Token },
+    Made { space: bool, token: Box<Token> },
+}
+
+impl<'a> Word<'a> {
+    // The token, but for its mark.
+    fn token(&self) -> &Token
+        ensures { result.now ≡ word_token self.now }
+    {
+        match self {
+            Word::Shared { token, .. } => token,
+            Word::Made { token, .. } => token,
+        }
+    }
+
+    // Its mark.
+    fn space(&self) -> bool
+        ensures { result ≡ word_mark self.now }
+    {
+        match self {
+            Word::Shared { space, .. } => *space,
+            Word::Made { space, .. } => *space,
+        }
+    }
+
+    // Sets its mark.
+    fn mark(&mut self, mark: bool)
+        ensures token { word_token self.new ≡ word_token self.old }
+        ensures mark { word_mark self.new ≡ mark }
+    {
+        match self {
+            Word::Shared { space, .. } => *space = mark,
+            Word::Made { space, .. } => *space = mark,
+        }
+    }
 }
 
 /// A token with its hide set.
@@ -20,7 +53,6 @@ pub(crate) enum Word<'a> {
 pub struct Hidden<'a> {
     word: Word<'a>,
     used: Place,
-    space: bool,
     hide: Set,
 }
 
@@ -40,9 +72,9 @@ impl<'a> Model for Hidden<'a> {
 
     ghost Value = { InFlight };
 
-    ghost use Rattle.ppmacro.specs.Words.{word_token};
+    ghost use Rattle.ppmacro.specs.Words.{word_token, word_mark};
 
-    ghost view = { λ h. record { token = placed (word_token h.word) h.used h.space; hide = h.hide } };
+    ghost view = { λ h. record { token = placed (word_token h.word) h.used (word_mark h.word); hide = h.hide } };
 }
 
 impl<'a> Hidden<'a> {
@@ -51,9 +83,11 @@ impl<'a> Hidden<'a> {
         ensures { result ≡ record { token = token.now; hide = hide } }
     {
         Hidden {
-            word: Word::Shared(token),
+            word: Word::Shared {
+                space: token.space,
+                token,
+            },
             used: token.used,
-            space: token.space,
             hide,
         }
     }
@@ -65,9 +99,11 @@ impl<'a> Hidden<'a> {
         let used = token.used;
         let space = token.space;
         Ok(Hidden {
-            word: Word::Made(Box::new(alloc, token)?),
+            word: Word::Made {
+                space,
+                token: Box::new(alloc, token)?,
+            },
             used,
-            space,
             hide,
         })
     }
@@ -76,40 +112,28 @@ impl<'a> Hidden<'a> {
     pub fn word(&self) -> &Token
         ensures { self.now.token ≡ placed result.now self.now.token.used self.now.token.space }
     {
-        match &self.word {
-            Word::Shared(token) => token,
-            Word::Made(token) => token,
-        }
+        self.word.token()
     }
 
     /// The kind.
     pub fn kind(&self) -> Kind
         ensures { result ≡ self.now.token.kind }
     {
-        match &self.word {
-            Word::Shared(token) => token.kind,
-            Word::Made(token) => token.kind,
-        }
+        self.word.token().kind
     }
 
     /// The spelling.
     pub fn text(&self) -> &[u8]
         ensures { result.now ≡ self.now.token.text }
     {
-        match &self.word {
-            Word::Shared(token) => token.text.as_bytes(),
-            Word::Made(token) => token.text.as_bytes(),
-        }
+        self.word.token().text.as_bytes()
     }
 
     /// A copy of the spelling.
     pub fn spelling(&self) -> Result<Spelling, AllocError>
         ensures { IfOk result (λ s. s ≡ self.now.token.text) }
     {
-        match &self.word {
-            Word::Shared(token) => token.text.clone(),
-            Word::Made(token) => token.text.clone(),
-        }
+        self.word.token().text.clone()
     }
 
     /// A copy of the token.
@@ -119,7 +143,7 @@ impl<'a> Hidden<'a> {
         Ok(Token {
             kind: self.kind(),
             text: self.spelling()?,
-            space: self.space,
+            space: self.space(),
             at: self.at(),
             used: self.used,
         })
@@ -129,10 +153,7 @@ impl<'a> Hidden<'a> {
     pub fn at(&self) -> Place
         ensures { result ≡ self.now.token.at }
     {
-        match &self.word {
-            Word::Shared(token) => token.at,
-            Word::Made(token) => token.at,
-        }
+        self.word.token().at
     }
 
     /// Where it is used.
@@ -146,7 +167,7 @@ impl<'a> Hidden<'a> {
     pub fn space(&self) -> bool
         ensures { result ≡ self.now.token.space }
     {
-        self.space
+        self.word.space()
     }
 
     /// Its hide set.
@@ -161,8 +182,8 @@ impl<'a> Hidden<'a> {
         ensures { IfOk result (λ made. self.new ≡ (if made then extended self.old more.now else self.old)) }
     {
         match &mut self.word {
-            Word::Shared(_) => Ok(false),
-            Word::Made(token) => {
+            Word::Shared { .. } => Ok(false),
+            Word::Made { token, .. } => {
                 token.text.extend(alloc, more)?;
                 Ok(true)
             }
@@ -173,7 +194,7 @@ impl<'a> Hidden<'a> {
     pub fn mark(&mut self, space: bool)
         ensures { self.new ≡ record self.old { token = record self.old.token { space = space } } }
     {
-        self.space = space;
+        self.word.mark(space);
     }
 
     /// Sets its place of use and its hide set.
@@ -187,14 +208,20 @@ impl<'a> Hidden<'a> {
 
 impl<'a> Clone for Word<'a> {
     ghost use Rattle.std.specs.Prelude.{◌≡◌};
-    ghost use Rattle.ppmacro.specs.Words.{word_token};
+    ghost use Rattle.ppmacro.specs.Words.{word_token, word_mark};
 
-    ghost is_clone = { λ a b. word_token b ≡ word_token a };
+    ghost is_clone = { λ a b. (word_token b ≡ word_token a) × (word_mark b ≡ word_mark a) };
 
     fn clone(&self) -> Result<Word<'a>, AllocError> {
         match self {
-            Word::Shared(token) => Ok(Word::Shared(*token)),
-            Word::Made(token) => Ok(Word::Made(token.clone()?)),
+            Word::Shared { space, token } => Ok(Word::Shared {
+                space: *space,
+                token: *token,
+            }),
+            Word::Made { space, token } => Ok(Word::Made {
+                space: *space,
+                token: token.clone()?,
+            }),
         }
     }
 }
@@ -209,7 +236,6 @@ impl<'a> Clone for Hidden<'a> {
         Ok(Hidden {
             word,
             used: self.used,
-            space: self.space,
             hide: self.hide,
         })
     }

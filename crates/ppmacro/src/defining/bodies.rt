@@ -66,6 +66,6 @@ pub(crate) fn misplaces_hash(
 ) -> Result<bool, AllocError>
     ensures { IfOk result (λ r. r ≡ misplaces_hash shape.now body.now) }
 {
-    let parameters = Parameters::new(alloc, shape, hashing)?;
+    let parameters = Parameters::new(alloc, shape, body.len(), hashing)?;
     Ok(misplaces_hash_before(&parameters, body))
 }
