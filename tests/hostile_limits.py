@@ -139,6 +139,12 @@ class Options(Limits):
                 done = cppunits("%s=%s" % (option, bad), "dump", input=EMPTY)
                 self.assertEqual((done.returncode, done.stdout), (2, b""), (option, bad))
 
+    def test_help_and_version(self):
+        for option, said in ("--help", rb"Usage: "), ("-h", rb"Usage: "), ("--version", rb"\Acppunits \d+\.\d+\.\d+\n\Z"), ("-V", rb"\Acppunits \d"):
+            done = cppunits(option)
+            self.assertEqual((done.returncode, done.stderr), (0, b""), option)
+            self.assertRegex(done.stdout, said)
+
 
 if __name__ == "__main__":
     main()

@@ -41,6 +41,8 @@ const USAGE: u8 = 2;
 
 const MEMORY: u8 = 4;
 
+const VERSION: &str = "0.1.0";
+
 const ABOUT: &str = "Preprocesses the C11 translation units of the list on standard input";
 
 const ABOUT_DUMP: &str =
@@ -120,6 +122,7 @@ fn number(matches: &ArgMatches<'_>, option: &str, most: usize) -> usize
 
 fn command<'a>(alloc: Global) -> Result<Command<'a>, AllocError> {
     Command::new(alloc, "cppunits")
+        .version(VERSION)
         .about(ABOUT)
         .after_help(MORE)
         .arg(workers_option(alloc))?
