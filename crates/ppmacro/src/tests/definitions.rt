@@ -158,7 +158,7 @@ const REFUSED: &[(&str, &str, u8)] = &[
     ("#define f(a) # ## a ##", "f", 13),
     ("#define f(a) # b", "f", 14),
     (
-        "#define f(a,b,c,d,e,f,g,h,i,j,k,l,m,n,o,p,q,r) #r # z",
+        "#define f(a,b,c,d,e,f,g,h,i,j,k,l,m,n,o,p,q,r) a b c d e f g h i j k l m n #r # z",
         "f",
         14,
     ),

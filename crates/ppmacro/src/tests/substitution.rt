@@ -255,6 +255,11 @@ fn assert_refused<R: Abort>(
     assert_refuses(rt, alloc, line.as_slice(), texts.as_slice(), wanted)
 }
 
+/// More arguments than parameters are looked through one by one.
+const SEVENTEEN: &[&str] = &[
+    "1", "2", "3", "4", "5", "6", "7", "8", "9", "10", "11", "12", "13", "14", "15", "16", "17",
+];
+
 /// Macros, the arguments of an invocation, and what it is replaced by.
 const REPLACED: &[(&str, &[&str], &str)] = &[
     ("#define O (1-1)", &[], "(1-1)"),
@@ -297,6 +302,16 @@ const REPLACED: &[(&str, &[&str], &str)] = &[
         "#define l(x) x ## 0123456789 ## 0123456789 ## x",
         &["a"],
         "a01234567890123456789a",
+    ),
+    (
+        "#define pick(a,b,c,d,e,f,g,h,i,j,k,l,m,n,o,p,q) q a",
+        SEVENTEEN,
+        "17 1",
+    ),
+    (
+        "#define turned(a,b,c,d,e,f,g,h,i,j,k,l,m,n,o,p,q) q p o n m l k j i h g f e d c b a",
+        SEVENTEEN,
+        "17 16 15 14 13 12 11 10 9 8 7 6 5 4 3 2 1",
     ),
 ];
 
