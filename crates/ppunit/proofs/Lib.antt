@@ -28,6 +28,8 @@ pub mod Commands
 pub mod FirstLine
 -- What is behind a line follows from what is left: one step of a walk.
 pub mod Advancing
+-- A text run without tokens, as blank lines are: nothing comes of it.
+pub mod EmptyRuns
 -- A walk over a text run.
 pub mod TextRuns
 -- A walk from the end of a group to the end of its if-section.

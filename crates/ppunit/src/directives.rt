@@ -21,6 +21,10 @@ pub(crate) fn run_text<'x>(
 ) -> Result<(), Stop>
     ensures { IfSettled result (λ r. spec.RunGives state.old tokens.now (record { state = state.new; fault = result_err r })) }
 {
+    // Blank lines between directives are a run as well.
+    if tokens.is_empty() {
+        return Ok(());
+    }
     let expanded = expand(alloc, &state.macros, &state.env, state.left, tokens)?;
     state.left = expanded.left;
     state.items.extend(expanded.tokens)?;

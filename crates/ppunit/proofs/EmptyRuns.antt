@@ -1,0 +1,33 @@
+-- A text run without tokens, as blank lines are: nothing comes of it.
+use Rattle.std.proofs.Common.{◌≡◌, ℕ, List, [], ◌∷◌, length, nat_eq, Option, None, Some, refl, append-nil, sym, true, zero, suc, arith}
+use Rattle.std.proofs.lemmas.Bool.{eqb-true}
+use Rattle.pptext.specs.declared.tokens.Token.{Token}
+use Rattle.ppmacro.specs.Names.{Macros}
+use Rattle.ppexpand.specs.declared.env.Env.{Env}
+use Rattle.ppexpand.specs.Turn.{Done, turn}
+use Rattle.ppexpand.specs.Expansion.{ended, done, turn_within}
+use Rattle.ppunit.specs.States.{State}
+use Rattle.ppunit.specs.Directives.{RunGives}
+
+none_next : (macros : Macros) (env : Env) (left : Option ℕ) → turn_within macros env left [] ≡ Done
+unfolding turn
+none_next macros env None = refl
+none_next macros env (Some zero) = refl
+none_next macros env (Some (suc n)) = refl
+
+without_tokens : (s : State) → RunGives s [] (record { state = s; fault = None })
+without_tokens s = record {
+  expanded = record { tokens = []; fault = None; left = s.left };
+  expands = record {
+    outcome = ended s.left None;
+    expands = (0, done (none_next s.macros s.env s.left));
+    passed = refl;
+    ended = refl;
+    left_over = refl;
+  };
+  is = λ i. record { state = record s { items = sym (append-nil s.items) i }; fault = None };
+}
+
+pub empty_run : (s : State) (ts : List Token) → nat_eq (length ts) 0 ≡ true → RunGives s ts (record { state = s; fault = None })
+empty_run s [] h = without_tokens s
+empty_run s (t ∷ ts) h = absurd (omega (arith, eqb-true (suc (length ts)) 0 h))
