@@ -255,7 +255,7 @@ fn assert_refused<R: Abort>(
     assert_refuses(rt, alloc, line.as_slice(), texts.as_slice(), wanted)
 }
 
-/// More arguments than parameters are looked through one by one.
+/// Arguments of so many parameters that they have an index, where many tokens are compared with them.
 const SEVENTEEN: &[&str] = &[
     "1", "2", "3", "4", "5", "6", "7", "8", "9", "10", "11", "12", "13", "14", "15", "16", "17",
 ];
