@@ -124,7 +124,7 @@ between_begins : (test : ℕ → Bool) (open_code close_code n : ℕ) (text : Li
 between_begins test open_code close_code n text b t =
     begins_front test n text (subst (λ z. begins test z ≡ true) (sym (between open_code close_code (take n text) b).is) t)
 
-header_begins : (test : ℕ → Bool) → test 60 ≡ true → test 34 ≡ true → (text : List ℕ) (n : ℕ) → IsHeader (take n text) → begins test text ≡ true
+pub header_begins : (test : ℕ → Bool) → test 60 ≡ true → test 34 ≡ true → (text : List ℕ) (n : ℕ) → IsHeader (take n text) → begins test text ≡ true
 header_begins test p q text n (inl a) = between_begins test 60 62 n text a p
 header_begins test p q text n (inr b) = between_begins test 34 34 n text b q
 

@@ -1,5 +1,6 @@
 -- Where bytes stand, by the lines that end among them.
 use Rattle.std.proofs.Common.{◌≡◌, ℕ, zero, suc, ◌+◌, ◌<◌, ◌==◌, Bool, true, false, List, [], ◌∷◌, length, drop, get_or, if◌then◌else◌, refl, ap, ◌∙◌, arith}
+use Rattle.std.proofs.lemmas.Bool.Decides.{nat_tests}
 use Rattle.pptext.specs.declared.tokens.Place.{Place}
 use Rattle.pptext.specs.Clean.{newline, place, next_col}
 use Rattle.pptext.specs.Steps.{place_behind}
@@ -22,3 +23,9 @@ line_passed zero (b ∷ bs) p lt none ends = ap (λ (t : Bool). place_behind (if
 line_passed (suc n) (b ∷ bs) p lt none ends =
     ap (λ q. place_behind q bs) (along_byte (b == newline) p (none 0 (omega arith)))
     ∙ line_passed n bs (next_col p) (omega arith) (λ k below. none (suc k) (omega arith)) ends
+
+not_newline : (c : ℕ) → (c ≡ 10 → ⊥) → (c == newline) ≡ true → ⊥
+not_newline c none e = grind (arith, nat_tests)
+
+pub no_line_passed : (bs : List ℕ) (p : Place) → ((k : ℕ) → k < length bs → get_or bs k 0 ≡ 10 → ⊥) → place_behind p bs ≡ place p.file p.line (p.col + length bs)
+no_line_passed bs p none = along_line bs p (λ k lt. not_newline (get_or bs k 0) (none k lt))

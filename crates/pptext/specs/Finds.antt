@@ -1,5 +1,5 @@
 -- What begins a text, and what a text is cut into, as the scanner answers them. Only the contracts of private functions cite this.
-use Rattle.std.specs.Prelude.{◌≡◌, ℕ, ◌<◌, ◌≤◌, List, length, None, Result, Ok, Err, IsTrue, slice_index}
+use Rattle.std.specs.Prelude.{◌≡◌, ℕ, ◌<◌, ◌≤◌, List, length, None, Result, Ok, Err, IsTrue, slice_index, Bool, ◌||◌, ◌==◌}
 use Rattle.pptext.specs.declared.tokens.Token.{Token}
 use Rattle.pptext.specs.declared.sources.Line.{Line}
 use Rattle.pptext.specs.declared.sources.Profile.{Profile}
@@ -17,6 +17,10 @@ use Rattle.pptext.specs.Grouping.{AreDrafts}
 -- n white-space characters, each of which is a piece of its own
 abbrev pub AreBlanks : ℕ → List ℕ → Type 0
 AreBlanks n text = (k : ℕ) → k < n → IsTrue (is_blank (slice_index text k))
+
+-- `(`, `)`, `,`, `;`, `[`, `]`, `{` and `}`, with which nothing longer begins
+abbrev pub is_closed : ℕ → Bool
+is_closed c = c == 40 || (c == 41 || (c == 44 || (c == 59 || (c == 91 || (c == 93 || (c == 123 || c == 125))))))
 
 abbrev pub Finds : List (List ℕ) → List ℕ → Found → Type 0
 Finds line text found.NewLine = StandsAt line text 1 NewLine

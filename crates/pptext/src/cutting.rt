@@ -1,5 +1,5 @@
 // The text cut into lines of tokens.
-ghost use Rattle.std.specs.Prelude.{◌≡◌, ◌≢◌, ◌↔◌, ◌+◌, ◌<◌, ◌≤◌, ℕ, [], length, take, drop, IsTrue, slice_index, None, IfOk, IfSome, IfNone, false};
+ghost use Rattle.std.specs.Prelude.{◌≡◌, ◌≢◌, ◌↔◌, ◌+◌, ◌<◌, ◌≤◌, ℕ, List, [], ◌∷◌, ◌++◌, OnOk, length, take, drop, IsTrue, slice_index, None, IfOk, IfSome, IfNone, false};
 ghost use Rattle.pptext.specs.Spellings.{is_blank};
 ghost use Rattle.pptext.specs.Cut.{OpensBlock, OpensLine, CommentAt, ClosesAt};
 ghost use Rattle.pptext.specs.Lines.{token_of, line_of};
@@ -9,8 +9,9 @@ ghost use Rattle.pptext.specs.Finds.{Finds, CutsInto};
 ghost use Rattle.pptext.specs.Grouping.{draft};
 
 use crate::directives::directive_of;
-use crate::scanning::is_blank;
-use crate::scanning::literals::LoneQuotes;
+use crate::punctuators::is_closed;
+use crate::scanning::literals::{LoneQuotes, may_open_literal};
+use crate::scanning::{is_blank, is_nondigit, word_len};
 use crate::sources::{Line, Profile};
 use crate::texts::Text;
 use crate::tokenizing::token_at;
@@ -134,22 +135,44 @@ fn dark_piece_at(text: &[u8], line: &[Token], lone: &mut LoneQuotes) -> Found
     Found::Token(kind, n)
 }
 
-/// What begins the text behind these tokens of its line, where this much is known of its quotes.
+/// What begins the text, where its first byte tells it whatever stands in front: more than four fifths of all pieces, which
+/// aren't worth a call.
 #[inline(always)]
-fn piece_at(text: &[u8], line: &[Token], lone: &mut LoneQuotes) -> Found
+fn light_piece_at(text: &[u8]) -> Option<Found>
+    requires { 0 < length text.now }
+    ensures some { IfSome result (λ f. (line : List (List ℕ)) → Finds line text.now f) }
+    ensures no_newline { IfNone result (slice_index text.now 0 ≢ 10) }
+    ensures no_blank { IfNone result (is_blank (slice_index text.now 0) ≡ false) }
+{
+    let first = text[0];
+    if first == b'\n' {
+        return Some(Found::NewLine);
+    }
+    if is_blank(first) {
+        return Some(Found::Blank(blank_len(text)));
+    }
+    if is_closed(first) {
+        return Some(Found::Token(Kind::Punct, 1));
+    }
+    if is_nondigit(first) && !may_open_literal(first) {
+        return Some(Found::Token(Kind::Ident, word_len(text)));
+    }
+    None
+}
+
+/// What begins the text behind the tokens of its line, which begins at this one, where this much is known of its quotes.
+#[inline(always)]
+fn piece_at(text: &[u8], tokens: &[Token], start: usize, lone: &mut LoneQuotes) -> Found
     requires some { 0 < length text.now }
+    requires start { start ≤ length tokens.now }
     requires lone { KnowsLone text.now lone.old }
-    ensures finds { Finds (spelled line.now) text.now result }
+    ensures finds { Finds (spelled (drop start tokens.now)) text.now result }
     ensures lone { KnowsLone text.now lone.new }
 {
-    // More than a third of all pieces are new-lines and blanks, which aren't worth a call.
-    if text[0] == b'\n' {
-        return Found::NewLine;
+    match light_piece_at(text) {
+        Some(found) => found,
+        None => dark_piece_at(text, &tokens[start..], lone),
     }
-    if is_blank(text[0]) {
-        return Found::Blank(blank_len(text));
-    }
-    dark_piece_at(text, line, lone)
 }
 
 /// What begins the text behind these tokens of its line.
@@ -158,34 +181,64 @@ pub(crate) fn next_piece(text: &[u8], line: &[Token]) -> Found
     ensures { Finds (spelled line.now) text.now result }
 {
     let mut lone = LoneQuotes::unknown(text.len());
-    piece_at(text, line, &mut lone)
+    piece_at(text, line, 0, &mut lone)
 }
 
-/// The token of n characters at this place of the text.
-fn token_from(
+/// Puts the token of n characters at this place of the text behind the others.
+#[inline(always)]
+fn push_token(
     alloc: Global,
     text: &mut Text<'_>,
+    tokens: &mut Vec<Token>,
     at: usize,
     n: usize,
     kind: Kind,
     space: bool,
-) -> Result<Token, AllocError>
+) -> Result<(), AllocError>
     requires forward { text.old.passed ≤ at }
     requires some { 0 < n }
     requires fits { at + n ≤ length text.old.chars }
-    ensures token { IfOk result (λ t. t ≡ token_of kind space (take n (drop at text.old.chars))) }
+    ensures token { OnOk result (tokens.new.items ≡ tokens.old.items ++ token_of kind space (take n (drop at text.old.chars)) ∷ []) }
     ensures chars { text.new.chars ≡ text.old.chars }
     ensures passed { text.new.passed ≤ at }
 {
     let place = text.place(at);
-    let spelling = Spelling::front(alloc, &text.codes()[at..], n)?;
-    Ok(Token {
+    let front = &text.codes()[at..];
+    match Spelling::front_in_place(front, n) {
+        Some(spelling) => Ok(tokens.push(Token {
+            kind,
+            text: spelling,
+            space,
+            at: place,
+            used: place,
+        })?),
+        None => push_long_token(alloc, tokens, front, n, kind, space, place),
+    }
+}
+
+/// Puts the token that the first n bytes of the text spell behind the others, as seldom: a long one, or one near the end.
+#[inline(never)]
+fn push_long_token(
+    alloc: Global,
+    tokens: &mut Vec<Token>,
+    text: &[u8],
+    n: usize,
+    kind: Kind,
+    space: bool,
+    place: Place,
+) -> Result<(), AllocError>
+    requires { n ≤ length text.now }
+    ensures { OnOk result (tokens.new.items ≡ tokens.old.items ++ record { text = take n text.now; at = place; used = place; kind = kind; space = space } ∷ []) }
+{
+    let text = Spelling::front(alloc, text, n)?;
+    tokens.push(Token {
         kind,
-        text: spelling,
+        text,
         space,
         at: place,
         used: place,
-    })
+    })?;
+    Ok(())
 }
 
 /// The line of the tokens from this start on, without its next branch line.
@@ -221,7 +274,7 @@ pub(crate) fn cut_lines(
     let codes = text.codes();
     let mut lone = LoneQuotes::unknown(codes.len());
     while at < text.codes().len() {
-        match piece_at(&text.codes()[at..], &tokens[start..], &mut lone) {
+        match piece_at(&text.codes()[at..], tokens, start, &mut lone) {
             Found::NewLine => {
                 let number = text.place(at).line;
                 lines.push(draft_line(profile, tokens, start, number))?;
@@ -241,7 +294,7 @@ pub(crate) fn cut_lines(
                 return Err(CutFault::Unclosed(text.place(at)));
             }
             Found::Token(kind, n) => {
-                tokens.push(token_from(alloc, text, at, n, kind, space)?)?;
+                push_token(alloc, text, tokens, at, n, kind, space)?;
                 at += n;
                 space = false;
             }

@@ -1,5 +1,5 @@
 // Bytes, universal character names and identifiers: what begins a text, by its length.
-ghost use Rattle.std.specs.Prelude.{◌≡◌, ◌↔◌, ◌⊎◌, [], ◌∷◌, ◌||◌, ◌<◌, ◌≤◌, length, take, IsTrue};
+ghost use Rattle.std.specs.Prelude.{◌≡◌, ◌↔◌, ◌⊎◌, [], ◌∷◌, ◌||◌, ◌<◌, ◌≤◌, length, take, slice_index, IsTrue};
 ghost use Rattle.std.specs.List.{AllPass};
 ghost use Rattle.pptext.specs.Languages.{OnlyPart, LongestOrNone, Longest, Repeated, One, Either};
 ghost use Rattle.pptext.specs.Cut.{BeginsWith};
@@ -25,7 +25,7 @@ fn is_hex(c: u8) -> bool
 }
 
 /// Whether a letter, `_`, `$` or a byte from 128 up.
-fn is_nondigit(c: u8) -> bool
+pub(crate) fn is_nondigit(c: u8) -> bool
     ensures { result ≡ is_nondigit c }
 {
     b'A' <= c && c <= b'Z' || b'a' <= c && c <= b'z' || c == b'_' || c == b'$' || c >= 128
@@ -59,6 +59,7 @@ fn universal_digits(text: &[u8]) -> usize
 }
 
 /// The length of a universal character name that begins the text, or 0.
+#[inline(never)]
 fn universal_len(text: &[u8]) -> usize
     ensures { OnlyPart IsUniversal text.now result }
 {
@@ -100,6 +101,7 @@ fn is_ident_byte(c: u8) -> bool
 }
 
 /// The length of the nondigits and digits that begin the text.
+#[inline(always)]
 fn ident_rest_len(text: &[u8]) -> usize
     ensures fits { result ≤ length text.now }
     ensures longest { Longest (Repeated (Either IsNondigit (One is_digit))) text.now result }
@@ -110,6 +112,9 @@ fn ident_rest_len(text: &[u8]) -> usize
             at += 1;
             continue;
         }
+        if text[at] != b'\\' {
+            return at;
+        }
         let n = universal_len(&text[at..]);
         if n == 0 {
             return at;
@@ -117,6 +122,17 @@ fn ident_rest_len(text: &[u8]) -> usize
         at += n;
     }
     at
+}
+
+/// The length of the longest identifier that begins the text, whose first byte is a nondigit (6.4.2).
+#[inline(always)]
+pub(crate) fn word_len(text: &[u8]) -> usize
+    requires some { 0 < length text.now }
+    requires nondigit { IsTrue (is_nondigit (slice_index text.now 0)) }
+    ensures some { 0 < result }
+    ensures longest { Longest IsIdent text.now result }
+{
+    1 + ident_rest_len(&text[1..])
 }
 
 /// The length of the longest identifier that begins the text (6.4.2), or 0.

@@ -5,7 +5,7 @@ ghost use Rattle.pptext.specs.Steps.{place_behind};
 ghost use Rattle.pptext.specs.Texts.{MadeOf, Stands, breaks_of, text_from};
 ghost use Rattle.pptext.specs.declared.characters.Char.{Char};
 
-use crate::characters::places::place_behind;
+use crate::characters::places::{move_behind, place_behind};
 use crate::characters::steps::{Step, has_open_end, next_step};
 use crate::tokens::Place;
 use std::marker::Model;
@@ -32,25 +32,22 @@ pub(crate) struct Cursor {
 }
 
 impl Cursor {
-    /// The cursor behind so many of the bytes in front of the next break.
+    /// Passes so many of the bytes in front of the next break.
     #[inline(always)]
-    fn pass(self, raw: &[u8], len: usize) -> Cursor
+    fn pass(&mut self, raw: &[u8], len: usize)
         requires small { length raw.now ≤ longest }
-        requires fits { self.offset + len ≤ length raw.now }
-        requires plain { len ≤ self.plain }
-        requires counts { self.passed + len < 2 ^ 64 }
-        requires line { self.at.line ≤ self.offset + 1 }
-        requires col { self.at.col ≤ self.offset + 1 }
-        ensures { result ≡ record { passed = self.passed + len; offset = self.offset + len; plain = self.plain - len; next = self.next; at = place_behind self.at (take len (drop self.offset raw.now)) } }
+        requires fits { self.old.offset + len ≤ length raw.now }
+        requires plain { len ≤ self.old.plain }
+        requires counts { self.old.passed + len < 2 ^ 64 }
+        requires line { self.old.at.line ≤ self.old.offset + 1 }
+        requires col { self.old.at.col ≤ self.old.offset + 1 }
+        ensures { self.new ≡ record { passed = self.old.passed + len; offset = self.old.offset + len; plain = self.old.plain - len; next = self.old.next; at = place_behind self.old.at (take len (drop self.old.offset raw.now)) } }
     {
         let offset = self.offset + len;
-        Cursor {
-            passed: self.passed + len,
-            offset,
-            plain: self.plain - len,
-            next: self.next,
-            at: place_behind(self.at, &raw[self.offset..offset]),
-        }
+        move_behind(&mut self.at, &raw[self.offset..offset]);
+        self.passed += len;
+        self.offset = offset;
+        self.plain -= len;
     }
 
     /// The cursor behind a break of this length.
@@ -92,15 +89,29 @@ impl Cursor {
     {
         let ahead = to - self.passed;
         if ahead < self.plain {
-            *self = self.pass(raw, ahead);
+            self.pass(raw, ahead);
             return;
         }
-        *self = self.walk(raw, breaks_of(cleaned), to);
+        self.walk(raw, breaks_of(cleaned), to);
     }
 
     /// The same for a character that may stand behind breaks.
     #[inline(never)]
-    fn walk(self, raw: &[u8], breaks: &[u32], to: usize) -> Cursor
+    fn walk(&mut self, raw: &[u8], breaks: &[u32], to: usize)
+        requires small { length raw.now ≤ longest }
+        requires stands { Stands self.old.at.file raw.now breaks.now self.old }
+        requires forward { self.old.passed ≤ to }
+        requires within { to < length (text_from self.old.at.file raw.now 0) }
+        ensures stands { Stands self.old.at.file raw.now breaks.now self.new }
+        ensures passed { self.new.passed ≡ to }
+        ensures file { self.new.at.file ≡ self.old.at.file }
+        ensures place { (d : Char) → self.new.at ≡ (slice_index_or (text_from self.old.at.file raw.now 0) to d).at }
+    {
+        *self = self.walked(raw, breaks, to);
+    }
+
+    /// The cursor in front of a character that may stand behind breaks.
+    fn walked(self, raw: &[u8], breaks: &[u32], to: usize) -> Cursor
         requires small { length raw.now ≤ longest }
         requires stands { Stands self.at.file raw.now breaks.now self }
         requires forward { self.passed ≤ to }
@@ -115,10 +126,12 @@ impl Cursor {
         while cursor.offset < raw.len() {
             let ahead = to - cursor.passed;
             if ahead < cursor.plain {
-                return cursor.pass(raw, ahead);
+                cursor.pass(raw, ahead);
+                return cursor;
             }
             if cursor.plain > 0 {
-                cursor = cursor.pass(raw, cursor.plain);
+                let plain = cursor.plain;
+                cursor.pass(raw, plain);
                 continue;
             }
             match next_step(&raw[cursor.offset..], supplied) {
@@ -216,6 +229,7 @@ impl<'a> Text<'a> {
     }
 
     /// The place of a character, which stands no further in front than the one asked for before.
+    #[inline(always)]
     pub(crate) fn place(&mut self, at: usize) -> Place
         requires within { at < length self.old.chars }
         requires forward { self.old.passed ≤ at }

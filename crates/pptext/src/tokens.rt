@@ -118,20 +118,32 @@ impl Spelling {
         Spelling::new(Vec::from_slice(alloc, bytes)?)
     }
 
+    /// A spelling of a copy of the first n bytes of a text, where they stand in the value itself and the text fills its room.
+    #[inline(always)]
+    pub(crate) fn front_in_place(text: &[u8], n: usize) -> Option<Spelling>
+        requires { n ≤ length text.now }
+        ensures { IfSome result (λ s. s ≡ take n text.now) }
+    {
+        if n > SHORT || text.len() < SHORT {
+            return None;
+        }
+        // Bytes behind the spelling are copied too, since a copy of one length is quicker than one of many.
+        let mut room = [0; SHORT];
+        room.copy_from_slice(&text[..SHORT]);
+        Some(Self {
+            bytes: Bytes::Short(n as u8, room),
+        })
+    }
+
     /// A spelling of a copy of the first n bytes of a text.
     pub(crate) fn front(alloc: Global, text: &[u8], n: usize) -> Result<Spelling, AllocError>
         requires { n ≤ length text.now }
         ensures { IfOk result (λ s. s ≡ take n text.now) }
     {
-        // Bytes behind the spelling are copied too, since a copy of one length is quicker than one of many.
-        if n <= SHORT && text.len() >= SHORT {
-            let mut room = [0; SHORT];
-            room.copy_from_slice(&text[..SHORT]);
-            return Ok(Self {
-                bytes: Bytes::Short(n as u8, room),
-            });
+        match Spelling::front_in_place(text, n) {
+            Some(spelling) => Ok(spelling),
+            None => Spelling::from_slice(alloc, &text[..n]),
         }
-        Spelling::from_slice(alloc, &text[..n])
     }
 
     /// Puts bytes behind the others. Bytes of its own are moved seldom while they grow.

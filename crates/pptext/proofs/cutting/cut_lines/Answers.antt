@@ -1,7 +1,8 @@
-use Rattle.std.proofs.Common.{List, length, drop, take, get_or, ◌∙◌, ap, refl, arith}
+use Rattle.std.proofs.Common.{List, [], ◌∷◌, ◌++◌, length, drop, take, get_or, ◌∙◌, ap, refl, arith}
 use Rattle.std.proofs.lemmas.List.{take_rest, length-drop, get_or-drop}
 use Rattle.pptext.specs.declared.characters.Char.{Char}
 use Rattle.pptext.specs.declared.tokens.Place.{Place}
+use Rattle.pptext.specs.declared.tokens.Token.{Token}
 use Rattle.pptext.specs.Clean.{place, codes_of}
 use Rattle.pptext.specs.Lone.{KnowsLone}
 use Rattle.pptext.proofs.LoneQuotes.{knows_later, knows_nothing}
@@ -77,14 +78,15 @@ loop-at-preserved c =
     let chars = c.args.text.now.chars in
     let same = c.codes-in-loop-at.ensures ∙ ap codes_of c.loop-at.invariant.same in
     let found = simp (take_rest, c.deref.ensures.value, same) at c.in-Token.ensures.finds in
-    let token = c.in_ok-token_from-in-Token.ensures.token ∙ ap (λ (z : List Char). token_of c.in-Token.kind c.loop-at.space (take c.in-Token.n (drop c.loop-at.at z))) c.loop-at.invariant.same in
     let known : KnowsLone (drop c.loop-at.at (codes_of chars)) c.piece_at.new.lone = simp (take_rest, same) at c.piece_at.ensures.lone in
+    let told : List Char → Token = λ z. token_of c.in-Token.kind c.loop-at.space (take c.in-Token.n (drop c.loop-at.at z)) in
+    let tokens = c.in_ok-push_token-in-Token.ensures.token ∙ ap (λ (z : List Char). c.loop-at.tokens.items ++ told z ∷ []) c.loop-at.invariant.same in
     record {
-      same = c.token_from.ensures.chars ∙ c.loop-at.invariant.same;
-      passed = omega (arith, c.token_from.ensures.passed);
-      state = rw c.in_ok-push-in-Token.ensures.items
+      same = c.push_token.ensures.chars ∙ c.loop-at.invariant.same;
+      passed = omega (arith, c.push_token.ensures.passed);
+      state = rw tokens
           (add_token c.args.profile chars c.loop-at.at c.loop-at.start c.in-Token.n c.loop-at.space c.loop-at.tokens.items c.loop-at.lines.items c.in-Token.kind
-          c.in_ok-token_from-in-Token.field-0 c.loop-at.invariant.state token found.0 found.2);
+          (told chars) c.loop-at.invariant.state refl found.0 found.2);
       lone = knows_later (codes_of chars) c.loop-at.at c.in-Token.n c.piece_at.new.lone known;
     }
 

@@ -1,7 +1,8 @@
-use Rattle.std.proofs.Common.{ℕ, drop, sym, ◌∙◌, ap, ◌||◌, Bool}
+use Rattle.std.proofs.Common.{ℕ, drop, sym, ◌∙◌, ap, ◌||◌, Bool, refl}
 use Rattle.std.proofs.lemmas.List.{take_rest}
 use Rattle.pptext.specs.Languages.{OnlyPart}
 use Rattle.pptext.specs.Spellings.{IsUniversal, is_nondigit, is_digit}
+use Rattle.pptext.proofs.Fronts.{only_zero, universal_lacks}
 use Rattle.pptext.proofs.Idents.{IdentPart, ident_byte, ident_universal, ident_end}
 use Rattle.pptext.proofs.Combine.{completed, completed_next, completed_all, head_at, room_at, end_at}
 use Rattle.pptext.proofs.scanning.ident_rest_len.Goals as goal
@@ -16,6 +17,14 @@ loop-at-preserved-then-is_ident_byte c =
     let next = ident_byte (drop at text) (room_at text at c.loop-at-test.true) (ap ident_byte_test (head_at text at) ∙ (sym c.is_ident_byte.ensures ∙ c.if-is_ident_byte.true)) in
     let done = completed IdentPart text at 1 c.loop-at.invariant.within c.loop-at.invariant.completes next in
     record { within = done.0; completes = done.1 }
+
+pub returns-then-text-at-ne92-clause-longest : goal.returns-then-text-at-ne92-clause-longest
+returns-then-text-at-ne92-clause-longest c =
+    let text = c.args.text.now in
+    let at = c.loop-at.at in
+    let p : OnlyPart IsUniversal (drop at text) 0 = only_zero IsUniversal (drop at text) (universal_lacks (drop at text) (λ e. c.if-text-at-ne92.true (sym (head_at text at) ∙ e))) in
+    let next = ident_universal (drop at text) 0 (ap ident_byte_test (head_at text at) ∙ (sym c.is_ident_byte.ensures ∙ c.if-is_ident_byte.false)) p in
+    completed_all IdentPart text at c.loop-at.invariant.completes (next.0 refl)
 
 pub returns-then-n-eq0-clause-longest : goal.returns-then-n-eq0-clause-longest
 returns-then-n-eq0-clause-longest c =

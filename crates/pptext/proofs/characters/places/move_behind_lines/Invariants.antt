@@ -1,14 +1,14 @@
 use Rattle.std.proofs.Common.{◌≡◌, ◌+◌, ◌-◌, ◌≤◌, length, drop}
 use Rattle.pptext.specs.Clean.{place}
 use Rattle.pptext.specs.Steps.{place_behind}
-use Rattle.pptext.proofs.characters.places.place_behind_lines.Given as goal
+use Rattle.pptext.proofs.characters.places.move_behind_lines.Given as goal
 
 abbrev pub invariant-loop-len : goal.invariant-loop-len
 invariant-loop-len l = record {
   within : l.from ≤ length l.bytes;
-  sofar : place_behind (place l.start.file l.line l.col) (drop l.from l.bytes) ≡ place_behind l.start l.bytes;
-  lines : l.line ≤ l.start.line + l.from;
-  cols : l.col ≤ l.start.col + l.from;
+  sofar : place_behind (place l.fn.place.file l.line l.col) (drop l.from l.bytes) ≡ place_behind l.fn.place l.bytes;
+  lines : l.line ≤ l.fn.place.line + l.from;
+  cols : l.col ≤ l.fn.place.col + l.from;
 }
 
 abbrev pub decreases-loop-len : goal.decreases-loop-len

@@ -6,13 +6,13 @@ use Rattle.pptext.specs.Steps.{open_end, step_of}
 use Rattle.pptext.specs.Texts.{Stands, text_from}
 use Rattle.pptext.proofs.Copies.{code_at, removed_at}
 use Rattle.pptext.proofs.Cursors.{arrives, bounds, pass_code, pass_plain, skip_removed, stands_at_code, stands_at_plain, stands_at_end}
-use Rattle.pptext.proofs.texts.Cursor.walk.Goals as goal
+use Rattle.pptext.proofs.texts.Cursor.walked.Goals as goal
 
-pub pass-cursor-requires-clause-line : goal.pass-cursor-requires-clause-line
-pass-cursor-requires-clause-line c = (bounds c.args.self.at.file c.args.raw.now c.args.breaks.now c.loop-cursor.cursor c.loop-cursor.invariant.stands).line
+pub pass-requires-then-cursor-gt0-clause-line : goal.pass-requires-then-cursor-gt0-clause-line
+pass-requires-then-cursor-gt0-clause-line c = (bounds c.args.self.at.file c.args.raw.now c.args.breaks.now c.loop-cursor.cursor c.loop-cursor.invariant.stands).line
 
-pub pass-cursor-requires-clause-col : goal.pass-cursor-requires-clause-col
-pass-cursor-requires-clause-col c = (bounds c.args.self.at.file c.args.raw.now c.args.breaks.now c.loop-cursor.cursor c.loop-cursor.invariant.stands).col
+pub pass-requires-then-cursor-gt0-clause-col : goal.pass-requires-then-cursor-gt0-clause-col
+pass-requires-then-cursor-gt0-clause-col c = (bounds c.args.self.at.file c.args.raw.now c.args.breaks.now c.loop-cursor.cursor c.loop-cursor.invariant.stands).col
 
 pub skip-cursor-requires-clause-line : goal.skip-cursor-requires-clause-line
 skip-cursor-requires-clause-line c = (bounds c.args.self.at.file c.args.raw.now c.args.breaks.now c.loop-cursor.cursor c.loop-cursor.invariant.stands).line
@@ -52,31 +52,31 @@ skip-cursor-requires-in-Code-clause-fits c =
 
 pub returns-then-ahead-cursor-clause-stands : goal.returns-then-ahead-cursor-clause-stands
 returns-then-ahead-cursor-clause-stands c =
-    (arrives c.args.self.at.file c.args.raw.now c.args.breaks.now c.loop-cursor.cursor c.pass.result c.args.to c.loop-cursor.invariant.stands c.loop-cursor.invariant.forward c.if-ahead-cursor.true c.pass.ensures).0
+    (arrives c.args.self.at.file c.args.raw.now c.args.breaks.now c.loop-cursor.cursor c.pass.new.self c.args.to c.loop-cursor.invariant.stands c.loop-cursor.invariant.forward c.if-ahead-cursor.true c.pass.ensures).0
 
 pub returns-then-ahead-cursor-clause-passed : goal.returns-then-ahead-cursor-clause-passed
 returns-then-ahead-cursor-clause-passed c =
-    (arrives c.args.self.at.file c.args.raw.now c.args.breaks.now c.loop-cursor.cursor c.pass.result c.args.to c.loop-cursor.invariant.stands c.loop-cursor.invariant.forward c.if-ahead-cursor.true c.pass.ensures).2
+    (arrives c.args.self.at.file c.args.raw.now c.args.breaks.now c.loop-cursor.cursor c.pass.new.self c.args.to c.loop-cursor.invariant.stands c.loop-cursor.invariant.forward c.if-ahead-cursor.true c.pass.ensures).2
 
 pub returns-then-ahead-cursor-clause-file : goal.returns-then-ahead-cursor-clause-file
 returns-then-ahead-cursor-clause-file c =
-    let there = arrives c.args.self.at.file c.args.raw.now c.args.breaks.now c.loop-cursor.cursor c.pass.result c.args.to c.loop-cursor.invariant.stands c.loop-cursor.invariant.forward c.if-ahead-cursor.true c.pass.ensures in
-    (bounds c.args.self.at.file c.args.raw.now c.args.breaks.now c.pass.result there.0).same_file
+    let there = arrives c.args.self.at.file c.args.raw.now c.args.breaks.now c.loop-cursor.cursor c.pass.new.self c.args.to c.loop-cursor.invariant.stands c.loop-cursor.invariant.forward c.if-ahead-cursor.true c.pass.ensures in
+    (bounds c.args.self.at.file c.args.raw.now c.args.breaks.now c.pass.new.self there.0).same_file
 
 pub returns-then-ahead-cursor-clause-place : goal.returns-then-ahead-cursor-clause-place
 returns-then-ahead-cursor-clause-place c =
-    let there = arrives c.args.self.at.file c.args.raw.now c.args.breaks.now c.loop-cursor.cursor c.pass.result c.args.to c.loop-cursor.invariant.stands c.loop-cursor.invariant.forward c.if-ahead-cursor.true c.pass.ensures in
-    λ d. stands_at_plain c.args.self.at.file c.args.raw.now c.args.breaks.now c.pass.result d there.0 there.1 ∙ ap (λ k. (get_or (text_from c.args.self.at.file c.args.raw.now 0) k d).at) there.2
+    let there = arrives c.args.self.at.file c.args.raw.now c.args.breaks.now c.loop-cursor.cursor c.pass.new.self c.args.to c.loop-cursor.invariant.stands c.loop-cursor.invariant.forward c.if-ahead-cursor.true c.pass.ensures in
+    λ d. stands_at_plain c.args.self.at.file c.args.raw.now c.args.breaks.now c.pass.new.self d there.0 there.1 ∙ ap (λ k. (get_or (text_from c.args.self.at.file c.args.raw.now 0) k d).at) there.2
 
 pub loop-cursor-preserved-then-cursor-gt0 : goal.loop-cursor-preserved-then-cursor-gt0
 loop-cursor-preserved-then-cursor-gt0 c =
     let raw = c.args.raw.now in
     let cursor = c.loop-cursor.cursor in
     let s = pass_plain c.args.self.at.file raw c.args.breaks.now cursor cursor.plain c.loop-cursor.invariant.stands (omega arith) in
-    let passed : c.pass-cursor.result.passed ≡ cursor.passed + cursor.plain = ap (λ (x : Cursor). x.passed) c.pass-cursor.ensures in
+    let passed : c.pass-then-cursor-gt0.new.self.passed ≡ cursor.passed + cursor.plain = ap (λ (x : Cursor). x.passed) c.pass-then-cursor-gt0.ensures in
     record {
       forward = omega (arith, c.if-ahead-cursor.false, c.loop-cursor.invariant.forward);
-      stands = subst (Stands c.args.self.at.file raw c.args.breaks.now) (sym c.pass-cursor.ensures) s.1;
+      stands = subst (Stands c.args.self.at.file raw c.args.breaks.now) (sym c.pass-then-cursor-gt0.ensures) s.1;
     }
 
 pub loop-cursor-smaller-in-Removed : goal.loop-cursor-smaller-in-Removed

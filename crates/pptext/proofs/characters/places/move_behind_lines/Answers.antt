@@ -4,7 +4,7 @@ use Rattle.pptext.specs.declared.tokens.Place.{Place}
 use Rattle.pptext.specs.Clean.{place}
 use Rattle.pptext.specs.Steps.{place_behind}
 use Rattle.pptext.proofs.PlaceLines.{along_line, line_passed}
-use Rattle.pptext.proofs.characters.places.place_behind_lines.Goals as goal
+use Rattle.pptext.proofs.characters.places.move_behind_lines.Goals as goal
 
 pub loop-len-preserved : goal.loop-len-preserved
 loop-len-preserved c =
@@ -13,8 +13,8 @@ loop-len-preserved c =
     let n = c.in-Some.len in
     let l = length-drop from bytes in
     let found = simp take_rest at c.in-Some.ensures in
-    let at : Place = place c.args.start.file c.loop-len.line c.loop-len.col in
-    let next : Place = place c.args.start.file (c.loop-len.line + 1) 1 in
+    let at : Place = place c.args.place.now.file c.loop-len.line c.loop-len.col in
+    let next : Place = place c.args.place.now.file (c.loop-len.line + 1) 1 in
     let lt : n < length (drop from bytes) = found.0.high in
     record {
       within = omega arith;
@@ -32,7 +32,7 @@ returns c =
     let from = c.loop-len.from in
     let l = length-drop from bytes in
     let none = simp take_rest at c.in_default.ensures in
-    let at : Place = place c.args.start.file c.loop-len.line c.loop-len.col in
-    ap (place c.args.start.file c.loop-len.line) (omega arith)
+    let at : Place = place c.args.place.now.file c.loop-len.line c.loop-len.col in
+    ap (place c.args.place.now.file c.loop-len.line) (omega arith)
     ∙ sym (along_line (drop from bytes) at (λ k below. none k (omega arith) below))
     ∙ c.loop-len.invariant.sofar
