@@ -28,6 +28,8 @@ pub mod Nested
 pub mod Shallow
 -- A condition in which nothing is replaced is the condition of the symbols that its tokens stand for.
 pub mod Unreplaced
+-- The truth of a list that asks for definitions alone.
+pub mod Truths
 -- A condition has at most one answer.
 pub mod OneCondition
 -- A condition has an answer.

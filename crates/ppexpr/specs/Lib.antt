@@ -16,4 +16,5 @@ pub mod Tokens
 pub mod Nesting
 pub mod Direct
 pub mod Conditions
+pub mod Definitions
 pub mod Standard

@@ -7,6 +7,7 @@ ghost use Rattle.ppexpr.specs.Meant.{failure_meant, answer_meant, symbols_meant}
 ghost use Rattle.ppexpr.specs.Conditions.{failure_fault, taken, Evaluates, Judges, Decides, IsCondition};
 
 use crate::asking::{asked, is_defined};
+use crate::definitions::definitions_hold;
 use crate::direct::direct_symbols;
 use crate::nesting::is_too_nested;
 use crate::parsing::parse;
@@ -131,7 +132,11 @@ pub fn evaluate(
 ) -> Result<(Result<bool, Fault>, Option<u64>), Memory>
     ensures { IfOk result (λ r. IsCondition table.now env.now at tokens.now left r.0 r.1) }
 {
-    // In most conditions nothing is replaced.
+    // Most conditions ask for definitions alone, and need no list of symbols.
+    if let Some(taken) = definitions_hold(table, tokens) {
+        return Ok((Ok(taken), left));
+    }
+    // In most others nothing is replaced.
     match direct_symbols(alloc, table, tokens)? {
         Some(symbols) => Ok((settled(judge(alloc, at, symbols.as_slice()))?, left)),
         None => evaluate_replaced(alloc, table, env, left, at, tokens),

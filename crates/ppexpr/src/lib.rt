@@ -4,6 +4,7 @@
 mod asking;
 mod characters;
 mod conditions;
+mod definitions;
 mod direct;
 mod integers;
 mod laws;

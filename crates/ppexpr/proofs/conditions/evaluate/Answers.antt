@@ -2,8 +2,13 @@ use Rattle.pptext.proofs.Stopping.{settled-at_ok}
 use Rattle.ppexpr.proofs.Unreplaced.{direct_condition}
 use Rattle.ppexpr.proofs.conditions.evaluate.Goals as goal
 
-pub returns-in_ok-settled-in-Some : goal.returns-in_ok-settled-in-Some
-returns-in_ok-settled-in-Some c =
-    let stands = rw c.in-Some.is at c.in_ok-symbols.ensures in
-    let judged = settled-at_ok c.judge.result _ _ c.in_ok-settled-in-Some.ensures c.judge.ensures in
+pub returns-in_ok-settled-in-Some-2 : goal.returns-in_ok-settled-in-Some-2
+returns-in_ok-settled-in-Some-2 c =
+    let stands = rw c.in-Some-2.is at c.in_ok-symbols.ensures in
+    let judged = settled-at_ok c.judge.result _ _ c.in_ok-settled-in-Some-2.ensures c.judge.ensures in
     direct_condition c.args.table.now c.args.env.now c.args.at c.args.tokens.now c.args.left _ _ stands (rw c.as_slice.ensures.value at judged)
+
+pub returns-in-Some : goal.returns-in-Some
+returns-in-Some c =
+    let truth = c.in-Some.ensures in
+    direct_condition c.args.table.now c.args.env.now c.args.at c.args.tokens.now c.args.left _ _ truth.stands (truth.judged c.args.at)

@@ -1,0 +1,79 @@
+// Conditions that ask for definitions alone, as most: `defined X` and `!defined X`, joined by `&&` and `||`.
+ghost use Rattle.std.specs.Prelude.{IfSome, is_some};
+ghost use Rattle.std.specs.FinMap as table;
+ghost use Rattle.ppexpr.specs.Symbols.{Constant};
+ghost use Rattle.ppexpr.specs.Values.{truth};
+ghost use Rattle.ppexpr.specs.Direct.{BeginsWith};
+ghost use Rattle.ppexpr.specs.Definitions.{BeginsMark, BeginsTruth, HasTruth};
+
+use crate::asking::{is_defined, is_macro_name, operand};
+use ppmacro::Table;
+use pptext::Token;
+
+// So few tokens can't be nested too deep.
+const MOST: usize = 256;
+
+// What stands behind the punctuator of this spelling that the tokens begin with.
+fn behind<'x>(tokens: &'x [Token], text: &[u8]) -> Option<&'x [Token]>
+    ensures { IfSome result (λ rest. BeginsMark text.now tokens.now rest.now) }
+{
+    let (first, behind) = tokens.split_first()?;
+    if first.is_punct(text) {
+        Some(behind)
+    } else {
+        None
+    }
+}
+
+// Whether the name that the tokens ask for at their beginning is defined, and what stands behind it.
+fn question<'x>(table: &Table, tokens: &'x [Token]) -> Option<(bool, &'x [Token])>
+    ensures { IfSome result (λ r. BeginsWith table.now tokens.now (Constant (truth r.0)) r.1.now) }
+{
+    let (first, behind) = tokens.split_first()?;
+    if !is_defined(first) {
+        return None;
+    }
+    let (name, rest) = operand(behind)?;
+    Some((is_macro_name(table, name), rest))
+}
+
+// The same, perhaps behind `!`.
+fn term<'x>(table: &Table, tokens: &'x [Token]) -> Option<(bool, &'x [Token])>
+    ensures { IfSome result (λ r. BeginsTruth table.now 12 tokens.now r.0 r.1.now) }
+{
+    if let Some(behind) = behind(tokens, b"!") {
+        let (holds, rest) = question(table, behind)?;
+        return Some((!holds, rest));
+    }
+    let (holds, rest) = question(table, tokens)?;
+    Some((holds, rest))
+}
+
+// Terms between `&&` (6.5.13).
+fn conjunction<'x>(table: &Table, tokens: &'x [Token]) -> Option<(bool, &'x [Token])>
+    ensures { IfSome result (λ r. BeginsTruth table.now 3 tokens.now r.0 r.1.now) }
+{
+    let (mut holds, mut rest) = term(table, tokens)?;
+    while let Some(next) = behind(rest, b"&&") {
+        let (right, further) = term(table, next)?;
+        holds = holds && right;
+        rest = further;
+    }
+    Some((holds, rest))
+}
+
+/// Whether the condition holds, where it asks for definitions alone (6.5.14).
+pub(crate) fn definitions_hold(table: &Table, tokens: &[Token]) -> Option<bool>
+    ensures { IfSome result (λ holds. HasTruth table.now tokens.now holds) }
+{
+    if tokens.len() > MOST {
+        return None;
+    }
+    let (mut holds, mut rest) = conjunction(table, tokens)?;
+    while let Some(next) = behind(rest, b"||") {
+        let (right, further) = conjunction(table, next)?;
+        holds = holds || right;
+        rest = further;
+    }
+    if rest.is_empty() { Some(holds) } else { None }
+}
