@@ -15,6 +15,7 @@ pub mod Define
 pub mod Headings
 pub mod Refusals
 pub mod Predefined
+pub mod Plain
 pub mod Lexing
 pub mod Substitution
 pub mod Substituting

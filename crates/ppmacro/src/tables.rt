@@ -4,6 +4,7 @@ ghost use Rattle.std.specs.Option.{option_copied};
 ghost use Rattle.std.specs.FinMap as table;
 ghost use Rattle.ppmacro.specs.Define.{is_predefined, is_reserved};
 ghost use Rattle.ppmacro.specs.Predefined.{predefined_as, predefined};
+ghost use Rattle.ppmacro.specs.Plain.{is_barred};
 
 use crate::borrowed::Body;
 use crate::keys::Key;
@@ -54,6 +55,13 @@ fn is_predefined(found: Option<&Macro>) -> bool
         Some(found) => matches!(found.definition().shape, Shape::Predefined(_)),
         None => false,
     }
+}
+
+/// Whether it is a name that no macro may have (6.10.8p4, 6.10.3p5).
+pub(crate) fn is_barred(name: &[u8]) -> bool
+    ensures { result ≡ is_barred name.now }
+{
+    name == b"defined".as_slice() || name == b"__VA_ARGS__".as_slice()
 }
 
 impl<'a> Table<'a> {
@@ -142,10 +150,7 @@ impl<'a> Table<'a> {
     pub(crate) fn is_reserved(&self, name: &[u8]) -> bool
         ensures { result ≡ is_reserved self.now name.now }
     {
-        if is_predefined(self.get(name)) {
-            return true;
-        }
-        name == b"defined".as_slice() || name == b"__VA_ARGS__".as_slice()
+        is_predefined(self.get(name)) || is_barred(name)
     }
 
     // Puts a macro under this name.

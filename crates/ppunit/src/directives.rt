@@ -4,6 +4,8 @@ ghost use Rattle.std.specs.Result.{result_err};
 ghost use Rattle.pptext.specs.Stops.{IfSettled};
 ghost use Rattle.ppunit.specs.Directives as spec;
 ghost use Rattle.ppunit.specs.Lines as spec_lines;
+ghost use Rattle.pptext.specs.Tree.{sign_place};
+ghost use Rattle.ppmacro.specs.Define.{after_define};
 
 use crate::line_control::renumber;
 use crate::lines::{line_fault, name, operands, sign};
@@ -87,8 +89,28 @@ fn pragma<'x>(
     Ok(())
 }
 
-/// What a control line without lone quotes does in the file of a row, where it opens no file, or its fault.
-pub(crate) fn control<'x>(
+// A fault as what stops a unit.
+#[inline(never)]
+fn stopped(fault: Fault) -> Result<(), Stop>
+    ensures { IfSettled result (λ r. result_err r ≡ Some fault) }
+{
+    Err(Stop::Fault(fault))
+}
+
+// A `#define` line (6.10.3).
+fn define_by<'x>(alloc: Global, state: &mut State<'x>, line: &'x [Token]) -> Result<(), Stop>
+    ensures { IfSettled result (λ r.
+        record { state = state.new; fault = result_err r } ≡ spec.with_macros state.old (after_define state.old.macros (sign_place line.now) (spec_lines.operands line.now))) }
+{
+    match define(alloc, &mut state.macros, sign(line), operands(line))? {
+        Ok(()) => Ok(()),
+        Err(fault) => stopped(fault),
+    }
+}
+
+// What a control line without lone quotes does, whatever its directive.
+#[inline(never)]
+fn control_any<'x>(
     alloc: Global,
     state: &mut State<'x>,
     profile: Profile,
@@ -104,9 +126,7 @@ pub(crate) fn control<'x>(
 {
     let at = sign(line);
     match directive {
-        Directive::Define => {
-            define(alloc, &mut state.macros, at, operands(line))?.map_err(Stop::Fault)
-        }
+        Directive::Define => define_by(alloc, state, line),
         Directive::Undef => undef(alloc, &mut state.macros, at, operands(line))?.map_err(
             Stop::Fault,
         ),
@@ -115,4 +135,26 @@ pub(crate) fn control<'x>(
         Directive::Unknown => Err(Stop::Fault(line_fault(alloc, 8, line, name(line))?)),
         _ => Ok(()),
     }
+}
+
+/// What a control line without lone quotes does in the file of a row, where it opens no file, or its fault.
+pub(crate) fn control<'x>(
+    alloc: Global,
+    state: &mut State<'x>,
+    profile: Profile,
+    row: usize,
+    directive: Directive,
+    line: &'x [Token],
+    physical: u32,
+) -> Result<(), Stop>
+    requires { spec.IsControl directive }
+    ensures { IfSettled result (λ r.
+        spec.ControlBy profile row (Some directive) state.old (spec_lines.directed directive line.now physical)
+        (record { state = state.new; fault = result_err r })) }
+{
+    // Most control lines define a macro.
+    if directive == Directive::Define {
+        return define_by(alloc, state, line);
+    }
+    control_any(alloc, state, profile, row, directive, line, physical)
 }
