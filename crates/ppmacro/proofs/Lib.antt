@@ -40,3 +40,5 @@ pub mod Layouts
 pub mod Chained
 -- Chains of a token alone, as they are where no `##` stands.
 pub mod Lonely
+-- Chains of an entry alone, as they are where neither `#` nor `##` stands.
+pub mod Patterned
