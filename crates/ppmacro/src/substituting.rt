@@ -213,6 +213,7 @@ fn gain_one(
 }
 
 // Puts a token behind the others.
+#[inline(always)]
 fn push_one<'a>(tokens: &mut Vec<Hidden<'a>>, hidden: Hidden<'a>) -> Result<(), AllocError>
     ensures { OnOk result (tokens.new.items ≡ tokens.old.items ++ hidden.entry ∷ []) }
 {
