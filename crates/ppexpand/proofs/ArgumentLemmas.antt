@@ -1,5 +1,5 @@
 -- How the arguments of an invocation are expanded one after the other.
-use Rattle.std.proofs.Common.{◌≡◌, ℕ, zero, suc, ◌+◌, ◌<◌, ◌≤◌, Bool, true, false, List, [], ◌∷◌, drop, Option, Some, None, Ok, Err, Vec}
+use Rattle.std.proofs.Common.{◌≡◌, ℕ, zero, suc, ◌+◌, ◌<◌, ◌≤◌, Bool, true, false, ◌||◌, List, [], ◌∷◌, map, drop, Option, Some, None, Ok, Err, Vec}
 use Rattle.std.proofs.Common.{Global, is_some, true≢false, refl, sym, ap, ◌∙◌, subst, get_or, length, add-one, arith}
 use Rattle.std.proofs.lemmas.List.{get_or_default}
 use Rattle.pptext.specs.declared.tokens.Token.{Token}
@@ -13,7 +13,10 @@ use Rattle.ppmacro.specs.declared.flying.Hidden.{Hidden}
 use Rattle.ppmacro.specs.declared.macros.Chain.{Chain}
 use Rattle.ppmacro.proofs.WalkLemmas.{drop-item}
 use Rattle.ppexpand.specs.declared.env.Env.{Env}
-use Rattle.ppexpand.specs.Turn.{Call, uses_alone, to_expand, wanted}
+use Rattle.ppmacro.specs.Patterns.{entry_chain}
+use Rattle.ppmacro.specs.declared.patterns.Entry.{Entry}
+use Rattle.std.specs.List.{list_any}
+use Rattle.ppexpand.specs.Turn.{Call, is_alone, uses_alone, to_expand, wanted}
 use Rattle.ppexpand.specs.Expansion.{Expands, ExpandsTo}
 use Rattle.ppexpand.specs.Shown.{given_in, ExpandsArgument, expands, raises}
 use Rattle.ppexpand.proofs.Follows.{ArgumentsFollow, arguments_start}
@@ -104,3 +107,8 @@ pub marked-alone : (used : List Bool) (count i : ℕ) (cs : List Chain) (mark : 
     → ((j : ℕ) → j < count → get_or used j false ≡ uses_alone j cs)
     → mark ≡ get_or used i mark → uses_alone i cs ≡ mark
 marked-alone used count i cs mark less long marks is = sym (marks i less) ∙ get_or_default used i false mark (subst (λ n. i < n) (sym long) less) ∙ sym is
+
+-- a parameter stands among the chains of entries where it is one of them
+pub used-by-entries : (i : ℕ) (es : List Entry) → uses_alone i (map entry_chain es) ≡ list_any (λ e. is_alone i (entry_chain e).operands) es
+used-by-entries i [] = refl
+used-by-entries i (e ∷ es) = ap (λ b. is_alone i (entry_chain e).operands || b) (used-by-entries i es)

@@ -1,8 +1,9 @@
 // Which parameters a replacement list uses away from `#` and `##`: their arguments are expanded (6.10.3.1).
-ghost use Rattle.std.specs.Prelude.{◌≡◌, ◌<◌, ◌||◌, ℕ, false, IfOk, get_or, length};
+ghost use Rattle.std.specs.Prelude.{◌≡◌, ◌<◌, ◌||◌, ℕ, false, IfOk, get_or, length, map};
+ghost use Rattle.ppmacro.specs.Patterns.{entry_chain, listed};
 ghost use Rattle.ppexpand.specs.Turn.{is_alone, uses_alone};
 
-use ppmacro::{Chain, Operand};
+use ppmacro::{Chain, Entry, Operand, Pattern};
 use std::alloc::{AllocError, Global};
 
 /// Marks the parameter that a chain is, where it is one parameter alone.
@@ -19,13 +20,52 @@ fn mark(used: &mut Vec<bool>, operands: &[Operand])
     }
 }
 
-/// For each of so many parameters, whether these chains use it away from `#` and `##`. The chains are passed once, however many
+/// Marks the parameter that an entry is, where it is one.
+fn mark_entry(used: &mut Vec<bool>, entry: &Entry)
+    ensures len { length used.new.items ≡ length used.old.items }
+    ensures marks { (i : ℕ) → i < length used.old.items → get_or used.new.items i false ≡ get_or used.old.items i false || is_alone i (entry_chain entry.now).operands }
+{
+    if let Entry::Param(_, index) = entry {
+        if *index < used.len() {
+            used[*index] = true;
+        }
+    }
+}
+
+/// The same for the entries of a list without `#` and `##`.
+fn used_entries(
+    alloc: Global,
+    parameters: usize,
+    entries: &[Entry],
+) -> Result<Vec<bool>, AllocError>
+    ensures len { IfOk result (λ v. length v.items ≡ parameters) }
+    ensures used { IfOk result (λ v. (i : ℕ) → i < parameters → get_or v.items i false ≡ uses_alone i (map entry_chain entries.now)) }
+{
+    let mut used = vec![in alloc; false; parameters]?;
+    for entry in entries {
+        mark_entry(&mut used, entry);
+    }
+    Ok(used)
+}
+
+/// For each of so many parameters, whether a replacement list uses it away from `#` and `##`. The list is passed once, however many
 /// parameters there are.
 pub(crate) fn used_alone(
     alloc: Global,
     parameters: usize,
-    chains: &[Chain],
+    pattern: &Pattern,
 ) -> Result<Vec<bool>, AllocError>
+    ensures len { IfOk result (λ v. length v.items ≡ parameters) }
+    ensures used { IfOk result (λ v. (i : ℕ) → i < parameters → get_or v.items i false ≡ uses_alone i (listed pattern.now)) }
+{
+    match pattern {
+        Pattern::Alone(entries) => used_entries(alloc, parameters, entries.as_slice()),
+        Pattern::Joined(chains) => used_chains(alloc, parameters, chains.as_slice()),
+    }
+}
+
+/// For each of so many parameters, whether these chains use it away from `#` and `##`.
+fn used_chains(alloc: Global, parameters: usize, chains: &[Chain]) -> Result<Vec<bool>, AllocError>
     ensures len { IfOk result (λ v. length v.items ≡ parameters) }
     ensures used { IfOk result (λ v. (i : ℕ) → i < parameters → get_or v.items i false ≡ uses_alone i chains.now) }
 {

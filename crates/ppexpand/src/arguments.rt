@@ -12,6 +12,9 @@ use ppmacro::Hidden;
 use pptext::Spelling;
 use std::alloc::{AllocError, Global};
 
+// Room for so many tokens is asked for at once: few arguments have more.
+const USUAL: usize = 8;
+
 /// What stands behind the `(` of an invocation.
 #[derive(Drop)]
 pub(crate) enum Gathered<'a> {
@@ -57,7 +60,7 @@ pub(crate) fn gather<'a>(
     ensures known { IfOk result (λ g. (sets : Numbered) → AllKnown sets list.old → GatheredKnown sets list.new g) }
 {
     let mut arguments: Vec<Vec<Hidden<'a>>> = Vec::new(alloc);
-    let mut argument = Vec::new(alloc);
+    let mut argument = Vec::with_capacity(alloc, USUAL)?;
     let mut depth: usize = 0;
     let mut commas = commas;
     while let Some(hidden) = list.next() {
@@ -69,7 +72,7 @@ pub(crate) fn gather<'a>(
             }
             Mark::Comma if separates(depth, commas) => {
                 arguments.push(argument)?;
-                argument = Vec::new(alloc);
+                argument = Vec::with_capacity(alloc, USUAL)?;
                 commas = fewer(commas);
                 continue;
             }

@@ -1,6 +1,7 @@
 // The expansion of a list.
 ghost use Rattle.std.specs.Prelude.{◌≡◌, ℕ, ◌≤◌, ◌++◌, ◌∷◌, [], List, true, Some, None, Ok, Err, IfOk, OnOk, MatchOption, IfSome};
 ghost use Rattle.ppmacro.specs.Chains.{chains_of};
+ghost use Rattle.ppmacro.specs.Patterns.{listed};
 ghost use Rattle.std.specs.Option.{option_copied};
 ghost use Rattle.ppmacro.specs.Substituting.{tokens_of};
 ghost use Rattle.ppmacro.specs.HideSets.{hidings, AllKnown, Keeps};
@@ -22,7 +23,7 @@ use crate::spellings::at_use;
 use crate::spending::less_one;
 use crate::stretch::{Stretch, is_plain, split_plain};
 use crate::turn::{Invocation, Next, finish, next_turn};
-use ppmacro::{Chain, Expansion, Hidden, HideSets, Macro, Table};
+use ppmacro::{Expansion, Hidden, HideSets, Macro, Pattern, Table};
 use pptext::{Fault, Memory, Token};
 use std::alloc::{AllocError, Global};
 
@@ -211,7 +212,7 @@ fn expand_argument<'x, 'a: 'x>(
     Ok(Some(Expansion::Made(passed.into_vec(alloc)?)))
 }
 
-/// The expansions of the arguments that stand away from `#` and `##` in these chains, which are the macro's, each by its
+/// The expansions of the arguments that stand away from `#` and `##` in this list, which is the macro's, each by its
 /// parameter; or none where one raised a fault, which `fault` becomes. `left` becomes what they leave.
 #[cycle(expansion)]
 fn expand_arguments<'x, 'a: 'x>(
@@ -222,12 +223,12 @@ fn expand_arguments<'x, 'a: 'x>(
     left: &mut Option<u64>,
     sets: &mut HideSets,
     call: &Invocation<'_, 'x, 'a>,
-    chains: &[Chain<'a>],
+    pattern: &Pattern<'a>,
     fault: &mut Option<Fault>,
 ) -> Result<Option<Vec<Expansion<'x>>>, Memory>
     requires level { level ≤ 256 }
     requires known { CallKnown sets.old call.now }
-    requires chains { chains.now ≡ chains_of call.now.replaced.now }
+    requires chains { listed pattern.now ≡ chains_of call.now.replaced.now }
     requires no_fault { fault.old ≡ None }
     ensures is { IfOk result (λ r. MatchOption r
         (Raises fault.new (λ f. (behind : List Hidden) → ExpandsArguments table.now env.now level
@@ -239,7 +240,7 @@ fn expand_arguments<'x, 'a: 'x>(
     ensures keeps { Keeps sets.old sets.new }
 {
     let count = call.arguments.len();
-    let used = used_alone(alloc, count, chains)?;
+    let used = used_alone(alloc, count, pattern)?;
     let mut expanded = Vec::with_capacity(alloc, count)?;
     for (parameter, argument) in call.arguments.iter().enumerate() {
         if !used[parameter] {
@@ -279,15 +280,22 @@ fn follow<'x, 'a: 'x>(
     ensures known { OnOk result (fault.new ≡ None → AllKnown sets.new list.new) }
     ensures keeps { Keeps sets.old sets.new }
 {
-    let made = call.replaced.chains_with_hasher(alloc, table.hashing())?;
-    let chains = made.as_slice();
+    let pattern = call.replaced.pattern(alloc, table.hashing())?;
     let Some(expanded) = expand_arguments(
-        alloc, table, env, level, left, sets, call, chains, fault,
+        alloc, table, env, level, left, sets, call, &pattern, fault,
     )?
     else {
         return Ok(());
     };
-    finish(alloc, sets, call, chains, expanded.as_slice(), list, fault)
+    finish(
+        alloc,
+        sets,
+        call,
+        &pattern,
+        expanded.as_slice(),
+        list,
+        fault,
+    )
 }
 
 /// One turn, of a list whose next token names the macro `named`: what passes is put behind `passed`, the list becomes what is behind it, and `left` what is left of the budget. Whether the list

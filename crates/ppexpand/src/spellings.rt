@@ -37,22 +37,22 @@ pub(crate) fn mark_of(hidden: &Hidden) -> Mark
 fn mark_of_word(token: &Token) -> Mark
     ensures { shown_mark result ≡ mark_of token.now }
 {
-    if !matches!(token.kind, Kind::Punct | Kind::Other) {
+    let Kind::Punct = token.kind else {
+        return if token.is_lone_quote() {
+            Mark::Quote
+        } else {
+            Mark::Inner
+        };
+    };
+    let [byte] = token.text.as_bytes() else {
         return Mark::Inner;
+    };
+    match *byte {
+        b'(' => Mark::Open,
+        b')' => Mark::Close,
+        b',' => Mark::Comma,
+        _ => Mark::Inner,
     }
-    if token.is_lone_quote() {
-        return Mark::Quote;
-    }
-    if token.is_punct(b"(") {
-        return Mark::Open;
-    }
-    if token.is_punct(b")") {
-        return Mark::Close;
-    }
-    if token.is_punct(b",") {
-        return Mark::Comma;
-    }
-    Mark::Inner
 }
 
 /// Whether a token in flight is `'` or `"` alone.

@@ -7,6 +7,7 @@ ghost use Rattle.ppmacro.specs.HideSets.{set_at, IsKnown, hiding, hidings, AllKn
 ghost use Rattle.ppmacro.specs.Substituting.{ArgumentsKnown, arguments_in, tokens_of};
 ghost use Rattle.ppmacro.specs.Chains.{chains_of};
 ghost use Rattle.ppmacro.specs.Lone.{lone_chain};
+ghost use Rattle.ppmacro.specs.Patterns.{listed};
 ghost use Rattle.ppmacro.specs.Substitution.{Arguments, substituted, substituted_by};
 ghost use Rattle.ppexpand.specs.Arguments.{gather, separators};
 ghost use Rattle.ppexpand.specs.declared.env.Env.{Env};
@@ -24,8 +25,8 @@ use crate::predefined::predefined_value;
 use crate::spellings::{at_use, is_open, is_quote, lone_quote, over_budget};
 use crate::spending::is_spent;
 use ppmacro::{
-    Builtin, Chain, Expansion, Hidden, HideSets, Macro, Set, Shape, Table, substitute,
-    substitute_lone,
+    Builtin, Expansion, Hidden, HideSets, Macro, Pattern, Set, Shape, Table, substitute_lone,
+    substitute_pattern,
 };
 use pptext::{Fault, Memory, Spelling, Token};
 use std::alloc::{AllocError, Global};
@@ -70,12 +71,12 @@ pub(crate) fn macro_at<'t, 'a>(table: &'t Table<'a>, token: &Token) -> Option<&'
     }
 }
 
-/// Puts what an invocation of the macro with these chains is replaced by before the rest of the list, or raises fault 19 or 20.
+/// Puts what an invocation of the macro with this replacement list is replaced by before the rest of the list, or raises fault 19 or 20.
 /// Each token gains the names of `base` and that of the macro.
 fn replace<'x, 'a: 'x>(
     alloc: Global,
     sets: &mut HideSets,
-    chains: &[Chain<'a>],
+    pattern: &Pattern<'a>,
     given: &[Vec<Hidden<'x>>],
     expanded: &[Expansion<'x>],
     base: Set,
@@ -86,15 +87,15 @@ fn replace<'x, 'a: 'x>(
     requires base { IsKnown sets.old base }
     requires list { AllKnown sets.old list.old }
     ensures is { IfOk result (λ r. replaced_in sets.new list.new r
-        ≡ replaced_by (substituted_by chains.now (arguments_in sets.old given.now expanded.now)
+        ≡ replaced_by (substituted_by (listed pattern.now) (arguments_in sets.old given.now expanded.now)
         (set.insert (set_at sets.old base) head.now.token.text) head.now.token.used head.now.token.space)
         (hidings sets.old list.old)) }
     ensures known { IfOk result (λ r. OnOk r (AllKnown sets.new list.new)) }
     ensures keeps { Keeps sets.old sets.new }
 {
-    match substitute(
+    match substitute_pattern(
         alloc,
-        chains,
+        pattern,
         given,
         expanded,
         base,
@@ -182,7 +183,8 @@ fn object_turn<'t, 'x, 'a: 'x>(
         return Ok(Next::Replaced);
     }
     let chains = replaced.chains(alloc)?;
-    match replace(alloc, sets, chains.as_slice(), &[], &[], base, &head, list)? {
+    let pattern = Pattern::Joined(chains);
+    match replace(alloc, sets, &pattern, &[], &[], base, &head, list)? {
         Ok(()) => Ok(Next::Replaced),
         Err(fault) => Ok(Next::Failed(fault)),
     }
@@ -367,20 +369,20 @@ pub(crate) fn next_turn<'t, 'x, 'a: 'x>(
     macro_turn(alloc, env, sets, head, replaced, list)
 }
 
-/// Replaces an invocation whose arguments are expanded, before the rest of the list; or `fault` becomes the fault. The chains are its
-/// macro's.
+/// Replaces an invocation whose arguments are expanded, before the rest of the list; or `fault` becomes the fault. The replacement list is
+/// its macro's.
 #[inline(never)]
 pub(crate) fn finish<'x, 'a: 'x>(
     alloc: Global,
     sets: &mut HideSets,
     call: &Invocation<'_, 'x, 'a>,
-    chains: &[Chain<'a>],
+    pattern: &Pattern<'a>,
     expanded: &[Expansion<'x>],
     list: &mut Cursor<'x>,
     fault: &mut Option<Fault>,
 ) -> Result<(), Memory>
     requires call { CallKnown sets.old call.now }
-    requires chains { chains.now ≡ chains_of call.now.replaced.now }
+    requires chains { listed pattern.now ≡ chains_of call.now.replaced.now }
     requires expanded { ExpansionsKnown sets.old expanded.now }
     requires list { AllKnown sets.old list.old }
     requires no_fault { fault.old ≡ None }
@@ -391,7 +393,7 @@ pub(crate) fn finish<'x, 'a: 'x>(
 {
     let given = call.arguments.as_slice();
     let head = &call.head;
-    match replace(alloc, sets, chains, given, expanded, call.both, head, list)? {
+    match replace(alloc, sets, pattern, given, expanded, call.both, head, list)? {
         Ok(()) => Ok(()),
         Err(found) => {
             *fault = Some(found);

@@ -42,3 +42,5 @@ pub mod Chained
 pub mod Lonely
 -- A definition in which nothing may be refused enters.
 pub mod Plainly
+-- Chains of an entry alone, as they are where neither `#` nor `##` stands.
+pub mod Patterned

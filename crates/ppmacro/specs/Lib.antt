@@ -1,5 +1,6 @@
 pub mod Names
 pub mod Lone
+pub mod Patterns
 pub mod Marks
 pub mod Pairs
 pub mod Numbered

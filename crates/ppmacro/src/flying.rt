@@ -212,6 +212,7 @@ impl<'a> Clone for Word<'a> {
 
     ghost is_clone = { λ a b. (word_token b ≡ word_token a) × (word_mark b ≡ word_mark a) };
 
+    #[inline(always)]
     fn clone(&self) -> Result<Word<'a>, AllocError> {
         match self {
             Word::Shared { space, token } => Ok(Word::Shared {
@@ -231,6 +232,7 @@ impl<'a> Clone for Hidden<'a> {
 
     ghost is_clone = { λ a b. b ≡ a };
 
+    #[inline(always)]
     fn clone(&self) -> Result<Hidden<'a>, AllocError> {
         let word = self.word.clone()?;
         Ok(Hidden {

@@ -10,6 +10,7 @@ mod keys;
 mod laws;
 mod macros;
 mod marks;
+mod patterns;
 mod places;
 mod spellings;
 mod substituting;
@@ -23,7 +24,9 @@ pub use flying::{Expansion, Hidden};
 pub use hide_sets::{HideSets, Set};
 pub use laws::{lays_out_chains, reads_headings};
 pub use macros::{Builtin, Chain, Chains, Definition, Macro, Names, Operand, Operands, Shape};
+pub use patterns::{Entry, Pattern};
 pub use substituting::{
-    paste, push_escaped, stringize, substitute, substitute_lone, tells_each_kind,
+    paste, push_escaped, stringize, substitute, substitute_lone, substitute_pattern,
+    tells_each_kind,
 };
 pub use tables::Table;

@@ -4,10 +4,12 @@ ghost use Rattle.std.specs.List.{list_any};
 ghost use Rattle.std.specs.Option.{option_copied};
 ghost use Rattle.ppmacro.specs.Chains.{chains_of};
 ghost use Rattle.ppmacro.specs.Lone.{is_object_like, lone_tokens, lone_chain};
+ghost use Rattle.ppmacro.specs.Patterns.{listed};
 ghost use Rattle.ppmacro.specs.Spellings.{is_paste};
 
 use crate::borrowed::{Body, Leaf};
 use crate::chains::chains_of;
+use crate::patterns::{Pattern, pattern_of};
 use crate::spellings::is_paste;
 use pptext::{Hashing, Place, Sequence, Spelling, Token};
 use std::alloc::{AllocError, Global};
@@ -210,5 +212,12 @@ impl<'a> Macro<'a> {
         ensures { IfOk result (λ c. c ≡ chains_of self.now) }
     {
         chains_of(alloc, &self.definition, hashing)
+    }
+
+    /// Its replacement list, without chains where neither `#` nor `##` stands there. Parameters are hashed as in `chains_with_hasher`.
+    pub fn pattern(&self, alloc: Global, hashing: Hashing) -> Result<Pattern<'a>, AllocError>
+        ensures { IfOk result (λ p. listed p ≡ chains_of self.now) }
+    {
+        pattern_of(alloc, &self.definition, hashing)
     }
 }

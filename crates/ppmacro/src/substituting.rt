@@ -7,6 +7,7 @@ ghost use Rattle.ppmacro.specs.Substitution.{is_joined, chain_tokens, mark_first
 ghost use Rattle.pptext.specs.Stops.{Answers};
 ghost use Rattle.ppmacro.specs.Substituting.{ArgumentsKnown, arguments_in, marked_in, pushed, left_with, HasGained};
 
+mod entries;
 mod joining;
 mod lexing;
 mod lone;
@@ -14,6 +15,7 @@ mod operands;
 mod pasting;
 mod stringizing;
 
+pub use self::entries::substitute_pattern;
 use self::joining::{join_all, push_all};
 pub use self::lexing::tells_each_kind;
 pub use self::lone::substitute_lone;
@@ -211,6 +213,7 @@ fn gain_one(
 }
 
 // Puts a token behind the others.
+#[inline(always)]
 fn push_one<'a>(tokens: &mut Vec<Hidden<'a>>, hidden: Hidden<'a>) -> Result<(), AllocError>
     ensures { OnOk result (tokens.new.items ≡ tokens.old.items ++ hidden.entry ∷ []) }
 {

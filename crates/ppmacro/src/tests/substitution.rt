@@ -6,8 +6,8 @@ ghost use Rattle.ppmacro.specs.declared.flying.Expansion.TheVariants.{Made};
 
 use super::{HASH, all_lexed, assert_same, has, lexed, more, push_spelled, table_of};
 use crate::{
-    Chain, Expansion, Hidden, HideSets, Macro, Set, Table, paste, stringize, substitute,
-    substitute_lone, tells_each_kind,
+    Chain, Expansion, Hidden, HideSets, Macro, Pattern, Set, Table, paste, stringize, substitute,
+    substitute_lone, substitute_pattern, tells_each_kind,
 };
 use pptext::{Fault, Kind, Memory, Place, Token};
 use std::alloc::{AllocError, Global};
@@ -649,6 +649,93 @@ fn has_no_lone_tokens(rt: HostRuntime) -> Result<(), Fail> {
         let table = table_of(&rt, rt.alloc(), line.as_slice())?;
         let named = macro_of(&table, line.as_slice()).ok_or("no macro")?;
         assert!(&rt; named.lone_tokens().is_none());
+    }
+    Ok(())
+}
+
+/// What `substitute_pattern` answers, where `f` is the name. No argument names a macro; each argument's tokens have the hide set `hide`.
+fn replaced_by_pattern<'x, 'a: 'x, R: Abort>(
+    rt: &R,
+    alloc: Global,
+    sets: &mut HideSets,
+    pattern: &Pattern<'a>,
+    texts: &'x [Vec<Token>],
+    (hide, base, space): (Set, Set, bool),
+) -> Result<Result<(Vec<Hidden<'x>>, bool), Fault>, Memory> {
+    assert!(rt; sets.knows(hide) && sets.knows(base));
+    let given = arguments(alloc, sets, hide, texts)?;
+    let expanded = as_they_are(alloc, arguments(alloc, sets, hide, texts)?)?;
+    let (given, expanded) = (given.as_slice(), expanded.as_slice());
+    substitute_pattern(
+        alloc, pattern, given, expanded, base, b"f", USED, space, sets,
+    )
+}
+
+/// Asserts what an invocation of a macro with this list is replaced by, and that each token gains the names.
+fn assert_by_pattern<R: Abort>(
+    rt: &R,
+    alloc: Global,
+    pattern: &Pattern,
+    texts: &[Vec<Token>],
+    (space, wanted, mark): (bool, &str, bool),
+) -> Result<(), Fail> {
+    let mut sets = HideSets::new(alloc)?;
+    let none = sets.empty();
+    let base = more(rt, &mut sets, none, b"b")?;
+    let with = (none, base, space);
+    let Ok((tokens, pending)) = replaced_by_pattern(rt, alloc, &mut sets, pattern, texts, with)?
+    else {
+        return Err(Fail::new("a fault"));
+    };
+    assert_same(rt, wanted, &pending, &mark);
+    assert_gained(rt, alloc, &sets, tokens.as_slice(), wanted)
+}
+
+/// Macros whose parameters are used once, twice and not at all, whether `#` or `##` stands in the list, the arguments, whether the name
+/// has a space mark, and what an invocation is replaced by with the mark left.
+const PATTERNS: &[(&str, bool, &[&str], bool, &str, bool)] = &[
+    ("#define I(x) x", false, &["a b"], true, " a b", false),
+    (
+        "#define D(x, y) y(x, y) x",
+        false,
+        &["1", "+ 2"],
+        false,
+        "+ 2(1, + 2) 1",
+        false,
+    ),
+    ("#define N(x) 0", false, &["a"], false, "0", false),
+    ("#define E(x)", false, &["a"], true, "", true),
+    ("#define M(x) - x -", false, &[""], false, "- -", false),
+    ("#define L(x) x", false, &[""], true, "", true),
+    (
+        "#define V(x, ...) x __VA_ARGS__",
+        false,
+        &["f", "a, b"],
+        false,
+        "f a, b",
+        false,
+    ),
+    ("#define P(x) x ## 1", true, &["a"], false, "a1", false),
+    ("#define S(x) %: x", true, &["a"], false, "\"a\"", false),
+];
+
+// Where neither `#` nor `##` stands in its list, no chains are made for an invocation.
+#[test]
+fn replaces_by_patterns(rt: HostRuntime) -> Result<(), Fail> {
+    for &(line, joined, texts, space, wanted, mark) in PATTERNS {
+        let line = lexed(rt.alloc(), line)?;
+        let texts = all_lexed(rt.alloc(), texts)?;
+        let table = table_of(&rt, rt.alloc(), line.as_slice())?;
+        let named = macro_of(&table, line.as_slice()).ok_or("no macro")?;
+        let pattern = named.pattern(rt.alloc(), table.hashing())?;
+        assert_eq!(&rt; matches!(&pattern, Pattern::Joined(_)), joined);
+        assert_by_pattern(
+            &rt,
+            rt.alloc(),
+            &pattern,
+            texts.as_slice(),
+            (space, wanted, mark),
+        )?;
     }
     Ok(())
 }

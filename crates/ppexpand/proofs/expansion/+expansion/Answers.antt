@@ -4,6 +4,7 @@ use Rattle.std.proofs.lemmas.List.{length-append}
 use Rattle.std.proofs.lemmas.Result.{on_ok_weaker}
 use Rattle.ppmacro.specs.HideSets.{hidings, AllKnown}
 use Rattle.ppmacro.specs.Chains.{chains_of}
+use Rattle.ppmacro.specs.Patterns.{listed}
 use Rattle.ppmacro.specs.Substituting.{option_of}
 use Rattle.ppmacro.specs.declared.flying.Expansion.TheVariants.{Unused}
 use Rattle.ppmacro.proofs.WalkLemmas.{drop-item}
@@ -161,7 +162,7 @@ expand_arguments-loop-parameter-preserved-then-not-index m c =
     let less : i < length vs = subst (λ xs. i < length xs) c.deref-argument-items.ensures.value c.loop-parameter-test.true in
     let is : c.argument-item.result ≡ get_or vs i c.argument-item.result = c.argument-item.is ∙ ap (λ xs. get_or xs i c.argument-item.result) c.deref-argument-items.ensures.value in
     let unused : uses_alone i cs ≡ false = ap (uses_alone i) (sym c.requires.chains)
-    ∙ marked-alone c.in_ok-used.used.items c.len-count.result i c.args.chains.now c.index.result.now
+    ∙ marked-alone c.in_ok-used.used.items c.len-count.result i (listed c.args.pattern.now) c.index.result.now
     (subst (λ n. i < n) (c.deref-argument-items.ensures.len ∙ sym c.len-count.ensures) c.loop-parameter-test.true)
     c.in_ok-used.ensures.len c.in_ok-used.ensures.used c.index.ensures
     ∙ c.if-not-index.true in
@@ -213,7 +214,7 @@ expand_arguments-returns-in-None-clause-is m c =
     let less : i < length vs = subst (λ xs. i < length xs) c.deref-argument-items.ensures.value c.loop-parameter-test.true in
     let is : c.argument-item.result ≡ get_or vs i c.argument-item.result = c.argument-item.is ∙ ap (λ xs. get_or xs i c.argument-item.result) c.deref-argument-items.ensures.value in
     let is_used : uses_alone i cs ≡ true = ap (uses_alone i) (sym c.requires.chains)
-    ∙ marked-alone c.in_ok-used.used.items c.len-count.result i c.args.chains.now c.index.result.now
+    ∙ marked-alone c.in_ok-used.used.items c.len-count.result i (listed c.args.pattern.now) c.index.result.now
     (subst (λ n. i < n) (c.deref-argument-items.ensures.len ∙ sym c.len-count.ensures) c.loop-parameter-test.true)
     c.in_ok-used.ensures.len c.in_ok-used.ensures.used c.index.ensures
     ∙ c.if-not-index.false in
@@ -248,7 +249,7 @@ expand_arguments-loop-parameter-preserved m c =
     let less : i < length vs = subst (λ xs. i < length xs) c.deref-argument-items.ensures.value c.loop-parameter-test.true in
     let is : c.argument-item.result ≡ get_or vs i c.argument-item.result = c.argument-item.is ∙ ap (λ xs. get_or xs i c.argument-item.result) c.deref-argument-items.ensures.value in
     let is_used : uses_alone i cs ≡ true = ap (uses_alone i) (sym c.requires.chains)
-    ∙ marked-alone c.in_ok-used.used.items c.len-count.result i c.args.chains.now c.index.result.now
+    ∙ marked-alone c.in_ok-used.used.items c.len-count.result i (listed c.args.pattern.now) c.index.result.now
     (subst (λ n. i < n) (c.deref-argument-items.ensures.len ∙ sym c.len-count.ensures) c.loop-parameter-test.true)
     c.in_ok-used.ensures.len c.in_ok-used.ensures.used c.index.ensures
     ∙ c.if-not-index.false in

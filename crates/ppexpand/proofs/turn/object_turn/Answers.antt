@@ -12,4 +12,4 @@ returns-in-Ok-clause-is c =
     let head = c.args.head in
     let base : c.hide-base.result ≡ head.hide = c.hide-base.ensures in
     ap (replaced_in c.replace.new.sets c.replace.new.list) (sym c.in-Ok.is) ∙ c.in_ok-replace.ensures.is
-    ∙ (λ i. replaced_by (substituted_by ((c.as_slice.ensures ∙ c.in_ok-chains.ensures) i) no_arguments (set.insert (set_at s (base i)) head.token.text) head.token.used head.token.space) (hidings s c.args.list.now))
+    ∙ (λ i. replaced_by (substituted_by (c.in_ok-chains.ensures i) no_arguments (set.insert (set_at s (base i)) head.token.text) head.token.used head.token.space) (hidings s c.args.list.now))

@@ -2,6 +2,7 @@ use Rattle.std.proofs.Common.{◌≡◌, ◌∙◌, ◌++◌, sym, ap, subst}
 use Rattle.std.proofs.lemmas.List.{map-append}
 use Rattle.std.specs.FinSet as set
 use Rattle.ppmacro.specs.HideSets.{set_at, hiding, hidings, AllKnown}
+use Rattle.ppmacro.specs.Patterns.{listed}
 use Rattle.ppmacro.specs.Substitution.{substituted_by}
 use Rattle.ppmacro.specs.Substituting.{arguments_in, marked_in}
 use Rattle.ppexpand.proofs.Marks.{hidings-marked, known-marked}
@@ -12,11 +13,11 @@ use Rattle.ppexpand.proofs.turn.replace.Goals as goal
 pub returns-in_ok-push_all-in-Ok-clause-is : goal.returns-in_ok-push_all-in-Ok-clause-is
 returns-in_ok-push_all-in-Ok-clause-is c =
     let s = c.args.sets.now in
-    let t = c.substitute.new.sets in
+    let t = c.substitute_pattern.new.sets in
     let list = c.args.list.now in
     let tokens = c.in-Ok.tokens.items in
     let made = ap (marked_in t) (sym c.in-Ok.is) ∙ c.in_ok-tokens.ensures.is
-    ∙ (λ i. substituted_by c.args.chains.now (arguments_in s c.args.given.now c.args.expanded.now)
+    ∙ (λ i. substituted_by (listed c.args.pattern.now) (arguments_in s c.args.given.now c.args.expanded.now)
     (set.insert (set_at s c.args.base) (c.text.ensures i)) (c.used.ensures i) (c.space.ensures i)) in
     let marked : hidings t c.mark_next.new.self ≡ mark_next c.in-Ok.pending (hidings s list) =
     ap (hidings t) c.mark_next.ensures ∙ hidings-marked t c.in-Ok.pending list ∙ ap (mark_next c.in-Ok.pending) (hidings-keeps list c.in_ok-tokens.ensures.keeps c.requires.list) in
@@ -26,7 +27,7 @@ returns-in_ok-push_all-in-Ok-clause-is c =
 
 pub returns-in_ok-push_all-in-Ok-clause-known : goal.returns-in_ok-push_all-in-Ok-clause-known
 returns-in_ok-push_all-in-Ok-clause-known c =
-    let t = c.substitute.new.sets in
+    let t = c.substitute_pattern.new.sets in
     let tokens : AllKnown t c.in-Ok.tokens.items = rw c.in-Ok.is at c.in_ok-tokens.ensures.known in
     let rest : AllKnown t c.mark_next.new.self = subst (AllKnown t) (sym c.mark_next.ensures) (known-marked t c.in-Ok.pending c.args.list.now (known-keeps c.args.list.now c.in_ok-tokens.ensures.keeps c.requires.list)) in
     subst (AllKnown t) (sym c.in_ok-push_all-in-Ok.ensures) (known-append c.in-Ok.tokens.items c.mark_next.new.self tokens rest)
@@ -34,7 +35,7 @@ returns-in_ok-push_all-in-Ok-clause-known c =
 pub returns-in-Err-clause-is : goal.returns-in-Err-clause-is
 returns-in-Err-clause-is c =
     let s = c.args.sets.now in
-    let made = ap (marked_in c.substitute.new.sets) (sym c.in-Err.is) ∙ c.in_ok-tokens.ensures.is
-    ∙ (λ i. substituted_by c.args.chains.now (arguments_in s c.args.given.now c.args.expanded.now)
+    let made = ap (marked_in c.substitute_pattern.new.sets) (sym c.in-Err.is) ∙ c.in_ok-tokens.ensures.is
+    ∙ (λ i. substituted_by (listed c.args.pattern.now) (arguments_in s c.args.given.now c.args.expanded.now)
     (set.insert (set_at s c.args.base) (c.text.ensures i)) (c.used.ensures i) (c.space.ensures i)) in
     ap (λ r. replaced_by r (hidings s c.args.list.now)) made

@@ -3,7 +3,7 @@ use Rattle.std.proofs.lemmas.List.{get_or-replicate, length-replicate, take_all}
 use Rattle.std.proofs.lemmas.List.Folds.{list_any_more}
 use Rattle.ppmacro.specs.declared.macros.Chain.{Chain}
 use Rattle.ppexpand.specs.Turn.{is_alone, uses_alone}
-use Rattle.ppexpand.proofs.alone.used_alone.Goals as goal
+use Rattle.ppexpand.proofs.alone.used_chains.Goals as goal
 
 pub loop-chain-init : goal.loop-chain-init
 loop-chain-init c =

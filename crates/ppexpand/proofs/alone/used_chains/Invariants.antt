@@ -1,6 +1,6 @@
 use Rattle.std.proofs.Common.{◌≡◌, ◌<◌, ℕ, false, get_or, length, take}
 use Rattle.ppexpand.specs.Turn.{uses_alone}
-use Rattle.ppexpand.proofs.alone.used_alone.Given as goal
+use Rattle.ppexpand.proofs.alone.used_chains.Given as goal
 
 -- what the chains before this one use is marked
 abbrev pub invariant-loop-chain : goal.invariant-loop-chain

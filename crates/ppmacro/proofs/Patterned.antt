@@ -1,0 +1,45 @@
+-- Chains of an entry alone, as they are where neither `#` nor `##` stands.
+use Rattle.std.proofs.Common.{◌≡◌, Bool, true, false, ◌&&◌, ℕ, List, [], ◌∷◌, map, refl, sym, ap, ◌∙◌, Option, Some, None}
+use Rattle.std.specs.List.{list_any}
+use Rattle.std.proofs.lemmas.Bool.{or_parts}
+use Rattle.pptext.specs.declared.tokens.Token.{Token}
+use Rattle.ppmacro.specs.Spellings.{is_hash, is_paste}
+use Rattle.ppmacro.specs.declared.macros.Shape.{Shape}
+use Rattle.ppmacro.specs.declared.macros.Operand.{Operand}
+use Rattle.ppmacro.specs.declared.macros.Operand.TheVariants.{Tok, Param}
+use Rattle.ppmacro.specs.Chains.{Item, Operates, items_at, items_behind, plain_item, parameter_of, is_function_like, begins_joined, join_first, grouped, hash_sign}
+use Rattle.ppmacro.specs.Patterns.{is_operator, entry_at, entry_of, entry_chain}
+
+no_hash : (b h : Bool) → h ≡ false → (b && h) ≡ false
+no_hash true h none = none
+no_hash false h none = refl
+
+one_item : (s : Shape) (t : Token) (ts : List Token) → is_operator t ≡ false → items_behind s None (t ∷ ts) ≡ plain_item (parameter_of s t) t ∷ items_behind s None ts
+one_item s t ts a =
+    let none = or_parts (is_paste t) (is_hash t) a in
+    λ i. items_at (none.0 i) (no_hash (is_function_like s) (is_hash t) none.1 i) (plain_item (parameter_of s t) t) (items_behind s None ts) (items_behind s (Some (hash_sign t)) ts)
+
+begins_alone : (p : Option ℕ) (t : Token) (is : List Item) → begins_joined (plain_item p t ∷ is) ≡ false
+begins_alone (Some i) t is = refl
+begins_alone None t is = refl
+
+unjoined : (s : Shape) (ts : List Token) → list_any is_operator ts ≡ false → begins_joined (items_behind s None ts) ≡ false
+unjoined s [] a = refl
+unjoined s (t ∷ ts) a =
+    ap begins_joined (one_item s t ts (or_parts (is_operator t) (list_any is_operator ts) a).0)
+    ∙ begins_alone (parameter_of s t) t (items_behind s None ts)
+
+grouped_alone : (m : Bool) (o : Operand) (is : List Item) → begins_joined is ≡ false → grouped (Operates m o ∷ is) ≡ record { mark = m; operands = o ∷ [] } ∷ grouped is
+grouped_alone m o is h = λ i. elim (h i) [ true ↦ join_first m o (grouped is) | false ↦ record { mark = m; operands = o ∷ [] } ∷ grouped is ]
+
+grouped_entry : (p : Option ℕ) (t : Token) (is : List Item) → begins_joined is ≡ false → grouped (plain_item p t ∷ is) ≡ entry_chain (entry_at p t) ∷ grouped is
+grouped_entry (Some i) t is h = grouped_alone t.space (Param i) is h
+grouped_entry None t is h = grouped_alone t.space (Tok t) is h
+
+pub entry_chains : (s : Shape) (ts : List Token) → list_any is_operator ts ≡ false → map entry_chain (map (entry_of s) ts) ≡ grouped (items_behind s None ts)
+entry_chains s [] a = refl
+entry_chains s (t ∷ ts) a =
+    let none = or_parts (is_operator t) (list_any is_operator ts) a in
+    ap (λ cs. entry_chain (entry_of s t) ∷ cs) (entry_chains s ts none.1)
+    ∙ sym (grouped_entry (parameter_of s t) t (items_behind s None ts) (unjoined s ts none.1))
+    ∙ ap grouped (sym (one_item s t ts none.0))

@@ -1,0 +1,31 @@
+use Rattle.std.proofs.Common.{◌≡◌, ◌∙◌, ◌+◌, refl, sym, ap, ◌∷◌, drop, map, not, ◌||◌, ◌&&◌, Ok}
+use Rattle.ppmacro.specs.HideSets.{hidings}
+use Rattle.ppmacro.specs.Patterns.{entry_chain}
+use Rattle.ppmacro.specs.Substitution.{chain_tokens, chains_tokens}
+use Rattle.ppmacro.specs.Substituting.{pushed, arguments_in}
+use Rattle.ppmacro.proofs.WalkLemmas.{marked_behind, drop-item, chains-pushed}
+use Rattle.ppmacro.proofs.substituting.entries.entries_tokens.Goals as goal
+
+pub loop-entry-preserved : goal.loop-entry-preserved
+loop-entry-preserved c =
+    let s = c.args.sets.now in
+    let i = c.loop-entry.entry-index in
+    let es = c.args.entries.now in
+    let entry = c.entry-item.result in
+    let chain = entry_chain entry in
+    let pending = c.loop-entry.pending in
+    let first = c.loop-entry.first in
+    let front = hidings s c.loop-entry.tokens.items in
+    let new = c.push_entry.new.tokens.items in
+    let args = arguments_in s c.args.given.now c.args.expanded.now in
+    let mark = c.mark_before-mark.ensures ∙ ap (λ own. pending || (not first && own)) c.mark_of.ensures in
+    let next : drop i es ≡ entry ∷ drop (i + 1) es = drop-item es i entry c.loop-entry-test.true c.entry-item.is in
+    record {
+      same = λ used.
+          (let made : Ok (record { tokens = hidings s new; pending = c.in_ok-pending.pending }) ≡ pushed front (pending || (not first && chain.mark)) (chain_tokens args used chain) =
+          c.in_ok-pending.ensures.is used ∙ (λ j. pushed front (mark j) (chain_tokens args used chain)) in
+          chains-pushed args used pending first chain (map entry_chain (drop (i + 1) es)) front (hidings s new) c.in_ok-pending.pending (chain_tokens args used chain) refl made
+          ∙ ap (λ ds. marked_behind front (chains_tokens args used pending first (map entry_chain ds))) (sym next)
+          ∙ c.loop-entry.invariant.same used);
+      tokens_known = c.in_ok-pending.ensures.known;
+    }

@@ -1,0 +1,16 @@
+use Rattle.std.proofs.Common.{◌≡◌, drop, map, true}
+use Rattle.pptext.specs.declared.tokens.Place.{Place}
+use Rattle.ppmacro.specs.HideSets.{hidings, AllKnown}
+use Rattle.ppmacro.specs.Patterns.{entry_chain}
+use Rattle.ppmacro.specs.Substitution.{chains_tokens}
+use Rattle.ppmacro.specs.Substituting.{arguments_in}
+use Rattle.ppmacro.proofs.WalkLemmas.{marked_behind}
+use Rattle.ppmacro.proofs.substituting.entries.entries_tokens.Given as goal
+
+abbrev pub invariant-loop-entry : goal.invariant-loop-entry
+invariant-loop-entry l = record {
+  same : (used : Place) → marked_behind (hidings l.sets l.tokens.items)
+      (chains_tokens (arguments_in l.sets l.given l.expanded) used l.pending l.first (map entry_chain (drop l.entry-index l.entries)))
+      ≡ chains_tokens (arguments_in l.sets l.given l.expanded) used l.space true (map entry_chain l.entries);
+  tokens_known : AllKnown l.sets l.tokens.items;
+}

@@ -1,0 +1,86 @@
+// Replacement lists as substitution reads them: most have neither `#` nor `##`, and need no chains.
+ghost use Rattle.std.specs.Prelude.{◌≡◌, ◌++◌, IfOk, OnOk, map};
+ghost use Rattle.std.specs.List.{list_any};
+ghost use Rattle.ppmacro.specs.Chains.{parameter_of, chains_of};
+ghost use Rattle.ppmacro.specs.Patterns.{is_operator, entry_of, entry_chain, listed};
+
+use crate::borrowed::Leaf;
+use crate::chains::{Parameters, chains_of, parameter_of};
+use crate::macros::{Chains, Definition};
+use crate::spellings::{is_hash, is_paste};
+use pptext::{Hashing, Token};
+use std::alloc::{AllocError, Global};
+
+/// What stands alone in a replacement list.
+#[derive(Drop)]
+pub enum Entry<'a> {
+    /// A token of the replacement list.
+    Tok(Leaf<'a>),
+    /// A parameter, by its token's space mark and its index.
+    Param(bool, usize),
+}
+
+/// A replacement list.
+#[derive(Drop)]
+pub enum Pattern<'a> {
+    /// One without `#` and `##`.
+    Alone(Vec<Entry<'a>>),
+    /// The chains of another.
+    Joined(Chains<'a>),
+}
+
+// Whether a token is `#` or `##`.
+fn is_operator(token: &Token) -> bool
+    ensures { result ≡ is_operator token.now }
+{
+    is_paste(token) || is_hash(token)
+}
+
+// Whether `#` or `##` stands among these tokens.
+fn has_operator(tokens: &[Token]) -> bool
+    ensures { result ≡ list_any is_operator tokens.now }
+{
+    tokens.iter().any(|token| is_operator(token))
+}
+
+// What a token is that stands alone.
+fn entry_of<'a>(shape: &Parameters, token: &'a Token) -> Entry<'a>
+    ensures { result ≡ entry_of shape.now token.now }
+{
+    match parameter_of(shape, token) {
+        Some(index) => Entry::Param(token.space, index),
+        None => Entry::Tok(Leaf::new(token)),
+    }
+}
+
+// What each of these tokens is, behind the others.
+fn push_entries<'a>(
+    entries: &mut Vec<Entry<'a>>,
+    shape: &Parameters,
+    tokens: &'a [Token],
+) -> Result<(), AllocError>
+    ensures { OnOk result (entries.new.items ≡ entries.old.items ++ map (entry_of shape.now) tokens.now) }
+{
+    for token in tokens {
+        entries.push(entry_of(shape, token))?;
+    }
+    Ok(())
+}
+
+/// A definition's replacement list. Its parameters are hashed so.
+pub(crate) fn pattern_of<'a>(
+    alloc: Global,
+    definition: &Definition<'a>,
+    hashing: Hashing,
+) -> Result<Pattern<'a>, AllocError>
+    ensures { IfOk result (λ p. listed p ≡ chains_of definition.now) }
+{
+    let body = definition.body.as_slice();
+    if has_operator(body) {
+        return Ok(Pattern::Joined(chains_of(alloc, definition, hashing)?));
+    }
+    let shape = Parameters::new(alloc, &definition.shape, body.len(), hashing)?;
+    let mut entries = Vec::with_capacity(alloc, body.len())?;
+    push_entries(&mut entries, &shape, body)?;
+    Ok(Pattern::Alone(entries))
+}

@@ -1,0 +1,154 @@
+// What an invocation is replaced by where neither `#` nor `##` stands in the replacement list (6.10.3.1).
+ghost use Rattle.std.specs.Prelude.{◌≡◌, ◌||◌, ◌&&◌, not, IfOk, OnOk, Ok, true, map};
+ghost use Rattle.std.specs.FinSet as set;
+ghost use Rattle.pptext.specs.declared.tokens.Place.{Place};
+ghost use Rattle.ppmacro.specs.HideSets.{set_at, IsKnown, hidings, AllKnown, Keeps};
+ghost use Rattle.ppmacro.specs.Patterns.{entry_chain, listed};
+ghost use Rattle.ppmacro.specs.Substitution.{chain_tokens, chains_tokens, substituted_by};
+ghost use Rattle.ppmacro.specs.Substituting.{ArgumentsKnown, arguments_in, marked_in, pushed, left_with};
+
+use crate::flying::{Expansion, Hidden};
+use crate::hide_sets::{HideSets, Set};
+use crate::patterns::{Entry, Pattern};
+use crate::substituting::operands::expansion;
+use crate::substituting::{gain_names, mark_before, push_chain, push_token, substitute};
+use pptext::{Fault, Memory, Place};
+use std::alloc::{AllocError, Global};
+
+// The space mark of an entry.
+fn mark_of(entry: &Entry) -> bool
+    ensures { result ≡ (entry_chain entry.now).mark }
+{
+    match entry {
+        Entry::Tok(token) => token.token().space,
+        Entry::Param(mark, _) => *mark,
+    }
+}
+
+// How many tokens come of an entry.
+fn count_of(given: &[Vec<Hidden>], expanded: &[Expansion], entry: &Entry) -> usize {
+    match entry {
+        Entry::Tok(_) => 1,
+        Entry::Param(_, index) => expansion(given, expanded, *index).len(),
+    }
+}
+
+// How many tokens come of all.
+fn count_all(given: &[Vec<Hidden>], expanded: &[Expansion], entries: &[Entry]) -> usize {
+    let mut count: usize = 0;
+    for entry in entries {
+        count = count.saturating_add(count_of(given, expanded, entry));
+    }
+    count
+}
+
+// Puts the tokens of an entry behind the others, the first with this mark. The mark that is pending then.
+fn push_entry<'x, 'a: 'x>(
+    sets: &HideSets,
+    given: &[Vec<Hidden<'x>>],
+    expanded: &[Expansion<'x>],
+    mark: bool,
+    entry: &Entry<'a>,
+    tokens: &mut Vec<Hidden<'x>>,
+) -> Result<bool, AllocError>
+    requires arguments { ArgumentsKnown sets.now given.now expanded.now }
+    requires tokens { AllKnown sets.now tokens.old.items }
+    ensures is { IfOk result (λ pending. (used : Place) → Ok (left_with sets.now tokens.new.items pending)
+        ≡ pushed (hidings sets.now tokens.old.items) mark (chain_tokens (arguments_in sets.now given.now expanded.now) used (entry_chain entry.now))) }
+    ensures known { OnOk result (AllKnown sets.now tokens.new.items) }
+{
+    match entry {
+        Entry::Tok(token) => {
+            push_token(sets, tokens, mark, token.token())?;
+            Ok(false)
+        }
+        Entry::Param(_, index) => {
+            let pending = push_chain(tokens, mark, expansion(given, expanded, *index))?;
+            Ok(pending)
+        }
+    }
+}
+
+// The tokens of all entries, and the mark that is left pending.
+fn entries_tokens<'x, 'a: 'x>(
+    alloc: Global,
+    sets: &HideSets,
+    given: &[Vec<Hidden<'x>>],
+    expanded: &[Expansion<'x>],
+    space: bool,
+    entries: &[Entry<'a>],
+) -> Result<(Vec<Hidden<'x>>, bool), AllocError>
+    requires { ArgumentsKnown sets.now given.now expanded.now }
+    ensures is { IfOk result (λ m. (used : Place) → Ok (left_with sets.now m.0.items m.1)
+        ≡ chains_tokens (arguments_in sets.now given.now expanded.now) used space true (map entry_chain entries.now)) }
+    ensures known { IfOk result (λ m. AllKnown sets.now m.0.items) }
+{
+    let mut tokens = Vec::with_capacity(alloc, count_all(given, expanded, entries))?;
+    let mut pending = space;
+    let mut first = true;
+    for entry in entries {
+        let mark = mark_before(pending, first, mark_of(entry));
+        pending = push_entry(sets, given, expanded, mark, entry, &mut tokens)?;
+        first = false;
+    }
+    Ok((tokens, pending))
+}
+
+// What an invocation is replaced by, and the mark that is left pending.
+fn substitute_entries<'x, 'a: 'x>(
+    alloc: Global,
+    entries: &[Entry<'a>],
+    given: &[Vec<Hidden<'x>>],
+    expanded: &[Expansion<'x>],
+    base: Set,
+    name: &[u8],
+    used: Place,
+    space: bool,
+    sets: &mut HideSets,
+) -> Result<(Vec<Hidden<'x>>, bool), Memory>
+    requires arguments { ArgumentsKnown sets.old given.now expanded.now }
+    requires base { IsKnown sets.old base }
+    ensures is { IfOk result (λ m. Ok (left_with sets.new m.0.items m.1)
+        ≡ substituted_by (map entry_chain entries.now) (arguments_in sets.old given.now expanded.now) (set.insert (set_at sets.old base) name.now) used space) }
+    ensures known { IfOk result (λ m. AllKnown sets.new m.0.items) }
+    ensures keeps { Keeps sets.old sets.new }
+{
+    let (mut tokens, pending) = entries_tokens(alloc, sets, given, expanded, space, entries)?;
+    gain_names(sets, &mut tokens, base, name, used)?;
+    Ok((tokens, pending))
+}
+
+/// What `substitute` gives by a replacement list's chains, without them where neither `#` nor `##` stands there.
+pub fn substitute_pattern<'x, 'a: 'x>(
+    alloc: Global,
+    pattern: &Pattern<'a>,
+    given: &[Vec<Hidden<'x>>],
+    expanded: &[Expansion<'x>],
+    base: Set,
+    name: &[u8],
+    used: Place,
+    space: bool,
+    sets: &mut HideSets,
+) -> Result<Result<(Vec<Hidden<'x>>, bool), Fault>, Memory>
+    requires arguments { ArgumentsKnown sets.old given.now expanded.now }
+    requires base { IsKnown sets.old base }
+    ensures is { IfOk result (λ r. marked_in sets.new r ≡ substituted_by (listed pattern.now) (arguments_in sets.old given.now expanded.now) (set.insert (set_at sets.old base) name.now) used space) }
+    ensures known { IfOk result (λ r. IfOk r (λ m. AllKnown sets.new m.0.items)) }
+    ensures keeps { Keeps sets.old sets.new }
+{
+    match pattern {
+        Pattern::Alone(entries) => {
+            let entries = entries.as_slice();
+            let made = substitute_entries(
+                alloc, entries, given, expanded, base, name, used, space, sets,
+            )?;
+            Ok(Ok(made))
+        }
+        Pattern::Joined(chains) => {
+            let chains = chains.as_slice();
+            substitute(
+                alloc, chains, given, expanded, base, name, used, space, sets,
+            )
+        }
+    }
+}
