@@ -15,6 +15,9 @@ use std::alloc::{AllocError, Global};
 // Room for so many tokens is asked for at once: few arguments have more.
 const USUAL: usize = 8;
 
+// So many arguments have that room. Few invocations have more, and one that has very many mostly has short ones.
+const ROOMY: usize = 64;
+
 /// What stands behind the `(` of an invocation.
 #[derive(Drop)]
 pub(crate) enum Gathered<'a> {
@@ -50,6 +53,11 @@ fn fewer(commas: Option<usize>) -> Option<usize>
     }
 }
 
+/// The room that an argument begins with behind so many others. Takes no memory.
+fn room_behind(arguments: usize) -> usize {
+    if arguments < ROOMY { USUAL } else { 0 }
+}
+
 /// Takes the arguments of an invocation with the matching `)` out of the list behind the `(`.
 pub(crate) fn gather<'a>(
     alloc: Global,
@@ -72,7 +80,7 @@ pub(crate) fn gather<'a>(
             }
             Mark::Comma if separates(depth, commas) => {
                 arguments.push(argument)?;
-                argument = Vec::with_capacity(alloc, USUAL)?;
+                argument = Vec::with_capacity(alloc, room_behind(arguments.len()))?;
                 commas = fewer(commas);
                 continue;
             }
