@@ -50,6 +50,7 @@ fn used_entries(
 
 /// For each of so many parameters, whether a replacement list uses it away from `#` and `##`. The list is passed once, however many
 /// parameters there are.
+#[inline(never)]
 pub(crate) fn used_alone(
     alloc: Global,
     parameters: usize,

@@ -67,7 +67,8 @@ fn push_entries<'a>(
     Ok(())
 }
 
-/// A definition's replacement list. Its parameters are hashed so.
+/// A definition's replacement list. Its parameters are hashed so. What it needs of the stack isn't to stand in each level of arguments that asks for it.
+#[inline(never)]
 pub(crate) fn pattern_of<'a>(
     alloc: Global,
     definition: &Definition<'a>,
