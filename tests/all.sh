@@ -1,9 +1,9 @@
 #!/bin/sh
 # The gate: `rt ci`, and then, over the program that it leaves behind, the tests of the scripts, the examples of the README
 # and of docs/, cut texts and lists, the limits that take no seconds (names, contents of a folder, includes, conditions,
-# arguments, `#line`, options), streams and files that fail, and the runs with refused memory.  The last line is `N passed, N failed`
-# over all of it; before it stands which tests were missed, with the program that is missing and the Debian package that has
-# it.  What takes longer is in tests/hostile.sh.
+# arguments, `#line`, options), all depths at once in a small stack, streams and files that fail, and the runs with refused
+# memory.  The last line is `N passed, N failed` over all of it; before it stands which tests were missed, with the program that
+# is missing and the Debian package that has it.  What takes longer is in tests/hostile.sh.
 #
 #     tests/all.sh [PROGRAM]     with a PROGRAM, no `rt ci`: the other tests, over this one
 case ${1:-/} in
@@ -51,6 +51,7 @@ if has python3 python3 "the tests of the scripts and documents"; then
     count python3 tests/docs_examples.py
     count python3 tests/truncated.py
     count python3 tests/hostile_limits.py -k test_a_name -k test_a_content_of_a_folder -k Text. -k Options.
+    count python3 tests/hostile_stack.py -k Stack.
     count python3 tests/hostile_devices.py
     if has cc gcc "the runs with refused memory"; then
         count python3 tests/refused_memory.py "$CPPUNITS"

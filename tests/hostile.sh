@@ -1,7 +1,8 @@
 #!/bin/sh
 # What a service meets that preprocesses text from strangers: refused memory, cut texts and lists, limits, streams and files
 # that fail, small stacks, names chosen to collide, and cost that is to grow as the work does.  Of these the gate, tests/all.sh,
-# has the program's refused memory, cut texts and lists, limits that take no seconds, and streams and files that fail.
+# has the program's refused memory, cut texts and lists, limits that take no seconds, all depths at once in a small stack, and
+# streams and files that fail.
 #
 #     tests/hostile.sh [--full] [PROGRAM]     PROGRAM is by default crates/cppunits/out/cppunits
 #
