@@ -17,10 +17,12 @@ kept=$(mktemp -d) || exit 1
 trap 'rm -rf "$kept"' EXIT
 : > "$kept/missed"
 
-# Runs a command and adds the counts of its last line; one that fails and counts no failure counts as one.
+# Runs a command, says how long it took, and adds the counts of its last line; one that fails and counts no failure counts as one.
 count() {
     printf '== %s\n' "$*"
+    began=$(date +%s)
     { "$@" 2>&1; echo $? > "$kept/status"; } | tee "$kept/log"
+    printf 'took %s seconds\n' $(($(date +%s) - began))
     counts=$(tail -n 1 "$kept/log" | sed -n 's/^\([0-9][0-9]*\) passed, \([0-9][0-9]*\) failed$/\1 \2/p')
     set -- ${counts:-0 0}
     if [ "$2" -eq 0 ] && { [ -z "$counts" ] || [ "$(cat "$kept/status")" -ne 0 ]; }; then

@@ -66,6 +66,7 @@ part() {
 part "refused memory" python3 tests/refused_memory.py "$program"
 for folder in crates/*/; do
     crate=$(basename "$folder")
+    grep -qr '#\[test\]' "${folder}src" || continue
     if [ -x "crates/$crate/out/${crate}_tests" ]; then
         part "refused memory in the tests of $crate" python3 tests/refused_in_tests.py "$crate"
     else

@@ -8,6 +8,7 @@ ghost use Rattle.ppexpand.specs.Shown.{gathered_in, GatheredKnown, given_in, fit
 
 use crate::cursor::Cursor;
 use crate::spellings::{Mark, mark_of};
+use crate::supply::Supply;
 use ppmacro::Hidden;
 use pptext::Spelling;
 use std::alloc::{AllocError, Global};
@@ -60,15 +61,15 @@ fn room_behind(arguments: usize) -> usize {
 
 /// Takes the arguments of an invocation with the matching `)` out of the list behind the `(`.
 pub(crate) fn gather<'a>(
-    alloc: Global,
+    supply: &mut Supply<'a>,
     list: &mut Cursor<'a>,
     commas: Option<usize>,
 ) -> Result<Gathered<'a>, AllocError>
     ensures is { IfOk result (λ g. (sets : Numbered) → gathered_in sets list.new g ≡ gather 0 commas (hidings sets list.old)) }
     ensures known { IfOk result (λ g. (sets : Numbered) → AllKnown sets list.old → GatheredKnown sets list.new g) }
 {
-    let mut arguments: Vec<Vec<Hidden<'a>>> = Vec::new(alloc);
-    let mut argument = Vec::with_capacity(alloc, USUAL)?;
+    let mut arguments: Vec<Vec<Hidden<'a>>> = Vec::new(supply.alloc());
+    let mut argument = supply.list(USUAL)?;
     let mut depth: usize = 0;
     let mut commas = commas;
     while let Some(hidden) = list.next() {
@@ -80,7 +81,7 @@ pub(crate) fn gather<'a>(
             }
             Mark::Comma if separates(depth, commas) => {
                 arguments.push(argument)?;
-                argument = Vec::with_capacity(alloc, room_behind(arguments.len()))?;
+                argument = supply.list(room_behind(arguments.len()))?;
                 commas = fewer(commas);
                 continue;
             }

@@ -22,6 +22,7 @@ use crate::passed::{Passed, Run};
 use crate::spellings::at_use;
 use crate::spending::less_one;
 use crate::stretch::{Stretch, is_plain, split_plain};
+use crate::supply::Supply;
 use crate::turn::{Invocation, Next, finish, next_turn};
 use ppmacro::{Expansion, Hidden, HideSets, Macro, Pattern, Table};
 use pptext::{Fault, Memory, Token};
@@ -29,6 +30,9 @@ use std::alloc::{AllocError, Global};
 
 /// The deepest level of lists: a run of text is at level 0, and an argument one level deeper than its invocation.
 const DEEPEST: u32 = 256;
+
+/// Room for so many tokens that pass one by one serves most runs of text.
+const ROOM: usize = 32;
 
 // So many levels need stack. What leads from a level to the next returns little by value, and leaves what it found with its caller; what
 // doesn't lead there isn't to be inlined into it.
@@ -55,7 +59,7 @@ fn skip_flying<'t, 'x, 'a>(
 {
     loop {
         match list.next_plain(table) {
-            Ahead::Passes(hidden) => passed.push(hidden)?,
+            Ahead::Passes(hidden) => passed.push_single(hidden)?,
             Ahead::Names(named) => return Ok(Some(named)),
             Ahead::Unknown => return Ok(None),
         }
@@ -102,12 +106,24 @@ fn raise_depth(head: &Hidden, fault: &mut Option<Fault>) -> Result<(), AllocErro
     Ok(())
 }
 
+/// Keeps the room of an invocation's arguments, which are done with.
+#[inline(never)]
+fn keep_arguments<'x>(
+    supply: &mut Supply<'x>,
+    call: &mut Option<Invocation<'_, 'x, '_>>,
+) -> Result<(), AllocError> {
+    match call.take() {
+        Some(call) => supply.keep(call.arguments),
+        None => Ok(()),
+    }
+}
+
 /// Takes the next turn of a list, whose next token names the macro `named`, up to an invocation of a function-like macro: that becomes `call`, and is still to be followed. What
 /// passes is put behind `passed`, the list becomes what is behind it, and `left` what is left of the budget. Whether the list goes on; where
 /// a fault ended it, `fault` becomes that.
 #[inline(never)]
 fn take_turn<'t, 'x, 'a: 'x>(
-    alloc: Global,
+    supply: &mut Supply<'x>,
     table: &'t Table<'a>,
     env: &Env,
     left: &mut Option<u64>,
@@ -133,14 +149,14 @@ fn take_turn<'t, 'x, 'a: 'x>(
     ensures passed_known { OnOk result (AllKnown sets.new passed.new) }
     ensures keeps { Keeps sets.old sets.new }
 {
-    match next_turn(alloc, table, env, *left, sets, named, list)? {
+    match next_turn(supply, table, env, *left, sets, named, list)? {
         Next::Done => Ok(false),
         Next::Refused(found) => {
             *fault = Some(found);
             Ok(false)
         }
         Next::Passes(head) => {
-            passed.push(head)?;
+            passed.push_single(head)?;
             Ok(true)
         }
         Next::Failed(found) => {
@@ -164,7 +180,7 @@ fn take_turn<'t, 'x, 'a: 'x>(
 /// it leaves.
 #[cycle(expansion)]
 fn expand_argument<'x, 'a: 'x>(
-    alloc: Global,
+    supply: &mut Supply<'x>,
     table: &Table<'a>,
     env: &Env,
     level: u32,
@@ -191,12 +207,15 @@ fn expand_argument<'x, 'a: 'x>(
     if all_pass(table, argument) {
         return Ok(Some(Expansion::AsGiven));
     }
-    let mut list = Cursor::over(alloc, Stretch::new(Default::default(), sets.empty()));
-    list.push_clones(alloc, argument)?;
+    let mut list = Cursor::over(
+        supply.alloc(),
+        Stretch::new(Default::default(), sets.empty()),
+    );
+    list.push_clones(supply.alloc(), argument)?;
     // An argument mostly comes to about as many tokens as it has.
-    let mut passed = Passed::with_room(alloc, argument.len())?;
+    let mut passed = Passed::with_room(supply.alloc(), argument.len())?;
     expand_list(
-        alloc,
+        supply,
         table,
         env,
         level + 1,
@@ -209,14 +228,14 @@ fn expand_argument<'x, 'a: 'x>(
     if fault.is_some() {
         return Ok(None);
     }
-    Ok(Some(Expansion::Made(passed.into_vec(alloc)?)))
+    Ok(Some(Expansion::Made(passed.into_vec(supply.alloc())?)))
 }
 
 /// The expansions of the arguments that stand away from `#` and `##` in this list, which is the macro's, each by its
 /// parameter; or none where one raised a fault, which `fault` becomes. `left` becomes what they leave.
 #[cycle(expansion)]
 fn expand_arguments<'x, 'a: 'x>(
-    alloc: Global,
+    supply: &mut Supply<'x>,
     table: &Table<'a>,
     env: &Env,
     level: u32,
@@ -240,8 +259,8 @@ fn expand_arguments<'x, 'a: 'x>(
     ensures keeps { Keeps sets.old sets.new }
 {
     let count = call.arguments.len();
-    let used = used_alone(alloc, count, pattern)?;
-    let mut expanded = Vec::with_capacity(alloc, count)?;
+    let used = used_alone(supply.alloc(), count, pattern)?;
+    let mut expanded = Vec::with_capacity(supply.alloc(), count)?;
     for (parameter, argument) in call.arguments.iter().enumerate() {
         if !used[parameter] {
             push_expansion(&mut expanded, Expansion::Unused)?;
@@ -249,7 +268,7 @@ fn expand_arguments<'x, 'a: 'x>(
         }
         let head = &call.head;
         let tokens = argument.as_slice();
-        match expand_argument(alloc, table, env, level, left, sets, head, tokens, fault)? {
+        match expand_argument(supply, table, env, level, left, sets, head, tokens, fault)? {
             Some(expansion) => push_expansion(&mut expanded, expansion)?,
             None => return Ok(None),
         }
@@ -261,7 +280,7 @@ fn expand_arguments<'x, 'a: 'x>(
 /// is left of the budget.
 #[cycle(expansion)]
 fn follow<'x, 'a: 'x>(
-    alloc: Global,
+    supply: &mut Supply<'x>,
     table: &Table<'a>,
     env: &Env,
     level: u32,
@@ -280,15 +299,15 @@ fn follow<'x, 'a: 'x>(
     ensures known { OnOk result (fault.new ≡ None → AllKnown sets.new list.new) }
     ensures keeps { Keeps sets.old sets.new }
 {
-    let pattern = call.replaced.pattern(alloc, table.hashing())?;
+    let pattern = call.replaced.pattern(supply.alloc(), table.hashing())?;
     let Some(expanded) = expand_arguments(
-        alloc, table, env, level, left, sets, call, &pattern, fault,
+        supply, table, env, level, left, sets, call, &pattern, fault,
     )?
     else {
         return Ok(());
     };
     finish(
-        alloc,
+        supply.alloc(),
         sets,
         call,
         &pattern,
@@ -302,7 +321,7 @@ fn follow<'x, 'a: 'x>(
 /// goes on; where a fault ended it, `fault` becomes that.
 #[cycle(expansion)]
 fn advance<'t, 'x, 'a: 'x>(
-    alloc: Global,
+    supply: &mut Supply<'x>,
     table: &'t Table<'a>,
     env: &Env,
     level: u32,
@@ -327,12 +346,13 @@ fn advance<'t, 'x, 'a: 'x>(
 {
     let mut call = None;
     let goes = take_turn(
-        alloc, table, env, left, sets, named, list, passed, fault, &mut call,
+        supply, table, env, left, sets, named, list, passed, fault, &mut call,
     )?;
-    let Some(call) = &call else {
+    let Some(found) = &call else {
         return Ok(goes);
     };
-    follow(alloc, table, env, level, left, sets, call, list, fault)?;
+    follow(supply, table, env, level, left, sets, found, list, fault)?;
+    keep_arguments(supply, &mut call)?;
     Ok(fault.is_none())
 }
 
@@ -340,7 +360,7 @@ fn advance<'t, 'x, 'a: 'x>(
 /// that.
 #[cycle(expansion)]
 fn expand_list<'x, 'a: 'x>(
-    alloc: Global,
+    supply: &mut Supply<'x>,
     table: &Table<'a>,
     env: &Env,
     level: u32,
@@ -362,7 +382,7 @@ fn expand_list<'x, 'a: 'x>(
     loop {
         let named = skip(table, list, passed)?;
         if !advance(
-            alloc, table, env, level, left, sets, named, list, passed, fault,
+            supply, table, env, level, left, sets, named, list, passed, fault,
         )? {
             return Ok(());
         }
@@ -393,11 +413,12 @@ fn expand_rest<'x, 'a: 'x>(
 {
     let mut sets = HideSets::with_hasher(alloc, table.hashing())?;
     let mut list = Cursor::over(alloc, Stretch::new(rest, sets.empty()));
-    let mut passed = Passed::new(alloc);
+    let mut supply = Supply::new(alloc);
+    let mut passed = Passed::with_room(alloc, ROOM)?;
     let mut left = left;
     let mut fault = None;
     expand_list(
-        alloc,
+        &mut supply,
         table,
         env,
         0,
@@ -407,6 +428,7 @@ fn expand_rest<'x, 'a: 'x>(
         &mut passed,
         &mut fault,
     )?;
+    passed.fit()?;
     Ok(Expanded {
         tokens: Run::new(front, passed),
         fault,

@@ -13,8 +13,7 @@ mod run_iter;
 mod spellings;
 mod spending;
 mod stretch;
-#[cfg(test)]
-mod tests;
+mod supply;
 mod turn;
 
 pub use env::Env;

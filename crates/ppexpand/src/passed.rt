@@ -8,10 +8,9 @@ use ppmacro::Hidden;
 use pptext::Token;
 use std::alloc::{AllocError, Global};
 use std::marker::Model;
-use std::mem;
 
 // So many tokens of a file pass one by one: a piece of their own would end the list of those before them, and the next list asks for memory again.
-const FEW: usize = 4;
+const FEW: usize = 12;
 
 /// A stretch of a file, or tokens that passed one by one.
 #[derive(Drop)]
@@ -38,6 +37,16 @@ impl<'a> Model for Passed<'a> {
     ghost view = { λ p. flat_map piece_list p.pieces.items ++ p.singles.items };
 }
 
+// Moves tokens to a list with room for them and no more. The room that they had stays, for those that follow.
+fn fitted<'a>(singles: &mut Vec<Hidden<'a>>) -> Result<Vec<Hidden<'a>>, AllocError>
+    ensures same { IfOk result (λ v. v.items ≡ singles.old.items) }
+    ensures none { OnOk result (singles.new.items ≡ []) }
+{
+    let mut fitted = Vec::with_capacity(*singles.allocator(), singles.len())?;
+    fitted.append(singles)?;
+    Ok(fitted)
+}
+
 // Closes the piece of those that passed one by one.
 fn close<'a>(pieces: &mut Vec<Piece<'a>>, singles: &mut Vec<Hidden<'a>>) -> Result<(), AllocError>
     ensures same { OnOk result (flat_map piece_list pieces.new.items ≡ flat_map piece_list pieces.old.items ++ singles.old.items) }
@@ -46,9 +55,7 @@ fn close<'a>(pieces: &mut Vec<Piece<'a>>, singles: &mut Vec<Hidden<'a>>) -> Resu
     if singles.is_empty() {
         return Ok(());
     }
-    let empty = Vec::new(*singles.allocator());
-    let made = mem::replace(singles, empty);
-    pieces.push(Piece::Made(made))?;
+    pieces.push(Piece::Made(fitted(singles)?))?;
     Ok(())
 }
 
@@ -86,19 +93,21 @@ impl<'a> Passed<'a> {
     }
 
     /// Puts a token behind the others.
-    pub(crate) fn push(&mut self, hidden: Hidden<'a>) -> Result<(), AllocError>
+    #[inline(always)]
+    pub(crate) fn push_single(&mut self, hidden: Hidden<'a>) -> Result<(), AllocError>
         ensures { OnOk result (self.new ≡ self.old ++ hidden.entry ∷ []) }
     {
         self.singles.push(hidden)?;
         Ok(())
     }
 
-    // Gives back room for more: what passed is kept until all units are done, and a list that grew holds up to as much room again.
-    fn fit(&mut self)
-        ensures { self.new ≡ self.old }
+    /// Gives back room for more: what passed is kept until all units are done.
+    pub(crate) fn fit(&mut self) -> Result<(), AllocError>
+        ensures { OnOk result (self.new ≡ self.old) }
     {
         self.pieces.shrink_to_fit();
-        self.singles.shrink_to_fit();
+        self.singles = fitted(&mut self.singles)?;
+        Ok(())
     }
 
     /// Whether nothing passed.
@@ -189,8 +198,6 @@ impl<'a> Run<'a> {
     pub(crate) fn new(front: &'a [Token], passed: Passed<'a>) -> Run<'a>
         ensures { result ≡ front.now ++ tokens_of passed.entry }
     {
-        let mut passed = passed;
-        passed.fit();
         Run { front, passed }
     }
 

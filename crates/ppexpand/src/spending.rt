@@ -19,23 +19,3 @@ pub fn less_one(left: Option<u64>) -> Option<u64>
         None => None,
     }
 }
-
-#[cfg(test)]
-mod tests {
-    use super::*;
-
-    #[test]
-    fn tells_what_is_spent(rt: HostRuntime) {
-        assert_eq!(&rt; is_spent(Some(0)), true);
-        assert_eq!(&rt; is_spent(Some(1)), false);
-        assert_eq!(&rt; is_spent(None), false);
-    }
-
-    #[test]
-    fn spends_one(rt: HostRuntime) {
-        assert_eq!(&rt; less_one(Some(u64::MAX)), Some(u64::MAX - 1));
-        assert_eq!(&rt; less_one(Some(1)), Some(0));
-        assert_eq!(&rt; less_one(Some(0)), Some(0));
-        assert_eq!(&rt; less_one(None), None);
-    }
-}

@@ -1,5 +1,5 @@
 // What the next token of a list calls for (6.10.3, 6.10.3.4).
-ghost use Rattle.std.specs.Prelude.{◌≡◌, IfOk, OnOk, ◌∷◌, Some, None, map};
+ghost use Rattle.std.specs.Prelude.{◌≡◌, IfOk, OnOk, ◌∷◌, ◌++◌, Some, None, map};
 ghost use Rattle.std.specs.Option.{option_copied};
 ghost use Rattle.std.specs.FinSet as set;
 ghost use Rattle.ppmacro.specs.Numbered.{Numbered};
@@ -8,7 +8,7 @@ ghost use Rattle.ppmacro.specs.Substituting.{ArgumentsKnown, arguments_in, token
 ghost use Rattle.ppmacro.specs.Chains.{chains_of};
 ghost use Rattle.ppmacro.specs.Lone.{lone_chain};
 ghost use Rattle.ppmacro.specs.Patterns.{listed};
-ghost use Rattle.ppmacro.specs.Substitution.{Arguments, substituted, substituted_by};
+ghost use Rattle.ppmacro.specs.Substitution.{Arguments, plain, with_mark, gained, substituted, substituted_by};
 ghost use Rattle.ppexpand.specs.Arguments.{gather, separators};
 ghost use Rattle.ppexpand.specs.declared.env.Env.{Env};
 ghost use Rattle.ppexpand.specs.Turn.{Replaced, macro_of, replaced_by, no_arguments, predefined_value, called, invoked, function_turn, macro_turn};
@@ -24,11 +24,11 @@ use crate::env::Env;
 use crate::predefined::predefined_value;
 use crate::spellings::{at_use, is_open, is_quote, lone_quote, over_budget};
 use crate::spending::is_spent;
+use crate::supply::Supply;
 use ppmacro::{
-    Builtin, Expansion, Hidden, HideSets, Macro, Pattern, Set, Shape, Table, substitute_lone,
-    substitute_pattern,
+    Builtin, Expansion, Hidden, HideSets, Macro, Pattern, Set, Shape, Table, substitute_pattern,
 };
-use pptext::{Fault, Memory, Spelling, Token};
+use pptext::{Fault, Memory, Place, Spelling, Token};
 use std::alloc::{AllocError, Global};
 
 /// An invocation of a function-like macro, which is taken out of its list.
@@ -113,9 +113,49 @@ fn replace<'x, 'a: 'x>(
     }
 }
 
+/// A token of a replacement list, with this mark, the names that it gains, and its place of use.
+fn gained_token<'a>(
+    sets: &HideSets,
+    token: &'a Token,
+    mark: bool,
+    gain: Set,
+    used: Place,
+) -> Hidden<'a>
+    requires { IsKnown sets.now gain }
+    ensures is { hiding sets.now result ≡ gained (set_at sets.now gain) used (with_mark mark (plain token.now)) }
+    ensures known { IsKnown sets.now result.hide }
+{
+    let _numbered = sets;
+    let mut hidden = Hidden::new(token, gain);
+    hidden.mark(mark);
+    hidden.turn(used, gain);
+    hidden
+}
+
+/// Puts tokens of a replacement list before the rest of the list, each with its own mark.
+fn push_gained<'x, 'a: 'x>(
+    sets: &HideSets,
+    body: &'a [Token],
+    gain: Set,
+    used: Place,
+    list: &mut Cursor<'x>,
+) -> Result<(), AllocError>
+    requires gain { IsKnown sets.now gain }
+    requires list { AllKnown sets.now list.old }
+    ensures is { OnOk result (hidings sets.now list.new
+        ≡ map (λ t. gained (set_at sets.now gain) used (plain t)) body.now ++ hidings sets.now list.old) }
+    ensures known { OnOk result (AllKnown sets.now list.new) }
+{
+    let mut rest = body;
+    while let Some((last, others)) = rest.split_last() {
+        list.push(gained_token(sets, last, last.space, gain, used))?;
+        rest = others;
+    }
+    Ok(())
+}
+
 /// Puts the tokens of a replacement list without `##` before the rest of the list. Each token gains the names of `base` and that of the macro.
 fn replace_by<'x, 'a: 'x>(
-    alloc: Global,
     sets: &mut HideSets,
     body: &'a [Token],
     base: Set,
@@ -131,10 +171,13 @@ fn replace_by<'x, 'a: 'x>(
     ensures known { OnOk result (AllKnown sets.new list.new) }
     ensures keeps { Keeps sets.old sets.new }
 {
-    let (name, used, space) = (head.text(), head.used(), head.space());
-    let (tokens, pending) = substitute_lone(alloc, body, base, name, used, space, sets)?;
-    list.mark_next(pending);
-    list.push_all(tokens)?;
+    let Some((first, others)) = body.split_first() else {
+        list.mark_next(head.space());
+        return Ok(());
+    };
+    let gain = sets.with(base, head.text())?;
+    push_gained(sets, others, gain, head.used(), list)?;
+    list.push(gained_token(sets, first, head.space(), gain, head.used()))?;
     Ok(())
 }
 
@@ -179,7 +222,7 @@ fn object_turn<'t, 'x, 'a: 'x>(
 {
     let base = head.hide();
     if let Some(body) = replaced.lone_tokens() {
-        replace_by(alloc, sets, body, base, &head, list)?;
+        replace_by(sets, body, base, &head, list)?;
         return Ok(Next::Replaced);
     }
     let chains = replaced.chains(alloc)?;
@@ -224,7 +267,7 @@ fn called<'t, 'x, 'a: 'x>(
 
 /// The turn of a function-like macro's name, behind which `(` stands.
 fn invoked<'t, 'x, 'a: 'x>(
-    alloc: Global,
+    supply: &mut Supply<'x>,
     sets: &mut HideSets,
     head: Hidden<'x>,
     replaced: &'t Macro<'a>,
@@ -240,9 +283,9 @@ fn invoked<'t, 'x, 'a: 'x>(
     ensures known { IfOk result (λ n. NextKnown sets.new list.new n) }
     ensures keeps { Keeps sets.old sets.new }
 {
-    match gather(alloc, list, separators(names, variadic))? {
+    match gather(supply, list, separators(names, variadic))? {
         Gathered::Closed(arguments, close) => {
-            let fitting = fit(alloc, arguments, names, variadic);
+            let fitting = fit(supply.alloc(), arguments, names, variadic);
             called(sets, head, replaced, fitting, &close, list)
         }
         Gathered::Quoted(quote) => Ok(Next::Failed(lone_quote(&quote)?)),
@@ -252,7 +295,7 @@ fn invoked<'t, 'x, 'a: 'x>(
 
 /// The turn of a function-like macro's name.
 fn function_turn<'t, 'x, 'a: 'x>(
-    alloc: Global,
+    supply: &mut Supply<'x>,
     sets: &mut HideSets,
     head: Hidden<'x>,
     replaced: &'t Macro<'a>,
@@ -271,7 +314,7 @@ fn function_turn<'t, 'x, 'a: 'x>(
         return Ok(Next::Passes(head));
     };
     if is_open(&next) {
-        return invoked(alloc, sets, head, replaced, names, variadic, list);
+        return invoked(supply, sets, head, replaced, names, variadic, list);
     }
     list.push(next)?;
     Ok(Next::Passes(head))
@@ -279,7 +322,7 @@ fn function_turn<'t, 'x, 'a: 'x>(
 
 /// The turn of a macro's name.
 fn macro_turn<'t, 'x, 'a: 'x>(
-    alloc: Global,
+    supply: &mut Supply<'x>,
     env: &Env,
     sets: &mut HideSets,
     head: Hidden<'x>,
@@ -295,15 +338,15 @@ fn macro_turn<'t, 'x, 'a: 'x>(
 {
     match &replaced.definition().shape {
         Shape::Predefined(builtin) => {
-            return predefined_turn(alloc, env, sets, head, *builtin, list);
+            return predefined_turn(supply.alloc(), env, sets, head, *builtin, list);
         }
-        Shape::ObjectLike => object_turn(alloc, sets, head, replaced, list),
+        Shape::ObjectLike => object_turn(supply.alloc(), sets, head, replaced, list),
         Shape::FunctionLike {
             parameters,
             variadic,
         } => {
             let names = parameters.as_slice();
-            function_turn(alloc, sets, head, replaced, names, *variadic, list)
+            function_turn(supply, sets, head, replaced, names, *variadic, list)
         }
     }
 }
@@ -336,7 +379,7 @@ fn spent_turn<'t, 'x, 'a: 'x>(
 /// Takes the next token of a list, which names the macro `named`, and what belongs to its invocation; a replacement is put before
 /// the rest. Where nothing is left of the budget, a name that is to be replaced is refused.
 pub(crate) fn next_turn<'t, 'x, 'a: 'x>(
-    alloc: Global,
+    supply: &mut Supply<'x>,
     table: &Table<'a>,
     env: &Env,
     left: Option<u64>,
@@ -366,7 +409,7 @@ pub(crate) fn next_turn<'t, 'x, 'a: 'x>(
     if is_spent(left) {
         return Ok(spent_turn(head, replaced, list)?);
     }
-    macro_turn(alloc, env, sets, head, replaced, list)
+    macro_turn(supply, env, sets, head, replaced, list)
 }
 
 /// Replaces an invocation whose arguments are expanded, before the rest of the list; or `fault` becomes the fault. The replacement list is

@@ -44,6 +44,7 @@ pub(crate) fn operand(tokens: &[Token]) -> Option<(&Token, &[Token])>
 }
 
 /// Whether an identifier is defined as a macro name.
+#[inline(always)]
 pub(crate) fn is_macro_name(table: &Table, name: &Token) -> bool
     ensures { result ≡ is_some (map.get table.now name.now.text) }
 {

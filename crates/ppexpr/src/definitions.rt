@@ -26,6 +26,7 @@ fn behind<'x>(tokens: &'x [Token], text: &[u8]) -> Option<&'x [Token]>
 }
 
 // Whether the name that the tokens ask for at their beginning is defined, and what stands behind it.
+#[inline(always)]
 fn question<'x>(table: &Table, tokens: &'x [Token]) -> Option<(bool, &'x [Token])>
     ensures { IfSome result (λ r. BeginsWith table.now tokens.now (Constant (truth r.0)) r.1.now) }
 {
@@ -38,6 +39,7 @@ fn question<'x>(table: &Table, tokens: &'x [Token]) -> Option<(bool, &'x [Token]
 }
 
 // The same, perhaps behind `!`.
+#[inline(always)]
 fn term<'x>(table: &Table, tokens: &'x [Token]) -> Option<(bool, &'x [Token])>
     ensures { IfSome result (λ r. BeginsTruth table.now 12 tokens.now r.0 r.1.now) }
 {

@@ -1,5 +1,6 @@
 -- Marks of a table's names.
-use Rattle.std.proofs.Common.{◌≡◌, Bool, true, false, cond, List, [], Some, None, refl, sym, ap, ◌∙◌, true≢false}
+use Rattle.std.proofs.Common.{◌≡◌, ℕ, ◌<◌, Bool, true, false, cond, List, [], Some, None, refl, sym, ap, ◌∙◌}
+use native.Mathlib.Omega.{arith}
 use Rattle.std.specs.FinMap as table
 use Rattle.std.specs.Ordering.{nat_cmp, eq_by_cmp}
 use Rattle.std.specs.Cmp.Lexicographic.{slice_cmp}
@@ -8,24 +9,24 @@ use Rattle.std.proofs.lemmas.Slice.Eq.{bytes_eq-Decides}
 use Rattle.std.proofs.lemmas.Cmp.{nat_list_cmp_total}
 use Rattle.ppmacro.specs.declared.macros.Definition.{Definition}
 use Rattle.ppmacro.specs.Names.{Name, Macros}
-use Rattle.ppmacro.specs.Marks.{shows, AreMarked}
+use Rattle.ppmacro.specs.Marks.{at, AreMarked}
 
 -- marks that grew
-pub marked-grown : (old new : List Bool) (m : Macros) → ((n : Name) → shows new n ≡ false → shows old n ≡ false) → AreMarked old m → AreMarked new m
+pub marked-grown : (old new : List ℕ) (m : Macros) → ((n : Name) → at new n ≡ 0 → at old n ≡ 0) → AreMarked old m → AreMarked new m
 marked-grown old new m grows h n e = h n (grows n e)
 
 -- a name that joins with its mark
-pub marked-insert : (marks : List Bool) (m : Macros) (name : Name) (d : Definition) → shows marks name ≡ true → AreMarked marks m → AreMarked marks (table.insert m name d)
+pub marked-insert : (marks : List ℕ) (m : Macros) (name : Name) (d : Definition) → 0 < at marks name → AreMarked marks m → AreMarked marks (table.insert m name d)
 marked-insert marks m name d here h n e = table.get-insert nat_list_cmp_total m name d n ∙ go (eq_by_cmp (slice_cmp nat_cmp) n name) refl
   where
     go : (b : Bool) → eq_by_cmp (slice_cmp nat_cmp) n name ≡ b → cond b (Some d) (table.get m n) ≡ None
     go true is =
         let same : n ≡ name = (bytes_eq-Decides n name).0 (sym (is_eq-slice_cmp n name) ∙ is) in
-        absurd (true≢false (sym here ∙ (ap (shows marks) (sym same) ∙ e)))
+        absurd (let zero : at marks name ≡ 0 = ap (at marks) (sym same) ∙ e in omega arith)
     go false is = h n e
 
 -- a name that leaves
-pub marked-remove : (marks : List Bool) (m : Macros) (name : Name) → AreMarked marks m → AreMarked marks (table.remove m name)
+pub marked-remove : (marks : List ℕ) (m : Macros) (name : Name) → AreMarked marks m → AreMarked marks (table.remove m name)
 marked-remove marks m name h n e = table.get-remove nat_list_cmp_total m name n ∙ go (eq_by_cmp (slice_cmp nat_cmp) n name)
   where
     go : (b : Bool) → cond b None (table.get m n) ≡ None
@@ -33,5 +34,5 @@ marked-remove marks m name h n e = table.get-remove nat_list_cmp_total m name n 
     go false = h n e
 
 -- no names
-pub marked-none : (marks : List Bool) → AreMarked marks (table.from_entries [])
+pub marked-none : (marks : List ℕ) → AreMarked marks (table.from_entries [])
 marked-none marks n e = table.get-from_entries nat_list_cmp_total [] n

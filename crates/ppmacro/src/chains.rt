@@ -138,7 +138,8 @@ fn parameter_found(shape: &Shape, name: &[u8], found: Option<usize>) -> Option<u
     or_last(found, last, names.len())
 }
 
-// Which parameter has this name.
+// Which parameter has this name. A call of it is for identifiers alone.
+#[inline(never)]
 fn parameter_named(shape: &Parameters, name: &[u8]) -> Option<usize>
     ensures { result ≡ parameter_named shape.now name.now }
 {
@@ -146,6 +147,7 @@ fn parameter_named(shape: &Parameters, name: &[u8]) -> Option<usize>
 }
 
 /// Which parameter a token is.
+#[inline(always)]
 pub(crate) fn parameter_of(shape: &Parameters, token: &Token) -> Option<usize>
     ensures { result ≡ parameter_of shape.now token.now }
 {

@@ -15,8 +15,6 @@ mod places;
 mod spellings;
 mod substituting;
 mod tables;
-#[cfg(test)]
-mod tests;
 
 pub use borrowed::{Body, Leaf};
 pub use defining::{define, undef};
@@ -26,7 +24,6 @@ pub use laws::{lays_out_chains, reads_headings};
 pub use macros::{Builtin, Chain, Chains, Definition, Macro, Names, Operand, Operands, Shape};
 pub use patterns::{Entry, Pattern};
 pub use substituting::{
-    paste, push_escaped, stringize, substitute, substitute_lone, substitute_pattern,
-    tells_each_kind,
+    paste, push_escaped, stringize, substitute, substitute_pattern, tells_each_kind,
 };
 pub use tables::Table;

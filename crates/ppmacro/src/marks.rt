@@ -1,66 +1,100 @@
-// Marks, by which a table tells at once that most identifiers name no macro.
-ghost use Rattle.std.specs.Prelude.{◌≡◌, ◌<◌, ℕ, List, false, true};
-ghost use Rattle.ppmacro.specs.Marks.{mark_of, shows};
+// Marks, by which a table tells at once that most identifiers name no macro, and where a macro probably stands.
+ghost use Rattle.std.specs.Prelude.{◌≡◌, ◌+◌, ◌<◌, ◌≤◌, ℕ, List, length, min};
+ghost use Rattle.std.specs.Hash.FoldHasher.{read_u32};
+ghost use Rattle.ppmacro.specs.Marks.{mark_of, short_mark, at};
 
 use std::alloc::{AllocError, Global};
 use std::marker::Model;
 
-/// How many marks there are.
+// How many marks there are.
 const MARKS: usize = 32_768;
+
+// The four bytes from here on, the lowest first.
+fn word(bytes: &[u8], at: usize) -> u64
+    requires { at + 4 ≤ length bytes.now }
+    ensures value { result ≡ read_u32 bytes.now at }
+    ensures bound { result < 4_294_967_296 }
+{
+    u32::from_le_bytes([bytes[at], bytes[at + 1], bytes[at + 2], bytes[at + 3]]) as u64
+}
 
 /// The mark of a name, which few others share.
 #[tactic(auto, unfolding(crate::specs::Marks::mark_of))]
-fn mark_of(name: &[u8]) -> usize
+pub(crate) fn mark_of(name: &[u8]) -> usize
     ensures value { result ≡ mark_of name.now }
+    ensures bound { result < 32_768 }
+{
+    let length = name.len();
+    if length < 4 {
+        return short_mark(name);
+    }
+    let rest = length - 4;
+    let sum = word(name, rest / 2) * 506_952_113
+        + word(name, rest) * 625_341_585
+        + (length % 64) as u64 * 461_845_907;
+    (sum / 16_777_216 % 32_768) as usize
+}
+
+// The same of a name of less than four bytes.
+#[tactic(auto, unfolding(crate::specs::Marks::short_mark))]
+fn short_mark(name: &[u8]) -> usize
+    requires { length name.now < 4 }
+    ensures value { result ≡ short_mark name.now }
     ensures bound { result < 32_768 }
 {
     let length = name.len();
     if length == 0 {
         return 0;
     }
-    let quarter = length / 4;
-    let front = usize::from(name[quarter]);
-    let back = usize::from(name[length - 1 - quarter]);
+    let first = usize::from(name[0]);
     let last = usize::from(name[length - 1]);
-    (front * 41 + back * 1_021 + last * 211 + length % 64 * 4_099) % MARKS
+    first * 125 + last * 2 + length
 }
 
-/// Which marks were put, by number.
+/// At each mark 0, or one more than the place that a name had in the table when it put the mark. The name may have moved since.
 #[derive(Drop)]
 pub(crate) struct Marks {
-    marks: Vec<bool>,
+    marks: Vec<u16>,
 }
 
 impl Model for Marks {
-    ghost use Rattle.std.specs.Prelude.{◌≡◌, Bool, List, vec_len};
+    ghost use Rattle.std.specs.Prelude.{◌≡◌, ℕ, List, vec_len};
 
-    ghost Value = { List Bool };
+    ghost Value = { List ℕ };
 
     ghost view = { λ s. s.marks.items };
 
     ghost invariant = { λ s. vec_len s.marks ≡ 32_768 };
 }
 
+// What a place leaves at a mark: places that are too high leave the highest.
+fn left_by(place: usize) -> u16
+    ensures value { result ≡ min place 65_534 + 1 }
+    ensures positive { 0 < result }
+{
+    place.min(65_534) as u16 + 1
+}
+
 impl Marks {
     /// None.
     pub(crate) fn new(alloc: Global) -> Result<Marks, AllocError> {
         Ok(Marks {
-            marks: vec![in alloc; false; MARKS]?,
+            marks: vec![in alloc; 0; MARKS]?,
         })
     }
 
-    /// Whether the mark of this name was put.
-    pub(crate) fn shows(&self, name: &[u8]) -> bool
-        ensures { result ≡ shows self.now name.now }
+    /// What stands at the mark of this name.
+    pub(crate) fn at(&self, name: &[u8]) -> u16
+        ensures { result ≡ at self.now name.now }
     {
         self.marks[mark_of(name)]
     }
 
-    /// Puts the mark of a name.
-    pub(crate) fn put(&mut self, name: &[u8])
-        ensures here { shows self.new name.now ≡ true }
-        ensures grows { (other : List ℕ) → shows self.new other ≡ false → shows self.old other ≡ false }
+    /// Puts the mark of a name that has this place in the table.
+    pub(crate) fn put(&mut self, name: &[u8], place: usize)
+        ensures here { 0 < at self.new name.now }
+        ensures grows { (other : List ℕ) → at self.new other ≡ 0 → at self.old other ≡ 0 }
     {
-        self.marks[mark_of(name)] = true;
+        self.marks[mark_of(name)] = left_by(place);
     }
 }

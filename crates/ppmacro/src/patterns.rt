@@ -8,7 +8,7 @@ use crate::borrowed::Leaf;
 use crate::chains::{Parameters, chains_of, parameter_of};
 use crate::macros::{Chains, Definition};
 use crate::spellings::{is_hash, is_paste};
-use pptext::{Hashing, Token};
+use pptext::{Hashing, Kind, Token};
 use std::alloc::{AllocError, Global};
 
 /// What stands alone in a replacement list.
@@ -33,7 +33,15 @@ pub enum Pattern<'a> {
 fn is_operator(token: &Token) -> bool
     ensures { result ≡ is_operator token.now }
 {
-    is_paste(token) || is_hash(token)
+    // Few tokens have such a spelling; the others aren't compared with each of the four.
+    let Kind::Punct = token.kind else {
+        return false;
+    };
+    match token.text.as_bytes() {
+        [first] => *first == b'#',
+        [_, _] | [_, _, _, _] => is_paste(token) || is_hash(token),
+        _ => false,
+    }
 }
 
 // Whether `#` or `##` stands among these tokens.

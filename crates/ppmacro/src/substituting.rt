@@ -10,7 +10,6 @@ ghost use Rattle.ppmacro.specs.Substituting.{ArgumentsKnown, arguments_in, marke
 mod entries;
 mod joining;
 mod lexing;
-mod lone;
 mod operands;
 mod pasting;
 mod stringizing;
@@ -18,7 +17,6 @@ mod stringizing;
 pub use self::entries::substitute_pattern;
 use self::joining::{join_all, push_all};
 pub use self::lexing::tells_each_kind;
-pub use self::lone::substitute_lone;
 use self::operands::{expansion, operands_tokens};
 pub use self::pasting::paste;
 pub use self::stringizing::{push_escaped, stringize};

@@ -126,15 +126,30 @@ impl<'a> Table<'a> {
         ensures { option_copied result ≡ table.get self.now name.now }
     {
         // Most names have no mark, and aren't worth a call.
-        if !self.marks.shows(name) {
+        let mark = self.marks.at(name);
+        if mark == 0 {
             return None;
         }
-        self.look_up(name)
+        self.look_up(usize::from(mark) - 1, name)
     }
 
-    // The macro of this name, whatever its mark.
+    // The macro of this name, which probably has this place: then it needs no hash.
     #[inline(never)]
-    fn look_up(&self, name: &[u8]) -> Option<&Macro<'a>>
+    fn look_up(&self, place: usize, name: &[u8]) -> Option<&Macro<'a>>
+        ensures { option_copied result ≡ table.get self.now name.now }
+    {
+        let Some((key, found)) = self.macros.get_index(place) else {
+            return self.find(name);
+        };
+        if key.bytes == name {
+            return Some(found);
+        }
+        self.find(name)
+    }
+
+    // The macro of this name, wherever it is.
+    #[inline(never)]
+    fn find(&self, name: &[u8]) -> Option<&Macro<'a>>
         ensures { option_copied result ≡ table.get self.now name.now }
     {
         let Some(index) = self.macros.get_index_of(&Key { bytes: name }) else {
@@ -158,9 +173,11 @@ impl<'a> Table<'a> {
         ensures ok { OnOk result (self.new ≡ table.insert self.old name.now definition.entry) }
         ensures err { OnErr result (self.new ≡ self.old) }
     {
-        self.marks.put(name);
-        match self.macros.insert(Key { bytes: name }, definition) {
-            Ok(_) => Ok(()),
+        match self.macros.insert_full(Key { bytes: name }, definition) {
+            Ok((place, _)) => {
+                self.marks.put(name, place);
+                Ok(())
+            }
             Err(_) => Err(AllocError),
         }
     }

@@ -16,6 +16,3 @@ pub use gate::Gate;
 pub use keeping::Keep;
 pub use laws::{joined_passes_agree, list_growth};
 pub use running::{run, run_keeping};
-
-#[cfg(test)]
-mod tests;

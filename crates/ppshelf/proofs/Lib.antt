@@ -12,5 +12,9 @@ pub mod Finding
 pub mod Naming
 -- Texts, their segments and the paths to which they lead.
 pub mod Paths
+-- Texts whose segments all lead on.
+pub mod Plain
+-- The folder of a file with a name in normal form.
+pub mod Beside
 -- The first of several names that a shelf has.
 pub mod Finds

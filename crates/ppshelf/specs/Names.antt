@@ -1,7 +1,7 @@
 -- Which texts are names of files, and the row of a name.
 use Rattle.std.specs.Prelude.{◌≡◌, ◌≢◌, ℕ, ◌<◌, ◌==◌, ◌&&◌, ◌||◌, not, Bool, true, false, List, [], ◌∷◌, ◌++◌}
 use Rattle.std.specs.Prelude.{nat_le, codes, length, Option, Some, None, slice_index_or}
-use Rattle.std.specs.List.{list_all, list_any, position, slice_split}
+use Rattle.std.specs.List.{list_all, list_any, position, slice_index, slice_split}
 use Rattle.std.specs.Str.{bytes_eq}
 
 -- the pieces between two `/`, which is 47
@@ -16,6 +16,10 @@ segments_left (Some text) = segments text
 -- a piece of a name
 abbrev pub is_segment : List ℕ → Bool
 is_segment s = not (length s == 0) && not (bytes_eq s (codes ".")) && not (bytes_eq s (codes ".."))
+
+-- a piece with a first byte that is no `.`, which is 46
+abbrev pub is_plain_segment : List ℕ → Bool
+is_plain_segment s = not (length s == 0) && not (slice_index s 0 == 46)
 
 -- no control character of ASCII
 abbrev pub is_name_byte : ℕ → Bool

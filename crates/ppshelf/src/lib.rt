@@ -12,8 +12,6 @@ mod path;
 mod row;
 mod search;
 mod shelf;
-#[cfg(test)]
-mod tests;
 
 pub use disk::{Disk, ReadFault};
 pub use folder_disk::FolderDisk;

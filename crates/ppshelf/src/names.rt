@@ -44,3 +44,17 @@ fn is_segment(segment: &[u8]) -> bool
 {
     !segment.is_empty() && segment != b".".as_slice() && segment != b"..".as_slice()
 }
+
+/// Whether each segment of the text has a first byte that is no `.`. Joined by `/`, such texts are in normal form.
+pub(crate) fn is_plain(text: &[u8]) -> bool
+    ensures { result ≡ list_all spec.is_plain_segment (spec.segments text.now) }
+{
+    text.split(|byte| *byte == b'/')
+        .all(|segment| is_plain_segment(segment))
+}
+
+fn is_plain_segment(segment: &[u8]) -> bool
+    ensures { result ≡ spec.is_plain_segment segment.now }
+{
+    !segment.is_empty() && segment[0] != b'.'
+}

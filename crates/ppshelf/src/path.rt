@@ -10,7 +10,7 @@ use std::alloc::{AllocError, Global};
 use std::marker::Model;
 
 // The bytes of nearly every name.
-const USUAL: usize = 64;
+pub(crate) const USUAL: usize = 64;
 
 /// A path from the root, which contracts see as the list of its segments.
 #[derive(Drop)]

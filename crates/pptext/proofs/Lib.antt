@@ -26,6 +26,8 @@ pub mod CutSteps
 pub mod CutLoop
 -- A text has one cut, and one place at most where a comment is not closed.
 pub mod OneCut
+-- No token holds a new-line, so that only new-lines and comments end lines.
+pub mod InLine
 -- The longest punctuator.
 pub mod Table
 -- No two kinds share a spelling, and no spelling begins with white space.

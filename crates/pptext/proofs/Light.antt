@@ -1,12 +1,13 @@
 -- Tokens that their first byte tells.
-use Rattle.std.proofs.Common.{◌≡◌, ℕ, zero, suc, ◌<◌, ◌≤◌, Bool, true, false, not, ◌||◌, ◌==◌, List, [], ◌∷◌, length, take, refl, inr, ◌⊎◌, arith, get_or}
+use Rattle.std.proofs.Common.{◌≡◌, ℕ, zero, suc, ◌<◌, ◌≤◌, Bool, true, false, not, ◌||◌, ◌==◌, List, [], ◌∷◌, length, take, refl, subst, inl, inr, ◌⊎◌, arith, get_or}
+use Rattle.std.proofs.lemmas.Bool.{false≢true, and_parts}
 use Rattle.std.proofs.lemmas.Bool.Decides.{nat_tests}
 use Rattle.pptext.specs.declared.tokens.Kind.{Kind}
 use Rattle.pptext.specs.declared.tokens.Kind.TheVariants.{Ident, Punct}
 use Rattle.pptext.specs.Languages.{Longest}
 use Rattle.pptext.specs.Spellings.{is_nondigit, IsIdent, IsPunct, IsSpelling, Spells, punctuators}
 use Rattle.pptext.specs.Cut.{Spelled, StandsAt, HeaderAt, OpensBlock, OpensLine}
-use Rattle.pptext.specs.Finds.{is_closed}
+use Rattle.pptext.specs.Finds.{is_closed, starts_word}
 use Rattle.pptext.proofs.OneKind.{begins, begins_apart, is_ident_head, is_number_head}
 use Rattle.pptext.proofs.OnePiece.{header_begins, opening_begins}
 use Rattle.pptext.proofs.LongestOf.{LiteralHead, ident_longest, punct_longest, ident_lacks, number_lacks, literal_lacks}
@@ -97,3 +98,14 @@ pub word_stands : (line : List (List ℕ)) (text : List ℕ) (n : ℕ)
 word_stands line text n some e literal positive longest =
     let lacks = literal_lacks text literal in
     stands line text n Ident (head_begins is_light text some (nondigit-light (get_or text 0 0) e)) (ident_longest text n positive longest lacks.0 lacks.1) longest.front
+
+pub word_nondigit : (c : ℕ) → starts_word c ≡ true → is_nondigit c ≡ true
+word_nondigit c e = (and_parts (is_nondigit c) (not (c == 117 || (c == 85 || c == 76))) e).0
+
+-- no literal begins so
+pub word_opens_none : (c : ℕ) → starts_word c ≡ true → LiteralHead c → ⊥
+word_opens_none c e (inl h) = false≢true (subst (λ z. starts_word z ≡ true) h e)
+word_opens_none c e (inr (inl h)) = false≢true (subst (λ z. starts_word z ≡ true) h e)
+word_opens_none c e (inr (inr (inl h))) = false≢true (subst (λ z. starts_word z ≡ true) h e)
+word_opens_none c e (inr (inr (inr (inl h)))) = false≢true (subst (λ z. starts_word z ≡ true) h e)
+word_opens_none c e (inr (inr (inr (inr h)))) = false≢true (subst (λ z. starts_word z ≡ true) h e)

@@ -1,5 +1,5 @@
 -- What begins a text, and what a text is cut into, as the scanner answers them. Only the contracts of private functions cite this.
-use Rattle.std.specs.Prelude.{◌≡◌, ℕ, ◌<◌, ◌≤◌, List, length, None, Result, Ok, Err, IsTrue, slice_index, Bool, ◌||◌, ◌==◌}
+use Rattle.std.specs.Prelude.{◌≡◌, ℕ, ◌<◌, ◌≤◌, List, length, None, Result, Ok, Err, IsTrue, slice_index, Bool, not, ◌&&◌, ◌||◌, ◌==◌}
 use Rattle.pptext.specs.declared.tokens.Token.{Token}
 use Rattle.pptext.specs.declared.sources.Line.{Line}
 use Rattle.pptext.specs.declared.sources.Profile.{Profile}
@@ -8,7 +8,7 @@ use Rattle.pptext.specs.declared.cutting.Found.{Found}
 use Rattle.pptext.specs.declared.cutting.Found.TheVariants as found
 use Rattle.pptext.specs.declared.cutting.CutFault.{CutFault}
 use Rattle.pptext.specs.declared.cutting.CutFault.TheVariants as fault
-use Rattle.pptext.specs.Spellings.{is_blank}
+use Rattle.pptext.specs.Spellings.{is_blank, is_nondigit}
 use Rattle.pptext.specs.Cut.{NewLine, Comment, Spelled, StandsAt, OpensBlock, ClosesAt, Piece, Cut, Unclosed}
 use Rattle.pptext.specs.Lines.{lines_of}
 use Rattle.pptext.specs.Sources.{lines_from}
@@ -21,6 +21,10 @@ AreBlanks n text = (k : ℕ) → k < n → IsTrue (is_blank (slice_index text k)
 -- `(`, `)`, `,`, `;`, `[`, `]`, `{` and `}`, with which nothing longer begins
 abbrev pub is_closed : ℕ → Bool
 is_closed c = c == 40 || (c == 41 || (c == 44 || (c == 59 || (c == 91 || (c == 93 || (c == 123 || c == 125))))))
+
+-- an identifier begins with this byte, and no literal, as with the letters `u`, `U` and `L`
+abbrev pub starts_word : ℕ → Bool
+starts_word c = is_nondigit c && not (c == 117 || (c == 85 || c == 76))
 
 abbrev pub Finds : List (List ℕ) → List ℕ → Found → Type 0
 Finds line text found.NewLine = StandsAt line text 1 NewLine

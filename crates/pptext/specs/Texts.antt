@@ -1,5 +1,5 @@
 -- A cleaned text that is read from the front. Only the contracts of private functions, and the view of a type's private fields, cite this.
-use Rattle.std.specs.Prelude.{◌≡◌, ◌≤◌, ◌<◌, ◌+◌, ℕ, List, [], ◌∷◌, ◌++◌, Bool, Option, None, Some, Result, Ok, Err, length, take, drop, if◌then◌else◌}
+use Rattle.std.specs.Prelude.{◌≡◌, ◌≢◌, ◌≤◌, ◌<◌, ◌+◌, ℕ, List, [], ◌∷◌, ◌++◌, Bool, Option, None, Some, Result, length, take, drop, slice_index, if◌then◌else◌}
 use Rattle.pptext.specs.declared.tokens.Place.{Place}
 use Rattle.pptext.specs.declared.characters.Char.{Char}
 use Rattle.pptext.specs.declared.texts.Cleaned.{Cleaned}
@@ -8,15 +8,18 @@ use Rattle.pptext.specs.Clean.{cleaned, place, placed, newline, without_returns,
 use Rattle.pptext.specs.Breaks.{IsTable, Stretch, behind_break}
 use Rattle.pptext.specs.Steps.{open_end, place_behind}
 
+-- no line ends from the character `line` on up to this one
+abbrev pub InLine : List ℕ → ℕ → ℕ → Type 0
+InLine codes line at = (k : ℕ) → line ≤ k → k < at → slice_index codes k ≢ 10
+
 -- its characters, and how far their places have been asked for
 pub record Reading : Type 0 where
   pub chars : List Char
   pub passed : ℕ
 
--- the text of a file's bytes, read from its start, or the place of the backslash that ends them
-abbrev pub Cleans : ℕ → List ℕ → Result Reading Place → Type 0
-Cleans file bytes (Ok text) = (cleaned file bytes ≡ Ok text.chars) × (text.passed ≡ 0)
-Cleans file bytes (Err place) = cleaned file bytes ≡ Err place
+-- the text of a file's bytes, or the place of the backslash that ends them
+abbrev pub Cleans : ℕ → List ℕ → Result (List Char) Place → Type 0
+Cleans file bytes text = cleaned file bytes ≡ text
 
 -- the last new-line, where it is supplied
 abbrev pub supply : Bool → Place → List Char

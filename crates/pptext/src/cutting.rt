@@ -10,8 +10,8 @@ ghost use Rattle.pptext.specs.Grouping.{draft};
 
 use crate::directives::directive_of;
 use crate::punctuators::is_closed;
-use crate::scanning::literals::{LoneQuotes, may_open_literal};
-use crate::scanning::{is_blank, is_nondigit, word_len};
+use crate::scanning::literals::LoneQuotes;
+use crate::scanning::{is_blank, starts_word, word_len};
 use crate::sources::{Line, Profile};
 use crate::texts::Text;
 use crate::tokenizing::token_at;
@@ -154,7 +154,7 @@ fn light_piece_at(text: &[u8]) -> Option<Found>
     if is_closed(first) {
         return Some(Found::Token(Kind::Punct, 1));
     }
-    if is_nondigit(first) && !may_open_literal(first) {
+    if starts_word(first) {
         return Some(Found::Token(Kind::Ident, word_len(text)));
     }
     None
@@ -184,27 +184,21 @@ pub(crate) fn next_piece(text: &[u8], line: &[Token]) -> Found
     piece_at(text, line, 0, &mut lone)
 }
 
-/// Puts the token of n characters at this place of the text behind the others.
+/// Puts the token that the first n bytes of the text spell behind the others.
 #[inline(always)]
 fn push_token(
     alloc: Global,
-    text: &mut Text<'_>,
+    text: &[u8],
     tokens: &mut Vec<Token>,
-    at: usize,
     n: usize,
     kind: Kind,
     space: bool,
+    place: Place,
 ) -> Result<(), AllocError>
-    requires forward { text.old.passed ≤ at }
-    requires some { 0 < n }
-    requires fits { at + n ≤ length text.old.chars }
-    ensures token { OnOk result (tokens.new.items ≡ tokens.old.items ++ token_of kind space (take n (drop at text.old.chars)) ∷ []) }
-    ensures chars { text.new.chars ≡ text.old.chars }
-    ensures passed { text.new.passed ≤ at }
+    requires { n ≤ length text.now }
+    ensures { OnOk result (tokens.new.items ≡ tokens.old.items ++ record { text = take n text.now; at = place; used = place; kind = kind; space = space } ∷ []) }
 {
-    let place = text.place(at);
-    let front = &text.codes()[at..];
-    match Spelling::front_in_place(front, n) {
+    match Spelling::front_in_place(text, n) {
         Some(spelling) => Ok(tokens.push(Token {
             kind,
             text: spelling,
@@ -212,7 +206,7 @@ fn push_token(
             at: place,
             used: place,
         })?),
-        None => push_long_token(alloc, tokens, front, n, kind, space, place),
+        None => push_long_token(alloc, tokens, text, n, kind, space, place),
     }
 }
 
@@ -258,29 +252,32 @@ fn draft_line(profile: Profile, tokens: &[Token], start: usize, number: u32) -> 
 /// Cuts a text into lines of tokens, each without its next branch line.
 pub(crate) fn cut_lines(
     alloc: Global,
-    text: &mut Text<'_>,
+    text: &Text<'_>,
     tokens: &mut Vec<Token>,
     lines: &mut Vec<Line>,
     profile: Profile,
 ) -> Result<(), CutFault>
-    requires unread { text.old.passed ≡ 0 }
     requires no_tokens { tokens.old.items ≡ [] }
     requires no_lines { lines.old.items ≡ [] }
-    ensures { CutsInto profile text.old.chars tokens.new.items lines.new.items result }
+    ensures { CutsInto profile text.now tokens.new.items lines.new.items result }
 {
     let mut at = 0;
     let mut start = 0;
     let mut space = true;
+    // Behind the last new-line and comment: from there on no line ends before this piece.
+    let mut line = 0;
     let codes = text.codes();
+    let mut places = text.places();
     let mut lone = LoneQuotes::unknown(codes.len());
-    while at < text.codes().len() {
-        match piece_at(&text.codes()[at..], tokens, start, &mut lone) {
+    while at < codes.len() {
+        match piece_at(&codes[at..], tokens, start, &mut lone) {
             Found::NewLine => {
-                let number = text.place(at).line;
+                let number = places.place(at, line).line;
                 lines.push(draft_line(profile, tokens, start, number))?;
                 start = tokens.len();
                 at += 1;
                 space = true;
+                line = at;
             }
             Found::Blank(n) => {
                 at += n;
@@ -289,12 +286,14 @@ pub(crate) fn cut_lines(
             Found::Comment(n) => {
                 at += n;
                 space = true;
+                line = at;
             }
             Found::Unclosed => {
-                return Err(CutFault::Unclosed(text.place(at)));
+                return Err(CutFault::Unclosed(places.place(at, line)));
             }
             Found::Token(kind, n) => {
-                push_token(alloc, text, tokens, at, n, kind, space)?;
+                let place = places.place(at, line);
+                push_token(alloc, &codes[at..], tokens, n, kind, space, place)?;
                 at += n;
                 space = false;
             }

@@ -59,14 +59,14 @@ pub fn read_source(
     requires { length bytes.now ≤ longest }
     ensures { Answers result (Reads profile file bytes.now) }
 {
-    let mut text = match clean_text(alloc, bytes, file)? {
+    let text = match clean_text(alloc, bytes, file)? {
         Ok(text) => text,
         Err(place) => return Err(fault_at(2, place)),
     };
     // Room for about as many as ordinary C has, so that they seldom move while they grow.
     let mut tokens = Vec::with_capacity(alloc, bytes.len() / 5)?;
     let mut lines = Vec::with_capacity(alloc, bytes.len() / 20)?;
-    match cut_lines(alloc, &mut text, &mut tokens, &mut lines, profile) {
+    match cut_lines(alloc, &text, &mut tokens, &mut lines, profile) {
         Ok(()) => {}
         Err(CutFault::Unclosed(place)) => return Err(fault_at(1, place)),
         Err(CutFault::Memory) => return Err(SourceFault::Memory),

@@ -3,6 +3,7 @@ ghost use Rattle.std.specs.Prelude.{◌≡◌, ◌↔◌, ◌⊎◌, [], ◌∷�
 ghost use Rattle.std.specs.List.{AllPass};
 ghost use Rattle.pptext.specs.Languages.{OnlyPart, LongestOrNone, Longest, Repeated, One, Either};
 ghost use Rattle.pptext.specs.Cut.{BeginsWith};
+ghost use Rattle.pptext.specs.Finds.{starts_word};
 ghost use Rattle.pptext.specs.Spellings.{is_digit, is_hex, is_nondigit, is_ident_byte, is_blank, IsUniversal, IsNondigit, IsIdent};
 
 pub(crate) mod carrying;
@@ -86,18 +87,40 @@ fn nondigit_len(text: &[u8]) -> usize
     universal_len(text)
 }
 
+// For each byte whether it is a nondigit and no letter of a literal's prefix.
+static WORD_STARTS: [u8; 256] = *b"\
+    00000000000000000000000000000000\
+    00001000000000000000000000000000\
+    01111111111101111111101111100001\
+    01111111111111111111101111100000\
+    11111111111111111111111111111111\
+    11111111111111111111111111111111\
+    11111111111111111111111111111111\
+    11111111111111111111111111111111";
+
+/// Whether an identifier begins with this byte, and no literal.
+pub(crate) fn starts_word(c: u8) -> bool
+    ensures { result ≡ starts_word c }
+{
+    WORD_STARTS[c as usize] == b'1'
+}
+
+// For each byte whether it is a nondigit or a digit.
+static IDENT_BYTES: [u8; 256] = *b"\
+    00000000000000000000000000000000\
+    00001000000000001111111111000000\
+    01111111111111111111111111100001\
+    01111111111111111111111111100000\
+    11111111111111111111111111111111\
+    11111111111111111111111111111111\
+    11111111111111111111111111111111\
+    11111111111111111111111111111111";
+
 /// Whether a nondigit or a digit.
 fn is_ident_byte(c: u8) -> bool
     ensures { result ≡ is_ident_byte c }
 {
-    // Most are small letters, and what ends an identifier mostly stands below the digits.
-    if b'a' <= c && c <= b'z' {
-        return true;
-    }
-    if c < b'0' {
-        return c == b'$';
-    }
-    is_nondigit(c) || is_digit(c)
+    IDENT_BYTES[c as usize] == b'1'
 }
 
 /// The length of the nondigits and digits that begin the text.

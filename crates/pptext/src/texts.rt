@@ -1,8 +1,8 @@
 // A cleaned text: its characters, and where each was spelled.
 ghost use Rattle.std.specs.Prelude.{◌≡◌, ◌+◌, ◌-◌, ◌<◌, ◌≤◌, ◌^◌, length, slice_index_or, take, drop};
-ghost use Rattle.pptext.specs.Clean.{longest, codes_of};
+ghost use Rattle.pptext.specs.Clean.{longest, codes_of, place};
 ghost use Rattle.pptext.specs.Steps.{place_behind};
-ghost use Rattle.pptext.specs.Texts.{MadeOf, Stands, breaks_of, text_from};
+ghost use Rattle.pptext.specs.Texts.{InLine, MadeOf, Stands, breaks_of, text_from};
 ghost use Rattle.pptext.specs.declared.characters.Char.{Char};
 
 use crate::characters::places::{move_behind, place_behind};
@@ -75,24 +75,45 @@ impl Cursor {
         }
     }
 
-    /// Brings the cursor in front of this character.
+    /// Passes so many of the bytes in front of the next break, among which no line ends.
     #[inline(always)]
-    fn seek(&mut self, raw: &[u8], cleaned: &Option<Cleaned>, to: usize)
+    fn pass_along(&mut self, len: usize)
+        requires offset { self.old.offset + len ≤ longest }
+        requires plain { len ≤ self.old.plain }
+        requires counts { self.old.passed + len < 2 ^ 64 }
+        requires col { self.old.at.col ≤ self.old.offset + 1 }
+        ensures { self.new ≡ record { passed = self.old.passed + len; offset = self.old.offset + len; plain = self.old.plain - len; next = self.old.next; at = place self.old.at.file self.old.at.line (self.old.at.col + len) } }
+    {
+        self.at.col += len as u32;
+        self.passed += len;
+        self.offset += len;
+        self.plain -= len;
+    }
+
+    /// Brings the cursor in front of this character, where no line ends from the character `line` on up to it. Behind that
+    /// character no bytes are searched for the ends of lines.
+    #[inline(always)]
+    fn seek(&mut self, raw: &[u8], breaks: &[u32], to: usize, line: usize)
         requires small { length raw.now ≤ longest }
-        requires stands { Stands self.old.at.file raw.now (breaks_of cleaned.now) self.old }
+        requires stands { Stands self.old.at.file raw.now breaks.now self.old }
         requires forward { self.old.passed ≤ to }
         requires within { to < length (text_from self.old.at.file raw.now 0) }
-        ensures stands { Stands self.old.at.file raw.now (breaks_of cleaned.now) self.new }
+        requires line { InLine (codes_of (text_from self.old.at.file raw.now 0)) line to }
+        ensures stands { Stands self.old.at.file raw.now breaks.now self.new }
         ensures passed { self.new.passed ≡ to }
         ensures file { self.new.at.file ≡ self.old.at.file }
         ensures place { (d : Char) → self.new.at ≡ (slice_index_or (text_from self.old.at.file raw.now 0) to d).at }
     {
         let ahead = to - self.passed;
-        if ahead < self.plain {
-            self.pass(raw, ahead);
+        if ahead >= self.plain {
+            self.walk(raw, breaks, to);
             return;
         }
-        self.walk(raw, breaks_of(cleaned), to);
+        if line <= self.passed {
+            self.pass_along(ahead);
+            return;
+        }
+        self.pass(raw, ahead);
     }
 
     /// The same for a character that may stand behind breaks.
@@ -169,28 +190,26 @@ fn breaks_of(cleaned: &Option<Cleaned>) -> &[u32]
     }
 }
 
-/// A text behind phases 1 and 2, whose places are asked for from the front on.
-///
-/// The places are found by passing the file's bytes from break to break.
+/// A text behind phases 1 and 2.
 #[derive(Drop)]
 pub(crate) struct Text<'a> {
+    file: u32,
     raw: &'a [u8],
     cleaned: Option<Cleaned>,
-    cursor: Cursor,
 }
 
 impl<'a> Model for Text<'a> {
-    ghost use Rattle.std.specs.Prelude.{◌≤◌, length};
+    ghost use Rattle.std.specs.Prelude.{List, ◌≤◌, length};
     ghost use Rattle.pptext.specs.Clean.{longest};
-    ghost use Rattle.pptext.specs.Texts.{Reading};
+    ghost use Rattle.pptext.specs.declared.characters.Char.{Char};
 
-    ghost Value = { Reading };
+    ghost Value = { List Char };
 
-    ghost use Rattle.pptext.specs.Texts.{MadeOf, Stands, breaks_of, text_from};
+    ghost use Rattle.pptext.specs.Texts.{MadeOf, text_from};
 
-    ghost view = { λ t. record { chars = text_from t.cursor.at.file t.raw.now 0; passed = t.cursor.passed } };
+    ghost view = { λ t. text_from t.file t.raw.now 0 };
 
-    ghost invariant = { λ t. (length t.raw.now ≤ longest) × MadeOf t.raw.now t.cleaned × Stands t.cursor.at.file t.raw.now (breaks_of t.cleaned) t.cursor };
+    ghost invariant = { λ t. (length t.raw.now ≤ longest) × MadeOf t.raw.now t.cleaned };
 }
 
 impl<'a> Text<'a> {
@@ -198,29 +217,14 @@ impl<'a> Text<'a> {
     pub(crate) fn new(file: u32, raw: &'a [u8], cleaned: Option<Cleaned>) -> Text<'a>
         requires small { length raw.now ≤ longest }
         requires made { MadeOf raw.now cleaned }
-        ensures { result ≡ record { chars = text_from file raw.now 0; passed = 0 } }
+        ensures { result ≡ text_from file raw.now 0 }
     {
-        let cursor = Cursor {
-            passed: 0,
-            offset: 0,
-            plain: stretch_at(breaks_of(&cleaned), 0, raw.len()),
-            next: 1,
-            at: Place {
-                file,
-                line: 1,
-                col: 1,
-            },
-        };
-        Text {
-            raw,
-            cleaned,
-            cursor,
-        }
+        Text { file, raw, cleaned }
     }
 
     /// The characters' codes.
     pub(crate) fn codes(&self) -> &[u8]
-        ensures { result.now ≡ codes_of self.now.chars }
+        ensures { result.now ≡ codes_of self.now }
     {
         match &self.cleaned {
             Some(cleaned) => cleaned.codes.as_slice(),
@@ -228,15 +232,67 @@ impl<'a> Text<'a> {
         }
     }
 
-    /// The place of a character, which stands no further in front than the one asked for before.
+    /// The characters' places, from the first on.
+    pub(crate) fn places(&self) -> Places<'_>
+        ensures { result ≡ record { chars = self.now; passed = 0 } }
+    {
+        let raw = self.raw;
+        let breaks = breaks_of(&self.cleaned);
+        let cursor = Cursor {
+            passed: 0,
+            offset: 0,
+            plain: stretch_at(breaks, 0, raw.len()),
+            next: 1,
+            at: Place {
+                file: self.file,
+                line: 1,
+                col: 1,
+            },
+        };
+        Places {
+            raw,
+            breaks,
+            cursor,
+        }
+    }
+}
+
+/// The places of a text's characters, which are asked for from the front on.
+///
+/// They are found by passing the file's bytes from break to break.
+#[derive(Drop)]
+pub(crate) struct Places<'a> {
+    raw: &'a [u8],
+    breaks: &'a [u32],
+    cursor: Cursor,
+}
+
+impl<'a> Model for Places<'a> {
+    ghost use Rattle.std.specs.Prelude.{◌≤◌, length};
+    ghost use Rattle.pptext.specs.Clean.{longest};
+    ghost use Rattle.pptext.specs.Texts.{Reading};
+
+    ghost Value = { Reading };
+
+    ghost use Rattle.pptext.specs.Texts.{Stands, text_from};
+
+    ghost view = { λ t. record { chars = text_from t.cursor.at.file t.raw.now 0; passed = t.cursor.passed } };
+
+    ghost invariant = { λ t. (length t.raw.now ≤ longest) × Stands t.cursor.at.file t.raw.now t.breaks.now t.cursor };
+}
+
+impl<'a> Places<'a> {
+    /// The place of a character, which stands no further in front than the one asked for before. No line ends from the character
+    /// `line` on up to it.
     #[inline(always)]
-    pub(crate) fn place(&mut self, at: usize) -> Place
+    pub(crate) fn place(&mut self, at: usize, line: usize) -> Place
         requires within { at < length self.old.chars }
         requires forward { self.old.passed ≤ at }
+        requires line { InLine (codes_of self.old.chars) line at }
         ensures place { (d : Char) → result ≡ (slice_index_or self.old.chars at d).at }
         ensures after { self.new ≡ record { chars = self.old.chars; passed = at } }
     {
-        self.cursor.seek(self.raw, &self.cleaned, at);
+        self.cursor.seek(self.raw, self.breaks, at, line);
         self.cursor.at
     }
 }

@@ -10,9 +10,6 @@ use crate::units::{Setting, Unit};
 use ppshelf::{Disk, LONGEST, Shelf};
 use pptext::Profile;
 
-#[cfg(test)]
-mod tests;
-
 /// Whether the text is a date as `__DATE__` gives it: `Mmm dd yyyy`, a day below 10 after a space (6.10.8.1).
 pub fn is_date(text: &[u8]) -> bool
     ensures { result ≡ spec.is_date text.now }

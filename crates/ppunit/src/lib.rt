@@ -17,8 +17,6 @@ mod opening;
 mod preprocessing;
 mod stack;
 mod states;
-#[cfg(test)]
-mod tests;
 mod units;
 mod walking;
 

@@ -1,6 +1,6 @@
 // Sets of numbers as nodes of a trie of words. Each node stands there once, so equal sets have one number, and sets share what
 // they have in common.
-ghost use Rattle.std.specs.Prelude.{◌≡◌, Some, Ok, ◌<◌, ◌||◌, ◌+◌, ◌*◌, ℕ, IfOk, IfSome, OnErr, ◌≤◌, [], length, nat_eq};
+ghost use Rattle.std.specs.Prelude.{◌≡◌, Some, None, Ok, ◌<◌, ◌||◌, ◌+◌, ◌*◌, ℕ, IfOk, IfSome, OnErr, ◌≤◌, [], length, nat_eq};
 ghost use Rattle.std.specs.Int.RustNames.{bit_or};
 ghost use Rattle.ppmacro.specs.Nodes.{node_at, word, word_with, member, IsPool, Keeps, IsWithin, IsBounded, first};
 ghost use Rattle.ppmacro.specs.Operations.{joined, joined_word, known};
@@ -246,7 +246,9 @@ fn known(pairs: &Pairs, operation: Operation, one: u32, two: u32) -> Option<u32>
     }
 }
 
-// The number of what two sets are made into, word by word.
+// The number of what two sets are made into, word by word. Most parts are settled at once, and need no call.
+#[cycle(making)]
+#[inline(always)]
 fn make(
     nodes: &mut IndexSet<Node, Hashing>,
     operation: Operation,
@@ -264,16 +266,36 @@ fn make(
 {
     match settled(operation, one, two) {
         Some(number) => Ok(number),
-        None => {
-            let first = read(nodes, one);
-            let second = read(nodes, two);
-            let left = make(nodes, operation, first.left, second.left)?;
-            let right = make(nodes, operation, first.right, second.right)?;
-            let here = operation.joins(first.here, second.here);
-            let both = number_beside(nodes, Node { here, left, right }, one, two)?;
-            Ok(both)
-        }
+        None => make_node(nodes, operation, one, two),
     }
+}
+
+// The same, where neither is empty and they are not the same.
+#[cycle(making)]
+#[inline(never)]
+fn make_node(
+    nodes: &mut IndexSet<Node, Hashing>,
+    operation: Operation,
+    one: u32,
+    two: u32,
+) -> Result<u32, AllocError>
+    requires pool { IsPool nodes.old.keys }
+    requires one { one < length nodes.old.keys }
+    requires two { two < length nodes.old.keys }
+    requires unsettled { known operation [] one two ≡ None }
+    ensures pool { IsPool nodes.new.keys }
+    ensures keeps { Keeps nodes.old.keys nodes.new.keys }
+    ensures known { IfOk result (λ n. n < length nodes.new.keys) }
+    ensures bounded { (limit : ℕ) → IsBounded limit nodes.old.keys → IsBounded limit nodes.new.keys }
+    ensures set { IfOk result (λ n. (w : ℕ) → word nodes.new.keys n w ≡ joined_word operation (word nodes.old.keys one w) (word nodes.old.keys two w)) }
+{
+    let first = read(nodes, one);
+    let second = read(nodes, two);
+    let left = make(nodes, operation, first.left, second.left)?;
+    let right = make(nodes, operation, first.right, second.right)?;
+    let here = operation.joins(first.here, second.here);
+    let both = number_beside(nodes, Node { here, left, right }, one, two)?;
+    Ok(both)
 }
 
 /// The number of what two sets are made into. It answers their pair from then on.

@@ -40,15 +40,16 @@ fn agree(alloc: Global, bytes: &[u8]) -> Result<bool, AllocError>
             });
         }
     };
-    let mut text = match clean_text(alloc, bytes, 7)? {
+    let text = match clean_text(alloc, bytes, 7)? {
         Ok(text) => text,
         Err(_) => return Ok(false),
     };
     if text.codes().len() != slow.len() {
         return Ok(false);
     }
+    let mut places = text.places();
     for (i, c) in slow.iter().enumerate() {
-        if text.codes()[i] != c.code || text.place(i) != c.at {
+        if text.codes()[i] != c.code || places.place(i, i) != c.at {
             return Ok(false);
         }
     }
@@ -64,11 +65,11 @@ fn agree_at_once(alloc: Global, bytes: &[u8]) -> Result<bool, AllocError>
         Err(_) => return Ok(true),
     };
     for (i, c) in slow.iter().enumerate() {
-        let mut text = match clean_text(alloc, bytes, 7)? {
+        let text = match clean_text(alloc, bytes, 7)? {
             Ok(text) => text,
             Err(_) => return Ok(false),
         };
-        if text.codes().len() != slow.len() || text.place(i) != c.at {
+        if text.codes().len() != slow.len() || text.places().place(i, i) != c.at {
             return Ok(false);
         }
     }

@@ -25,13 +25,13 @@ loop-hidden-preserved-in-Comma c =
       same = λ sets.
           (let here = ap (λ hs. resumed (given_in sets front.arguments.items) (hidings sets front.argument.items) (gather front.depth front.commas (hidings sets hs))) c.in-Some.ensures in
           let cut = at_separator front.depth front.commas (hiding sets c.in-Some.hidden) (hidings sets c.next.new.self) is_comma (sym c.separates.ensures ∙ c.if-separates.true) in
-          rw (c.in_ok-push-in-Comma.ensures.items, c.in_ok-argument-in-Comma.ensures.items, c.fewer-commas.ensures, given-push sets front.arguments.items front.argument)
+          rw (c.in_ok-push-in-Comma.ensures.items, c.in_ok-argument-in-Comma.ensures, c.fewer-commas.ensures, given-push sets front.arguments.items front.argument)
           (resumed-argument (given_in sets front.arguments.items) (hidings sets front.argument.items) _
           ∙ ap (resumed (given_in sets front.arguments.items) (hidings sets front.argument.items)) (sym cut)
           ∙ sym here
           ∙ c.loop-hidden.invariant.same sets));
       arguments_known = λ sets known. rw c.in_ok-push-in-Comma.ensures.items (lists_known-push _ _ (c.loop-hidden.invariant.arguments_known sets known) (c.loop-hidden.invariant.argument_known sets known));
-      argument_known = λ sets known. rw c.in_ok-argument-in-Comma.ensures.items (record { each = tt });
+      argument_known = λ sets known. rw c.in_ok-argument-in-Comma.ensures (record { each = tt });
       list_known = λ sets known. record { each = (list sets known).each.1 };
       within = omega (arith, outermost front.depth front.commas (sym c.separates.ensures ∙ c.if-separates.true));
     }

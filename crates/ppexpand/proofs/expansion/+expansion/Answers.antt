@@ -36,7 +36,7 @@ advance-returns-clause-on m c =
     let s = c.take_turn.new.sets in
     let t = c.follow.new.sets in
     let called = rw c.in-Some.is at c.in_ok-goes.ensures.on in
-    let call = call_in s c.in-Some.call c.take_turn.new.list in
+    let call = call_in s c.in-Some.found c.take_turn.new.list in
     let invokes : Invokes c.args.table.now c.args.env.now c.args.level call _ c.follow.new.left (finished_in t c.follow.new.list c.follow.new.fault) =
     subst (λ l. Invokes c.args.table.now c.args.env.now c.args.level call l c.follow.new.left (finished_in t c.follow.new.list c.follow.new.fault)) called.2 c.in_ok-follow.ensures.is in
     call_taken c.args.table.now c.args.env.now c.args.level c.args.left.now (hidings c.args.sets.now c.args.list.now) call called.0 t c.follow.new.list _ _ c.follow.new.fault c.follow.new.left _ c.is_none.ensures

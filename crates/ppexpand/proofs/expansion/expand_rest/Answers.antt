@@ -1,6 +1,7 @@
 use Rattle.std.proofs.Common.{◌≡◌, ◌++◌, ◌∙◌, sym, ap, subst, map, refl}
 use Rattle.ppmacro.specs.HideSets.{hidings, AllKnown}
 use Rattle.ppmacro.specs.Substitution.{plain}
+use Rattle.ppmacro.specs.Substituting.{tokens_of}
 use Rattle.ppmacro.proofs.JoinLemmas.{tokens-in}
 use Rattle.ppexpand.specs.Expansion.{Outcome, ExpandsTo}
 use Rattle.ppexpand.proofs.Skipping.{known-with_set, hidings-with_set, expansion-behind}
@@ -20,6 +21,6 @@ returns c =
     let start : hidings s c.over-list.result ≡ map plain rest = ap (hidings s) (c.over-list.ensures ∙ c.new.ensures) ∙ hidings-with_set s c.empty.result rest c.empty.ensures.set in
     expansion-behind c.args.table.now c.args.env.now c.args.left (c.args.front.now ++ c.args.rest.now) c.args.front.now rest _ whole refl c.requires.plain
     (subst (λ l. ExpandsTo c.args.table.now c.args.env.now 0 c.args.left l whole) start c.in_ok-expand_list.ensures.outcome)
-    (c.new-2.ensures ∙ (λ i. c.args.front.now ++ tokens-in t c.expand_list.new.passed i))
+    (c.new-2.ensures ∙ (λ i. c.args.front.now ++ tokens_of (c.in_ok-fit.ensures i)) ∙ (λ i. c.args.front.now ++ tokens-in t c.expand_list.new.passed i))
     refl
     refl

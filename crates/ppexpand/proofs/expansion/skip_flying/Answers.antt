@@ -12,6 +12,6 @@ loop-hidden-preserved c =
     let list = c.loop-hidden.list in
     let passed = c.loop-hidden.passed in
     let one = skipped-one macros c.in-Passes.hidden list c.next_plain.new.self passed c.in-Passes.ensures.0 c.in-Passes.ensures.1 in
-    skipped-on macros c.args.list.now c.args.passed.now list passed c.next_plain.new.self c.push.new.self
+    skipped-on macros c.args.list.now c.args.passed.now list passed c.next_plain.new.self c.push_single.new.self
     c.loop-hidden.invariant
-    (subst (HasSkipped macros list passed c.next_plain.new.self) (sym c.in_ok-push-in-Passes.ensures) one)
+    (subst (HasSkipped macros list passed c.next_plain.new.self) (sym c.in_ok-push_single-in-Passes.ensures) one)

@@ -38,22 +38,22 @@ returns-in-Failed-clause-on c =
 pub returns-in-Failed-clause-passed_known : goal.returns-in-Failed-clause-passed_known
 returns-in-Failed-clause-passed_known c = known-keeps _ c.in_ok-next_turn.ensures.keeps c.requires.passed_known
 
-pub returns-in_ok-push-in-Passes-clause-on : goal.returns-in_ok-push-in-Passes-clause-on
-returns-in_ok-push-in-Passes-clause-on c =
+pub returns-in_ok-push_single-in-Passes-clause-on : goal.returns-in_ok-push_single-in-Passes-clause-on
+returns-in_ok-push_single-in-Passes-clause-on c =
     let s = c.next_turn.new.sets in
     let passed = c.args.passed.now in
     let head = c.in-Passes.head in
     let t : turn_within c.args.table.now c.args.env.now c.args.left.now (hidings c.args.sets.now c.args.list.now) ≡ Passes (hiding s head) (hidings s c.next_turn.new.list) =
     sym (ap (turn_in s c.next_turn.new.list) (sym c.in-Passes.is) ∙ c.in_ok-next_turn.ensures.is) in
-    let shown : hidings s c.push.new.self ≡ hidings c.args.sets.now passed ++ hiding s head ∷ [] =
-    ap (hidings s) c.in_ok-push-in-Passes.ensures ∙ map-append (hiding s) passed (head ∷ []) ∙ ap (λ hs. hs ++ hiding s head ∷ []) (hidings-keeps passed c.in_ok-next_turn.ensures.keeps c.requires.passed_known) in
+    let shown : hidings s c.push_single.new.self ≡ hidings c.args.sets.now passed ++ hiding s head ∷ [] =
+    ap (hidings s) c.in_ok-push_single-in-Passes.ensures ∙ map-append (hiding s) passed (head ∷ []) ∙ ap (λ hs. hs ++ hiding s head ∷ []) (hidings-keeps passed c.in_ok-next_turn.ensures.keeps c.requires.passed_known) in
     rw c.requires.no_call (λ level. (c.requires.no_fault, (hiding s head ∷ [], shown, record { turn = λ n out d. passes t d })))
 
-pub returns-in_ok-push-in-Passes-clause-passed_known : goal.returns-in_ok-push-in-Passes-clause-passed_known
-returns-in_ok-push-in-Passes-clause-passed_known c =
+pub returns-in_ok-push_single-in-Passes-clause-passed_known : goal.returns-in_ok-push_single-in-Passes-clause-passed_known
+returns-in_ok-push_single-in-Passes-clause-passed_known c =
     let s = c.next_turn.new.sets in
     let known = subst (NextKnown s c.next_turn.new.list) c.in-Passes.is c.in_ok-next_turn.ensures.known in
-    subst (AllKnown s) (sym c.in_ok-push-in-Passes.ensures) (known-append c.args.passed.now (c.in-Passes.head ∷ []) (known-keeps _ c.in_ok-next_turn.ensures.keeps c.requires.passed_known) (record { each = (known.0, tt) }))
+    subst (AllKnown s) (sym c.in_ok-push_single-in-Passes.ensures) (known-append c.args.passed.now (c.in-Passes.head ∷ []) (known-keeps _ c.in_ok-next_turn.ensures.keeps c.requires.passed_known) (record { each = (known.0, tt) }))
 
 pub returns-in-Replaced-clause-on : goal.returns-in-Replaced-clause-on
 returns-in-Replaced-clause-on c =

@@ -1,33 +1,56 @@
-use Rattle.std.proofs.Common.{◌≡◌, ◌∙◌, ◌++◌, sym, ap, subst, map}
-use Rattle.std.proofs.lemmas.List.{map-append}
+use Rattle.std.proofs.Common.{rules, ◌≡◌, ◌∙◌, ◌∷◌, ◌++◌, [], sym, ap, subst, map}
+use Rattle.std.proofs.lemmas.List.{nil_from_length}
 use Rattle.std.specs.FinSet as set
 use Rattle.ppmacro.specs.HideSets.{set_at, hiding, hidings, AllKnown}
 use Rattle.ppmacro.specs.Lone.{lone_chain}
-use Rattle.ppmacro.specs.Substitution.{substituted_by}
+use Rattle.ppmacro.specs.Substitution.{substituted_by, gained, with_mark, plain}
 use Rattle.ppexpand.proofs.Marks.{hidings-marked, known-marked}
-use Rattle.ppmacro.proofs.KeepLemmas.{hidings-keeps, known-keeps, known-append}
+use Rattle.ppmacro.proofs.KeepLemmas.{hidings-keeps, known-keeps}
+use Rattle.ppmacro.proofs.Lonely.{lone_substituted}
 use Rattle.ppexpand.specs.Turn.{Replaced, mark_next, replaced_by}
 use Rattle.ppexpand.proofs.turn.replace_by.Goals as goal
+
+pub returns-in_default-clause-is : goal.returns-in_default-clause-is
+returns-in_default-clause-is c arguments =
+    let s = c.args.sets.now in
+    let list = c.args.list.now in
+    let space = c.args.head.now.token.space in
+    let names = set.insert (set_at s c.args.base) c.args.head.now.token.text in
+    let none : c.args.body.now ≡ [] = nil_from_length c.args.body.now c.in_default.ensures.cases in
+    let marked : hidings s c.mark_next.new.self ≡ mark_next space (hidings s list) =
+    ap (hidings s) c.mark_next.ensures ∙ hidings-marked s c.space.result list ∙ (λ i. mark_next (c.space.ensures i) (hidings s list)) in
+    ap Replaced marked ∙ (λ i. replaced_by (substituted_by (map lone_chain (sym none i)) arguments names c.args.head.now.token.used space) (hidings s list))
+
+pub returns-in_default-clause-known : goal.returns-in_default-clause-known
+returns-in_default-clause-known c = subst (AllKnown c.args.sets.now) (sym c.mark_next.ensures) (known-marked c.args.sets.now c.space.result c.args.list.now c.requires.list)
+
+pub push_gained-requires-clause-list : goal.push_gained-requires-clause-list
+push_gained-requires-clause-list c = known-keeps c.args.list.now c.in_ok-gain.ensures.keeps c.requires.list
 
 pub returns-clause-is : goal.returns-clause-is
 returns-clause-is c arguments =
     let s = c.args.sets.now in
-    let t = c.substitute_lone.new.sets in
+    let t = c.with.new.self in
     let list = c.args.list.now in
-    let tokens = c.in_ok-tokens.tokens.items in
-    let pending = c.in_ok-tokens.pending in
-    let made = c.in_ok-tokens.ensures.is arguments
-    ∙ (λ i. substituted_by (map lone_chain c.args.body.now) arguments
-    (set.insert (set_at s c.args.base) (c.text-name.ensures i)) (c.used-used.ensures i) (c.space-space.ensures i)) in
-    let marked : hidings t c.mark_next.new.self ≡ mark_next pending (hidings s list) =
-    ap (hidings t) c.mark_next.ensures ∙ hidings-marked t pending list ∙ ap (mark_next pending) (hidings-keeps list c.in_ok-tokens.ensures.keeps c.requires.list) in
-    let all : hidings t c.push_all.new.self ≡ hidings t tokens ++ mark_next pending (hidings s list) =
-    ap (hidings t) c.in_ok-push_all.ensures ∙ map-append (hiding t) tokens c.mark_next.new.self ∙ ap (λ hs. hidings t tokens ++ hs) marked in
-    ap Replaced all ∙ ap (λ r. replaced_by r (hidings s list)) made
+    let head = c.args.head.now in
+    let used = head.token.used in
+    let space = head.token.space in
+    let names = set.insert (set_at s c.args.base) head.token.text in
+    let first = c.in-Some.first.now in
+    let others = c.in-Some.others.now in
+    let body : c.args.body.now ≡ first ∷ others = search rules in
+    let gain : set_at t c.in_ok-gain.gain ≡ names = c.in_ok-gain.ensures.set ∙ (λ i. set.insert (set_at s c.args.base) (c.text.ensures i)) in
+    let kept : hidings t list ≡ hidings s list = hidings-keeps list c.in_ok-gain.ensures.keeps c.requires.list in
+    let behind : hidings t c.push_gained.new.list ≡ map (λ x. gained names used (plain x)) others ++ hidings s list =
+    c.in_ok-push_gained.ensures.is ∙ (λ i. map (λ x. gained (gain i) (c.used.ensures i) (plain x)) others ++ kept i) in
+    let here : hiding t c.gained_token.result ≡ gained names used (with_mark space (plain first)) =
+    c.gained_token.ensures.is ∙ (λ i. gained (gain i) (c.used-2.ensures i) (with_mark (c.space-2.ensures i) (plain first))) in
+    let all : hidings t c.push.new.self ≡ gained names used (with_mark space (plain first)) ∷ (map (λ x. gained names used (plain x)) others ++ hidings s list) =
+    ap (hidings t) c.in_ok-push.ensures ∙ (λ i. here i ∷ behind i) in
+    ap Replaced all
+    ∙ sym (ap (λ r. replaced_by r (hidings s list)) ((λ i. substituted_by (map lone_chain (body i)) arguments names used space) ∙ lone_substituted arguments names used space first others))
 
 pub returns-clause-known : goal.returns-clause-known
 returns-clause-known c =
-    let t = c.substitute_lone.new.sets in
-    let pending = c.in_ok-tokens.pending in
-    let rest : AllKnown t c.mark_next.new.self = subst (AllKnown t) (sym c.mark_next.ensures) (known-marked t pending c.args.list.now (known-keeps c.args.list.now c.in_ok-tokens.ensures.keeps c.requires.list)) in
-    subst (AllKnown t) (sym c.in_ok-push_all.ensures) (known-append c.in_ok-tokens.tokens.items c.mark_next.new.self c.in_ok-tokens.ensures.known rest)
+    let t = c.with.new.self in
+    subst (AllKnown t) (sym c.in_ok-push.ensures) (record { each = (c.gained_token.ensures.known, c.in_ok-push_gained.ensures.known.each) })

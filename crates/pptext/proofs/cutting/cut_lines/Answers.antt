@@ -1,4 +1,4 @@
-use Rattle.std.proofs.Common.{List, [], ◌∷◌, ◌++◌, length, drop, take, get_or, ◌∙◌, ap, refl, arith}
+use Rattle.std.proofs.Common.{◌+◌, List, [], ◌∷◌, ◌++◌, length, drop, take, get_or, ◌∙◌, ap, refl, arith}
 use Rattle.std.proofs.lemmas.List.{take_rest, length-drop, get_or-drop}
 use Rattle.pptext.specs.declared.characters.Char.{Char}
 use Rattle.pptext.specs.declared.tokens.Place.{Place}
@@ -6,7 +6,9 @@ use Rattle.pptext.specs.declared.tokens.Token.{Token}
 use Rattle.pptext.specs.Clean.{place, codes_of}
 use Rattle.pptext.specs.Lone.{KnowsLone}
 use Rattle.pptext.proofs.LoneQuotes.{knows_later, knows_nothing}
-use Rattle.pptext.proofs.CutLoop.{state_start, skip_blanks, skip_comment, end_line, add_token, cut_all, never_closed, codes_length, head_of_drop, head_of_take}
+use Rattle.pptext.proofs.CutLoop.{state_start, skip_blanks, skip_comment, end_line, add_token, cut_all, never_closed, codes_length, head_of_drop, head_of_take, token_is}
+use Rattle.pptext.proofs.InLine.{line_start, line_over_blanks, line_over_token}
+use Rattle.pptext.specs.Tokens.{spelled}
 use Rattle.pptext.specs.Lines.{token_of}
 use Rattle.pptext.specs.Texts.{Reading}
 use Rattle.pptext.proofs.cutting.cut_lines.Goals as goal
@@ -16,20 +18,21 @@ first = record { code = 0; at = place 0 0 0 }
 
 pub loop-at-init : goal.loop-at-init
 loop-at-init c = record {
-  same = refl;
-  passed = omega arith;
-  state = rw (c.requires.no_tokens, c.requires.no_lines) (state_start c.args.profile c.args.text.now.chars);
-  lone = rw c.unknown-lone.ensures (knows_nothing (codes_of c.args.text.now.chars) (length c.codes-codes.result.now) (ap length c.codes-codes.ensures));
+  same = ap (λ (r : Reading). r.chars) c.places-places.ensures;
+  passed = omega (arith, ap (λ (r : Reading). r.passed) c.places-places.ensures);
+  in_line = line_start (codes_of c.args.text.now) 0;
+  state = rw (c.requires.no_tokens, c.requires.no_lines) (state_start c.args.profile c.args.text.now);
+  lone = rw c.unknown-lone.ensures (knows_nothing (codes_of c.args.text.now) (length c.codes-codes.result.now) (ap length c.codes-codes.ensures));
 }
 
 pub loop-at-preserved-in-NewLine : goal.loop-at-preserved-in-NewLine
 loop-at-preserved-in-NewLine c =
-    let chars = c.args.text.now.chars in
+    let chars = c.args.text.now in
     let l = codes_length chars in
     let d = length-drop c.loop-at.at (codes_of chars) in
-    let same = c.codes-in-loop-at.ensures ∙ ap codes_of c.loop-at.invariant.same in
+    let same = c.codes-codes.ensures in
     let found = simp (take_rest, same) at c.in-NewLine.ensures.finds in
-    let first_length = ap length (c.codes.ensures ∙ ap codes_of c.loop-at.invariant.same) in
+    let first_length = ap length c.codes-codes.ensures in
     let number = ap (λ (p : Place). p.line)
     (c.place-number.ensures.place first
     ∙ ap (λ (z : List Char). (get_or z c.loop-at.at first).at) c.loop-at.invariant.same
@@ -38,6 +41,7 @@ loop-at-preserved-in-NewLine c =
     record {
       same = ap (λ (r : Reading). r.chars) c.place-number.ensures.after ∙ c.loop-at.invariant.same;
       passed = omega (arith, ap (λ (r : Reading). r.passed) c.place-number.ensures.after);
+      in_line = line_start (codes_of chars) (c.loop-at.at + 1);
       state = rw (c.in_ok-push-in-NewLine.ensures.items, c.draft_line.ensures, c.deref-in-NewLine.ensures.value)
           (end_line c.args.profile chars c.loop-at.at c.loop-at.start c.len-start.result c.loop-at.space c.loop-at.tokens.items c.loop-at.lines.items
           c.place-number.result.line c.loop-at.invariant.state (c.len-start.ensures ∙ c.loop-at.tokens.ok.0) number (omega arith) found);
@@ -46,15 +50,16 @@ loop-at-preserved-in-NewLine c =
 
 pub loop-at-preserved-in-Blank : goal.loop-at-preserved-in-Blank
 loop-at-preserved-in-Blank c =
-    let chars = c.args.text.now.chars in
+    let chars = c.args.text.now in
     let l = codes_length chars in
     let d = length-drop c.loop-at.at (codes_of chars) in
-    let same = c.codes-in-loop-at.ensures ∙ ap codes_of c.loop-at.invariant.same in
+    let same = c.codes-codes.ensures in
     let found = simp (take_rest, same) at c.in-Blank.ensures.finds in
     let known : KnowsLone (drop c.loop-at.at (codes_of chars)) c.piece_at.new.lone = simp (take_rest, same) at c.piece_at.ensures.lone in
     record {
       same = c.loop-at.invariant.same;
       passed = omega (arith, c.loop-at.invariant.passed);
+      in_line = line_over_blanks (codes_of chars) c.loop-at.line c.loop-at.at c.in-Blank.n c.loop-at.invariant.in_line found.2;
       state = skip_blanks c.args.profile chars c.in-Blank.n c.loop-at.at c.loop-at.start c.loop-at.space c.loop-at.tokens.items c.loop-at.lines.items
           c.loop-at.invariant.state found.1 (omega (arith, found.0, c.loop-at.invariant.state.within)) (λ k lt. simp get_or-drop at (found.2 k lt));
       lone = knows_later (codes_of chars) c.loop-at.at c.in-Blank.n c.piece_at.new.lone known;
@@ -62,46 +67,52 @@ loop-at-preserved-in-Blank c =
 
 pub loop-at-preserved-in-Comment : goal.loop-at-preserved-in-Comment
 loop-at-preserved-in-Comment c =
-    let chars = c.args.text.now.chars in
-    let same = c.codes-in-loop-at.ensures ∙ ap codes_of c.loop-at.invariant.same in
+    let chars = c.args.text.now in
+    let same = c.codes-codes.ensures in
     let found = simp (take_rest, same) at c.in-Comment.ensures.finds in
     let known : KnowsLone (drop c.loop-at.at (codes_of chars)) c.piece_at.new.lone = simp (take_rest, same) at c.piece_at.ensures.lone in
     record {
       same = c.loop-at.invariant.same;
       passed = omega (arith, c.loop-at.invariant.passed);
+      in_line = line_start (codes_of chars) (c.loop-at.at + c.in-Comment.n);
       state = skip_comment c.args.profile chars c.loop-at.at c.loop-at.start c.in-Comment.n c.loop-at.space c.loop-at.tokens.items c.loop-at.lines.items c.loop-at.invariant.state found.0 found.2;
       lone = knows_later (codes_of chars) c.loop-at.at c.in-Comment.n c.piece_at.new.lone known;
     }
 
 pub loop-at-preserved : goal.loop-at-preserved
 loop-at-preserved c =
-    let chars = c.args.text.now.chars in
-    let same = c.codes-in-loop-at.ensures ∙ ap codes_of c.loop-at.invariant.same in
+    let chars = c.args.text.now in
+    let same = c.codes-codes.ensures in
     let found = simp (take_rest, c.deref.ensures.value, same) at c.in-Token.ensures.finds in
     let known : KnowsLone (drop c.loop-at.at (codes_of chars)) c.piece_at.new.lone = simp (take_rest, same) at c.piece_at.ensures.lone in
-    let told : List Char → Token = λ z. token_of c.in-Token.kind c.loop-at.space (take c.in-Token.n (drop c.loop-at.at z)) in
-    let tokens = c.in_ok-push_token-in-Token.ensures.token ∙ ap (λ (z : List Char). c.loop-at.tokens.items ++ told z ∷ []) c.loop-at.invariant.same in
+    let there = c.place-place.ensures.place first ∙ ap (λ (z : List Char). (get_or z c.loop-at.at first).at) c.loop-at.invariant.same in
+    let l = codes_length chars in
+    let first_length = ap length c.codes-codes.ensures in
+    let told = simp (take_rest, same) at c.in_ok-push_token-in-Token.ensures in
+    let is = token_is chars c.loop-at.at c.in-Token.n first c.in-Token.kind c.loop-at.space (take c.in-Token.n (drop c.loop-at.at (codes_of chars))) c.place-place.result (omega arith) found.1 refl there in
+    let tokens = told ∙ ap (λ (t : Token). c.loop-at.tokens.items ++ t ∷ []) is in
     record {
-      same = c.push_token.ensures.chars ∙ c.loop-at.invariant.same;
-      passed = omega (arith, c.push_token.ensures.passed);
+      same = ap (λ (r : Reading). r.chars) c.place-place.ensures.after ∙ c.loop-at.invariant.same;
+      passed = omega (arith, ap (λ (r : Reading). r.passed) c.place-place.ensures.after);
+      in_line = line_over_token (codes_of chars) (spelled (drop c.loop-at.start c.loop-at.tokens.items)) c.loop-at.line c.loop-at.at c.in-Token.n c.in-Token.kind c.loop-at.invariant.in_line found.0 found.2;
       state = rw tokens
           (add_token c.args.profile chars c.loop-at.at c.loop-at.start c.in-Token.n c.loop-at.space c.loop-at.tokens.items c.loop-at.lines.items c.in-Token.kind
-          (told chars) c.loop-at.invariant.state refl found.0 found.2);
+          (token_of c.in-Token.kind c.loop-at.space (take c.in-Token.n (drop c.loop-at.at chars))) c.loop-at.invariant.state refl found.0 found.2);
       lone = knows_later (codes_of chars) c.loop-at.at c.in-Token.n c.piece_at.new.lone known;
     }
 
 pub returns-in-Unclosed : goal.returns-in-Unclosed
 returns-in-Unclosed c =
-    let chars = c.args.text.now.chars in
+    let chars = c.args.text.now in
     let l = codes_length chars in
-    let same = c.codes-in-loop-at.ensures ∙ ap codes_of c.loop-at.invariant.same in
+    let same = c.codes-codes.ensures in
     let found = simp (take_rest, same) at c.in-Unclosed.ensures.finds in
-    let first_length = ap length (c.codes.ensures ∙ ap codes_of c.loop-at.invariant.same) in
+    let first_length = ap length c.codes-codes.ensures in
     let here = c.place.ensures.place first ∙ ap (λ (z : List Char). (get_or z c.loop-at.at first).at) c.loop-at.invariant.same ∙ head_of_drop chars c.loop-at.at first (omega arith) in
     never_closed c.args.profile chars c.loop-at.at c.loop-at.start c.loop-at.space c.loop-at.tokens.items c.loop-at.lines.items c.place.result c.loop-at.invariant.state here found
 
 pub returns : goal.returns
 returns c =
-    let chars = c.args.text.now.chars in
-    let first_length = ap length (c.codes.ensures ∙ ap codes_of c.loop-at.invariant.same) in
+    let chars = c.args.text.now in
+    let first_length = ap length c.codes-codes.ensures in
     rw c.truncate.ensures.items (cut_all c.args.profile chars c.loop-at.at c.loop-at.start c.loop-at.space c.loop-at.tokens.items c.loop-at.lines.items c.loop-at.invariant.state (omega arith))

@@ -1,16 +1,18 @@
 use Rattle.std.proofs.Common.{◌≡◌, ◌-◌, ◌≤◌, length, drop}
 use Rattle.pptext.specs.Clean.{codes_of}
 use Rattle.pptext.specs.Lone.{KnowsLone}
+use Rattle.pptext.specs.Texts.{InLine}
 use Rattle.pptext.proofs.CutLoop.{State}
 use Rattle.pptext.proofs.cutting.cut_lines.Given as goal
 
 abbrev pub invariant-loop-at : goal.invariant-loop-at
 invariant-loop-at l = record {
-  same : l.text.chars ≡ l.initial.text.chars;
-  passed : l.text.passed ≤ l.at;
-  state : State l.profile l.initial.text.chars l.at l.start l.space l.tokens.items l.lines.items;
-  lone : KnowsLone (drop l.at (codes_of l.initial.text.chars)) l.lone;
+  same : l.places.chars ≡ l.text;
+  passed : l.places.passed ≤ l.at;
+  in_line : InLine (codes_of l.text) l.line l.at;
+  state : State l.profile l.text l.at l.start l.space l.tokens.items l.lines.items;
+  lone : KnowsLone (drop l.at (codes_of l.text)) l.lone;
 }
 
 abbrev pub decreases-loop-at : goal.decreases-loop-at
-decreases-loop-at l = length l.initial.text.chars - l.at
+decreases-loop-at l = length l.text - l.at

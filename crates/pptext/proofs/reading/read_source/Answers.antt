@@ -31,7 +31,7 @@ grouped profile file bytes chars pieces lines (Err Memory) clean cut are groups 
 pub group_lines-requires-clause-few : goal.group_lines-requires-clause-few
 group_lines-requires-clause-few c =
     let text = subst (Cleans c.args.file c.args.bytes.now) c.in-Ok.is c.in_ok-text.ensures in
-    omega (arith, c.in-Ok-cut_lines.ensures.4, cleaned_length c.args.file c.args.bytes.now c.in-Ok.text.chars text.0, c.requires)
+    omega (arith, c.in-Ok-cut_lines.ensures.4, cleaned_length c.args.file c.args.bytes.now c.in-Ok.text text, c.requires)
 
 pub returns-in-Err : goal.returns-in-Err
 returns-in-Err c =
@@ -41,7 +41,7 @@ returns-in-Err c =
 pub returns-in-Err-Unclosed : goal.returns-in-Err-Unclosed
 returns-in-Err-Unclosed c =
     let text = subst (Cleans c.args.file c.args.bytes.now) c.in-Ok.is c.in_ok-text.ensures in
-    let open_at = open_comment text.0 (subst (FailsToCut c.in-Ok.text.chars) c.in-Err-Unclosed.field-0-is c.in-Err-Unclosed.ensures) in
+    let open_at = open_comment text (subst (FailsToCut c.in-Ok.text) c.in-Err-Unclosed.field-0-is c.in-Err-Unclosed.ensures) in
     rw (c.fault_at-in-Err-Unclosed.ensures, c.in-Err-Unclosed.place-is) open_at
 
 pub returns : goal.returns
@@ -49,4 +49,4 @@ returns c =
     let text = subst (Cleans c.args.file c.args.bytes.now) c.in-Ok.is c.in_ok-text.ensures in
     let same = same_lines c.cut_lines.new.tokens.items c.shrink_to_fit.new.self.items c.cut_lines.new.lines.items c.shrink_to_fit-2.new.self.items c.shrink_to_fit.ensures.items c.shrink_to_fit-2.ensures.items in
     let cut = c.in-Ok-cut_lines.ensures in
-    grouped c.args.profile c.args.file c.args.bytes.now c.in-Ok.text.chars cut.0 (lines_from c.shrink_to_fit.new.self.items c.shrink_to_fit-2.new.self.items) c.group_lines.result text.0 cut.1 (cut.2 ∙ sym same) c.group_lines.ensures
+    grouped c.args.profile c.args.file c.args.bytes.now c.in-Ok.text cut.0 (lines_from c.shrink_to_fit.new.self.items c.shrink_to_fit-2.new.self.items) c.group_lines.result text cut.1 (cut.2 ∙ sym same) c.group_lines.ensures

@@ -2,5 +2,5 @@ use Rattle.std.proofs.Common.{sym, ◌∙◌, ap}
 use Rattle.std.specs.FinMap as table
 use Rattle.ppmacro.proofs.tables.Table.get.Goals as goal
 
-pub returns-then-not-shows : goal.returns-then-not-shows
-returns-then-not-shows c = sym (ap (λ m. table.get m c.args.name.now) (sym c.self.view_is) ∙ c.self.invariant c.args.name.now (sym c.shows.ensures ∙ c.if-not-shows.true))
+pub returns-then-mark-eq0 : goal.returns-then-mark-eq0
+returns-then-mark-eq0 c = sym (ap (λ m. table.get m c.args.name.now) (sym c.self.view_is) ∙ c.self.invariant c.args.name.now (sym c.at-mark.ensures ∙ c.if-mark-eq0.true))

@@ -9,7 +9,7 @@ use Rattle.ppmacro.proofs.tables.Table.insert.Goals as goal
 
 pub returns-in-Ok-clause-ok : goal.returns-in-Ok-clause-ok
 returns-in-Ok-clause-ok c = let old = c.self.inside.macros.entries in
-    updates-get old c.insert.new.self.entries c.args.name.now (Some c.args.definition) (table.insert (table.from_entries old) c.args.name.now c.args.definition)
+    updates-get old c.insert_full.new.self.entries c.args.name.now (Some c.args.definition) (table.insert (table.from_entries old) c.args.name.now c.args.definition)
     c.in-Ok.ensures.updates.0 (λ q. table.get-insert nat_list_cmp_total (table.from_entries old) c.args.name.now c.args.definition q)
     ∙ ap (λ m. table.insert m c.args.name.now c.args.definition) c.self.view_is
 
@@ -18,14 +18,12 @@ invariant_of-self c =
     let old = c.self.inside.macros.entries in
     let m = table.from_entries old in
     let name = c.args.name.now in
-    let is = updates-get old c.insert.new.self.entries name (Some c.args.definition) (table.insert m name c.args.definition)
+    let is = updates-get old c.insert_full.new.self.entries name (Some c.args.definition) (table.insert m name c.args.definition)
     c.in-Ok.ensures.updates.0 (λ q. table.get-insert nat_list_cmp_total m name c.args.definition q) in
     let marks = c.put.new.self in
     let grown = marked-grown c.self.inside.marks marks m c.put.ensures.grows c.self.invariant in
     let P : Macros → Type 0 = λ t. AreMarked marks t in
     subst P (sym is) (marked-insert marks m name c.args.definition c.put.ensures.here grown)
 
-pub invariant_of-self-2 : goal.invariant_of-self-2
-invariant_of-self-2 c =
-    let m = table.from_entries c.self.inside.macros.entries in
-    rw c.in-Err.ensures.err (marked-grown c.self.inside.marks c.put.new.self m c.put.ensures.grows c.self.invariant)
+pub invariant_of-self-in-Err : goal.invariant_of-self-in-Err
+invariant_of-self-in-Err c = rw c.in-Err.ensures.err c.self.invariant

@@ -1,16 +1,16 @@
-use Rattle.std.proofs.Common.{◌∙◌, ap}
+use Rattle.std.proofs.Common.{sym, ◌∙◌, ap}
 use Rattle.std.specs.FinMap as table
-use Rattle.ppmacro.proofs.TableLemmas.{lookup-get, none-of, second-at}
+use Rattle.std.specs.Ordering.{nat_cmp}
+use Rattle.std.specs.Cmp.Lexicographic.{slice_cmp}
+use Rattle.std.proofs.lemmas.Slice.Eq.{bytes_eq-Decides}
+use Rattle.ppmacro.proofs.TableLemmas.{lookup-get}
 use Rattle.ppmacro.proofs.tables.Table.look_up.Goals as goal
 
-pub returns-in_default : goal.returns-in_default
-returns-in_default c =
-    none-of _ c.in_default.ensures.found
-    ∙ lookup-get c.args.name.now c.self.inside.macros.entries
-    ∙ ap (λ m. table.get m c.args.name.now) c.self.view_is
-
-pub returns-in-Some-get_index : goal.returns-in-Some-get_index
-returns-in-Some-get_index c =
-    second-at c.self.inside.macros.entries c.in-Some.index c.in-Some-get_index.field-0-0.now c.in-Some-get_index.found.now _ c.in-Some-get_index.ensures.entry c.in-Some.ensures.value
-    ∙ lookup-get c.args.name.now c.self.inside.macros.entries
+pub returns-then-eq : goal.returns-then-eq
+returns-then-eq c =
+    let entries = c.self.inside.macros.entries in
+    let same = sym c.key.view_is ∙ (bytes_eq-Decides c.key.inside.bytes.now c.args.name.now).0 (sym c.eq.ensures ∙ c.if-eq.true) in
+    sym c.in-Some.ensures.value
+    ∙ lookup-get c.in-Some.key.now entries
+    ∙ ap (λ n. table.get (table.from_entries {R = slice_cmp nat_cmp} entries) n) same
     ∙ ap (λ m. table.get m c.args.name.now) c.self.view_is

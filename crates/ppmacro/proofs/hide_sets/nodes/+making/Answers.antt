@@ -1,0 +1,39 @@
+use Rattle.std.proofs.Common.{◌∙◌, sym}
+use Rattle.ppmacro.specs.Nodes.{word}
+use Rattle.ppmacro.specs.Operations.{joined_word}
+use Rattle.ppmacro.proofs.Tries.{join-set, member-joined, bounded-on, bounded-join}
+use Rattle.ppmacro.proofs.Remembering.{settled-is}
+use Rattle.ppmacro.proofs.hide_sets.nodes.+making.Goals as goal
+
+pub make-returns-in-Some-clause-known : goal.make-returns-in-Some-clause-known
+make-returns-in-Some-clause-known t c = (settled-is c.args.operation c.args.nodes.now.keys c.args.one c.args.two c.in-Some.number c.requires.pool c.requires.one c.requires.two (sym c.settled.ensures ∙ c.in-Some.is)).within
+
+pub make-returns-in-Some-clause-set : goal.make-returns-in-Some-clause-set
+make-returns-in-Some-clause-set t c = (settled-is c.args.operation c.args.nodes.now.keys c.args.one c.args.two c.in-Some.number c.requires.pool c.requires.one c.requires.two (sym c.settled.ensures ∙ c.in-Some.is)).is
+
+pub make_node-returns-clause-set : goal.make_node-returns-clause-set
+make_node-returns-clause-set t c = λ w.
+    let old = c.args.nodes.now.keys in
+    let mid = c.make.new.nodes.keys in
+    let is = c.in_ok-both.ensures.is
+    ∙ (λ i. record { here = c.joins-here.ensures i; left = c.in_ok-left.left; right = c.in_ok-right.right })
+    ∙ (λ i. record {
+      here = joined_word c.args.operation (c.read-first.ensures i).here (c.read-second.ensures i).here;
+      left = c.in_ok-left.left;
+      right = c.in_ok-right.right;
+    }) in
+    join-set (joined_word c.args.operation) old mid c.make-2.new.nodes.keys c.number_beside.new.nodes.keys c.args.one c.args.two c.in_ok-left.left c.in_ok-right.right c.in_ok-both.both w
+    c.requires.pool c.in_ok-left.ensures.pool c.in_ok-right.ensures.pool c.requires.one c.requires.two c.in_ok-left.ensures.known
+    c.in_ok-right.ensures.known c.in_ok-left.ensures.keeps c.in_ok-right.ensures.keeps c.in_ok-both.ensures.keeps
+    (λ y. c.in_ok-left.ensures.set y ∙ (λ i. joined_word c.args.operation (word old (c.read-first.ensures i).left y) (word old (c.read-second.ensures i).left y)))
+    (λ y. c.in_ok-right.ensures.set y ∙ (λ i. joined_word c.args.operation (word mid (c.read-first.ensures i).right y) (word mid (c.read-second.ensures i).right y)))
+    is
+
+pub make_node-returns-clause-bounded : goal.make_node-returns-clause-bounded
+make_node-returns-clause-bounded t c = λ limit b.
+    let start = c.args.nodes.now.keys in
+    let new = c.number_beside.new.nodes.keys in
+    bounded-on limit c.make-2.new.nodes.keys new c.in_ok-both.both c.in_ok-right.ensures.pool c.in_ok-both.ensures.keeps
+    (c.in_ok-right.ensures.bounded limit (c.in_ok-left.ensures.bounded limit b)) c.in_ok-both.ensures.fresh
+    (bounded-join c.args.operation limit start new c.args.one c.args.two c.in_ok-both.both b c.requires.one c.requires.two
+    (member-joined c.args.operation start new c.args.one c.args.two c.in_ok-both.both (make_node-returns-clause-set t c)))

@@ -1,5 +1,0 @@
-use Rattle.ppmacro.specs.Substituting.{ListsKnown}
-use Rattle.ppmacro.proofs.tests.substitution.arguments.Given as goal
-
-abbrev pub invariant-loop-text : goal.invariant-loop-text
-invariant-loop-text l = ListsKnown l.sets l.lists.items

@@ -1,5 +1,0 @@
-use Rattle.ppmacro.specs.HideSets.{AllKnown}
-use Rattle.ppmacro.proofs.tests.substitution.hidden.Given as goal
-
-abbrev pub invariant-loop-token : goal.invariant-loop-token
-invariant-loop-token l = AllKnown l.sets l.list.items

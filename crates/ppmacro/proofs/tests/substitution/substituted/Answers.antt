@@ -1,5 +1,0 @@
-use Rattle.ppmacro.proofs.WalkLemmas.{arguments-known}
-use Rattle.ppmacro.proofs.tests.substitution.substituted.Goals as goal
-
-pub substitute-requires-in_default-clause-arguments : goal.substitute-requires-in_default-clause-arguments
-substitute-requires-in_default-clause-arguments g c = arguments-known c.args.given.now c.args.expanded.now c.substitute.ensures.keeps c.requires.arguments

@@ -1,0 +1,74 @@
+-- Texts whose segments all lead on.
+use Rattle.std.proofs.Common.{◌≡◌, ℕ, ◌==◌, ◌<◌, Bool, true, false, not, ◌&&◌, List, [], ◌∷◌, ◌++◌, length, Option, Some, None, refl, sym, ap, subst, ◌∙◌, arith, append_assoc, inl, inr}
+use Rattle.std.specs.List.{join_with_byte, list_all}
+use Rattle.std.proofs.lemmas.Bool.{false≢true}
+use Rattle.std.proofs.lemmas.List.{append-nil}
+use Rattle.std.proofs.lemmas.List.Splits.{join_with_byte-slice_split, length-slice_split}
+use Rattle.std.proofs.Math.Dec.{eqb-suc-zero}
+use Rattle.ppshelf.specs.Names.{segments, is_plain_segment, IsRowOf}
+use Rattle.ppshelf.specs.Search.{Path, step, walk, lead, spelled, IsFirstRow}
+
+both : (a b : Bool) → (a && b) ≡ true → (a ≡ true) × (b ≡ true)
+both true true e = (refl, refl)
+both true false e = absurd (false≢true e)
+both false b e = absurd (false≢true e)
+
+-- such a segment is one more of a path
+leads_on : (path : Path) (s : List ℕ) → is_plain_segment s ≡ true → step path s ≡ Some (path ++ s ∷ [])
+leads_on path [] plain = absurd (false≢true plain)
+leads_on path (b ∷ s) plain = on path b s (b == 46) refl (both (not (length (b ∷ s) == 0)) (not (b == 46)) plain).1
+  where
+    on : (path : Path) (b : ℕ) (s : List ℕ) (dot : Bool) → (b == 46) ≡ dot → not (b == 46) ≡ true → step path (b ∷ s) ≡ Some (path ++ (b ∷ s) ∷ [])
+    on path b s true is plain = absurd (false≢true (sym (ap not is) ∙ plain))
+    on path b s false is plain = rw (is, eqb-suc-zero (length s)) refl
+
+-- and several are behind it, whatever says of each that it is one more
+pub lead_by : (test : List ℕ → Bool) → ((path : Path) (s : List ℕ) → test s ≡ true → step path s ≡ Some (path ++ s ∷ []))
+    → (path : Path) (more : List (List ℕ)) → list_all test more ≡ true → walk (Some path) more ≡ Some (path ++ more)
+lead_by test on path [] all = ap (λ (p : Path). Some p) (sym (append-nil path))
+lead_by test on path (s ∷ more) all =
+    let h = both (test s) (list_all test more) all in
+    ap (λ (p : Option Path). walk p more) (on path s h.0)
+    ∙ (lead_by test on (path ++ s ∷ []) more h.1 ∙ ap (λ (p : Path). Some p) (append_assoc path (s ∷ []) more))
+
+lead_on : (path : Path) (more : List (List ℕ)) → list_all is_plain_segment more ≡ true → walk (Some path) more ≡ Some (path ++ more)
+lead_on = lead_by is_plain_segment leads_on
+
+-- the spelling of two paths, one behind the other
+join_two : (first more : Path) → 0 < length first → 0 < length more → join_with_byte 47 (first ++ more) ≡ join_with_byte 47 first ++ 47 ∷ join_with_byte 47 more
+join_two [] more some next = absurd (omega arith)
+join_two (s ∷ []) [] some next = absurd (omega arith)
+join_two (s ∷ []) (t ∷ more) some next = refl
+join_two (s ∷ t ∷ first) more some next =
+    ap (λ (x : List ℕ). s ++ 47 ∷ x) (join_two (t ∷ first) more (omega arith) next)
+    ∙ sym (append_assoc s (47 ∷ join_with_byte 47 (t ∷ first)) (47 ∷ join_with_byte 47 more))
+
+pub some_segment : (text : List ℕ) → 0 < length (segments text)
+some_segment text = let l = length-slice_split (λ b. b == 47) text in omega arith
+
+-- a name in a folder, where both are such texts
+pub spelled_joined : (folder name : List ℕ) → list_all is_plain_segment (segments folder) ≡ true → list_all is_plain_segment (segments name) ≡ true
+    → spelled (lead (lead (Some []) folder) name) ≡ (folder ++ 47 ∷ name) ∷ []
+spelled_joined folder name plain plain_too =
+    let there : lead (Some []) folder ≡ Some (segments folder) = lead_on [] (segments folder) plain in
+    let on : lead (lead (Some []) folder) name ≡ Some (segments folder ++ segments name) = ap (λ (p : Option Path). walk p (segments name)) there ∙ lead_on (segments folder) (segments name) plain_too in
+    let join : join_with_byte 47 (segments folder ++ segments name) ≡ folder ++ 47 ∷ name =
+    join_two (segments folder) (segments name) (some_segment folder) (some_segment name)
+    ∙ (ap (λ (x : List ℕ). x ++ 47 ∷ join_with_byte 47 (segments name)) (join_with_byte-slice_split 47 folder) ∙ ap (λ (x : List ℕ). folder ++ 47 ∷ x) (join_with_byte-slice_split 47 name)) in
+    ap spelled on ∙ ap (λ (x : List ℕ). x ∷ []) join
+
+-- the row of one name is the first of it alone
+first_alone : (names : List (List ℕ)) (name : List ℕ) (row : Option ℕ) → IsRowOf names name row → IsFirstRow names (name ∷ []) row
+first_alone names name None h = inr (h, refl)
+first_alone names name (Some row) h = inl (refl, h)
+
+pub first_joined : (names : List (List ℕ)) (folder name joined : List ℕ) (row : Option ℕ)
+    → list_all is_plain_segment (segments folder) ≡ true
+    → list_all is_plain_segment (segments name) ≡ true
+    → joined ≡ folder ++ 47 ∷ name
+    → IsRowOf names joined row
+    → IsFirstRow names (spelled (lead (lead (Some []) folder) name)) row
+first_joined names folder name joined row plain plain_too is h =
+    let P : List (List ℕ) → Type 0 = λ all. IsFirstRow names all row in
+    let Q : List ℕ → Type 0 = λ text. IsRowOf names text row in
+    subst P (sym (spelled_joined folder name plain plain_too)) (first_alone names (folder ++ 47 ∷ name) row (subst Q is h))

@@ -1,0 +1,24 @@
+// Hashes of names by the key that everybody knows, as bench/colliding.py reckons them.
+use super::assert_same;
+use pptext::Hashing;
+use std::hash::{BuildHasher, Hasher};
+
+/// Two names that are made to collide.
+const COLLIDING: &str =
+    "aaaaabkDZlJeGuI7aaaaasv0Hp5QKjqTaaaaasv0Hp5QKjqTaaaaasv0Hp5QKjqTaaaaasv0Hp5QKjqT";
+
+const ALSO_COLLIDING: &str =
+    "aaaaabkDZlJeGuI7aaaaasv0Hp5QKjqTaaaaasv0Hp5QKjqTaaaaasv0Hp5QKjqTaaaaaRCW9dtu4yQE";
+
+#[test]
+fn names_hash_as_they_are_made_to_collide(rt: HostRuntime) {
+    for (name, hash) in [
+        (COLLIDING, 0),
+        (ALSO_COLLIDING, 0),
+        ("ordinary", 0x96ed_ec01_2a11_ed83),
+    ] {
+        let mut hasher = Hashing::fixed().build_hasher();
+        hasher.write(name.as_bytes());
+        assert_same(&rt, name, &hasher.finish(), &hash);
+    }
+}

@@ -1,0 +1,161 @@
+ghost use Rattle.std.specs.Prelude.{◌≡◌, ◌≤◌, IfOk, length};
+ghost use Rattle.std.specs.Vec.{vec_len};
+ghost use Rattle.ppshelf.specs.Files.{most_rows};
+
+mod again;
+mod disks;
+mod filling;
+mod looking;
+mod naming;
+mod reading;
+mod searching;
+
+use ppshelf::{Disk, File, Loaded, MemoryDisk, Pass, ReadFault, Shelf};
+use pptext::{Fault, Memory, Profile, Source};
+use std::alloc::{AllocError, Global};
+use std::process::Abort;
+use std::sync::atomic::AtomicU64;
+use std::sync::atomic::Ordering::SeqCst;
+use std::test::Fail;
+
+// Answers its reads with the texts `0`, `1`, .. in turn, but has no memory for the read of one number.
+#[derive(Drop)]
+struct Counting {
+    reads: AtomicU64,
+    refused: u64,
+}
+
+impl Disk for Counting {
+    ghost may = { λ name c. Unit {0} };
+
+    ghost gives = { λ disk name c. Unit {0} };
+
+    ghost gives_may = { λ disk name c h. tt };
+
+    fn read(&self, alloc: Global, _name: &str) -> Result<Vec<u8>, ReadFault> {
+        let count = self.reads.fetch_add(1, SeqCst);
+        if count == self.refused {
+            return Err(ReadFault::Memory);
+        }
+        let Ok(text) = format!(in alloc; "{count}\n") else {
+            return Err(ReadFault::Memory);
+        };
+        let Ok(bytes) = Vec::from_slice(alloc, text.as_bytes()) else {
+            return Err(ReadFault::Memory);
+        };
+        Ok(bytes)
+    }
+}
+
+fn refusing(refused: u64) -> Counting {
+    Counting {
+        reads: AtomicU64::new(0),
+        refused,
+    }
+}
+
+fn texts(alloc: Global, names: &[&str]) -> Result<Vec<String>, AllocError>
+    ensures { IfOk result (λ texts. vec_len texts ≡ length names.now) }
+{
+    let mut texts = Vec::new(alloc);
+    for name in names {
+        texts.push(String::from_str(alloc, name)?)?;
+    }
+    Ok(texts)
+}
+
+// A shelf of these names, of which none is filled.
+fn named<D: Disk>(alloc: Global, names: &[&str]) -> Result<Shelf<D>, Fail>
+    requires { length names.now ≤ most_rows }
+{
+    Ok(Shelf::new(alloc, texts(alloc, names)?, Profile::C11)?)
+}
+
+// A disk of one file `a`.
+fn disk_of(alloc: Global, text: &[u8]) -> Result<MemoryDisk, AllocError> {
+    let mut files = Vec::new(alloc);
+    files.push(File {
+        name: String::from_str(alloc, "a")?,
+        bytes: Vec::from_slice(alloc, text)?,
+    })?;
+    Ok(MemoryDisk { files })
+}
+
+// What a pass is shown of a row, if there is one.
+fn shown_of<'a, D: Disk>(
+    shelf: &'a Shelf<D>,
+    pass: &mut Pass<'a, D>,
+    row: usize,
+    disk: &D,
+) -> Result<Option<&'a Loaded<D>>, Memory>
+    requires { pass.old.shelf ≡ shelf.now }
+    ensures { pass.new.shelf ≡ shelf.now }
+{
+    if row >= shelf.len() {
+        return Ok(None);
+    }
+    let Ok(loaded) = shelf.look(pass, row, disk) else {
+        return Err(Memory);
+    };
+    Ok(Some(loaded))
+}
+
+// The bytes that it is shown.
+fn bytes_of<'a, D: Disk>(
+    shelf: &'a Shelf<D>,
+    pass: &mut Pass<'a, D>,
+    row: usize,
+    disk: &D,
+) -> Result<Option<&'a [u8]>, Memory>
+    requires { pass.old.shelf ≡ shelf.now }
+    ensures { pass.new.shelf ≡ shelf.now }
+{
+    match shown_of(shelf, pass, row, disk)? {
+        Some(loaded) => Ok(loaded.bytes()),
+        None => Ok(None),
+    }
+}
+
+// And the lines.
+fn lines_of<'a, D: Disk>(
+    shelf: &'a Shelf<D>,
+    pass: &mut Pass<'a, D>,
+    row: usize,
+    disk: &D,
+) -> Result<Option<Result<&'a Source, &'a Fault>>, Memory>
+    requires { pass.old.shelf ≡ shelf.now }
+    ensures { pass.new.shelf ≡ shelf.now }
+{
+    match shown_of(shelf, pass, row, disk)? {
+        Some(loaded) => Ok(loaded.lines()),
+        None => Ok(None),
+    }
+}
+
+// That a pass is shown these bytes of a row.
+fn assert_shown<'a, D: Disk>(
+    rt: &impl Abort,
+    shelf: &'a Shelf<D>,
+    pass: &mut Pass<'a, D>,
+    row: usize,
+    disk: &D,
+    wanted: Option<&[u8]>,
+) -> Result<(), Memory>
+    requires { pass.old.shelf ≡ shelf.now }
+    ensures { pass.new.shelf ≡ shelf.now }
+{
+    let found = bytes_of(shelf, pass, row, disk)?;
+    assert!(rt; found == wanted, "{row}");
+    Ok(())
+}
+
+// That a new pass is shown these bytes of the first row.
+fn assert_first<D: Disk>(
+    rt: &impl Abort,
+    shelf: &Shelf<D>,
+    disk: &D,
+    wanted: &[u8],
+) -> Result<(), Memory> {
+    let mut pass = shelf.pass()?;
+    assert_shown(rt, shelf, &mut pass, 0, disk, Some(wanted))
+}

@@ -1,0 +1,208 @@
+// Looks by several passes and threads.
+ghost use Rattle.std.specs.Prelude.{◌≡◌, IfOk};
+
+use super::{Counting, assert_first, assert_shown, bytes_of, named, refusing};
+use ppshelf::{Loaded, Pass, Shelf};
+use pptext::Memory;
+use std::alloc::Global;
+use std::process::Abort;
+use std::sync::atomic::Ordering::SeqCst;
+use std::test::Fail;
+use std::thread;
+use std::thread::Threads;
+
+// That a pass is shown the first numbers.
+fn assert_both_shown<'a>(
+    rt: &impl Abort,
+    shelf: &'a Shelf<Counting>,
+    pass: &mut Pass<'a, Counting>,
+    disk: &Counting,
+) -> Result<(), Memory>
+    requires { pass.old.shelf ≡ shelf.now }
+    ensures { pass.new.shelf ≡ shelf.now }
+{
+    assert_shown(rt, shelf, pass, 0, disk, Some(b"0\n".as_slice()))?;
+    assert_shown(rt, shelf, pass, 1, disk, Some(b"1\n".as_slice()))
+}
+
+// That two passes are shown the same, and that one knows what the other knew once they have met.
+fn assert_passes_meet(
+    rt: &impl Abort,
+    shelf: &Shelf<Counting>,
+    disk: &Counting,
+) -> Result<(), Memory> {
+    let (mut one, mut two) = (shelf.pass()?, shelf.pass()?);
+    assert_shown(rt, shelf, &mut one, 0, disk, Some(b"0\n".as_slice()))?;
+    assert_both_shown(rt, shelf, &mut two, disk)?;
+    shelf.meet(&mut one, two);
+    assert_shown(rt, shelf, &mut one, 1, disk, Some(b"1\n".as_slice()))
+}
+
+#[test]
+fn passes_find_the_same(rt: HostRuntime) -> Result<(), Fail> {
+    let shelf = named(rt.alloc(), &["h.h", "a.c"])?;
+    let disk = refusing(99);
+    assert_passes_meet(&rt, &shelf, &disk)?;
+    assert!(rt; disk.reads.load(SeqCst) == 2);
+    Ok(())
+}
+
+// Looks at both rows and hands the pass out.
+fn all_looked_at<'a>(
+    shelf: &'a Shelf<Counting>,
+    disk: &Counting,
+) -> Result<Pass<'a, Counting>, Memory>
+    ensures { IfOk result (λ pass. pass.shelf ≡ shelf.now) }
+{
+    let mut pass = shelf.pass()?;
+    for row in 0..shelf.len() {
+        let _bytes = bytes_of(shelf, &mut pass, row, disk)?;
+    }
+    Ok(pass)
+}
+
+// What two threads are shown, and have met over.
+fn by_two_threads<'a, R: Threads>(
+    rt: &R,
+    shelf: &'a Shelf<Counting>,
+    disk: &Counting,
+) -> Result<Pass<'a, Counting>, Memory>
+    ensures { IfOk result (λ pass. pass.shelf ≡ shelf.now) }
+{
+    let one = || -> Result<Pass<Counting>, Memory>
+        ensures { IfOk result (λ pass. pass.shelf ≡ shelf.entry.now) }
+    { all_looked_at(shelf, disk) };
+    let two = || -> Result<Pass<Counting>, Memory>
+        ensures { IfOk result (λ pass. pass.shelf ≡ shelf.entry.now) }
+    { all_looked_at(shelf, disk) };
+    let (one, two) = thread::join(rt, one, two);
+    let mut met = one?;
+    shelf.meet(&mut met, two?);
+    Ok(met)
+}
+
+// The same of four.
+fn by_four_threads<'a, R: Threads + Sync>(
+    rt: &R,
+    shelf: &'a Shelf<Counting>,
+    disk: &Counting,
+) -> Result<Pass<'a, Counting>, Memory>
+    ensures { IfOk result (λ pass. pass.shelf ≡ shelf.now) }
+{
+    let one = || -> Result<Pass<Counting>, Memory>
+        ensures { IfOk result (λ pass. pass.shelf ≡ shelf.entry.now) }
+    { by_two_threads(rt, shelf, disk) };
+    let two = || -> Result<Pass<Counting>, Memory>
+        ensures { IfOk result (λ pass. pass.shelf ≡ shelf.entry.now) }
+    { by_two_threads(rt, shelf, disk) };
+    let (one, two) = thread::join(rt, one, two);
+    let mut met = one?;
+    shelf.meet(&mut met, two?);
+    Ok(met)
+}
+
+// All rows, of which each is looked at while those before it are open.
+fn all_open<'a>(
+    alloc: Global,
+    shelf: &'a Shelf<Counting>,
+    pass: &mut Pass<'a, Counting>,
+    disk: &Counting,
+) -> Result<Vec<&'a Loaded<Counting>>, Memory>
+    requires { pass.old.shelf ≡ shelf.now }
+    ensures { pass.new.shelf ≡ shelf.now }
+{
+    let mut open = Vec::new(alloc);
+    for row in 0..shelf.len() {
+        let Ok(loaded) = shelf.look(pass, row, disk) else {
+            return Err(Memory);
+        };
+        let Ok(()) = open.push(loaded) else {
+            return Err(Memory);
+        };
+    }
+    Ok(open)
+}
+
+// That a content has these bytes, a number and its new-line.
+fn assert_is_number(rt: &impl Abort, loaded: &Loaded<Counting>, text: &[u8]) -> Result<(), Fail> {
+    let Some(Ok(source)) = loaded.lines() else {
+        return Err(Fail::new("a number and its new-line have no fault"));
+    };
+    assert!(rt; source.lines().len() == 1 && source.tokens().len() == 1);
+    assert!(rt; loaded.bytes() == Some(text));
+    Ok(())
+}
+
+// That three contents are the first numbers.
+fn assert_are_numbers(rt: &impl Abort, open: &[&Loaded<Counting>]) -> Result<(), Fail> {
+    for (loaded, text) in open.iter().zip(&[b"0\n", b"1\n", b"2\n"]) {
+        assert_is_number(rt, loaded, text.as_slice())?;
+    }
+    assert!(rt; open.len() == 3);
+    Ok(())
+}
+
+// That contents stay as they are while later rows are looked at.
+fn assert_outlive(rt: &impl Abort, alloc: Global, shelf: &Shelf<Counting>) -> Result<(), Fail> {
+    let mut pass = shelf.pass()?;
+    let open = all_open(alloc, shelf, &mut pass, &refusing(99))?;
+    assert_are_numbers(rt, open.as_slice())
+}
+
+#[test]
+fn contents_outlive_later_looks(rt: HostRuntime) -> Result<(), Fail> {
+    let alloc = rt.alloc();
+    let shelf = named(alloc, &["a", "b", "c"])?;
+    assert_outlive(&rt, alloc, &shelf)
+}
+
+// That a pass is shown what four threads have been shown.
+fn assert_same_by_threads<R: Abort + Threads + Sync>(
+    rt: &R,
+    shelf: &Shelf<Counting>,
+    disk: &Counting,
+) -> Result<(), Memory> {
+    let mut pass = by_four_threads(rt, shelf, disk)?;
+    let first = bytes_of(shelf, &mut pass, 0, disk)?;
+    assert!(rt; first.is_some());
+    let mut other = shelf.pass()?;
+    assert_shown(rt, shelf, &mut other, 0, disk, first)
+}
+
+#[test]
+fn threads_find_the_same(rt: HostRuntime) -> Result<(), Fail> {
+    let shelf = named(rt.alloc(), &["h.h", "a.c"])?;
+    assert_same_by_threads(&rt, &shelf, &refusing(99))?;
+    Ok(())
+}
+
+// That a pass is shown a row once there is memory for it, and that then it and another are shown it without a read.
+fn assert_read_once(rt: &impl Abort, shelf: &Shelf<Counting>) -> Result<(), Memory> {
+    let mut pass = shelf.pass()?;
+    let first = bytes_of(shelf, &mut pass, 0, &refusing(0));
+    assert!(rt; first == Err(Memory));
+    assert_shown(
+        rt,
+        shelf,
+        &mut pass,
+        0,
+        &refusing(1),
+        Some(b"0\n".as_slice()),
+    )?;
+    assert_shown(
+        rt,
+        shelf,
+        &mut pass,
+        0,
+        &refusing(0),
+        Some(b"0\n".as_slice()),
+    )?;
+    assert_first(rt, shelf, &refusing(0), b"0\n".as_slice())
+}
+
+#[test]
+fn a_kept_row_is_not_read_again(rt: HostRuntime) -> Result<(), Fail> {
+    let shelf = named(rt.alloc(), &["h.h"])?;
+    assert_read_once(&rt, &shelf)?;
+    Ok(())
+}
