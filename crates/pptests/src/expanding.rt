@@ -560,8 +560,8 @@ fn assert_parts(rt: &impl Abort, alloc: Global, text: &[u8], wanted: &[u8]) -> R
 #[test]
 fn passes_stretches_of_the_file(rt: HostRuntime) -> Result<(), Fail> {
     let alloc = rt.alloc();
-    let text = b"#define X 1 + 2\na b X c d e f g h i j k X";
-    let parts = b".a.b!1!+!2.c.d.e.f.g.h.i.j.k!1!+!2";
+    let text = b"#define X 1 + 2\na b X c d e f g h i j k l m n o X";
+    let parts = b".a.b!1!+!2.c.d.e.f.g.h.i.j.k.l.m.n.o!1!+!2";
     assert_parts(&rt, alloc, text, parts)?;
     assert_parts(&rt, alloc, b"#define X 1 + 2\nX c X", b"!1!+!2!c!1!+!2")
 }
