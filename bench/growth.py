@@ -18,10 +18,10 @@ or 200 MB, and where the status isn't the one that is due.  --shapes runs those 
 sizes, mostly a quarter.
 
 Less than 0.05 seconds and 32 MB count as these; a factor to a run below that floor is marked by `*`, since it isn't measured,
-or not all of it.  Below it lie, at each size, the time of the parameters and of the operands of `##`, and the memory of
-these, of the object-like chain, of the budget, of the chain in an argument and of what goes through macros; by --quick also
-the time of the chain in an argument and of the floods, and the memory of all but the function-like chain, `#undef` and most
-of the bytes.
+or not all of it.  Below it lie, at each size, the time of the parameters and of the operands of `##`, which is measured where
+they are many, and the memory of these, of the object-like chain, of the budget, of the chain in an argument, of what goes
+through macros, of long names, empty lists and folders; by --quick also the time of the chain in an argument and of the floods,
+and the memory of all but the function-like chain, `#undef` and most of the bytes.
 
 status:
   0  no shape fell short

@@ -113,6 +113,22 @@ def pasted(count, first="a", rest=("a",)):
     return lines("#define p %s" % "##".join(operands), "p")
 
 
+def used_name(length, uses):
+    """A macro with a name of so many bytes, which another one stands for, so that each use of it is short in the text."""
+    return lines("#define %s" % ("n" * length), "#define u %s" % ("n" * length), "u " * uses)
+
+
+def empty_list(places, uses):
+    """A replacement list in which a parameter stands so often, with an empty argument."""
+    return lines("#define f(x) %s" % ("x " * places), "f() " * uses)
+
+
+def searched(folders, includes):
+    """An empty header in the last of so many folders."""
+    files = [{"name": "a.c", "text": "#include <h>\n" * includes}, {"name": "d%d/h" % (folders - 1), "text": ""}]
+    return dict(DATE, search=["d%d" % i for i in range(folders)], files=files, units=[{"file": "a.c"}])
+
+
 # ---- names that collide
 
 
@@ -134,6 +150,22 @@ def repeated(name, text, things, status=0):
     return Shape("bytes " + name, (CONTENT // 4, CONTENT // 2, CONTENT), lambda size: text * (size // len(text)), things=things, status=status)
 
 
+SHORT = [
+    Shape("parameters, unused", (5_000, 10_000, 20_000), parameters, quick=1),
+    Shape("parameters, used", (5_000, 10_000, 20_000), parameters_used, quick=2),
+    Shape("operands of ##", (10_000, 20_000, 40_000), pasted, quick=2),
+    Shape("periods behind ##", (10_000, 20_000, 40_000), lambda size: pasted(size, "0", (".",)), quick=2),
+    Shape("universal names behind ##", (10_000, 20_000, 40_000), lambda size: pasted(size, "a", ("\\u1234",)), quick=2),
+    Shape("signs behind ##", (10_000, 20_000, 40_000), lambda size: pasted(size, "0", ("e", "+")), quick=2),
+]
+
+
+def many(shape):
+    """The same at sizes at which it takes so long that its growth is measured. gcc, for which some are quadratic, isn't beside it."""
+    sizes = tuple(16 * size for size in shape.sizes)
+    return Shape("many " + shape.name, sizes, listed=lambda size: list_of_text(shape.text(size)), quick=1)
+
+
 SHAPES = [
     Shape("chain, object-like", (15_000, 30_000, 60_000), object_chain, quick=1, goal=(1, 200)),
     Shape("chain, function-like", (15_000, 30_000, 60_000), function_chain, quick=1),
@@ -145,13 +177,15 @@ SHAPES = [
     Shape("argument through 80 macros", (5_000, 10_000, 20_000), lambda size: argument_through(size, 80), quick=1),
     Shape("1,000 tokens through macros", (500, 1_000, 2_000), lambda size: argument_through(1_000, size), quick=1),
     Shape("#undef in order", (60_000, 120_000, 240_000), undefined_in_order),
-    Shape("parameters, unused", (5_000, 10_000, 20_000), parameters, quick=1),
-    Shape("parameters, used", (5_000, 10_000, 20_000), parameters_used, quick=2),
     Shape("arguments", (100_000, 200_000, 400_000), arguments),
-    Shape("operands of ##", (10_000, 20_000, 40_000), pasted, quick=2),
-    Shape("periods behind ##", (10_000, 20_000, 40_000), lambda size: pasted(size, "0", (".",)), quick=2),
-    Shape("universal names behind ##", (10_000, 20_000, 40_000), lambda size: pasted(size, "a", ("\\u1234",)), quick=2),
-    Shape("signs behind ##", (10_000, 20_000, 40_000), lambda size: pasted(size, "0", ("e", "+")), quick=2),
+    *SHORT,
+    *(many(shape) for shape in SHORT),
+    Shape("uses of a long name", (10_000, 20_000, 40_000), lambda size: used_name(100_000, size), quick=1),
+    Shape("length of a used name", (100_000, 200_000, 400_000), lambda size: used_name(size, 10_000), quick=1),
+    Shape("uses of an empty list", (4_000, 8_000, 16_000), lambda size: empty_list(1_000, size), quick=1),
+    Shape("length of an empty list", (4_000, 8_000, 16_000), lambda size: empty_list(size, 1_000), quick=1),
+    Shape("include lines", (10_000, 20_000, 40_000), listed=lambda size: searched(100, size), quick=1),
+    Shape("folders searched", (100, 200, 400), listed=lambda size: searched(size, 10_000), quick=1),
     repeated("(", "(", lambda size: size),
     repeated("?", "?", lambda size: size),
     repeated("'", "'", lambda size: size, status=1),

@@ -4,10 +4,12 @@
     tests/refused_in_tests.py [--each-up-to N] NAME..
 
 For each NAME the tests are crates/NAME/out/NAME_tests, which `rt test` leaves behind.  Each test runs with its 1st, 2nd,
-3rd .. request refused, and with all refused from that one on, until a run meets no refusal; behind the Nth, by default the
-1,000th, fewer and fewer requests are refused.  As many tests run side by side as there are processors.  A test that looks at
-what a refused call left, and calls again, passes where the second call gets what it asks for; in another the want of memory is
-the test's own error.  Whatever else fails is a problem.
+3rd .. request refused, and with all refused from that one on, until a run meets no refusal; behind the Nth, fewer and fewer
+requests are refused.  N is by default 1,000; 200 in pptests, where threads that aren't made make some tests slow; and 20 in
+cppunits, whose tests take long texts.  As many tests run side by side as there are processors.  A test that looks at what a
+refused call left, and calls again, passes where the second call gets what it asks for; in another the want of memory is the
+test's own error.  Whatever else fails is a problem, and so is a test with `after_want_of_memory` or
+`where_memory_is_refused` in its name that passes over no refused request: it is there to call again.
 """
 import argparse
 import os
@@ -18,6 +20,8 @@ from concurrent.futures import ThreadPoolExecutor
 
 from refusals import HERE, KINDS, refused, refusing_malloc, run, tally
 
+EACH_UP_TO = {"pptests": 200, "cppunits": 20}
+CALLS_AGAIN = re.compile(r"after_want_of_memory|where_memory_is_refused")
 WANT_OF_MEMORY = re.compile(rb"[Ee]rror: (Memory|AllocError|AllocFailed|Kind\(OutOfMemory\))")
 
 
@@ -48,6 +52,8 @@ def judged(name, test, malloc, each_up_to):
                 problems.append("%s: %r" % (refused(call, on), words[:200]))
             refusals += met
             went_on += met and passed
+        if not on and not went_on and CALLS_AGAIN.search(test):
+            problems.append("no call that is made again got what it asks for")
         told.append("  %d requests refused, %s, %d of them met by a call that is tested" % (refusals, how, went_on))
     return "\n".join(told), problems
 
@@ -55,12 +61,12 @@ def judged(name, test, malloc, each_up_to):
 def cases(names, malloc, each_up_to):
     tests = [(name, test) for name in names for test in tests_of(os.path.join(HERE, "..", "crates", name, "out", name + "_tests"))]
     with ThreadPoolExecutor(os.cpu_count()) as pool:
-        yield from pool.map(lambda one: judged(*one, malloc, each_up_to), tests)
+        yield from pool.map(lambda one: judged(*one, malloc, each_up_to or EACH_UP_TO.get(one[0], 1_000)), tests)
 
 
 def main():
     words = argparse.ArgumentParser(description=__doc__, formatter_class=argparse.RawDescriptionHelpFormatter)
-    words.add_argument("--each-up-to", type=int, default=1_000, metavar="N")
+    words.add_argument("--each-up-to", type=int, metavar="N")
     words.add_argument("names", nargs="+", metavar="NAME")
     given = words.parse_args()
     with refusing_malloc() as malloc:
