@@ -1,5 +1,5 @@
 -- The dependencies of a unit are rows that there are.
-use Rattle.std.proofs.Common.{◌≡◌, ℕ, ◌<◌, Bool, true, false, List, [], ◌∷◌, ◌++◌, All, length, Option, Some, None, Result, Ok, Err, refl, sym, ap, ◌∙◌, subst, inl, inr, nat_eq, if◌then◌else◌}
+use Rattle.std.proofs.Common.{◌≡◌, ℕ, ◌<◌, Bool, true, false, List, [], ◌∷◌, ◌++◌, All, length, Option, Some, None, Result, Ok, Err, refl, sym, ap, ◌∙◌, subst, nat_eq, if◌then◌else◌}
 use Rattle.std.specs.List.{list_any}
 use Rattle.std.proofs.lemmas.List.Elements.{All-push, All-nil}
 use Rattle.pptext.specs.declared.tokens.Place.{Place}
@@ -12,7 +12,6 @@ use Rattle.pptext.specs.Lines.{LogicalLine}
 use Rattle.pptext.specs.Tree.{sign_place, Parts, Branches}
 use Rattle.ppmacro.specs.Names.{Macros}
 use Rattle.ppmacro.specs.Define.{after_define, after_undef}
-use Rattle.ppshelf.specs.Search.{IsFirstRow}
 use Rattle.ppshelf.specs.Files.{Files}
 use Rattle.ppunit.specs.declared.units.Unit.{Unit as UnitOfList}
 use Rattle.ppunit.specs.declared.units.Setting.{Setting}
@@ -25,6 +24,7 @@ use Rattle.ppunit.specs.LineControl.{Presumed, presumed}
 use Rattle.ppunit.specs.Directives.{RunGives, renumbered_by, with_macros, is_once, ControlBy}
 use Rattle.ppunit.specs.Group.{Group, Branched, Controls, Includes, Opened}
 use Rattle.ppunit.specs.Unit.{IsUnit, Defines, unread, processed, Translates, undefined, translated, surroundings}
+use Rattle.ppunit.proofs.Found.{first_within}
 
 -- ---- what leaves the dependencies as they are
 
@@ -72,11 +72,6 @@ control_keeps profile row (Some Unknown) s r m does = ap (λ (z : Reached). z.st
 
 -- ---- what joins them
 
-first_within : (names candidates : List (List ℕ)) (row : ℕ) → IsFirstRow names candidates (Some row) → row < length names
-first_within names [] row is = absurd (cc)
-first_within names (c ∷ more) row (inl here) = here.1.0
-first_within names (c ∷ more) row (inr later) = first_within names more row later.1
-
 module _ (around : Surroundings) where
   abbrev pub Within : List ℕ → Type 0
   Within rows = All (λ row. row < length around.names) rows
@@ -115,7 +110,7 @@ module _ (around : Surroundings) where
     includes_within : {depth row : ℕ} {s : State} {line : LogicalLine} {m : Reached} → Includes around depth row s line m → Within s.deps → Within m.state.deps
     includes_within (Includes.misnamed asks) all = all
     includes_within (Includes.missing a asks finds) all = all
-    includes_within (Includes.included a found asks finds opens) all = opened_within opens (first_within around.names _ found finds) all
+    includes_within (Includes.included a found asks finds opens) all = opened_within opens (first_within around.names _ (Some found) finds) all
 
     opened_within : {depth row : ℕ} {at : Place} {s : State} {m : Reached} → Opened around depth at s row m → row < length around.names → Within s.deps → Within m.state.deps
     opened_within (Opened.too_deep deep) within all = all

@@ -3,7 +3,7 @@ use Rattle.std.proofs.Common.{ℕ, ◌<◌, List, [], ◌∷◌, length, sym, su
 use Rattle.std.specs.Prelude.{IfOk, IfSome}
 use Rattle.ppshelf.specs.Search.{IsFirstRow}
 
-first_within : (names candidates : List (List ℕ)) (found : Option ℕ) → IsFirstRow names candidates found → IfSome found (λ row. row < length names)
+pub first_within : (names candidates : List (List ℕ)) (found : Option ℕ) → IsFirstRow names candidates found → IfSome found (λ row. row < length names)
 first_within names [] found is = subst (λ (z : Option ℕ). IfSome z (λ row. row < length names)) (sym is) tt
 first_within names (c ∷ more) None (inl here) = tt
 first_within names (c ∷ more) (Some row) (inl here) = here.1.0

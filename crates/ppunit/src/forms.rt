@@ -55,7 +55,8 @@ fn is_digits(text: &[u8]) -> bool
     text.iter().all(|byte| is_digit(*byte))
 }
 
-fn is_digit(byte: u8) -> bool
+/// Whether a byte is a digit.
+pub(crate) fn is_digit(byte: u8) -> bool
     ensures { result ≡ spec.is_digit byte }
 {
     matches!(byte, b'0'..=b'9')

@@ -1,13 +1,13 @@
 // `#line` (6.10.4).
 ghost use Rattle.std.specs.Prelude.{◌≡◌, IfOk};
 ghost use Rattle.std.specs.Result.{result_err};
-ghost use Rattle.pptext.specs.Spellings.{is_digit};
 ghost use Rattle.pptext.specs.Stops.{IfSettled};
 ghost use Rattle.pptext.specs.declared.sources.Directive.TheVariants.{Line};
 ghost use Rattle.ppunit.specs.LineControl as spec;
 ghost use Rattle.ppunit.specs.Lines.{directed};
 ghost use Rattle.ppunit.specs.Directives.{LineGives};
 
+use crate::forms::is_digit;
 use crate::lines::{line_fault, operands};
 use crate::states::State;
 use ppexpand::{Env, Expanded, expand};
@@ -37,12 +37,6 @@ pub(crate) fn is_plain_string(token: &Token) -> bool
     ensures { result ≡ spec.is_plain_string token.now }
 {
     token.kind == Kind::Str && token.text.as_bytes().first() == Some(&b'"')
-}
-
-fn is_digit(byte: u8) -> bool
-    ensures { result ≡ is_digit byte }
-{
-    matches!(byte, b'0'..=b'9')
 }
 
 // The number of a line, 1 to 2147483647, in decimal digits alone.
