@@ -20,6 +20,10 @@ added false mark o ds = lone mark o ∷ ds
 grouped-added : (mark : Bool) (o : Operand) (is : List Item) → grouped (Operates mark o ∷ is) ≡ added (begins_joined is) mark o (grouped is)
 grouped-added mark o is = elim (begins_joined is) as (λ b. elim b [ true ↦ join_first mark o (grouped is) | false ↦ lone mark o ∷ grouped is ] ≡ added b mark o (grouped is)) [ true ↦ refl | false ↦ refl ]
 
+-- at the front, an operand that no `##` follows is a chain alone
+pub grouped-alone : (mark : Bool) (o : Operand) (is : List Item) → begins_joined is ≡ false → grouped (Operates mark o ∷ is) ≡ record { mark = mark; operands = o ∷ [] } ∷ grouped is
+grouped-alone mark o is e = rw (grouped, e) refl
+
 joined_to-lone : (mark : Bool) (o : Operand) (ds : List Chain) → joined_to (lone mark o) ds ≡ join_first mark o ds
 joined_to-lone mark o [] = refl
 joined_to-lone mark o (d ∷ ds) = refl

@@ -13,6 +13,7 @@ use Rattle.ppmacro.specs.declared.macros.Definition.{Definition}
 use Rattle.ppmacro.specs.declared.macros.Chain.{Chain}
 use Rattle.ppmacro.specs.declared.macros.Operand.{Operand}
 use Rattle.ppmacro.specs.declared.macros.Operand.TheVariants.{Tok, Param, Str}
+use Rattle.ppmacro.proofs.ChainLemmas.{grouped-alone}
 use Rattle.ppmacro.proofs.Layouts.{no_punct, other_punct}
 
 -- ---- parameters and `#` are no `##`
@@ -88,16 +89,13 @@ module _ (shape : Shape) where
   unjoined_all none = refl
   unjoined_all (chain ts rest j more) = unjoined j rest
 
-  apart : (mark : Bool) (o : Operand) (is : List Item) → begins_joined is ≡ false → grouped (Operates mark o ∷ is) ≡ record { mark = mark; operands = o ∷ [] } ∷ grouped is
-  apart mark o is e = rw (grouped, e) refl
-
   joined_grouped : {mark : Bool} {ts : List Token} {os : List Operand}
       → AreJoined shape mark ts os
       → (rest : List Token) (cs : List Chain)
       → begins_joined (items rest) ≡ false
       → grouped (items rest) ≡ cs
       → grouped (items (ts ++ rest)) ≡ record { mark = mark; operands = os } ∷ cs
-  joined_grouped (last {mark = mark} {o = o} is) rest cs b e = ap grouped (operand_items is rest) ∙ apart mark o (items rest) b ∙ ap (λ ds. record { mark = mark; operands = o ∷ [] } ∷ ds) e
+  joined_grouped (last {mark = mark} {o = o} is) rest cs b e = ap grouped (operand_items is rest) ∙ grouped-alone mark o (items rest) b ∙ ap (λ ds. record { mark = mark; operands = o ∷ [] } ∷ ds) e
   joined_grouped (pasted {mark = mark} {o = o} ts p more other is s j) rest cs b e =
       ap (λ xs. grouped (items xs)) (append_assoc ts (p ∷ more) rest)
       ∙ ap grouped (operand_items is (p ∷ (more ++ rest)))

@@ -10,9 +10,10 @@ use Rattle.ppmacro.specs.Spellings.{is_paste}
 use Rattle.ppmacro.specs.declared.macros.Shape.{Shape}
 use Rattle.ppmacro.specs.declared.macros.Shape.TheVariants.{Predefined, ObjectLike, FunctionLike}
 use Rattle.ppmacro.specs.declared.macros.Operand.TheVariants.{Tok}
-use Rattle.ppmacro.specs.Chains.{Item, Operates, items_at, items_behind, plain_item, parameter_of, begins_joined, join_first, grouped, hash_sign}
+use Rattle.ppmacro.specs.Chains.{Item, Operates, items_at, items_behind, plain_item, parameter_of, begins_joined, grouped, hash_sign}
 use Rattle.ppmacro.specs.Lone.{is_object_like, lone_chain}
 use Rattle.ppmacro.specs.Substitution.{Arguments, plain, with_mark, gained, chains_tokens, substituted_by}
+use Rattle.ppmacro.proofs.ChainLemmas.{grouped-alone}
 
 -- ---- the chains
 
@@ -33,15 +34,12 @@ unjoined : (ts : List Token) → list_any is_paste ts ≡ false → begins_joine
 unjoined [] a = refl
 unjoined (t ∷ ts) a = ap begins_joined (one_item t ts (or_parts (is_paste t) (list_any is_paste ts) a).0)
 
-grouped_alone : (m : Bool) (t : Token) (is : List Item) → begins_joined is ≡ false → grouped (Operates m (Tok t) ∷ is) ≡ record { mark = m; operands = Tok t ∷ [] } ∷ grouped is
-grouped_alone m t is h = λ i. elim (h i) [ true ↦ join_first m (Tok t) (grouped is) | false ↦ record { mark = m; operands = Tok t ∷ [] } ∷ grouped is ]
-
 pub lone_chains : (ts : List Token) → list_any is_paste ts ≡ false → grouped (items_behind ObjectLike None ts) ≡ map lone_chain ts
 lone_chains [] a = refl
 lone_chains (t ∷ ts) a =
     let none = or_parts (is_paste t) (list_any is_paste ts) a in
     ap grouped (one_item t ts none.0)
-    ∙ grouped_alone t.space t (items_behind ObjectLike None ts) (unjoined ts none.1)
+    ∙ grouped-alone t.space (Tok t) (items_behind ObjectLike None ts) (unjoined ts none.1)
     ∙ ap (λ cs. lone_chain t ∷ cs) (lone_chains ts none.1)
 
 -- ---- their tokens

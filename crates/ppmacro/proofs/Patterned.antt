@@ -5,10 +5,10 @@ use Rattle.std.proofs.lemmas.Bool.{or_parts}
 use Rattle.pptext.specs.declared.tokens.Token.{Token}
 use Rattle.ppmacro.specs.Spellings.{is_hash, is_paste}
 use Rattle.ppmacro.specs.declared.macros.Shape.{Shape}
-use Rattle.ppmacro.specs.declared.macros.Operand.{Operand}
 use Rattle.ppmacro.specs.declared.macros.Operand.TheVariants.{Tok, Param}
-use Rattle.ppmacro.specs.Chains.{Item, Operates, items_at, items_behind, plain_item, parameter_of, is_function_like, begins_joined, join_first, grouped, hash_sign}
+use Rattle.ppmacro.specs.Chains.{Item, items_at, items_behind, plain_item, parameter_of, is_function_like, begins_joined, grouped, hash_sign}
 use Rattle.ppmacro.specs.Patterns.{is_operator, entry_at, entry_of, entry_chain}
+use Rattle.ppmacro.proofs.ChainLemmas.{grouped-alone}
 
 no_hash : (b h : Bool) → h ≡ false → (b && h) ≡ false
 no_hash true h none = none
@@ -29,12 +29,9 @@ unjoined s (t ∷ ts) a =
     ap begins_joined (one_item s t ts (or_parts (is_operator t) (list_any is_operator ts) a).0)
     ∙ begins_alone (parameter_of s t) t (items_behind s None ts)
 
-grouped_alone : (m : Bool) (o : Operand) (is : List Item) → begins_joined is ≡ false → grouped (Operates m o ∷ is) ≡ record { mark = m; operands = o ∷ [] } ∷ grouped is
-grouped_alone m o is h = λ i. elim (h i) [ true ↦ join_first m o (grouped is) | false ↦ record { mark = m; operands = o ∷ [] } ∷ grouped is ]
-
 grouped_entry : (p : Option ℕ) (t : Token) (is : List Item) → begins_joined is ≡ false → grouped (plain_item p t ∷ is) ≡ entry_chain (entry_at p t) ∷ grouped is
-grouped_entry (Some i) t is h = grouped_alone t.space (Param i) is h
-grouped_entry None t is h = grouped_alone t.space (Tok t) is h
+grouped_entry (Some i) t is h = grouped-alone t.space (Param i) is h
+grouped_entry None t is h = grouped-alone t.space (Tok t) is h
 
 pub entry_chains : (s : Shape) (ts : List Token) → list_any is_operator ts ≡ false → map entry_chain (map (entry_of s) ts) ≡ grouped (items_behind s None ts)
 entry_chains s [] a = refl
