@@ -2,6 +2,7 @@
 use Rattle.std.proofs.Common.{◌≡◌, ℕ, ◌<◌, ◌||◌, ◌++◌, nat_eq, [], List, length, get_or, refl, sym, ap, ◌∙◌, subst}
 use Rattle.std.specs.FinSet as set
 use Rattle.std.specs.List.{IsDistinct}
+use Rattle.ppmacro.specs.declared.hide_sets.HideSets.TheInside.{Inside}
 use Rattle.ppmacro.specs.declared.hide_sets.nodes.Node.{Node}
 use Rattle.ppmacro.specs.declared.hide_sets.nodes.Operation.{Operation}
 use Rattle.ppmacro.specs.declared.hide_sets.nodes.Operation.TheVariants.{Union, Meet}
@@ -39,45 +40,56 @@ lawful-seen names ns us ms v m n is k km kn e =
     let ln = node-known names ns v n n is refl kn in
     lawful-names names ns m n k.pool named lm ln (set-seen names ns v m m is refl lm ∙ e ∙ sym (set-seen names ns v n n is refl ln))
 
--- ---- nodes are added
+-- ---- nodes are added: by a union, or by a meet
 
-pub keeps-seen : (names : List Name) (old new : List Node) (v w : Numbered) → hide_sets names old ≡ v.sets → hide_sets names new ≡ w.sets → IsPool old → nodes.Keeps old new → Keeps v w
-keeps-seen names old new v w is now p k = record {
-  more = counted (hide_set names new) (past-by 0 old) k.more;
-  is = sym now ∙ sets-keep names old new p k ∙ ap (λ ss. ss ++ counted (hide_set names new) (past-by 0 old) k.more) is;
+-- the fields as callers see them
+abbrev seen : Inside → Numbered
+seen s = record { sets = hide_sets s.names s.nodes.keys; unions = s.unions; meets = s.meets }
+
+-- a number that is asked for is that of a node
+pub node-asked : (s : Inside) {v : Numbered} {n m : ℕ} → seen s ≡ v → n ≡ m → IsKnown v m → n < length s.nodes.keys
+node-asked s {v = v} is same k = node-known s.names s.nodes.keys v _ _ (ap (λ v. v.sets) is) same k
+
+pub keeps-seen : (s : Inside) (new : List Node) {v : Numbered} {us ms : Answered} → seen s ≡ v → IsPool s.nodes.keys → nodes.Keeps s.nodes.keys new
+    → Keeps v (record { sets = hide_sets s.names new; unions = us; meets = ms })
+keeps-seen s new is p k = record {
+  more = counted (hide_set s.names new) (past-by 0 s.nodes.keys) k.more;
+  is = sets-keep s.names s.nodes.keys new p k ∙ ap (λ v. v.sets ++ counted (hide_set s.names new) (past-by 0 s.nodes.keys) k.more) is;
 }
 
 -- what two sets are made into
-pub made-seen : (o : Operation) (names : List Name) (old new : List Node) (v : Numbered) (a b a' b' n : ℕ)
-    → hide_sets names old ≡ v.sets
-    → IsDistinct same_name names
+pub made-seen : (o : Operation) (s : Inside) (new : List Node) {v : Numbered} {a b a' b' n : ℕ}
+    → seen s ≡ v
+    → IsDistinct same_name s.names
     → a ≡ a'
     → b ≡ b'
-    → a < length old
-    → b < length old
+    → IsKnown v a'
+    → IsKnown v b'
     → n < length new
-    → ((x : ℕ) → member new n x ≡ joined o (member old a x) (member old b x))
-    → get_or (hide_sets names new) n set.empty ≡ made_of o (set_at v a') (set_at v b')
-made-seen o names old new v a b a' b' n is d sa sb la lb ln h =
-    set-at names new n ln ∙ made-is o names old new a b n d h ∙ (λ i. made_of o (set-seen names old v a a' is sa la i) (set-seen names old v b b' is sb lb i))
+    → ((x : ℕ) → member new n x ≡ joined o (member s.nodes.keys a x) (member s.nodes.keys b x))
+    → get_or (hide_sets s.names new) n set.empty ≡ made_of o (set_at v a') (set_at v b')
+made-seen o s new {v = v} {a = a} {b = b} {n = n} is d sa sb ka kb ln h =
+    let old = s.nodes.keys in
+    let sets = ap (λ v. v.sets) is in
+    set-at s.names new n ln ∙ made-is o s.names old new a b n d h
+    ∙ (λ i. made_of o (set-seen s.names old v _ _ sets sa (node-asked s is sa ka) i) (set-seen s.names old v _ _ sets sb (node-asked s is sb kb) i))
 
-pub kept-union : (names : List Name) (old new : List Node) (us ms vs : Answered)
-    → AreKept names old us ms
-    → IsPool new
-    → nodes.Keeps old new
-    → ((limit : ℕ) → IsBounded limit old → IsBounded limit new)
-    → AreAnswers (joined Union) new vs
-    → AreKept names new vs ms
-kept-union names old new us ms vs k p keeps bounded answers = record { distinct = k.distinct; pool = p; bounded = bounded (length names) k.bounded; unions = answers; meets = answers-keep (joined Meet) old new ms k.pool keeps k.meets }
+-- the fields stay lawful, with other pairs of this operation
+abbrev AreKeptThen : Operation → Inside → List Node → Answered → Type 0
+AreKeptThen Union s new ps = AreKept s.names new ps s.meets
+AreKeptThen Meet s new ps = AreKept s.names new s.unions ps
 
-pub kept-meet : (names : List Name) (old new : List Node) (us ms vs : Answered)
-    → AreKept names old us ms
+pub kept-made : (o : Operation) (s : Inside) {new : List Node} {ps : Answered}
+    → AreKept s.names s.nodes.keys s.unions s.meets
     → IsPool new
-    → nodes.Keeps old new
-    → ((limit : ℕ) → IsBounded limit old → IsBounded limit new)
-    → AreAnswers (joined Meet) new vs
-    → AreKept names new us vs
-kept-meet names old new us ms vs k p keeps bounded answers = record { distinct = k.distinct; pool = p; bounded = bounded (length names) k.bounded; unions = answers-keep (joined Union) old new us k.pool keeps k.unions; meets = answers }
+    → nodes.Keeps s.nodes.keys new
+    → ((limit : ℕ) → IsBounded limit s.nodes.keys → IsBounded limit new)
+    → AreAnswers (joined o) new ps
+    → AreKeptThen o s new ps
+kept-made Union s {new = new} k p keeps bounded answers =
+    record { distinct = k.distinct; pool = p; bounded = bounded (length s.names) k.bounded; unions = answers; meets = answers-keep (joined Meet) s.nodes.keys new s.meets k.pool keeps k.meets }
+kept-made Meet s {new = new} k p keeps bounded answers =
+    record { distinct = k.distinct; pool = p; bounded = bounded (length s.names) k.bounded; unions = answers-keep (joined Union) s.nodes.keys new s.unions k.pool keeps k.unions; meets = answers }
 
 -- ---- names and nodes are added
 
