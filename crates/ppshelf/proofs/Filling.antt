@@ -129,7 +129,7 @@ pub record Fills (gives : ℕ → List ℕ → Content → Type 0) (old new : St
   pub base : (row : ℕ) → row < length old.names → Filled (gives row (name_in old.names row)) (file_at old.base row) (file_at new.base row)
   pub len : length new.base ≡ length old.names
 
-pub fills_turned : (profile : Profile) (gives : ℕ → List ℕ → Content → Type 0) (old new : List Spot) → Turned profile gives old new → Fills gives (stock_of profile old) (stock_of profile new)
+fills_turned : (profile : Profile) (gives : ℕ → List ℕ → Content → Type 0) (old new : List Spot) → Turned profile gives old new → Fills gives (stock_of profile old) (stock_of profile new)
 fills_turned profile gives old new t =
     let name : Spot → List ℕ = λ s. s.name in
     let base : Spot → Option Content = λ s. option_map (λ (h : Held). h.content) s.base in
@@ -160,7 +160,7 @@ full_turned profile gives old new n past f row below =
     let P : Option Content → Type 0 = λ o. IsSome o in
     subst P (sym (get_or-map base new row no_spot None within)) (some_content (get_or new row no_spot).base (f.full row (let l = f.turned.len in omega arith)))
 
-pub shelf_turned : (profile : Profile) (gives : ℕ → List ℕ → Content → Type 0) (names : List (List ℕ)) (old new : List Spot) → IsShelf profile names old → Turned profile gives old new → IsShelf profile names new
+shelf_turned : (profile : Profile) (gives : ℕ → List ℕ → Content → Type 0) (names : List (List ℕ)) (old new : List Spot) → IsShelf profile names old → Turned profile gives old new → IsShelf profile names new
 shelf_turned profile gives names old new s t = record {
   small = let l = t.len in let m = s.small in omega arith;
   named = s.named ∙ sym (names_turned profile gives old new t);
@@ -168,12 +168,26 @@ shelf_turned profile gives names old new s t = record {
   placed = placed_turned profile gives old new s.placed t;
 }
 
--- the profile is the same
-pub kept_shelf : (names : List (List ℕ)) (rows : List Spot) (was is : Profile) → was ≡ is → IsShelf was names rows → IsShelf is names rows
-kept_shelf names rows was is e s = let P : Profile → Type 0 = λ p. IsShelf p names rows in subst P e s
+-- a fill leaves a shelf where it began at one, since the profile and the index stay
+pub shelf_kept : {gives : ℕ → List ℕ → Content → Type 0} {names index : List (List ℕ)} {was is : Profile} {old new : List Spot}
+    → is ≡ was
+    → index ≡ names
+    → IsShelf was names old
+    → Turned was gives old new
+    → IsShelf is index new
+shelf_kept {gives = gives} {names = names} {was = was} {old = old} {new = new} profile index s t = rw (profile, index) (shelf_turned was gives names old new s t)
 
-pub kept_fills : (gives : ℕ → List ℕ → Content → Type 0) (old : Stock) (rows : List Spot) (was is : Profile) → was ≡ is → Fills gives old (stock_of was rows) → Fills gives old (stock_of is rows)
-kept_fills gives old rows was is e f = let P : Profile → Type 0 = λ p. Fills gives old (stock_of p rows) in subst P e f
+-- and fills what callers see
+pub fills_kept : {gives : ℕ → List ℕ → Content → Type 0} {was is : Profile} {old new : List Spot} {now : Stock}
+    → is ≡ was
+    → stock_of was old ≡ now
+    → Turned was gives old new
+    → Fills gives now (stock_of is new)
+fills_kept {gives = gives} {was = was} {old = old} {new = new} profile view t = rw (profile, ← view) (fills_turned was gives old new t)
+
+-- the rows are as many as the names that callers see
+pub rows_counted : (profile : Profile) (rows : List Spot) {now : Stock} → stock_of profile rows ≡ now → length rows ≡ length now.names
+rows_counted profile rows view = sym (length-map rows (λ (s : Spot). s.name)) ∙ ap (λ (s : Stock). length s.names) view
 
 -- what a shelf that is filled with contents holds in each row
 abbrev pub given : List (Vec ℕ Global) → ℕ → List ℕ → Content → Type 0
