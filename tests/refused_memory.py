@@ -54,13 +54,13 @@ GUARDED = {"a.c": '#include "h.h"\n#include "h.h"\n', "h.h": "#ifndef H\n#define
 SEARCHED = {"src/a.c": '#include "x.h"\n#include <x.h>\n#include "../inc/x.h"\n#include <y.h>\n', "src/x.h": "1", "inc/x.h": "2"}
 
 # Files, units and folders, what is printed of them, and how many blocks are fitted to what they hold: the tokens and lines of
-# files, what runs expand to and the items of units, where they have room to give back.  One that isn't fitted keeps its room.
+# files and the items of units, where they have room to give back.  One that isn't fitted keeps its room.
 ROWS = {
     "one token": ({"a.c": "x\n"}, [{"file": "a.c"}], [], "unit 0 a.c\ntok 0:1:1 0:1:1 i+ x\ndep 0 a.c\nok\n", 3),
     "an invocation that reaches behind what it is replaced by": (
         INVOCATION, [{"file": "a.c"}], [],
         "unit 0 a.c\ntok 0:3:3 0:3:1 n+ 2\ntok 0:1:15 0:3:1 p- *\ntok 0:3:6 0:3:1 n- 9\ntok 0:1:15 0:3:1 p- *\ntok 0:1:16 0:3:1 i- g\n"
-        "dep 0 a.c\nok\n", 4,
+        "dep 0 a.c\nok\n", 3,
     ),
     "a guarded header twice, in two units": (
         GUARDED, [{"file": "a.c"}, {"file": "a.c", "define": ["H"]}], [],
