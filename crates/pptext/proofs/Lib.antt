@@ -26,6 +26,8 @@ pub mod CutSteps
 pub mod CutLoop
 -- A text has one cut, and one place at most where a comment is not closed.
 pub mod OneCut
+-- Languages whose texts pass a test at each character, as the grammar builds them; what identifiers and numbers are made of.
+pub mod Throughout
 -- No token holds a new-line, so that only new-lines and comments end lines.
 pub mod InLine
 -- The longest punctuator.

@@ -1,16 +1,16 @@
 -- No two kinds share a spelling, and no spelling begins with white space.
-use Rattle.std.proofs.Common.{◌≡◌, ℕ, ◌<◌, Bool, true, false, not, ◌||◌, ◌&&◌, ◌==◌, List, [], ◌∷◌, ◌++◌, length, refl, sym, ap, ◌∙◌, subst, inl, inr, arith, append_assoc, length-append, get_or, drop}
-use Rattle.std.specs.Prelude.{Contains}
-use Rattle.std.specs.List.{list_all, AllByRecursion, flat_map}
-use Rattle.std.proofs.lemmas.Bool.{false≢true, and_parts, and_from}
+use Rattle.std.proofs.Common.{◌≡◌, ℕ, ◌<◌, Bool, true, false, not, ◌||◌, ◌&&◌, ◌==◌, List, [], ◌∷◌, ◌++◌, length, drop}
+use Rattle.std.proofs.Common.{refl, sym, ap, ◌∙◌, subst, inl, inr, arith, append_assoc, length-append}
+use Rattle.std.specs.List.{list_all}
+use Rattle.std.proofs.lemmas.Bool.{false≢true, and_parts}
 use Rattle.std.proofs.lemmas.Bool.Decides.{nat_tests}
 use Rattle.std.proofs.lemmas.List.{drop_at}
-use Rattle.std.proofs.lemmas.List.Sums.{AllPass-from_list_all, list_all-from_AllPass}
 use Rattle.pptext.specs.declared.tokens.Kind.{Kind}
 use Rattle.pptext.specs.declared.tokens.Kind.TheVariants.{Ident, Number, CharConst, Str, Punct, Header, Other}
-use Rattle.pptext.specs.Languages.{Exactly, One, Then, Either, IsRun, Repeated}
-use Rattle.pptext.specs.Spellings.{is_digit, is_hex, is_nondigit, is_blank, is_exponent, is_sign, IsUniversal, IsNondigit, IsIdent, IsNumberPart, IsNumber, char_prefixes, str_prefixes, IsCharConst, IsStr, punctuators, IsPunct, Spells}
-use Rattle.pptext.proofs.Table.{any_passes}
+use Rattle.pptext.specs.Languages.{One}
+use Rattle.pptext.specs.Spellings.{is_digit, is_nondigit, is_blank, IsUniversal, IsNondigit, IsIdent, IsNumber, IsCharConst, IsStr, IsPunct, Spells}
+use Rattle.pptext.specs.Spellings.{char_prefixes, str_prefixes}
+use Rattle.pptext.proofs.Throughout.{Throughout, contains_passes, punct_passes, is_word_byte, ident_passes, number_passes}
 
 -- the first character passes the test
 abbrev pub begins : (ℕ → Bool) → List ℕ → Bool
@@ -39,107 +39,23 @@ is_plain c = not (c == 39 || (c == 34 || c == 10))
 abbrev plain : List ℕ → Bool
 plain s = list_all is_plain s
 
-plain-append : (a b : List ℕ) → plain a ≡ true → plain b ≡ true → plain (a ++ b) ≡ true
-plain-append [] b e f = f
-plain-append (c ∷ a) b e f =
-    and_from (is_plain c) (plain (a ++ b)) (and_parts (is_plain c) (plain a) e).0 (plain-append a b (and_parts (is_plain c) (plain a) e).1 f)
-
 plain_behind : (a b : List ℕ) → plain (a ++ b) ≡ true → plain b ≡ true
 plain_behind [] b e = e
 plain_behind (c ∷ a) b e = plain_behind a b (and_parts (is_plain c) (plain (a ++ b)) e).1
 
--- a language without quotes
-Plain : (List ℕ → Type 0) → Type 0
-Plain P = (s : List ℕ) → P s → plain s ≡ true
-
-one_plain : (test : ℕ → Bool) → ((c : ℕ) → test c ≡ true → is_plain c ≡ true) → Plain (One test)
-unfolding Plain
-one_plain test passes s (c, e, t) = subst (λ z. plain z ≡ true) (sym e) (and_from (is_plain c) true (passes c t) refl)
-
-either_plain : (P Q : List ℕ → Type 0) → Plain P → Plain Q → Plain (Either P Q)
-unfolding Plain
-either_plain P Q p q s (inl a) = p s a
-either_plain P Q p q s (inr b) = q s b
-
-then_plain : (P Q : List ℕ → Type 0) → Plain P → Plain Q → Plain (Then P Q)
-unfolding Plain
-then_plain P Q p q s (a, b, e, x, y) = subst (λ z. plain z ≡ true) (sym e) (plain-append a b (p a x) (q b y))
-
-exactly_plain : (text : List ℕ) → plain text ≡ true → Plain (Exactly text)
-unfolding Plain
-exactly_plain text e s is = subst (λ z. plain z ≡ true) (sym is) e
-
-parts_plain : (P : List ℕ → Type 0) → Plain P → (parts : List (List ℕ)) → AllByRecursion P parts → plain (flat_map (λ p. p) parts) ≡ true
-unfolding Plain
-parts_plain P p [] all = refl
-parts_plain P p (x ∷ xs) all = plain-append x (flat_map (λ q. q) xs) (p x all.0) (parts_plain P p xs all.1)
-
-repeated_plain : (P : List ℕ → Type 0) → Plain P → Plain (Repeated P)
-unfolding Plain
-repeated_plain P p s (parts, all, e) = subst (λ z. plain z ≡ true) (sym e) (parts_plain P p parts all)
-
-nondigit_passes : (c : ℕ) → is_nondigit c ≡ true → is_plain c ≡ true
+word_plain : (c : ℕ) → is_word_byte c ≡ true → is_plain c ≡ true
 unfolding is_plain
-nondigit_passes c t = grind (arith, nat_tests)
+word_plain c t = grind (arith, nat_tests)
 
-digit_passes : (c : ℕ) → is_digit c ≡ true → is_plain c ≡ true
+ident_plain : Throughout is_plain IsIdent
+ident_plain = ident_passes is_plain word_plain
+
+number_plain : Throughout is_plain IsNumber
+number_plain = number_passes is_plain word_plain
+
+punct_plain : Throughout is_plain IsPunct
 unfolding is_plain
-digit_passes c t = grind (arith, nat_tests)
-
-hex_passes : (c : ℕ) → is_hex c ≡ true → is_plain c ≡ true
-unfolding is_plain
-hex_passes c t = grind (arith, nat_tests)
-
-dot_passes : (c : ℕ) → is_digit c || c == 46 ≡ true → is_plain c ≡ true
-unfolding is_plain
-dot_passes c t = grind (arith, nat_tests)
-
-exponent_passes : (c : ℕ) → is_exponent c ≡ true → is_plain c ≡ true
-unfolding is_plain
-exponent_passes c t = grind (arith, nat_tests)
-
-sign_passes : (c : ℕ) → is_sign c ≡ true → is_plain c ≡ true
-unfolding is_plain
-sign_passes c t = grind (arith, nat_tests)
-
-run_plain : (n : ℕ) → Plain (IsRun n is_hex)
-unfolding Plain
-run_plain n s (l, all) = list_all-from_AllPass is_plain s (λ k d lt. hex_passes (get_or s k d) (all k d lt))
-
-universal_plain : Plain IsUniversal
-unfolding is_plain
-universal_plain =
-    either_plain (Then (Exactly (92 ∷ 117 ∷ [])) (IsRun 4 is_hex)) (Then (Exactly (92 ∷ 85 ∷ [])) (IsRun 8 is_hex))
-    (then_plain (Exactly (92 ∷ 117 ∷ [])) (IsRun 4 is_hex) (exactly_plain (92 ∷ 117 ∷ []) refl) (run_plain 4))
-    (then_plain (Exactly (92 ∷ 85 ∷ [])) (IsRun 8 is_hex) (exactly_plain (92 ∷ 85 ∷ []) refl) (run_plain 8))
-
-nondigit_plain : Plain IsNondigit
-nondigit_plain = either_plain (One is_nondigit) IsUniversal (one_plain is_nondigit nondigit_passes) universal_plain
-
-ident_plain : Plain IsIdent
-ident_plain =
-    then_plain IsNondigit (Repeated (Either IsNondigit (One is_digit))) nondigit_plain (repeated_plain (Either IsNondigit (One is_digit)) (either_plain IsNondigit (One is_digit) nondigit_plain (one_plain is_digit digit_passes)))
-
-number_part_plain : Plain IsNumberPart
-number_part_plain =
-    either_plain IsNondigit (Either (One (λ c. is_digit c || c == 46)) (Then (One is_exponent) (One is_sign))) nondigit_plain
-    (either_plain (One (λ c. is_digit c || c == 46)) (Then (One is_exponent) (One is_sign)) (one_plain (λ c. is_digit c || c == 46) dot_passes)
-    (then_plain (One is_exponent) (One is_sign) (one_plain is_exponent exponent_passes) (one_plain is_sign sign_passes)))
-
-number_plain : Plain IsNumber
-unfolding is_plain
-number_plain =
-    then_plain (Either (One is_digit) (Then (Exactly (46 ∷ [])) (One is_digit))) (Repeated IsNumberPart)
-    (either_plain (One is_digit) (Then (Exactly (46 ∷ [])) (One is_digit)) (one_plain is_digit digit_passes)
-    (then_plain (Exactly (46 ∷ [])) (One is_digit) (exactly_plain (46 ∷ []) refl) (one_plain is_digit digit_passes)))
-    (repeated_plain IsNumberPart number_part_plain)
-
-punct_passes : (test : List ℕ → Bool) → list_all test punctuators ≡ true → (s : List ℕ) → IsPunct s → test s ≡ true
-punct_passes test all s p = any_passes test punctuators s all p
-
-punct_plain : Plain IsPunct
-unfolding Plain is_plain
-punct_plain s p = punct_passes (λ z. list_all is_plain z) refl s p
+punct_plain = record { at = punct_passes plain refl }
 
 -- the last of at least two characters
 abbrev EndsIn : ℕ → List ℕ → Type 0
@@ -256,39 +172,38 @@ char_str : (s : List ℕ) → IsCharConst s → IsStr s → ⊥
 char_str s a b = let e : ◌≡◌ {A = ℕ} 39 34 = ends_one 39 34 s (char_ends s a) (str_ends s b) in absurd (omega arith)
 
 pub one_kind : (s : List ℕ) (k l : Kind) → Spells k s → Spells l s → k ≡ l
-unfolding Plain
 one_kind s Ident Ident a b = refl
 one_kind s Ident Number a b = absurd (ident_number s a b)
-one_kind s Ident CharConst a b = absurd (char_not_plain s b (ident_plain s a))
-one_kind s Ident Str a b = absurd (str_not_plain s b (ident_plain s a))
+one_kind s Ident CharConst a b = absurd (char_not_plain s b (ident_plain.at s a))
+one_kind s Ident Str a b = absurd (str_not_plain s b (ident_plain.at s a))
 one_kind s Ident Punct a b = absurd (ident_punct s a b)
 one_kind s Ident Header a b = absurd b
 one_kind s Ident Other a b = absurd (b.1 a)
 one_kind s Number Ident a b = absurd (ident_number s b a)
 one_kind s Number Number a b = refl
-one_kind s Number CharConst a b = absurd (char_not_plain s b (number_plain s a))
-one_kind s Number Str a b = absurd (str_not_plain s b (number_plain s a))
+one_kind s Number CharConst a b = absurd (char_not_plain s b (number_plain.at s a))
+one_kind s Number Str a b = absurd (str_not_plain s b (number_plain.at s a))
 one_kind s Number Punct a b = absurd (number_punct s a b)
 one_kind s Number Header a b = absurd b
 one_kind s Number Other a b = absurd (b.2 a)
-one_kind s CharConst Ident a b = absurd (char_not_plain s a (ident_plain s b))
-one_kind s CharConst Number a b = absurd (char_not_plain s a (number_plain s b))
+one_kind s CharConst Ident a b = absurd (char_not_plain s a (ident_plain.at s b))
+one_kind s CharConst Number a b = absurd (char_not_plain s a (number_plain.at s b))
 one_kind s CharConst CharConst a b = refl
 one_kind s CharConst Str a b = absurd (char_str s a b)
-one_kind s CharConst Punct a b = absurd (char_not_plain s a (punct_plain s b))
+one_kind s CharConst Punct a b = absurd (char_not_plain s a (punct_plain.at s b))
 one_kind s CharConst Header a b = absurd b
 one_kind s CharConst Other a b = absurd (ends_long 39 s _ (char_ends s a) b.0)
-one_kind s Str Ident a b = absurd (str_not_plain s a (ident_plain s b))
-one_kind s Str Number a b = absurd (str_not_plain s a (number_plain s b))
+one_kind s Str Ident a b = absurd (str_not_plain s a (ident_plain.at s b))
+one_kind s Str Number a b = absurd (str_not_plain s a (number_plain.at s b))
 one_kind s Str CharConst a b = absurd (char_str s b a)
 one_kind s Str Str a b = refl
-one_kind s Str Punct a b = absurd (str_not_plain s a (punct_plain s b))
+one_kind s Str Punct a b = absurd (str_not_plain s a (punct_plain.at s b))
 one_kind s Str Header a b = absurd b
 one_kind s Str Other a b = absurd (ends_long 34 s _ (str_ends s a) b.0)
 one_kind s Punct Ident a b = absurd (ident_punct s b a)
 one_kind s Punct Number a b = absurd (number_punct s b a)
-one_kind s Punct CharConst a b = absurd (char_not_plain s b (punct_plain s a))
-one_kind s Punct Str a b = absurd (str_not_plain s b (punct_plain s a))
+one_kind s Punct CharConst a b = absurd (char_not_plain s b (punct_plain.at s a))
+one_kind s Punct Str a b = absurd (str_not_plain s b (punct_plain.at s a))
 one_kind s Punct Punct a b = refl
 one_kind s Punct Header a b = absurd b
 one_kind s Punct Other a b = absurd (b.3 a)
@@ -309,9 +224,6 @@ abbrev empty_or_visible : List ℕ → Bool
 empty_or_visible [] = true
 empty_or_visible (c ∷ cs) = is_visible c
 
-contains_passes : (ps : List (List ℕ)) (s : List ℕ) → list_all empty_or_visible ps ≡ true → Contains ps s → empty_or_visible s ≡ true
-contains_passes ps s all (k, lt, e) = subst (λ z. empty_or_visible z ≡ true) e (AllPass-from_list_all empty_or_visible ps all k s lt)
-
 prefixed_visible : (a b : List ℕ) → empty_or_visible a ≡ true → begins is_visible b ≡ true → begins is_visible (a ++ b) ≡ true
 prefixed_visible [] b e f = f
 prefixed_visible (c ∷ a) b e f = e
@@ -326,9 +238,13 @@ pub spelling_visible : (s : List ℕ) (k : Kind) → Spells k s → begins is_vi
 spelling_visible s Ident a = begins_also is_ident_head is_visible ident_visible s (ident_begins s a)
 spelling_visible s Number a = begins_also is_number_head is_visible number_visible s (number_head s (number_begins s a))
 spelling_visible s CharConst (a, b, e, p, (c, d, f, q, r)) =
-    subst (λ z. begins is_visible z ≡ true) (sym e) (prefixed_visible a b (contains_passes char_prefixes a refl p) (subst (λ z. begins is_visible z ≡ true) (sym (f ∙ ap (λ z. z ++ d) q)) refl))
+    subst (λ z. begins is_visible z ≡ true) (sym e)
+    (prefixed_visible a b (contains_passes empty_or_visible char_prefixes refl a p)
+    (subst (λ z. begins is_visible z ≡ true) (sym (f ∙ ap (λ z. z ++ d) q)) refl))
 spelling_visible s Str (a, b, e, p, (c, d, f, q, r)) =
-    subst (λ z. begins is_visible z ≡ true) (sym e) (prefixed_visible a b (contains_passes str_prefixes a refl p) (subst (λ z. begins is_visible z ≡ true) (sym (f ∙ ap (λ z. z ++ d) q)) refl))
+    subst (λ z. begins is_visible z ≡ true) (sym e)
+    (prefixed_visible a b (contains_passes empty_or_visible str_prefixes refl a p)
+    (subst (λ z. begins is_visible z ≡ true) (sym (f ∙ ap (λ z. z ++ d) q)) refl))
 spelling_visible s Punct a = punct_passes (λ p. begins is_visible p) refl s a
 spelling_visible s Header a = absurd a
 spelling_visible s Other a = begins_one is_visible s a.0
@@ -363,12 +279,11 @@ quote_last q s apart a e = apart (sym (ends_last q s a) ∙ e)
 
 -- no spelling ends in a new-line
 pub spelling_last : (s : List ℕ) (k : Kind) → Spells k s → last s ≡ 10 → ⊥
-unfolding Plain
-spelling_last s Ident a e = plain_last s (ident_plain s a) e
-spelling_last s Number a e = plain_last s (number_plain s a) e
+spelling_last s Ident a e = plain_last s (ident_plain.at s a) e
+spelling_last s Number a e = plain_last s (number_plain.at s a) e
 spelling_last s CharConst a e = quote_last 39 s (λ ten. absurd (omega arith)) (char_ends s a) e
 spelling_last s Str a e = quote_last 34 s (λ ten. absurd (omega arith)) (str_ends s a) e
-spelling_last s Punct a e = plain_last s (punct_plain s a) e
+spelling_last s Punct a e = plain_last s (punct_plain.at s a) e
 spelling_last s Header a e = a
 spelling_last s Other a e =
     let newline : a.0.0 ≡ 10 = sym (ap last a.0.1) ∙ e in

@@ -2,16 +2,17 @@
 use Rattle.std.proofs.Common.{◌≡◌, ℕ, zero, suc, ◌+◌, ◌<◌, ◌≤◌, Bool, true, false, not, ◌||◌, ◌==◌, List, [], ◌∷◌, ◌++◌, length, take, drop, refl}
 use Rattle.std.proofs.Common.{sym, ap, ◌∙◌, subst, inl, inr, ◌⊎◌, arith, append_assoc, length-append, IsTrue, None, Some}
 use Rattle.std.specs.Prelude.{Option, codes, unwrap_or}
-use Rattle.std.specs.List.{list_all, AllByRecursion, flat_map}
+use Rattle.std.specs.List.{list_all}
 use Rattle.std.proofs.lemmas.Bool.{false≢true, and_parts, and_from, cases_lt}
 use Rattle.std.proofs.lemmas.Bool.Decides.{nat_tests}
 use Rattle.std.proofs.lemmas.List.{take-append-drop, length-take-le}
 use Rattle.memchr.specs.Find.{IsFirst, OccursAt, Passes, is_byte}
 use Rattle.pptext.specs.declared.tokens.Kind.{Kind}
 use Rattle.pptext.specs.declared.tokens.Kind.TheVariants.{Header}
-use Rattle.pptext.specs.Languages.{One, Longest}
+use Rattle.pptext.specs.Languages.{One, Repeated, Longest}
 use Rattle.pptext.specs.Spellings.{is_blank, IsBetween, IsHeader, Spells, IsSpelling}
 use Rattle.pptext.specs.Cut.{Sort, NewLine, Blank, Comment, Spelled, StandsAt, CommentAt, HeaderAt, PlainTokenAt, BeginsWith, OpensBlock, OpensLine, ClosesAt}
+use Rattle.pptext.proofs.Throughout.{Throughout, one_passes, repeated_passes}
 use Rattle.pptext.proofs.OneKind.{begins, begins_apart, is_visible, one_kind, spelling_visible}
 
 -- two longest fronts are one
@@ -67,10 +68,8 @@ one_end inner stop none (x ∷ a) (y ∷ b) r s p q e =
     let l = one_end inner stop none a b r s (and_parts (inner x) (list_all inner a) p).1 (and_parts (inner y) (list_all inner b) q).1 t in
     omega arith
 
-parts_pass : (test : ℕ → Bool) (parts : List (List ℕ)) → AllByRecursion (One test) parts → list_all test (flat_map (λ p. p) parts) ≡ true
-parts_pass test [] all = refl
-parts_pass test (p ∷ ps) (one, all) =
-    subst (λ z. list_all test (z ++ flat_map (λ q. q) ps) ≡ true) (sym one.1) (and_from (test one.0) (list_all test (flat_map (λ q. q) ps)) one.2 (parts_pass test ps all))
+characters_pass : (test : ℕ → Bool) → Throughout test (Repeated (One test))
+characters_pass test = repeated_passes (one_passes (λ c passes. passes))
 
 -- a text between two characters, seen as its body
 pub record Between (open_code close_code : ℕ) (inner : ℕ → Bool) (s : List ℕ) : Type 0 where
@@ -82,7 +81,7 @@ pub between : (open_code close_code : ℕ) (s : List ℕ) → IsBetween open_cod
 between open_code close_code s (a, b, e, p, (c, d, f, (x, g, t), (j, k, l, (parts, all, h), m))) = record {
   body = x ∷ j;
   passes = and_from (not (x == close_code || x == 10)) (list_all (λ z. not (z == close_code || z == 10)) j) t
-      (subst (λ z. list_all (λ c. not (c == close_code || c == 10)) z ≡ true) (sym h) (parts_pass (λ c. not (c == close_code || c == 10)) parts all));
+      ((characters_pass (λ z. not (z == close_code || z == 10))).at j (parts, all, h));
   is = e ∙ ap (λ z. z ++ b) p ∙ ap (λ z. open_code ∷ z) (f ∙ ap (λ z. z ++ d) g ∙ ap (λ z. x ∷ z) (l ∙ ap (λ z. j ++ z) m));
 }
 
