@@ -152,10 +152,25 @@ stands_at_code file raw breaks c code n d s lt is =
     s.at ∙ sym (ap (λ (x : Char). x.at) (head_at (text_from file raw 0) c.passed d _ _ (s.rest ∙ r.text)))
 
 -- a plain byte is the character that is sought
-pub stands_at_plain : (file : ℕ) (raw breaks : List ℕ) (c : Cursor) (d : Char) → Stands file raw breaks c → 0 < c.plain → c.at ≡ (get_or (text_from file raw 0) c.passed d).at
+stands_at_plain : (file : ℕ) (raw breaks : List ℕ) (c : Cursor) (d : Char) → Stands file raw breaks c → 0 < c.plain → c.at ≡ (get_or (text_from file raw 0) c.passed d).at
 stands_at_plain file raw breaks c d s some =
     let one = own_at raw c.offset (c.plain - 1) (own_less (open_end raw) (drop c.offset raw) (suc (c.plain - 1)) c.plain (omega arith) s.stretch.front) in
     stands_at_code file raw breaks c (get_or raw c.offset 0) 1 d s one.room one.step
+
+-- a cursor in front of the character sought
+pub record InFront (file : ℕ) (raw breaks : List ℕ) (to : ℕ) (c : Cursor) : Type 0 where
+  pub stands : Stands file raw breaks c
+  pub passed : c.passed ≡ to
+  pub same_file : c.at.file ≡ file
+  pub place : (d : Char) → c.at ≡ (get_or (text_from file raw 0) to d).at
+
+in_front : (file : ℕ) (raw breaks : List ℕ) (to : ℕ) (c : Cursor) → Stands file raw breaks c → 0 < c.plain → c.passed ≡ to → InFront file raw breaks to c
+in_front file raw breaks to c stands some passed = record {
+  stands = stands;
+  passed = passed;
+  same_file = (bounds file raw breaks c stands).same_file;
+  place = λ d. stands_at_plain file raw breaks c d stands some ∙ ap (λ k. (get_or (text_from file raw 0) k d).at) passed;
+}
 
 -- a cursor that is moved to the character sought, over this many plain bytes
 pub arrives : (file : ℕ) (raw breaks : List ℕ) (c after : Cursor) (to : ℕ)
@@ -169,12 +184,12 @@ pub arrives : (file : ℕ) (raw breaks : List ℕ) (c after : Cursor) (to : ℕ)
       next = c.next;
       at = place_behind c.at (take (to - c.passed) (drop c.offset raw));
     }
-    → Stands file raw breaks after × (0 < after.plain) × (after.passed ≡ to)
+    → InFront file raw breaks to after
 arrives file raw breaks c after to stands forward near is =
     let s = pass_plain file raw breaks c (to - c.passed) stands (omega arith) in
     let some : after.plain ≡ c.plain - (to - c.passed) = ap (λ (x : Cursor). x.plain) is in
     let passed : after.passed ≡ c.passed + (to - c.passed) = ap (λ (x : Cursor). x.passed) is in
-    (subst (Stands file raw breaks) (sym is) s.1, omega arith, omega arith)
+    in_front file raw breaks to after (subst (Stands file raw breaks) (sym is) s.1) (omega arith) (omega arith)
 
 code_of_head : (cs : List Char) (n : ℕ) (x : Char) (xs : List Char) → drop n cs ≡ x ∷ xs → get_or (codes_of cs) n 0 ≡ x.code
 code_of_head cs n x xs e =
@@ -216,7 +231,7 @@ pub arrives_along : (file : ℕ) (raw breaks : List ℕ) (c after : Cursor) (to 
       next = c.next;
       at = place c.at.file c.at.line (c.at.col + (to - c.passed));
     }
-    → Stands file raw breaks after × (0 < after.plain) × (after.passed ≡ to)
+    → InFront file raw breaks to after
 arrives_along file raw breaks c after to line s forward near behind in_line is =
     let n = to - c.passed in
     let bytes = take n (drop c.offset raw) in

@@ -5,7 +5,7 @@ use Rattle.pptext.specs.declared.characters.steps.Step.TheVariants.{Code, Remove
 use Rattle.pptext.specs.Steps.{open_end, step_of}
 use Rattle.pptext.specs.Texts.{Stands, text_from}
 use Rattle.pptext.proofs.Copies.{code_at, removed_at}
-use Rattle.pptext.proofs.Cursors.{arrives, bounds, pass_code, pass_plain, skip_removed, stands_at_code, stands_at_plain, stands_at_end}
+use Rattle.pptext.proofs.Cursors.{arrives, bounds, pass_code, pass_plain, skip_removed, stands_at_code, stands_at_end}
 use Rattle.pptext.proofs.texts.Cursor.walked.Goals as goal
 
 pub pass-requires-then-cursor-gt0-clause-line : goal.pass-requires-then-cursor-gt0-clause-line
@@ -50,23 +50,12 @@ skip-cursor-requires-in-Code-clause-fits c =
     let is : step_of (open_end raw) (drop o raw) ≡ Code c.in-Code.field-0 n = ap (λ s. step_of s (drop o raw)) (sym c.has_open_end-supplied.ensures) ∙ sym (simp take_rest at c.in-Code.ensures) in
     (code_at 0 raw o c.in-Code.field-0 n c.loop-cursor-test.true is).fits
 
-pub returns-then-ahead-cursor-clause-stands : goal.returns-then-ahead-cursor-clause-stands
-returns-then-ahead-cursor-clause-stands c =
-    (arrives c.args.self.at.file c.args.raw.now c.args.breaks.now c.loop-cursor.cursor c.pass.new.self c.args.to c.loop-cursor.invariant.stands c.loop-cursor.invariant.forward c.if-ahead-cursor.true c.pass.ensures).0
-
-pub returns-then-ahead-cursor-clause-passed : goal.returns-then-ahead-cursor-clause-passed
-returns-then-ahead-cursor-clause-passed c =
-    (arrives c.args.self.at.file c.args.raw.now c.args.breaks.now c.loop-cursor.cursor c.pass.new.self c.args.to c.loop-cursor.invariant.stands c.loop-cursor.invariant.forward c.if-ahead-cursor.true c.pass.ensures).2
-
-pub returns-then-ahead-cursor-clause-file : goal.returns-then-ahead-cursor-clause-file
-returns-then-ahead-cursor-clause-file c =
-    let there = arrives c.args.self.at.file c.args.raw.now c.args.breaks.now c.loop-cursor.cursor c.pass.new.self c.args.to c.loop-cursor.invariant.stands c.loop-cursor.invariant.forward c.if-ahead-cursor.true c.pass.ensures in
-    (bounds c.args.self.at.file c.args.raw.now c.args.breaks.now c.pass.new.self there.0).same_file
-
-pub returns-then-ahead-cursor-clause-place : goal.returns-then-ahead-cursor-clause-place
-returns-then-ahead-cursor-clause-place c =
-    let there = arrives c.args.self.at.file c.args.raw.now c.args.breaks.now c.loop-cursor.cursor c.pass.new.self c.args.to c.loop-cursor.invariant.stands c.loop-cursor.invariant.forward c.if-ahead-cursor.true c.pass.ensures in
-    λ d. stands_at_plain c.args.self.at.file c.args.raw.now c.args.breaks.now c.pass.new.self d there.0 there.1 ∙ ap (λ k. (get_or (text_from c.args.self.at.file c.args.raw.now 0) k d).at) there.2
+pub returns-then-ahead-cursor : goal.returns-then-ahead-cursor
+returns-then-ahead-cursor c =
+    let there =
+    arrives c.args.self.at.file c.args.raw.now c.args.breaks.now c.loop-cursor.cursor c.pass.new.self c.args.to
+    c.loop-cursor.invariant.stands c.loop-cursor.invariant.forward c.if-ahead-cursor.true c.pass.ensures in
+    record { stands = there.stands; passed = there.passed; file = there.same_file; place = there.place }
 
 pub loop-cursor-preserved-then-cursor-gt0 : goal.loop-cursor-preserved-then-cursor-gt0
 loop-cursor-preserved-then-cursor-gt0 c =
