@@ -9,7 +9,7 @@ use Rattle.pptext.specs.declared.tokens.Fault.{Fault}
 use Rattle.ppmacro.specs.Numbered.{Numbered}
 use Rattle.ppmacro.specs.HideSets.{set_at, IsKnown, Hiding, hiding, hidings, AllKnown, Keeps}
 use Rattle.ppmacro.specs.Substitution.{Arguments, Marked, after_ok, argument_at, expanded_at, chain_tokens, mark_first, chains_tokens, gained}
-use Rattle.ppmacro.specs.Substituting.{lists_of, options_of, ArgumentsKnown, arguments_in, pushed, HasGained}
+use Rattle.ppmacro.specs.Substituting.{lists_of, options_of, ArgumentsKnown, arguments_in, pushed, HasGained, AreGained}
 use Rattle.ppmacro.specs.declared.flying.Hidden.{Hidden}
 use Rattle.ppmacro.specs.declared.flying.Expansion.{Expansion}
 use Rattle.ppmacro.specs.declared.macros.Chain.{Chain}
@@ -123,6 +123,11 @@ gained-keeps gain from to k known h = record {
   to_known = known-set to k h.to_known;
   is = set-keeps to k h.to_known ∙ h.is ∙ (λ i. set.union (sym (set-keeps from k h.from_known) i) (sym (set-keeps gain k known) i));
 }
+
+-- the same of all that are remembered
+pub all-gained-keep : {s t : Numbered} (gain : ℕ) (gs : List (ℕ × ℕ)) → Keeps s t → IsKnown s gain → AreGained s gain gs → AreGained t gain gs
+all-gained-keep gain [] k known h = tt
+all-gained-keep gain (g ∷ gs) k known h = (gained-keeps gain g.0 g.1 k known h.0, all-gained-keep gain gs k known h.1)
 
 -- a list by its next item
 pub next-item : {X : Type 0} (xs : List X) (i : ℕ) (x : X) (rest : List X) → drop i xs ≡ x ∷ rest → (take (suc i) xs ≡ take i xs ++ x ∷ []) × (drop (suc i) xs ≡ rest)

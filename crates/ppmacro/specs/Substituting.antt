@@ -79,3 +79,7 @@ pub record HasGained (sets : Numbered) (gain from to : ℕ) : Type 0 where
   pub from_known : IsKnown sets from
   pub to_known : IsKnown sets to
   pub is : set_at sets to ≡ set.union (set_at sets from) (set_at sets gain)
+
+-- the same of each of these pairs
+abbrev pub AreGained : Numbered → ℕ → List (ℕ × ℕ) → Type 0
+AreGained sets gain gs = AllByRecursion (λ g. HasGained sets gain g.0 g.1) gs

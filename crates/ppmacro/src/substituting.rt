@@ -5,9 +5,10 @@ ghost use Rattle.ppmacro.specs.Numbered.{Numbered};
 ghost use Rattle.ppmacro.specs.HideSets.{set_at, IsKnown, hiding, hidings, AllKnown, Keeps};
 ghost use Rattle.ppmacro.specs.Substitution.{is_joined, chain_tokens, mark_first, with_mark, plain, chains_tokens, gained, substituted_by};
 ghost use Rattle.pptext.specs.Stops.{Answers};
-ghost use Rattle.ppmacro.specs.Substituting.{ArgumentsKnown, arguments_in, marked_in, pushed, left_with, HasGained};
+ghost use Rattle.ppmacro.specs.Substituting.{ArgumentsKnown, arguments_in, marked_in, pushed, left_with, AreGained};
 
 mod entries;
+mod gains;
 mod joining;
 mod lexing;
 mod operands;
@@ -15,6 +16,7 @@ mod pasting;
 mod stringizing;
 
 pub use self::entries::substitute_pattern;
+use self::gains::{Gain, Gains};
 use self::joining::{join_all, push_all};
 pub use self::lexing::tells_each_kind;
 use self::operands::{expansion, operands_tokens};
@@ -161,51 +163,44 @@ fn chains_tokens<'x, 'a: 'x>(
     Ok((tokens, pending))
 }
 
-// A set, and what it becomes where it gains names.
-#[derive(Clone, Copy, Debug)]
-struct LastGain {
-    from: Set,
-    to: Set,
-}
-
-// A set with the names that it gains. Tokens in a row mostly have one set, so the last one's answer is kept.
-fn gain_set(sets: &mut HideSets, last: &mut LastGain, hide: Set, gain: Set) -> Result<Set, Memory>
-    requires last { HasGained sets.old gain last.old.from last.old.to }
+// A set with the names that it gains, which `gains` remembers of a few sets.
+fn gain_set(sets: &mut HideSets, gains: &mut Gains, hide: Set, gain: Set) -> Result<Set, Memory>
+    requires gains { AreGained sets.old gain gains.old }
     requires hide { IsKnown sets.old hide }
     requires gain { IsKnown sets.old gain }
     ensures is { IfOk result (λ s. set_at sets.new s ≡ set.union (set_at sets.old hide) (set_at sets.old gain)) }
     ensures known { IfOk result (λ s. IsKnown sets.new s) }
-    ensures last { OnOk result (HasGained sets.new gain last.new.from last.new.to) }
+    ensures gains { OnOk result (AreGained sets.new gain gains.new) }
     ensures keeps { Keeps sets.old sets.new }
 {
     if hide == sets.empty() {
         return Ok(gain);
     }
-    if hide == last.from {
-        return Ok(last.to);
+    if let Some(to) = gains.find(hide) {
+        return Ok(to);
     }
     let to = sets.union(hide, gain)?;
-    *last = LastGain { from: hide, to };
+    gains.keep(Gain { from: hide, to });
     Ok(to)
 }
 
 // A token gains the names, and is used where the macro's name is.
 fn gain_one(
     sets: &mut HideSets,
-    last: &mut LastGain,
+    gains: &mut Gains,
     hidden: &mut Hidden,
     gain: Set,
     used: Place,
 ) -> Result<(), Memory>
-    requires last { HasGained sets.old gain last.old.from last.old.to }
+    requires gains { AreGained sets.old gain gains.old }
     requires hidden { IsKnown sets.old hidden.old.hide }
     requires gain { IsKnown sets.old gain }
     ensures is { OnOk result (hiding sets.new hidden.new ≡ gained (set_at sets.old gain) used (hiding sets.old hidden.old)) }
     ensures known { OnOk result (IsKnown sets.new hidden.new.hide) }
-    ensures last { OnOk result (HasGained sets.new gain last.new.from last.new.to) }
+    ensures gains { OnOk result (AreGained sets.new gain gains.new) }
     ensures keeps { Keeps sets.old sets.new }
 {
-    let hide = gain_set(sets, last, hidden.hide(), gain)?;
+    let hide = gain_set(sets, gains, hidden.hide(), gain)?;
     hidden.turn(used, hide);
     Ok(())
 }
@@ -219,24 +214,24 @@ fn push_one<'a>(tokens: &mut Vec<Hidden<'a>>, hidden: Hidden<'a>) -> Result<(), 
     Ok(())
 }
 
-// Each token gains the names, and is used where the macro's name is. `last` is what a set becomes.
+// Each token gains the names, and is used where the macro's name is. `gains` are what sets become.
 fn gain_all(
     sets: &mut HideSets,
     tokens: &mut Vec<Hidden>,
-    last: LastGain,
+    gains: Gains,
     gain: Set,
     used: Place,
 ) -> Result<(), Memory>
     requires tokens { AllKnown sets.old tokens.old.items }
-    requires last { HasGained sets.old gain last.from last.to }
+    requires gains { AreGained sets.old gain gains }
     requires gain { IsKnown sets.old gain }
     ensures is { OnOk result (hidings sets.new tokens.new.items ≡ map (gained (set_at sets.old gain) used) (hidings sets.old tokens.old.items)) }
     ensures known { OnOk result (AllKnown sets.new tokens.new.items) }
     ensures keeps { Keeps sets.old sets.new }
 {
-    let mut last = last;
+    let mut gains = gains;
     for hidden in tokens.iter_mut() {
-        gain_one(sets, &mut last, hidden, gain, used)?;
+        gain_one(sets, &mut gains, hidden, gain, used)?;
     }
     Ok(())
 }
@@ -257,11 +252,11 @@ fn gain_names(
     ensures keeps { Keeps sets.old sets.new }
 {
     let gain = sets.with(base, name)?;
-    let last = LastGain {
+    let gains = Gains::new(Gain {
         from: base,
         to: gain,
-    };
-    gain_all(sets, tokens, last, gain, used)
+    });
+    gain_all(sets, tokens, gains, gain, used)
 }
 
 // What an invocation is replaced by, and the mark that is left pending, or fault 19 or 20.

@@ -13,7 +13,7 @@ loop-hidden-init c =
       same = refl;
       rest = c.deref_mut-hidden-items.ensures.value;
       done_known = record { each = tt };
-      last = c.requires.last;
+      gains = c.requires.gains;
       keeps = keeps-all s;
     }
 
@@ -39,6 +39,6 @@ loop-hidden-preserved c =
           ∙ ap (λ hs. map (gained (set_at s c.args.gain) c.args.used) (hidings s hs)) (sym ((λ j. take (more j) start) ∙ after.0));
       rest = drop-set-lt (i + 1) now i one (omega arith) ∙ sym ((λ j. drop (more j) start) ∙ after.1);
       done_known = subst (AllKnown u) (sym made) (known-append (take i now) (one ∷ []) (known-keeps (take i now) c.in_ok-gain_one.ensures.keeps c.loop-hidden.invariant.done_known) (record { each = (c.in_ok-gain_one.ensures.known, tt) }));
-      last = c.in_ok-gain_one.ensures.last;
+      gains = c.in_ok-gain_one.ensures.gains;
       keeps = keeps-after c.loop-hidden.invariant.keeps c.in_ok-gain_one.ensures.keeps;
     }

@@ -1,7 +1,7 @@
 use Rattle.std.proofs.Common.{◌≡◌, map, take, drop}
 use Rattle.ppmacro.specs.HideSets.{set_at, hidings, AllKnown, Keeps}
 use Rattle.ppmacro.specs.Substitution.{gained}
-use Rattle.ppmacro.specs.Substituting.{HasGained}
+use Rattle.ppmacro.specs.Substituting.{AreGained}
 use Rattle.ppmacro.proofs.substituting.gain_all.Given as goal
 
 abbrev pub invariant-loop-hidden : goal.invariant-loop-hidden
@@ -9,6 +9,6 @@ invariant-loop-hidden l = record {
   same : hidings l.sets (take l.hidden-index l.hidden-items) ≡ map (gained (set_at l.initial.sets l.gain) l.used) (hidings l.initial.sets (take l.hidden-index l.fn.tokens.items));
   rest : drop l.hidden-index l.hidden-items ≡ drop l.hidden-index l.fn.tokens.items;
   done_known : AllKnown l.sets (take l.hidden-index l.hidden-items);
-  last : HasGained l.sets l.gain l.last.from l.last.to;
+  gains : AreGained l.sets l.gain l.gains;
   keeps : Keeps l.initial.sets l.sets;
 }
