@@ -1,5 +1,6 @@
 -- Pairs that are known, while nodes and pairs are added.
 use Rattle.std.proofs.Common.{◌≡◌, ℕ, ◌<◌, Bool, true, false, cond, ◌&&◌, ◌||◌, nat_eq, List, [], ◌∷◌, ◌++◌, Option, Some, None, length, refl, sym, ap, ◌∙◌, subst, if◌then◌else◌}
+use Rattle.std.proofs.Math.Bool as bool
 use Rattle.std.proofs.lemmas.Bool.{eqb-true, eq-eqb, and_parts}
 use Rattle.ppmacro.specs.declared.hide_sets.nodes.Node.{Node}
 use Rattle.ppmacro.specs.Nodes.{member, word, IsPool, Keeps}
@@ -118,32 +119,16 @@ by-case P a b p q r n o first second same other e = at (nat_eq a 0) (nat_eq b 0)
 none-at : (ns : List Node) (a x : ℕ) → IsPool ns → a ≡ 0 → member ns a x ≡ false
 none-at ns a x pool e = (λ i. member ns (e i) x) ∙ member-none ns x pool.empty
 
-or-same : (b : Bool) → b ≡ (b || b)
-or-same true = refl
-or-same false = refl
-
-or-false : (b : Bool) → b ≡ (b || false)
-or-false true = refl
-or-false false = refl
-
-and-same : (b : Bool) → b ≡ (b && b)
-and-same true = refl
-and-same false = refl
-
-and-false : (b : Bool) → false ≡ (b && false)
-and-false true = refl
-and-false false = refl
-
 pub known-is : (o : Operation) (ns : List Node) (ps : Answered) (a b n : ℕ) → IsPool ns → AreAnswers (joined o) ns ps → a < length ns → b < length ns → known o ps a b ≡ Some n → IsMade (joined o) ns a b n
 known-is Union ns ps a b n pool h la lb = by-case (IsMade (joined Union) ns a b) a b b a a n (answer_of ps a b)
     (λ e. record { within = lb; is = λ x i. sym (none-at ns a x pool e) i || member ns b x })
-    (λ e. record { within = la; is = λ x. or-false (member ns a x) ∙ (λ i. member ns a x || sym (none-at ns b x pool e) i) })
-    (λ e. record { within = la; is = λ x. or-same (member ns a x) ∙ (λ i. member ns a x || member ns (e i) x) })
+    (λ e. record { within = la; is = λ x. sym (bool.or-false (member ns a x)) ∙ (λ i. member ns a x || sym (none-at ns b x pool e) i) })
+    (λ e. record { within = la; is = λ x. sym (bool.or_self (member ns a x)) ∙ (λ i. member ns a x || member ns (e i) x) })
     (λ e. let k = found (joined Union) ns ps a b n h e in record { within = k.within; is = k.is })
 known-is Meet ns ps a b n pool h la lb = by-case (IsMade (joined Meet) ns a b) a b a b a n (answer_of ps a b)
     (λ e. record { within = la; is = λ x. none-at ns a x pool e ∙ (λ i. sym (none-at ns a x pool e) i && member ns b x) })
-    (λ e. record { within = lb; is = λ x. none-at ns b x pool e ∙ and-false (member ns a x) ∙ (λ i. member ns a x && sym (none-at ns b x pool e) i) })
-    (λ e. record { within = la; is = λ x. and-same (member ns a x) ∙ (λ i. member ns a x && member ns (e i) x) })
+    (λ e. record { within = lb; is = λ x. none-at ns b x pool e ∙ sym (bool.and-false (member ns a x)) ∙ (λ i. member ns a x && sym (none-at ns b x pool e) i) })
+    (λ e. record { within = la; is = λ x. sym (bool.and_self (member ns a x)) ∙ (λ i. member ns a x && member ns (e i) x) })
     (λ e. let k = found (joined Meet) ns ps a b n h e in record { within = k.within; is = k.is })
 
 pub is-answer : (op : Bool → Bool → Bool) (old new : List Node) (a b n : ℕ)

@@ -216,9 +216,9 @@ module _ (profile : Profile) (chars : List Char) where
       let are = drafts_are (take start ts) ls st.lines st.tokens st.spans (profile, subst (AllByRecursion (IsDirected profile)) all (pieces_are_directed profile st.pieces)) in
       (st.pieces, subst (CutUpTo chars st.pieces) none st.cut, all ∙ sym are.0, are.1, omega (arith, st.few, st.within))
 
-  pub never_closed : (at start : ℕ) (space : Bool) (ts : List Token) (ls : List Line) (p : Place)
+  pub left_unclosed : (at start : ℕ) (space : Bool) (ts : List Token) (ls : List Line) (p : Place)
       → State profile chars at start space ts ls
       → p ≡ head_place (drop at chars)
       → OpensBlock (drop at (codes_of chars)) × ClosesAt (drop at (codes_of chars)) None
       → Unclosed chars p
-  never_closed at start space ts ls p st is open_block = record { pieces = st.pieces; rest = drop at chars; cut = st.cut; opens = rw (codes_from chars at) open_block.0; never = rw (codes_from chars at) open_block.1; here = is }
+  left_unclosed at start space ts ls p st is open_block = record { pieces = st.pieces; rest = drop at chars; cut = st.cut; opens = rw (codes_from chars at) open_block.0; never = rw (codes_from chars at) open_block.1; here = is }

@@ -9,6 +9,7 @@ use Rattle.pptext.specs.declared.tokens.Place.{Place}
 use Rattle.pptext.specs.declared.tokens.Token.{Token}
 use Rattle.pptext.specs.declared.characters.Char.{Char}
 use Rattle.pptext.specs.declared.sources.Profile.{Profile}
+use Rattle.pptext.specs.Carrying.{last_of}
 use Rattle.pptext.specs.Clean.{codes_of, newline, next_col, terminated, line_ends, trigraph, trigraph_at, trigraphs_behind, trigraphs, splice_at, splices_behind, splices, splice_at_end, unless_at, cleaned}
 use Rattle.pptext.specs.Spellings.{is_blank, IsHeader, Spells}
 use Rattle.pptext.specs.Cut.{Piece, Sort, NewLine, Blank, Comment, Spelled, StandsAt, CommentAt, EachStands, Cut, laid, with_piece, BeginsWith}
@@ -16,29 +17,23 @@ use Rattle.pptext.specs.Lines.{lines_of, lines_behind, lines_ended, leaves_space
 use Rattle.pptext.specs.Sources.{tokens_of}
 use Rattle.pptext.specs.Tokens.{spelled}
 use Rattle.pptext.specs.Laws.{spelling_of, spellings_of}
-use Rattle.pptext.proofs.OneKind.{last, last-append, spelling_last}
+use Rattle.pptext.proofs.Carrying.{last_at}
+use Rattle.pptext.proofs.OneKind.{last-append, spelling_last}
 use Rattle.pptext.proofs.OnePiece.{some_piece, between}
 
 -- the text is empty or ends in a new-line
 abbrev Ended : List Char → Type 0
-Ended cs = (cs ≡ []) ⊎ (last (codes_of cs) ≡ 10)
+Ended cs = (cs ≡ []) ⊎ (last_of (codes_of cs) ≡ 10)
 
-last_behind : (c : ℕ) (s : List ℕ) → last s ≡ 10 → last (c ∷ s) ≡ 10
+last_behind : (c : ℕ) (s : List ℕ) → last_of s ≡ 10 → last_of (c ∷ s) ≡ 10
 last_behind c [] e = absurd (omega arith)
 last_behind c (d ∷ s) e = e
-
-last_at : (s : List ℕ) (i : ℕ) → length s ≡ i + 1 → last s ≡ get_or s i 0
-last_at [] i e = absurd (omega arith)
-last_at (c ∷ []) zero e = refl
-last_at (c ∷ []) (suc i) e = absurd (omega arith)
-last_at (c ∷ d ∷ s) zero e = absurd (omega arith)
-last_at (c ∷ d ∷ s) (suc i) e = last_at (d ∷ s) i (omega arith)
 
 terminated_end : (cs : List Char) → Ended (terminated cs)
 terminated_end [] = inl refl
 terminated_end (c ∷ []) = inr (cases (c.code == newline) refl)
   where
-    cases : (b : Bool) → (c.code == newline) ≡ b → last (codes_of (c ∷ (if b then [] else record { code = newline; at = next_col c.at } ∷ []))) ≡ 10
+    cases : (b : Bool) → (c.code == newline) ≡ b → last_of (codes_of (c ∷ (if b then [] else record { code = newline; at = next_col c.at } ∷ []))) ≡ 10
     cases true e = grind (arith, nat_tests)
     cases false e = refl
 terminated_end (c ∷ d ∷ cs) = cases (terminated_end (d ∷ cs))
@@ -47,8 +42,8 @@ terminated_end (c ∷ d ∷ cs) = cases (terminated_end (d ∷ cs))
     cases (inl e) = cc
     cases (inr e) = inr e
 
--- no trigraph takes the last new-line
-trigraphs_end : (skip : ℕ) (cs : List Char) → last (codes_of (drop skip cs)) ≡ 10 → last (codes_of (trigraphs_behind skip cs)) ≡ 10
+-- no trigraph takes the last_of new-line
+trigraphs_end : (skip : ℕ) (cs : List Char) → last_of (codes_of (drop skip cs)) ≡ 10 → last_of (codes_of (trigraphs_behind skip cs)) ≡ 10
 trigraphs_end zero [] e = e
 trigraphs_end (suc skip) [] e = e
 trigraphs_end (suc skip) (c ∷ cs) e = trigraphs_end skip cs e
@@ -62,8 +57,8 @@ trigraphs_end zero (c ∷ d ∷ f ∷ []) e = cases (trigraph_at (c ∷ d ∷ f 
 
     cases : (b : Bool)
         → (trigraph_at (c ∷ d ∷ f ∷ []) == 0) ≡ b
-        → last (codes_of (trigraphs_behind 0 (d ∷ f ∷ []))) ≡ 10
-        → last (codes_of
+        → last_of (codes_of (trigraphs_behind 0 (d ∷ f ∷ []))) ≡ 10
+        → last_of (codes_of
         (if b then c ∷ trigraphs_behind 0 (d ∷ f ∷ []) else record { code = trigraph_at (c ∷ d ∷ f ∷ []); at = c.at } ∷ trigraphs_behind 2 (d ∷ f ∷ [])))
         ≡ 10
     cases true is later = last_behind c.code (codes_of (trigraphs_behind 0 (d ∷ f ∷ []))) later
@@ -71,9 +66,9 @@ trigraphs_end zero (c ∷ d ∷ f ∷ []) e = cases (trigraph_at (c ∷ d ∷ f 
 trigraphs_end zero (c ∷ d ∷ f ∷ g ∷ cs) e = cases (trigraph_at (c ∷ d ∷ f ∷ g ∷ cs) == 0) (trigraphs_end zero (d ∷ f ∷ g ∷ cs) e) (trigraphs_end zero (g ∷ cs) e)
   where
     cases : (b : Bool)
-        → last (codes_of (trigraphs_behind 0 (d ∷ f ∷ g ∷ cs))) ≡ 10
-        → last (codes_of (trigraphs_behind 0 (g ∷ cs))) ≡ 10
-        → last (codes_of (if b then c ∷ trigraphs_behind 0 (d ∷ f ∷ g ∷ cs)
+        → last_of (codes_of (trigraphs_behind 0 (d ∷ f ∷ g ∷ cs))) ≡ 10
+        → last_of (codes_of (trigraphs_behind 0 (g ∷ cs))) ≡ 10
+        → last_of (codes_of (if b then c ∷ trigraphs_behind 0 (d ∷ f ∷ g ∷ cs)
         else record { code = trigraph_at (c ∷ d ∷ f ∷ g ∷ cs); at = c.at } ∷ trigraphs_behind 2 (d ∷ f ∷ g ∷ cs)))
         ≡ 10
     cases true later last_later = last_behind c.code (codes_of (trigraphs_behind 0 (d ∷ f ∷ g ∷ cs))) later
@@ -86,28 +81,28 @@ no_splice c cs = cases (length cs == 1 && splice_at (c ∷ cs))
     cases true e = cc
     cases false e = (refl, e)
 
--- no splice takes the last new-line, unless the text ends in one
-splices_end : (skip : ℕ) (cs : List Char) → splice_at_end cs ≡ None → last (codes_of (drop skip cs)) ≡ 10 → last (codes_of (splices_behind skip cs)) ≡ 10
+-- no splice takes the last_of new-line, unless the text ends in one
+splices_end : (skip : ℕ) (cs : List Char) → splice_at_end cs ≡ None → last_of (codes_of (drop skip cs)) ≡ 10 → last_of (codes_of (splices_behind skip cs)) ≡ 10
 splices_end zero [] none e = e
 splices_end (suc skip) [] none e = e
 splices_end (suc skip) (c ∷ cs) none e = splices_end skip cs (no_splice c cs none).1 e
 splices_end zero (c ∷ []) none e = cases (c.code == 92)
   where
-    cases : (b : Bool) → last (codes_of (if b && false then splices_behind 1 [] else c ∷ splices_behind 0 [])) ≡ 10
+    cases : (b : Bool) → last_of (codes_of (if b && false then splices_behind 1 [] else c ∷ splices_behind 0 [])) ≡ 10
     cases true = e
     cases false = e
 splices_end zero (c ∷ d ∷ []) none e = cases (splice_at (c ∷ d ∷ [])) (no_splice c (d ∷ []) none).0 (splices_end zero (d ∷ []) (no_splice c (d ∷ []) none).1 e)
   where
-    cases : (b : Bool) → b ≡ false → last (codes_of (splices_behind 0 (d ∷ []))) ≡ 10 → last (codes_of (if b then splices_behind 1 (d ∷ []) else c ∷ splices_behind 0 (d ∷ []))) ≡ 10
+    cases : (b : Bool) → b ≡ false → last_of (codes_of (splices_behind 0 (d ∷ []))) ≡ 10 → last_of (codes_of (if b then splices_behind 1 (d ∷ []) else c ∷ splices_behind 0 (d ∷ []))) ≡ 10
     cases true is later = absurd (false≢true (sym is))
     cases false is later = last_behind c.code (codes_of (splices_behind 0 (d ∷ []))) later
 splices_end zero (c ∷ d ∷ f ∷ cs) none e =
     cases (splice_at (c ∷ d ∷ f ∷ cs)) (splices_end zero (d ∷ f ∷ cs) (no_splice c (d ∷ f ∷ cs) none).1 e) (splices_end zero (f ∷ cs) (no_splice d (f ∷ cs) (no_splice c (d ∷ f ∷ cs) none).1).1 e)
   where
     cases : (b : Bool)
-        → last (codes_of (splices_behind 0 (d ∷ f ∷ cs))) ≡ 10
-        → last (codes_of (splices_behind 0 (f ∷ cs))) ≡ 10
-        → last (codes_of (if b then splices_behind 1 (d ∷ f ∷ cs) else c ∷ splices_behind 0 (d ∷ f ∷ cs))) ≡ 10
+        → last_of (codes_of (splices_behind 0 (d ∷ f ∷ cs))) ≡ 10
+        → last_of (codes_of (splices_behind 0 (f ∷ cs))) ≡ 10
+        → last_of (codes_of (if b then splices_behind 1 (d ∷ f ∷ cs) else c ∷ splices_behind 0 (d ∷ f ∷ cs))) ≡ 10
     cases true later after = after
     cases false later after = last_behind c.code (codes_of (splices_behind 0 (d ∷ f ∷ cs))) later
 
@@ -130,50 +125,50 @@ cleaned_end file bytes chars e = spliced_end (trigraphs (line_ends file bytes)) 
     kept cs (inr is) = inr (trigraphs_end 0 cs is)
 
 -- a piece that is the whole text and ends in a new-line is a new-line
-blank_last : (text : List ℕ) → length text ≡ 1 → (c : ℕ) → BeginsWith text (c ∷ []) → IsTrue (is_blank c) → last text ≡ 10 → ⊥
+blank_last : (text : List ℕ) → length text ≡ 1 → (c : ℕ) → BeginsWith text (c ∷ []) → IsTrue (is_blank c) → last_of text ≡ 10 → ⊥
 blank_last [] l c b t e = omega arith
 blank_last (x ∷ []) l c b t e =
     let same : x ≡ c = cc in
     false≢true (ap is_blank (sym (sym same ∙ e)) ∙ t)
 blank_last (x ∷ y ∷ text) l c b t e = omega arith
 
-comment_last : (text : List ℕ) → CommentAt text (length text) → last text ≡ 10 → ⊥
+comment_last : (text : List ℕ) → CommentAt text (length text) → last_of text ≡ 10 → ⊥
 comment_last [] a e = absurd (omega arith)
 comment_last (x ∷ xs) (inl (o, k, f, n)) e =
-    let at : last (x ∷ xs) ≡ get_or (x ∷ xs) (k + 3) 0 = last_at (x ∷ xs) (k + 3) (omega arith) in
+    let at : last_of (x ∷ xs) ≡ get_or (x ∷ xs) (k + 3) 0 = sym (last_at (x ∷ xs) (k + 3) (omega arith)) in
     let slash : get_or (drop 2 (x ∷ xs)) (k + 1) 0 ≡ 47 = f.1.reads 1 (omega arith) in
     let there : get_or (drop 2 (x ∷ xs)) (k + 1) 0 ≡ get_or (x ∷ xs) (2 + (k + 1)) 0 = get_or-drop 2 (x ∷ xs) (k + 1) 0 in
     let same : get_or (x ∷ xs) (2 + (k + 1)) 0 ≡ get_or (x ∷ xs) (k + 3) 0 = ap (λ i. get_or (x ∷ xs) i 0) (omega arith) in
     let ten : ◌≡◌ {A = ℕ} 47 10 = sym slash ∙ there ∙ same ∙ sym at ∙ e in
     absurd (omega arith)
 comment_last (x ∷ xs) (inr (o, None, f, n)) e =
-    f (length xs) (omega arith) (omega arith) (ap (λ z. z == 10) (sym (last_at (x ∷ xs) (length xs) (omega arith)) ∙ e))
+    f (length xs) (omega arith) (omega arith) (ap (λ z. z == 10) (last_at (x ∷ xs) (length xs) (omega arith) ∙ e))
 comment_last (x ∷ xs) (inr (o, Some k, f, n)) e = absurd (omega (arith, f.0.high))
 
-header_last : (s : List ℕ) → IsHeader s → last s ≡ 10 → ⊥
+header_last : (s : List ℕ) → IsHeader s → last_of s ≡ 10 → ⊥
 header_last s (inl a) e =
     let b = between 60 62 s a in
-    let ten : ◌≡◌ {A = ℕ} 62 10 = sym (ap last b.is ∙ last-append (60 ∷ b.body) (62 ∷ []) (omega arith)) ∙ e in
+    let ten : ◌≡◌ {A = ℕ} 62 10 = sym (ap last_of b.is ∙ last-append (60 ∷ b.body) (62 ∷ []) (omega arith)) ∙ e in
     absurd (omega arith)
 header_last s (inr a) e =
     let b = between 34 34 s a in
-    let ten : ◌≡◌ {A = ℕ} 34 10 = sym (ap last b.is ∙ last-append (34 ∷ b.body) (34 ∷ []) (omega arith)) ∙ e in
+    let ten : ◌≡◌ {A = ℕ} 34 10 = sym (ap last_of b.is ∙ last-append (34 ∷ b.body) (34 ∷ []) (omega arith)) ∙ e in
     absurd (omega arith)
 
-ends_line : (line : List (List ℕ)) (text : List ℕ) (s : Sort) → StandsAt line text (length text) s → last text ≡ 10 → s ≡ NewLine
+ends_line : (line : List (List ℕ)) (text : List ℕ) (s : Sort) → StandsAt line text (length text) s → last_of text ≡ 10 → s ≡ NewLine
 ends_line line text NewLine a e = refl
 ends_line line text Blank a e = absurd (blank_last text a.0 a.1 a.2 a.3 e)
 ends_line line text Comment a e = absurd (comment_last text a e)
 ends_line line text (Spelled k) (inl (h, is)) e = absurd (header_last text (subst IsHeader (take_all (length text) text (omega arith)) h.spelled) e)
 ends_line line text (Spelled k) (inr p) e = absurd (spelling_last text k (subst (Spells k) (take_all (length text) text (omega arith)) p.spelled) e)
 
--- the last piece is a new-line
+-- the last_of piece is a new-line
 abbrev EndsLine : List Piece → Type 0
 EndsLine [] = ⊥
 EndsLine (p ∷ []) = p.sort ≡ NewLine
 EndsLine (p ∷ q ∷ ps) = EndsLine (q ∷ ps)
 
-pieces_end : (line : List (List ℕ)) (ps : List Piece) → EachStands line ps [] → last (codes_of (laid ps)) ≡ 10 → EndsLine ps
+pieces_end : (line : List (List ℕ)) (ps : List Piece) → EachStands line ps [] → last_of (codes_of (laid ps)) ≡ 10 → EndsLine ps
 pieces_end line [] each e = absurd (omega arith)
 pieces_end line (p ∷ []) each e =
     let l : length p.chars ≡ length (codes_of (p.chars ++ [])) = sym (length-map (p.chars ++ []) (λ (c : Char). c.code) ∙ ap length (append-nil p.chars)) in
@@ -183,8 +178,8 @@ pieces_end line (p ∷ q ∷ ps) each e =
     let some = some_piece (with_piece line p p.sort) (codes_of (q.chars ++ (laid ps ++ []))) (length q.chars) q.sort each.1.0 in
     let l = length-append q.chars (laid ps) in
     let m = length-map (laid (q ∷ ps)) (λ (c : Char). c.code) in
-    let split : last (codes_of (p.chars ++ laid (q ∷ ps))) ≡ last (codes_of (laid (q ∷ ps))) =
-    ap last (map-append (λ (c : Char). c.code) p.chars (laid (q ∷ ps))) ∙ last-append (codes_of p.chars) (codes_of (laid (q ∷ ps))) (omega arith) in
+    let split : last_of (codes_of (p.chars ++ laid (q ∷ ps))) ≡ last_of (codes_of (laid (q ∷ ps))) =
+    ap last_of (map-append (λ (c : Char). c.code) p.chars (laid (q ∷ ps))) ∙ last-append (codes_of p.chars) (codes_of (laid (q ∷ ps))) (omega arith) in
     pieces_end (with_piece line p p.sort) (q ∷ ps) each.1 (sym split ∙ e)
 
 spelled-append : (a b : List Token) → spelled (a ++ b) ≡ spelled a ++ spelled b
@@ -233,4 +228,4 @@ keeps_every_token profile file bytes chars (p ∷ ps) clean cut = cases (cleaned
 
     cases : Ended chars → spelled (tokens_of (lines_of profile (p ∷ ps))) ≡ spellings_of (p ∷ ps)
     cases (inl e) = let none = ap length (same ∙ e) in absurd (omega (arith, some))
-    cases (inr e) = kept profile true [] (p ∷ ps) (pieces_end [] (p ∷ ps) cut.each (ap (λ (z : List Char). last (codes_of z)) same ∙ e))
+    cases (inr e) = kept profile true [] (p ∷ ps) (pieces_end [] (p ∷ ps) cut.each (ap (λ (z : List Char). last_of (codes_of z)) same ∙ e))

@@ -7,6 +7,7 @@ use Rattle.std.proofs.lemmas.Bool.Decides.{nat_tests}
 use Rattle.std.proofs.lemmas.List.{drop_at}
 use Rattle.pptext.specs.declared.tokens.Kind.{Kind}
 use Rattle.pptext.specs.declared.tokens.Kind.TheVariants.{Ident, Number, CharConst, Str, Punct, Header, Other}
+use Rattle.pptext.specs.Carrying.{last_of}
 use Rattle.pptext.specs.Languages.{One}
 use Rattle.pptext.specs.Spellings.{is_digit, is_nondigit, is_blank, IsUniversal, IsNondigit, IsIdent, IsNumber, IsCharConst, IsStr, IsPunct, Spells}
 use Rattle.pptext.specs.Spellings.{char_prefixes, str_prefixes}
@@ -249,36 +250,30 @@ spelling_visible s Punct a = punct_passes (λ p. begins is_visible p) refl s a
 spelling_visible s Header a = absurd a
 spelling_visible s Other a = begins_one is_visible s a.0
 
--- the last character, or 0
-abbrev pub last : List ℕ → ℕ
-last [] = 0
-last (c ∷ []) = c
-last (c ∷ d ∷ cs) = last (d ∷ cs)
-
-last_cons : (c : ℕ) (s : List ℕ) → 0 < length s → last (c ∷ s) ≡ last s
+last_cons : (c : ℕ) (s : List ℕ) → 0 < length s → last_of (c ∷ s) ≡ last_of s
 last_cons c [] some = absurd (omega arith)
 last_cons c (d ∷ s) some = refl
 
-pub last-append : (a b : List ℕ) → 0 < length b → last (a ++ b) ≡ last b
+pub last-append : (a b : List ℕ) → 0 < length b → last_of (a ++ b) ≡ last_of b
 last-append [] b some = refl
 last-append (c ∷ a) b some =
     let l = length-append a b in
     last_cons c (a ++ b) (omega arith) ∙ last-append a b some
 
-plain_last : (s : List ℕ) → plain s ≡ true → last s ≡ 10 → ⊥
+plain_last : (s : List ℕ) → plain s ≡ true → last_of s ≡ 10 → ⊥
 unfolding is_plain
 plain_last [] p e = absurd (omega arith)
 plain_last (c ∷ []) p e = false≢true (ap is_plain (sym e) ∙ (and_parts (is_plain c) true p).0)
 plain_last (c ∷ d ∷ s) p e = plain_last (d ∷ s) (and_parts (is_plain c) (plain (d ∷ s)) p).1 e
 
-ends_last : (q : ℕ) (s : List ℕ) → EndsIn q s → last s ≡ q
-ends_last q s (x, l, e) = ap last e ∙ last-append x (q ∷ []) (omega arith)
+ends_last : (q : ℕ) (s : List ℕ) → EndsIn q s → last_of s ≡ q
+ends_last q s (x, l, e) = ap last_of e ∙ last-append x (q ∷ []) (omega arith)
 
-quote_last : (q : ℕ) (s : List ℕ) → (q ≡ 10 → ⊥) → EndsIn q s → last s ≡ 10 → ⊥
+quote_last : (q : ℕ) (s : List ℕ) → (q ≡ 10 → ⊥) → EndsIn q s → last_of s ≡ 10 → ⊥
 quote_last q s apart a e = apart (sym (ends_last q s a) ∙ e)
 
 -- no spelling ends in a new-line
-pub spelling_last : (s : List ℕ) (k : Kind) → Spells k s → last s ≡ 10 → ⊥
+pub spelling_last : (s : List ℕ) (k : Kind) → Spells k s → last_of s ≡ 10 → ⊥
 spelling_last s Ident a e = plain_last s (ident_plain.at s a) e
 spelling_last s Number a e = plain_last s (number_plain.at s a) e
 spelling_last s CharConst a e = quote_last 39 s (λ ten. absurd (omega arith)) (char_ends s a) e
@@ -286,5 +281,5 @@ spelling_last s Str a e = quote_last 34 s (λ ten. absurd (omega arith)) (str_en
 spelling_last s Punct a e = plain_last s (punct_plain.at s a) e
 spelling_last s Header a e = a
 spelling_last s Other a e =
-    let newline : a.0.0 ≡ 10 = sym (ap last a.0.1) ∙ e in
+    let newline : a.0.0 ≡ 10 = sym (ap last_of a.0.1) ∙ e in
     false≢true (ap is_visible (sym newline) ∙ a.0.2)

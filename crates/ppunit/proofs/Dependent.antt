@@ -24,7 +24,7 @@ use Rattle.ppunit.specs.LineControl.{Presumed, presumed}
 use Rattle.ppunit.specs.Directives.{RunGives, renumbered_by, with_macros, is_once, ControlBy}
 use Rattle.ppunit.specs.Group.{Group, Branched, Controls, Includes, Opened}
 use Rattle.ppunit.specs.Unit.{IsUnit, Defines, unread, processed, Translates, undefined, translated, surroundings}
-use Rattle.ppunit.proofs.Found.{first_within}
+use Rattle.ppshelf.proofs.Finds.{first_within}
 
 -- ---- what leaves the dependencies as they are
 

@@ -6,7 +6,7 @@ use Rattle.pptext.specs.declared.tokens.Token.{Token}
 use Rattle.pptext.specs.Clean.{place, codes_of}
 use Rattle.pptext.specs.Lone.{KnowsLone}
 use Rattle.pptext.proofs.LoneQuotes.{knows_later, knows_nothing}
-use Rattle.pptext.proofs.CutLoop.{state_start, skip_blanks, skip_comment, end_line, add_token, cut_all, never_closed, codes_length, head_of_drop, head_of_take, token_is}
+use Rattle.pptext.proofs.CutLoop.{state_start, skip_blanks, skip_comment, end_line, add_token, cut_all, left_unclosed, codes_length, head_of_drop, head_of_take, token_is}
 use Rattle.pptext.proofs.InLine.{line_start, line_over_blanks, line_over_token}
 use Rattle.pptext.specs.Tokens.{spelled}
 use Rattle.pptext.specs.Lines.{token_of}
@@ -109,7 +109,7 @@ returns-in-Unclosed c =
     let found = simp (take_rest, same) at c.in-Unclosed.ensures.finds in
     let first_length = ap length c.codes-codes.ensures in
     let here = c.place.ensures.place first ∙ ap (λ (z : List Char). (get_or z c.loop-at.at first).at) c.loop-at.invariant.same ∙ head_of_drop chars c.loop-at.at first (omega arith) in
-    never_closed c.args.profile chars c.loop-at.at c.loop-at.start c.loop-at.space c.loop-at.tokens.items c.loop-at.lines.items c.place.result c.loop-at.invariant.state here found
+    left_unclosed c.args.profile chars c.loop-at.at c.loop-at.start c.loop-at.space c.loop-at.tokens.items c.loop-at.lines.items c.place.result c.loop-at.invariant.state here found
 
 pub returns : goal.returns
 returns c =

@@ -1,4 +1,4 @@
-use Rattle.std.proofs.Common.{◌≡◌, ◌<◌, [], length, get_or, sym, ◌∙◌, ap, subst}
+use Rattle.std.proofs.Common.{◌<◌, [], length, get_or, sym, ◌∙◌, ap, subst}
 use Rattle.std.proofs.lemmas.Slice.Eq.{bytes_eq-Decides}
 use Rattle.ppmacro.proofs.hide_sets.names.NameNumbers.is_at.Goals as goal
 
