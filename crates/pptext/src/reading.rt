@@ -123,6 +123,7 @@ fn is_lone_quote(text: &[u8]) -> bool
 
 /// The kind of the one preprocessing token (6.4) that the whole text is outside an include line. None where it is no token, more
 /// than one, white space, a comment, or a quote alone (6.4p3). Takes no memory.
+#[tactic(auto, using(crate::proofs::OneToken::finds_token))]
 pub fn relex(text: &[u8]) -> Option<Kind>
     ensures none { IfNone result ((k : Kind) → IsOneToken text.now k → IsLoneQuote text.now) }
     ensures some { IfSome result (λ k. IsOneToken text.now k × (¬ IsLoneQuote text.now)) }

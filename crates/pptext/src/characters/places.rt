@@ -18,6 +18,7 @@ pub(crate) fn place_behind(start: Place, bytes: &[u8]) -> Place
 
 /// Moves the place of the first of these bytes behind them.
 #[inline(always)]
+#[tactic(auto, using(crate::proofs::PlaceLines::no_line_passed))]
 pub(crate) fn move_behind(place: &mut Place, bytes: &[u8])
     requires line { place.old.line + length bytes.now < 2 ^ 32 }
     requires col { place.old.col + length bytes.now < 2 ^ 32 }
