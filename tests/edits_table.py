@@ -20,9 +20,9 @@ where (`returns-then-is_spent`: where the function returns because `is_spent` ho
 turn; `..-requires`: what a call wants) and, last, the clause of the contract. `tests/edits_table.py` writes this page from the
 log of the gate. An edit that isn't here is tried by the gate like the others.
 
-An edit counts where its meaning is refused, and not only its form. Where one changes a value alone, the code as it stands is the right body of that
-form. Where one was found to add a statement or a branch to a function whose proof is written by hand, a right body of the same form was tried once, and is
-proved; in some of them it answers want of memory, which shows only that the proof bears the form. Sentences of such trials stand here until the gate's do.
+An edit counts where its meaning is refused, and not only its form. Where one changes a value or a condition alone, the code as it stands is the right
+body of that form. Where one adds a statement or a branch, a right body of the same form was tried once, and is proved: most say it in a line `# right:`,
+which `rt` doesn't read, in the place of `new:`. In some it answers want of memory, which shows only that the proof bears the form.
 """
 LINE = re.compile(r"must-fail (\w+)/([\w-]+)\.edit: refused, as it must be(.*)")
 GOAL = re.compile(r"(?:note: |\./)?((?:src|specs|proofs)/[\w+/-]+\.(?:rt|antt)):(\d+):\d+: (.*)")
