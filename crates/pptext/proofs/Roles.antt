@@ -1,9 +1,15 @@
--- A role of the code is the one that the definitions mean.
+-- A role of the code that stands for `Opens` is the code's `Opens`.
 use Rattle.std.proofs.Common.{◌≡◌, refl}
 use Rattle.pptext.specs.declared.directives.Role as code
 use Rattle.pptext.specs.declared.directives.Role.TheVariants as variant
-use Rattle.pptext.specs.Tree.{Opens}
-use Rattle.pptext.specs.Roles.{role_meant}
+use Rattle.pptext.specs.Tree.{Role, TextLine, ControlLine, Opens, Elses, Closes}
+
+abbrev pub role_meant : code.Role → Role
+role_meant variant.Text = TextLine
+role_meant variant.Control = ControlLine
+role_meant variant.Opens = Opens
+role_meant (variant.Elses last) = Elses last
+role_meant variant.Closes = Closes
 
 pub opens_meant : (r : code.Role) → role_meant r ≡ Opens → r ≡ variant.Opens
 opens_meant variant.Opens e = refl

@@ -12,7 +12,6 @@ pub mod Lone
 pub mod Cut
 pub mod Lines
 pub mod Tree
-pub mod Roles
 pub mod Guard
 pub mod Sources
 pub mod Stops

@@ -2,8 +2,7 @@
 ghost use Rattle.std.specs.Prelude.{◌≡◌, codes, ◌||◌};
 ghost use Rattle.std.specs.Str.{bytes_eq};
 ghost use Rattle.pptext.specs.Lines.{directive_names, later_names, named_in, directive_named, directive_of};
-ghost use Rattle.pptext.specs.Tree.{opens_section, has_condition, ends_group, role_named, role_by};
-ghost use Rattle.pptext.specs.Roles.{role_meant};
+ghost use Rattle.pptext.specs.Tree.{opens_section, has_condition, ends_group, role_by, TextLine, ControlLine, Opens, Elses, Closes};
 
 use crate::sources::{Directive, Profile};
 use crate::tokens::Token;
@@ -49,26 +48,17 @@ pub(crate) enum Role {
     Closes,
 }
 
-/// The role of a directive.
-fn role_named(directive: Directive) -> Role
-    ensures { role_meant result ≡ role_named directive }
-{
-    match directive {
-        Directive::If | Directive::Ifdef | Directive::Ifndef => Role::Opens,
-        Directive::Elif | Directive::Elifdef | Directive::Elifndef => Role::Elses(false),
-        Directive::Else => Role::Elses(true),
-        Directive::Endif => Role::Closes,
-        _ => Role::Control,
-    }
-}
-
 /// The role of a line by its directive.
 pub(crate) fn role_of(directive: Option<Directive>) -> Role
-    ensures { role_meant result ≡ role_by directive }
+    ensures { (elim result [ Role.Text ↦ TextLine | Role.Control ↦ ControlLine | Role.Opens ↦ Opens | Role.Elses last ↦ Elses last | Role.Closes ↦ Closes ]) ≡ role_by directive }
 {
     match directive {
         None => Role::Text,
-        Some(directive) => role_named(directive),
+        Some(Directive::If | Directive::Ifdef | Directive::Ifndef) => Role::Opens,
+        Some(Directive::Elif | Directive::Elifdef | Directive::Elifndef) => Role::Elses(false),
+        Some(Directive::Else) => Role::Elses(true),
+        Some(Directive::Endif) => Role::Closes,
+        Some(_) => Role::Control,
     }
 }
 

@@ -1,21 +1,21 @@
 // The next branch line of each line that opens or branches an if-section (6.10.1).
 ghost use Rattle.std.specs.Prelude.{◌≡◌, reverse, IfOk, MatchResult};
-ghost use Rattle.pptext.specs.Roles.{role_meant};
+ghost use Rattle.pptext.specs.Tree.{role_by};
 ghost use Rattle.pptext.specs.Grouping.{step_back, linked};
 
 use crate::directives::{Role, role_of};
-use crate::sources::{Line, SourceFault};
+use crate::sources::{Directive, Line, SourceFault};
 use std::alloc::{AllocFailed, Global};
 
-/// Goes back over the line at this index: its next branch line. The stack has that of each section that is open, the innermost on top.
+/// Goes back over the line of this directive at this index: its next branch line. The stack has that of each section that is open, the innermost on top.
 fn step_back(
     behind: &mut Vec<usize>,
     at: usize,
-    role: Role,
+    directive: Option<Directive>,
 ) -> Result<Option<usize>, AllocFailed<usize>>
-    ensures { IfOk result (λ next. (next, reverse behind.new.items) ≡ step_back at (role_meant role) (reverse behind.old.items)) }
+    ensures { IfOk result (λ next. (next, reverse behind.new.items) ≡ step_back at (role_by directive) (reverse behind.old.items)) }
 {
-    match role {
+    match role_of(directive) {
         Role::Opens => Ok(behind.pop()),
         Role::Elses(_) => {
             let next = behind.pop();
@@ -36,7 +36,7 @@ fn link_branches(alloc: Global, lines: &mut [Line]) -> Result<(), SourceFault>
 {
     let mut behind = Vec::new(alloc);
     for at in (0..lines.len()).rev() {
-        let next = step_back(&mut behind, at, role_of(lines[at].directive))?;
+        let next = step_back(&mut behind, at, lines[at].directive)?;
         lines[at].next_branch = next;
     }
     Ok(())

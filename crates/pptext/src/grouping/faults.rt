@@ -5,12 +5,11 @@ ghost use Rattle.pptext.specs.declared.tokens.Token.{Token};
 ghost use Rattle.pptext.specs.Lines.{LogicalLine};
 ghost use Rattle.pptext.specs.Tokens.{fault};
 ghost use Rattle.pptext.specs.Sources.{lines_from};
-ghost use Rattle.pptext.specs.Tree.{opened, fault_at, group_fault};
-ghost use Rattle.pptext.specs.Roles.{role_meant};
+ghost use Rattle.pptext.specs.Tree.{role_by, opened, fault_at, group_fault};
 ghost use Rattle.pptext.specs.Grouping.{AreLines, line_role, IsBranching, sections, Takes};
 
 use crate::directives::{Role, role_of};
-use crate::sources::{Line, SourceFault};
+use crate::sources::{Directive, Line, SourceFault};
 use crate::tokens::{Fault, Token};
 use std::alloc::{AllocError, AllocFailed, Global};
 
@@ -21,16 +20,16 @@ pub(crate) struct Section {
     pub(crate) last: bool,
 }
 
-/// Takes the line at this index in, or answers its fault: 3 outside a section, 4 behind `#else` (6.10.1).
+/// Takes the line of this directive at this index in, or answers its fault: 3 outside a section, 4 behind `#else` (6.10.1).
 fn take_line(
     open_sections: &mut Vec<Section>,
     at: usize,
-    role: Role,
+    directive: Option<Directive>,
 ) -> Result<Option<u8>, AllocFailed<Section>>
     requires { at < 2 ^ 32 }
-    ensures { IfOk result (λ n. Takes (opened (role_meant role) at (sections open_sections.old.items)) n (sections open_sections.new.items)) }
+    ensures { IfOk result (λ n. Takes (opened (role_by directive) at (sections open_sections.old.items)) n (sections open_sections.new.items)) }
 {
-    match role {
+    match role_of(directive) {
         Role::Opens => {
             open_sections.push(Section {
                 opening: at as u32,
@@ -91,7 +90,7 @@ pub(super) fn first_fault(
     let most = lines.len().min(tokens.len() / 2);
     let mut open_sections = Vec::with_capacity(alloc, most)?;
     for (at, line) in lines.iter().enumerate() {
-        if let Some(number) = take_line(&mut open_sections, at, role_of(line.directive))? {
+        if let Some(number) = take_line(&mut open_sections, at, line.directive)? {
             return Ok(Some(fault_at(number, tokens, lines, at)?));
         }
     }

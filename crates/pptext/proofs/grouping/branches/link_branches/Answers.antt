@@ -1,6 +1,4 @@
-use Rattle.std.proofs.Common.{◌≡◌, ◌+◌, ◌-◌, ℕ, length, reverse, subst, ap, ◌∙◌, arith}
-use Rattle.pptext.specs.Tree.{Role}
-use Rattle.pptext.specs.Grouping.{step_back}
+use Rattle.std.proofs.Common.{◌≡◌, ◌+◌, ◌-◌, ℕ, length, reverse, subst, arith}
 use Rattle.pptext.proofs.Spans.{no_line}
 use Rattle.pptext.proofs.Branches.{LinkedFrom, linked_start, linked_step, linked_all}
 use Rattle.pptext.proofs.grouping.branches.link_branches.Goals as goal
@@ -14,7 +12,7 @@ loop-at-preserved c =
     let sofar = subst (λ (z : ℕ). LinkedFrom c.args.lines.now z c.loop-at.lines (reverse c.loop-at.behind.items)) at c.loop-at.invariant in
     linked_step c.args.lines.now c.loop-at.lines (reverse c.loop-at.behind.items) (reverse c.step_back.new.behind.items) (c.loop-at.at - 1) no_line
     c.in_ok-next.next (omega (arith, c.loop-at-test.true)) sofar
-    (c.in_ok-next.ensures ∙ ap (λ (z : Role). step_back (c.loop-at.at - 1) z (reverse c.loop-at.behind.items)) c.role_of.ensures)
+    c.in_ok-next.ensures
 
 pub returns : goal.returns
 returns c = linked_all c.args.lines.now c.loop-at.lines (reverse c.loop-at.behind.items) c.loop-at.at c.loop-at-test.false c.loop-at.invariant

@@ -2,8 +2,7 @@ use Rattle.std.proofs.Common.{◌≡◌, ◌∙◌, ℕ, Option, None, Some, ap,
 use Rattle.std.proofs.lemmas.List.{nil_from_length}
 use Rattle.pptext.specs.declared.grouping.faults.Section.{Section}
 use Rattle.pptext.specs.Sources.{lines_from}
-use Rattle.pptext.specs.Tree.{Role, opened, fault_at_end, group_fault}
-use Rattle.pptext.specs.Roles.{role_meant}
+use Rattle.pptext.specs.Tree.{opened, fault_at_end, group_fault}
 use Rattle.pptext.specs.Grouping.{line_role, sections, Takes}
 use Rattle.pptext.proofs.Spans.{no_line}
 use Rattle.pptext.proofs.Faults.{FaultsSoFar, blank_line, faults_start, faults_step, fault_here, open_lines, sections_more, fault_at_last, fault_last, opens_branching}
@@ -18,8 +17,7 @@ returns-in-Some c =
     let before = sections c.loop-at.open_sections.items in
     let after = sections c.take_line.new.open_sections.items in
     let step : (opened role c.loop-at.at before).0 ≡ Some c.in-Some.number =
-    ap (λ (z : Role). (opened z c.loop-at.at before).0) (sym c.role_of.ensures)
-    ∙ subst (λ (z : Option ℕ). Takes (opened (role_meant c.role_of.result) c.loop-at.at before) z after) c.in-Some.is c.in_ok-number.ensures in
+    subst (λ (z : Option ℕ). Takes (opened role c.loop-at.at before) z after) c.in-Some.is c.in_ok-number.ensures in
     ap Some (c.in_ok-fault_at.ensures blank_line) ∙ fault_here c.args.tokens.now c.args.lines.now c.requires.are_lines c.loop-at.at c.in-Some.number before no_line c.loop-at-test.true c.loop-at.invariant step
 
 pub loop-at-preserved : goal.loop-at-preserved
@@ -28,8 +26,7 @@ loop-at-preserved c =
     let before = sections c.loop-at.open_sections.items in
     let after = sections c.take_line.new.open_sections.items in
     let step : opened role c.loop-at.at before ≡ (None, after) =
-    ap (λ (z : Role). opened z c.loop-at.at before) (sym c.role_of.ensures)
-    ∙ subst (λ (z : Option ℕ). Takes (opened (role_meant c.role_of.result) c.loop-at.at before) z after) c.in_default.is c.in_ok-number.ensures in
+    subst (λ (z : Option ℕ). Takes (opened role c.loop-at.at before) z after) c.in_default.is c.in_ok-number.ensures in
     faults_step c.args.tokens.now c.args.lines.now c.requires.are_lines c.loop-at.at before after no_line c.loop-at-test.true c.loop-at.invariant step
 
 pub returns-in-None : goal.returns-in-None
