@@ -1,22 +1,14 @@
--- Which part of a replacement list, in the definitions, a part of the code is; and what comes of what was read of a list or a heading, with what
--- stands behind it. Only the contracts of private functions cite this.
+-- What comes of what was read of a replacement list or a heading, with what stands behind it. Only the contracts of private functions cite this.
 use Rattle.std.specs.Prelude.{Bool, true, false, ◌||◌, List, [], ◌∷◌, ◌++◌, Option, Some, None}
 use Rattle.pptext.specs.declared.tokens.Token.{Token}
 use Rattle.ppmacro.specs.Names.{Name}
-use Rattle.ppmacro.specs.Chains as definitions
-use Rattle.ppmacro.specs.Chains.{hash_sign, items_behind, begins_joined, grouped}
+use Rattle.ppmacro.specs.Chains.{Item, hash_sign, items_behind, begins_joined, grouped}
 use Rattle.ppmacro.specs.Headings.{Heading}
 use Rattle.ppmacro.specs.declared.macros.Shape.{Shape}
 use Rattle.ppmacro.specs.declared.macros.Chain.{Chain}
-use Rattle.ppmacro.specs.declared.chains.Item.{Item}
-use Rattle.ppmacro.specs.declared.chains.Item.TheVariants.{Operates, Joins}
-
-abbrev pub meant : Item → definitions.Item
-meant (Operates mark operand) = definitions.Operates mark operand
-meant Joins = definitions.Joins
 
 -- the items where this one is the next, or none at a `#`
-abbrev pub led_by : Shape → Token → Option definitions.Item → List Token → List definitions.Item
+abbrev pub led_by : Shape → Token → Option Item → List Token → List Item
 led_by shape t (Some item) ts = item ∷ items_behind shape None ts
 led_by shape t None ts = items_behind shape (Some (hash_sign t)) ts
 
@@ -33,7 +25,7 @@ followed true (c ∷ []) ds = joined_to c ds
 followed true (c ∷ (b ∷ cs)) ds = c ∷ followed true (b ∷ cs) ds
 
 -- the chains so far, and what these items add to them; `joined`: `##` stands directly before
-abbrev pub resumed : Bool → List Chain → List definitions.Item → List Chain
+abbrev pub resumed : Bool → List Chain → List Item → List Chain
 resumed joined cs is = followed (joined || begins_joined is) cs (grouped is)
 
 -- these names before the others

@@ -14,7 +14,6 @@ pub mod Items
 pub mod HideSets
 pub mod Define
 pub mod Headings
-pub mod Refusals
 pub mod Predefined
 pub mod Plain
 pub mod Lexing

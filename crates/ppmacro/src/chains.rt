@@ -4,7 +4,7 @@ ghost use Rattle.std.specs.Str.{bytes_eq};
 ghost use Rattle.std.specs.Option.{option_map};
 ghost use Rattle.ppmacro.specs.Chains as definitions;
 ghost use Rattle.ppmacro.specs.Chains.{names_in, or_at, parameter_named, parameter_of, is_function_like, is_operator_hash, plain_item, stringized_item, items_behind, grouped, chains_of};
-ghost use Rattle.ppmacro.specs.Items.{meant, led_by, resumed};
+ghost use Rattle.ppmacro.specs.Items.{led_by, resumed};
 ghost use Rattle.pptext.specs.declared.tokens.Token.{Token};
 
 use crate::borrowed::Leaf;
@@ -172,32 +172,38 @@ pub(crate) fn is_operator_hash(shape: &Parameters, token: &Token) -> bool
     is_function_like(shape.shape) && is_hash(token)
 }
 
-// A token as an operand.
-fn plain_item<'a>(shape: &Parameters, token: &'a Token) -> Item<'a>
-    ensures { meant result ≡ plain_item (parameter_of shape.now token.now) token.now }
+// A token as an operand, behind its mark.
+fn plain_operand<'a>(shape: &Parameters, token: &'a Token) -> (bool, Operand<'a>)
+    ensures { definitions.Operates result.0 result.1 ≡ plain_item (parameter_of shape.now token.now) token.now }
 {
     let Some(index) = parameter_of(shape, token) else {
-        return Item::Operates(token.space, Operand::Tok(Leaf::new(token)));
+        return (token.space, Operand::Tok(Leaf::new(token)));
     };
-    Item::Operates(token.space, Operand::Param(index))
+    (token.space, Operand::Param(index))
 }
 
-// A token behind `#` as an operand.
-fn stringized_item<'a>(shape: &Parameters, hash: HashSign, token: &'a Token) -> Item<'a>
-    ensures { meant result ≡ stringized_item (parameter_of shape.now token.now) hash token.now }
+// A token behind `#` as an operand, behind its mark.
+fn stringized_operand<'a>(
+    shape: &Parameters,
+    hash: HashSign,
+    token: &'a Token,
+) -> (bool, Operand<'a>)
+    ensures { definitions.Operates result.0 result.1 ≡ stringized_item (parameter_of shape.now token.now) hash token.now }
 {
     let Some(index) = parameter_of(shape, token) else {
-        return Item::Operates(token.space, Operand::Tok(Leaf::new(token)));
+        return (token.space, Operand::Tok(Leaf::new(token)));
     };
-    Item::Operates(hash.mark, Operand::Str(index, hash.at))
+    (hash.mark, Operand::Str(index, hash.at))
 }
 
 // The next part, or none at a `#`, which goes with the token behind it.
 fn next_item<'a>(shape: &Parameters, hash: Option<HashSign>, token: &'a Token) -> Option<Item<'a>>
-    ensures { (ts : List Token) → items_behind shape.now hash (token.now ∷ ts) ≡ led_by shape.now token.now (option_map meant result) ts }
+    ensures { (ts : List Token) → items_behind shape.now hash (token.now ∷ ts) ≡ led_by shape.now token.now
+        (option_map (elim [ Item.Operates mark operand ↦ definitions.Operates mark operand | Item.Joins ↦ definitions.Joins ]) result) ts }
 {
     if let Some(sign) = hash {
-        return Some(stringized_item(shape, sign, token));
+        let (mark, operand) = stringized_operand(shape, sign, token);
+        return Some(Item::Operates(mark, operand));
     }
     if is_paste(token) {
         return Some(Item::Joins);
@@ -205,7 +211,8 @@ fn next_item<'a>(shape: &Parameters, hash: Option<HashSign>, token: &'a Token) -
     if is_operator_hash(shape, token) {
         return None;
     }
-    Some(plain_item(shape, token))
+    let (mark, operand) = plain_operand(shape, token);
+    Some(Item::Operates(mark, operand))
 }
 
 // Puts a chain of one operand behind the others.

@@ -3,8 +3,7 @@ ghost use Rattle.std.specs.Prelude.{◌≡◌, IfOk, ◌∷◌, IfSome, OnOk, On
 ghost use Rattle.std.specs.FinMap as finite_map;
 ghost use Rattle.ppmacro.specs.declared.macros.Shape.TheVariants.{ObjectLike};
 ghost use Rattle.std.specs.Option.{option_map};
-ghost use Rattle.ppmacro.specs.Refusals.{meant, result_meant};
-ghost use Rattle.ppmacro.specs.Define.{parameter_list, read_definition, function_like, is_variadic, refusal_of, fitting, number_of, under_name, judged, after_define, undefined, after_undef, Leaves};
+ghost use Rattle.ppmacro.specs.Define.{parameter_list, read_definition, function_like, is_variadic, refusal_of, fitting, number_of, numbered, under_name, judged, after_define, undefined, after_undef, Leaves};
 ghost use Rattle.ppmacro.specs.Plain.{is_plain};
 ghost use Rattle.pptext.specs.declared.tokens.Place.{Place};
 
@@ -23,32 +22,18 @@ use pptext::{Fault, Hashing, Memory, Place, Token};
 use std::alloc::{AllocError, Global};
 use std::marker::Model;
 
-/// Why a definition is refused, once its name is allowed.
-#[derive(Clone, Copy)]
-pub(crate) enum Refusal {
-    ParameterList,
-    Spacing,
-    Pasting,
-    Stringizing,
-    VariableArguments,
-    Redefinition,
-}
+// Why a definition is refused, once its name is allowed: the faults' numbers.
+const PARAMETER_LIST: u8 = 11;
 
-impl Refusal {
-    // The fault's number.
-    fn number(self) -> u8
-        ensures { result ≡ number_of (meant self) }
-    {
-        match self {
-            Refusal::ParameterList => 11,
-            Refusal::Spacing => 12,
-            Refusal::Pasting => 13,
-            Refusal::Stringizing => 14,
-            Refusal::VariableArguments => 15,
-            Refusal::Redefinition => 16,
-        }
-    }
-}
+const SPACING: u8 = 12;
+
+const PASTING: u8 = 13;
+
+const STRINGIZING: u8 = 14;
+
+const VARIABLE_ARGUMENTS: u8 = 15;
+
+const REDEFINITION: u8 = 16;
 
 /// A definition with the macro's name.
 #[derive(Drop)]
@@ -70,17 +55,17 @@ fn function_like<'a>(
     alloc: Global,
     line: &'a [Token],
     hashing: Hashing,
-) -> Result<Result<Definition<'a>, Refusal>, AllocError>
-    ensures { IfOk result (λ r. result_meant r ≡ function_like (parameter_list line.now)) }
+) -> Result<Result<Definition<'a>, u8>, AllocError>
+    ensures { IfOk result (λ r. r ≡ numbered (function_like (parameter_list line.now))) }
 {
     let Some(heading) = read_heading(alloc, line)? else {
-        return Ok(Err(Refusal::ParameterList));
+        return Ok(Err(PARAMETER_LIST));
     };
     if repeats(alloc, heading.names.as_slice(), hashing)? {
-        return Ok(Err(Refusal::ParameterList));
+        return Ok(Err(PARAMETER_LIST));
     }
     if has_variable_arguments(heading.names.as_slice()) {
-        return Ok(Err(Refusal::VariableArguments));
+        return Ok(Err(VARIABLE_ARGUMENTS));
     }
     Ok(Ok(Definition {
         shape: Shape::FunctionLike {
@@ -106,8 +91,8 @@ fn read_definition<'a>(
     alloc: Global,
     line: &'a [Token],
     hashing: Hashing,
-) -> Result<Result<Definition<'a>, Refusal>, AllocError>
-    ensures { IfOk result (λ r. result_meant r ≡ read_definition line.now) }
+) -> Result<Result<Definition<'a>, u8>, AllocError>
+    ensures { IfOk result (λ r. r ≡ numbered (read_definition line.now)) }
 {
     let Some(first) = line.first() else {
         return Ok(Ok(object_like(line)));
@@ -116,33 +101,33 @@ fn read_definition<'a>(
         return Ok(Ok(object_like(line)));
     }
     if !first.is_punct(b"(") {
-        return Ok(Err(Refusal::Spacing));
+        return Ok(Err(SPACING));
     }
     function_like(alloc, &line[1..], hashing)
 }
 
-// Why a definition is refused, if it is.
+// The number of the fault that a definition is refused with, if it is.
 fn refusal_of(
     alloc: Global,
     table: &Table,
     name: &[u8],
     definition: &Definition,
-) -> Result<Option<Refusal>, AllocError>
-    ensures { IfOk result (λ r. option_map meant r ≡ refusal_of table.now name.now definition.now) }
+) -> Result<Option<u8>, AllocError>
+    ensures { IfOk result (λ r. r ≡ option_map number_of (refusal_of table.now name.now definition.now)) }
 {
     let shape = &definition.shape;
     let body = definition.body.as_slice();
     if !is_variadic(shape) && says_variable_arguments(body) {
-        return Ok(Some(Refusal::VariableArguments));
+        return Ok(Some(VARIABLE_ARGUMENTS));
     }
     if misplaces_paste(body) {
-        return Ok(Some(Refusal::Pasting));
+        return Ok(Some(PASTING));
     }
     if is_function_like(shape) && misplaces_hash(alloc, shape, body, table.hashing())? {
-        return Ok(Some(Refusal::Stringizing));
+        return Ok(Some(STRINGIZING));
     }
     if clashes(table, name, definition) {
-        return Ok(Some(Refusal::Redefinition));
+        return Ok(Some(REDEFINITION));
     }
     Ok(None)
 }
@@ -163,8 +148,8 @@ fn fitting<'a>(
     table: &Table,
     name: &[u8],
     line: &'a [Token],
-) -> Result<Result<Definition<'a>, Refusal>, AllocError>
-    ensures { IfOk result (λ r. result_meant r ≡ fitting table.now name.now (read_definition line.now)) }
+) -> Result<Result<Definition<'a>, u8>, AllocError>
+    ensures { IfOk result (λ r. r ≡ numbered (fitting table.now name.now (read_definition line.now))) }
 {
     let definition = match read_definition(alloc, line, table.hashing())? {
         Ok(definition) => definition,
@@ -181,16 +166,16 @@ fn under_name<'a>(
     alloc: Global,
     at: Place,
     name: &'a Token,
-    fitting: Result<Definition<'a>, Refusal>,
+    fitting: Result<Definition<'a>, u8>,
 ) -> Result<Result<Named<'a>, Fault>, AllocError>
-    ensures { IfOk result (λ r. r ≡ under_name at name.now.text (result_meant fitting.entry)) }
+    ensures { IfOk result (λ r. r ≡ under_name at name.now.text fitting.entry) }
 {
     match fitting {
         Ok(definition) => Ok(Ok(Named {
             name: Text::of(name),
             definition,
         })),
-        Err(refusal) => Ok(Err(Fault::new(alloc, refusal.number(), at, name.text.as_bytes())?)),
+        Err(number) => Ok(Err(Fault::new(alloc, number, at, name.text.as_bytes())?)),
     }
 }
 
