@@ -18,23 +18,14 @@ use Rattle.ppmacro.specs.declared.flying.Expansion.TheVariants.{Unused, AsGiven,
 use Rattle.ppexpand.specs.declared.env.Env.{Env}
 use Rattle.ppexpand.specs.declared.arguments.Gathered as gathered
 use Rattle.ppexpand.specs.declared.arguments.Gathered.TheVariants as found
-use Rattle.ppexpand.specs.declared.spellings.Mark as mark
-use Rattle.ppexpand.specs.declared.spellings.Mark.TheVariants as told
 use Rattle.ppexpand.specs.declared.turn.Invocation.{Invocation}
 use Rattle.ppexpand.specs.declared.turn.Next.{Next}
 use Rattle.ppexpand.specs.declared.turn.Next.TheVariants as next
-use Rattle.ppexpand.specs.Arguments.{Mark, Quote, Open, Close, Comma, Inner, Gathered, Closed, Quoted, Unclosed}
+use Rattle.ppexpand.specs.Arguments.{Gathered, Closed, Quoted, Unclosed}
 use Rattle.ppexpand.specs.Turn.{Call, Turn, Done, Refused, Passes, Failed, Replaced, Called, less_one, wanted, finished}
 use Rattle.ppexpand.specs.Expansion.{Outcome, turn_within, Expands, ExpandsArguments}
 
 -- ---- arguments
-
-abbrev pub shown_mark : mark.Mark → Mark
-shown_mark told.Quote = Quote
-shown_mark told.Open = Open
-shown_mark told.Close = Close
-shown_mark told.Comma = Comma
-shown_mark told.Inner = Inner
 
 abbrev pub given_in : Numbered → List (Vec Hidden Global) → List (List Hiding)
 given_in sets given = map (hidings sets) (lists_of given)

@@ -1,11 +1,10 @@
 // What a token is to macro replacement.
 ghost use Rattle.std.specs.Prelude.{◌≡◌, IfOk, []};
 ghost use Rattle.pptext.specs.Tokens.{is_lone_quote, fault};
-ghost use Rattle.ppexpand.specs.Arguments.{is_open, mark_of};
-ghost use Rattle.ppexpand.specs.Shown.{shown_mark};
+ghost use Rattle.ppexpand.specs.Arguments.{is_open, mark_of, Quote, Open, Close, Comma, Inner};
 
 use ppmacro::Hidden;
-use pptext::{Fault, Kind, Token};
+use pptext::{Fault, Kind};
 use std::alloc::AllocError;
 
 /// Whether a token is `(`.
@@ -29,14 +28,9 @@ pub(crate) enum Mark {
 
 /// What a token is to that search.
 pub(crate) fn mark_of(hidden: &Hidden) -> Mark
-    ensures { shown_mark result ≡ mark_of hidden.now.token }
+    ensures { (elim result [ Mark.Quote ↦ Quote | Mark.Open ↦ Open | Mark.Close ↦ Close | Mark.Comma ↦ Comma | Mark.Inner ↦ Inner ]) ≡ mark_of hidden.now.token }
 {
-    mark_of_word(hidden.word())
-}
-
-fn mark_of_word(token: &Token) -> Mark
-    ensures { shown_mark result ≡ mark_of token.now }
-{
+    let token = hidden.word();
     let Kind::Punct = token.kind else {
         return if token.is_lone_quote() {
             Mark::Quote

@@ -5,7 +5,7 @@ use Rattle.ppexpr.specs.Operators as to_operator
 use Rattle.ppexpr.specs.Operations as to
 use Rattle.ppexpr.specs.Outcomes as outcome
 use Rattle.ppexpr.specs.Symbols as symbol
-use Rattle.ppexpr.specs.Values as both
+use Rattle.ppexpr.specs.Values.{Answer}
 use Rattle.ppexpr.specs.declared.symbols.Value.{Value}
 use Rattle.ppexpr.specs.declared.symbols.Value.TheVariants.{Signed, Unsigned}
 use Rattle.ppexpr.specs.declared.symbols.Operator.{Operator}
@@ -19,8 +19,6 @@ use Rattle.ppexpr.specs.declared.symbols.Symbol.TheVariants.{Constant, Operator 
 use Rattle.ppexpr.specs.declared.symbols.Failure.{Failure}
 use Rattle.ppexpr.specs.declared.symbols.Failure.TheVariants.{ZeroDivisor, Overflow, Shift}
 use Rattle.ppexpr.specs.declared.symbols.Outcome.{Outcome}
-use Rattle.ppexpr.specs.declared.values.Operands.{Operands}
-use Rattle.ppexpr.specs.declared.values.Operands.TheVariants.{BothSigned, BothUnsigned}
 
 -- ---- operators
 
@@ -78,16 +76,12 @@ abbrev pub value_meant : Value → outcome.Value
 value_meant (Signed z) = outcome.Signed z
 value_meant (Unsigned n) = outcome.Unsigned n
 
-abbrev pub operands_meant : Operands → both.Operands
-operands_meant (BothSigned a b) = both.BothSigned a b
-operands_meant (BothUnsigned a b) = both.BothUnsigned a b
-
 abbrev pub failure_meant : Failure → outcome.Failure
 failure_meant (ZeroDivisor o) = outcome.ZeroDivisor (operator_meant o)
 failure_meant (Overflow o) = outcome.Overflow (operator_meant o)
 failure_meant (Shift o) = outcome.Shift (operator_meant o)
 
-abbrev pub answer_meant : Result Value Failure → both.Answer
+abbrev pub answer_meant : Result Value Failure → Answer
 answer_meant (Ok v) = Ok (value_meant v)
 answer_meant (Err f) = Err (failure_meant f)
 

@@ -5,15 +5,15 @@ ghost use Rattle.std.specs.Int.{w64, int_bit_and, int_bit_or, int_bit_xor};
 ghost use Rattle.std.specs.Ordering.{int_eq};
 ghost use Rattle.std.specs.Option.{SomeIff};
 ghost use Rattle.ppexpr.specs.Operators.{Star, Slash, Percent, Plus, Minus, ShiftLeft, ShiftRight};
-ghost use Rattle.ppexpr.specs.Meant.{value_meant, operator_meant, unary_meant, binary_meant, answer_meant, operands_meant};
-ghost use Rattle.ppexpr.specs.Values.{is_zero, as_unsigned, truth, is_amount, whole, signed, negative, complement, unary_value, converted};
+ghost use Rattle.ppexpr.specs.Meant.{value_meant, operator_meant, unary_meant, binary_meant, answer_meant};
+ghost use Rattle.ppexpr.specs.Values.{is_zero, as_unsigned, truth, is_amount, whole, signed, negative, complement, unary_value, converted, BothSigned, BothUnsigned};
 ghost use Rattle.ppexpr.specs.Values.{arithmetic, division, comparison, bitwise, shift, left_shift, right_shift, binary_value};
 
 use crate::symbols::{Binary, Failure, Operator, Unary, Value};
 
 /// Two operands of one type.
 #[derive(Clone, Copy)]
-pub(crate) enum Operands {
+enum Operands {
     BothSigned(i64, i64),
     BothUnsigned(u64, u64),
 }
@@ -91,7 +91,7 @@ pub(crate) fn unary_value(operator: Unary, value: Value) -> Result<Value, Failur
 
 // The usual conversions (6.3.1.8).
 fn converted(left: Value, right: Value) -> Operands
-    ensures { operands_meant result ≡ converted (value_meant left) (value_meant right) }
+    ensures { (elim result [ Operands.BothSigned a b ↦ BothSigned a b | Operands.BothUnsigned a b ↦ BothUnsigned a b ]) ≡ converted (value_meant left) (value_meant right) }
 {
     if let Value::Signed(a) = left {
         if let Value::Signed(b) = right {
@@ -102,40 +102,40 @@ fn converted(left: Value, right: Value) -> Operands
 }
 
 // 6.5.5p3
-fn product(operands: Operands) -> Result<Value, Failure>
-    ensures { answer_meant result ≡ arithmetic Star (λ a b. a *ℤ b) (operands_meant operands) }
+fn product(left: Value, right: Value) -> Result<Value, Failure>
+    ensures { answer_meant result ≡ arithmetic Star (λ a b. a *ℤ b) (converted (value_meant left) (value_meant right)) }
 {
-    match operands {
+    match converted(left, right) {
         Operands::BothSigned(a, b) => signed(Operator::Star, a.checked_mul(b)),
         Operands::BothUnsigned(a, b) => Ok(Value::Unsigned(a.wrapping_mul(b))),
     }
 }
 
 // 6.5.6p5
-fn sum(operands: Operands) -> Result<Value, Failure>
-    ensures { answer_meant result ≡ arithmetic Plus (λ a b. a +ℤ b) (operands_meant operands) }
+fn sum(left: Value, right: Value) -> Result<Value, Failure>
+    ensures { answer_meant result ≡ arithmetic Plus (λ a b. a +ℤ b) (converted (value_meant left) (value_meant right)) }
 {
-    match operands {
+    match converted(left, right) {
         Operands::BothSigned(a, b) => signed(Operator::Plus, a.checked_add(b)),
         Operands::BothUnsigned(a, b) => Ok(Value::Unsigned(a.wrapping_add(b))),
     }
 }
 
 // 6.5.6p6
-fn difference(operands: Operands) -> Result<Value, Failure>
-    ensures { answer_meant result ≡ arithmetic Minus (λ a b. a -ℤ b) (operands_meant operands) }
+fn difference(left: Value, right: Value) -> Result<Value, Failure>
+    ensures { answer_meant result ≡ arithmetic Minus (λ a b. a -ℤ b) (converted (value_meant left) (value_meant right)) }
 {
-    match operands {
+    match converted(left, right) {
         Operands::BothSigned(a, b) => signed(Operator::Minus, a.checked_sub(b)),
         Operands::BothUnsigned(a, b) => Ok(Value::Unsigned(a.wrapping_sub(b))),
     }
 }
 
 // 6.5.5p5
-fn quotient(operands: Operands) -> Result<Value, Failure>
-    ensures { answer_meant result ≡ division Slash int_div (operands_meant operands) }
+fn quotient(left: Value, right: Value) -> Result<Value, Failure>
+    ensures { answer_meant result ≡ division Slash int_div (converted (value_meant left) (value_meant right)) }
 {
-    match operands {
+    match converted(left, right) {
         Operands::BothSigned(_, 0) | Operands::BothUnsigned(_, 0) => {
             Err(Failure::ZeroDivisor(Operator::Slash))
         }
@@ -148,10 +148,10 @@ fn quotient(operands: Operands) -> Result<Value, Failure>
 }
 
 // 6.5.5p5, p6
-fn remainder(operands: Operands) -> Result<Value, Failure>
-    ensures { answer_meant result ≡ division Percent int_rem (operands_meant operands) }
+fn remainder(left: Value, right: Value) -> Result<Value, Failure>
+    ensures { answer_meant result ≡ division Percent int_rem (converted (value_meant left) (value_meant right)) }
 {
-    match operands {
+    match converted(left, right) {
         Operands::BothSigned(_, 0) | Operands::BothUnsigned(_, 0) => {
             Err(Failure::ZeroDivisor(Operator::Percent))
         }
@@ -164,90 +164,90 @@ fn remainder(operands: Operands) -> Result<Value, Failure>
 }
 
 // 6.5.8p6
-fn less(operands: Operands) -> Value
-    ensures { Ok (value_meant result) ≡ comparison int_lt (operands_meant operands) }
+fn less(left: Value, right: Value) -> Value
+    ensures { Ok (value_meant result) ≡ comparison int_lt (converted (value_meant left) (value_meant right)) }
 {
-    Value::truth(match operands {
+    Value::truth(match converted(left, right) {
         Operands::BothSigned(a, b) => a < b,
         Operands::BothUnsigned(a, b) => a < b,
     })
 }
 
 // 6.5.8p6
-fn less_or_equal(operands: Operands) -> Value
-    ensures { Ok (value_meant result) ≡ comparison int_le (operands_meant operands) }
+fn less_or_equal(left: Value, right: Value) -> Value
+    ensures { Ok (value_meant result) ≡ comparison int_le (converted (value_meant left) (value_meant right)) }
 {
-    Value::truth(match operands {
+    Value::truth(match converted(left, right) {
         Operands::BothSigned(a, b) => a <= b,
         Operands::BothUnsigned(a, b) => a <= b,
     })
 }
 
 // 6.5.8p6
-fn greater(operands: Operands) -> Value
-    ensures { Ok (value_meant result) ≡ comparison (λ a b. int_lt b a) (operands_meant operands) }
+fn greater(left: Value, right: Value) -> Value
+    ensures { Ok (value_meant result) ≡ comparison (λ a b. int_lt b a) (converted (value_meant left) (value_meant right)) }
 {
-    Value::truth(match operands {
+    Value::truth(match converted(left, right) {
         Operands::BothSigned(a, b) => a > b,
         Operands::BothUnsigned(a, b) => a > b,
     })
 }
 
 // 6.5.8p6
-fn greater_or_equal(operands: Operands) -> Value
-    ensures { Ok (value_meant result) ≡ comparison (λ a b. int_le b a) (operands_meant operands) }
+fn greater_or_equal(left: Value, right: Value) -> Value
+    ensures { Ok (value_meant result) ≡ comparison (λ a b. int_le b a) (converted (value_meant left) (value_meant right)) }
 {
-    Value::truth(match operands {
+    Value::truth(match converted(left, right) {
         Operands::BothSigned(a, b) => a >= b,
         Operands::BothUnsigned(a, b) => a >= b,
     })
 }
 
 // 6.5.9p3
-fn equal(operands: Operands) -> Value
-    ensures { Ok (value_meant result) ≡ comparison int_eq (operands_meant operands) }
+fn equal(left: Value, right: Value) -> Value
+    ensures { Ok (value_meant result) ≡ comparison int_eq (converted (value_meant left) (value_meant right)) }
 {
-    Value::truth(match operands {
+    Value::truth(match converted(left, right) {
         Operands::BothSigned(a, b) => a == b,
         Operands::BothUnsigned(a, b) => a == b,
     })
 }
 
 // 6.5.9p3
-fn not_equal(operands: Operands) -> Value
-    ensures { Ok (value_meant result) ≡ comparison (λ a b. not (int_eq a b)) (operands_meant operands) }
+fn not_equal(left: Value, right: Value) -> Value
+    ensures { Ok (value_meant result) ≡ comparison (λ a b. not (int_eq a b)) (converted (value_meant left) (value_meant right)) }
 {
-    Value::truth(match operands {
+    Value::truth(match converted(left, right) {
         Operands::BothSigned(a, b) => a != b,
         Operands::BothUnsigned(a, b) => a != b,
     })
 }
 
 // 6.5.10p4
-fn bit_and(operands: Operands) -> Value
-    ensures { Ok (value_meant result) ≡ bitwise (int_bit_and w64) bit_and (operands_meant operands) }
+fn bit_and(left: Value, right: Value) -> Value
+    ensures { Ok (value_meant result) ≡ bitwise (int_bit_and w64) bit_and (converted (value_meant left) (value_meant right)) }
 {
-    match operands {
+    match converted(left, right) {
         Operands::BothSigned(a, b) => Value::Signed(a & b),
         Operands::BothUnsigned(a, b) => Value::Unsigned(a & b),
     }
 }
 
 // 6.5.11p4
-fn bit_xor(operands: Operands) -> Value
-    ensures { Ok (value_meant result) ≡ bitwise (int_bit_xor w64) bit_xor (operands_meant operands) }
+fn bit_xor(left: Value, right: Value) -> Value
+    ensures { Ok (value_meant result) ≡ bitwise (int_bit_xor w64) bit_xor (converted (value_meant left) (value_meant right)) }
 {
-    match operands {
+    match converted(left, right) {
         Operands::BothSigned(a, b) => Value::Signed(a ^ b),
         Operands::BothUnsigned(a, b) => Value::Unsigned(a ^ b),
     }
 }
 
 // 6.5.12p4
-fn bit_or(operands: Operands) -> Value
-    ensures { Ok (value_meant result) ≡ bitwise (int_bit_or w64) bit_or (operands_meant operands) }
+fn bit_or(left: Value, right: Value) -> Value
+    ensures { Ok (value_meant result) ≡ bitwise (int_bit_or w64) bit_or (converted (value_meant left) (value_meant right)) }
 {
-    match operands {
+    match converted(left, right) {
         Operands::BothSigned(a, b) => Value::Signed(a | b),
         Operands::BothUnsigned(a, b) => Value::Unsigned(a | b),
     }
@@ -317,24 +317,23 @@ fn shifted_right(left: Value, right: Value) -> Result<Value, Failure>
 pub(crate) fn binary_value(operator: Binary, left: Value, right: Value) -> Result<Value, Failure>
     ensures { answer_meant result ≡ binary_value (binary_meant operator) (value_meant left) (value_meant right) }
 {
-    let operands = converted(left, right);
     match operator {
-        Binary::Multiply => product(operands),
-        Binary::Divide => quotient(operands),
-        Binary::Remainder => remainder(operands),
-        Binary::Add => sum(operands),
-        Binary::Subtract => difference(operands),
+        Binary::Multiply => product(left, right),
+        Binary::Divide => quotient(left, right),
+        Binary::Remainder => remainder(left, right),
+        Binary::Add => sum(left, right),
+        Binary::Subtract => difference(left, right),
         Binary::ShiftLeft => shifted_left(left, right),
         Binary::ShiftRight => shifted_right(left, right),
-        Binary::Less => Ok(less(operands)),
-        Binary::Greater => Ok(greater(operands)),
-        Binary::LessOrEqual => Ok(less_or_equal(operands)),
-        Binary::GreaterOrEqual => Ok(greater_or_equal(operands)),
-        Binary::Equal => Ok(equal(operands)),
-        Binary::NotEqual => Ok(not_equal(operands)),
-        Binary::BitAnd => Ok(bit_and(operands)),
-        Binary::BitXor => Ok(bit_xor(operands)),
-        Binary::BitOr => Ok(bit_or(operands)),
+        Binary::Less => Ok(less(left, right)),
+        Binary::Greater => Ok(greater(left, right)),
+        Binary::LessOrEqual => Ok(less_or_equal(left, right)),
+        Binary::GreaterOrEqual => Ok(greater_or_equal(left, right)),
+        Binary::Equal => Ok(equal(left, right)),
+        Binary::NotEqual => Ok(not_equal(left, right)),
+        Binary::BitAnd => Ok(bit_and(left, right)),
+        Binary::BitXor => Ok(bit_xor(left, right)),
+        Binary::BitOr => Ok(bit_or(left, right)),
         Binary::And => Ok(Value::truth(!left.is_zero() && !right.is_zero())),
         Binary::Or => Ok(Value::truth(!left.is_zero() || !right.is_zero())),
     }

@@ -1,12 +1,22 @@
 use Rattle.std.proofs.Common.{◌≡◌, suc, ◌≤◌, [], ◌∷◌, length, sym, ap, ◌∙◌, subst, arith, length-append}
 use Rattle.ppmacro.specs.Numbered.{Numbered}
 use Rattle.ppmacro.specs.HideSets.{hiding, hidings, AllKnown}
-use Rattle.ppexpand.specs.Arguments.{gather, with_token, mark_of, Comma}
-use Rattle.ppexpand.specs.Shown.{given_in, shown_mark}
+use Rattle.ppexpand.specs.Arguments.{gather, with_token, mark_of, Mark, Quote, Open, Close, Comma, Inner}
+use Rattle.ppexpand.specs.Shown.{given_in}
+use Rattle.ppexpand.specs.declared.spellings.Mark as code
+use Rattle.ppexpand.specs.declared.spellings.Mark.TheVariants as variant
 use Rattle.ppexpand.proofs.Invocations.{at_inner, at_open, at_close, at_separator, at_comma}
 use Rattle.ppexpand.proofs.Gathering.{resumed, resumed-token, resumed-argument, outermost, hidings-push, given-push, known-push, lists_known-push}
 use Rattle.ppexpand.proofs.arguments.gather.Goals as goal
 use Rattle.ppexpand.proofs.arguments.gather.Goals.{in-Close-2, in-Comma+else-separates, in-Open, in-Inner}
+
+-- which mark of the definitions a mark of the code is
+abbrev shown_mark : code.Mark → Mark
+shown_mark variant.Quote = Quote
+shown_mark variant.Open = Open
+shown_mark variant.Close = Close
+shown_mark variant.Comma = Comma
+shown_mark variant.Inner = Inner
 
 pub returns-in-Close-clause-known : goal.returns-in-Close-clause-known
 returns-in-Close-clause-known c = λ sets known.
