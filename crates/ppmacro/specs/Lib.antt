@@ -21,5 +21,4 @@ pub mod Substitution
 pub mod Substituting
 pub mod Flying
 pub mod Words
-pub mod Holding
 pub mod Laws

@@ -3,8 +3,6 @@ use Rattle.std.specs.Prelude.{ℕ, suc, Bool, List, [], ◌∷◌, if◌then◌e
 use Rattle.std.specs.Ordering.{nat_cmp, eq_by_cmp}
 use Rattle.std.specs.Cmp.Lexicographic.{slice_cmp}
 use Rattle.std.specs.FinSet as set
-use Rattle.ppmacro.specs.declared.hide_sets.names.NameText.{NameText}
-use Rattle.ppmacro.specs.declared.hide_sets.names.NameText.TheVariants.{Kept, Sought}
 use Rattle.ppmacro.specs.declared.hide_sets.nodes.Node.{Node}
 use Rattle.ppmacro.specs.Names.{Name, HideSet}
 use Rattle.ppmacro.specs.Nodes.{member}
@@ -29,8 +27,3 @@ counted f i (x ∷ xs) = f i ∷ counted f (suc i) xs
 -- the sets in the order of their numbers
 abbrev pub hide_sets : List Name → List Node → List HideSet
 hide_sets names ns = counted (hide_set names ns) 0 ns
-
--- the bytes of a name
-abbrev pub name_text : NameText → Name
-name_text (Kept v) = v.items
-name_text (Sought b) = b.now

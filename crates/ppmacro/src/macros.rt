@@ -84,14 +84,13 @@ pub struct Operands<'a> {
 }
 
 impl<'a> Model for Operands<'a> {
-    ghost use Rattle.std.specs.Prelude.{List};
+    ghost use Rattle.std.specs.Prelude.{List, [], ◌∷◌};
     ghost use Rattle.ppmacro.specs.declared.macros.Operand.{Operand};
+    ghost use Rattle.ppmacro.specs.declared.macros.Held.TheVariants.{Lone, Joined};
 
     ghost Value = { List Operand };
 
-    ghost use Rattle.ppmacro.specs.Holding.{held_operands};
-
-    ghost view = { λ s. held_operands s.held };
+    ghost view = { λ s. elim s.held [ Lone o ↦ o ∷ [] | Joined os ↦ os.items ] };
 }
 
 impl<'a> Operands<'a> {

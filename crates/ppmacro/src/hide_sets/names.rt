@@ -29,11 +29,11 @@ pub(crate) struct HiddenName<'n> {
 
 impl<'n> Model for HiddenName<'n> {
     ghost use Rattle.std.specs.Prelude.{List, ℕ};
-    ghost use Rattle.ppmacro.specs.Members.{name_text};
+    ghost use Rattle.ppmacro.specs.declared.hide_sets.names.NameText.TheVariants.{Kept, Sought};
 
     ghost Value = { List ℕ };
 
-    ghost view = { λ n. name_text n.text };
+    ghost view = { λ n. elim n.text [ Kept v ↦ v.items | Sought b ↦ b.now ] };
 }
 
 impl HiddenName<'_> {
