@@ -40,8 +40,6 @@ pub mod Layouts
 pub mod Chained
 -- Chains of a token alone, as they are where no `##` stands.
 pub mod Lonely
--- A definition that was read is refused by a number, or fits.
-pub mod Fitting
 -- A definition in which nothing may be refused enters.
 pub mod Plainly
 -- Chains of an entry alone, as they are where neither `#` nor `##` stands.

@@ -7,7 +7,7 @@ use Rattle.pptext.specs.Tokens.{is_identifier, fault}
 use Rattle.ppmacro.specs.Names.{Name, Macros}
 use Rattle.ppmacro.specs.declared.macros.Definition.{Definition}
 use Rattle.ppmacro.specs.Define.{Named, Refusal, ParameterList, Spacing, Pasting, Stringizing, VariableArguments, Redefinition}
-use Rattle.ppmacro.specs.Define.{is_reserved, read_definition, fitting, number_of, numbered, under_name, judged, entered, after_define, undefined, taken_out, after_undef}
+use Rattle.ppmacro.specs.Define.{is_reserved, read_definition, fitting, number_of, under_name, judged, entered, after_define, undefined, taken_out, after_undef}
 
 -- the fault of a result, if it is one, has at most this number
 abbrev IsUpTo : {A : Type 0} → ℕ → Result A Fault → Type 0
@@ -26,7 +26,7 @@ refusal_up_to Stringizing = omega arith
 refusal_up_to VariableArguments = omega arith
 refusal_up_to Redefinition = omega arith
 
-named_up_to : (at : Place) (name : Name) (d : Result Definition Refusal) → IsUpTo 16 (under_name at name (numbered d))
+named_up_to : (at : Place) (name : Name) (d : Result Definition Refusal) → IsUpTo 16 (under_name at name d)
 named_up_to at name (Ok d) = tt
 named_up_to at name (Err r) = refusal_up_to r
 
@@ -35,7 +35,7 @@ judged_up_to macros at [] = omega arith
 judged_up_to macros at (t ∷ ts) =
     let reserved : Result Named Fault = Err (fault 10 at t.text) in
     let malformed : Result Named Fault = judged macros at [] in
-    let named : Result Named Fault = under_name at t.text (numbered (fitting macros t.text (read_definition ts))) in
+    let named : Result Named Fault = under_name at t.text (fitting macros t.text (read_definition ts)) in
     up_to_either 16 (is_identifier t) (if is_reserved macros t.text then reserved else named) malformed
     (up_to_either 16 (is_reserved macros t.text) reserved named (omega arith) (named_up_to at t.text (fitting macros t.text (read_definition ts)))) (omega arith)
 

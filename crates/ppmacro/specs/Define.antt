@@ -159,13 +159,9 @@ number_of Stringizing = 14
 number_of VariableArguments = 15
 number_of Redefinition = 16
 
-abbrev pub numbered : Result Definition Refusal → Result Definition ℕ
-numbered (Ok d) = Ok d
-numbered (Err r) = Err (number_of r)
-
-abbrev pub under_name : Place → Name → Result Definition ℕ → Result Named Fault
+abbrev pub under_name : Place → Name → Result Definition Refusal → Result Named Fault
 under_name at name (Ok d) = Ok (record { name = name; definition = d })
-under_name at name (Err number) = Err (fault number at name)
+under_name at name (Err r) = Err (fault (number_of r) at name)
 
 -- the macro that a line behind `define` defines; `at` is the place of `#`
 abbrev pub judged : Macros → Place → List Token → Result Named Fault
@@ -173,7 +169,7 @@ judged macros at [] = Err (fault 9 at (codes "define"))
 judged macros at (t ∷ ts) =
     if is_identifier t then (
     if is_reserved macros t.text then Err (fault 10 at t.text) else
-    under_name at t.text (numbered (fitting macros t.text (read_definition ts)))) else Err (fault 9 at (codes "define"))
+    under_name at t.text (fitting macros t.text (read_definition ts))) else Err (fault 9 at (codes "define"))
 
 abbrev pub entered : Macros → Result Named Fault → Result Macros Fault
 entered macros (Ok n) = Ok (table.insert macros n.name n.definition)

@@ -2,8 +2,7 @@
 ghost use Rattle.std.specs.Prelude.{◌≡◌, IfOk, ◌∷◌, IfSome, OnOk, OnErr, Ok};
 ghost use Rattle.std.specs.FinMap as finite_map;
 ghost use Rattle.ppmacro.specs.declared.macros.Shape.TheVariants.{ObjectLike};
-ghost use Rattle.std.specs.Option.{option_map};
-ghost use Rattle.ppmacro.specs.Define.{parameter_list, read_definition, function_like, is_variadic, refusal_of, fitting, number_of, numbered, under_name, judged, after_define, undefined, after_undef, Leaves};
+ghost use Rattle.ppmacro.specs.Define.{parameter_list, read_definition, function_like, is_variadic, refusal_of, fitting, number_of, under_name, judged, after_define, undefined, after_undef, Leaves};
 ghost use Rattle.ppmacro.specs.Plain.{is_plain};
 ghost use Rattle.pptext.specs.declared.tokens.Place.{Place};
 
@@ -22,18 +21,47 @@ use pptext::{Fault, Hashing, Memory, Place, Token};
 use std::alloc::{AllocError, Global};
 use std::marker::Model;
 
-// Why a definition is refused, once its name is allowed: the faults' numbers.
-const PARAMETER_LIST: u8 = 11;
+/// What is wrong with a definition whose name is allowed.
+#[derive(Clone, Copy)]
+enum Wrong {
+    ParameterList,
+    Spacing,
+    Pasting,
+    Stringizing,
+    VariableArguments,
+    Redefinition,
+}
 
-const SPACING: u8 = 12;
+/// Why a definition is refused, once its name is allowed.
+#[derive(Drop)]
+pub(crate) struct Refusal {
+    wrong: Wrong,
+}
 
-const PASTING: u8 = 13;
+impl Model for Refusal {
+    ghost use Rattle.ppmacro.specs.Define as definitions;
+    ghost use Rattle.ppmacro.specs.declared.defining.Wrong.TheVariants.{ParameterList, Spacing, Pasting, Stringizing, VariableArguments, Redefinition};
 
-const STRINGIZING: u8 = 14;
+    ghost Value = { definitions.Refusal };
 
-const VARIABLE_ARGUMENTS: u8 = 15;
+    ghost view = { λ r. elim r.wrong [ ParameterList ↦ definitions.ParameterList | Spacing ↦ definitions.Spacing | Pasting ↦ definitions.Pasting | Stringizing ↦ definitions.Stringizing | VariableArguments ↦ definitions.VariableArguments | Redefinition ↦ definitions.Redefinition ] };
+}
 
-const REDEFINITION: u8 = 16;
+impl Refusal {
+    // The fault's number.
+    fn number(&self) -> u8
+        ensures { result ≡ number_of self.now }
+    {
+        match self.wrong {
+            Wrong::ParameterList => 11,
+            Wrong::Spacing => 12,
+            Wrong::Pasting => 13,
+            Wrong::Stringizing => 14,
+            Wrong::VariableArguments => 15,
+            Wrong::Redefinition => 16,
+        }
+    }
+}
 
 /// A definition with the macro's name.
 #[derive(Drop)]
@@ -55,17 +83,23 @@ fn function_like<'a>(
     alloc: Global,
     line: &'a [Token],
     hashing: Hashing,
-) -> Result<Result<Definition<'a>, u8>, AllocError>
-    ensures { IfOk result (λ r. r ≡ numbered (function_like (parameter_list line.now))) }
+) -> Result<Result<Definition<'a>, Refusal>, AllocError>
+    ensures { IfOk result (λ r. r ≡ function_like (parameter_list line.now)) }
 {
     let Some(heading) = read_heading(alloc, line)? else {
-        return Ok(Err(PARAMETER_LIST));
+        return Ok(Err(Refusal {
+            wrong: Wrong::ParameterList,
+        }));
     };
     if repeats(alloc, heading.names.as_slice(), hashing)? {
-        return Ok(Err(PARAMETER_LIST));
+        return Ok(Err(Refusal {
+            wrong: Wrong::ParameterList,
+        }));
     }
     if has_variable_arguments(heading.names.as_slice()) {
-        return Ok(Err(VARIABLE_ARGUMENTS));
+        return Ok(Err(Refusal {
+            wrong: Wrong::VariableArguments,
+        }));
     }
     Ok(Ok(Definition {
         shape: Shape::FunctionLike {
@@ -91,8 +125,8 @@ fn read_definition<'a>(
     alloc: Global,
     line: &'a [Token],
     hashing: Hashing,
-) -> Result<Result<Definition<'a>, u8>, AllocError>
-    ensures { IfOk result (λ r. r ≡ numbered (read_definition line.now)) }
+) -> Result<Result<Definition<'a>, Refusal>, AllocError>
+    ensures { IfOk result (λ r. r ≡ read_definition line.now) }
 {
     let Some(first) = line.first() else {
         return Ok(Ok(object_like(line)));
@@ -101,33 +135,43 @@ fn read_definition<'a>(
         return Ok(Ok(object_like(line)));
     }
     if !first.is_punct(b"(") {
-        return Ok(Err(SPACING));
+        return Ok(Err(Refusal {
+            wrong: Wrong::Spacing,
+        }));
     }
     function_like(alloc, &line[1..], hashing)
 }
 
-// The number of the fault that a definition is refused with, if it is.
+// Why a definition is refused, if it is.
 fn refusal_of(
     alloc: Global,
     table: &Table,
     name: &[u8],
     definition: &Definition,
-) -> Result<Option<u8>, AllocError>
-    ensures { IfOk result (λ r. r ≡ option_map number_of (refusal_of table.now name.now definition.now)) }
+) -> Result<Option<Refusal>, AllocError>
+    ensures { IfOk result (λ r. r ≡ refusal_of table.now name.now definition.now) }
 {
     let shape = &definition.shape;
     let body = definition.body.as_slice();
     if !is_variadic(shape) && says_variable_arguments(body) {
-        return Ok(Some(VARIABLE_ARGUMENTS));
+        return Ok(Some(Refusal {
+            wrong: Wrong::VariableArguments,
+        }));
     }
     if misplaces_paste(body) {
-        return Ok(Some(PASTING));
+        return Ok(Some(Refusal {
+            wrong: Wrong::Pasting,
+        }));
     }
     if is_function_like(shape) && misplaces_hash(alloc, shape, body, table.hashing())? {
-        return Ok(Some(STRINGIZING));
+        return Ok(Some(Refusal {
+            wrong: Wrong::Stringizing,
+        }));
     }
     if clashes(table, name, definition) {
-        return Ok(Some(REDEFINITION));
+        return Ok(Some(Refusal {
+            wrong: Wrong::Redefinition,
+        }));
     }
     Ok(None)
 }
@@ -148,8 +192,8 @@ fn fitting<'a>(
     table: &Table,
     name: &[u8],
     line: &'a [Token],
-) -> Result<Result<Definition<'a>, u8>, AllocError>
-    ensures { IfOk result (λ r. r ≡ numbered (fitting table.now name.now (read_definition line.now))) }
+) -> Result<Result<Definition<'a>, Refusal>, AllocError>
+    ensures { IfOk result (λ r. r ≡ fitting table.now name.now (read_definition line.now)) }
 {
     let definition = match read_definition(alloc, line, table.hashing())? {
         Ok(definition) => definition,
@@ -166,7 +210,7 @@ fn under_name<'a>(
     alloc: Global,
     at: Place,
     name: &'a Token,
-    fitting: Result<Definition<'a>, u8>,
+    fitting: Result<Definition<'a>, Refusal>,
 ) -> Result<Result<Named<'a>, Fault>, AllocError>
     ensures { IfOk result (λ r. r ≡ under_name at name.now.text fitting.entry) }
 {
@@ -175,7 +219,7 @@ fn under_name<'a>(
             name: Text::of(name),
             definition,
         })),
-        Err(number) => Ok(Err(Fault::new(alloc, number, at, name.text.as_bytes())?)),
+        Err(refusal) => Ok(Err(Fault::new(alloc, refusal.number(), at, name.text.as_bytes())?)),
     }
 }
 
