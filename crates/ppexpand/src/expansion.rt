@@ -1,10 +1,12 @@
 // The expansion of a list.
-ghost use Rattle.std.specs.Prelude.{◌≡◌, ℕ, ◌≤◌, ◌++◌, ◌∷◌, [], List, true, Some, None, Ok, Err, IfOk, OnOk, MatchOption, IfSome};
+ghost use Rattle.std.specs.Prelude.{◌≡◌, ℕ, ◌≤◌, ◌++◌, ◌∷◌, [], List, map, true, Some, None, Ok, Err, IfOk, OnOk, MatchOption, IfSome};
 ghost use Rattle.ppmacro.specs.Chains.{chains_of};
 ghost use Rattle.ppmacro.specs.Patterns.{listed};
 ghost use Rattle.std.specs.Option.{option_copied};
 ghost use Rattle.ppmacro.specs.Substituting.{tokens_of};
 ghost use Rattle.ppmacro.specs.HideSets.{hidings, AllKnown, Keeps};
+ghost use Rattle.ppmacro.specs.Numbered.{Numbered};
+ghost use Rattle.ppmacro.specs.Substitution.{plain};
 ghost use Rattle.pptext.specs.Tokens.{fault as fault_at};
 ghost use Rattle.ppmacro.specs.declared.flying.Hidden.{Hidden};
 ghost use Rattle.ppexpand.specs.Turn.{wanted};
@@ -398,6 +400,38 @@ pub struct Expanded<'a> {
     pub left: Option<u64>,
 }
 
+/// Expands tokens of a file, without names that are hidden at first: what passes is put behind `passed`, and `left` becomes what is left of
+/// the budget. Where a fault ended the list, `fault` becomes that.
+fn expand_tokens<'x, 'a: 'x>(
+    alloc: Global,
+    table: &Table<'a>,
+    env: &Env,
+    left: &mut Option<u64>,
+    tokens: &'x [Token],
+    passed: &mut Passed<'x>,
+    fault: &mut Option<Fault>,
+) -> Result<(), Memory>
+    requires none { passed.old ≡ [] }
+    requires no_fault { fault.old ≡ None }
+    ensures { OnOk result ((sets : Numbered) × ExpandsTo table.now env.now 0 left.old (map plain tokens.now)
+        (record { tokens = hidings sets passed.new; fault = fault.new; left = left.new })) }
+{
+    let mut sets = HideSets::with_hasher(alloc, table.hashing())?;
+    let mut supply = Supply::new(alloc);
+    let mut list = Cursor::over(alloc, Stretch::new(tokens, sets.empty()));
+    expand_list(
+        &mut supply,
+        table,
+        env,
+        0,
+        left,
+        &mut sets,
+        &mut list,
+        passed,
+        fault,
+    )
+}
+
 /// Expands a list of tokens of which the first are known to pass.
 #[inline(never)]
 fn expand_rest<'x, 'a: 'x>(
@@ -411,23 +445,10 @@ fn expand_rest<'x, 'a: 'x>(
     requires plain { AllByRecursion (λ t. is_plain table.now t ≡ true) front.now }
     ensures { IfOk result (λ e. IsExpansion table.now env.now left (front.now ++ rest.now) e) }
 {
-    let mut sets = HideSets::with_hasher(alloc, table.hashing())?;
-    let mut list = Cursor::over(alloc, Stretch::new(rest, sets.empty()));
-    let mut supply = Supply::new(alloc);
     let mut passed = Passed::with_room(alloc, ROOM)?;
     let mut left = left;
     let mut fault = None;
-    expand_list(
-        &mut supply,
-        table,
-        env,
-        0,
-        &mut left,
-        &mut sets,
-        &mut list,
-        &mut passed,
-        &mut fault,
-    )?;
+    expand_tokens(alloc, table, env, &mut left, rest, &mut passed, &mut fault)?;
     passed.fit()?;
     Ok(Expanded {
         tokens: Run::new(front, passed),
