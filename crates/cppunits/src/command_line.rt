@@ -2,11 +2,9 @@
 ghost use Rattle.std.specs.Prelude.{◌≤◌, IfOk};
 ghost use Rattle.cppunits.specs.Asking.{InRange, IfRun};
 
-use crate::ending::words;
-use crate::output::Mode;
-use crate::serving::RunFault;
 use clap::error::ErrorKind;
 use clap::{Arg, ArgMatches, Command, Error};
+use ppserve::{Mode, RunFault, words};
 use std::alloc::{AllocError, Global};
 use std::rt::Env;
 use std::{env, io};

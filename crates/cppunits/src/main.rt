@@ -1,30 +1,17 @@
 // Preprocesses the translation units of the list on standard input.
 #![tactic(auto)]
 
-mod beginning;
 mod command_line;
-mod ending;
-mod list;
-mod output;
-mod page;
 mod room;
-mod running;
-mod serving;
-mod streams;
-#[cfg(test)]
-mod tests;
-mod writing;
 
 use command_line::{Asked, Options};
-use ending::{status, words};
+use ppserve::{ReaderFeed, RunFault, WriterSink, serve, serve_from, status, words};
 use ppshelf::FolderDisk;
 use pptext::Hashing;
 use room::reserve;
-use serving::{RunFault, serve, serve_from};
 use std::hash::RandomState;
 use std::process::ExitCode;
 use std::random::RandomSource;
-use streams::{ReaderFeed, WriterSink};
 
 /// How this run hashes names: by a key of its own, so that nobody can choose names that collide.
 fn hashing(rt: &impl RandomSource) -> Result<Hashing, RunFault> {

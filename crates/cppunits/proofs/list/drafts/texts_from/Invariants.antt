@@ -1,7 +1,0 @@
-use Rattle.std.proofs.Common.{◌≡◌, drop, map, string_bytes}
-use Rattle.serde_json.specs.Find.{as_str}
-use Rattle.cppunits.proofs.Each.{read_from, behind}
-use Rattle.cppunits.proofs.list.drafts.texts_from.Given as goal
-
-abbrev pub invariant-loop-item : goal.invariant-loop-item
-invariant-loop-item l = behind (map string_bytes l.texts.items) (read_from as_str (drop l.item-index l.items)) ≡ read_from as_str l.items

@@ -1,7 +1,0 @@
-use Rattle.std.proofs.Common.{◌≡◌, drop}
-use Rattle.cppunits.specs.Drafting.{draft_unit}
-use Rattle.cppunits.proofs.Each.{read_from, behind}
-use Rattle.cppunits.proofs.list.drafts.units_from.Given as goal
-
-abbrev pub invariant-loop-item : goal.invariant-loop-item
-invariant-loop-item l = behind l.units.items (read_from (draft_unit) (drop l.item-index l.items)) ≡ read_from (draft_unit) l.items

@@ -1,5 +1,0 @@
-use Rattle.cppunits.proofs.Printing.{puts_then}
-use Rattle.cppunits.proofs.output.put_dep.Goals as goal
-
-pub returns : goal.returns
-returns g c = puts_then (puts_then (puts_then (puts_then c.put.ensures c.put_decimal.ensures) c.put-2.ensures) c.put_name.ensures) c.put-3.ensures

@@ -1,8 +1,0 @@
-use Rattle.std.proofs.Common.{take, flat_map}
-use Rattle.cppunits.specs.Printing.{Puts}
-use Rattle.cppunits.specs.Output.{item_lines}
-use Rattle.ppunit.specs.Parts.{part_items}
-use Rattle.cppunits.proofs.output.put_items.Given as goal
-
-abbrev pub invariant-loop-part : goal.invariant-loop-part
-invariant-loop-part g l = Puts g.W.Sink.written g.W.Sink.has_failed l.initial.writer l.writer l.initial.page l.page (flat_map item_lines (flat_map part_items (take l.part-index l.part-items)))

@@ -1,9 +1,0 @@
-use Rattle.std.proofs.Common.{flat_map}
-use Rattle.cppunits.specs.Lines.{token_line}
-use Rattle.cppunits.proofs.Printing.{more_of, puts_turn}
-use Rattle.cppunits.proofs.output.put_shared.Goals as goal
-
-pub loop-token-preserved : goal.loop-token-preserved
-loop-token-preserved g c =
-    puts_turn (flat_map token_line) c.args.tokens.now c.loop-token.token-index c.token-item.result c.token-item.result c.loop-token-test.true c.token-item.is
-    (λ before. more_of token_line before c.token-item.result) c.loop-token.invariant c.put_token.ensures

@@ -1,0 +1,13 @@
+-- Reading the items of an array, one after another.
+use Rattle.std.proofs.Common.{List, ◌++◌, Option, option_map}
+use Rattle.serde_json.specs.Data.{Data}
+use Rattle.serde_json.specs.View.{items_view}
+use Rattle.serde_json.specs.declared.value.Value.{Value}
+use Rattle.ppserve.specs.Drafting.{each_item}
+
+-- what is read of the items from here on
+abbrev pub read_from : {A : Type 0} → (Data → Option A) → List Value → Option (List A)
+read_from read vs = each_item read (items_view vs)
+
+abbrev pub behind : {A : Type 0} → List A → Option (List A) → Option (List A)
+behind front o = option_map (λ more. front ++ more) o

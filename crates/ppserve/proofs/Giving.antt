@@ -1,0 +1,156 @@
+-- What the units of a list give, over files that are known.
+use Rattle.std.proofs.Common.{Bool, Vec, ◌≡◌, ℕ, ◌<◌, ◌≤◌, List, [], ◌∷◌, map, length, get_or, take, Option, Some}
+use Rattle.std.proofs.Common.{None, IsSome, String, All, sym, ap, ◌∙◌, subst, arith, refl, replicate, inl, inr}
+use Rattle.std.specs.List.{AllZip}
+use Rattle.std.specs.String.{string_bytes}
+use Rattle.std.specs.declared.alloc.Global.{Global}
+use Rattle.std.proofs.lemmas.Bool.{cases_lt, false≢true}
+use Rattle.std.proofs.lemmas.List.Elements.{All-weaker}
+use Rattle.std.proofs.lemmas.List.{ext_get_or, get_or_past, get_or-map, get_or-replicate, length-map}
+use Rattle.std.proofs.lemmas.Option.{none-some}
+use Rattle.std.proofs.lemmas.Slice.Zip.{AllZip-long}
+use Rattle.ppshelf.specs.Content.{Content, readable}
+use Rattle.ppshelf.specs.Files.{most_rows, Files, Stock, file_at, Extends, Agree, IsFull, Filled, bytes_at}
+use Rattle.ppunit.specs.declared.units.Setting.{Setting}
+use Rattle.ppunit.specs.declared.units.Unit.{Unit as UnitOfList}
+use Rattle.ppunit.specs.declared.units.UnitOut.{UnitOut}
+use Rattle.ppunit.specs.Unit.{IsUnit, IsUnitOf}
+use Rattle.ppunit.proofs.Tested.{unit_of}
+use Rattle.pppool.specs.declared.keeping.Keep.{Keep}
+use Rattle.pppool.specs.Kept.{AreKept, kept}
+use Rattle.ppserve.specs.declared.list.List.{List as CompilationList}
+use Rattle.ppserve.specs.Contents.{files_of, GiveOverSome}
+use Rattle.ppserve.specs.Listing.{IsRunnable}
+use Rattle.ppserve.specs.Output.{numbered, unit_lines, output_text}
+use Rattle.ppserve.specs.Serving.{some_fault, Comes, Brings, HandsOut, HandsOutFront, Serves, BreaksOff}
+use Rattle.ppserve.specs.declared.output.Mode.{Mode}
+use Rattle.ppserve.specs.Needed.{needed}
+use Rattle.ppserve.proofs.Known.{appends_as}
+use Rattle.ppserve.proofs.Shown.{text_kept, some_fault_kept}
+
+-- what was put in a filled row
+content_now : (o : Option Content) → IsSome o → (c : Content) × (o ≡ Some c)
+content_now None i = absurd (false≢true i)
+content_now (Some c) i = (c, refl)
+
+-- a pass over a full shelf knows nothing but what was filled
+pub knows_files : (shelf : Stock) (files : Files) → IsFull shelf → Agree shelf.base files → length files ≡ length shelf.names → Extends shelf.base files
+knows_files shelf files full agree len row c e =
+    elim (cases_lt row (length files)) [
+      | inl w ↦
+          let held = content_now (file_at shelf.base row) (full row (omega arith)) in
+          held.1 ∙ ap (λ (x : Content). Some x) (agree row held.0 c held.1 e)
+      | inr w ↦ absurd (none-some c (sym (get_or_past files row None w) ∙ e))
+    ]
+
+-- what is kept of what units give over a shelf of the list's files is kept of what they give over the list's
+pub gives_all : (keep : Keep) (list : CompilationList) (shelf : Stock) (units : List UnitOfList) (outs : List UnitOut) → shelf.names ≡ list.names → shelf.base ≡ files_of list.contents → units ≡ list.units
+    → AreKept keep shelf.names shelf.base list.setting units outs → AreKept keep list.names (files_of list.contents) list.setting list.units outs
+gives_all keep list shelf units outs named is same gives =
+    let P : List (List ℕ) → Type 0 = λ ns. AreKept keep ns shelf.base list.setting units outs in
+    let Q : Files → Type 0 = λ fs. AreKept keep list.names fs list.setting units outs in
+    let R : List UnitOfList → Type 0 = λ us. AreKept keep list.names (files_of list.contents) list.setting us outs in
+    subst R same (subst Q is (subst P named gives))
+
+-- one outcome a unit
+pub one_each : (keep : Keep) (names : List (List ℕ)) (files : Files) (setting : Setting) (units : List UnitOfList) (outs : List UnitOut) → AreKept keep names files setting units outs → length outs ≡ length units
+one_each keep names files setting units outs gives =
+    ap length gives.same ∙ (length-map gives.wholes (kept keep) ∙ AllZip-long (λ unit out. IsUnit names files setting unit out) units gives.wholes gives.values)
+
+-- copies of texts are the same texts
+pub same_texts : (xs ys : List (String Global)) → AllZip (λ s t. string_bytes t ≡ string_bytes s) xs ys → map string_bytes ys ≡ map string_bytes xs
+same_texts [] [] z = refl
+same_texts [] (y ∷ ys) z = absurd z
+same_texts (x ∷ xs) [] z = absurd z
+same_texts (x ∷ xs) (y ∷ ys) z = ap (λ b. b ∷ map string_bytes ys) z.0 ∙ ap (λ bs. string_bytes x ∷ bs) (same_texts xs ys z.1)
+
+-- a shelf that was empty holds the contents that were moved to it
+pub filled_files : {A : Type 0} (contents : List (Vec ℕ A)) (old new : Stock) → old.base ≡ replicate (length old.names) None → length contents ≡ length old.names → new.names ≡ old.names → length new.base ≡ length old.names
+    → ((row : ℕ) → row < length old.names → Filled (λ c. c ≡ readable (bytes_at contents row)) (file_at old.base row) (file_at new.base row)) → IsFull new → new.base ≡ files_of (map (λ bytes. bytes.items) contents)
+filled_files contents old new empty len named long rows full =
+    let file : List ℕ → Option Content = λ bytes. Some (readable bytes) in
+    let texts : List (List ℕ) = map (λ bytes. bytes.items) contents in
+    let count : length texts ≡ length contents = length-map contents (λ bytes. bytes.items) in
+    let lens : length new.base ≡ length (files_of texts) = long ∙ (sym len ∙ (sym count ∙ sym (length-map texts file))) in
+    ext_get_or None new.base (files_of texts) lens (λ row below.
+    let in_old : row < length old.names = omega arith in
+    let in_new : row < length new.names = let l = ap length named in omega arith in
+    let in_texts : row < length texts = omega arith in
+    let was : file_at old.base row ≡ None = ap (λ (f : Files). get_or f row None) empty ∙ get_or-replicate (length old.names) row None None in_old in
+    let now = content_now (file_at new.base row) (full row in_new) in
+    let P : Option Content → Type 0 = λ o. Filled (λ c. c ≡ readable (bytes_at contents row)) o (file_at new.base row) in
+    let Q : Option Content → Type 0 = λ o. Filled (λ c. c ≡ readable (bytes_at contents row)) None o in
+    let content : now.0 ≡ readable (bytes_at contents row) = subst Q now.1 (subst P was (rows row in_old)) in
+    now.1 ∙ (ap Some content ∙ sym (get_or-map file texts row [] None in_texts)))
+
+-- what units give over some files of a shelf, they give for the list whose names the shelf has
+pub gives_from : (may : List ℕ → Content → Type 0) (keep : Keep) (list : CompilationList) (shelf : Stock) (units : List UnitOfList) (outs : List UnitOut) → shelf.names ≡ list.names → units ≡ list.units
+    → GiveOverSome may keep shelf.names list.setting units outs → GiveOverSome may keep list.names list.setting list.units outs
+gives_from may keep list shelf units outs named same gives =
+    let P : List (List ℕ) → Type 0 = λ ns. GiveOverSome may keep ns list.setting units outs in
+    let R : List UnitOfList → Type 0 = λ us. GiveOverSome may keep list.names list.setting us outs in
+    subst R same (subst P named gives)
+
+-- the units of a list that can be run are units of its shelf
+pub can_run : (list : CompilationList) (names : List (List ℕ)) (units : List UnitOfList) → IsRunnable list → names ≡ list.names → units ≡ list.units → All (IsUnitOf (length names) list.setting.profile) units
+can_run list names units runs named same =
+    let P : List UnitOfList → Type 0 = λ us. All (IsUnitOf (length list.names) list.setting.profile) us in
+    let Q : List (List ℕ) → Type 0 = λ ns. All (IsUnitOf (length ns) list.setting.profile) units in
+    let good = All-weaker _ (IsUnitOf (length list.names) list.setting.profile) (λ u h. unit_of (length list.names) list.setting.profile list.setting.profile u refl h) list.units runs.units in
+    subst Q (sym named) (subst P (sym same) good)
+
+-- they aren't too many
+pub few_units : (list : CompilationList) (units : List UnitOfList) → IsRunnable list → units ≡ list.units → length units ≤ most_rows
+few_units list units runs same = let P : List UnitOfList → Type 0 = λ us. length us ≤ most_rows in subst P (sym same) runs.many
+
+-- the output of what is needed of a list's units is the list's output
+text_of : (mode : Mode) (list : CompilationList) (units : List UnitOfList) (shown outs : List UnitOut) → units ≡ list.units → shown ≡ map (kept (needed mode)) outs
+    → numbered (unit_lines mode list.names) 0 units shown ≡ output_text mode list outs
+text_of mode list units shown outs same is =
+    ap (λ (us : List UnitOfList). numbered (unit_lines mode list.names) 0 us shown) same
+    ∙ (ap (λ (os : List UnitOut). numbered (unit_lines mode list.names) 0 list.units os) is ∙ text_kept mode list.names 0 list.units outs)
+
+-- a list came, and what is shown of its units, over some such files, is kept of what they give
+pub record Came (inline : Bool) (Such : CompilationList → Files → Type 0) (mode : Mode) (before after : Option (List ℕ)) (list : CompilationList)
+    (units : List UnitOfList) (shown : List UnitOut) : Type 0 where
+  pub outs : List UnitOut
+  pub brings : Brings inline Such before after list outs
+  pub text : numbered (unit_lines mode list.names) 0 units shown ≡ output_text mode list outs
+  pub fault : some_fault shown ≡ some_fault outs
+
+pub came_of : {inline : Bool} {Such : CompilationList → Files → Type 0} {before after : Option (List ℕ)} (mode : Mode) (list : CompilationList)
+    (units : List UnitOfList) (shown outs : List UnitOut)
+    → units ≡ list.units → shown ≡ outs → Comes inline before after list → (files : Files) → Such list files → AreKept (needed mode) list.names files list.setting list.units outs
+    → Came inline Such mode before after list units shown
+came_of mode list units shown outs same is came files such gives = record {
+  outs = gives.wholes;
+  brings = record { came = came; files = files; such = such; gives = gives.values };
+  text = text_of mode list units shown gives.wholes same (is ∙ gives.same);
+  fault = ap some_fault (is ∙ gives.same) ∙ some_fault_kept mode gives.wholes;
+}
+
+-- where its output went out, it was served
+pub served : {inline : Bool} {Such : CompilationList → Files → Type 0} {before after : Option (List ℕ)} (mode : Mode) (list : CompilationList)
+    (units : List UnitOfList) (shown : List UnitOut) (out_before out_after : Option (List ℕ)) (any : Bool)
+    → Came inline Such mode before after list units shown → HandsOut mode list.names units shown out_before out_after any
+    → Serves inline Such mode before after out_before out_after any
+served mode list units shown out_before out_after any came given = record {
+  list = list;
+  outs = came.outs;
+  came = came.brings;
+  went = appends_as out_before out_after _ _ came.text given.went;
+  fault = given.fault ∙ came.fault;
+}
+
+-- and where a beginning of it went out, broken off
+pub broken_off : {inline : Bool} {Such : CompilationList → Files → Type 0} {before after : Option (List ℕ)} (mode : Mode) (list : CompilationList)
+    (units : List UnitOfList) (shown : List UnitOut) (out_before out_after : Option (List ℕ))
+    → Came inline Such mode before after list units shown → HandsOutFront mode list.names units shown out_before out_after
+    → BreaksOff inline Such mode before after out_before out_after
+broken_off mode list units shown out_before out_after came given = record {
+  list = list;
+  outs = came.outs;
+  came = came.brings;
+  count = given.count;
+  went = appends_as out_before out_after _ _ (ap (take given.count) came.text) given.went;
+}

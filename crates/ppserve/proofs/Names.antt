@@ -1,0 +1,24 @@
+-- The names of files, one after another.
+use Rattle.std.proofs.Common.{◌≡◌, ℕ, ◌<◌, List, [], length, get_or, sym, ap, ◌∙◌}
+use Rattle.std.proofs.lemmas.List.{get_or-map, length-map}
+use Rattle.ppshelf.specs.Names.{name_in}
+use Rattle.ppshelf.proofs.Naming.{Indexed}
+use Rattle.ppserve.specs.Listing.{names_of}
+use Rattle.ppserve.specs.declared.list.drafts.DraftFile.{DraftFile}
+
+-- the file whose turn it is, with its name, behind those whose names the index holds
+pub record Turn (files : List DraftFile) (row : ℕ) (index : List (List ℕ)) (name : List ℕ) : Type 0 where
+  pub within : row < length (names_of files)
+  pub name_is : name_in (names_of files) row ≡ name
+  pub names : Indexed (names_of files) row index
+
+pub turn : (files : List DraftFile) (row : ℕ) (index : List (List ℕ)) (file : DraftFile) (name : List ℕ) → row < length files → file ≡ get_or files row file
+    → name ≡ file.name → Indexed (names_of files) row index → Turn files row index name
+turn files row index file name within is named indexed =
+    let name_of : DraftFile → List ℕ = λ f. f.name in
+    let count : length (names_of files) ≡ length files = length-map files name_of in
+    record {
+      within = rw count within;
+      name_is = get_or-map name_of files row file [] within ∙ (ap name_of (sym is) ∙ sym named);
+      names = indexed;
+    }

@@ -1,0 +1,123 @@
+-- Texts that are printed one after another.
+use Rattle.std.proofs.Common.{◌≡◌, ℕ, ◌+◌, ◌<◌, Bool, true, false, List, [], ◌∷◌, ◌++◌, length, get_or, take, drop, flat_map, refl, sym, ap, ◌∙◌, subst, append_assoc, append-nil, take-append-drop, Option}
+use Rattle.std.proofs.lemmas.Bool.{false≢true}
+use Rattle.std.proofs.lemmas.List.{take_more, flat_map_more}
+use lib.Seq.{take-append_seam}
+use Rattle.std.proofs.KnownBytes.{Appends-nil, Appends-trans}
+use Rattle.std.specs.Io.KnownBytes.{Appends}
+use Rattle.ppserve.specs.Output.{numbered}
+use Rattle.ppserve.specs.Printing.{Puts}
+use Rattle.ppserve.proofs.Known.{appends_as}
+use Rattle.ppserve.proofs.Numbered.{numbered-turn}
+
+-- bytes that find room on the page
+pub puts_here : {V : Type 0} {written : V → Option (List ℕ)} {has_failed : V → Bool} {w : V} {p q text : List ℕ} → q ≡ p ++ text → Puts written has_failed w w p q text
+puts_here {written = written} {w = w} {p = p} {q = q} {text = text} e = record {
+  front = [];
+  rest = p ++ text;
+  parts = refl;
+  went = Appends-nil (written w);
+  waits = λ _. sym e;
+  stays = λ f. (refl, f);
+}
+
+pub puts_none : {V : Type 0} {written : V → Option (List ℕ)} {has_failed : V → Bool} {w : V} {p : List ℕ} → Puts written has_failed w w p p []
+puts_none {p = p} = puts_here (sym (append-nil p))
+
+pub puts_as : {V : Type 0} {written : V → Option (List ℕ)} {has_failed : V → Bool} {w v : V} {p q s t : List ℕ} → s ≡ t → Puts written has_failed w v p q s → Puts written has_failed w v p q t
+puts_as {written = written} {has_failed = has_failed} {w = w} {v = v} {p = p} {q = q} e h = let P : List ℕ → Type 0 = λ s. Puts written has_failed w v p q s in subst P e h
+
+-- either a write had failed, or all that is left of the first text waits
+pub puts_then : {V : Type 0} {written : V → Option (List ℕ)} {has_failed : V → Bool} {w v u : V} {p q r s t : List ℕ}
+    → Puts written has_failed w v p q s → Puts written has_failed v u q r t → Puts written has_failed w u p r (s ++ t)
+puts_then {written = written} {has_failed = has_failed} {w = w} {v = v} {u = u} {p = p} {q = q} {r = r} {s = s} {t = t} a b = by_case (has_failed v) refl
+  where
+    first : p ++ (s ++ t) ≡ a.front ++ (a.rest ++ t)
+    first = sym (append_assoc p s t) ∙ (ap (λ l. l ++ t) a.parts ∙ append_assoc a.front a.rest t)
+
+    by_case : (f : Bool) → has_failed v ≡ f → Puts written has_failed w u p r (s ++ t)
+    by_case false e =
+        let waits = a.waits e in
+        record {
+          front = a.front ++ b.front;
+          rest = b.rest;
+          parts = first ∙ (ap (λ l. a.front ++ l) (ap (λ l. l ++ t) waits ∙ b.parts) ∙ sym (append_assoc a.front b.front b.rest));
+          went = Appends-trans _ _ _ _ _ a.went b.went;
+          waits = b.waits;
+          stays = λ f. absurd (false≢true (sym e ∙ (a.stays f).1));
+        }
+    by_case true e =
+        let none = (b.stays e).0 in
+        record {
+          front = a.front ++ b.front;
+          rest = a.rest ++ t;
+          parts = first ∙ ap (λ l. l ++ (a.rest ++ t)) (sym (ap (λ l. a.front ++ l) none ∙ append-nil a.front));
+          went = Appends-trans _ _ _ _ _ a.went b.went;
+          waits = λ f. absurd (false≢true (sym f ∙ (b.stays e).1));
+          stays = λ f. (rw ((a.stays f).0, none) refl, (b.stays e).1);
+        }
+
+-- one more list of a list's lists
+pub more_of : {A B : Type 0} (f : A → List B) (xs : List A) (x : A) → flat_map f (xs ++ x ∷ []) ≡ flat_map f xs ++ f x
+more_of f xs x = sym (flat_map_more f [] xs x)
+
+-- a loop's turn, behind what it has printed before
+pub puts_turn : {V A : Type 0} {written : V → Option (List ℕ)} {has_failed : V → Bool} {w v u : V} {p q r t : List ℕ}
+    → (whole : List A → List ℕ) (xs : List A) (i : ℕ) (d x : A) → i < length xs → x ≡ get_or xs i d
+    → ((before : List A) → whole (before ++ x ∷ []) ≡ whole before ++ t)
+    → Puts written has_failed w v p q (whole (take i xs)) → Puts written has_failed v u q r t
+    → Puts written has_failed w u p r (whole (take (i + 1) xs))
+puts_turn {t = t} whole xs i d x h is more a b =
+    let front : take (i + 1) xs ≡ take i xs ++ x ∷ [] = take_more xs i d h ∙ ap (λ y. take i xs ++ y ∷ []) (sym is) in
+    puts_as (sym (ap whole front ∙ more (take i xs))) (puts_then a b)
+
+-- nothing waits at the end, and no write has failed: the whole text went out
+pub printed_all : {V : Type 0} {written : V → Option (List ℕ)} {has_failed : V → Bool} {w v : V} {p q text : List ℕ}
+    → p ≡ [] → q ≡ [] → has_failed v ≡ false → Puts written has_failed w v p q text → Appends (written w) (written v) text
+printed_all {written = written} {w = w} {v = v} {p = p} {q = q} {text = text} none empty e a =
+    let whole : text ≡ a.front ++ a.rest = ap (λ bs. bs ++ text) (sym none) ∙ a.parts in
+    let all : a.front ≡ text = sym (whole ∙ ap (λ bs. a.front ++ bs) (a.waits e ∙ empty) ∙ append-nil a.front) in
+    appends_as _ _ _ _ all a.went
+
+-- a front of the text went out
+pub printed_front : {V : Type 0} {written : V → Option (List ℕ)} {has_failed : V → Bool} {w v : V} {p q text : List ℕ}
+    → p ≡ [] → Puts written has_failed w v p q text → (n : ℕ) × Appends (written w) (written v) (take n text)
+printed_front {written = written} {w = w} {v = v} {p = p} {q = q} {text = text} none a =
+    let whole : text ≡ a.front ++ a.rest = ap (λ bs. bs ++ text) (sym none) ∙ a.parts in
+    let front : a.front ≡ take (length a.front) text = sym (ap (take (length a.front)) whole ∙ take-append_seam a.front a.rest) in
+    (length a.front, appends_as _ _ _ _ front a.went)
+
+-- one more unit of those that are printed
+pub puts_numbered : {V A B : Type 0} {written : V → Option (List ℕ)} {has_failed : V → Bool} {w v u : V} {p q r : List ℕ}
+    → (f : ℕ → A → B → List ℕ) (xs : List A) (ys : List B) (i : ℕ) (x : A) (y : B)
+    → i < length xs → i < length ys → x ≡ get_or xs i x → y ≡ get_or ys i y
+    → Puts written has_failed w v p q (numbered f 0 (take i xs) (take i ys)) → Puts written has_failed v u q r (f i x y)
+    → Puts written has_failed w u p r (numbered f 0 (take (i + 1) xs) (take (i + 1) ys))
+puts_numbered f xs ys i x y h k ex ey a b =
+    puts_as (numbered-turn f xs ys i x y [] _ _ h k ex ey refl refl) (puts_then a b)
+
+-- over a page that is empty
+pub puts_onto : {V : Type 0} {written : V → Option (List ℕ)} {has_failed : V → Bool} {w v : V} {p text : List ℕ}
+    → p ≡ [] → Puts written has_failed w v [] [] text → Puts written has_failed w v p p text
+puts_onto {written = written} {has_failed = has_failed} {w = w} {v = v} {text = text} e h = let P : List ℕ → Type 0 = λ p. Puts written has_failed w v p p text in subst P (sym e) h
+
+-- as many bytes as went out before a write failed
+pub puts_broken : {V : Type 0} {written : V → Option (List ℕ)} {has_failed : V → Bool} {w v : V} {bytes : List ℕ} (n : ℕ)
+    → has_failed w ≡ false → has_failed v ≡ true → Appends (written w) (written v) (take n bytes) → Puts written has_failed w v [] [] bytes
+puts_broken {bytes = bytes} n was now went = record {
+  front = take n bytes;
+  rest = drop n bytes;
+  parts = sym (take-append-drop n bytes);
+  went = went;
+  waits = λ f. absurd (false≢true (sym f ∙ now));
+  stays = λ f. absurd (false≢true (sym was ∙ f));
+}
+
+-- a line of four parts that finds room on the page
+pub puts_joined : {V : Type 0} {written : V → Option (List ℕ)} {has_failed : V → Bool} {w : V} {q : List ℕ} (p word front spelling end : List ℕ)
+    → q ≡ p ++ word ++ front ++ spelling ++ end → Puts written has_failed w w p q (word ++ front ++ spelling ++ end)
+puts_joined p word front spelling end e =
+    let front_too = append_assoc p word front in
+    let spelling_too = append_assoc p (word ++ front) spelling in
+    let end_too = append_assoc p (word ++ front ++ spelling) end in
+    puts_here (e ∙ (ap (λ l. l ++ spelling ++ end) front_too ∙ (ap (λ l. l ++ end) spelling_too ∙ end_too)))

@@ -1,0 +1,5 @@
+use Rattle.ppserve.proofs.Drafted.{decides}
+use Rattle.ppserve.proofs.list.drafts.shape_decides.Goals as goal
+
+pub returns : goal.returns
+returns c = decides

@@ -1,0 +1,5 @@
+use Rattle.ppserve.proofs.Printing.{puts_then}
+use Rattle.ppserve.proofs.output.put_end.Goals as goal
+
+pub returns : goal.returns
+returns g c = puts_then c.put_escaped.ensures c.put.ensures

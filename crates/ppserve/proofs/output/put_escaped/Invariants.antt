@@ -1,0 +1,15 @@
+use Rattle.std.proofs.Common.{◌≡◌, ℕ, List, ◌++◌, length}
+use Rattle.ppserve.specs.Output.{escaped}
+use Rattle.ppserve.specs.Printing.{Puts}
+use Rattle.ppserve.proofs.output.put_escaped.Given as goal
+
+abbrev pub invariant-loop-rest : goal.invariant-loop-rest
+invariant-loop-rest g l =
+    record {
+      done : List ℕ;
+      whole : done ++ escaped l.rest ≡ escaped l.bytes;
+      out : Puts g.W.Sink.written g.W.Sink.has_failed l.initial.writer l.writer l.initial.page l.page done;
+    }
+
+abbrev pub decreases-loop-rest : goal.decreases-loop-rest
+decreases-loop-rest g l = length l.rest

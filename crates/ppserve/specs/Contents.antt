@@ -1,0 +1,29 @@
+-- The files of a list.
+use Rattle.std.specs.Prelude.{◌≡◌, ℕ, List, map, Some}
+use Rattle.ppshelf.specs.Content.{Content, readable}
+use Rattle.ppshelf.specs.Files.{Files, AllLawful}
+use Rattle.pppool.specs.declared.keeping.Keep.{Keep}
+use Rattle.pppool.specs.Kept.{AreKept}
+use Rattle.ppunit.specs.declared.units.Setting.{Setting}
+use Rattle.ppunit.specs.declared.units.Unit.{Unit as UnitOfList}
+use Rattle.ppunit.specs.declared.units.UnitOut.{UnitOut}
+use Rattle.ppserve.specs.declared.list.List.{List as CompilationList}
+
+-- the files whose contents these are, and no others
+abbrev pub files_of : List (List ℕ) → Files
+files_of contents = map (λ bytes. Some (readable bytes)) contents
+
+-- the files are those whose contents stand in the list
+abbrev pub StandIn : CompilationList → Files → Type 0
+StandIn list files = files ≡ files_of list.contents
+
+-- each content is one that a disk may answer for its name
+abbrev pub MayBe : (List ℕ → Content → Type 0) → CompilationList → Files → Type 0
+MayBe may list files = AllLawful may list.names files
+
+-- what is kept of what units give over some one set of such files
+pub record GiveOverSome (may : List ℕ → Content → Type 0) (keep : Keep) (names : List (List ℕ)) (setting : Setting)
+    (units : List UnitOfList) (outs : List UnitOut) : Type 0 where
+  pub files : Files
+  pub lawful : AllLawful may names files
+  pub gives : AreKept keep names files setting units outs

@@ -1,0 +1,112 @@
+-- The draft of a list: what stands in it by its shape, as functions that give it.
+use Rattle.std.specs.Prelude.{◌≡◌, ◌↔◌, ℕ, Bool, true, false, List, [], ◌∷◌}
+use Rattle.std.specs.Prelude.{if◌then◌else◌, codes, Option, Some, None, option_map, option_and_then}
+use Rattle.serde_json.specs.Data.{Num, Data, Items, no_items, item}
+use Rattle.serde_json.specs.Find.{get, as_number, as_str, as_array, as_u64}
+use Rattle.ppserve.specs.Shape.{is_object_of, file_members, unit_members, list_members, hex_bytes, IsDraft}
+use Rattle.ppserve.specs.declared.list.drafts.DraftFile.{DraftFile}
+use Rattle.ppserve.specs.declared.list.drafts.DraftUnit.{DraftUnit}
+use Rattle.ppserve.specs.declared.list.drafts.DraftBudget.{DraftBudget}
+use Rattle.ppserve.specs.declared.list.drafts.DraftBudget.TheVariants as budget
+use Rattle.ppserve.specs.declared.list.drafts.DraftSetting.{DraftSetting}
+use Rattle.ppserve.specs.declared.list.drafts.Draft.{Draft}
+
+-- what comes of a part where it is there, and nothing where it is not
+abbrev pub given : {A B : Type 0} → Option A → (A → Option B) → Option B
+given part make = option_and_then make part
+
+abbrev pub text_at : List ℕ → Data → Option (List ℕ)
+text_at name d = option_and_then as_str (get name d)
+
+-- the text of a member, and another where it is missing
+abbrev pub text_or : List ℕ → Option Data → Option (List ℕ)
+text_or other None = Some other
+text_or other (Some d) = as_str d
+
+-- what `read` gives of each item
+abbrev pub each_item : {A : Type 0} → (Data → Option A) → Items → Option (List A)
+each_item read no_items = Some []
+each_item read (item d ds) = option_and_then (λ x. option_map (λ xs. x ∷ xs) (each_item read ds)) (read d)
+
+abbrev pub each_of : {A : Type 0} → (Data → Option A) → Data → Option (List A)
+each_of read d = option_and_then (each_item read) (as_array d)
+
+abbrev pub array_at : {A : Type 0} → (Data → Option A) → List ℕ → Data → Option (List A)
+array_at read name d = option_and_then (each_of read) (get name d)
+
+-- the texts of an array, and none where it is missing
+abbrev pub texts_of : Option Data → Option (List (List ℕ))
+texts_of None = Some []
+texts_of (Some d) = each_of as_str d
+
+abbrev pub texts_at : List ℕ → Data → Option (List (List ℕ))
+texts_at name d = texts_of (get name d)
+
+-- the content by exactly one of `text` and `hex`
+abbrev pub content_from : Option Data → Option Data → Option (List ℕ)
+content_from None None = None
+content_from None (Some h) = option_and_then hex_bytes (as_str h)
+content_from (Some t) None = as_str t
+content_from (Some t) (Some h) = None
+
+-- a file's content, where lists hold contents
+abbrev pub content_of : Bool → Data → Option (List ℕ)
+content_of true d = content_from (get (codes "text") d) (get (codes "hex") d)
+content_of false d = Some []
+
+abbrev pub draft_file : Bool → Data → Option DraftFile
+draft_file inline d =
+    if is_object_of (file_members inline) d then
+    given (text_at (codes "name") d) (λ name.
+    given (content_of inline d) (λ content.
+    Some (record { name = name; content = content })))
+    else None
+
+abbrev pub draft_unit : Data → Option DraftUnit
+draft_unit d =
+    if is_object_of unit_members d then
+    given (text_at (codes "file") d) (λ file.
+    given (texts_at (codes "define") d) (λ defines.
+    given (texts_at (codes "search") d) (λ folders.
+    Some (record { file = file; defines = defines; search = folders }))))
+    else None
+
+-- the text of the profile, which is `c11` where it is missing
+abbrev pub profile_at : Data → Option (List ℕ)
+profile_at d = text_or (codes "c11") (get (codes "profile") d)
+
+-- a number as it is written: a whole one of 64 bits without a sign, or another
+abbrev pub written : Option ℕ → DraftBudget
+written (Some n) = budget.Whole n
+written None = budget.Other
+
+-- the budget, a number, or that it is missing
+abbrev pub budget_from : Option Data → Option DraftBudget
+budget_from None = Some budget.Missing
+budget_from (Some d) = option_map (λ (n : Num). written (as_u64 n)) (as_number d)
+
+abbrev pub budget_at : Data → Option DraftBudget
+budget_at d = budget_from (get (codes "budget") d)
+
+abbrev pub draft_setting : Data → Option DraftSetting
+draft_setting d =
+    given (profile_at d) (λ profile.
+    given (budget_at d) (λ allowed.
+    given (text_at (codes "date") d) (λ date.
+    given (text_at (codes "time") d) (λ time.
+    given (texts_at (codes "search") d) (λ folders.
+    Some (record { profile = profile; budget = allowed; date = date; time = time; search = folders }))))))
+
+-- the list as it stands, where it has its shape and no other members
+abbrev pub draft : Bool → Data → Option Draft
+draft inline d =
+    if is_object_of list_members d then
+    given (draft_setting d) (λ setting.
+    given (array_at (draft_file inline) (codes "files") d) (λ files.
+    given (array_at draft_unit (codes "units") d) (λ units.
+    Some (record { setting = setting; files = files; units = units }))))
+    else None
+
+-- a value gives a draft exactly where it has the shape of a list with it
+abbrev pub ShapeDecides : Type 0
+ShapeDecides = (inline : Bool) (d : Data) (x : Draft) → (draft inline d ≡ Some x) ↔ IsDraft inline d x

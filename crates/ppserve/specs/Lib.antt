@@ -1,0 +1,10 @@
+pub mod Shape
+pub mod Drafting
+pub mod Listing
+pub mod Needed
+pub mod Contents
+pub mod Ending
+pub mod Output
+pub mod Serving
+pub mod Lines
+pub mod Printing

@@ -1,0 +1,174 @@
+-- The list of translation units that bytes hold, or why they are refused.
+use Rattle.std.specs.Prelude.{◌≡◌, ℕ, ◌-◌, ◌^◌, ◌≤◌, ◌&&◌, ◌⊎◌, not, Bool}
+use Rattle.std.specs.Prelude.{true, false, List, [], All, if◌then◌else◌, nat_lt, nat_le, codes, length, map, Option, Some, None, unwrap_or}
+use Rattle.std.specs.Option.{is_some}
+use Rattle.std.specs.List.{list_all}
+use Rattle.std.specs.Str.{is_utf8, bytes_eq}
+use Rattle.serde_json.specs.Data.{Data}
+use Rattle.serde_json.specs.Read.{read}
+use Rattle.pptext.specs.declared.sources.Profile.{Profile}
+use Rattle.pptext.specs.declared.sources.Profile.TheVariants.{C11, Later}
+use Rattle.ppshelf.specs.Content.{longest}
+use Rattle.ppshelf.specs.Files.{most_rows}
+use Rattle.ppshelf.specs.Names.{AreNames, are_names, is_folder, row_among}
+use Rattle.ppunit.specs.Forms.{is_date, is_time, is_one_line, is_setting, is_unit}
+use Rattle.ppunit.specs.Unit.{command_text}
+use Rattle.ppunit.specs.declared.units.Setting.{Setting}
+use Rattle.ppunit.specs.declared.units.Unit.{Unit as UnitOfList}
+use Rattle.ppserve.specs.Drafting.{draft}
+use Rattle.ppserve.specs.declared.list.List.{List as CompilationList}
+use Rattle.ppserve.specs.declared.list.ListFault.{ListFault}
+use Rattle.ppserve.specs.declared.list.ListFault.TheVariants.{Bad, Memory}
+use Rattle.ppserve.specs.declared.list.drafts.Draft.{Draft}
+use Rattle.ppserve.specs.declared.list.drafts.DraftFile.{DraftFile}
+use Rattle.ppserve.specs.declared.list.drafts.DraftUnit.{DraftUnit}
+use Rattle.ppserve.specs.declared.list.drafts.DraftBudget.{DraftBudget}
+use Rattle.ppserve.specs.declared.list.drafts.DraftBudget.TheVariants as budget
+use Rattle.ppserve.specs.declared.list.drafts.DraftSetting.{DraftSetting}
+
+-- a list, or the number of its refusal
+pub data Outcome : Type 0 where
+  accepted : CompilationList → Outcome
+  refused : ℕ → Outcome
+
+-- want of memory, or the refusal n for the reason P
+abbrev pub RefusedFor : ℕ → Type 0 → ListFault → Type 0
+RefusedFor n P e = (e ≡ Memory) ⊎ ((e ≡ Bad n) × P)
+
+-- the JSON value that bytes hold
+unfoldable pub json_value : List ℕ → Option Data
+json_value bytes = if is_utf8 bytes then read bytes else None
+
+abbrev pub names_of : List DraftFile → List (List ℕ)
+names_of files = map (λ (f : DraftFile). f.name) files
+
+abbrev pub contents_of : List DraftFile → List (List ℕ)
+contents_of files = map (λ (f : DraftFile). f.content) files
+
+-- the most bytes of a list
+abbrev pub most_input : ℕ
+most_input = 2 ^ 28
+
+-- the files' names are in normal form, each once
+abbrev pub names_hold : List DraftFile → Bool
+names_hold files = are_names (names_of files)
+
+abbrev pub contents_fit : List DraftFile → Bool
+contents_fit = list_all (λ (f : DraftFile). nat_le (length f.content) longest)
+
+abbrev pub commands_fit : List DraftUnit → Bool
+commands_fit = list_all (λ (u : DraftUnit). nat_le (length (command_text u.defines)) longest)
+
+abbrev pub sizes_hold : Draft → Bool
+sizes_hold d = nat_le (length d.files) most_rows && nat_le (length d.units) most_rows && contents_fit d.files && commands_fit d.units
+
+-- each unit's file is among the names
+abbrev pub are_known : List (List ℕ) → List DraftUnit → Bool
+are_known names = list_all (λ (u : DraftUnit). is_some (row_among u.file names))
+
+abbrev pub times_hold : DraftSetting → Bool
+times_hold s = is_date s.date && is_time s.time
+
+-- each definition is one line
+abbrev pub lines_hold : List DraftUnit → Bool
+lines_hold = list_all (λ (u : DraftUnit). list_all is_one_line u.defines)
+
+-- each text that is searched is a folder
+abbrev pub folders_hold : Draft → Bool
+folders_hold d = list_all is_folder d.setting.search && list_all (λ (u : DraftUnit). list_all is_folder u.search) d.units
+
+-- the profile that a text names
+abbrev pub profile_named : List ℕ → Option Profile
+profile_named t = if bytes_eq t (codes "c11") then Some C11 else (if bytes_eq t (codes "later") then Some Later else None)
+
+abbrev pub profile_holds : DraftSetting → Bool
+profile_holds s = is_some (profile_named s.profile)
+
+abbrev pub profile_of : DraftSetting → Profile
+profile_of s = unwrap_or (profile_named s.profile) C11
+
+-- the most that a list may allow each unit
+abbrev pub most_budget : ℕ
+most_budget = 2 ^ 32 - 1
+
+-- no budget, or a whole number that isn't too large
+abbrev pub is_budget : DraftBudget → Bool
+is_budget budget.Missing = true
+is_budget (budget.Whole n) = nat_le n most_budget
+is_budget budget.Other = false
+
+abbrev pub budget_holds : DraftSetting → Bool
+budget_holds s = is_budget s.budget
+
+-- what the list allows each unit, if it says so
+abbrev pub budget_of : DraftBudget → Option ℕ
+budget_of budget.Missing = None
+budget_of (budget.Whole n) = Some n
+budget_of budget.Other = None
+
+abbrev pub listed_setting : DraftSetting → Setting
+listed_setting s = record {
+  profile = profile_of s;
+  date = s.date;
+  time = s.time;
+  search = s.search;
+  budget = budget_of s.budget;
+}
+
+-- a unit, whose definitions are read by this profile
+abbrev pub listed_unit : Profile → List (List ℕ) → DraftUnit → UnitOfList
+listed_unit profile names u = record {
+  file = unwrap_or (row_among u.file names) 0;
+  defines = record { texts = u.defines; profile = profile };
+  search = u.search;
+}
+
+-- the list of a draft, with contents where lists hold them
+abbrev pub listed : Bool → Draft → CompilationList
+listed inline d = record {
+  setting = listed_setting d.setting;
+  names = names_of d.files;
+  contents = if inline then contents_of d.files else [];
+  units = map (listed_unit (profile_of d.setting) (names_of d.files)) d.units;
+}
+
+-- what stands in a draft whose texts are as they are to be
+abbrev pub judged_choices : Bool → Draft → Outcome
+judged_choices inline d =
+    if not (profile_holds d.setting) then refused 9 else (
+    if not (budget_holds d.setting) then refused 10 else accepted (listed inline d))
+
+-- what stands in a draft whose units have their files
+abbrev pub judged_texts : Bool → Draft → Outcome
+judged_texts inline d =
+    if not (times_hold d.setting) then refused 6 else (
+    if not (lines_hold d.units) then refused 7 else (
+    if not (folders_hold d) then refused 8 else judged_choices inline d))
+
+-- the list, or the least number of a refusal that applies
+abbrev pub judged : Bool → Draft → Outcome
+judged inline d =
+    if not (names_hold d.files) then refused 3 else (
+    if not (sizes_hold d) then refused 4 else (
+    if not (are_known (names_of d.files) d.units) then refused 5 else judged_texts inline d))
+
+abbrev shaped : Bool → Option Draft → Outcome
+shaped inline None = refused 2
+shaped inline (Some d) = judged inline d
+
+abbrev parsed : Bool → Option Data → Outcome
+parsed inline None = refused 1
+parsed inline (Some d) = shaped inline (draft inline d)
+
+-- the list that bytes hold, or the least number of a refusal that applies
+abbrev pub outcome_of : Bool → List ℕ → Outcome
+outcome_of inline bytes = if nat_lt most_input (length bytes) then refused 1 else parsed inline (json_value bytes)
+
+-- a list whose units can be preprocessed
+pub record IsRunnable (l : CompilationList) : Type 0 where
+  pub names : AreNames l.names
+  pub few : length l.names ≤ most_rows
+  pub many : length l.units ≤ most_rows
+  pub small : All (λ bytes. length bytes ≤ longest) l.contents
+  pub setting : is_setting l.setting ≡ true
+  pub units : All (λ (u : UnitOfList). is_unit (length l.names) l.setting.profile u ≡ true) l.units

@@ -1,0 +1,91 @@
+-- What is printed of a list's units.
+use Rattle.std.specs.Prelude.{ℕ, suc, ◌+◌, ◌/◌, ◌%◌, ◌==◌, ◌&&◌, Bool, true, false, not, List, [], ◌∷◌, ◌++◌}
+use Rattle.std.specs.Prelude.{if◌then◌else◌, nat_lt, nat_le, codes, decimal, flat_map, Option, Some, None}
+use Rattle.pptext.specs.declared.tokens.Place.{Place}
+use Rattle.pptext.specs.declared.tokens.Kind.{Kind}
+use Rattle.pptext.specs.declared.tokens.Kind.TheVariants as kind
+use Rattle.pptext.specs.declared.tokens.Token.{Token}
+use Rattle.pptext.specs.declared.tokens.Fault.{Fault}
+use Rattle.ppshelf.specs.Names.{name_in}
+use Rattle.ppunit.specs.declared.units.Item.{Item}
+use Rattle.ppunit.specs.declared.units.Item.TheVariants as item
+use Rattle.ppunit.specs.declared.units.UnitOut.{UnitOut}
+use Rattle.ppunit.specs.declared.units.Unit.{Unit as UnitOfList}
+use Rattle.ppserve.specs.declared.list.List.{List as CompilationList}
+use Rattle.ppserve.specs.declared.output.Mode.{Mode}
+use Rattle.ppserve.specs.declared.output.Mode.TheVariants.{Dump, Deps}
+
+-- an upper-case hexadecimal digit
+abbrev pub hex_digit : ℕ → ℕ
+hex_digit n = if nat_lt n 10 then 48 + n else 55 + n
+
+-- the bytes 32 to 126 but for `%` stand for themselves
+abbrev pub is_plain : ℕ → Bool
+is_plain b = nat_le 32 b && nat_le b 126 && not (b == 37)
+
+abbrev pub escaped_byte : ℕ → List ℕ
+escaped_byte b = if is_plain b then b ∷ [] else (37 ∷ (hex_digit (b / 16) ∷ (hex_digit (b % 16) ∷ [])))
+
+abbrev pub escaped : List ℕ → List ℕ
+escaped = flat_map escaped_byte
+
+abbrev pub place_text : Place → List ℕ
+place_text p = decimal p.file ++ codes ":" ++ decimal p.line ++ codes ":" ++ decimal p.col
+
+abbrev pub kind_letter : Kind → ℕ
+kind_letter kind.Ident = 105
+kind_letter kind.Number = 110
+kind_letter kind.CharConst = 99
+kind_letter kind.Str = 115
+kind_letter kind.Punct = 112
+kind_letter kind.Header = 104
+kind_letter kind.Other = 111
+
+-- `+` where white space or the line's beginning stands before a token, else `-`
+abbrev pub mark : Bool → ℕ
+mark true = 43
+mark false = 45
+
+-- ` AT USED KM SPELLING`, and the line's end
+abbrev pub token_text : Token → List ℕ
+token_text t =
+    codes " " ++ place_text t.at ++ codes " " ++ place_text t.used
+    ++ (32 ∷ (kind_letter t.kind ∷ (mark t.space ∷ (32 ∷ [])))) ++ escaped t.text ++ (10 ∷ [])
+
+abbrev pub pragma_token_line : Token → List ℕ
+pragma_token_line t = codes "ptok" ++ token_text t
+
+abbrev pub item_lines : Item → List ℕ
+item_lines (item.Token t) = codes "tok" ++ token_text t
+item_lines (item.Pragma at ts) = codes "prag " ++ place_text at ++ (10 ∷ []) ++ flat_map pragma_token_line ts
+
+abbrev pub dep_line : List (List ℕ) → ℕ → List ℕ
+dep_line names row = codes "dep " ++ decimal row ++ codes " " ++ escaped (name_in names row) ++ (10 ∷ [])
+
+-- a space before a text that is not empty
+abbrev pub fault_text : List ℕ → List ℕ
+fault_text [] = []
+fault_text (b ∷ bs) = 32 ∷ escaped (b ∷ bs)
+
+abbrev pub last_line : Option Fault → List ℕ
+last_line None = codes "ok" ++ (10 ∷ [])
+last_line (Some f) = codes "fault " ++ decimal f.number ++ codes " " ++ place_text f.at ++ fault_text f.text ++ (10 ∷ [])
+
+abbrev pub shown_items : Mode → List Item → List ℕ
+shown_items Dump items = flat_map item_lines items
+shown_items Deps items = []
+
+abbrev pub unit_lines : Mode → List (List ℕ) → ℕ → UnitOfList → UnitOut → List ℕ
+unit_lines mode names i unit out =
+    codes "unit " ++ decimal i ++ codes " " ++ escaped (name_in names unit.file) ++ (10 ∷ [])
+    ++ shown_items mode out.items ++ flat_map (dep_line names) out.deps ++ last_line out.fault
+
+-- f of each pair, one after the other, numbered from n
+abbrev pub numbered : {A B : Type 0} → (ℕ → A → B → List ℕ) → ℕ → List A → List B → List ℕ
+numbered f n [] bs = []
+numbered f n (a ∷ more) [] = []
+numbered f n (a ∷ more) (b ∷ bs) = f n a b ++ numbered f (suc n) more bs
+
+-- the whole output
+abbrev pub output_text : Mode → CompilationList → List UnitOut → List ℕ
+output_text mode list outs = numbered (unit_lines mode list.names) 0 list.units outs

@@ -1,0 +1,88 @@
+-- From a reader's bytes to a writer's.
+use Rattle.std.specs.Prelude.{◌≡◌, ℕ, ◌≤◌, ◌||◌, Bool, false, List, [], ◌∷◌, length, take, Option, Some}
+use Rattle.std.specs.Option.{is_some}
+use Rattle.std.specs.Io.KnownBytes.{Appends, Consumes, IsAtEnd}
+use Rattle.ppshelf.specs.Files.{Files}
+use Rattle.ppunit.specs.Units.{AreUnits}
+use Rattle.ppunit.specs.declared.units.Unit.{Unit as UnitOfList}
+use Rattle.ppunit.specs.declared.units.UnitOut.{UnitOut}
+use Rattle.ppserve.specs.declared.list.List.{List as CompilationList}
+use Rattle.ppserve.specs.declared.list.ListFault.{ListFault}
+use Rattle.ppserve.specs.declared.list.ListFault.TheVariants as list_fault
+use Rattle.ppserve.specs.declared.output.Mode.{Mode}
+use Rattle.ppserve.specs.declared.serving.RunFault.{RunFault}
+use Rattle.ppserve.specs.declared.serving.RunFault.TheVariants as run_fault
+use Rattle.ppserve.specs.Listing.{most_input, outcome_of, accepted, refused}
+use Rattle.ppserve.specs.Output.{numbered, unit_lines, output_text}
+
+-- some unit has a fault
+abbrev pub some_fault : List UnitOut → Bool
+some_fault [] = false
+some_fault (out ∷ outs) = is_some out.fault || some_fault outs
+
+-- the bytes came from a reader, and are all that it had unless they are too many for a list
+pub record Received (before after : Option (List ℕ)) (bytes : List ℕ) : Type 0 where
+  pub came : Consumes before after bytes
+  pub whole : length bytes ≤ most_input → IsAtEnd after
+
+-- a list came, in which contents stand or not
+pub record Comes (inline : Bool) (before after : Option (List ℕ)) (list : CompilationList) : Type 0 where
+  pub bytes : List ℕ
+  pub received : Received before after bytes
+  pub is_list : outcome_of inline bytes ≡ accepted list
+
+-- a list came, whose units give these over some such files
+pub record Brings (inline : Bool) (Such : CompilationList → Files → Type 0)
+    (before after : Option (List ℕ)) (list : CompilationList) (outs : List UnitOut) : Type 0 where
+  pub came : Comes inline before after list
+  pub files : Files
+  pub such : Such list files
+  pub gives : AreUnits list.names files list.setting list.units outs
+
+-- the whole output of units went out
+pub record HandsOut (mode : Mode) (names : List (List ℕ)) (units : List UnitOfList) (outs : List UnitOut)
+    (before after : Option (List ℕ)) (any : Bool) : Type 0 where
+  pub went : Appends before after (numbered (unit_lines mode names) 0 units outs)
+  pub fault : any ≡ some_fault outs
+
+-- a beginning of the output of units went out
+pub record HandsOutFront (mode : Mode) (names : List (List ℕ)) (units : List UnitOfList) (outs : List UnitOut)
+    (before after : Option (List ℕ)) : Type 0 where
+  pub count : ℕ
+  pub went : Appends before after (take count (numbered (unit_lines mode names) 0 units outs))
+
+-- a list came, and its whole output over some such files went out
+pub record Serves (inline : Bool) (Such : CompilationList → Files → Type 0) (mode : Mode)
+    (before after out_before out_after : Option (List ℕ)) (any : Bool) : Type 0 where
+  pub list : CompilationList
+  pub outs : List UnitOut
+  pub came : Brings inline Such before after list outs
+  pub went : Appends out_before out_after (output_text mode list outs)
+  pub fault : any ≡ some_fault outs
+
+-- a list came, and a beginning of its output over some such files went out
+pub record BreaksOff (inline : Bool) (Such : CompilationList → Files → Type 0) (mode : Mode)
+    (before after out_before out_after : Option (List ℕ)) : Type 0 where
+  pub list : CompilationList
+  pub outs : List UnitOut
+  pub came : Brings inline Such before after list outs
+  pub count : ℕ
+  pub went : Appends out_before out_after (take count (output_text mode list outs))
+
+-- what came is refused with this number
+pub record Refuses (inline : Bool) (before after : Option (List ℕ)) (number : ℕ) : Type 0 where
+  pub bytes : List ℕ
+  pub received : Received before after bytes
+  pub is_refused : outcome_of inline bytes ≡ refused number
+
+-- what a run says of a list that it cannot read
+abbrev pub run_fault_of : ListFault → RunFault
+run_fault_of (list_fault.Bad number) = run_fault.List number
+run_fault_of list_fault.Memory = run_fault.Memory
+
+-- Where the bytes of a reader are known, what came from it is the list that they all hold, or is refused as they are.
+abbrev pub KnownBytesDecide : Type 0
+KnownBytesDecide =
+    (inline : Bool) (known bytes : List ℕ) (after : Option (List ℕ))
+    → Received (Some known) after bytes
+    → outcome_of inline bytes ≡ outcome_of inline known

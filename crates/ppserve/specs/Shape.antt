@@ -1,0 +1,140 @@
+-- The shape of a list: which members its objects have, of which kinds, and what is drafted of each.
+use Rattle.std.specs.Prelude.{◌≡◌, ℕ, ◌+◌, ◌-◌, ◌*◌, ◌&&◌, Bool, true, false, List, [], ◌∷◌}
+use Rattle.std.specs.Prelude.{if◌then◌else◌, nat_le, codes, Option, Some, None, option_map, option_and_then, unwrap_or}
+use Rattle.std.specs.List.{list_any}
+use Rattle.std.specs.Str.{bytes_eq}
+use Rattle.serde_json.specs.Data.{Num, Data, number, string, array, Items, no_items, item, Members, no_members, member}
+use Rattle.serde_json.specs.Find.{get, as_object, as_u64}
+use Rattle.ppserve.specs.declared.list.drafts.DraftFile.{DraftFile}
+use Rattle.ppserve.specs.declared.list.drafts.DraftUnit.{DraftUnit}
+use Rattle.ppserve.specs.declared.list.drafts.DraftBudget.{DraftBudget}
+use Rattle.ppserve.specs.declared.list.drafts.DraftBudget.TheVariants as budget
+use Rattle.ppserve.specs.declared.list.drafts.DraftSetting.{DraftSetting}
+use Rattle.ppserve.specs.declared.list.drafts.Draft.{Draft}
+
+-- ---- names of members
+
+abbrev pub has_text : List ℕ → List (List ℕ) → Bool
+has_text t = list_any (bytes_eq t)
+
+-- each member's name is one of these
+abbrev pub has_only : List (List ℕ) → Members → Bool
+has_only names no_members = true
+has_only names (member k d ms) = has_text k names && has_only names ms
+
+-- an object with no other members than these
+abbrev pub is_object_of : List (List ℕ) → Data → Bool
+is_object_of names d = unwrap_or (option_map (has_only names) (as_object d)) false
+
+abbrev pub file_members : Bool → List (List ℕ)
+file_members true = codes "name" ∷ codes "text" ∷ codes "hex" ∷ []
+file_members false = codes "name" ∷ []
+
+abbrev pub unit_members : List (List ℕ)
+unit_members = codes "file" ∷ codes "define" ∷ codes "search" ∷ []
+
+abbrev pub list_members : List (List ℕ)
+list_members = codes "profile" ∷ codes "budget" ∷ codes "date" ∷ codes "time" ∷ codes "search" ∷ codes "files" ∷ codes "units" ∷ []
+
+-- ---- hexadecimal digits
+
+-- the value of a hexadecimal digit, a letter in lower case
+abbrev pub hex_value : ℕ → Option ℕ
+hex_value b = if nat_le 48 b && nat_le b 57 then Some (b - 48) else (if nat_le 97 b && nat_le b 102 then Some (b - 87) else None)
+
+-- the byte that two hexadecimal digits spell
+abbrev pub hex_byte : ℕ → ℕ → Option ℕ
+hex_byte high low = option_and_then (λ h. option_map (λ l. h * 16 + l) (hex_value low)) (hex_value high)
+
+-- the bytes that pairs of hexadecimal digits spell
+abbrev pub hex_bytes : List ℕ → Option (List ℕ)
+hex_bytes [] = Some []
+hex_bytes (a ∷ []) = None
+hex_bytes (a ∷ b ∷ more) = option_and_then (λ x. option_map (λ xs. x ∷ xs) (hex_bytes more)) (hex_byte a b)
+
+-- ---- one member
+
+-- a value is a string of this text
+abbrev pub IsText : Data → List ℕ → Type 0
+IsText d text = d ≡ string text
+
+-- the member of this name is a string of this text
+abbrev pub HasText : Data → List ℕ → List ℕ → Type 0
+HasText d name text = get name d ≡ Some (string text)
+
+-- the items of an array are so, one after the other, with those of a list
+pub data AreItems {A : Type 0} (Is : Data → A → Type 0) : Items → List A → Type 0 where
+  nothing : AreItems Is no_items []
+  more : {d : Data} {x : A} {ds : Items} {xs : List A}
+      → Is d x
+      → AreItems Is ds xs
+      → AreItems Is (item d ds) (x ∷ xs)
+
+-- the member of this name is an array, whose items are so with those of a list
+pub record HasItems {A : Type 0} (Is : Data → A → Type 0) (d : Data) (name : List ℕ) (xs : List A) : Type 0 where
+  pub items : Items
+  pub is_array : get name d ≡ Some (array items)
+  pub are : AreItems Is items xs
+
+-- the member of this name is an array of these texts, or it is missing and there are none
+pub data HasTexts (d : Data) (name : List ℕ) : List (List ℕ) → Type 0 where
+  no_texts : get name d ≡ None → HasTexts d name []
+  some_texts : {texts : List (List ℕ)} → HasItems IsText d name texts → HasTexts d name texts
+
+-- a file's content stands in exactly one of `text` and `hex`; where lists hold no contents it is left out
+pub data HasContent : Bool → Data → List ℕ → Type 0 where
+  as_text : {d : Data} {content : List ℕ}
+      → HasText d (codes "text") content
+      → get (codes "hex") d ≡ None
+      → HasContent true d content
+  as_hex : {d : Data} {digits content : List ℕ}
+      → get (codes "text") d ≡ None
+      → HasText d (codes "hex") digits
+      → hex_bytes digits ≡ Some content
+      → HasContent true d content
+  left_out : {d : Data} → HasContent false d []
+
+-- the text of the profile, which is `c11` where it is missing
+pub data HasProfile (d : Data) : List ℕ → Type 0 where
+  no_profile : get (codes "profile") d ≡ None → HasProfile d (codes "c11")
+  some_profile : {text : List ℕ} → HasText d (codes "profile") text → HasProfile d text
+
+-- the budget: missing, a whole number of 64 bits without a sign, or another number
+pub data HasBudget (d : Data) : DraftBudget → Type 0 where
+  no_budget : get (codes "budget") d ≡ None → HasBudget d budget.Missing
+  whole_budget : {n : Num} {amount : ℕ}
+      → get (codes "budget") d ≡ Some (number n)
+      → as_u64 n ≡ Some amount
+      → HasBudget d (budget.Whole amount)
+  other_budget : {n : Num}
+      → get (codes "budget") d ≡ Some (number n)
+      → as_u64 n ≡ None
+      → HasBudget d budget.Other
+
+-- ---- one object, a field a member
+
+pub record IsFileDraft (inline : Bool) (d : Data) (f : DraftFile) : Type 0 where
+  pub object : is_object_of (file_members inline) d ≡ true
+  pub name : HasText d (codes "name") f.name
+  pub content : HasContent inline d f.content
+
+pub record IsUnitDraft (d : Data) (u : DraftUnit) : Type 0 where
+  pub object : is_object_of unit_members d ≡ true
+  pub file : HasText d (codes "file") u.file
+  pub defines : HasTexts d (codes "define") u.defines
+  pub folders : HasTexts d (codes "search") u.search
+
+-- what all units share
+pub record IsSettingDraft (d : Data) (s : DraftSetting) : Type 0 where
+  pub profile : HasProfile d s.profile
+  pub budget : HasBudget d s.budget
+  pub date : HasText d (codes "date") s.date
+  pub time : HasText d (codes "time") s.time
+  pub folders : HasTexts d (codes "search") s.search
+
+-- the list, in which contents stand or not
+pub record IsDraft (inline : Bool) (d : Data) (x : Draft) : Type 0 where
+  pub object : is_object_of list_members d ≡ true
+  pub setting : IsSettingDraft d x.setting
+  pub files : HasItems (IsFileDraft inline) d (codes "files") x.files
+  pub units : HasItems IsUnitDraft d (codes "units") x.units

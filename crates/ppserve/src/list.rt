@@ -1,0 +1,160 @@
+// The list of translation units, read from JSON.
+ghost use Rattle.std.specs.Prelude.{◌≡◌, ◌≤◌, ℕ, Some, None, IfOk, IfErr, IsErrOf, true, length};
+ghost use Rattle.serde_json.specs.View.{view};
+ghost use Rattle.ppserve.specs.Listing.{RefusedFor, IsRunnable, json_value, outcome_of, judged, accepted, refused, most_input};
+ghost use Rattle.ppserve.specs.declared.list.ListFault.TheVariants.{Bad, Memory as OutOfMemory};
+
+mod drafts;
+mod judging;
+#[cfg(test)]
+mod tests;
+
+pub use crate::list::drafts::shape_decides;
+use crate::list::drafts::{Draft, draft_of};
+use crate::list::judging::judge;
+use pptext::{Hashing, Memory, Sequence};
+use ppunit::{Setting, Texts, Unit};
+use serde_json::{Category, Value};
+use std::alloc::{AllocError, AllocFailed, Global};
+use std::marker::Model;
+use thiserror::Error;
+
+/// Units, which contracts see as their list.
+pub type Units = Sequence<Unit>;
+
+/// The contents of files, which contracts see as the list of their bytes.
+#[derive(Drop, Debug)]
+pub struct Contents {
+    contents: Vec<Vec<u8>>,
+}
+
+impl Model for Contents {
+    ghost use Rattle.std.specs.Prelude.{ℕ, List, map};
+
+    ghost Value = { List (List ℕ) };
+
+    ghost view = { λ c. map (λ bytes. bytes.items) c.contents.items };
+}
+
+impl Contents {
+    ghost use Rattle.std.specs.Prelude.{map};
+
+    /// These contents.
+    pub fn new(contents: Vec<Vec<u8>>) -> Contents
+        ensures { result ≡ map (λ bytes. bytes.items) contents.items }
+    {
+        Contents { contents }
+    }
+
+    /// The contents.
+    pub fn as_slice(&self) -> &[Vec<u8>]
+        ensures { map (λ bytes. bytes.items) result.now ≡ self.now }
+    {
+        self.contents.as_slice()
+    }
+
+    /// The contents, given back.
+    pub fn into_vec(self) -> Vec<Vec<u8>>
+        ensures { map (λ bytes. bytes.items) result.items ≡ self }
+    {
+        self.contents
+    }
+}
+
+/// A list of translation units with its files: a file's row is its place among the names, and among the contents.
+#[derive(Drop, Debug)]
+pub struct List {
+    pub setting: Setting,
+    pub names: Texts,
+    pub contents: Contents,
+    pub units: Units,
+}
+
+/// Why bytes give no list.
+#[derive(Debug, Drop, Error)]
+pub enum ListFault {
+    /// They are refused, with the least number of a refusal that applies.
+    #[error("list refused L{0}")]
+    Bad(u8),
+    /// Want of memory.
+    #[error("out of memory")]
+    Memory,
+}
+
+impl From<AllocError> for ListFault {
+    ghost from_gives = { λ _ e. e ≡ OutOfMemory };
+
+    fn from(_error: AllocError) -> ListFault {
+        ListFault::Memory
+    }
+}
+
+impl From<Memory> for ListFault {
+    ghost from_gives = { λ _ e. e ≡ OutOfMemory };
+
+    fn from(_error: Memory) -> ListFault {
+        ListFault::Memory
+    }
+}
+
+impl<T: Drop> From<AllocFailed<T>> for ListFault {
+    ghost from_gives = { λ _ e. e ≡ OutOfMemory };
+
+    fn from(_error: AllocFailed<T>) -> ListFault {
+        ListFault::Memory
+    }
+}
+
+/// The most bytes of a list.
+pub(crate) const MOST_INPUT: usize = 268_435_456;
+
+/// The list that bytes hold. Where `inline` is false its files have names alone, and it holds no contents. Names are hashed so.
+///
+/// # Errors
+///
+/// `Bad` with the least number that applies: 1 for bytes that are too many or no JSON value, 2 for a member
+/// that is missing, unknown or of another shape, 3 for a name that is out of normal form or stands twice, 4 for more
+/// than 65,535 files or units, or a content or a unit's definitions that are too long, 5 for a unit's file that isn't
+/// among the names, 6 for the date or the time, 7 for a definition of more than one line, 8 for a text to be searched
+/// that is no folder, 9 for another profile than `c11` and `later`, 10 for a budget that is no whole number from 0 to 4,294,967,295; and
+/// `Memory`.
+pub fn read_list(
+    alloc: Global,
+    bytes: &[u8],
+    inline: bool,
+    hashing: Hashing,
+) -> Result<List, ListFault>
+    ensures ok { IfOk result (λ l. outcome_of inline bytes.now ≡ accepted l) }
+    ensures runnable { IfOk result (λ l. IsRunnable l) }
+    ensures contents { inline ≡ true → IfOk result (λ l. length l.contents ≡ length l.names) }
+    ensures bad { (n : ℕ) → IsErrOf result (Bad n) → outcome_of inline bytes.now ≡ refused n }
+{
+    if bytes.len() > MOST_INPUT {
+        return Err(ListFault::Bad(1));
+    }
+    let draft = draft_from(alloc, bytes, inline)?;
+    judge(alloc, draft, inline, hashing)
+}
+
+/// The list as it stands in JSON. The JSON value is given back before the list is judged.
+fn draft_from(alloc: Global, bytes: &[u8], inline: bool) -> Result<Draft, ListFault>
+    requires { length bytes.now ≤ most_input }
+    ensures ok { IfOk result (λ d. outcome_of inline bytes.now ≡ judged inline d) }
+    ensures bad { (n : ℕ) → IsErrOf result (Bad n) → outcome_of inline bytes.now ≡ refused n }
+{
+    let value = json_of(alloc, bytes)?;
+    draft_of(alloc, &value, inline)
+}
+
+fn json_of(alloc: Global, bytes: &[u8]) -> Result<Value, ListFault>
+    ensures ok { IfOk result (λ v. json_value bytes.now ≡ Some (view v)) }
+    ensures err { IfErr result (RefusedFor 1 (json_value bytes.now ≡ None)) }
+{
+    match Value::from_slice(alloc, bytes) {
+        Ok(value) => Ok(value),
+        Err(error) => match error.classify() {
+            Category::Memory => Err(ListFault::Memory),
+            _ => Err(ListFault::Bad(1)),
+        },
+    }
+}

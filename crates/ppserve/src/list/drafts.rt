@@ -1,0 +1,375 @@
+// A list as it stands in JSON, before its names and times are judged.
+ghost use Rattle.std.specs.Prelude.{◌≡◌, Some, None, IfOk, IfErr, codes, map, option_and_then, ◌<◌, IfSome, string_bytes};
+ghost use Rattle.serde_json.specs.Find.{as_str};
+ghost use Rattle.serde_json.specs.View.{view, members_view, items_view};
+ghost use Rattle.ppserve.specs.Listing.{RefusedFor};
+ghost use Rattle.ppserve.specs.Shape as shape;
+ghost use Rattle.ppserve.specs.Drafting as drafting;
+ghost use Rattle.ppserve.specs.Drafting.{ShapeDecides};
+
+use crate::list::ListFault;
+use pptext::Sequence;
+use ppunit::{Text, Texts};
+use serde_json::{Map, Value};
+use std::alloc::Global;
+
+/// A file of a list as it stands.
+#[derive(Drop, Debug)]
+pub(super) struct DraftFile {
+    pub(super) name: Text,
+    pub(super) content: Sequence<u8>,
+}
+
+/// A unit of a list as it stands, with the name of its file.
+#[derive(Drop, Debug)]
+pub(super) struct DraftUnit {
+    pub(super) file: Text,
+    pub(super) defines: Texts,
+    pub(super) search: Texts,
+}
+
+/// A list's budget as it stands.
+#[derive(Clone, Copy, Drop, Debug)]
+pub(super) enum DraftBudget {
+    /// The list has none.
+    Missing,
+    /// A whole number of 64 bits without a sign.
+    Whole(u64),
+    /// Another number: one below 0, a fraction, or one that is too large.
+    Other,
+}
+
+/// What all units share as it stands, with the text of the profile.
+#[derive(Drop, Debug)]
+pub(super) struct DraftSetting {
+    pub(super) profile: Text,
+    pub(super) budget: DraftBudget,
+    pub(super) date: Text,
+    pub(super) time: Text,
+    pub(super) search: Texts,
+}
+
+/// A list as it stands.
+#[derive(Drop, Debug)]
+pub(super) struct Draft {
+    pub(super) setting: DraftSetting,
+    pub(super) files: Sequence<DraftFile>,
+    pub(super) units: Sequence<DraftUnit>,
+}
+
+/// The list as it stands.
+///
+/// # Errors
+///
+/// `Bad(2)` where a member is missing, unknown or of another shape, and `Memory`.
+pub(super) fn draft_of(alloc: Global, value: &Value, inline: bool) -> Result<Draft, ListFault>
+    ensures ok { IfOk result (λ d. drafting.draft inline (view value.now) ≡ Some d) }
+    ensures err { IfErr result (RefusedFor 2 (drafting.draft inline (view value.now) ≡ None)) }
+{
+    if !is_object_of(
+        value,
+        &[
+            "profile", "budget", "date", "time", "search", "files", "units",
+        ],
+    ) {
+        return Err(ListFault::Bad(2));
+    }
+    let setting = setting_of(alloc, value)?;
+    let files = files_of(alloc, value, inline)?;
+    let units = units_of(alloc, value)?;
+    Ok(Draft {
+        setting,
+        files,
+        units,
+    })
+}
+
+/// A law: a value gives a draft exactly where it has the shape of a list with it (`IsDraft`), member by member.
+pub fn shape_decides()
+    ensures { ShapeDecides }
+{}
+
+fn setting_of(alloc: Global, value: &Value) -> Result<DraftSetting, ListFault>
+    ensures ok { IfOk result (λ s. drafting.draft_setting (view value.now) ≡ Some s) }
+    ensures err { IfErr result (RefusedFor 2 (drafting.draft_setting (view value.now) ≡ None)) }
+{
+    let profile = profile_at(alloc, value)?;
+    let budget = budget_at(value)?;
+    let date = text_at(alloc, value, "date")?;
+    let time = text_at(alloc, value, "time")?;
+    let search = texts_at(alloc, value, "search")?;
+    Ok(DraftSetting {
+        profile,
+        budget,
+        date,
+        time,
+        search,
+    })
+}
+
+/// The text of the profile, which is `c11` where it is missing.
+fn profile_at(alloc: Global, value: &Value) -> Result<Text, ListFault>
+    ensures ok { IfOk result (λ t. drafting.profile_at (view value.now) ≡ Some t) }
+    ensures err { IfErr result (RefusedFor 2 (drafting.profile_at (view value.now) ≡ None)) }
+{
+    let text = match value.get("profile") {
+        Some(member) => text_of(member)?,
+        None => "c11",
+    };
+    Ok(Text::new(String::from_str(alloc, text)?))
+}
+
+/// The budget, a number, or that it is missing.
+fn budget_at(value: &Value) -> Result<DraftBudget, ListFault>
+    ensures ok { IfOk result (λ b. drafting.budget_at (view value.now) ≡ Some b) }
+    ensures err { IfErr result (RefusedFor 2 (drafting.budget_at (view value.now) ≡ None)) }
+{
+    let Some(member) = value.get("budget") else {
+        return Ok(DraftBudget::Missing);
+    };
+    let Some(number) = member.as_number() else {
+        return Err(ListFault::Bad(2));
+    };
+    Ok(match number.as_u64() {
+        Some(whole) => DraftBudget::Whole(whole),
+        None => DraftBudget::Other,
+    })
+}
+
+fn text_of(value: &Value) -> Result<&str, ListFault>
+    ensures ok { IfOk result (λ t. as_str (view value.now) ≡ Some t.now) }
+    ensures err { IfErr result (RefusedFor 2 (as_str (view value.now) ≡ None)) }
+{
+    match value.as_str() {
+        Some(text) => Ok(text),
+        None => Err(ListFault::Bad(2)),
+    }
+}
+
+fn files_of(alloc: Global, value: &Value, inline: bool) -> Result<Sequence<DraftFile>, ListFault>
+    ensures ok { IfOk result (λ fs. drafting.array_at (drafting.draft_file inline) (codes "files") (view value.now) ≡ Some fs) }
+    ensures err { IfErr result (RefusedFor 2 (drafting.array_at (drafting.draft_file inline) (codes "files") (view value.now) ≡ None)) }
+{
+    let Some(array) = value.get("files") else {
+        return Err(ListFault::Bad(2));
+    };
+    let Some(items) = array.as_array() else {
+        return Err(ListFault::Bad(2));
+    };
+    Ok(Sequence::new(files_from(alloc, items.as_slice(), inline)?))
+}
+
+fn files_from(alloc: Global, items: &[Value], inline: bool) -> Result<Vec<DraftFile>, ListFault>
+    ensures ok { IfOk result (λ fs. drafting.each_item (drafting.draft_file inline) (items_view items.now) ≡ Some fs.items) }
+    ensures err { IfErr result (RefusedFor 2 (drafting.each_item (drafting.draft_file inline) (items_view items.now) ≡ None)) }
+{
+    let mut files = Vec::new(alloc);
+    for item in items {
+        files.push(file_from(alloc, item, inline)?)?;
+    }
+    Ok(files)
+}
+
+fn file_from(alloc: Global, value: &Value, inline: bool) -> Result<DraftFile, ListFault>
+    ensures ok { IfOk result (λ f. drafting.draft_file inline (view value.now) ≡ Some f) }
+    ensures err { IfErr result (RefusedFor 2 (drafting.draft_file inline (view value.now) ≡ None)) }
+{
+    if !is_file_object(value, inline) {
+        return Err(ListFault::Bad(2));
+    }
+    let name = text_at(alloc, value, "name")?;
+    let content = content_of(alloc, value, inline)?;
+    Ok(DraftFile { name, content })
+}
+
+fn is_file_object(value: &Value, inline: bool) -> bool
+    ensures { result ≡ shape.is_object_of (shape.file_members inline) (view value.now) }
+{
+    if inline {
+        is_object_of(value, &["name", "text", "hex"])
+    } else {
+        is_object_of(value, &["name"])
+    }
+}
+
+/// The content of a file by exactly one of `text` and `hex`, or nothing where lists hold no contents.
+fn content_of(alloc: Global, value: &Value, inline: bool) -> Result<Sequence<u8>, ListFault>
+    ensures ok { IfOk result (λ c. drafting.content_of inline (view value.now) ≡ Some c) }
+    ensures err { IfErr result (RefusedFor 2 (drafting.content_of inline (view value.now) ≡ None)) }
+{
+    if !inline {
+        return Ok(Sequence::new(Vec::new(alloc)));
+    }
+    match (value.get("text"), value.get("hex")) {
+        (Some(text), None) => plain_content(alloc, text),
+        (None, Some(hex)) => hex_content(alloc, hex),
+        _ => Err(ListFault::Bad(2)),
+    }
+}
+
+fn plain_content(alloc: Global, value: &Value) -> Result<Sequence<u8>, ListFault>
+    ensures ok { IfOk result (λ c. as_str (view value.now) ≡ Some c) }
+    ensures err { IfErr result (RefusedFor 2 (as_str (view value.now) ≡ None)) }
+{
+    let Some(text) = value.as_str() else {
+        return Err(ListFault::Bad(2));
+    };
+    Ok(Sequence::new(Vec::from_slice(alloc, text.as_bytes())?))
+}
+
+fn hex_content(alloc: Global, value: &Value) -> Result<Sequence<u8>, ListFault>
+    ensures ok { IfOk result (λ c. option_and_then shape.hex_bytes (as_str (view value.now)) ≡ Some c) }
+    ensures err { IfErr result (RefusedFor 2 (option_and_then shape.hex_bytes (as_str (view value.now)) ≡ None)) }
+{
+    let Some(text) = value.as_str() else {
+        return Err(ListFault::Bad(2));
+    };
+    Ok(Sequence::new(hex_bytes(alloc, text.as_bytes())?))
+}
+
+fn units_of(alloc: Global, value: &Value) -> Result<Sequence<DraftUnit>, ListFault>
+    ensures ok { IfOk result (λ us. drafting.array_at drafting.draft_unit (codes "units") (view value.now) ≡ Some us) }
+    ensures err { IfErr result (RefusedFor 2 (drafting.array_at drafting.draft_unit (codes "units") (view value.now) ≡ None)) }
+{
+    let Some(array) = value.get("units") else {
+        return Err(ListFault::Bad(2));
+    };
+    let Some(items) = array.as_array() else {
+        return Err(ListFault::Bad(2));
+    };
+    Ok(Sequence::new(units_from(alloc, items.as_slice())?))
+}
+
+fn units_from(alloc: Global, items: &[Value]) -> Result<Vec<DraftUnit>, ListFault>
+    ensures ok { IfOk result (λ us. drafting.each_item drafting.draft_unit (items_view items.now) ≡ Some us.items) }
+    ensures err { IfErr result (RefusedFor 2 (drafting.each_item drafting.draft_unit (items_view items.now) ≡ None)) }
+{
+    let mut units = Vec::new(alloc);
+    for item in items {
+        units.push(unit_from(alloc, item)?)?;
+    }
+    Ok(units)
+}
+
+fn unit_from(alloc: Global, value: &Value) -> Result<DraftUnit, ListFault>
+    ensures ok { IfOk result (λ u. drafting.draft_unit (view value.now) ≡ Some u) }
+    ensures err { IfErr result (RefusedFor 2 (drafting.draft_unit (view value.now) ≡ None)) }
+{
+    if !is_object_of(value, &["file", "define", "search"]) {
+        return Err(ListFault::Bad(2));
+    }
+    let file = text_at(alloc, value, "file")?;
+    let defines = texts_at(alloc, value, "define")?;
+    let search = texts_at(alloc, value, "search")?;
+    Ok(DraftUnit {
+        file,
+        defines,
+        search,
+    })
+}
+
+fn text_at(alloc: Global, value: &Value, name: &str) -> Result<Text, ListFault>
+    ensures ok { IfOk result (λ t. drafting.text_at name.now (view value.now) ≡ Some t) }
+    ensures err { IfErr result (RefusedFor 2 (drafting.text_at name.now (view value.now) ≡ None)) }
+{
+    let Some(text) = value.get(name).and_then(Value::as_str) else {
+        return Err(ListFault::Bad(2));
+    };
+    Ok(Text::new(String::from_str(alloc, text)?))
+}
+
+/// The texts of an array, and none where it is missing.
+fn texts_at(alloc: Global, value: &Value, name: &str) -> Result<Texts, ListFault>
+    ensures ok { IfOk result (λ ts. drafting.texts_at name.now (view value.now) ≡ Some ts) }
+    ensures err { IfErr result (RefusedFor 2 (drafting.texts_at name.now (view value.now) ≡ None)) }
+{
+    match value.get(name) {
+        Some(array) => texts_of(alloc, array),
+        None => Ok(Texts::new(Vec::new(alloc))),
+    }
+}
+
+fn texts_of(alloc: Global, array: &Value) -> Result<Texts, ListFault>
+    ensures ok { IfOk result (λ ts. drafting.each_of as_str (view array.now) ≡ Some ts) }
+    ensures err { IfErr result (RefusedFor 2 (drafting.each_of as_str (view array.now) ≡ None)) }
+{
+    let Some(items) = array.as_array() else {
+        return Err(ListFault::Bad(2));
+    };
+    Ok(Texts::new(texts_from(alloc, items.as_slice())?))
+}
+
+fn texts_from(alloc: Global, items: &[Value]) -> Result<Vec<String>, ListFault>
+    ensures ok { IfOk result (λ ts. drafting.each_item as_str (items_view items.now) ≡ Some (map string_bytes ts.items)) }
+    ensures err { IfErr result (RefusedFor 2 (drafting.each_item as_str (items_view items.now) ≡ None)) }
+{
+    let mut texts = Vec::new(alloc);
+    for item in items {
+        let Some(text) = item.as_str() else {
+            return Err(ListFault::Bad(2));
+        };
+        texts.push(String::from_str(alloc, text)?)?;
+    }
+    Ok(texts)
+}
+
+/// Whether the value is an object with no other members than these.
+fn is_object_of(value: &Value, names: &[&str]) -> bool
+    ensures { result ≡ shape.is_object_of (map (λ n. n.now) names.now) (view value.now) }
+{
+    match value.as_object() {
+        Some(members) => has_only(members, names),
+        None => false,
+    }
+}
+
+fn has_only(members: &Map<String, Value>, names: &[&str]) -> bool
+    ensures { result ≡ shape.has_only (map (λ n. n.now) names.now) (members_view members.now.entries) }
+{
+    members.keys().all(|key| is_among(key.as_str(), names))
+}
+
+fn is_among(text: &str, names: &[&str]) -> bool
+    ensures { result ≡ shape.has_text text.now (map (λ n. n.now) names.now) }
+{
+    names.iter().any(|name| text == *name)
+}
+
+/// The bytes that pairs of hexadecimal digits spell.
+fn hex_bytes(alloc: Global, text: &[u8]) -> Result<Vec<u8>, ListFault>
+    ensures ok { IfOk result (λ bytes. shape.hex_bytes text.now ≡ Some bytes.items) }
+    ensures err { IfErr result (RefusedFor 2 (shape.hex_bytes text.now ≡ None)) }
+{
+    let mut bytes = Vec::with_capacity(alloc, text.len() / 2)?;
+    let mut rest = text;
+    while let [high, low, more @ ..] = rest {
+        let Some(byte) = hex_byte(*high, *low) else {
+            return Err(ListFault::Bad(2));
+        };
+        bytes.push(byte)?;
+        rest = more;
+    }
+    if !rest.is_empty() {
+        return Err(ListFault::Bad(2));
+    }
+    Ok(bytes)
+}
+
+fn hex_byte(high: u8, low: u8) -> Option<u8>
+    ensures { result ≡ shape.hex_byte high low }
+{
+    let high = hex_value(high)?;
+    let low = hex_value(low)?;
+    Some(high * 16 + low)
+}
+
+fn hex_value(digit: u8) -> Option<u8>
+    ensures value { result ≡ shape.hex_value digit }
+    ensures small { IfSome result (λ n. n < 16) }
+{
+    match digit {
+        b'0'..=b'9' => Some(digit - b'0'),
+        b'a'..=b'f' => Some(digit - b'a' + 10),
+        _ => None,
+    }
+}

@@ -1,0 +1,329 @@
+// The judgement of a list's names, sizes and texts.
+ghost use Rattle.std.specs.Prelude.{◌≡◌, ◌≤◌, ℕ, IfOk, IfErr, OnOk, IsErrOf, true, false, [], map, length, nat_le, if◌then◌else◌};
+ghost use Rattle.std.specs.List.{list_all};
+ghost use Rattle.ppshelf.specs.Content.{longest};
+ghost use Rattle.ppshelf.specs.Names as shelf_spec;
+ghost use Rattle.ppunit.specs.Forms as form;
+ghost use Rattle.ppunit.specs.Unit.{command_text};
+ghost use Rattle.ppserve.specs.Listing as spec;
+ghost use Rattle.ppserve.specs.Listing.{RefusedFor, judged, judged_texts, judged_choices, accepted, refused};
+ghost use Rattle.ppserve.specs.declared.list.ListFault.TheVariants.{Bad};
+
+use crate::list::drafts::{Draft, DraftBudget, DraftFile, DraftSetting, DraftUnit};
+use crate::list::{Contents, List, ListFault, Units};
+use ppshelf::{Index, LONGEST, MOST_ROWS, is_folder, is_name};
+use pptext::{Hashing, Memory, Profile, Sequence};
+use ppunit::{Definitions, Setting, Texts, Unit, fits_command, is_date, is_one_line, is_time};
+use std::alloc::{AllocError, Global};
+
+/// The most that a list may allow each unit.
+const MOST_BUDGET: u64 = 4_294_967_295;
+
+/// The list of a draft. Names are hashed so.
+///
+/// # Errors
+///
+/// `Bad` with the least number that applies: 3 for a name, 4 for a number or a size, 5 for the file of a unit, 6
+/// for the date or the time, 7 for a definition, 8 for a folder, 9 for the profile and 10 for the budget; and `Memory`.
+pub(super) fn judge(
+    alloc: Global,
+    draft: Draft,
+    inline: bool,
+    hashing: Hashing,
+) -> Result<List, ListFault>
+    ensures ok { IfOk result (λ l. judged inline draft ≡ accepted l) }
+    ensures bad { (n : ℕ) → IsErrOf result (Bad n) → judged inline draft ≡ refused n }
+{
+    let index = index_files(alloc, draft.files.as_slice(), hashing)?;
+    if !sizes_hold(&draft) {
+        return Err(ListFault::Bad(4));
+    }
+    if !files_are_known(&index, draft.units.as_slice()) {
+        return Err(ListFault::Bad(5));
+    }
+    judge_texts(alloc, draft, &index, inline)
+}
+
+/// The same of a draft whose names, sizes and units' files hold: its date and time, definitions and folders.
+fn judge_texts(alloc: Global, draft: Draft, index: &Index, inline: bool) -> Result<List, ListFault>
+    requires names { index.now ≡ spec.names_of draft.files }
+    requires fits { spec.commands_fit draft.units ≡ true }
+    ensures ok { IfOk result (λ l. judged_texts inline draft ≡ accepted l) }
+    ensures bad { (n : ℕ) → IsErrOf result (Bad n) → judged_texts inline draft ≡ refused n }
+{
+    if !times_hold(&draft.setting) {
+        return Err(ListFault::Bad(6));
+    }
+    if !lines_hold(draft.units.as_slice()) {
+        return Err(ListFault::Bad(7));
+    }
+    if !folders_hold(&draft) {
+        return Err(ListFault::Bad(8));
+    }
+    judge_choices(alloc, draft, index, inline)
+}
+
+/// The same of a draft whose texts hold as well: its profile and its budget.
+fn judge_choices(
+    alloc: Global,
+    draft: Draft,
+    index: &Index,
+    inline: bool,
+) -> Result<List, ListFault>
+    requires names { index.now ≡ spec.names_of draft.files }
+    requires fits { spec.commands_fit draft.units ≡ true }
+    ensures ok { IfOk result (λ l. judged_choices inline draft ≡ accepted l) }
+    ensures bad { (n : ℕ) → IsErrOf result (Bad n) → judged_choices inline draft ≡ refused n }
+{
+    let Some(profile) = profile_named(draft.setting.profile.as_str()) else {
+        return Err(ListFault::Bad(9));
+    };
+    if !is_budget(draft.setting.budget) {
+        return Err(ListFault::Bad(10));
+    }
+    Ok(listed(alloc, draft, index, profile, inline)?)
+}
+
+/// The rows of the files' names.
+///
+/// # Errors
+///
+/// `Bad(3)` where a name is out of form or stands twice, and `Memory`.
+fn index_files(alloc: Global, files: &[DraftFile], hashing: Hashing) -> Result<Index, ListFault>
+    ensures all { IfOk result (λ i. i ≡ spec.names_of files.now) }
+    ensures ok { OnOk result (spec.names_hold files.now ≡ true) }
+    ensures err { IfErr result (RefusedFor 3 (spec.names_hold files.now ≡ false)) }
+{
+    let mut index = Index::new(alloc, hashing);
+    for file in files {
+        let name = file.name.as_str().as_bytes();
+        if !is_name(name) {
+            return Err(ListFault::Bad(3));
+        }
+        let new = index.push(name)?;
+        if !new {
+            return Err(ListFault::Bad(3));
+        }
+    }
+    Ok(index)
+}
+
+fn sizes_hold(draft: &Draft) -> bool
+    ensures { result ≡ spec.sizes_hold draft.now }
+{
+    let files = draft.files.as_slice();
+    let units = draft.units.as_slice();
+    files.len() <= MOST_ROWS
+        && units.len() <= MOST_ROWS
+        && contents_fit(files)
+        && commands_fit(units)
+}
+
+fn contents_fit(files: &[DraftFile]) -> bool
+    ensures { result ≡ spec.contents_fit files.now }
+{
+    files
+        .iter()
+        .all(|file| file.content.as_slice().len() <= LONGEST)
+}
+
+fn commands_fit(units: &[DraftUnit]) -> bool
+    ensures { result ≡ spec.commands_fit units.now }
+{
+    units.iter().all(|unit| command_fits(&unit.defines))
+}
+
+fn command_fits(defines: &Texts) -> bool
+    ensures { result ≡ nat_le (length (command_text defines.now)) longest }
+{
+    fits_command(defines.as_slice())
+}
+
+/// The profile that a text names.
+fn profile_named(text: &str) -> Option<Profile>
+    ensures { result ≡ spec.profile_named text.now }
+{
+    match text {
+        "c11" => Some(Profile::C11),
+        "later" => Some(Profile::Later),
+        _ => None,
+    }
+}
+
+/// Whether a list may have this budget: none, or a whole number of at most 32 bits.
+fn is_budget(budget: DraftBudget) -> bool
+    ensures { result ≡ spec.is_budget budget }
+{
+    match budget {
+        DraftBudget::Missing => true,
+        DraftBudget::Whole(number) => number <= MOST_BUDGET,
+        DraftBudget::Other => false,
+    }
+}
+
+/// What the list allows each unit, if it says so.
+fn budget_of(budget: DraftBudget) -> Option<u64>
+    ensures { result ≡ spec.budget_of budget }
+{
+    match budget {
+        DraftBudget::Whole(number) => Some(number),
+        DraftBudget::Missing | DraftBudget::Other => None,
+    }
+}
+
+/// The list of a draft, whose names have these places. The definitions of its units are read by the profile.
+fn listed(
+    alloc: Global,
+    draft: Draft,
+    index: &Index,
+    profile: Profile,
+    inline: bool,
+) -> Result<List, Memory>
+    requires names { index.now ≡ spec.names_of draft.files }
+    requires profile { profile ≡ spec.profile_of draft.setting }
+    requires fits { spec.commands_fit draft.units ≡ true }
+    ensures { IfOk result (λ l. l ≡ spec.listed inline draft) }
+{
+    let Draft {
+        setting,
+        files,
+        units,
+    } = draft;
+    let units = listed_units(alloc, index, profile, units)?;
+    let (names, contents) = split_files(alloc, files, inline)?;
+    Ok(List {
+        setting: listed_setting(setting, profile),
+        names,
+        contents,
+        units,
+    })
+}
+
+fn listed_setting(draft: DraftSetting, profile: Profile) -> Setting
+    requires { profile ≡ spec.profile_of draft }
+    ensures { result ≡ spec.listed_setting draft }
+{
+    let DraftSetting {
+        profile: _,
+        budget,
+        date,
+        time,
+        search,
+    } = draft;
+    Setting {
+        profile,
+        date,
+        time,
+        search,
+        budget: budget_of(budget),
+    }
+}
+
+fn listed_units(
+    alloc: Global,
+    index: &Index,
+    profile: Profile,
+    units: Sequence<DraftUnit>,
+) -> Result<Units, Memory>
+    requires { spec.commands_fit units ≡ true }
+    ensures { IfOk result (λ us. us ≡ map (spec.listed_unit profile index.now) units) }
+{
+    let mut listed = Vec::new(alloc);
+    for unit in units.into_vec() {
+        let unit = listed_unit(alloc, index, profile, unit)?;
+        let Ok(()) = listed.push(unit) else {
+            return Err(Memory);
+        };
+    }
+    Ok(Units::new(listed))
+}
+
+fn files_are_known(index: &Index, units: &[DraftUnit]) -> bool
+    ensures { result ≡ spec.are_known index.now units.now }
+{
+    units.iter().all(|unit| index.row_of(unit.file.as_str().as_bytes()).is_some())
+}
+
+fn listed_unit(
+    alloc: Global,
+    index: &Index,
+    profile: Profile,
+    unit: DraftUnit,
+) -> Result<Unit, Memory>
+    requires { length (command_text unit.defines) ≤ longest }
+    ensures { IfOk result (λ u. u ≡ spec.listed_unit profile index.now unit) }
+{
+    let DraftUnit {
+        file,
+        defines,
+        search,
+    } = unit;
+    Ok(Unit {
+        file: index.row_of(file.as_str().as_bytes()).unwrap_or(0),
+        defines: Definitions::read(alloc, defines, profile)?,
+        search,
+    })
+}
+
+/// The names of the files, and their contents where lists hold them.
+fn split_files(
+    alloc: Global,
+    files: Sequence<DraftFile>,
+    inline: bool,
+) -> Result<(Texts, Contents), AllocError>
+    ensures names { IfOk result (λ r. r.0 ≡ spec.names_of files) }
+    ensures contents { IfOk result (λ r. r.1 ≡ (if inline then spec.contents_of files else [])) }
+{
+    let mut names = Vec::new(alloc);
+    let mut contents = Vec::new(alloc);
+    for file in files.into_vec() {
+        let DraftFile { name, content } = file;
+        names.push(name.into_string())?;
+        if inline {
+            contents.push(content.into_vec())?;
+        }
+    }
+    Ok((Texts::new(names), Contents::new(contents)))
+}
+
+fn times_hold(setting: &DraftSetting) -> bool
+    ensures { result ≡ spec.times_hold setting.now }
+{
+    is_date(setting.date.as_str().as_bytes()) && is_time(setting.time.as_str().as_bytes())
+}
+
+fn lines_hold(units: &[DraftUnit]) -> bool
+    ensures { result ≡ spec.lines_hold units.now }
+{
+    units.iter().all(|unit| are_lines(&unit.defines))
+}
+
+fn are_lines(texts: &Texts) -> bool
+    ensures { result ≡ list_all form.is_one_line texts.now }
+{
+    texts
+        .as_slice()
+        .iter()
+        .all(|text| is_one_line(text.as_bytes()))
+}
+
+fn folders_hold(draft: &Draft) -> bool
+    ensures { result ≡ spec.folders_hold draft.now }
+{
+    are_folders(&draft.setting.search) && units_search_folders(draft.units.as_slice())
+}
+
+fn units_search_folders(units: &[DraftUnit]) -> bool
+    ensures { result ≡ list_all (λ u. list_all shelf_spec.is_folder u.search) units.now }
+{
+    units.iter().all(|unit| are_folders(&unit.search))
+}
+
+fn are_folders(texts: &Texts) -> bool
+    ensures { result ≡ list_all shelf_spec.is_folder texts.now }
+{
+    texts
+        .as_slice()
+        .iter()
+        .all(|text| is_folder(text.as_bytes()))
+}

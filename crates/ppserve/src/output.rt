@@ -1,0 +1,409 @@
+// What is printed of a list's units.
+ghost use Rattle.std.specs.Prelude.{◌≡◌, ℕ, ◌++◌, ◌∷◌, [], ◌<◌, ◌≤◌};
+ghost use Rattle.std.specs.Prelude.{OnOk, OnErr, IfOk, Some, codes, decimal, false, true, length, take, flat_map};
+ghost use Rattle.std.specs.Io.KnownBytes.{Appends};
+ghost use Rattle.ppserve.specs.Output.{escaped, escaped_byte, is_plain as plain, hex_digit, place_text, item_lines, pragma_token_line};
+ghost use Rattle.ppserve.specs.Output.{dep_line, fault_text, last_line, shown_items, unit_lines, numbered, output_text};
+ghost use Rattle.ppserve.specs.Printing.{Puts};
+ghost use Rattle.ppserve.specs.declared.output.Mode.TheVariants.{Dump, Deps};
+ghost use Rattle.ppmacro.specs.Substituting.{tokens_of};
+ghost use Rattle.ppexpand.specs.Pieces.{piece_list};
+ghost use Rattle.ppshelf.specs.Names.{name_in};
+ghost use Rattle.ppunit.specs.Parts.{part_items};
+ghost use Rattle.ppunit.specs.declared.units.Item.TheVariants as item;
+ghost use Rattle.ppserve.specs.Lines.{before_spelling, token_line};
+
+#[cfg(test)]
+mod tests;
+
+use crate::list::List;
+use crate::page::Page;
+use crate::streams::{Failed, Sink, VecSink};
+use itoa::Buffer;
+use ppexpand::{Piece, Run};
+use ppmacro::Hidden;
+use pptext::{Fault, Kind, Memory, Place, Spelling, Token};
+use ppunit::{Items, Part, Texts, Unit, UnitOut};
+use std::alloc::Global;
+
+/// What is printed of each unit.
+#[derive(Clone, Copy, Debug, PartialEq, Eq)]
+pub enum Mode {
+    /// Its items, its dependencies and its fault.
+    Dump,
+    /// Its dependencies and its fault.
+    Deps,
+}
+
+/// The output: for each unit a line for its name, one for each item and each dependency, and one for how it ended.
+pub fn dump(alloc: Global, list: &List, outs: &[UnitOut]) -> Result<Vec<u8>, Memory>
+    requires { length outs.now ≡ length list.now.units }
+    ensures { IfOk result (λ text. text.items ≡ output_text Dump list.now outs.now) }
+{
+    printed(alloc, Mode::Dump, list, outs)
+}
+
+/// The output without the items: for each unit a line for its name, one for each dependency, and one for how it ended.
+pub fn deps(alloc: Global, list: &List, outs: &[UnitOut]) -> Result<Vec<u8>, Memory>
+    requires { length outs.now ≡ length list.now.units }
+    ensures { IfOk result (λ text. text.items ≡ output_text Deps list.now outs.now) }
+{
+    printed(alloc, Mode::Deps, list, outs)
+}
+
+fn printed(alloc: Global, mode: Mode, list: &List, outs: &[UnitOut]) -> Result<Vec<u8>, Memory>
+    requires { length outs.now ≡ length list.now.units }
+    ensures { IfOk result (λ text. text.items ≡ output_text mode list.now outs.now) }
+{
+    let mut page = Page::new(alloc)?;
+    let mut text = VecSink::new(alloc);
+    let units = list.units.as_slice();
+    let Ok(()) = print(&mut page, &mut text, mode, &list.names, units, outs) else {
+        return Err(Memory);
+    };
+    Ok(text.into_bytes())
+}
+
+/// Prints the output of units over an empty page. Nothing is asked for, and only a write can fail; the output then broke off.
+pub(crate) fn print<W: Sink>(
+    page: &mut Page,
+    writer: &mut W,
+    mode: Mode,
+    names: &Texts,
+    units: &[Unit],
+    outs: &[UnitOut],
+) -> Result<(), Failed>
+    requires page { page.old ≡ [] }
+    requires writer { W.has_failed writer.old ≡ false }
+    requires counts { length outs.now ≡ length units.now }
+    ensures ok { OnOk result (Appends (W.written writer.old) (W.written writer.new) (numbered (unit_lines mode names.now) 0 units.now outs.now)) }
+    ensures failed { OnErr result (W.has_failed writer.new ≡ true) }
+    ensures front { OnErr result ((n : ℕ) × Appends (W.written writer.old) (W.written writer.new)
+        (take n (numbered (unit_lines mode names.now) 0 units.now outs.now))) }
+{
+    put_units(page, writer, mode, names, units, outs);
+    page.send(writer);
+    if writer.failed() {
+        return Err(Failed);
+    }
+    Ok(())
+}
+
+fn put_units<W: Sink>(
+    page: &mut Page,
+    writer: &mut W,
+    mode: Mode,
+    names: &Texts,
+    units: &[Unit],
+    outs: &[UnitOut],
+)
+    requires { length outs.now ≡ length units.now }
+    ensures { Puts W.written W.has_failed writer.old writer.new page.old page.new (numbered (unit_lines mode names.now) 0 units.now outs.now) }
+{
+    for (index, out) in outs.iter().enumerate() {
+        put_unit(page, writer, mode, names, index, &units[index], out);
+    }
+}
+
+/// Puts the lines of a unit. Once a write has failed, nothing goes out, and so nothing is made.
+fn put_unit<W: Sink>(
+    page: &mut Page,
+    writer: &mut W,
+    mode: Mode,
+    names: &Texts,
+    index: usize,
+    unit: &Unit,
+    out: &UnitOut,
+)
+    ensures { Puts W.written W.has_failed writer.old writer.new page.old page.new (unit_lines mode names.now index unit.now out.now) }
+{
+    if writer.failed() {
+        return;
+    }
+    page.put(writer, b"unit ");
+    put_decimal(page, writer, index as u64);
+    page.put(writer, b" ");
+    put_name(page, writer, names, unit.file);
+    page.put(writer, b"\n");
+    put_shown(page, writer, mode, &out.items);
+    put_deps(page, writer, names, out.deps.as_slice());
+    put_last(page, writer, &out.fault);
+}
+
+fn put_shown<W: Sink>(page: &mut Page, writer: &mut W, mode: Mode, items: &Items)
+    ensures { Puts W.written W.has_failed writer.old writer.new page.old page.new (shown_items mode items.now) }
+{
+    match mode {
+        Mode::Dump => put_items(page, writer, items),
+        Mode::Deps => {}
+    }
+}
+
+fn put_items<W: Sink>(page: &mut Page, writer: &mut W, items: &Items)
+    ensures { Puts W.written W.has_failed writer.old writer.new page.old page.new (flat_map item_lines items.now) }
+{
+    for part in items.parts() {
+        put_part(page, writer, part);
+    }
+}
+
+fn put_part<W: Sink>(page: &mut Page, writer: &mut W, part: &Part)
+    ensures { Puts W.written W.has_failed writer.old writer.new page.old page.new (flat_map item_lines (part_items part.now)) }
+{
+    match part {
+        Part::Run(run) => put_run(page, writer, run),
+        Part::Pragma(at, tokens) => put_pragma(page, writer, *at, tokens),
+    }
+}
+
+fn put_pragma<W: Sink>(page: &mut Page, writer: &mut W, at: Place, tokens: &[Token])
+    ensures { Puts W.written W.has_failed writer.old writer.new page.old page.new (item_lines (item.Pragma at tokens.now)) }
+{
+    page.put(writer, b"prag ");
+    put_place(page, writer, at);
+    page.put(writer, b"\n");
+    put_pragma_tokens(page, writer, tokens);
+}
+
+fn put_run<W: Sink>(page: &mut Page, writer: &mut W, run: &Run)
+    ensures { Puts W.written W.has_failed writer.old writer.new page.old page.new (flat_map token_line run.now) }
+{
+    let (front, pieces, singles) = run.parts();
+    put_shared(page, writer, front);
+    put_pieces(page, writer, pieces);
+    put_made(page, writer, singles);
+}
+
+fn put_pieces<W: Sink>(page: &mut Page, writer: &mut W, pieces: &[Piece])
+    ensures { Puts W.written W.has_failed writer.old writer.new page.old page.new (flat_map token_line (tokens_of (flat_map piece_list pieces.now))) }
+{
+    for piece in pieces {
+        put_piece(page, writer, piece);
+    }
+}
+
+fn put_piece<W: Sink>(page: &mut Page, writer: &mut W, piece: &Piece)
+    ensures { Puts W.written W.has_failed writer.old writer.new page.old page.new (flat_map token_line (tokens_of (piece_list piece.now))) }
+{
+    match piece {
+        Piece::Shared(stretch) => put_shared(page, writer, stretch.tokens()),
+        Piece::Made(made) => put_made(page, writer, made.as_slice()),
+    }
+}
+
+fn put_shared<W: Sink>(page: &mut Page, writer: &mut W, tokens: &[Token])
+    ensures { Puts W.written W.has_failed writer.old writer.new page.old page.new (flat_map token_line tokens.now) }
+{
+    for token in tokens {
+        put_token(page, writer, token);
+    }
+}
+
+fn put_made<W: Sink>(page: &mut Page, writer: &mut W, made: &[Hidden])
+    ensures { Puts W.written W.has_failed writer.old writer.new page.old page.new (flat_map token_line (tokens_of made.now)) }
+{
+    for hidden in made {
+        put_hidden(page, writer, hidden);
+    }
+}
+
+fn put_pragma_tokens<W: Sink>(page: &mut Page, writer: &mut W, tokens: &[Token])
+    ensures { Puts W.written W.has_failed writer.old writer.new page.old page.new (flat_map pragma_token_line tokens.now) }
+{
+    for token in tokens {
+        put_pragma_token(page, writer, token);
+    }
+}
+
+fn put_pragma_token<W: Sink>(page: &mut Page, writer: &mut W, token: &Token)
+    ensures { Puts W.written W.has_failed writer.old writer.new page.old page.new (pragma_token_line token.now) }
+{
+    page.put(writer, b"p");
+    put_token(page, writer, token);
+}
+
+#[inline(always)]
+fn put_hidden<W: Sink>(page: &mut Page, writer: &mut W, hidden: &Hidden)
+    ensures { Puts W.written W.has_failed writer.old writer.new page.old page.new (token_line hidden.now.token) }
+{
+    let word = hidden.word();
+    put_line(
+        page,
+        writer,
+        word.at,
+        hidden.used(),
+        word.kind,
+        hidden.space(),
+        &word.text,
+    );
+}
+
+#[inline(always)]
+fn put_token<W: Sink>(page: &mut Page, writer: &mut W, token: &Token)
+    ensures { Puts W.written W.has_failed writer.old writer.new page.old page.new (token_line token.now) }
+{
+    let (at, used) = (token.at, token.used);
+    put_line(page, writer, at, used, token.kind, token.space, &token.text);
+}
+
+/// Puts a token's line. Most spellings are short and plain, and then the line is put in one turn.
+#[inline(always)]
+fn put_line<W: Sink>(
+    page: &mut Page,
+    writer: &mut W,
+    at: Place,
+    used: Place,
+    kind: Kind,
+    space: bool,
+    spelling: &Spelling,
+)
+    ensures { Puts W.written W.has_failed writer.old writer.new page.old page.new
+        (codes "tok" ++ before_spelling at used kind space ++ escaped spelling.now ++ (10 ∷ [])) }
+{
+    page.make_room(writer);
+    page.add_beginning(at, used, kind, space);
+    if let Some((room, len)) = spelling.in_place() {
+        if page.add_end(room, len) {
+            return;
+        }
+    }
+    put_end(page, writer, spelling.as_bytes());
+}
+
+/// Puts any spelling and the end of its line.
+#[inline(never)]
+fn put_end<W: Sink>(page: &mut Page, writer: &mut W, spelling: &[u8])
+    ensures { Puts W.written W.has_failed writer.old writer.new page.old page.new (escaped spelling.now ++ (10 ∷ [])) }
+{
+    put_escaped(page, writer, spelling);
+    page.put(writer, b"\n");
+}
+
+fn put_deps<W: Sink>(page: &mut Page, writer: &mut W, names: &Texts, rows: &[usize])
+    ensures { Puts W.written W.has_failed writer.old writer.new page.old page.new (flat_map (dep_line names.now) rows.now) }
+{
+    for &row in rows {
+        put_dep(page, writer, names, row);
+    }
+}
+
+fn put_dep<W: Sink>(page: &mut Page, writer: &mut W, names: &Texts, row: usize)
+    ensures { Puts W.written W.has_failed writer.old writer.new page.old page.new (dep_line names.now row) }
+{
+    page.put(writer, b"dep ");
+    put_decimal(page, writer, row as u64);
+    page.put(writer, b" ");
+    put_name(page, writer, names, row);
+    page.put(writer, b"\n");
+}
+
+fn put_name<W: Sink>(page: &mut Page, writer: &mut W, names: &Texts, row: usize)
+    ensures { Puts W.written W.has_failed writer.old writer.new page.old page.new (escaped (name_in names.now row)) }
+{
+    if let Some(name) = names.as_slice().get(row) {
+        put_escaped(page, writer, name.as_bytes());
+    }
+}
+
+fn put_last<W: Sink>(page: &mut Page, writer: &mut W, fault: &Option<Fault>)
+    ensures { Puts W.written W.has_failed writer.old writer.new page.old page.new (last_line fault.now) }
+{
+    match fault {
+        None => page.put(writer, b"ok\n"),
+        Some(fault) => put_fault(page, writer, fault),
+    }
+}
+
+fn put_fault<W: Sink>(page: &mut Page, writer: &mut W, fault: &Fault)
+    ensures { Puts W.written W.has_failed writer.old writer.new page.old page.new (last_line (Some fault.now)) }
+{
+    page.put(writer, b"fault ");
+    put_decimal(page, writer, u64::from(fault.number));
+    page.put(writer, b" ");
+    put_place(page, writer, fault.at);
+    put_fault_text(page, writer, fault.text.as_bytes());
+    page.put(writer, b"\n");
+}
+
+fn put_fault_text<W: Sink>(page: &mut Page, writer: &mut W, words: &[u8])
+    ensures { Puts W.written W.has_failed writer.old writer.new page.old page.new (fault_text words.now) }
+{
+    if words.is_empty() {
+        return;
+    }
+    page.put(writer, b" ");
+    put_escaped(page, writer, words);
+}
+
+fn put_place<W: Sink>(page: &mut Page, writer: &mut W, place: Place)
+    ensures { Puts W.written W.has_failed writer.old writer.new page.old page.new (place_text place) }
+{
+    put_decimal(page, writer, u64::from(place.file));
+    page.put(writer, b":");
+    put_decimal(page, writer, u64::from(place.line));
+    page.put(writer, b":");
+    put_decimal(page, writer, u64::from(place.col));
+}
+
+fn put_decimal<W: Sink>(page: &mut Page, writer: &mut W, number: u64)
+    ensures { Puts W.written W.has_failed writer.old writer.new page.old page.new (decimal number) }
+{
+    let mut buffer = Buffer::new();
+    page.put(writer, buffer.format(number).as_bytes());
+}
+
+/// Puts runs of plain bytes as they are, and each other byte as `%` and two digits.
+fn put_escaped<W: Sink>(page: &mut Page, writer: &mut W, bytes: &[u8])
+    ensures { Puts W.written W.has_failed writer.old writer.new page.old page.new (escaped bytes.now) }
+{
+    let mut rest = bytes;
+    while !rest.is_empty() {
+        let (run, others) = rest.split_at(plain_len(rest));
+        page.put(writer, run);
+        let Some((&byte, more)) = others.split_first() else {
+            return;
+        };
+        put_byte(page, writer, byte);
+        rest = more;
+    }
+}
+
+/// How many bytes, from the first on, stand for themselves.
+fn plain_len(bytes: &[u8]) -> usize
+    ensures within { result ≤ length bytes.now }
+    ensures plain { escaped (take result bytes.now) ≡ take result bytes.now }
+{
+    for (count, &byte) in bytes.iter().enumerate() {
+        if !is_plain(byte) {
+            return count;
+        }
+    }
+    bytes.len()
+}
+
+fn put_byte<W: Sink>(page: &mut Page, writer: &mut W, byte: u8)
+    ensures { Puts W.written W.has_failed writer.old writer.new page.old page.new (escaped_byte byte) }
+{
+    if is_plain(byte) {
+        page.put(writer, &[byte]);
+    } else {
+        page.put(writer, &[b'%', hex(byte / 16), hex(byte % 16)]);
+    }
+}
+
+pub(crate) fn is_plain(byte: u8) -> bool
+    ensures { result ≡ plain byte }
+{
+    byte >= 32 && byte <= 126 && byte != b'%'
+}
+
+fn hex(digit: u8) -> u8
+    requires { digit < 16 }
+    ensures { result ≡ hex_digit digit }
+{
+    if digit < 10 {
+        b'0' + digit
+    } else {
+        b'A' + (digit - 10)
+    }
+}

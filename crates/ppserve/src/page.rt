@@ -1,0 +1,138 @@
+// The page that bytes wait on before they go out.
+ghost use Rattle.std.specs.Prelude.{◌≡◌, ◌+◌, ◌≤◌, ◌++◌, ◌∷◌, [], codes, length, take, true, false, IfOk};
+ghost use Rattle.ppserve.specs.Lines.{before_spelling};
+ghost use Rattle.ppserve.specs.Output.{escaped};
+ghost use Rattle.ppserve.specs.Printing.{Puts};
+
+use crate::beginning::{Beginning, MOST};
+use crate::streams::Sink;
+use crate::writing::{plain_front, put_byte, put_front};
+use pptext::{Kind, Place};
+use std::alloc::{AllocError, Global};
+use std::marker::Model;
+
+const SIZE: usize = 65_536;
+
+/// The room of a short spelling.
+const SHORT: usize = 14;
+
+/// Bytes that wait. All its memory is there from the start, so nothing that is put on it is refused.
+#[derive(Drop)]
+pub(crate) struct Page {
+    bytes: Vec<u8>,
+    used: usize,
+    line: Beginning,
+}
+
+impl Model for Page {
+    ghost use Rattle.std.specs.Prelude.{◌≡◌, ◌≤◌, ℕ, List, take, vec_len};
+
+    ghost Value = { List ℕ };
+
+    ghost view = { λ p. take p.used p.bytes.items };
+
+    ghost invariant = { λ p. (vec_len p.bytes ≡ 65_536) × (p.used ≤ 65_536) };
+}
+
+impl Page {
+    /// A page on which nothing waits.
+    pub(crate) fn new(alloc: Global) -> Result<Page, AllocError>
+        ensures { IfOk result (λ page. page ≡ []) }
+    {
+        let bytes = vec![in alloc; 0u8; SIZE]?;
+        Ok(Page {
+            bytes,
+            used: 0,
+            line: Beginning::new(),
+        })
+    }
+
+    /// Puts bytes behind those that wait. Where there is no room, the page goes out first, and more bytes than a page holds go out themselves.
+    pub(crate) fn put<W: Sink>(&mut self, writer: &mut W, bytes: &[u8])
+        ensures { Puts W.written W.has_failed writer.old writer.new self.old self.new bytes.now }
+    {
+        if bytes.len() <= SIZE - self.used {
+            return self.add(bytes);
+        }
+        self.send(writer);
+        if bytes.len() <= SIZE {
+            return self.add(bytes);
+        }
+        write_out(writer, bytes);
+    }
+
+    /// Sends the page out where it has no room for the beginning of a token's line.
+    #[inline(always)]
+    pub(crate) fn make_room<W: Sink>(&mut self, writer: &mut W)
+        ensures out { Puts W.written W.has_failed writer.old writer.new self.old self.new [] }
+        ensures room { length self.new + 88 ≤ 65_536 }
+    {
+        if SIZE - self.used < MOST + SHORT + 1 {
+            self.send(writer);
+        }
+    }
+
+    /// Adds what stands before the spelling of a token.
+    #[inline(always)]
+    pub(crate) fn add_beginning(&mut self, at: Place, used: Place, kind: Kind, space: bool)
+        requires { length self.old + 73 ≤ 65_536 }
+        ensures text { self.new ≡ self.old ++ codes "tok" ++ before_spelling at used kind space }
+        ensures within { length self.new ≤ length self.old + 73 }
+    {
+        let bytes = self.bytes.as_mut_slice();
+        self.used = self.line.put(bytes, self.used, at, used, kind, space);
+    }
+
+    /// Adds the spelling at the front of a room and the end of its line, where all its bytes stand for themselves. All of the room is
+    /// copied, and no branch is on the spelling's length, which nobody can predict.
+    #[inline(always)]
+    pub(crate) fn add_end(&mut self, room: &[u8; 14], len: usize) -> bool
+        requires room { length self.old + 15 ≤ 65_536 }
+        requires len { len ≤ 14 }
+        ensures added { result ≡ true → self.new ≡ self.old ++ escaped (take len room.now) ++ (10 ∷ []) }
+        ensures refused { result ≡ false → self.new ≡ self.old }
+    {
+        if plain_front(room) < len {
+            return false;
+        }
+        let bytes = self.bytes.as_mut_slice();
+        let end = put_front(bytes, self.used, room, len);
+        self.used = put_byte(bytes, end, b'\n');
+        true
+    }
+
+    fn add(&mut self, bytes: &[u8])
+        requires { length self.old + length bytes.now ≤ 65_536 }
+        ensures { self.new ≡ self.old ++ bytes.now }
+    {
+        let end = self.used + bytes.len();
+        self.bytes.as_mut_slice()[self.used..end].copy_from_slice(bytes);
+        self.used = end;
+    }
+
+    /// Sends out what waits.
+    #[inline(never)]
+    pub(crate) fn send<W: Sink>(&mut self, writer: &mut W)
+        ensures out { Puts W.written W.has_failed writer.old writer.new self.old self.new [] }
+        ensures empty { self.new ≡ [] }
+    {
+        write_out(writer, &self.bytes.as_slice()[..self.used]);
+        self.used = 0;
+    }
+}
+
+/// Writes all bytes, or those that go out before a write fails. Once one has failed, nothing goes out.
+fn write_out<W: Sink>(writer: &mut W, bytes: &[u8])
+    ensures { Puts W.written W.has_failed writer.old writer.new [] [] bytes.now }
+{
+    if writer.failed() {
+        return;
+    }
+    let mut done = 0;
+    while done < bytes.len() {
+        let Ok(count) = writer.write(&bytes[done..]) else {
+            return;
+        };
+        done += count;
+    }
+}

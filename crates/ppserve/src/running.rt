@@ -1,0 +1,178 @@
+// The units of a list, by workers over its files.
+ghost use Rattle.std.specs.Prelude.{◌≡◌, ◌≤◌, [], length, replicate, All, IfOk, None};
+ghost use Rattle.ppshelf.specs.Content.{longest};
+ghost use Rattle.ppshelf.specs.Files.{most_rows, IsFull};
+ghost use Rattle.ppunit.specs.Unit.{IsUnitOf};
+ghost use Rattle.pppool.specs.Kept.{AreKept};
+ghost use Rattle.ppserve.specs.Contents.{files_of, GiveOverSome};
+ghost use Rattle.ppserve.specs.Needed.{needed};
+
+use crate::list::Contents;
+use crate::output::Mode;
+use pppool::{Gate, Keep, list_growth, run_keeping};
+use ppshelf::{Disk, MemoryDisk, Shelf};
+use pptext::{Hashing, Memory, Profile};
+use ppunit::{Setting, Texts, Unit, UnitOut};
+use std::alloc::Global;
+use std::thread::Threads;
+
+/// How workers share the units of a list, and what for.
+#[derive(Clone, Copy, Debug, PartialEq, Eq)]
+pub(crate) struct Crew {
+    /// How many work at once, 1 to 64.
+    pub workers: usize,
+    /// The most units that one takes at a time, 1 to 1024.
+    pub block: usize,
+    /// What is printed of them.
+    pub mode: Mode,
+}
+
+// How often each worker takes units where they are too few for whole blocks.
+const TURNS: usize = 16;
+
+impl Crew {
+    /// How many of a list's units one takes at a time: of a short list fewer than it may, so that all are done at about the same time.
+    pub(crate) fn share(self, units: usize) -> usize
+        requires workers { (1 ≤ self.workers) × (self.workers ≤ 64) }
+        requires block { 1 ≤ self.block }
+        ensures { (1 ≤ result) × (result ≤ self.block) }
+    {
+        units.div_ceil(self.workers * TURNS).clamp(1, self.block)
+    }
+}
+
+/// What is needed of answers to print them.
+fn needed(mode: Mode) -> Keep
+    ensures { result ≡ needed mode }
+{
+    match mode {
+        Mode::Dump => Keep::Whole,
+        Mode::Deps => Keep::Bare,
+    }
+}
+
+/// A gate that lets each unit begin at once.
+struct OpenGate;
+
+impl Gate for OpenGate {
+    fn enter(&self, _unit: usize) {}
+}
+
+/// A disk without files. It is never asked, since all rows are filled.
+pub(crate) fn no_disk(alloc: Global) -> MemoryDisk
+    ensures { result.files.items ≡ [] }
+{
+    MemoryDisk {
+        files: Vec::new(alloc),
+    }
+}
+
+/// A shelf of these names, hashed so, that reads by this profile, to whose rows nothing was moved.
+pub(crate) fn empty_shelf<D: Disk>(
+    alloc: Global,
+    names: &Texts,
+    profile: Profile,
+    hashing: Hashing,
+) -> Result<Shelf<D>, Memory>
+    requires few { length names.now ≤ most_rows }
+    ensures names { IfOk result (λ s. s.names ≡ names.now) }
+    ensures profile { IfOk result (λ s. s.profile ≡ profile) }
+    ensures empty { IfOk result (λ s. s.base ≡ replicate (length names.now) None) }
+{
+    let copies = Vec::from_clones(alloc, names.as_slice())?;
+    let Ok(shelf) = Shelf::with_hasher(alloc, copies, profile, hashing) else {
+        return Err(Memory);
+    };
+    Ok(shelf)
+}
+
+/// A shelf of these names, hashed so, to whose rows the contents are moved, which it reads by this profile.
+pub(crate) fn filled_shelf(
+    alloc: Global,
+    names: &Texts,
+    profile: Profile,
+    contents: Contents,
+    hashing: Hashing,
+) -> Result<Shelf<MemoryDisk>, Memory>
+    requires few { length names.now ≤ most_rows }
+    requires count { length contents ≡ length names.now }
+    requires small { All (λ bytes. length bytes ≤ longest) contents }
+    ensures names { IfOk result (λ s. s.names ≡ names.now) }
+    ensures profile { IfOk result (λ s. s.profile ≡ profile) }
+    ensures files { IfOk result (λ s. s.base ≡ files_of contents) }
+    ensures full { IfOk result (λ s. IsFull s) }
+{
+    let mut shelf = empty_shelf(alloc, names, profile, hashing)?;
+    shelf.fill_with(contents.into_vec())?;
+    Ok(shelf)
+}
+
+/// What is needed of what units give over exactly the files of a shelf, in their order: what they give over those that they open, and so over all.
+pub(crate) fn over_contents<'a, R: Threads + Sync>(
+    threads: &R,
+    alloc: Global,
+    shelf: &'a Shelf<MemoryDisk>,
+    setting: &Setting,
+    units: &'a [Unit],
+    crew: Crew,
+) -> Result<Vec<UnitOut<'a>>, Memory>
+    requires full { IsFull shelf.now }
+    requires count { length units.now ≤ most_rows }
+    requires profile { shelf.now.profile ≡ setting.now.profile }
+    requires units { All (IsUnitOf (length shelf.now.names) setting.now.profile) units.now }
+    requires workers { (1 ≤ crew.workers) × (crew.workers ≤ 64) }
+    requires block { (1 ≤ crew.block) × (crew.block ≤ 1024) }
+    ensures { IfOk result (λ outs. AreKept (needed crew.mode) shelf.now.names shelf.now.base setting.now units.now outs.items) }
+{
+    let disk = no_disk(alloc);
+    let mut pass = shelf.pass()?;
+    let outs = run_keeping(
+        threads,
+        alloc,
+        shelf,
+        &mut pass,
+        &disk,
+        &OpenGate,
+        setting,
+        units,
+        crew.workers,
+        crew.share(units.len()),
+        needed(crew.mode),
+    )?;
+    pass.lawful();
+    list_growth();
+    Ok(outs)
+}
+
+/// What is needed of what units give over one set of files, each content one that disks of this type may answer for its name, in their order.
+pub(crate) fn over_disk<'a, R: Threads + Sync, D: Disk + Send + Sync>(
+    threads: &R,
+    alloc: Global,
+    shelf: &'a Shelf<D>,
+    disk: &D,
+    setting: &Setting,
+    units: &'a [Unit],
+    crew: Crew,
+) -> Result<Vec<UnitOut<'a>>, Memory>
+    requires count { length units.now ≤ most_rows }
+    requires profile { shelf.now.profile ≡ setting.now.profile }
+    requires units { All (IsUnitOf (length shelf.now.names) setting.now.profile) units.now }
+    requires workers { (1 ≤ crew.workers) × (crew.workers ≤ 64) }
+    requires block { (1 ≤ crew.block) × (crew.block ≤ 1024) }
+    ensures { IfOk result (λ outs. GiveOverSome D.may (needed crew.mode) shelf.now.names setting.now units.now outs.items) }
+{
+    let mut pass = shelf.pass()?;
+    run_keeping(
+        threads,
+        alloc,
+        shelf,
+        &mut pass,
+        disk,
+        &OpenGate,
+        setting,
+        units,
+        crew.workers,
+        crew.share(units.len()),
+        needed(crew.mode),
+    )
+}

@@ -1,0 +1,235 @@
+// From the bytes of a list to the bytes of its output.
+ghost use Rattle.std.specs.Prelude.{◌≡◌, ◌⊎◌, ◌≤◌, ◌≢◌, ℕ, IfOk, IfErr, IsErrOf, length, true, false};
+ghost use Rattle.ppserve.specs.Contents.{StandIn, MayBe};
+ghost use Rattle.ppserve.specs.Listing.{IsRunnable};
+ghost use Rattle.ppserve.specs.declared.serving.RunFault.TheVariants.{List as ListRefused, Memory as OutOfMemory};
+ghost use Rattle.ppserve.specs.declared.serving.RunFault.TheVariants.{Read as ReadFailed, Write as WriteFailed};
+ghost use Rattle.ppserve.specs.Serving.{some_fault, Received, Comes, HandsOut, HandsOutFront, Serves, BreaksOff, Refuses, KnownBytesDecide};
+
+use crate::list::{List, ListFault, MOST_INPUT, read_list};
+use crate::output::{Mode, print};
+use crate::page::Page;
+use crate::running::{Crew, empty_shelf, filled_shelf, over_contents, over_disk};
+use crate::streams::{Feed, Sink};
+use ppshelf::Disk;
+use pptext::{Hashing, Memory};
+use ppunit::{Texts, Unit, UnitOut};
+use std::alloc::{AllocError, Global};
+use std::mem;
+use std::thread::Threads;
+use thiserror::Error;
+
+/// Why a run gave no output, or only a beginning of it.
+#[derive(Debug, Drop, Error)]
+pub enum RunFault {
+    /// What was read is no list: the least number of a refusal that applies.
+    #[error("list refused L{0}")]
+    List(u8),
+    /// Want of memory.
+    #[error("out of memory")]
+    Memory,
+    /// The reader failed.
+    #[error("read failed")]
+    Read,
+    /// The writer failed.
+    #[error("write failed")]
+    Write,
+}
+
+impl From<AllocError> for RunFault {
+    ghost from_gives = { λ _ e. e ≡ OutOfMemory };
+
+    fn from(_error: AllocError) -> RunFault {
+        RunFault::Memory
+    }
+}
+
+impl From<Memory> for RunFault {
+    ghost from_gives = { λ _ e. e ≡ OutOfMemory };
+
+    fn from(_error: Memory) -> RunFault {
+        RunFault::Memory
+    }
+}
+
+impl From<ListFault> for RunFault {
+    ghost use Rattle.ppserve.specs.Serving.{run_fault_of};
+
+    ghost from_gives = { λ f e. e ≡ run_fault_of f };
+
+    fn from(fault: ListFault) -> RunFault {
+        match fault {
+            ListFault::Bad(number) => RunFault::List(number),
+            ListFault::Memory => RunFault::Memory,
+        }
+    }
+}
+
+const CHUNK: usize = 65_536;
+
+/// Reads a list that holds its files, preprocesses its units by so many workers, each of which takes at most so many units at a time, and
+/// writes their output once they are all done. Answers whether some unit has a fault. Where the list has a budget, what a unit gives is what it
+/// gives within it: a beginning of what it gives without, and the whole exactly where the budget suffices.
+pub fn serve<T: Threads + Sync, R: Feed, W: Sink>(
+    threads: &T,
+    alloc: Global,
+    reader: &mut R,
+    writer: &mut W,
+    mode: Mode,
+    workers: usize,
+    block: usize,
+    hashing: Hashing,
+) -> Result<bool, RunFault>
+    requires reader { R.has_failed reader.old ≡ false }
+    requires writer { W.has_failed writer.old ≡ false }
+    requires workers { (1 ≤ workers) × (workers ≤ 64) }
+    requires block { (1 ≤ block) × (block ≤ 1024) }
+    ensures ok { IfOk result (λ any.
+        Serves true StandIn mode (R.rest reader.old) (R.rest reader.new) (W.written writer.old) (W.written writer.new) any) }
+    ensures refused { (n : ℕ) → IsErrOf result (ListRefused n) → Refuses true (R.rest reader.old) (R.rest reader.new) n }
+    ensures read { IsErrOf result ReadFailed → R.has_failed reader.new ≡ true }
+    ensures write { IsErrOf result WriteFailed → W.has_failed writer.new ≡ true }
+    ensures broken_off { IsErrOf result WriteFailed →
+        BreaksOff true StandIn mode (R.rest reader.old) (R.rest reader.new) (W.written writer.old) (W.written writer.new) }
+    ensures untouched { IfErr result (λ fault. fault ≢ WriteFailed → writer.new ≡ writer.old) }
+{
+    let list = receive(alloc, reader, true, hashing)?;
+    let List {
+        setting,
+        names,
+        contents,
+        units,
+    } = list;
+    let shelf = filled_shelf(alloc, &names, setting.profile, contents, hashing)?;
+    let units = units.as_slice();
+    let crew = Crew {
+        workers,
+        block,
+        mode,
+    };
+    let outs = over_contents(threads, alloc, &shelf, &setting, units, crew)?;
+    let answer = hand_out(alloc, writer, mode, &names, units, outs.as_slice());
+    // The program ends next: the system takes memory back at once, where token by token it costs a tenth of a run.
+    mem::forget(outs);
+    mem::forget(shelf);
+    answer
+}
+
+/// Reads a list of names, and does with it what `serve` does; workers read a file from the disk when it is asked for, and the content that
+/// is kept first is the file's for all units.
+pub fn serve_from<T: Threads + Sync, R: Feed, W: Sink, D: Disk + Send + Sync>(
+    threads: &T,
+    alloc: Global,
+    reader: &mut R,
+    writer: &mut W,
+    disk: &D,
+    mode: Mode,
+    workers: usize,
+    block: usize,
+    hashing: Hashing,
+) -> Result<bool, RunFault>
+    requires reader { R.has_failed reader.old ≡ false }
+    requires writer { W.has_failed writer.old ≡ false }
+    requires workers { (1 ≤ workers) × (workers ≤ 64) }
+    requires block { (1 ≤ block) × (block ≤ 1024) }
+    ensures ok { IfOk result (λ any.
+        Serves false (MayBe D.may) mode (R.rest reader.old) (R.rest reader.new) (W.written writer.old) (W.written writer.new) any) }
+    ensures refused { (n : ℕ) → IsErrOf result (ListRefused n) → Refuses false (R.rest reader.old) (R.rest reader.new) n }
+    ensures read { IsErrOf result ReadFailed → R.has_failed reader.new ≡ true }
+    ensures write { IsErrOf result WriteFailed → W.has_failed writer.new ≡ true }
+    ensures broken_off { IsErrOf result WriteFailed →
+        BreaksOff false (MayBe D.may) mode (R.rest reader.old) (R.rest reader.new) (W.written writer.old) (W.written writer.new) }
+    ensures untouched { IfErr result (λ fault. fault ≢ WriteFailed → writer.new ≡ writer.old) }
+{
+    let list = receive(alloc, reader, false, hashing)?;
+    let shelf = empty_shelf(alloc, &list.names, list.setting.profile, hashing)?;
+    let units = list.units.as_slice();
+    let crew = Crew {
+        workers,
+        block,
+        mode,
+    };
+    let outs = over_disk(threads, alloc, &shelf, disk, &list.setting, units, crew)?;
+    let answer = hand_out(alloc, writer, mode, &list.names, units, outs.as_slice());
+    // as in `serve`
+    mem::forget(outs);
+    mem::forget(shelf);
+    answer
+}
+
+/// The list that a reader brings, which holds its files or their names alone. Its bytes are given back once it is read.
+fn receive<R: Feed>(
+    alloc: Global,
+    reader: &mut R,
+    inline: bool,
+    hashing: Hashing,
+) -> Result<List, RunFault>
+    ensures ok { IfOk result (λ l. Comes inline (R.rest reader.old) (R.rest reader.new) l) }
+    ensures runnable { IfOk result (λ l. IsRunnable l) }
+    ensures contents { inline ≡ true → IfOk result (λ l. length l.contents ≡ length l.names) }
+    ensures refused { (n : ℕ) → IsErrOf result (ListRefused n) → Refuses inline (R.rest reader.old) (R.rest reader.new) n }
+    ensures read { IsErrOf result ReadFailed → R.has_failed reader.new ≡ true }
+    ensures unwritten { IfErr result (λ fault. fault ≢ WriteFailed) }
+{
+    let bytes = read_all(alloc, reader)?;
+    Ok(read_list(alloc, bytes.as_slice(), inline, hashing)?)
+}
+
+/// Reads to the end, or until the bytes are too many for a list.
+fn read_all<R: Feed>(alloc: Global, reader: &mut R) -> Result<Vec<u8>, RunFault>
+    ensures ok { IfOk result (λ bytes. Received (R.rest reader.old) (R.rest reader.new) bytes.items) }
+    ensures err { IfErr result (λ fault. (fault ≡ OutOfMemory) ⊎ ((fault ≡ ReadFailed) × (R.has_failed reader.new ≡ true))) }
+{
+    let mut chunk = [0u8; CHUNK];
+    let mut bytes = Vec::new(alloc);
+    while bytes.len() <= MOST_INPUT {
+        let Ok(count) = reader.read(&mut chunk) else {
+            return Err(RunFault::Read);
+        };
+        if count == 0 {
+            return Ok(bytes);
+        }
+        bytes.extend_from_slice(&chunk[..count])?;
+    }
+    Ok(bytes)
+}
+
+/// Writes the output of units, and answers whether some unit has a fault.
+fn hand_out<W: Sink>(
+    alloc: Global,
+    writer: &mut W,
+    mode: Mode,
+    names: &Texts,
+    units: &[Unit],
+    outs: &[UnitOut],
+) -> Result<bool, RunFault>
+    requires writer { W.has_failed writer.old ≡ false }
+    requires counts { length outs.now ≡ length units.now }
+    ensures ok { IfOk result (λ any. HandsOut mode names.now units.now outs.now (W.written writer.old) (W.written writer.new) any) }
+    ensures kinds { IfErr result (λ fault. (fault ≡ OutOfMemory) ⊎ (fault ≡ WriteFailed)) }
+    ensures write { IsErrOf result WriteFailed → W.has_failed writer.new ≡ true }
+    ensures front { IsErrOf result WriteFailed → HandsOutFront mode names.now units.now outs.now (W.written writer.old) (W.written writer.new) }
+    ensures untouched { IfErr result (λ fault. fault ≢ WriteFailed → writer.new ≡ writer.old) }
+{
+    let mut page = Page::new(alloc)?;
+    let Ok(()) = print(&mut page, writer, mode, names, units, outs) else {
+        return Err(RunFault::Write);
+    };
+    Ok(any_fault(outs))
+}
+
+fn any_fault(outs: &[UnitOut]) -> bool
+    ensures { result ≡ some_fault outs.now }
+{
+    for out in outs {
+        if out.fault.is_some() {
+            return true;
+        }
+    }
+    false
+}
+
+/// Where the bytes of a reader are known, what came from it is the list that they all hold, or is refused as they are.
+pub fn known_bytes_decide()
+    ensures { KnownBytesDecide }
+{}

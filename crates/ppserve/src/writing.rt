@@ -1,0 +1,159 @@
+// Text that is put behind the first bytes of a slice. Each function gives where the text ends.
+ghost use Rattle.std.specs.Prelude.{◌≡◌, ◌+◌, ◌/◌, ◌%◌, ◌<◌, ◌≤◌, ◌∷◌, ◌++◌, [], decimal, length, take};
+ghost use Rattle.ppserve.specs.Lines.{PlainBetween, first_set};
+
+use std::marker::Model;
+use std::simd::prelude::*;
+
+/// Puts a byte.
+#[inline(always)]
+pub(crate) fn put_byte(bytes: &mut [u8], end: usize, byte: u8) -> usize
+    requires { end < length bytes.old }
+    ensures text { take result bytes.new ≡ take end bytes.old ++ byte ∷ [] }
+    ensures end { result ≡ end + 1 }
+{
+    bytes[end] = byte;
+    end + 1
+}
+
+/// Puts the first `len` bytes of a text. All its bytes are copied, since a copy of one length is quicker than one of many.
+#[inline(always)]
+pub(crate) fn put_front<const N: usize>(
+    bytes: &mut [u8],
+    end: usize,
+    text: &[u8; N],
+    len: usize,
+) -> usize
+    requires room { end + N ≤ length bytes.old }
+    requires len { len ≤ N }
+    ensures text { take result bytes.new ≡ take end bytes.old ++ take len text.now }
+    ensures end { result ≡ end + len }
+{
+    let text = *text;
+    bytes[end..end + N].copy_from_slice(&text);
+    end + len
+}
+
+/// The decimal of a number below 100: the first so many of two bytes, so that both can be written in either case, since a branch on the
+/// number's length is often mispredicted.
+#[derive(Drop)]
+pub(crate) struct Digits {
+    first: u8,
+    second: u8,
+    len: usize,
+}
+
+impl Model for Digits {
+    ghost use Rattle.std.specs.Prelude.{◌≤◌, ℕ, List, [], ◌∷◌, take};
+
+    ghost Value = { List ℕ };
+
+    ghost view = { λ d. take d.len (d.first ∷ (d.second ∷ [])) };
+
+    ghost invariant = { λ d. d.len ≤ 2 };
+}
+
+impl Digits {
+    /// Of a number below 100.
+    #[inline(always)]
+    pub(crate) fn of(number: u32) -> Digits
+        requires { number < 100 }
+        ensures { result ≡ decimal number }
+    {
+        let (tens, ones) = (b'0' + (number / 10) as u8, b'0' + (number % 10) as u8);
+        let (first, len) = if number < 10 { (ones, 1) } else { (tens, 2) };
+        Digits {
+            first,
+            second: ones,
+            len,
+        }
+    }
+
+    /// Puts them.
+    #[inline(always)]
+    pub(crate) fn put(&self, bytes: &mut [u8], end: usize) -> usize
+        requires { end + 2 ≤ length bytes.old }
+        ensures text { take result bytes.new ≡ take end bytes.old ++ self.now }
+        ensures end { result ≡ end + length self.now }
+        ensures within { result ≤ end + 2 }
+    {
+        bytes[end] = self.first;
+        bytes[end + 1] = self.second;
+        end + self.len
+    }
+}
+
+/// Puts the two last digits of a number.
+#[inline(always)]
+fn put_pair(bytes: &mut [u8], end: usize, number: u32) -> usize
+    requires { end + 2 ≤ length bytes.old }
+    ensures text { take result bytes.new ≡ take end bytes.old ++ (48 + number % 100 / 10) ∷ ((48 + number % 10) ∷ []) }
+    ensures end { result ≡ end + 2 }
+{
+    let end = put_byte(bytes, end, b'0' + (number % 100 / 10) as u8);
+    put_byte(bytes, end, b'0' + (number % 10) as u8)
+}
+
+/// Puts a number of at least 100 in decimal.
+#[inline(never)]
+fn put_large(bytes: &mut [u8], end: usize, number: u32) -> usize
+    requires large { 100 ≤ number }
+    requires room { end + length (decimal number) ≤ length bytes.old }
+    ensures text { take result bytes.new ≡ take end bytes.old ++ decimal number }
+    ensures end { result ≡ end + length (decimal number) }
+{
+    if number < 10_000 {
+        let end = Digits::of(number / 100).put(bytes, end);
+        return put_pair(bytes, end, number);
+    }
+    let end = put_large(bytes, end, number / 100);
+    put_pair(bytes, end, number)
+}
+
+/// Puts a number in decimal, where there is room for the ten digits that it may have.
+#[inline(always)]
+pub(crate) fn put_number(bytes: &mut [u8], end: usize, number: u32) -> usize
+    requires { end + 10 ≤ length bytes.old }
+    ensures text { take result bytes.new ≡ take end bytes.old ++ decimal number }
+    ensures end { result ≡ end + length (decimal number) }
+{
+    if number < 100 {
+        return Digits::of(number).put(bytes, end);
+    }
+    put_large(bytes, end, number)
+}
+
+/// How many of the bytes of a room, from the first on, stand for themselves, by two loads that overlap.
+#[inline(always)]
+pub(crate) fn plain_front(room: &[u8; 14]) -> usize
+    ensures { PlainBetween room.now 0 result }
+{
+    let (front, back) = (plain_run(room, 0), plain_run(room, 6));
+    if front < 8 { front } else { 6 + back }
+}
+
+/// How many of the eight bytes from a place on stand for themselves, before one does not.
+#[inline(always)]
+fn plain_run(bytes: &[u8], at: usize) -> usize
+    requires { at + 8 ≤ length bytes.now }
+    ensures within { result ≤ 8 }
+    ensures plain { PlainBetween bytes.now at (at + result) }
+{
+    let lanes = u8x8::from_slice(&bytes[at..]);
+    let others = lanes.simd_lt(u8x8::splat(32))
+        | lanes.simd_ge(u8x8::splat(127))
+        | lanes.simd_eq(u8x8::splat(b'%'));
+    first_set(others.to_bitmask())
+}
+
+/// The place of the first bit of eight that is set, or 8.
+#[inline(always)]
+fn first_set(mask: u64) -> usize
+    ensures { result ≡ first_set mask }
+{
+    if mask == 0 {
+        8
+    } else {
+        mask.trailing_zeros() as usize
+    }
+}
