@@ -3,7 +3,7 @@ ghost use Rattle.std.specs.Prelude.{◌≡◌, ◌<◌, IfOk, All, length};
 ghost use Rattle.std.specs.Result.{result_err};
 ghost use Rattle.pptext.specs.Stops.{IfSettled};
 ghost use Rattle.ppshelf.specs.Files.{Files, Extends};
-ghost use Rattle.ppunit.specs.States.{surroundings_of};
+ghost use Rattle.ppunit.specs.States.{surroundings_of, given};
 ghost use Rattle.ppunit.specs.Group.{Opened};
 ghost use Rattle.ppunit.specs.Unit.{IsUnit, IsUnitOf, Translates, first_place};
 ghost use Rattle.ppunit.specs.Capped.{IsWithin, IsCappedOver};
@@ -16,7 +16,7 @@ use crate::states::State;
 use crate::units::{Setting, Unit, UnitOut};
 use crate::walking::walk;
 use ppshelf::{Disk, Folders, Pass, Shelf};
-use pptext::{Memory, Place, Stop, settled, tree_unless_fault};
+use pptext::{Fault, Memory, Place, Stop, settled, tree_unless_fault};
 use std::alloc::Global;
 
 // The unit's definitions, before its file.
@@ -96,6 +96,22 @@ fn translate<'x, 'a: 'x, D: Disk>(
     process(around, pass, state, row)
 }
 
+// The answer of a unit that ends in this state, with this fault or none.
+fn answer<'x>(state: State<'x>, fault: Option<Fault>) -> UnitOut<'x>
+    ensures { result ≡ given (record { state = state.entry; fault = fault }) }
+{
+    let State {
+        macros: _,
+        once: _,
+        left: _,
+        items,
+        deps,
+        env: _,
+    } = state;
+    let items = items.fitted();
+    UnitOut { items, deps, fault }
+}
+
 /// Translation phases 1 to 4 of a unit: its definitions, and then its file with all that it includes (5.1.1.2, 6.10).
 ///
 /// The unit's value is that over the files that the pass knows afterwards. With a budget the unit makes no more replacements and
@@ -131,14 +147,5 @@ pub fn preprocess<'x, 'a: 'x, D: Disk>(
     let mut state = State::new(alloc, setting, shelf.hashing())?;
     let translated = translate(&around, pass, &mut state, &unit.defines, unit.file);
     let fault = settled(translated)?.err();
-    let State {
-        macros: _,
-        once: _,
-        left: _,
-        items,
-        deps,
-        env: _,
-    } = state;
-    let items = items.fitted();
-    Ok(UnitOut { items, deps, fault })
+    Ok(answer(state, fault))
 }

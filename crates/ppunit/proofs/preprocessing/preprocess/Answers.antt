@@ -1,8 +1,6 @@
-use Rattle.std.proofs.Common.{subst, sym, List}
+use Rattle.std.proofs.Common.{subst, sym}
 use Rattle.pptext.proofs.Stopping.{settles}
-use Rattle.ppunit.specs.declared.units.Item.{Item}
-use Rattle.ppunit.specs.declared.states.State.TheView.{view}
-use Rattle.ppunit.specs.States.{Library, State, Reached, surroundings_of, given}
+use Rattle.ppunit.specs.States.{Library, Reached, surroundings_of}
 use Rattle.ppunit.specs.Unit.{Translates, IsUnit}
 use Rattle.ppunit.proofs.Preprocessed.{whole_unit}
 use Rattle.ppunit.proofs.Dependent.{unit_within}
@@ -14,18 +12,14 @@ returns-clause-is g c =
     let Of : Library → Type 0 = λ l.
     Translates (surroundings_of l c.translate-translated.new.pass.files) c.args.unit.now.defines.texts c.args.unit.now.file c.in_ok-state.state
     reached in
-    let Gives : State → Type 0 = λ z.
-    IsUnit c.args.shelf.now.names c.translate-translated.new.pass.files c.args.setting.now c.args.unit.now
-    (given (record { state = z; fault = c.err-fault.result })) in
     let ended = rw (sym c.in_ok-settled.ensures) at (settles c.translate-translated.result _ c.translate-translated.ensures.translated) in
     let translated : Of c.new-around.result = rw c.err-fault.ensures.value ended in
-    subst (λ (items : List Item). Gives (record (view c.state.inside) { items = items })) (sym c.fitted-items.ensures)
-    (subst Gives (sym c.state.view_is)
+    subst (IsUnit c.args.shelf.now.names c.translate-translated.new.pass.files c.args.setting.now c.args.unit.now) (sym c.answer.ensures)
     (whole_unit c.args.shelf.now.names c.args.shelf.now.profile c.translate-translated.new.pass.files c.args.setting.now c.args.unit.now _ _
     c.in_ok-state.state
     reached
     c.requires.profile c.as_slice.ensures c.as_slice-2.ensures c.in_ok-state.ensures
-    (subst Of c.new-around.ensures translated)))
+    (subst Of c.new-around.ensures translated))
 
 pub returns-clause-deps : goal.returns-clause-deps
 returns-clause-deps g c =
