@@ -20,7 +20,7 @@ from concurrent.futures import ThreadPoolExecutor
 
 from refusals import HERE, KINDS, refused, refusing_malloc, run, tally
 
-EACH_UP_TO = {"pptests": 200, "cppunits": 20}
+EACH_UP_TO = {"pptests": 200, "ppserve": 20}
 CALLS_AGAIN = re.compile(r"after_want_of_memory|where_memory_is_refused")
 WANT_OF_MEMORY = re.compile(rb"[Ee]rror: (Memory|AllocError|AllocFailed|Kind\(OutOfMemory\))")
 
