@@ -45,23 +45,32 @@ def read(process, name):
         return file.read()
 
 
-def kind_of(words):
-    """The kind of a check by its command line, and an edit's number; None of what is no check of a crate."""
+def kind_of(words, process, turns):
+    """The kind of a check by its command line, and an edit's number; None of what is no check of a crate.
+
+    Where a crate's edits share one folder, they are checked in turn, and the first is the one that begins from nothing: `turns` has the processes
+    of each folder in the order in which they were seen.
+    """
     if words[1] == "build":
         return ("tests" if "--test" in words else "proof"), 0
     over = words[words.index("--incremental") + 1] if "--incremental" in words else ""
-    found = re.search(r"/rt-edits-[^/]*/(seed|\d+)$", over)
+    found = re.search(r"/rt-edits-[^/]*(?:/(seed|\d+))?$", over)
     if words[1] != "check" or not found:
         return None
-    return ("seed", 0) if found[1] == "seed" else ("edit", int(found[1]))
+    if found[1]:
+        return ("seed", 0) if found[1] == "seed" else ("edit", int(found[1]))
+    turn = turns.setdefault(over, [])
+    if process not in turn:
+        turn.append(process)
+    return ("edit" if turn.index(process) else "seed"), turn.index(process)
 
 
-def look(process):
+def look(process, turns):
     """The check that a process is, or None."""
     words = read(process, "cmdline").decode(errors="replace").split("\0")
     if os.path.basename(words[0]) != "rattle" or "--crate-name" not in words:
         return None
-    kind = kind_of(words)
+    kind = kind_of(words, process, turns)
     if not kind:
         return None
     fields = read(process, "stat").decode(errors="replace").rsplit(")", 1)[1].split()
@@ -71,11 +80,11 @@ def look(process):
 
 def watch(goes_on):
     """The checks that are seen while the gate goes on."""
-    seen = {}
+    seen, turns = {}, {}
     while goes_on():
         for process in filter(str.isdigit, os.listdir("/proc")):
             try:
-                check = look(process)
+                check = look(process, turns)
             except (OSError, IndexError, ValueError):
                 # it has ended
                 continue
