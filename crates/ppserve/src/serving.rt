@@ -1,5 +1,5 @@
 // From the bytes of a list to the bytes of its output.
-ghost use Rattle.std.specs.Prelude.{◌≡◌, ◌⊎◌, ◌≤◌, ◌≢◌, ℕ, IfOk, IfErr, IsErrOf, length, true, false};
+ghost use Rattle.std.specs.Prelude.{◌≡◌, ◌⊎◌, ◌≤◌, ◌≢◌, ℕ, List as ListOf, Option, IfOk, IfErr, IsErrOf, length, true, false};
 ghost use Rattle.ppserve.specs.Contents.{StandIn, MayBe};
 ghost use Rattle.ppserve.specs.Listing.{IsRunnable};
 ghost use Rattle.ppserve.specs.declared.serving.RunFault.TheVariants.{List as ListRefused, Memory as OutOfMemory};
@@ -142,15 +142,47 @@ pub fn serve_from<T: Threads + Sync, R: Feed, W: Sink, D: Disk + Send + Sync>(
     ensures untouched { IfErr result (λ fault. fault ≢ WriteFailed → writer.new ≡ writer.old) }
 {
     let list = receive(alloc, reader, false, hashing)?;
-    let shelf = empty_shelf(alloc, &list.names, list.setting.profile, hashing)?;
-    let units = list.units.as_slice();
     let crew = Crew {
         workers,
         block,
         mode,
     };
+    hand_out_from(threads, alloc, writer, disk, &list, crew, hashing)
+}
+
+/// Preprocesses the units of a list of names by so many workers, and writes their output once they are all done. Answers whether some unit has a fault.
+fn hand_out_from<T: Threads + Sync, W: Sink, D: Disk + Send + Sync>(
+    threads: &T,
+    alloc: Global,
+    writer: &mut W,
+    disk: &D,
+    list: &List,
+    crew: Crew,
+    hashing: Hashing,
+) -> Result<bool, RunFault>
+    requires writer { W.has_failed writer.old ≡ false }
+    requires runnable { IsRunnable list.now }
+    requires workers { (1 ≤ crew.workers) × (crew.workers ≤ 64) }
+    requires block { (1 ≤ crew.block) × (crew.block ≤ 1024) }
+    ensures ok { IfOk result (λ any. (before after : Option (ListOf ℕ)) → Comes false before after list.now
+        → Serves false (MayBe D.may) crew.mode before after (W.written writer.old) (W.written writer.new) any) }
+    ensures kinds { IfErr result (λ fault. (fault ≡ OutOfMemory) ⊎ (fault ≡ WriteFailed)) }
+    ensures write { IsErrOf result WriteFailed → W.has_failed writer.new ≡ true }
+    ensures broken_off { IsErrOf result WriteFailed → (before after : Option (ListOf ℕ)) → Comes false before after list.now
+        → BreaksOff false (MayBe D.may) crew.mode before after (W.written writer.old) (W.written writer.new) }
+    ensures untouched { IfErr result (λ fault. fault ≢ WriteFailed → writer.new ≡ writer.old) }
+{
+    let shelf = empty_shelf(alloc, &list.names, list.setting.profile, hashing)?;
+    let units = list.units.as_slice();
     let outs = over_disk(threads, alloc, &shelf, disk, &list.setting, units, crew)?;
-    let answer = hand_out(alloc, writer, mode, &list.names, units, outs.as_slice());
+    let answer = hand_out(
+        alloc,
+        writer,
+        crew.mode,
+        &list.names,
+        units,
+        outs.as_slice(),
+    );
     // as in `serve`
     mem::forget(outs);
     mem::forget(shelf);
