@@ -13,8 +13,6 @@ mod operators;
 mod outcomes;
 mod parsing;
 mod symbols;
-#[cfg(test)]
-mod tests;
 mod tokens;
 mod values;
 

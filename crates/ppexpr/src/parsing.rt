@@ -7,9 +7,6 @@ ghost use Rattle.ppexpr.specs.Meant.{binary_meant, outcome_meant, symbols_meant}
 ghost use Rattle.std.specs.Option.{option_map};
 ghost use Rattle.ppexpr.specs.Reading.{Denotes};
 
-#[cfg(test)]
-mod tests;
-
 use crate::symbols::{Binary, Outcome, Symbol, Unary};
 use std::alloc::{AllocError, Global};
 

@@ -1,8 +1,12 @@
 //! Tests of the libraries by their public calls: what no clause says of them, and vectors from outside.
 //!
-//! They stand in a crate of their own, since a crate with tests is proved twice; what needs private items is tested beside it.
+//! They stand in a crate of their own, since a crate with tests is proved twice.
 #![tactic(auto)]
 
+#[cfg(test)]
+mod conditions;
+#[cfg(test)]
+mod defining;
 #[cfg(test)]
 mod expanding;
 #[cfg(test)]
@@ -12,6 +16,10 @@ mod pool;
 #[cfg(test)]
 mod shelf;
 #[cfg(test)]
+mod showing;
+#[cfg(test)]
 mod spending;
+#[cfg(test)]
+mod text;
 #[cfg(test)]
 mod units;

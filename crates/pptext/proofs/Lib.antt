@@ -4,8 +4,6 @@
 pub mod Parts
 -- Fronts of a text in a language.
 pub mod Fronts
--- One step of each pass of phases 1 and 2.
-pub mod Passes
 -- Where bytes stand, by the lines that end among them.
 pub mod PlaceLines
 -- The columns of a file's characters are at most one more than its length.

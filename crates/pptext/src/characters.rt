@@ -8,7 +8,5 @@ pub struct Char {
     pub at: Place,
 }
 
-#[cfg(test)]
-pub(crate) mod passes;
 pub(crate) mod places;
 pub(crate) mod steps;

@@ -112,6 +112,3 @@ pub(crate) fn clean_text<'a>(
         }
     }
 }
-
-#[cfg(test)]
-mod tests;

@@ -151,33 +151,3 @@ pub(crate) fn directive_of(profile: Profile, line: &[Token]) -> Option<Directive
     }
     Some(directive_named(profile, line[1].text.as_bytes()))
 }
-
-#[cfg(test)]
-mod tests {
-    use super::*;
-
-    #[test]
-    fn tells_what_a_directive_does_to_groups(rt: HostRuntime) {
-        for (directive, opens_section, has_condition, ends_group) in [
-            (Directive::If, true, false, false),
-            (Directive::Ifdef, true, false, false),
-            (Directive::Ifndef, true, false, false),
-            (Directive::Elif, false, true, true),
-            (Directive::Elifdef, false, true, true),
-            (Directive::Elifndef, false, true, true),
-            (Directive::Else, false, false, true),
-            (Directive::Endif, false, false, true),
-            (Directive::Define, false, false, false),
-        ] {
-            assert!(rt;
-                directive.opens_section() == opens_section,
-                "of {directive:?}"
-            );
-            assert!(rt;
-                directive.has_condition() == has_condition,
-                "of {directive:?}"
-            );
-            assert!(rt; directive.ends_group() == ends_group, "of {directive:?}");
-        }
-    }
-}

@@ -4,9 +4,6 @@ ghost use Rattle.std.specs.Hash.FoldHasher.{folded_multiply, read_u32, read_u64,
 ghost use Rattle.pptext.specs.Hashed as hashed;
 ghost use Rattle.pptext.specs.Hashed.{behind, drawn};
 
-#[cfg(test)]
-mod tests;
-
 use std::hash::{BuildHasher, Hasher, RandomState};
 
 /// How the names of a table are hashed: by a key that nobody knows beforehand, or by one that everybody knows. Nothing that a

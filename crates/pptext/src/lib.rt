@@ -1,8 +1,6 @@
 // Translation phases 1 to 3 of C11 (5.1.1.2): a file's bytes as preprocessing tokens, lines and groups.
 #![tactic(auto)]
 
-#[cfg(test)]
-mod asserting;
 mod characters;
 mod cleaning;
 mod cutting;

@@ -236,11 +236,22 @@ fn table_after<'a, R: Abort>(
     Ok(table)
 }
 
+/// Asserts the definition of a name after lines.
+fn assert_defined_after<R: Abort>(
+    rt: &R,
+    alloc: Global,
+    lines: &[Vec<Token>],
+    name: &str,
+    wanted: &[u8],
+) -> Result<(), Memory> {
+    let table = table_after(rt, alloc, lines)?;
+    Ok(assert_shown(rt, alloc, &table, (name, name), wanted)?)
+}
+
 #[test]
 fn defines_again_what_was_taken_out(rt: HostRuntime) -> Result<(), Fail> {
     let lines = all_lexed(rt.alloc(), &["#define O 1", "#undef O", "#define O 2"])?;
-    let table = table_after(&rt, rt.alloc(), lines.as_slice())?;
-    Ok(assert_shown(&rt, rt.alloc(), &table, ("#define O 2", "O"), b" 2")?)
+    Ok(assert_defined_after(&rt, rt.alloc(), lines.as_slice(), "O", b" 2")?)
 }
 
 /// Two definitions of `X`: the one that is left, or the number of the fault.
@@ -311,11 +322,22 @@ fn assert_predefined<R: Abort>(rt: &R, alloc: Global, table: &Table) -> Result<(
     Ok(())
 }
 
+/// Asserts what a new table has of the names.
+fn assert_new<R: Abort>(rt: &R, alloc: Global) -> Result<(), Memory> {
+    let table = Table::new(alloc)?;
+    Ok(assert_predefined(rt, alloc, &table)?)
+}
+
 #[test]
 fn holds_the_predefined_names_alone(rt: HostRuntime) -> Result<(), Fail> {
-    let table = Table::new(rt.alloc())?;
-    assert_predefined(&rt, rt.alloc(), &table)?;
-    Ok(())
+    Ok(assert_new(&rt, rt.alloc())?)
+}
+
+/// Asserts what a new table has of the names, where they are hashed so. How it says that it hashes them.
+fn hashed<R: Abort>(rt: &R, alloc: Global, hashing: Hashing) -> Result<Hashing, Memory> {
+    let table = Table::with_hasher(alloc, hashing)?;
+    assert_predefined(rt, alloc, &table)?;
+    Ok(table.hashing())
 }
 
 #[test]
@@ -323,10 +345,8 @@ fn holds_them_by_a_key(rt: HostRuntime) -> Result<(), Fail> {
     let Ok(key) = RandomState::new(&rt) else {
         return Err(Fail::new("no key was drawn"));
     };
-    let table = Table::with_hasher(rt.alloc(), Hashing::keyed(key))?;
-    assert_predefined(&rt, rt.alloc(), &table)?;
-    let other = Table::with_hasher(rt.alloc(), table.hashing())?;
-    assert_predefined(&rt, rt.alloc(), &other)?;
+    let hashing = hashed(&rt, rt.alloc(), Hashing::keyed(key))?;
+    let _same = hashed(&rt, rt.alloc(), hashing)?;
     Ok(())
 }
 

@@ -1,0 +1,28 @@
+// Hashes of names by drawn keys.
+use pptext::Hashing;
+use std::hash::{BuildHasher, RandomState};
+use std::test::Fail;
+
+/// How a key of its own hashes names.
+fn drawn(rt: &HostRuntime) -> Result<Hashing, Fail> {
+    match RandomState::new(rt) {
+        Ok(key) => Ok(Hashing::keyed(key)),
+        Err(_) => Err(Fail::new("no key was drawn")),
+    }
+}
+
+/// Whether two ways hash a text of so many bytes to one number.
+fn agree(left: Hashing, right: Hashing, len: usize) -> bool {
+    let text = &b"a name that is longer than four words"[..len.min(37)];
+    left.hash_one(text) == right.hash_one(text)
+}
+
+#[test]
+fn keys_tell_hashes(rt: HostRuntime) -> Result<(), Fail> {
+    let (one, two) = (drawn(&rt)?, drawn(&rt)?);
+    for len in 0..=37 {
+        assert!(rt; agree(one, one, len) && agree(Hashing::fixed(), Hashing::fixed(), len));
+        assert!(rt; !agree(one, two, len) && !agree(one, Hashing::fixed(), len));
+    }
+    Ok(())
+}
