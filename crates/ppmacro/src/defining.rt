@@ -44,7 +44,14 @@ impl Model for Refusal {
 
     ghost Value = { definitions.Refusal };
 
-    ghost view = { λ r. elim r.wrong [ ParameterList ↦ definitions.ParameterList | Spacing ↦ definitions.Spacing | Pasting ↦ definitions.Pasting | Stringizing ↦ definitions.Stringizing | VariableArguments ↦ definitions.VariableArguments | Redefinition ↦ definitions.Redefinition ] };
+    ghost view = { λ r. elim r.wrong [
+      | ParameterList ↦ definitions.ParameterList
+      | Spacing ↦ definitions.Spacing
+      | Pasting ↦ definitions.Pasting
+      | Stringizing ↦ definitions.Stringizing
+      | VariableArguments ↦ definitions.VariableArguments
+      | Redefinition ↦ definitions.Redefinition
+    ] };
 }
 
 impl Refusal {
