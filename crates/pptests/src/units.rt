@@ -1,5 +1,5 @@
 // Phase 4 of whole units over small files.
-ghost use Rattle.std.specs.Prelude.{◌≡◌, IfOk, length};
+ghost use Rattle.std.specs.Prelude.{◌≡◌, length};
 ghost use Rattle.ppunit.specs.Unit.{IsUnitOf};
 
 mod again;

@@ -1,6 +1,6 @@
 // The token that begins a text: the longest that some kind's grammar allows (6.4).
 use super::read;
-use pptext::{Kind, Memory, Profile, Source, Token, relex};
+use pptext::{Kind, Profile, Source, Token, relex};
 use std::alloc::{AllocError, Global};
 use std::process::Abort;
 use std::test::Fail;

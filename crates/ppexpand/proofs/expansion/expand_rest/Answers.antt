@@ -1,4 +1,4 @@
-use Rattle.std.proofs.Common.{◌≡◌, ◌++◌, ◌∙◌, refl}
+use Rattle.std.proofs.Common.{◌++◌, ◌∙◌, refl}
 use Rattle.ppmacro.specs.HideSets.{hidings}
 use Rattle.ppmacro.specs.Substituting.{tokens_of}
 use Rattle.ppmacro.proofs.JoinLemmas.{tokens-in}
