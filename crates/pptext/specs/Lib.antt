@@ -1,4 +1,3 @@
-pub mod Spelt
 pub mod Tokens
 pub mod Clean
 pub mod Steps

@@ -1,6 +1,5 @@
 // Places, preprocessing tokens and faults.
 ghost use Rattle.std.specs.Prelude.{◌≡◌, ◌<◌, ◌≤◌, List, ℕ, IfOk, IfSome, IfNone, OnOk, length, take, [], ◌++◌, Some, None};
-ghost use Rattle.pptext.specs.Spelt.{IsSpelt, spelt};
 ghost use Rattle.pptext.specs.Tokens.{is_identifier, is_name, is_punct, is_lone_quote, fault};
 
 use crate::sequences::Sequence;
@@ -60,25 +59,26 @@ pub struct Spelling {
 }
 
 impl Model for Spelling {
-    ghost use Rattle.std.specs.Prelude.{List, ℕ};
-    ghost use Rattle.pptext.specs.Spelt.{IsSpelt, spelt};
+    ghost use Rattle.std.specs.Prelude.{List, ℕ, ◌<◌, ◌≤◌, length, take};
+    ghost use Rattle.pptext.specs.declared.tokens.Bytes.TheVariants.{Short, Long};
 
     ghost Value = { List ℕ };
 
-    ghost view = { λ s. spelt s.bytes };
+    ghost view = { λ s. elim s.bytes [ Short n room ↦ take n room | Long v ↦ v.value.items ] };
 
-    ghost invariant = { λ s. IsSpelt s.bytes };
+    ghost invariant = { λ s. elim s.bytes [ Short n room ↦ n ≤ 14 | Long v ↦ 14 < length v.value.items ] };
 }
 
-/// These bytes in the value itself.
-fn short(bytes: &[u8]) -> Bytes
+/// A spelling of a copy of these bytes in the value itself.
+fn short(bytes: &[u8]) -> Spelling
     requires { length bytes.now ≤ 14 }
-    ensures spelt { spelt result ≡ bytes.now }
-    ensures fits { IsSpelt result }
+    ensures { result ≡ bytes.now }
 {
     let mut room = [0; SHORT];
     room[..bytes.len()].copy_from_slice(bytes);
-    Bytes::Short(bytes.len() as u8, room)
+    Spelling {
+        bytes: Bytes::Short(bytes.len() as u8, room),
+    }
 }
 
 impl Spelling {
@@ -96,9 +96,7 @@ impl Spelling {
         ensures { IfOk result (λ s. s ≡ bytes.items) }
     {
         if bytes.len() <= SHORT {
-            return Ok(Self {
-                bytes: short(bytes.as_slice()),
-            });
+            return Ok(short(bytes.as_slice()));
         }
         let bytes = Box::new(*bytes.allocator(), bytes)?;
         Ok(Self {
@@ -111,9 +109,7 @@ impl Spelling {
         ensures { IfOk result (λ s. s ≡ bytes.now) }
     {
         if bytes.len() <= SHORT {
-            return Ok(Self {
-                bytes: short(bytes),
-            });
+            return Ok(short(bytes));
         }
         Spelling::new(Vec::from_slice(alloc, bytes)?)
     }
