@@ -1,9 +1,9 @@
 -- The first fault of a file's groups, with the open sections kept as their opening lines' indices.
-use Rattle.std.proofs.Common.{◌≡◌, ℕ, suc, ◌+◌, ◌-◌, ◌<◌, ◌≤◌, Bool, true, false, List, [], ◌∷◌, ◌++◌, map, length, take, drop, get_or}
+use Rattle.std.proofs.Common.{◌≡◌, ℕ, suc, ◌+◌, ◌-◌, ◌<◌, ◌≤◌, Bool, true, false, List, [], ◌∷◌, map, length, take, drop, get_or}
 use Rattle.std.proofs.Common.{refl, sym, ap, ◌∙◌, subst, arith, Option, None, Some, if◌then◌else◌, ◌||◌, codes}
 use Rattle.std.specs.Str.{bytes_eq}
 use Rattle.std.specs.List.{AllByRecursion}
-use Rattle.std.proofs.lemmas.List.{at_drop_more, at_drop_all, length-map, get_or_default, drop_more, reverse-append}
+use Rattle.std.proofs.lemmas.List.{at_drop_more, at_drop_all, length-map, get_or_default, drop_more}
 use Rattle.pptext.specs.declared.tokens.Token.{Token}
 use Rattle.pptext.specs.declared.tokens.Fault.{Fault}
 use Rattle.pptext.specs.declared.sources.Line.{Line}
@@ -15,8 +15,7 @@ use Rattle.pptext.specs.Clean.{place}
 use Rattle.pptext.specs.Lines.{LogicalLine, directive_of}
 use Rattle.pptext.specs.Tree.{Role, TextLine, ControlLine, Opens, Elses, Closes, role, role_by, Open, opened, fault_at, fault_at_end, fault_or, group_fault, sign_place, name_of}
 use Rattle.pptext.specs.Sources.{lines_from}
-use Rattle.pptext.specs.Grouping.{AreLines, line_role, IsBranching, sections}
-use Rattle.pptext.specs.declared.grouping.faults.Section.{Section}
+use Rattle.pptext.specs.Grouping.{AreLines, line_role, IsBranching}
 use Rattle.pptext.proofs.Spans.{line_at, line_from}
 
 pub no_token : Token
@@ -70,9 +69,6 @@ faulty_branches ControlLine at n os e = absurd (cc)
 pub record OpensAt (ls : List Line) (at : ℕ) : Type 0 where
   pub within : at < length ls
   pub opens : (d : Line) → line_role (get_or ls at d) ≡ Opens
-
-pub sections_more : (ss : List Section) (s : Section) → sections (ss ++ s ∷ []) ≡ (s.opening, s.last) ∷ sections ss
-sections_more ss s = ap (map (λ (z : Section). (z.opening, z.last))) (reverse-append ss (s ∷ []))
 
 -- before the line at an index, with these sections open
 pub record FaultsSoFar (ts : List Token) (ls : List Line) (at : ℕ) (os : List (ℕ × Bool)) : Type 0 where

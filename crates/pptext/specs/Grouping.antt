@@ -1,11 +1,10 @@
 -- Words of the pass that groups a file's lines: spans without branches, their links, the open sections by their lines' indices, and a
 -- guard seen without the tree. Only the contracts of private functions cite this.
-use Rattle.std.specs.Prelude.{◌≡◌, ℕ, ◌+◌, ◌⊎◌, List, [], ◌∷◌, map, reverse, length, drop, Bool, Option, None, Some}
+use Rattle.std.specs.Prelude.{◌≡◌, ℕ, ◌+◌, ◌⊎◌, List, [], ◌∷◌, map, length, drop, Bool, Option, None, Some}
 use Rattle.std.specs.List.{AllByRecursion}
 use Rattle.pptext.specs.declared.tokens.Token.{Token}
 use Rattle.pptext.specs.declared.sources.Line.{Line}
 use Rattle.pptext.specs.declared.sources.Profile.{Profile}
-use Rattle.pptext.specs.declared.grouping.faults.Section.{Section}
 use Rattle.pptext.specs.Lines.{LogicalLine, IsDirected}
 use Rattle.pptext.specs.Tree.{Role, Opens, Elses, Closes, role, role_by, branch_behind}
 use Rattle.pptext.specs.Sources.{lines_from, tokens_of, spans}
@@ -57,10 +56,6 @@ step_back k s behind = (None, behind)
 -- the spans are those of the lines that they cut the tokens into
 abbrev pub AreLines : List Token → List Line → Type 0
 AreLines ts ls = (tokens_of (lines_from ts ls) ≡ ts) × (spans 0 0 (lines_from ts ls) ≡ ls) × AreDirected (lines_from ts ls)
-
--- the open sections, the innermost first
-abbrev pub sections : List Section → List (ℕ × Bool)
-sections ss = map (λ s. (s.opening, s.last)) (reverse ss)
 
 -- what a line answers, and leaves of the open sections
 abbrev pub Takes : Option ℕ × List (ℕ × Bool) → Option ℕ → List (ℕ × Bool) → Type 0

@@ -1,33 +1,44 @@
 // The faults of a file's groups.
-ghost use Rattle.std.specs.Prelude.{◌≡◌, ◌+◌, ◌<◌, ◌^◌, [], length, slice_index_or, IfOk, MatchResult};
+ghost use Rattle.std.specs.Prelude.{◌≡◌, ◌+◌, ◌<◌, ◌^◌, [], length, reverse, slice_index_or, IfOk, MatchResult};
 ghost use Rattle.pptext.specs.declared.sources.Line.{Line};
 ghost use Rattle.pptext.specs.declared.tokens.Token.{Token};
 ghost use Rattle.pptext.specs.Lines.{LogicalLine};
 ghost use Rattle.pptext.specs.Tokens.{fault};
 ghost use Rattle.pptext.specs.Sources.{lines_from};
 ghost use Rattle.pptext.specs.Tree.{role_by, opened, fault_at, group_fault};
-ghost use Rattle.pptext.specs.Grouping.{AreLines, line_role, IsBranching, sections, Takes};
+ghost use Rattle.pptext.specs.Grouping.{AreLines, line_role, IsBranching, Takes};
 
 use crate::directives::{Role, role_of};
 use crate::sources::{Directive, Line, SourceFault};
 use crate::tokens::{Fault, Token};
 use std::alloc::{AllocError, AllocFailed, Global};
+use std::marker::Model;
 
 /// An open if-section: the index of its opening line, and whether its `#else` has come.
 #[derive(Clone, Copy)]
-pub(crate) struct Section {
-    pub(crate) opening: u32,
-    pub(crate) last: bool,
+struct Section {
+    opening: u32,
+    last: bool,
 }
 
-/// Takes the line of this directive at this index in, or answers its fault: 3 outside a section, 4 behind `#else` (6.10.1).
+impl Model for Section {
+    ghost use Rattle.std.specs.Prelude.{ℕ, Bool};
+
+    ghost Value = { ℕ × Bool };
+
+    ghost view = { λ s. (s.opening, s.last) };
+
+    ghost inverse = { λ s. record { opening = s.0; last = s.1 } };
+}
+
+/// Takes the line of this directive at this index in, or answers its fault: 3 outside a section, 4 behind `#else` (6.10.1). The innermost section stands last.
 fn take_line(
     open_sections: &mut Vec<Section>,
     at: usize,
     directive: Option<Directive>,
 ) -> Result<Option<u8>, AllocFailed<Section>>
     requires { at < 2 ^ 32 }
-    ensures { IfOk result (λ n. Takes (opened (role_by directive) at (sections open_sections.old.items)) n (sections open_sections.new.items)) }
+    ensures { IfOk result (λ n. Takes (opened (role_by directive) at (reverse open_sections.old.items)) n (reverse open_sections.new.items)) }
 {
     match role_of(directive) {
         Role::Opens => {
