@@ -3,10 +3,9 @@ use Rattle.std.proofs.Common.{◌≡◌, ℕ, zero, suc, ◌⊎◌, inl, inr, �
 use Rattle.std.proofs.Common.{drop, get_or, refl, sym, ap, ◌∙◌, subst, arith, Option, None, Some, length-drop, append_assoc, add-zero}
 use Rattle.std.proofs.lemmas.Bool.{false≢true, cases_lt}
 use Rattle.std.proofs.lemmas.List.{drop_more, drop-drop, drop_all, get_or-drop, get_or_past, append-nil}
-use Rattle.pptext.specs.declared.characters.steps.Step.TheVariants.{Code, Removed}
 use Rattle.pptext.specs.Clean.{backslash}
 use Rattle.pptext.specs.Breaks.{IsTable, OwnFront, Stretch, behind_break, step_len}
-use Rattle.pptext.specs.Steps.{IsChanged, PlainFront, coded, is_special, newline_front, return_front, spliced, step_of, trigraph_front}
+use Rattle.pptext.specs.Steps.{Code, Removed, IsChanged, PlainFront, coded, is_special, newline_front, return_front, spliced, step_of, trigraph_front}
 
 -- a byte that isn't special is a character
 no_mark : (b : ℕ) (bs : List ℕ) → (b == 63) ≡ false → trigraph_front (b ∷ bs) ≡ 0

@@ -7,10 +7,8 @@ use Rattle.std.proofs.lemmas.Bool.Decides.{nat_tests}
 use Rattle.std.proofs.lemmas.List.{drop-map, drop-drop, drop_all, length-map}
 use Rattle.pptext.specs.declared.tokens.Place.{Place}
 use Rattle.pptext.specs.declared.characters.Char.{Char}
-use Rattle.pptext.specs.declared.characters.steps.Step.{Step}
-use Rattle.pptext.specs.declared.characters.steps.Step.TheVariants.{Code, Removed}
 use Rattle.pptext.specs.Clean.{codes_of, head_code, is_return_at, without_returns, trigraph, trigraph_at, trigraphs_behind, trigraphs, splices, splice_at_end}
-use Rattle.pptext.specs.Steps.{open_end, trigraph_front, return_front, newline_front, spliced, coded, step_of}
+use Rattle.pptext.specs.Steps.{Step, Code, Removed, open_end, trigraph_front, return_front, newline_front, spliced, coded, step_of}
 use Rattle.pptext.specs.Texts.{supply, logical}
 
 -- The tests on bytes are those on characters.

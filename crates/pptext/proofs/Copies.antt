@@ -5,11 +5,9 @@ use Rattle.std.proofs.Math.Bool.{and-false}
 use Rattle.std.proofs.lemmas.List.{drop_more, drop-drop, drop_all, take_all, length-map, append-nil}
 use Rattle.pptext.specs.declared.tokens.Place.{Place}
 use Rattle.pptext.specs.declared.characters.Char.{Char}
-use Rattle.pptext.specs.declared.characters.steps.Step.{Step}
-use Rattle.pptext.specs.declared.characters.steps.Step.TheVariants.{Code, Removed}
 use Rattle.pptext.specs.Clean.{cleaned, codes_of, newline, placed, place, next_col, without_returns, is_return_at, missing_newline, splices, splice_at_end, trigraphs, unless_at, unmarked}
 use Rattle.pptext.specs.Breaks.{IsTable, OwnFront, Stretch, step_len}
-use Rattle.pptext.specs.Steps.{open_end, step_of, behind_byte, place_behind}
+use Rattle.pptext.specs.Steps.{Step, Code, Removed, open_end, step_of, behind_byte, place_behind}
 use Rattle.pptext.specs.Texts.{supply, logical, start, logical_from, text_from, end_from, EndsAt, HasBreaks, Whole}
 use Rattle.pptext.proofs.CleanSteps.{CodeStep, RemovedStep, Outcome, outcome, open_end_drop, dropped, kept, returns_some}
 use Rattle.pptext.proofs.Breaks.{Begun, begun_all, begun_more, begun_none}

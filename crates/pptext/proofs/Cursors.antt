@@ -3,11 +3,10 @@ use Rattle.std.proofs.Common.{◌≡◌, ℕ, suc, ◌+◌, ◌-◌, ◌<◌, �
 use Rattle.std.proofs.lemmas.List.{drop-drop, drop-map, get_or-drop, get_or-take, take_all, length-take-le}
 use Rattle.pptext.specs.declared.tokens.Place.{Place}
 use Rattle.pptext.specs.declared.characters.Char.{Char}
-use Rattle.pptext.specs.declared.characters.steps.Step.TheVariants.{Code, Removed}
 use Rattle.pptext.specs.declared.texts.Cursor.{Cursor}
 use Rattle.pptext.specs.Clean.{codes_of, place, splices}
 use Rattle.pptext.specs.Breaks.{IsTable, Stretch, behind_break, step_len}
-use Rattle.pptext.specs.Steps.{open_end, step_of, place_behind}
+use Rattle.pptext.specs.Steps.{Code, Removed, open_end, step_of, place_behind}
 use Rattle.pptext.specs.Texts.{InLine, supply, start, end_from, text_from, Stands}
 use Rattle.pptext.proofs.PlaceLines.{no_line_passed}
 use Rattle.pptext.proofs.Offsets.{behind_append, behind_bounds, take_add}

@@ -1,9 +1,7 @@
 -- The table of breaks: where phases 1 and 2 (5.1.1.2) remove or replace bytes of a file. Only the contracts of private functions, and the view of a
 -- type's private fields, cite this.
 use Rattle.std.specs.Prelude.{◌≡◌, ◌<◌, ◌≤◌, ℕ, List, [], ◌∷◌, Bool, length, drop, slice_index}
-use Rattle.pptext.specs.declared.characters.steps.Step.{Step}
-use Rattle.pptext.specs.declared.characters.steps.Step.TheVariants.{Code, Removed}
-use Rattle.pptext.specs.Steps.{IsChanged, step_of}
+use Rattle.pptext.specs.Steps.{Step, Code, Removed, IsChanged, step_of}
 
 -- the first n bytes are characters of their own
 pub record OwnFront (supplied : Bool) (bs : List ℕ) (n : ℕ) : Type 0 where

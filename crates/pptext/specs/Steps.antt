@@ -2,8 +2,6 @@
 -- private fields, cite this.
 use Rattle.std.specs.Prelude.{◌≡◌, ◌≢◌, ℕ, ◌+◌, ◌<◌, ◌≤◌, List, [], ◌∷◌, Bool, true, false, not, ◌&&◌, ◌||◌, ◌==◌, if◌then◌else◌, Option, None, Some, length, drop, slice_index}
 use Rattle.pptext.specs.declared.tokens.Place.{Place}
-use Rattle.pptext.specs.declared.characters.steps.Step.{Step}
-use Rattle.pptext.specs.declared.characters.steps.Step.TheVariants.{Code, Removed}
 use Rattle.pptext.specs.Clean.{place, next_col, newline, backslash, trigraph}
 
 -- whether the last line of these bytes has no LF
@@ -38,6 +36,12 @@ return_front bs = false
 abbrev pub newline_front : Bool → List ℕ → Option ℕ
 newline_front supplied [] = if supplied then Some 0 else None
 newline_front supplied (b ∷ bs) = if b == newline then Some 1 else (if return_front (b ∷ bs) then Some 2 else None)
+
+-- What begins the rest of a file: a character's code, and how many bytes spell it; or how many bytes are removed, as a CR before an LF and a
+-- backslash with its new-line are.
+pub data Step : Type 0 where
+  Code : ℕ → ℕ → Step
+  Removed : ℕ → Step
 
 -- a character, unless it is a backslash directly before a new-line
 abbrev pub spliced : Option ℕ → ℕ → ℕ → Step

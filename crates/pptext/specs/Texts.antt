@@ -2,7 +2,6 @@
 use Rattle.std.specs.Prelude.{◌≡◌, ◌≢◌, ◌≤◌, ◌<◌, ◌+◌, ℕ, List, [], ◌∷◌, ◌++◌, Bool, Option, None, Some, Result, length, take, drop, slice_index, if◌then◌else◌}
 use Rattle.pptext.specs.declared.tokens.Place.{Place}
 use Rattle.pptext.specs.declared.characters.Char.{Char}
-use Rattle.pptext.specs.declared.texts.Cleaned.{Cleaned}
 use Rattle.pptext.specs.declared.texts.Cursor.{Cursor}
 use Rattle.pptext.specs.Clean.{cleaned, place, placed, newline, without_returns, trigraphs, splices, splice_at_end, codes_of}
 use Rattle.pptext.specs.Breaks.{IsTable, Stretch, behind_break}
@@ -59,16 +58,6 @@ pub record Whole (raw done breaks : List ℕ) : Type 0 where
   pub codes : (file : ℕ) → done ≡ codes_of (text_from file raw 0)
   pub ends : (file : ℕ) → end_from file raw 0 ≡ None
   pub table : IsTable (open_end raw) raw breaks
-
--- what phases 1 and 2 make of a file, which is its own bytes where they change nothing
-abbrev pub MadeOf : List ℕ → Option Cleaned → Type 0
-MadeOf raw None = Whole raw raw []
-MadeOf raw (Some c) = Whole raw c.codes.items c.breaks.items
-
--- its table of breaks
-abbrev pub breaks_of : Option Cleaned → List ℕ
-breaks_of None = []
-breaks_of (Some c) = c.breaks.items
 
 -- The file's end is no splice, and it has so many breaks.
 pub record HasBreaks (raw : List ℕ) (count : ℕ) : Type 0 where

@@ -1,8 +1,8 @@
 // A cleaned text: its characters, and where each was spelled.
-ghost use Rattle.std.specs.Prelude.{◌≡◌, ◌+◌, ◌-◌, ◌<◌, ◌≤◌, ◌^◌, length, slice_index_or, take, drop};
+ghost use Rattle.std.specs.Prelude.{◌≡◌, ◌+◌, ◌-◌, ◌<◌, ◌≤◌, ◌^◌, [], MatchOption, length, slice_index_or, take, drop};
 ghost use Rattle.pptext.specs.Clean.{longest, codes_of, place};
 ghost use Rattle.pptext.specs.Steps.{place_behind};
-ghost use Rattle.pptext.specs.Texts.{InLine, MadeOf, Stands, breaks_of, text_from};
+ghost use Rattle.pptext.specs.Texts.{InLine, Stands, Whole, text_from};
 ghost use Rattle.pptext.specs.declared.characters.Char.{Char};
 
 use crate::characters::places::{move_behind, place_behind};
@@ -182,7 +182,7 @@ fn stretch_at(breaks: &[u32], at: usize, last: usize) -> usize
 
 /// The table of breaks, which is empty where phases 1 and 2 change nothing.
 fn breaks_of(cleaned: &Option<Cleaned>) -> &[u32]
-    ensures { result.now ≡ breaks_of cleaned.now }
+    ensures { MatchOption cleaned.now (result.now ≡ []) (λ c. result.now ≡ c.breaks.items) }
 {
     match cleaned {
         Some(cleaned) => cleaned.breaks.as_slice(),
@@ -199,24 +199,24 @@ pub(crate) struct Text<'a> {
 }
 
 impl<'a> Model for Text<'a> {
-    ghost use Rattle.std.specs.Prelude.{List, ◌≤◌, length};
+    ghost use Rattle.std.specs.Prelude.{List, [], ◌≤◌, MatchOption, length};
     ghost use Rattle.pptext.specs.Clean.{longest};
     ghost use Rattle.pptext.specs.declared.characters.Char.{Char};
 
     ghost Value = { List Char };
 
-    ghost use Rattle.pptext.specs.Texts.{MadeOf, text_from};
+    ghost use Rattle.pptext.specs.Texts.{Whole, text_from};
 
     ghost view = { λ t. text_from t.file t.raw.now 0 };
 
-    ghost invariant = { λ t. (length t.raw.now ≤ longest) × MadeOf t.raw.now t.cleaned };
+    ghost invariant = { λ t. (length t.raw.now ≤ longest) × MatchOption t.cleaned (Whole t.raw.now t.raw.now []) (λ c. Whole t.raw.now c.codes.items c.breaks.items) };
 }
 
 impl<'a> Text<'a> {
     /// The text of a file's bytes behind its byte order mark, with what phases 1 and 2 make of them unless they are clean.
     pub(crate) fn new(file: u32, raw: &'a [u8], cleaned: Option<Cleaned>) -> Text<'a>
         requires small { length raw.now ≤ longest }
-        requires made { MadeOf raw.now cleaned }
+        requires made { MatchOption cleaned (Whole raw.now raw.now []) (λ c. Whole raw.now c.codes.items c.breaks.items) }
         ensures { result ≡ text_from file raw.now 0 }
     {
         Text { file, raw, cleaned }

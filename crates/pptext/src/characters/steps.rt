@@ -1,7 +1,7 @@
 // What begins the rest of a file, read from the front.
 ghost use Rattle.std.specs.Prelude.{◌≡◌, ◌<◌, MatchOption, length};
 ghost use Rattle.pptext.specs.Clean.{trigraph, unmarked};
-ghost use Rattle.pptext.specs.Steps.{PlainFront, StopsAt, newline_front, open_end, step_of, trigraph_front};
+ghost use Rattle.pptext.specs.Steps.{Code, PlainFront, Removed, StopsAt, newline_front, open_end, step_of, trigraph_front};
 
 use memchr::memchr3;
 
@@ -84,7 +84,7 @@ fn newline_len(rest: &[u8], supplied: bool) -> Option<usize>
 /// What begins the rest of a file whose last new-line may be supplied.
 pub(crate) fn next_step(rest: &[u8], supplied: bool) -> Step
     requires { 0 < length rest.now }
-    ensures { result ≡ step_of supplied rest.now }
+    ensures { (elim result [ Step.Code code n ↦ Code code n | Step.Removed n ↦ Removed n ]) ≡ step_of supplied rest.now }
 {
     if let [b'\r', b'\n', ..] = rest {
         return Step::Removed(1);

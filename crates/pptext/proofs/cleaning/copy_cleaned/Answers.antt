@@ -1,8 +1,7 @@
 use Rattle.std.proofs.Common.{◌≡◌, ℕ, List, [], ◌∷◌, ◌+◌, ◌-◌, ◌<◌, ◌++◌, length, drop, take, sym, ap, subst, ◌∙◌, arith, length-drop}
 use Rattle.std.proofs.lemmas.List.{take_rest}
-use Rattle.pptext.specs.declared.characters.steps.Step.TheVariants.{Code, Removed}
 use Rattle.pptext.specs.Breaks.{Stretch}
-use Rattle.pptext.specs.Steps.{open_end, step_of}
+use Rattle.pptext.specs.Steps.{Code, Removed, open_end, step_of}
 use Rattle.pptext.proofs.Copies.{code_at, copies_all, copies_code, copies_removed, removed_at, whole_closed, whole_open}
 use Rattle.pptext.proofs.cleaning.copy_cleaned.Goals as goal
 use Rattle.pptext.proofs.cleaning.copy_cleaned.Goals.{then-supplied+in_ok-push-2, else-supplied}

@@ -1,11 +1,17 @@
 use Rattle.std.proofs.Common.{◌≡◌, ◌+◌, length, drop, sym, ap, ◌∙◌, subst}
 use Rattle.std.proofs.lemmas.List.{take_rest}
-use Rattle.pptext.specs.declared.characters.steps.Step.TheVariants.{Removed}
 use Rattle.pptext.specs.Breaks.{Stretch}
-use Rattle.pptext.specs.Steps.{open_end, step_of}
+use Rattle.pptext.specs.declared.characters.steps.Step as code
+use Rattle.pptext.specs.declared.characters.steps.Step.TheVariants as variant
+use Rattle.pptext.specs.Steps.{Step, Code, Removed, open_end, step_of}
 use Rattle.pptext.proofs.Copies.{Counted, counted_all, counted_code, counted_last, counted_removed}
 use Rattle.pptext.proofs.cleaning.count_breaks.Goals as goal
 use Rattle.pptext.proofs.cleaning.count_breaks.Goals.{in-Code, in-Removed-2}
+
+-- what a step of the code stands for
+abbrev meant : code.Step → Step
+meant (variant.Code code n) = Code code n
+meant (variant.Removed n) = Removed n
 
 pub returns-in-Removed : goal.returns-in-Removed
 returns-in-Removed c =
@@ -26,12 +32,12 @@ loop-ahead-preserved c =
     let n = c.in-Some.ahead in
     let ahead = simp take_rest at c.in-Some.ensures in
     let stretch : Stretch (open_end raw) (drop start raw) n = subst (λ s. Stretch s (drop start raw) n) c.requires ahead.1 in
-    let step : step_of (open_end raw) (drop (start + n) raw) ≡ c.next_step.result = ap (λ s. step_of s (drop (start + n) raw)) (sym c.requires) ∙ sym (simp take_rest at c.next_step.ensures) in
+    let step : step_of (open_end raw) (drop (start + n) raw) ≡ meant c.next_step.result = ap (λ s. step_of s (drop (start + n) raw)) (sym c.requires) ∙ sym (simp take_rest at c.next_step.ensures) in
     elim c.match-next_step.branch [
       | in-Code w ↦
-          subst (λ k. Counted raw k (count + 1)) (sym w.start-is) (counted_code raw start count n w.in-Code.field-0 w.in-Code.len c.loop-ahead.invariant ahead.0 stretch (step ∙ w.in-Code.is))
+          subst (λ k. Counted raw k (count + 1)) (sym w.start-is) (counted_code raw start count n w.in-Code.field-0 w.in-Code.len c.loop-ahead.invariant ahead.0 stretch (step ∙ ap meant w.in-Code.is))
       | in-Removed-2 w ↦
-          subst (λ k. Counted raw k (count + 1)) (sym w.start-is) (counted_removed raw start count n w.in-Removed.len c.loop-ahead.invariant ahead.0 stretch (step ∙ w.in-Removed.is) w.if-at-len.false)
+          subst (λ k. Counted raw k (count + 1)) (sym w.start-is) (counted_removed raw start count n w.in-Removed.len c.loop-ahead.invariant ahead.0 stretch (step ∙ ap meant w.in-Removed.is) w.if-at-len.false)
     ]
 
 pub returns : goal.returns

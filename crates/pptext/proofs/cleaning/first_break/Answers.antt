@@ -1,8 +1,7 @@
 use Rattle.std.proofs.Common.{◌≡◌, ℕ, List, Bool, ◌+◌, ◌<◌, drop, length, subst, sym, ap, ◌∙◌, arith, length-drop}
 use Rattle.std.proofs.lemmas.List.{take_rest}
-use Rattle.pptext.specs.declared.characters.steps.Step.TheVariants.{Code}
 use Rattle.pptext.specs.Breaks.{OwnFront, Stretch}
-use Rattle.pptext.specs.Steps.{IsChanged, StopsAt, step_of}
+use Rattle.pptext.specs.Steps.{Code, IsChanged, StopsAt, step_of}
 use Rattle.pptext.proofs.Breaks.{long_code, own_code, own_none, own_plain, removed_bytes, stretch_all}
 use Rattle.pptext.proofs.cleaning.first_break.Goals as goal
 

@@ -1,8 +1,7 @@
 use Rattle.std.proofs.Common.{◌≡◌, ◌+◌, ◌-◌, ◌<◌, length, drop, get_or, sym, ap, ◌∙◌, subst, arith}
 use Rattle.std.proofs.lemmas.List.{take_rest}
 use Rattle.pptext.specs.declared.texts.Cursor.{Cursor}
-use Rattle.pptext.specs.declared.characters.steps.Step.TheVariants.{Code, Removed}
-use Rattle.pptext.specs.Steps.{open_end, step_of}
+use Rattle.pptext.specs.Steps.{Code, Removed, open_end, step_of}
 use Rattle.pptext.specs.Texts.{Stands, text_from}
 use Rattle.pptext.proofs.Copies.{code_at, removed_at}
 use Rattle.pptext.proofs.Cursors.{arrives, bounds, pass_code, pass_plain, skip_removed, stands_at_code, stands_at_end}
