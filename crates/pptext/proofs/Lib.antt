@@ -20,6 +20,8 @@ pub mod Copies
 pub mod Cursors
 -- A cut grows by one piece; the lines of the pieces grow with it.
 pub mod CutSteps
+-- What the scanner's fronts of a text stand for.
+pub mod Told
 -- The loop that cuts a text: what it keeps, and each of its turns.
 pub mod CutLoop
 -- A text has one cut, and one place at most where a comment is not closed.

@@ -3,7 +3,6 @@ use Rattle.std.proofs.Common.{◌≡◌, ℕ, zero, suc, ◌+◌, ◌-◌, ◌<�
 use Rattle.std.proofs.lemmas.Bool.{false≢true, cases_lt}
 use Rattle.std.proofs.lemmas.List.{drop-drop, get_or-drop}
 use Rattle.std.proofs.Math.Seq.{take-add}
-use Rattle.pptext.specs.declared.scanning.literals.LoneQuotes.{LoneQuotes}
 use Rattle.pptext.specs.Languages.{One, Then, NoFront, IsOnly}
 use Rattle.pptext.specs.Spellings.{IsElement}
 use Rattle.pptext.specs.Lone.{IsQuoted, AreLone, KnowsLone}
@@ -13,7 +12,7 @@ use Rattle.pptext.proofs.Closing.{lacks_later, closed_front}
 use Rattle.pptext.proofs.Literals.{plain, escaped, plain-no_quote, quote_lacks}
 
 -- nothing is known
-pub knows_nothing : (text : List ℕ) (n : ℕ) → n ≡ length text → KnowsLone text (record { single = n; double = n })
+pub knows_nothing : (text : List ℕ) (n : ℕ) → n ≡ length text → KnowsLone text n n
 knows_nothing text n e = record { single = λ r lt q. absurd (omega arith); double = λ r lt q. absurd (omega arith) }
 
 -- from n characters further on
@@ -23,11 +22,11 @@ lone_behind quote text n left h r lt e =
     let same : (n + r) + 1 ≡ n + (r + 1) = omega arith in
     subst (λ t. NoFront (IsQuoted quote) t) (ap (λ i. drop i text) same ∙ sym (drop-drop (r + 1) n text)) (h (n + r) (omega (arith, d)) (sym (get_or-drop n text r 0) ∙ e))
 
-pub knows_behind : (text : List ℕ) (n : ℕ) (lone : LoneQuotes) → KnowsLone text lone → KnowsLone (drop n text) lone
-knows_behind text n lone h = record { single = lone_behind 39 text n lone.single h.single; double = lone_behind 34 text n lone.double h.double }
+pub knows_behind : (text : List ℕ) (n : ℕ) (single double : ℕ) → KnowsLone text single double → KnowsLone (drop n text) single double
+knows_behind text n single double h = record { single = lone_behind 39 text n single h.single; double = lone_behind 34 text n double h.double }
 
-pub knows_later : (text : List ℕ) (at n : ℕ) (lone : LoneQuotes) → KnowsLone (drop at text) lone → KnowsLone (drop (at + n) text) lone
-knows_later text at n lone h = subst (λ t. KnowsLone t lone) (drop-drop n at text) (knows_behind (drop at text) n lone h)
+pub knows_later : (text : List ℕ) (at n : ℕ) (single double : ℕ) → KnowsLone (drop at text) single double → KnowsLone (drop (at + n) text) single double
+knows_later text at n single double h = subst (λ t. KnowsLone t single double) (drop-drop n at text) (knows_behind (drop at text) n single double h)
 
 -- a quote stands only at the end of an element
 element_quote : (quote : ℕ) (text : List ℕ) (n : ℕ) → (quote ≡ 92 → ⊥) → IsOnly (IsElement quote) text n → (j : ℕ) → j < n → get_or text j 0 ≡ quote → j + 1 ≡ n

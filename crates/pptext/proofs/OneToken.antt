@@ -1,16 +1,14 @@
 -- A text that is one token, and what the scanner finds there.
 use Rattle.std.proofs.Common.{◌≡◌, ℕ, ◌+◌, ◌<◌, ◌≤◌, Bool, true, false, if◌then◌else◌, ◌==◌, List, [], ◌∷◌, ◌++◌, length, take}
-use Rattle.std.proofs.Common.{refl, sym, ap, ◌∙◌, subst, inl, inr, ◌⊎◌, zero, suc, ◌≢◌, arith, get_or}
+use Rattle.std.proofs.Common.{Option, None, Some, refl, sym, ap, ◌∙◌, subst, inl, inr, ◌⊎◌, zero, suc, ◌≢◌, arith, get_or}
 use Rattle.std.proofs.lemmas.List.{append-nil, length-map, take_at, take_all, map-append}
 use Rattle.std.specs.Prelude.{Contains}
 use Rattle.pptext.specs.declared.tokens.Kind.{Kind}
 use Rattle.pptext.specs.declared.tokens.Kind.TheVariants.{Header}
 use Rattle.pptext.specs.declared.characters.Char.{Char}
-use Rattle.pptext.specs.declared.cutting.Found.{Found}
-use Rattle.pptext.specs.declared.cutting.Found.TheVariants as found
 use Rattle.pptext.specs.Clean.{codes_of, placed, newline}
 use Rattle.pptext.specs.Spellings.{IsSpelling, Spells}
-use Rattle.pptext.specs.Cut.{NewLine, Blank, Comment, Spelled, StandsAt, EachStands, Cut, Piece, laid, with_piece, BeginsWith, OpensBlock, OpensLine, AwaitsHeader}
+use Rattle.pptext.specs.Cut.{Sort, NewLine, Blank, Comment, Spelled, StandsAt, EachStands, Cut, Piece, laid, with_piece, BeginsWith, OpensBlock, OpensLine, AwaitsHeader}
 use Rattle.pptext.specs.Sources.{IsOneToken}
 use Rattle.pptext.specs.Finds.{Finds, AreBlanks}
 use Rattle.pptext.proofs.OnePiece.{one_piece, no_piece_open}
@@ -86,16 +84,17 @@ first_blank : (text : List ℕ) (n : ℕ) → 0 < n → n ≤ length text → Ar
 first_blank [] n some fits blank = absurd (omega arith)
 first_blank (c ∷ cs) n some fits blank = (refl, c, refl, blank 0 some)
 
+-- what stands there is the one token
+stood : (text : List ℕ) (n : ℕ) (s : Sort) (k : Kind) → StandsAt [] text n s → IsOneToken text k → ◌≡◌ {A = Option (Sort × ℕ)} (Some (s, n)) (Some (Spelled k, length text))
+stood text n s k here one =
+    let same = one_piece [] text n (length text) s (Spelled k) here (one_token_stands text k one) in
+    ap (λ z. Some (z, n)) same.1 ∙ ap (λ z. Some (Spelled k, z)) same.0
+
 -- where the text is one token, that is what the scanner finds
-pub finds_token : (text : List ℕ) (f : Found) (k : Kind) → Finds [] text f → IsOneToken text k → f ≡ found.Token k (length text)
-finds_token text found.NewLine k here one =
-    let e : NewLine ≡ Spelled k = (one_piece [] text 1 (length text) NewLine (Spelled k) here (one_token_stands text k one)).1 in cc
-finds_token text (found.Blank n) k here one =
+pub finds_token : (text : List ℕ) (found : Option (Sort × ℕ)) (k : Kind) → Finds [] text found → IsOneToken text k → found ≡ Some (Spelled k, length text)
+finds_token text None k here one = absurd (no_piece_open [] text (length text) (Spelled k) here.0 here.1 (one_token_stands text k one))
+finds_token text (Some (Blank, n)) k here one =
     let e : Blank ≡ Spelled k = (one_piece [] text 1 (length text) Blank (Spelled k) (first_blank text n here.1 here.0 here.2) (one_token_stands text k one)).1 in cc
-finds_token text (found.Comment n) k here one =
-    let e : Comment ≡ Spelled k = (one_piece [] text n (length text) Comment (Spelled k) here.2 (one_token_stands text k one)).1 in cc
-finds_token text found.Unclosed k here one = absurd (no_piece_open [] text (length text) (Spelled k) here.0 here.1 (one_token_stands text k one))
-finds_token text (found.Token l n) k here one =
-    let same = one_piece [] text n (length text) (Spelled l) (Spelled k) here.2 (one_token_stands text k one) in
-    let kinds : l ≡ k = let e : Spelled l ≡ Spelled k = same.1 in cc in
-    ap (λ z. found.Token z n) kinds ∙ ap (λ z. found.Token k z) same.0
+finds_token text (Some (NewLine, n)) k here one = stood text n NewLine k here.2 one
+finds_token text (Some (Comment, n)) k here one = stood text n Comment k here.2 one
+finds_token text (Some (Spelled l, n)) k here one = stood text n (Spelled l) k here.2 one

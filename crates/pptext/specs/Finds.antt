@@ -1,15 +1,12 @@
 -- What begins a text, and what a text is cut into, as the scanner answers them. Only the contracts of private functions cite this.
-use Rattle.std.specs.Prelude.{◌≡◌, ℕ, ◌<◌, ◌≤◌, List, length, None, Result, Ok, Err, IsTrue, slice_index, Bool, not, ◌&&◌, ◌||◌, ◌==◌}
+use Rattle.std.specs.Prelude.{◌≡◌, ℕ, ◌<◌, ◌≤◌, List, length, Option, None, Some, Result, Ok, Err, IsTrue, slice_index, Bool, not, ◌&&◌, ◌||◌, ◌==◌}
+use Rattle.pptext.specs.declared.tokens.Place.{Place}
 use Rattle.pptext.specs.declared.tokens.Token.{Token}
 use Rattle.pptext.specs.declared.sources.Line.{Line}
 use Rattle.pptext.specs.declared.sources.Profile.{Profile}
 use Rattle.pptext.specs.declared.characters.Char.{Char}
-use Rattle.pptext.specs.declared.cutting.Found.{Found}
-use Rattle.pptext.specs.declared.cutting.Found.TheVariants as found
-use Rattle.pptext.specs.declared.cutting.CutFault.{CutFault}
-use Rattle.pptext.specs.declared.cutting.CutFault.TheVariants as fault
 use Rattle.pptext.specs.Spellings.{is_blank, is_nondigit}
-use Rattle.pptext.specs.Cut.{NewLine, Comment, Spelled, StandsAt, OpensBlock, ClosesAt, Piece, Cut, Unclosed}
+use Rattle.pptext.specs.Cut.{Sort, Blank, StandsAt, OpensBlock, ClosesAt, Piece, Cut, Unclosed}
 use Rattle.pptext.specs.Lines.{lines_of}
 use Rattle.pptext.specs.Sources.{lines_from}
 use Rattle.pptext.specs.Grouping.{AreDrafts}
@@ -26,17 +23,13 @@ is_closed c = c == 40 || (c == 41 || (c == 44 || (c == 59 || (c == 91 || (c == 9
 abbrev pub starts_word : ℕ → Bool
 starts_word c = is_nondigit c && not (c == 117 || (c == 85 || c == 76))
 
-abbrev pub Finds : List (List ℕ) → List ℕ → Found → Type 0
-Finds line text found.NewLine = StandsAt line text 1 NewLine
-Finds line text (found.Blank n) = (n ≤ length text) × (0 < n) × AreBlanks n text
-Finds line text (found.Comment n) = (n ≤ length text) × (0 < n) × StandsAt line text n Comment
-Finds line text found.Unclosed = OpensBlock text × ClosesAt text None
-Finds line text (found.Token k n) = (n ≤ length text) × (0 < n) × StandsAt line text n (Spelled k)
+-- The sort and length of what begins the text behind these tokens of its line, of blanks all that stand in a row; none where a comment is not closed.
+abbrev pub Finds : List (List ℕ) → List ℕ → Option (Sort × ℕ) → Type 0
+Finds line text None = OpensBlock text × ClosesAt text None
+Finds line text (Some (Blank, n)) = (n ≤ length text) × (0 < n) × AreBlanks n text
+Finds line text (Some (s, n)) = (n ≤ length text) × (0 < n) × StandsAt line text n s
 
-abbrev pub FailsToCut : List Char → CutFault → Type 0
-FailsToCut chars (fault.Unclosed p) = Unclosed chars p
-FailsToCut chars fault.Memory = Unit {0}
-
-abbrev pub CutsInto : Profile → List Char → List Token → List Line → Result (Unit {0}) CutFault → Type 0
+-- a text is cut into these tokens and lines, or a comment that opens at a place is not closed
+abbrev pub CutsInto : Profile → List Char → List Token → List Line → Result (Unit {0}) Place → Type 0
 CutsInto profile chars ts ls (Ok u) = (pieces : List Piece) × Cut chars pieces × (lines_of profile pieces ≡ lines_from ts ls) × AreDrafts ts ls × (length ls ≤ length chars)
-CutsInto profile chars ts ls (Err e) = FailsToCut chars e
+CutsInto profile chars ts ls (Err p) = Unclosed chars p

@@ -17,43 +17,40 @@ use crate::texts::Text;
 use crate::tokenizing::token_at;
 use crate::tokens::{Kind, Place, Spelling, Token};
 use memchr::{memchr, memmem};
-use std::alloc::{AllocError, AllocFailed, Global};
+use std::alloc::{AllocError, Global};
+use std::marker::Model;
 
-/// What begins a text.
+/// What begins a text: a piece, with its length, or a comment that isn't closed.
 #[derive(Clone, Copy)]
-pub(crate) enum Found {
+pub(crate) enum Front {
     NewLine,
+    /// Blanks in a row.
     Blank(usize),
     Comment(usize),
     Unclosed,
     Token(Kind, usize),
 }
 
-/// Why a text isn't cut.
+/// What was found to begin a text. Contracts see the sort and length of the piece.
 #[derive(Drop)]
-pub(crate) enum CutFault {
-    Unclosed(Place),
-    Memory,
+pub(crate) struct Found {
+    pub(crate) front: Front,
 }
 
-impl From<AllocError> for CutFault {
-    ghost use Rattle.pptext.specs.declared.cutting.CutFault.TheVariants.{Memory};
+impl Model for Found {
+    ghost use Rattle.std.specs.Prelude.{ℕ, Option, None, Some};
+    ghost use Rattle.pptext.specs.Cut as definitions;
+    ghost use Rattle.pptext.specs.declared.cutting.Front.TheVariants.{NewLine, Blank, Comment, Unclosed, Token};
 
-    ghost from_gives = { λ _ e. e ≡ Memory };
+    ghost Value = { Option (definitions.Sort × ℕ) };
 
-    fn from(_error: AllocError) -> CutFault {
-        CutFault::Memory
-    }
-}
-
-impl<T: Drop> From<AllocFailed<T>> for CutFault {
-    ghost use Rattle.pptext.specs.declared.cutting.CutFault.TheVariants.{Memory};
-
-    ghost from_gives = { λ _ e. e ≡ Memory };
-
-    fn from(_error: AllocFailed<T>) -> CutFault {
-        CutFault::Memory
-    }
+    ghost view = { λ f. elim f.front [
+      | NewLine ↦ Some (definitions.NewLine, 1)
+      | Blank n ↦ Some (definitions.Blank, n)
+      | Comment n ↦ Some (definitions.Comment, n)
+      | Unclosed ↦ None
+      | Token k n ↦ Some (definitions.Spelled k, n)
+    ] };
 }
 
 /// Whether a block comment opens here.
@@ -118,21 +115,29 @@ fn dark_piece_at(text: &[u8], line: &[Token], lone: &mut LoneQuotes) -> Found
     requires some { 0 < length text.now }
     requires no_newline { slice_index text.now 0 ≢ 10 }
     requires no_blank { is_blank (slice_index text.now 0) ≡ false }
-    requires lone { KnowsLone text.now lone.old }
+    requires lone { KnowsLone text.now lone.old.single lone.old.double }
     ensures finds { Finds (spelled line.now) text.now result }
-    ensures lone { KnowsLone text.now lone.new }
+    ensures lone { KnowsLone text.now lone.new.single lone.new.double }
 {
     if opens_block(text) {
         return match block_len(text) {
-            Some(n) => Found::Comment(n),
-            None => Found::Unclosed,
+            Some(n) => Found {
+                front: Front::Comment(n),
+            },
+            None => Found {
+                front: Front::Unclosed,
+            },
         };
     }
     if opens_line(text) {
-        return Found::Comment(line_len(text));
+        return Found {
+            front: Front::Comment(line_len(text)),
+        };
     }
     let (kind, n) = token_at(text, line, lone);
-    Found::Token(kind, n)
+    Found {
+        front: Front::Token(kind, n),
+    }
 }
 
 /// What begins the text, where its first byte tells it whatever stands in front: more than four fifths of all pieces, which
@@ -146,16 +151,24 @@ fn light_piece_at(text: &[u8]) -> Option<Found>
 {
     let first = text[0];
     if first == b'\n' {
-        return Some(Found::NewLine);
+        return Some(Found {
+            front: Front::NewLine,
+        });
     }
     if is_blank(first) {
-        return Some(Found::Blank(blank_len(text)));
+        return Some(Found {
+            front: Front::Blank(blank_len(text)),
+        });
     }
     if is_closed(first) {
-        return Some(Found::Token(Kind::Punct, 1));
+        return Some(Found {
+            front: Front::Token(Kind::Punct, 1),
+        });
     }
     if starts_word(first) {
-        return Some(Found::Token(Kind::Ident, word_len(text)));
+        return Some(Found {
+            front: Front::Token(Kind::Ident, word_len(text)),
+        });
     }
     None
 }
@@ -165,9 +178,9 @@ fn light_piece_at(text: &[u8]) -> Option<Found>
 fn piece_at(text: &[u8], tokens: &[Token], start: usize, lone: &mut LoneQuotes) -> Found
     requires some { 0 < length text.now }
     requires start { start ≤ length tokens.now }
-    requires lone { KnowsLone text.now lone.old }
+    requires lone { KnowsLone text.now lone.old.single lone.old.double }
     ensures finds { Finds (spelled (drop start tokens.now)) text.now result }
-    ensures lone { KnowsLone text.now lone.new }
+    ensures lone { KnowsLone text.now lone.new.single lone.new.double }
 {
     match light_piece_at(text) {
         Some(found) => found,
@@ -249,17 +262,17 @@ fn draft_line(profile: Profile, tokens: &[Token], start: usize, number: u32) -> 
     }
 }
 
-/// Cuts a text into lines of tokens, each without its next branch line.
+/// Cuts a text into lines of tokens, each without its next branch line, or answers where a comment opens that isn't closed.
 pub(crate) fn cut_lines(
     alloc: Global,
     text: &Text<'_>,
     tokens: &mut Vec<Token>,
     lines: &mut Vec<Line>,
     profile: Profile,
-) -> Result<(), CutFault>
+) -> Result<Result<(), Place>, AllocError>
     requires no_tokens { tokens.old.items ≡ [] }
     requires no_lines { lines.old.items ≡ [] }
-    ensures { CutsInto profile text.now tokens.new.items lines.new.items result }
+    ensures { IfOk result (CutsInto profile text.now tokens.new.items lines.new.items) }
 {
     let mut at = 0;
     let mut start = 0;
@@ -270,8 +283,9 @@ pub(crate) fn cut_lines(
     let mut places = text.places();
     let mut lone = LoneQuotes::unknown(codes.len());
     while at < codes.len() {
-        match piece_at(&codes[at..], tokens, start, &mut lone) {
-            Found::NewLine => {
+        let found = piece_at(&codes[at..], tokens, start, &mut lone);
+        match found.front {
+            Front::NewLine => {
                 let number = places.place(at, line).line;
                 lines.push(draft_line(profile, tokens, start, number))?;
                 start = tokens.len();
@@ -279,19 +293,19 @@ pub(crate) fn cut_lines(
                 space = true;
                 line = at;
             }
-            Found::Blank(n) => {
+            Front::Blank(n) => {
                 at += n;
                 space = true;
             }
-            Found::Comment(n) => {
+            Front::Comment(n) => {
                 at += n;
                 space = true;
                 line = at;
             }
-            Found::Unclosed => {
-                return Err(CutFault::Unclosed(places.place(at, line)));
+            Front::Unclosed => {
+                return Ok(Err(places.place(at, line)));
             }
-            Found::Token(kind, n) => {
+            Front::Token(kind, n) => {
                 let place = places.place(at, line);
                 push_token(alloc, &codes[at..], tokens, n, kind, space, place)?;
                 at += n;
@@ -301,5 +315,5 @@ pub(crate) fn cut_lines(
     }
     // No token is lost: a text that phase 2 leaves ends in a new-line (5.1.1.2).
     tokens.truncate(start);
-    Ok(())
+    Ok(Ok(()))
 }

@@ -8,7 +8,7 @@ ghost use Rattle.pptext.specs.Sources.{Reads, tokens_of, spans, file_fault, IsOn
 ghost use Rattle.pptext.specs.Answers.{Answers};
 
 use crate::cleaning::clean_text;
-use crate::cutting::{CutFault, Found, cut_lines, next_piece};
+use crate::cutting::{Front, cut_lines, next_piece};
 use crate::grouping::group_lines;
 use crate::sources::{Line, Profile, Source, SourceFault};
 use crate::tokens::{Fault, Kind, Memory, Place, Token};
@@ -66,10 +66,8 @@ pub fn read_source(
     // Room for about as many as ordinary C has, so that they seldom move while they grow.
     let mut tokens = Vec::with_capacity(alloc, bytes.len() / 5)?;
     let mut lines = Vec::with_capacity(alloc, bytes.len() / 20)?;
-    match cut_lines(alloc, &text, &mut tokens, &mut lines, profile) {
-        Ok(()) => {}
-        Err(CutFault::Unclosed(place)) => return Err(fault_at(1, place)),
-        Err(CutFault::Memory) => return Err(SourceFault::Memory),
+    if let Err(place) = cut_lines(alloc, &text, &mut tokens, &mut lines, profile)? {
+        return Err(fault_at(1, place));
     }
     drop(text);
     // A list that grew holds up to as much room again, and these are kept as long as the file.
@@ -134,7 +132,8 @@ pub fn relex(text: &[u8]) -> Option<Kind>
     if is_lone_quote(text) {
         return None;
     }
-    let Found::Token(kind, n) = next_piece(text, &[]) else {
+    let found = next_piece(text, &[]);
+    let Front::Token(kind, n) = found.front else {
         return None;
     };
     if n != text.len() {

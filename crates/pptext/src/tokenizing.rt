@@ -41,12 +41,12 @@ fn header_at(text: &[u8], line: &[Token]) -> usize
 /// The kind and length of the literal that begins the text. Most texts show by their first byte that none does.
 fn literal_at(text: &[u8], lone: &mut LoneQuotes) -> Option<(Kind, usize)>
     requires some { 0 < length text.now }
-    requires lone { KnowsLone text.now lone.old }
+    requires lone { KnowsLone text.now lone.old.single lone.old.double }
     ensures none { IfNone result ((NoFront IsCharConst text.now) × (NoFront IsStr text.now)) }
     ensures some { IfSome result (λ p. 0 < p.1) }
     ensures longest { IfSome result (λ p. Longest IsSpelling text.now p.1) }
     ensures spelled { IfSome result (λ p. Spells p.0 (take p.1 text.now)) }
-    ensures lone { KnowsLone text.now lone.new }
+    ensures lone { KnowsLone text.now lone.new.single lone.new.double }
 {
     if !may_open_literal(text[0]) {
         return None;
@@ -69,11 +69,11 @@ fn plain_token_at(text: &[u8], lone: &mut LoneQuotes) -> (Kind, usize)
     requires some { 0 < length text.now }
     requires no_newline { slice_index text.now 0 ≢ 10 }
     requires no_blank { is_blank (slice_index text.now 0) ≡ false }
-    requires lone { KnowsLone text.now lone.old }
+    requires lone { KnowsLone text.now lone.old.single lone.old.double }
     ensures some { 0 < result.1 }
     ensures longest { Longest IsSpelling text.now result.1 }
     ensures spelled { Spells result.0 (take result.1 text.now) }
-    ensures lone { KnowsLone text.now lone.new }
+    ensures lone { KnowsLone text.now lone.new.single lone.new.double }
 {
     if let Some(literal) = literal_at(text, lone) {
         return literal;
@@ -101,10 +101,10 @@ pub(crate) fn token_at(text: &[u8], line: &[Token], lone: &mut LoneQuotes) -> (K
     requires no_blank { is_blank (slice_index text.now 0) ≡ false }
     requires no_block { ¬ OpensBlock text.now }
     requires no_line { ¬ OpensLine text.now }
-    requires lone { KnowsLone text.now lone.old }
+    requires lone { KnowsLone text.now lone.old.single lone.old.double }
     ensures fits { (0 < result.1) × (result.1 ≤ length text.now) }
     ensures stands { StandsAt (spelled line.now) text.now result.1 (Spelled result.0) }
-    ensures lone { KnowsLone text.now lone.new }
+    ensures lone { KnowsLone text.now lone.new.single lone.new.double }
 {
     let header = header_at(text, line);
     if header > 0 {

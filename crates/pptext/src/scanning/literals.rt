@@ -2,7 +2,7 @@
 ghost use Rattle.std.specs.Prelude.{◌≡◌, ◌≢◌, ◌↔◌, ◌⊎◌, ◌+◌, ◌-◌, ◌<◌, ◌≤◌, ℕ, [], ◌∷◌, length, drop, IsTrue, slice_index, Contains};
 ghost use Rattle.pptext.specs.Languages.{OnlyPart, NoFront, IsOnly, Then, Exactly};
 ghost use Rattle.pptext.specs.Spellings.{IsElement, IsCharConst, IsStr, char_prefixes, str_prefixes};
-ghost use Rattle.pptext.specs.Lone.{IsQuoted, AreLone, FollowsQuote};
+ghost use Rattle.pptext.specs.Lone.{IsQuoted, AreLone, StaysOpen};
 
 /// How far the quotes of each kind are known to be lone, that is closed by no other in their line.
 /// Each number counts the bytes that are left there, so it holds as the text is passed over.
@@ -135,7 +135,7 @@ fn element_len(text: &[u8], quote: u8) -> usize
 /// What follows an opening quote: its elements (6.4.4.4, 6.4.5) up to the closing one.
 fn quoted_rest(text: &[u8], quote: u8) -> Quoted
     requires { quote ≢ 92 }
-    ensures { FollowsQuote quote text.now result }
+    ensures { elim result [ Quoted.Closed n ↦ IsOnly (IsQuoted quote) text.now n | Quoted.Lone n ↦ StaysOpen quote text.now n ] }
 {
     let mut at = 0;
     while at < text.len() {

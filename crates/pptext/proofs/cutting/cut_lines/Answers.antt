@@ -3,10 +3,12 @@ use Rattle.std.proofs.lemmas.List.{take_rest, length-drop, get_or-drop}
 use Rattle.pptext.specs.declared.characters.Char.{Char}
 use Rattle.pptext.specs.declared.tokens.Place.{Place}
 use Rattle.pptext.specs.declared.tokens.Token.{Token}
+use Rattle.pptext.specs.declared.cutting.Front.TheVariants as variant
 use Rattle.pptext.specs.Clean.{place, codes_of}
 use Rattle.pptext.specs.Lone.{KnowsLone}
 use Rattle.pptext.proofs.LoneQuotes.{knows_later, knows_nothing}
 use Rattle.pptext.proofs.CutLoop.{state_start, skip_blanks, skip_comment, end_line, add_token, cut_all, left_unclosed, codes_length, head_of_drop, head_of_take, token_is}
+use Rattle.pptext.proofs.Told.{found_here}
 use Rattle.pptext.proofs.InLine.{line_start, line_over_blanks, line_over_token}
 use Rattle.pptext.specs.Tokens.{spelled}
 use Rattle.pptext.specs.Lines.{token_of}
@@ -31,21 +33,21 @@ loop-at-preserved-in-NewLine c =
     let l = codes_length chars in
     let d = length-drop c.loop-at.at (codes_of chars) in
     let same = c.codes-codes.ensures in
-    let found = simp (take_rest, same) at c.in-NewLine.ensures.finds in
+    let found = simp (take_rest, same) at (found_here _ _ c.found.inside.front variant.NewLine _ c.found.view_is c.in-NewLine.is c.piece_at-found.ensures.finds) in
     let first_length = ap length c.codes-codes.ensures in
     let number = ap (λ (p : Place). p.line)
     (c.place-number.ensures.place first
     ∙ ap (λ (z : List Char). (get_or z c.loop-at.at first).at) c.loop-at.invariant.same
     ∙ head_of_take chars c.loop-at.at 1 first (omega arith) (omega arith)) in
-    let known : KnowsLone (drop c.loop-at.at (codes_of chars)) c.piece_at.new.lone = simp (take_rest, same) at c.piece_at.ensures.lone in
+    let known : KnowsLone (drop c.loop-at.at (codes_of chars)) c.piece_at-found.new.lone.single c.piece_at-found.new.lone.double = simp (take_rest, same) at c.piece_at-found.ensures.lone in
     record {
       same = ap (λ (r : Reading). r.chars) c.place-number.ensures.after ∙ c.loop-at.invariant.same;
       passed = omega (arith, ap (λ (r : Reading). r.passed) c.place-number.ensures.after);
       in_line = line_start (codes_of chars) (c.loop-at.at + 1);
       state = rw (c.in_ok-push-in-NewLine.ensures.items, c.draft_line.ensures, c.deref-in-NewLine.ensures.value)
           (end_line c.args.profile chars c.loop-at.at c.loop-at.start c.len-start.result c.loop-at.space c.loop-at.tokens.items c.loop-at.lines.items
-          c.place-number.result.line c.loop-at.invariant.state (c.len-start.ensures ∙ c.loop-at.tokens.ok.0) number (omega arith) found);
-      lone = knows_later (codes_of chars) c.loop-at.at 1 c.piece_at.new.lone known;
+          c.place-number.result.line c.loop-at.invariant.state (c.len-start.ensures ∙ c.loop-at.tokens.ok.0) number (omega arith) found.2);
+      lone = knows_later (codes_of chars) c.loop-at.at 1 c.piece_at-found.new.lone.single c.piece_at-found.new.lone.double known;
     }
 
 pub loop-at-preserved-in-Blank : goal.loop-at-preserved-in-Blank
@@ -54,37 +56,37 @@ loop-at-preserved-in-Blank c =
     let l = codes_length chars in
     let d = length-drop c.loop-at.at (codes_of chars) in
     let same = c.codes-codes.ensures in
-    let found = simp (take_rest, same) at c.in-Blank.ensures.finds in
-    let known : KnowsLone (drop c.loop-at.at (codes_of chars)) c.piece_at.new.lone = simp (take_rest, same) at c.piece_at.ensures.lone in
+    let found = simp (take_rest, same) at (found_here _ _ c.found.inside.front (variant.Blank c.in-Blank.n) _ c.found.view_is c.in-Blank.is c.piece_at-found.ensures.finds) in
+    let known : KnowsLone (drop c.loop-at.at (codes_of chars)) c.piece_at-found.new.lone.single c.piece_at-found.new.lone.double = simp (take_rest, same) at c.piece_at-found.ensures.lone in
     record {
       same = c.loop-at.invariant.same;
       passed = omega (arith, c.loop-at.invariant.passed);
       in_line = line_over_blanks (codes_of chars) c.loop-at.line c.loop-at.at c.in-Blank.n c.loop-at.invariant.in_line found.2;
       state = skip_blanks c.args.profile chars c.in-Blank.n c.loop-at.at c.loop-at.start c.loop-at.space c.loop-at.tokens.items c.loop-at.lines.items
           c.loop-at.invariant.state found.1 (omega (arith, found.0, c.loop-at.invariant.state.within)) (λ k lt. simp get_or-drop at (found.2 k lt));
-      lone = knows_later (codes_of chars) c.loop-at.at c.in-Blank.n c.piece_at.new.lone known;
+      lone = knows_later (codes_of chars) c.loop-at.at c.in-Blank.n c.piece_at-found.new.lone.single c.piece_at-found.new.lone.double known;
     }
 
 pub loop-at-preserved-in-Comment : goal.loop-at-preserved-in-Comment
 loop-at-preserved-in-Comment c =
     let chars = c.args.text.now in
     let same = c.codes-codes.ensures in
-    let found = simp (take_rest, same) at c.in-Comment.ensures.finds in
-    let known : KnowsLone (drop c.loop-at.at (codes_of chars)) c.piece_at.new.lone = simp (take_rest, same) at c.piece_at.ensures.lone in
+    let found = simp (take_rest, same) at (found_here _ _ c.found.inside.front (variant.Comment c.in-Comment.n) _ c.found.view_is c.in-Comment.is c.piece_at-found.ensures.finds) in
+    let known : KnowsLone (drop c.loop-at.at (codes_of chars)) c.piece_at-found.new.lone.single c.piece_at-found.new.lone.double = simp (take_rest, same) at c.piece_at-found.ensures.lone in
     record {
       same = c.loop-at.invariant.same;
       passed = omega (arith, c.loop-at.invariant.passed);
       in_line = line_start (codes_of chars) (c.loop-at.at + c.in-Comment.n);
       state = skip_comment c.args.profile chars c.loop-at.at c.loop-at.start c.in-Comment.n c.loop-at.space c.loop-at.tokens.items c.loop-at.lines.items c.loop-at.invariant.state found.0 found.2;
-      lone = knows_later (codes_of chars) c.loop-at.at c.in-Comment.n c.piece_at.new.lone known;
+      lone = knows_later (codes_of chars) c.loop-at.at c.in-Comment.n c.piece_at-found.new.lone.single c.piece_at-found.new.lone.double known;
     }
 
 pub loop-at-preserved : goal.loop-at-preserved
 loop-at-preserved c =
     let chars = c.args.text.now in
     let same = c.codes-codes.ensures in
-    let found = simp (take_rest, c.deref.ensures.value, same) at c.in-Token.ensures.finds in
-    let known : KnowsLone (drop c.loop-at.at (codes_of chars)) c.piece_at.new.lone = simp (take_rest, same) at c.piece_at.ensures.lone in
+    let found = simp (take_rest, c.deref.ensures.value, same) at (found_here _ _ c.found.inside.front (variant.Token c.in-Token.kind c.in-Token.n) _ c.found.view_is c.in-Token.is c.piece_at-found.ensures.finds) in
+    let known : KnowsLone (drop c.loop-at.at (codes_of chars)) c.piece_at-found.new.lone.single c.piece_at-found.new.lone.double = simp (take_rest, same) at c.piece_at-found.ensures.lone in
     let there = c.place-place.ensures.place first ∙ ap (λ (z : List Char). (get_or z c.loop-at.at first).at) c.loop-at.invariant.same in
     let l = codes_length chars in
     let first_length = ap length c.codes-codes.ensures in
@@ -98,7 +100,7 @@ loop-at-preserved c =
       state = rw tokens
           (add_token c.args.profile chars c.loop-at.at c.loop-at.start c.in-Token.n c.loop-at.space c.loop-at.tokens.items c.loop-at.lines.items c.in-Token.kind
           (token_of c.in-Token.kind c.loop-at.space (take c.in-Token.n (drop c.loop-at.at chars))) c.loop-at.invariant.state refl found.0 found.2);
-      lone = knows_later (codes_of chars) c.loop-at.at c.in-Token.n c.piece_at.new.lone known;
+      lone = knows_later (codes_of chars) c.loop-at.at c.in-Token.n c.piece_at-found.new.lone.single c.piece_at-found.new.lone.double known;
     }
 
 pub returns-in-Unclosed : goal.returns-in-Unclosed
@@ -106,7 +108,7 @@ returns-in-Unclosed c =
     let chars = c.args.text.now in
     let l = codes_length chars in
     let same = c.codes-codes.ensures in
-    let found = simp (take_rest, same) at c.in-Unclosed.ensures.finds in
+    let found = simp (take_rest, same) at (found_here _ _ c.found.inside.front variant.Unclosed _ c.found.view_is c.in-Unclosed.is c.piece_at-found.ensures.finds) in
     let first_length = ap length c.codes-codes.ensures in
     let here = c.place.ensures.place first ∙ ap (λ (z : List Char). (get_or z c.loop-at.at first).at) c.loop-at.invariant.same ∙ head_of_drop chars c.loop-at.at first (omega arith) in
     left_unclosed c.args.profile chars c.loop-at.at c.loop-at.start c.loop-at.space c.loop-at.tokens.items c.loop-at.lines.items c.place.result c.loop-at.invariant.state here found

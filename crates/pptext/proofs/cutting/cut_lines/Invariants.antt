@@ -11,7 +11,7 @@ invariant-loop-at l = record {
   passed : l.places.passed ≤ l.at;
   in_line : InLine (codes_of l.text) l.line l.at;
   state : State l.profile l.text l.at l.start l.space l.tokens.items l.lines.items;
-  lone : KnowsLone (drop l.at (codes_of l.text)) l.lone;
+  lone : KnowsLone (drop l.at (codes_of l.text)) l.lone.single l.lone.double;
 }
 
 abbrev pub decreases-loop-at : goal.decreases-loop-at

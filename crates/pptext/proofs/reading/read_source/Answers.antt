@@ -10,7 +10,7 @@ use Rattle.pptext.specs.Cut.{Piece, Cut}
 use Rattle.pptext.specs.Lines.{LogicalLine, lines_of}
 use Rattle.pptext.specs.Tree.{group_fault}
 use Rattle.pptext.specs.Sources.{lines_from, Reads, spliced_end, open_comment, bad_groups}
-use Rattle.pptext.specs.Finds.{FailsToCut}
+use Rattle.pptext.specs.Finds.{CutsInto}
 use Rattle.pptext.specs.Texts.{Cleans}
 use Rattle.pptext.proofs.Spans.{same_lines}
 use Rattle.pptext.proofs.Lengths.{cleaned_length}
@@ -31,22 +31,23 @@ grouped profile file bytes chars pieces lines (Err Memory) clean cut are groups 
 pub group_lines-requires-clause-few : goal.group_lines-requires-clause-few
 group_lines-requires-clause-few c =
     let text = subst (Cleans c.args.file c.args.bytes.now) c.in-Ok.is c.in_ok-text.ensures in
-    omega (arith, c.in-Ok-cut_lines.ensures.4, cleaned_length c.args.file c.args.bytes.now c.in-Ok.text text, c.requires)
+    let cut = subst (CutsInto c.args.profile c.in-Ok.text c.cut_lines.new.tokens.items c.cut_lines.new.lines.items) c.in_default.is c.in_ok-place.ensures in
+    omega (arith, cut.4, cleaned_length c.args.file c.args.bytes.now c.in-Ok.text text, c.requires)
 
 pub returns-in-Err : goal.returns-in-Err
 returns-in-Err c =
     let text = subst (Cleans c.args.file c.args.bytes.now) c.in-Err.is c.in_ok-text.ensures in
     rw c.fault_at.ensures (spliced_end text)
 
-pub returns-in-Err-Unclosed : goal.returns-in-Err-Unclosed
-returns-in-Err-Unclosed c =
+pub returns-in-Err-2 : goal.returns-in-Err-2
+returns-in-Err-2 c =
     let text = subst (Cleans c.args.file c.args.bytes.now) c.in-Ok.is c.in_ok-text.ensures in
-    let open_at = open_comment text (subst (FailsToCut c.in-Ok.text) c.in-Err-Unclosed.field-0-is c.in-Err-Unclosed.ensures) in
-    rw (c.fault_at-in-Err-Unclosed.ensures, c.in-Err-Unclosed.place-is) open_at
+    let unclosed = subst (CutsInto c.args.profile c.in-Ok.text c.cut_lines.new.tokens.items c.cut_lines.new.lines.items) c.in-Err-2.is c.in_ok-place.ensures in
+    rw c.fault_at-in-Err-2.ensures (open_comment text unclosed)
 
 pub returns : goal.returns
 returns c =
     let text = subst (Cleans c.args.file c.args.bytes.now) c.in-Ok.is c.in_ok-text.ensures in
     let same = same_lines c.cut_lines.new.tokens.items c.shrink_to_fit.new.self.items c.cut_lines.new.lines.items c.shrink_to_fit-2.new.self.items c.shrink_to_fit.ensures.items c.shrink_to_fit-2.ensures.items in
-    let cut = c.in-Ok-cut_lines.ensures in
+    let cut = subst (CutsInto c.args.profile c.in-Ok.text c.cut_lines.new.tokens.items c.cut_lines.new.lines.items) c.in_default.is c.in_ok-place.ensures in
     grouped c.args.profile c.args.file c.args.bytes.now c.in-Ok.text cut.0 (lines_from c.shrink_to_fit.new.self.items c.shrink_to_fit-2.new.self.items) c.group_lines.result text cut.1 (cut.2 ∙ sym same) c.group_lines.ensures
