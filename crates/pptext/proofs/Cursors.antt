@@ -3,15 +3,24 @@ use Rattle.std.proofs.Common.{◌≡◌, ℕ, suc, ◌+◌, ◌-◌, ◌<◌, �
 use Rattle.std.proofs.lemmas.List.{drop-drop, drop-map, get_or-drop, get_or-take, take_all, length-take-le}
 use Rattle.pptext.specs.declared.tokens.Place.{Place}
 use Rattle.pptext.specs.declared.characters.Char.{Char}
-use Rattle.pptext.specs.declared.texts.Cursor.{Cursor}
+use Rattle.pptext.specs.declared.texts.Cursor.TheInside.{Inside}
 use Rattle.pptext.specs.Clean.{codes_of, place, splices}
 use Rattle.pptext.specs.Breaks.{IsTable, Stretch, behind_break, step_len}
 use Rattle.pptext.specs.Steps.{Code, Removed, open_end, step_of, place_behind}
-use Rattle.pptext.specs.Texts.{InLine, supply, start, end_from, text_from, Stands}
+use Rattle.pptext.specs.Texts.{InLine, Cursor, supply, start, end_from, text_from, Stands}
 use Rattle.pptext.proofs.PlaceLines.{no_line_passed}
 use Rattle.pptext.proofs.Offsets.{behind_append, behind_bounds, take_add}
 use Rattle.pptext.proofs.Breaks.{behind_at, own_less, stretch_rest, table_next}
 use Rattle.pptext.proofs.Copies.{code_at, removed_at, removed_inside, at_end, own_at, own_from}
+
+-- the fields of the code's cursor are those that contracts see
+pub record Opened (a : Inside) (c : Cursor) : Type 0 where
+  pub passed : a.passed ≡ c.passed
+  pub offset : a.offset ≡ c.offset
+  pub plain : a.plain ≡ c.plain
+
+pub opened : (a : Inside) (c : Cursor) → record { passed = a.passed; offset = a.offset; plain = a.plain; next = a.next; at = a.at } ≡ c → Opened a c
+opened a c e = record { passed = ap (λ (x : Cursor). x.passed) e; offset = ap (λ (x : Cursor). x.offset) e; plain = ap (λ (x : Cursor). x.plain) e }
 
 -- the bounds of a cursor's place
 pub record Bounds (file : ℕ) (c : Cursor) : Type 0 where

@@ -2,7 +2,6 @@
 use Rattle.std.specs.Prelude.{◌≡◌, ◌≢◌, ◌≤◌, ◌<◌, ◌+◌, ℕ, List, [], ◌∷◌, ◌++◌, Bool, Option, None, Some, Result, length, take, drop, slice_index, if◌then◌else◌}
 use Rattle.pptext.specs.declared.tokens.Place.{Place}
 use Rattle.pptext.specs.declared.characters.Char.{Char}
-use Rattle.pptext.specs.declared.texts.Cursor.{Cursor}
 use Rattle.pptext.specs.Clean.{cleaned, place, placed, newline, without_returns, trigraphs, splices, splice_at_end, codes_of}
 use Rattle.pptext.specs.Breaks.{IsTable, Stretch, behind_break}
 use Rattle.pptext.specs.Steps.{open_end, place_behind}
@@ -42,6 +41,15 @@ text_from file raw offset = splices (logical_from file raw offset)
 -- the place of a backslash at the end of the file, from an offset on
 abbrev pub end_from : ℕ → List ℕ → ℕ → Option Place
 end_from file raw offset = splice_at_end (logical_from file raw offset)
+
+-- How far the places of a text have been asked for: the character, the byte of the file from which it is sought, how many bytes stand between that
+-- byte and the next break, the table's entry behind that break, and the byte's place.
+pub record Cursor : Type 0 where
+  pub passed : ℕ
+  pub offset : ℕ
+  pub plain : ℕ
+  pub next : ℕ
+  pub at : Place
 
 -- A cursor stands where its next character is sought, so many bytes in front of a break, behind which the table goes on at its next entry.
 pub record Stands (file : ℕ) (raw breaks : List ℕ) (c : Cursor) : Type 0 where

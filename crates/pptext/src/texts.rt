@@ -23,12 +23,22 @@ pub(crate) struct Cleaned {
 /// How far the places of a text have been asked for: the character, the byte of the file from which it is sought, how many
 /// bytes stand between that byte and the next break, the table's entry behind that break, and the byte's place.
 #[derive(Clone, Copy)]
-pub(crate) struct Cursor {
-    pub(crate) passed: usize,
-    pub(crate) offset: usize,
-    pub(crate) plain: usize,
-    pub(crate) next: usize,
-    pub(crate) at: Place,
+struct Cursor {
+    passed: usize,
+    offset: usize,
+    plain: usize,
+    next: usize,
+    at: Place,
+}
+
+impl Model for Cursor {
+    ghost use Rattle.pptext.specs.Texts.{Cursor};
+
+    ghost Value = { Cursor };
+
+    ghost view = { λ c. record { passed = c.passed; offset = c.offset; plain = c.plain; next = c.next; at = c.at } };
+
+    ghost inverse = { λ c. record { passed = c.passed; offset = c.offset; plain = c.plain; next = c.next; at = c.at } };
 }
 
 impl Cursor {
@@ -292,7 +302,9 @@ impl<'a> Places<'a> {
         ensures place { (d : Char) → result ≡ (slice_index_or self.old.chars at d).at }
         ensures after { self.new ≡ record { chars = self.old.chars; passed = at } }
     {
-        self.cursor.seek(self.raw, self.breaks, at, line);
+        let raw = self.raw;
+        let breaks = self.breaks;
+        self.cursor.seek(raw, breaks, at, line);
         self.cursor.at
     }
 }

@@ -1,11 +1,14 @@
-use Rattle.std.proofs.Common.{◌≡◌, ◌+◌, ◌-◌, ◌<◌, length, drop, get_or, sym, ap, ◌∙◌, subst, arith}
+use Rattle.std.proofs.Common.{◌≡◌, ℕ, Bool, List, ◌+◌, ◌-◌, ◌<◌, length, drop, get_or, sym, ap, ◌∙◌, subst, arith}
 use Rattle.std.proofs.lemmas.List.{take_rest}
-use Rattle.pptext.specs.declared.texts.Cursor.{Cursor}
-use Rattle.pptext.specs.Steps.{Code, Removed, open_end, step_of}
-use Rattle.pptext.specs.Texts.{Stands, text_from}
+use Rattle.pptext.specs.Steps.{Step, Code, Removed, open_end, step_of}
+use Rattle.pptext.specs.Texts.{Cursor, Stands, text_from}
 use Rattle.pptext.proofs.Copies.{code_at, removed_at}
-use Rattle.pptext.proofs.Cursors.{arrives, bounds, pass_code, pass_plain, skip_removed, stands_at_code, stands_at_end}
+use Rattle.pptext.proofs.Cursors.{arrives, bounds, opened, pass_code, pass_plain, skip_removed, stands_at_code, stands_at_end}
 use Rattle.pptext.proofs.texts.Cursor.walked.Goals as goal
+
+-- what begins the rest behind this offset, as it was asked for
+step_here : (raw : List ℕ) (supplied : Bool) (asked offset : ℕ) (step : Step) → supplied ≡ open_end raw → asked ≡ offset → step ≡ step_of supplied (drop asked raw) → step_of (open_end raw) (drop offset raw) ≡ step
+step_here raw supplied asked offset step end same is = ap (λ s. step_of s (drop offset raw)) (sym end) ∙ ap (λ k. step_of supplied (drop k raw)) (sym same) ∙ sym is
 
 pub pass-requires-then-cursor-gt0-clause-line : goal.pass-requires-then-cursor-gt0-clause-line
 pass-requires-then-cursor-gt0-clause-line c = (bounds c.args.self.at.file c.args.raw.now c.args.breaks.now c.loop-cursor.cursor c.loop-cursor.invariant.stands).line
@@ -33,62 +36,68 @@ pass-requires-clause-col c = (bounds c.args.self.at.file c.args.raw.now c.args.b
 
 pub skip-cursor-requires-clause-fits : goal.skip-cursor-requires-clause-fits
 skip-cursor-requires-clause-fits c =
+    let same = opened c.cursor.inside c.loop-cursor.cursor c.cursor.view_is in
     let raw = c.args.raw.now in
     let cursor = c.loop-cursor.cursor in
     let o = cursor.offset in
     let n = c.in-Removed.len in
-    let is : step_of (open_end raw) (drop o raw) ≡ Removed n = ap (λ s. step_of s (drop o raw)) (sym c.has_open_end-supplied.ensures) ∙ sym (simp take_rest at c.in-Removed.ensures) in
-    (removed_at 0 raw o n c.loop-cursor-test.true is).fits
+    let is = step_here raw c.has_open_end-supplied.result c.cursor.inside.offset o (Removed n) c.has_open_end-supplied.ensures same.offset (simp take_rest at c.in-Removed.ensures) in
+    (removed_at 0 raw o n (omega (arith, same.offset, c.loop-cursor-test.true)) is).fits
 
 pub skip-cursor-requires-in-Code-clause-fits : goal.skip-cursor-requires-in-Code-clause-fits
 skip-cursor-requires-in-Code-clause-fits c =
+    let same = opened c.cursor.inside c.loop-cursor.cursor c.cursor.view_is in
     let raw = c.args.raw.now in
     let cursor = c.loop-cursor.cursor in
     let o = cursor.offset in
     let n = c.in-Code.len in
-    let is : step_of (open_end raw) (drop o raw) ≡ Code c.in-Code.field-0 n = ap (λ s. step_of s (drop o raw)) (sym c.has_open_end-supplied.ensures) ∙ sym (simp take_rest at c.in-Code.ensures) in
-    (code_at 0 raw o c.in-Code.field-0 n c.loop-cursor-test.true is).fits
+    let is = step_here raw c.has_open_end-supplied.result c.cursor.inside.offset o (Code c.in-Code.field-0 n) c.has_open_end-supplied.ensures same.offset (simp take_rest at c.in-Code.ensures) in
+    (code_at 0 raw o c.in-Code.field-0 n (omega (arith, same.offset, c.loop-cursor-test.true)) is).fits
 
 pub returns-then-ahead-cursor : goal.returns-then-ahead-cursor
 returns-then-ahead-cursor c =
+    let same = opened c.cursor.inside c.loop-cursor.cursor c.cursor.view_is in
     let there =
     arrives c.args.self.at.file c.args.raw.now c.args.breaks.now c.loop-cursor.cursor c.pass.new.self c.args.to
-    c.loop-cursor.invariant.stands c.loop-cursor.invariant.forward c.if-ahead-cursor.true c.pass.ensures in
+    c.loop-cursor.invariant.stands c.loop-cursor.invariant.forward (omega (arith, same.passed, same.plain, c.if-ahead-cursor.true)) (rw same.passed at c.pass.ensures) in
     record { stands = there.stands; passed = there.passed; file = there.same_file; place = there.place }
 
 pub loop-cursor-preserved-then-cursor-gt0 : goal.loop-cursor-preserved-then-cursor-gt0
 loop-cursor-preserved-then-cursor-gt0 c =
+    let same = opened c.cursor.inside c.loop-cursor.cursor c.cursor.view_is in
     let raw = c.args.raw.now in
     let cursor = c.loop-cursor.cursor in
-    let s = pass_plain c.args.self.at.file raw c.args.breaks.now cursor cursor.plain c.loop-cursor.invariant.stands (omega arith) in
-    let passed : c.pass-then-cursor-gt0.new.self.passed ≡ cursor.passed + cursor.plain = ap (λ (x : Cursor). x.passed) c.pass-then-cursor-gt0.ensures in
+    let s = pass_plain c.args.self.at.file raw c.args.breaks.now cursor c.cursor.inside.plain c.loop-cursor.invariant.stands (omega (arith, same.plain)) in
+    let passed : c.pass-then-cursor-gt0.new.self.passed ≡ cursor.passed + c.cursor.inside.plain = ap (λ (x : Cursor). x.passed) c.pass-then-cursor-gt0.ensures in
     record {
-      forward = omega (arith, c.if-ahead-cursor.false, c.loop-cursor.invariant.forward);
+      forward = omega (arith, same.passed, same.plain, c.if-ahead-cursor.false, c.loop-cursor.invariant.forward);
       stands = subst (Stands c.args.self.at.file raw c.args.breaks.now) (sym c.pass-then-cursor-gt0.ensures) s.1;
     }
 
 pub loop-cursor-smaller-in-Removed : goal.loop-cursor-smaller-in-Removed
 loop-cursor-smaller-in-Removed c =
+    let same = opened c.cursor.inside c.loop-cursor.cursor c.cursor.view_is in
     let raw = c.args.raw.now in
     let cursor = c.loop-cursor.cursor in
     let o = cursor.offset in
     let stands = c.loop-cursor.invariant.stands in
     let n = c.in-Removed.len in
-    let is : step_of (open_end raw) (drop o raw) ≡ Removed n = ap (λ s. step_of s (drop o raw)) (sym c.has_open_end-supplied.ensures) ∙ sym (simp take_rest at c.in-Removed.ensures) in
-    let s = skip_removed c.args.self.at.file raw c.args.breaks.now cursor n stands (omega arith) c.loop-cursor-test.true is in
+    let is = step_here raw c.has_open_end-supplied.result c.cursor.inside.offset o (Removed n) c.has_open_end-supplied.ensures same.offset (simp take_rest at c.in-Removed.ensures) in
+    let s = skip_removed c.args.self.at.file raw c.args.breaks.now cursor n stands (omega (arith, same.plain)) (omega (arith, same.offset, c.loop-cursor-test.true)) is in
     let skip : c.skip-cursor.result.offset ≡ o + n = ap (λ (x : Cursor). x.offset) c.skip-cursor.ensures in
     let less : length raw - c.skip-cursor.result.offset < length raw - o = omega (arith, s.0) in
     less
 
 pub loop-cursor-preserved-in-Removed : goal.loop-cursor-preserved-in-Removed
 loop-cursor-preserved-in-Removed c =
+    let same = opened c.cursor.inside c.loop-cursor.cursor c.cursor.view_is in
     let raw = c.args.raw.now in
     let cursor = c.loop-cursor.cursor in
     let o = cursor.offset in
     let stands = c.loop-cursor.invariant.stands in
     let n = c.in-Removed.len in
-    let is : step_of (open_end raw) (drop o raw) ≡ Removed n = ap (λ s. step_of s (drop o raw)) (sym c.has_open_end-supplied.ensures) ∙ sym (simp take_rest at c.in-Removed.ensures) in
-    let s = skip_removed c.args.self.at.file raw c.args.breaks.now cursor n stands (omega arith) c.loop-cursor-test.true is in
+    let is = step_here raw c.has_open_end-supplied.result c.cursor.inside.offset o (Removed n) c.has_open_end-supplied.ensures same.offset (simp take_rest at c.in-Removed.ensures) in
+    let s = skip_removed c.args.self.at.file raw c.args.breaks.now cursor n stands (omega (arith, same.plain)) (omega (arith, same.offset, c.loop-cursor-test.true)) is in
     let passed = ap (λ (x : Cursor). x.passed) c.skip-cursor.ensures in
     record { forward = omega (arith, c.loop-cursor.invariant.forward); stands = subst (Stands c.args.self.at.file raw c.args.breaks.now) (sym c.skip-cursor.ensures) s.2 }
 
@@ -97,52 +106,59 @@ returns-then-cursor-to-clause-file c = (bounds c.args.self.at.file c.args.raw.no
 
 pub returns-then-cursor-to-clause-place : goal.returns-then-cursor-to-clause-place
 returns-then-cursor-to-clause-place c =
+    let same = opened c.cursor.inside c.loop-cursor.cursor c.cursor.view_is in
     let raw = c.args.raw.now in
     let cursor = c.loop-cursor.cursor in
     let o = cursor.offset in
     let stands = c.loop-cursor.invariant.stands in
     let n = c.in-Code.len in
     let code = c.in-Code.field-0 in
-    let is : step_of (open_end raw) (drop o raw) ≡ Code code n = ap (λ s. step_of s (drop o raw)) (sym c.has_open_end-supplied.ensures) ∙ sym (simp take_rest at c.in-Code.ensures) in
-    λ d. stands_at_code c.args.self.at.file raw c.args.breaks.now cursor code n d stands c.loop-cursor-test.true is ∙ ap (λ k. (get_or (text_from c.args.self.at.file raw 0) k d).at) c.if-cursor-to.true
+    let is = step_here raw c.has_open_end-supplied.result c.cursor.inside.offset o (Code code n) c.has_open_end-supplied.ensures same.offset (simp take_rest at c.in-Code.ensures) in
+    λ d. stands_at_code c.args.self.at.file raw c.args.breaks.now cursor code n d stands (omega (arith, same.offset, c.loop-cursor-test.true)) is ∙ ap (λ k. (get_or (text_from c.args.self.at.file raw 0) k d).at) (sym same.passed ∙ c.if-cursor-to.true)
 
 pub loop-cursor-smaller : goal.loop-cursor-smaller
 loop-cursor-smaller c =
+    let same = opened c.cursor.inside c.loop-cursor.cursor c.cursor.view_is in
     let raw = c.args.raw.now in
     let cursor = c.loop-cursor.cursor in
     let o = cursor.offset in
     let stands = c.loop-cursor.invariant.stands in
     let n = c.in-Code.len in
     let code = c.in-Code.field-0 in
-    let is : step_of (open_end raw) (drop o raw) ≡ Code code n = ap (λ s. step_of s (drop o raw)) (sym c.has_open_end-supplied.ensures) ∙ sym (simp take_rest at c.in-Code.ensures) in
-    let s = pass_code c.args.self.at.file raw c.args.breaks.now cursor code n stands (omega arith) c.loop-cursor-test.true is in
+    let is = step_here raw c.has_open_end-supplied.result c.cursor.inside.offset o (Code code n) c.has_open_end-supplied.ensures same.offset (simp take_rest at c.in-Code.ensures) in
+    let s = pass_code c.args.self.at.file raw c.args.breaks.now cursor code n stands (omega (arith, same.plain)) (omega (arith, same.offset, c.loop-cursor-test.true)) is in
     let skip : c.skip-cursor-in-Code.result.offset ≡ o + n = ap (λ (x : Cursor). x.offset) c.skip-cursor-in-Code.ensures in
-    let less : length raw - c.skip-cursor-in-Code.result.offset < length raw - o = omega (arith, s.0) in
+    let after = opened c.cursor-in-Code.inside c.skip-cursor-in-Code.result c.cursor-in-Code.view_is in
+    let less : length raw - c.cursor-in-Code.inside.offset < length raw - o = omega (arith, s.0, after.offset) in
     less
 
 pub loop-cursor-preserved : goal.loop-cursor-preserved
 loop-cursor-preserved c =
+    let same = opened c.cursor.inside c.loop-cursor.cursor c.cursor.view_is in
     let raw = c.args.raw.now in
     let cursor = c.loop-cursor.cursor in
     let o = cursor.offset in
     let stands = c.loop-cursor.invariant.stands in
     let n = c.in-Code.len in
     let code = c.in-Code.field-0 in
-    let is : step_of (open_end raw) (drop o raw) ≡ Code code n = ap (λ s. step_of s (drop o raw)) (sym c.has_open_end-supplied.ensures) ∙ sym (simp take_rest at c.in-Code.ensures) in
-    let s = pass_code c.args.self.at.file raw c.args.breaks.now cursor code n stands (omega arith) c.loop-cursor-test.true is in
+    let is = step_here raw c.has_open_end-supplied.result c.cursor.inside.offset o (Code code n) c.has_open_end-supplied.ensures same.offset (simp take_rest at c.in-Code.ensures) in
+    let s = pass_code c.args.self.at.file raw c.args.breaks.now cursor code n stands (omega (arith, same.plain)) (omega (arith, same.offset, c.loop-cursor-test.true)) is in
+    let after = opened c.cursor-in-Code.inside c.skip-cursor-in-Code.result c.cursor-in-Code.view_is in
     let passed = ap (λ (x : Cursor). x.passed) c.skip-cursor-in-Code.ensures in
     record {
-      forward = omega (arith, c.loop-cursor.invariant.forward, c.if-cursor-to.false);
-      stands = subst (λ (x : Cursor). Stands c.args.self.at.file raw c.args.breaks.now (record { passed = x.passed + 1; offset = x.offset; plain = x.plain; next = x.next; at = x.at })) (sym c.skip-cursor-in-Code.ensures) s.2;
+      forward = omega (arith, same.passed, after.passed, c.loop-cursor.invariant.forward, c.if-cursor-to.false);
+      stands = subst (λ (x : Cursor). Stands c.args.self.at.file raw c.args.breaks.now (record { passed = x.passed + 1; offset = x.offset; plain = x.plain; next = x.next; at = x.at })) (sym (c.cursor-in-Code.view_is ∙ c.skip-cursor-in-Code.ensures)) s.2;
     }
 
 pub returns-clause-passed : goal.returns-clause-passed
 returns-clause-passed c =
-    (stands_at_end c.args.self.at.file c.args.raw.now c.args.breaks.now c.loop-cursor.cursor c.args.to c.loop-cursor.invariant.stands c.loop-cursor-test.false c.loop-cursor.invariant.forward c.requires.within).0
+    let same = opened c.cursor.inside c.loop-cursor.cursor c.cursor.view_is in
+    (stands_at_end c.args.self.at.file c.args.raw.now c.args.breaks.now c.loop-cursor.cursor c.args.to c.loop-cursor.invariant.stands (omega (arith, same.offset, c.loop-cursor-test.false)) c.loop-cursor.invariant.forward c.requires.within).0
 
 pub returns-clause-file : goal.returns-clause-file
 returns-clause-file c = (bounds c.args.self.at.file c.args.raw.now c.args.breaks.now c.loop-cursor.cursor c.loop-cursor.invariant.stands).same_file
 
 pub returns-clause-place : goal.returns-clause-place
 returns-clause-place c =
-    (stands_at_end c.args.self.at.file c.args.raw.now c.args.breaks.now c.loop-cursor.cursor c.args.to c.loop-cursor.invariant.stands c.loop-cursor-test.false c.loop-cursor.invariant.forward c.requires.within).1
+    let same = opened c.cursor.inside c.loop-cursor.cursor c.cursor.view_is in
+    (stands_at_end c.args.self.at.file c.args.raw.now c.args.breaks.now c.loop-cursor.cursor c.args.to c.loop-cursor.invariant.stands (omega (arith, same.offset, c.loop-cursor-test.false)) c.loop-cursor.invariant.forward c.requires.within).1
