@@ -1,4 +1,4 @@
-use Rattle.std.proofs.Common.{◌≡◌, ℕ, Bool, List, ◌+◌, ◌-◌, ◌<◌, length, drop, get_or, sym, ap, ◌∙◌, subst, arith}
+use Rattle.std.proofs.Common.{◌≡◌, ℕ, Bool, List, ◌+◌, ◌-◌, ◌<◌, ◌≤◌, length, drop, get_or, sym, ap, ◌∙◌, subst, arith}
 use Rattle.std.proofs.lemmas.List.{take_rest}
 use Rattle.pptext.specs.Steps.{Step, Code, Removed, open_end, step_of}
 use Rattle.pptext.specs.Texts.{Cursor, Stands, text_from}
@@ -114,7 +114,8 @@ returns-then-cursor-to-clause-place c =
     let n = c.in-Code.len in
     let code = c.in-Code.field-0 in
     let is = step_here raw c.has_open_end-supplied.result c.cursor.inside.offset o (Code code n) c.has_open_end-supplied.ensures same.offset (simp take_rest at c.in-Code.ensures) in
-    λ d. stands_at_code c.args.self.at.file raw c.args.breaks.now cursor code n d stands (omega (arith, same.offset, c.loop-cursor-test.true)) is ∙ ap (λ k. (get_or (text_from c.args.self.at.file raw 0) k d).at) (sym same.passed ∙ c.if-cursor-to.true)
+    let here : o < length raw = omega (arith, same.offset, c.loop-cursor-test.true) in
+    λ d. stands_at_code c.args.self.at.file raw c.args.breaks.now cursor code n d stands here is ∙ ap (λ k. (get_or (text_from c.args.self.at.file raw 0) k d).at) (sym same.passed ∙ c.if-cursor-to.true)
 
 pub loop-cursor-smaller : goal.loop-cursor-smaller
 loop-cursor-smaller c =
@@ -147,13 +148,15 @@ loop-cursor-preserved c =
     let passed = ap (λ (x : Cursor). x.passed) c.skip-cursor-in-Code.ensures in
     record {
       forward = omega (arith, same.passed, after.passed, c.loop-cursor.invariant.forward, c.if-cursor-to.false);
-      stands = subst (λ (x : Cursor). Stands c.args.self.at.file raw c.args.breaks.now (record { passed = x.passed + 1; offset = x.offset; plain = x.plain; next = x.next; at = x.at })) (sym (c.cursor-in-Code.view_is ∙ c.skip-cursor-in-Code.ensures)) s.2;
+      stands = subst (λ (x : Cursor). Stands c.args.self.at.file raw c.args.breaks.now (record { passed = x.passed + 1; offset = x.offset; plain = x.plain; next = x.next; at = x.at }))
+          (sym (c.cursor-in-Code.view_is ∙ c.skip-cursor-in-Code.ensures)) s.2;
     }
 
 pub returns-clause-passed : goal.returns-clause-passed
 returns-clause-passed c =
     let same = opened c.cursor.inside c.loop-cursor.cursor c.cursor.view_is in
-    (stands_at_end c.args.self.at.file c.args.raw.now c.args.breaks.now c.loop-cursor.cursor c.args.to c.loop-cursor.invariant.stands (omega (arith, same.offset, c.loop-cursor-test.false)) c.loop-cursor.invariant.forward c.requires.within).0
+    let past : length c.args.raw.now ≤ c.loop-cursor.cursor.offset = omega (arith, same.offset, c.loop-cursor-test.false) in
+    (stands_at_end c.args.self.at.file c.args.raw.now c.args.breaks.now c.loop-cursor.cursor c.args.to c.loop-cursor.invariant.stands past c.loop-cursor.invariant.forward c.requires.within).0
 
 pub returns-clause-file : goal.returns-clause-file
 returns-clause-file c = (bounds c.args.self.at.file c.args.raw.now c.args.breaks.now c.loop-cursor.cursor c.loop-cursor.invariant.stands).same_file
@@ -161,4 +164,5 @@ returns-clause-file c = (bounds c.args.self.at.file c.args.raw.now c.args.breaks
 pub returns-clause-place : goal.returns-clause-place
 returns-clause-place c =
     let same = opened c.cursor.inside c.loop-cursor.cursor c.cursor.view_is in
-    (stands_at_end c.args.self.at.file c.args.raw.now c.args.breaks.now c.loop-cursor.cursor c.args.to c.loop-cursor.invariant.stands (omega (arith, same.offset, c.loop-cursor-test.false)) c.loop-cursor.invariant.forward c.requires.within).1
+    let past : length c.args.raw.now ≤ c.loop-cursor.cursor.offset = omega (arith, same.offset, c.loop-cursor-test.false) in
+    (stands_at_end c.args.self.at.file c.args.raw.now c.args.breaks.now c.loop-cursor.cursor c.args.to c.loop-cursor.invariant.stands past c.loop-cursor.invariant.forward c.requires.within).1
