@@ -120,13 +120,13 @@ fn dark_piece_at(text: &[u8], line: &[Token], lone: &mut LoneQuotes) -> Found
     ensures lone { KnowsLone text.now lone.new.single lone.new.double }
 {
     if opens_block(text) {
-        return match block_len(text) {
-            Some(n) => Found {
-                front: Front::Comment(n),
-            },
-            None => Found {
+        let Some(n) = block_len(text) else {
+            return Found {
                 front: Front::Unclosed,
-            },
+            };
+        };
+        return Found {
+            front: Front::Comment(n),
         };
     }
     if opens_line(text) {
