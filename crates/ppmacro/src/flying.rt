@@ -1,7 +1,6 @@
 // Tokens in flight: with their hide sets, and without copies where they stand in a file.
-ghost use Rattle.std.specs.Prelude.{◌≡◌, IfOk, if◌then◌else◌};
+ghost use Rattle.std.specs.Prelude.{◌≡◌, ◌++◌, IfOk, if◌then◌else◌};
 ghost use Rattle.ppmacro.specs.Flying.{placed, extended};
-ghost use Rattle.ppmacro.specs.Words.{word_token, word_mark};
 
 use crate::hide_sets::Set;
 use pptext::{Kind, Place, Spelling, Token};
@@ -10,40 +9,68 @@ use std::marker::Model;
 
 /// A token of a file, or one that was made, and the mark that it has now. Beside the enum the mark would take a quarter more room.
 #[derive(Drop)]
-pub(crate) enum Word<'a> {
+pub(crate) enum Origin<'a> {
     Shared { space: bool, token: &'a Token },
     Made { space: bool, token: Box<Token> },
+}
+
+/// A token and the mark that it has now, which contracts see as this pair.
+#[derive(Drop)]
+pub(crate) struct Word<'a> {
+    origin: Origin<'a>,
+}
+
+impl<'a> Model for Word<'a> {
+    ghost use Rattle.std.specs.Prelude.{Bool};
+    ghost use Rattle.pptext.specs.declared.tokens.Token.{Token};
+    ghost use Rattle.ppmacro.specs.declared.flying.Origin.TheVariants.{Shared, Made};
+
+    ghost Value = { Token × Bool };
+
+    ghost view = { λ w. elim w.origin [ Shared s t ↦ (t.now, s) | Made s t ↦ (t.value, s) ] };
 }
 
 impl<'a> Word<'a> {
     // The token, but for its mark.
     fn token(&self) -> &Token
-        ensures { result.now ≡ word_token self.now }
+        ensures { result.now ≡ self.now.0 }
     {
-        match self {
-            Word::Shared { token, .. } => token,
-            Word::Made { token, .. } => token,
+        match &self.origin {
+            Origin::Shared { token, .. } => token,
+            Origin::Made { token, .. } => token,
         }
     }
 
     // Its mark.
     fn space(&self) -> bool
-        ensures { result ≡ word_mark self.now }
+        ensures { result ≡ self.now.1 }
     {
-        match self {
-            Word::Shared { space, .. } => *space,
-            Word::Made { space, .. } => *space,
+        match &self.origin {
+            Origin::Shared { space, .. } => *space,
+            Origin::Made { space, .. } => *space,
         }
     }
 
     // Sets its mark.
     fn mark(&mut self, mark: bool)
-        ensures token { word_token self.new ≡ word_token self.old }
-        ensures mark { word_mark self.new ≡ mark }
+        ensures { self.new ≡ (self.old.0, mark) }
     {
-        match self {
-            Word::Shared { space, .. } => *space = mark,
-            Word::Made { space, .. } => *space = mark,
+        match &mut self.origin {
+            Origin::Shared { space, .. } => *space = mark,
+            Origin::Made { space, .. } => *space = mark,
+        }
+    }
+
+    // Puts bytes behind the spelling of a token that was made. Whether it is one.
+    fn extend(&mut self, alloc: Global, more: &[u8]) -> Result<bool, AllocError>
+        ensures { IfOk result (λ made. self.new ≡ (if made then (record self.old.0 { text = self.old.0.text ++ more.now }, self.old.1) else self.old)) }
+    {
+        match &mut self.origin {
+            Origin::Shared { .. } => Ok(false),
+            Origin::Made { token, .. } => {
+                token.text.extend(alloc, more)?;
+                Ok(true)
+            }
         }
     }
 }
@@ -72,9 +99,7 @@ impl<'a> Model for Hidden<'a> {
 
     ghost Value = { InFlight };
 
-    ghost use Rattle.ppmacro.specs.Words.{word_token, word_mark};
-
-    ghost view = { λ h. record { token = placed (word_token h.word) h.used (word_mark h.word); hide = h.hide } };
+    ghost view = { λ h. record { token = placed h.word.0 h.used h.word.1; hide = h.hide } };
 }
 
 impl<'a> Hidden<'a> {
@@ -83,9 +108,11 @@ impl<'a> Hidden<'a> {
         ensures { result ≡ record { token = token.now; hide = hide } }
     {
         Hidden {
-            word: Word::Shared {
-                space: token.space,
-                token,
+            word: Word {
+                origin: Origin::Shared {
+                    space: token.space,
+                    token,
+                },
             },
             used: token.used,
             hide,
@@ -99,9 +126,11 @@ impl<'a> Hidden<'a> {
         let used = token.used;
         let space = token.space;
         Ok(Hidden {
-            word: Word::Made {
-                space,
-                token: Box::new(alloc, token)?,
+            word: Word {
+                origin: Origin::Made {
+                    space,
+                    token: Box::new(alloc, token)?,
+                },
             },
             used,
             hide,
@@ -181,13 +210,7 @@ impl<'a> Hidden<'a> {
     pub(crate) fn extend(&mut self, alloc: Global, more: &[u8]) -> Result<bool, AllocError>
         ensures { IfOk result (λ made. self.new ≡ (if made then extended self.old more.now else self.old)) }
     {
-        match &mut self.word {
-            Word::Shared { .. } => Ok(false),
-            Word::Made { token, .. } => {
-                token.text.extend(alloc, more)?;
-                Ok(true)
-            }
-        }
+        self.word.extend(alloc, more)
     }
 
     /// Sets its mark.
@@ -208,20 +231,23 @@ impl<'a> Hidden<'a> {
 
 impl<'a> Clone for Word<'a> {
     ghost use Rattle.std.specs.Prelude.{◌≡◌};
-    ghost use Rattle.ppmacro.specs.Words.{word_token, word_mark};
 
-    ghost is_clone = { λ a b. (word_token b ≡ word_token a) × (word_mark b ≡ word_mark a) };
+    ghost is_clone = { λ a b. b ≡ a };
 
     #[inline(always)]
     fn clone(&self) -> Result<Word<'a>, AllocError> {
-        match self {
-            Word::Shared { space, token } => Ok(Word::Shared {
-                space: *space,
-                token: *token,
+        match &self.origin {
+            Origin::Shared { space, token } => Ok(Word {
+                origin: Origin::Shared {
+                    space: *space,
+                    token: *token,
+                },
             }),
-            Word::Made { space, token } => Ok(Word::Made {
-                space: *space,
-                token: token.clone()?,
+            Origin::Made { space, token } => Ok(Word {
+                origin: Origin::Made {
+                    space: *space,
+                    token: token.clone()?,
+                },
             }),
         }
     }
