@@ -9,11 +9,8 @@ use Rattle.std.specs.Ordering.{nat_cmp}
 use Rattle.std.specs.Cmp.{Equal-is, tied_itself}
 use Rattle.std.specs.Cmp.Lexicographic.{slice_cmp}
 use Rattle.std.proofs.lemmas.Cmp.{nat_list_cmp_total}
-use Rattle.ppmacro.specs.declared.hide_sets.nodes.Node.{Node}
-use Rattle.ppmacro.specs.declared.hide_sets.nodes.Operation.{Operation}
-use Rattle.ppmacro.specs.declared.hide_sets.nodes.Operation.TheVariants.{Union, Meet}
-use Rattle.ppmacro.specs.Operations.{joined}
-use Rattle.ppmacro.specs.Nodes.{member, IsPool, Keeps, IsBounded}
+use Rattle.ppmacro.specs.Operations.{Operation, Union, Meet, joined}
+use Rattle.ppmacro.specs.Nodes.{Node, member, IsPool, Keeps, IsBounded}
 use Rattle.ppmacro.specs.Names.{Name, HideSet}
 use Rattle.ppmacro.specs.Members.{same_name, kept, hide_set, counted, hide_sets}
 use Rattle.ppmacro.proofs.Tries.{member-keeps, lawful, differs}
