@@ -6,5 +6,4 @@ pub mod Shown
 pub mod Laws
 pub mod Lists
 pub mod Pieces
-pub mod Unread
 pub mod Skipping
