@@ -2,6 +2,7 @@ pub mod Arguments
 pub mod Turn
 pub mod Expansion
 pub mod Standard
+pub mod Next
 pub mod Shown
 pub mod Laws
 pub mod Lists
