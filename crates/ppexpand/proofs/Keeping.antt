@@ -4,14 +4,14 @@ use Rattle.std.specs.Option.{option_map}
 use Rattle.std.specs.FinSet as set
 use Rattle.ppmacro.specs.Names.{HideSet}
 use Rattle.ppmacro.specs.Numbered.{Numbered}
-use Rattle.ppmacro.specs.HideSets.{set_at, IsKnown, hiding, hidings, AllKnown, Keeps}
+use Rattle.ppmacro.specs.HideSets.{set_at, hiding, hidings, HasSets, AllKnown, Keeps}
 use Rattle.ppmacro.specs.Substitution.{expanded_at}
 use Rattle.ppmacro.specs.Substituting.{option_of, options_of, ListsKnown, ArgumentsKnown}
 use Rattle.ppmacro.specs.declared.flying.Hidden.{Hidden}
 use Rattle.ppmacro.specs.declared.flying.Expansion.{Expansion}
 use Rattle.ppmacro.specs.declared.flying.Expansion.TheVariants.{Unused, AsGiven, Made}
 use Rattle.ppmacro.proofs.ArgumentLemmas.{all-known}
-use Rattle.ppmacro.proofs.KeepLemmas.{set-keeps, hiding-keeps, hidings-keeps, known-keeps, known-set}
+use Rattle.ppmacro.proofs.KeepLemmas.{set-keeps, hiding-keeps, hidings-keeps, known-keeps, known-set, known-sets}
 use Rattle.ppexpand.specs.declared.turn.Invocation.{Invocation}
 use Rattle.ppexpand.specs.Turn.{Call}
 use Rattle.ppexpand.specs.Shown.{given_in, expanded_in, held, ExpansionsKnown, call_in, CallKnown}
@@ -86,7 +86,7 @@ abbrev IsCallKnown : Numbered → Invocation → Type 0
 IsCallKnown sets c = CallKnown sets c.head c.arguments.items c.both
 
 pub call_known-keeps : {s t : Numbered} (c : Invocation) → Keeps s t → IsCallKnown s c → IsCallKnown t c
-call_known-keeps c k h = record { head = known-set c.head.hide k h.head; arguments = given_known-keeps c.arguments.items k h.arguments; both = known-set c.both k h.both }
+call_known-keeps c k h = record { head = known-sets c.head k h.head; arguments = given_known-keeps c.arguments.items k h.arguments; both = known-set c.both k h.both }
 
 pub call_of-keeps : {s t : Numbered} (c : Invocation) (behind : List Hidden) → Keeps s t → IsCallKnown s c → AllKnown s behind → call_of t c behind ≡ call_of s c behind
 call_of-keeps {s} {t} c behind k h rest =
@@ -99,7 +99,7 @@ call_of-keeps {s} {t} c behind k h rest =
 -- an invocation that was made while sets were added
 pub call_made : {s t : Numbered} (c : Invocation) (behind : List Hidden) (gain : HideSet)
     → Keeps s t
-    → IsKnown s c.head.hide
+    → HasSets s c.head
     → ListsKnown s c.arguments.items
     → AllKnown s behind
     → set.insert (set_at t c.both) c.head.token.text ≡ gain

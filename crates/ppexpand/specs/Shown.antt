@@ -10,7 +10,7 @@ use Rattle.pptext.specs.declared.tokens.Fault.{Fault}
 use Rattle.pptext.specs.Tokens.{fault}
 use Rattle.ppmacro.specs.Names.{Macros}
 use Rattle.ppmacro.specs.Numbered.{Numbered}
-use Rattle.ppmacro.specs.HideSets.{set_at, IsKnown, Hiding, hiding, hidings, AllKnown}
+use Rattle.ppmacro.specs.HideSets.{set_at, IsKnown, Hiding, hiding, hidings, HasSets, AllKnown}
 use Rattle.ppmacro.specs.Substituting.{lists_of, option_of, options_of, ListsKnown}
 use Rattle.ppmacro.specs.declared.macros.Definition.{Definition}
 use Rattle.ppmacro.specs.declared.flying.Hidden.{Hidden}
@@ -66,7 +66,7 @@ call_in sets head macro given both behind = record {
 
 -- the sets of an invocation are there
 pub record CallKnown (sets : Numbered) (name : Hidden) (given : List (Vec Hidden Global)) (base : ℕ) : Type 0 where
-  pub head : IsKnown sets name.hide
+  pub head : HasSets sets name
   pub arguments : ListsKnown sets given
   pub both : IsKnown sets base
 
@@ -80,7 +80,7 @@ turn_in sets left next.Replaced = Replaced (hidings sets left)
 turn_in sets left (next.Called head macro given both) = Called (call_in sets head macro given both left)
 
 abbrev pub NextKnown : Numbered → List Hidden → next.Next → Type 0
-NextKnown sets left (next.Passes head) = IsKnown sets head.hide × AllKnown sets left
+NextKnown sets left (next.Passes head) = HasSets sets head × AllKnown sets left
 NextKnown sets left next.Replaced = AllKnown sets left
 NextKnown sets left (next.Called head macro given both) = CallKnown sets head given both × AllKnown sets left
 NextKnown sets left _ = Unit {0}

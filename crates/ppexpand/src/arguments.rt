@@ -1,7 +1,7 @@
 // The arguments of an invocation (6.10.3p4, p11, p12).
 ghost use Rattle.std.specs.Prelude.{◌≡◌, IfOk};
 ghost use Rattle.ppmacro.specs.Numbered.{Numbered};
-ghost use Rattle.ppmacro.specs.HideSets.{IsKnown, hiding, hidings, AllKnown};
+ghost use Rattle.ppmacro.specs.HideSets.{HasSets, hiding, hidings, AllKnown};
 ghost use Rattle.ppmacro.specs.Substituting.{ListsKnown};
 ghost use Rattle.ppexpand.specs.Arguments.{Closed, Quoted, Unclosed, separates, fewer, separators, gather, fitted};
 ghost use Rattle.ppexpand.specs.Shown.{given_in, fitting_in, FittingKnown, is_bare};
@@ -71,7 +71,7 @@ pub(crate) fn gather<'a>(
       | Gathered.Unclosed ↦ Unclosed
     ]) ≡ gather 0 commas (hidings sets list.old)) }
     ensures known { IfOk result (λ g. (sets : Numbered) → AllKnown sets list.old → elim g [
-      | Gathered.Closed arguments close ↦ ListsKnown sets arguments.items × IsKnown sets close.hide × AllKnown sets list.new
+      | Gathered.Closed arguments close ↦ ListsKnown sets arguments.items × HasSets sets close × AllKnown sets list.new
       | Gathered.Quoted quote ↦ Unit {0}
       | Gathered.Unclosed ↦ Unit {0}
     ]) }

@@ -3,7 +3,7 @@ ghost use Rattle.std.specs.Prelude.{◌≡◌, IfOk, OnOk, ◌∷◌, ◌++◌, 
 ghost use Rattle.std.specs.Option.{option_copied};
 ghost use Rattle.std.specs.FinSet as set;
 ghost use Rattle.ppmacro.specs.Numbered.{Numbered};
-ghost use Rattle.ppmacro.specs.HideSets.{set_at, IsKnown, hiding, hidings, AllKnown, Keeps};
+ghost use Rattle.ppmacro.specs.HideSets.{set_at, IsKnown, HasSets, hide_of, hiding, hidings, AllKnown, Keeps};
 ghost use Rattle.ppmacro.specs.Substituting.{ArgumentsKnown, arguments_in, tokens_of};
 ghost use Rattle.ppmacro.specs.Chains.{chains_of};
 ghost use Rattle.ppmacro.specs.Lone.{lone_chain};
@@ -139,7 +139,7 @@ fn gained_token<'a>(
 ) -> Hidden<'a>
     requires { IsKnown sets.now gain }
     ensures is { hiding sets.now result ≡ gained (set_at sets.now gain) used (with_mark mark (plain token.now)) }
-    ensures known { IsKnown sets.now result.hide }
+    ensures known { HasSets sets.now result }
 {
     let _numbered = sets;
     let mut hidden = Hidden::new(token, gain);
@@ -206,19 +206,55 @@ fn predefined_turn<'t, 'x, 'a: 'x>(
     builtin: Builtin,
     list: &mut Cursor<'x>,
 ) -> Result<Next<'t, 'x, 'a>, Memory>
-    requires head { IsKnown sets.old head.hide }
+    requires head { HasSets sets.old head }
     requires list { AllKnown sets.old list.old }
     ensures is { IfOk result (λ n. turn_in sets.new list.new n
         ≡ Replaced (predefined_value builtin env.now (hiding sets.old head.entry)
-        (set.insert (set_at sets.old head.entry.hide) head.entry.token.text) ∷ hidings sets.old list.old)) }
+        (set.insert (hide_of sets.old head.entry) head.entry.token.text) ∷ hidings sets.old list.old)) }
     ensures known { IfOk result (λ n. NextKnown sets.new list.new n) }
     ensures keeps { Keeps sets.old sets.new }
 {
-    let gain = sets.with(head.hide(), head.text())?;
+    let gain = sets.with_own(&head)?;
     list.push(predefined_value(alloc, builtin, env, &head, gain)?)?;
     Ok(Next {
         step: Step::Replaced,
     })
+}
+
+/// Replaces an object-like macro's name. Each token of the replacement gains the names of `base` and that of the macro.
+fn replace_object<'t, 'x, 'a: 'x>(
+    alloc: Global,
+    sets: &mut HideSets,
+    base: Set,
+    head: &Hidden<'x>,
+    replaced: &Macro<'a>,
+    list: &mut Cursor<'x>,
+) -> Result<Next<'t, 'x, 'a>, Memory>
+    requires base { IsKnown sets.old base }
+    requires list { AllKnown sets.old list.old }
+    ensures is { IfOk result (λ n. turn_in sets.new list.new n
+        ≡ replaced_by (substituted replaced.now no_arguments
+        (set.insert (set_at sets.old base) head.now.token.text) head.now.token.used head.now.token.space)
+        (hidings sets.old list.old)) }
+    ensures known { IfOk result (λ n. NextKnown sets.new list.new n) }
+    ensures keeps { Keeps sets.old sets.new }
+{
+    if let Some(body) = replaced.lone_tokens() {
+        replace_by(sets, body, base, head, list)?;
+        return Ok(Next {
+            step: Step::Replaced,
+        });
+    }
+    let chains = replaced.chains(alloc)?;
+    let pattern = Pattern::Joined(chains);
+    match replace(alloc, sets, &pattern, &[], &[], base, head, list)? {
+        Ok(()) => Ok(Next {
+            step: Step::Replaced,
+        }),
+        Err(fault) => Ok(Next {
+            step: Step::Failed(fault),
+        }),
+    }
 }
 
 /// The turn of an object-like macro's name.
@@ -229,32 +265,17 @@ fn object_turn<'t, 'x, 'a: 'x>(
     replaced: &Macro<'a>,
     list: &mut Cursor<'x>,
 ) -> Result<Next<'t, 'x, 'a>, Memory>
-    requires head { IsKnown sets.old head.hide }
+    requires head { HasSets sets.old head }
     requires list { AllKnown sets.old list.old }
     ensures is { IfOk result (λ n. turn_in sets.new list.new n
         ≡ replaced_by (substituted replaced.now no_arguments
-        (set.insert (set_at sets.old head.entry.hide) head.entry.token.text) head.entry.token.used head.entry.token.space)
+        (set.insert (hide_of sets.old head.entry) head.entry.token.text) head.entry.token.used head.entry.token.space)
         (hidings sets.old list.old)) }
     ensures known { IfOk result (λ n. NextKnown sets.new list.new n) }
     ensures keeps { Keeps sets.old sets.new }
 {
-    let base = head.hide();
-    if let Some(body) = replaced.lone_tokens() {
-        replace_by(sets, body, base, &head, list)?;
-        return Ok(Next {
-            step: Step::Replaced,
-        });
-    }
-    let chains = replaced.chains(alloc)?;
-    let pattern = Pattern::Joined(chains);
-    match replace(alloc, sets, &pattern, &[], &[], base, &head, list)? {
-        Ok(()) => Ok(Next {
-            step: Step::Replaced,
-        }),
-        Err(fault) => Ok(Next {
-            step: Step::Failed(fault),
-        }),
-    }
+    let base = sets.settled(&head)?;
+    replace_object(alloc, sets, base, &head, replaced, list)
 }
 
 /// The turn of an invocation whose `)` is found.
@@ -266,9 +287,9 @@ fn called<'t, 'x, 'a: 'x>(
     close: &Hidden,
     list: &Cursor,
 ) -> Result<Next<'t, 'x, 'a>, Memory>
-    requires head { IsKnown sets.old head.hide }
+    requires head { HasSets sets.old head }
     requires arguments { FittingKnown sets.old arguments }
-    requires close { IsKnown sets.old close.now.hide }
+    requires close { HasSets sets.old close.now }
     requires list { AllKnown sets.old list.now }
     ensures is { IfOk result (λ n. turn_in sets.new list.now n
         ≡ called (hiding sets.old head.entry) replaced.now (fitting_in sets.old arguments.entry) (hiding sets.old close.now)
@@ -282,7 +303,7 @@ fn called<'t, 'x, 'a: 'x>(
             step: Step::Failed(at_use(18, &head)?),
         });
     };
-    let both = sets.meet(head.hide(), close.hide())?;
+    let both = sets.common(&head, close)?;
     Ok(Next {
         step: Step::Called(Invocation {
             head,
@@ -303,7 +324,7 @@ fn invoked<'t, 'x, 'a: 'x>(
     variadic: bool,
     list: &mut Cursor<'x>,
 ) -> Result<Next<'t, 'x, 'a>, Memory>
-    requires head { IsKnown sets.old head.hide }
+    requires head { HasSets sets.old head }
     requires list { AllKnown sets.old list.old }
     ensures is { IfOk result (λ n. turn_in sets.new list.new n
         ≡ invoked (hiding sets.old head.entry) replaced.now names.now variadic
@@ -335,7 +356,7 @@ fn function_turn<'t, 'x, 'a: 'x>(
     variadic: bool,
     list: &mut Cursor<'x>,
 ) -> Result<Next<'t, 'x, 'a>, Memory>
-    requires head { IsKnown sets.old head.hide }
+    requires head { HasSets sets.old head }
     requires list { AllKnown sets.old list.old }
     ensures is { IfOk result (λ n. turn_in sets.new list.new n
         ≡ function_turn (hiding sets.old head.entry) replaced.now names.now variadic (hidings sets.old list.old)) }
@@ -365,7 +386,7 @@ fn macro_turn<'t, 'x, 'a: 'x>(
     replaced: &'t Macro<'a>,
     list: &mut Cursor<'x>,
 ) -> Result<Next<'t, 'x, 'a>, Memory>
-    requires head { IsKnown sets.old head.hide }
+    requires head { HasSets sets.old head }
     requires list { AllKnown sets.old list.old }
     ensures is { IfOk result (λ n. turn_in sets.new list.new n
         ≡ macro_turn env.now (hiding sets.old head.entry) (hidings sets.old list.old) replaced.now replaced.now.shape) }
@@ -397,7 +418,7 @@ fn spent_turn<'t, 'x, 'a: 'x>(
         (sets : Numbered) (env : Env) → turn_in sets list.new n
         ≡ within (Some 0) (hiding sets head.entry ∷ hidings sets list.old)
         (macro_turn env (hiding sets head.entry) (hidings sets list.old) replaced.now replaced.now.shape)) }
-    ensures known { IfOk result (λ n. (sets : Numbered) → IsKnown sets head.entry.hide → AllKnown sets list.old → NextKnown sets list.new n) }
+    ensures known { IfOk result (λ n. (sets : Numbered) → HasSets sets head.entry → AllKnown sets list.old → NextKnown sets list.new n) }
 {
     if !matches!(replaced.definition().shape, Shape::FunctionLike { .. }) {
         return Ok(Next {
@@ -451,7 +472,7 @@ pub(crate) fn next_turn<'t, 'x, 'a: 'x>(
             step: Step::Passes(head),
         });
     };
-    if sets.has(head.hide(), head.text()) {
+    if sets.hides(&head) {
         return Ok(Next {
             step: Step::Passes(head),
         });

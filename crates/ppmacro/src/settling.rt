@@ -35,6 +35,18 @@ impl HideSets {
         }
     }
 
+    /// The set of all names that hide a token, and of its own spelling.
+    pub fn with_own(&mut self, hidden: &Hidden) -> Result<Set, Memory>
+        requires { HasSets self.old hidden.now }
+        ensures set { IfOk result (λ s. set_at self.new s ≡ set.insert (hide_of self.old hidden.now) hidden.now.token.text) }
+        ensures known { IfOk result (λ s. IsKnown self.new s) }
+        ensures keeps { Keeps self.old self.new }
+    {
+        let base = self.settled(hidden)?;
+        let more = self.with(base, hidden.text())?;
+        Ok(more)
+    }
+
     /// The set of the names that hide both tokens.
     pub fn common(&mut self, left: &Hidden, right: &Hidden) -> Result<Set, Memory>
         requires left { HasSets self.old left.now }
