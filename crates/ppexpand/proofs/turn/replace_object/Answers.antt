@@ -1,4 +1,4 @@
-use Rattle.std.proofs.Common.{◌≡◌, ◌∙◌, sym, ap}
+use Rattle.std.proofs.Common.{◌∙◌, sym, ap}
 use Rattle.std.specs.FinSet as set
 use Rattle.ppmacro.specs.HideSets.{set_at, hidings}
 use Rattle.ppmacro.specs.Substitution.{substituted_by}

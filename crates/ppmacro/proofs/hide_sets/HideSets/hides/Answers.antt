@@ -1,7 +1,5 @@
-use Rattle.std.proofs.Common.{◌≡◌, ◌∙◌, Bool, true, false, ◌||◌, refl, sym, ap}
+use Rattle.std.proofs.Common.{◌≡◌, ◌∙◌, true, false, sym}
 use Rattle.std.specs.FinSet as set
-use Rattle.ppmacro.specs.Names.{Name}
-use Rattle.ppmacro.specs.Numbered.{Numbered}
 use Rattle.ppmacro.specs.HideSets.{set_at, names_in}
 use Rattle.ppmacro.proofs.Gaining.{has-first, has-second}
 use Rattle.ppmacro.proofs.hide_sets.HideSets.hides.Goals as goal

@@ -4,7 +4,7 @@ use Rattle.std.proofs.lemmas.Result.{on_ok_weaker}
 use Rattle.ppmacro.specs.HideSets.{set_at, hidings}
 use Rattle.ppmacro.specs.Substitution.{gained}
 use Rattle.ppmacro.proofs.Hiding.{insert-gained}
-use Rattle.ppmacro.proofs.KeepLemmas.{set-keeps, hidings-keeps, known-set}
+use Rattle.ppmacro.proofs.KeepLemmas.{set-keeps, hidings-keeps}
 use Rattle.ppmacro.proofs.substituting.gains.gain_names.Goals as goal
 
 pub gain_all-requires-clause-within : goal.gain_all-requires-clause-within
