@@ -1,7 +1,7 @@
 -- How the search for the matching `)` goes on.
 use Rattle.std.proofs.Common.{◌≡◌, ℕ, zero, suc, true, List, [], ◌∷◌, ◌++◌, Option, Vec, Global, refl, sym, ap, ◌∙◌, append_assoc, append-nil}
 use Rattle.ppmacro.specs.Numbered.{Numbered}
-use Rattle.ppmacro.specs.HideSets.{Hiding, hiding, hidings, IsKnown, AllKnown}
+use Rattle.ppmacro.specs.HideSets.{Hiding, hiding, hidings, HasSets, AllKnown}
 use Rattle.ppmacro.specs.Substituting.{ListsKnown}
 use Rattle.ppmacro.specs.declared.flying.Hidden.{Hidden}
 use Rattle.ppexpand.specs.Arguments.{Gathered, Closed, Quoted, Unclosed, with_token, with_argument, separates}
@@ -56,7 +56,7 @@ pub given-push : (s : Numbered) (vs : List (Vec Hidden Global)) (v : Vec Hidden 
 given-push s [] v = refl
 given-push s (w ∷ vs) v = ap (λ ts. hidings s w.items ∷ ts) (given-push s vs v)
 
-pub known-push : {s : Numbered} (hs : List Hidden) (h : Hidden) → AllKnown s hs → IsKnown s h.hide → AllKnown s (hs ++ h ∷ [])
+pub known-push : {s : Numbered} (hs : List Hidden) (h : Hidden) → AllKnown s hs → HasSets s h → AllKnown s (hs ++ h ∷ [])
 known-push [] h k known = record { each = (known, tt) }
 known-push {s} (g ∷ hs) h k known = record { each = (k.each.0, (known-push {s = s} hs h (record { each = k.each.1 }) known).each) }
 

@@ -4,15 +4,16 @@ use Rattle.std.specs.Option.{option_map}
 use Rattle.std.specs.FinSet as set
 use Rattle.ppmacro.specs.Names.{HideSet}
 use Rattle.ppmacro.specs.Numbered.{Numbered}
-use Rattle.ppmacro.specs.HideSets.{set_at, IsKnown, hiding, hidings, AllKnown, Keeps}
+use Rattle.ppmacro.specs.HideSets.{set_at, hiding, hidings, HasSets, AllKnown, Keeps}
 use Rattle.ppmacro.specs.Substitution.{expanded_at}
 use Rattle.ppmacro.specs.Substituting.{option_of, options_of, ListsKnown, ArgumentsKnown}
 use Rattle.ppmacro.specs.declared.flying.Hidden.{Hidden}
 use Rattle.ppmacro.specs.declared.flying.Expansion.{Expansion}
 use Rattle.ppmacro.specs.declared.flying.Expansion.TheVariants.{Unused, AsGiven, Made}
 use Rattle.ppmacro.proofs.ArgumentLemmas.{all-known}
-use Rattle.ppmacro.proofs.KeepLemmas.{set-keeps, hiding-keeps, hidings-keeps, known-keeps, known-set}
+use Rattle.ppmacro.proofs.KeepLemmas.{set-keeps, hiding-keeps, hidings-keeps, known-keeps, known-set, known-sets}
 use Rattle.ppexpand.specs.declared.turn.Invocation.{Invocation}
+use Rattle.ppexpand.specs.Turn.{Call}
 use Rattle.ppexpand.specs.Shown.{given_in, expanded_in, held, ExpansionsKnown, call_in, CallKnown}
 
 pub given-keeps : {s t : Numbered} (vs : List (Vec Hidden Global)) → Keeps s t → ListsKnown s vs → given_in t vs ≡ given_in s vs
@@ -76,11 +77,19 @@ arguments_known vs es h k = record { given_known = (all-known vs [] vs [] refl r
 pub no_arguments_known : (s : Numbered) → ArgumentsKnown s [] []
 no_arguments_known s = arguments_known [] [] (record { each = tt }) (record { each = tt })
 
-pub call_known-keeps : {s t : Numbered} (c : Invocation) → Keeps s t → CallKnown s c → CallKnown t c
-call_known-keeps c k h = record { head = known-set c.head.hide k h.head; arguments = given_known-keeps c.arguments.items k h.arguments; both = known-set c.both k h.both }
+-- an invocation of the code, with what stands behind its `)`
+abbrev pub call_of : Numbered → Invocation → List Hidden → Call
+call_of sets c behind = call_in sets c.head c.replaced.now c.arguments.items c.both behind
 
-pub call_in-keeps : {s t : Numbered} (c : Invocation) (behind : List Hidden) → Keeps s t → CallKnown s c → AllKnown s behind → call_in t c behind ≡ call_in s c behind
-call_in-keeps {s} {t} c behind k h rest =
+-- its sets are there
+abbrev IsCallKnown : Numbered → Invocation → Type 0
+IsCallKnown sets c = CallKnown sets c.head c.arguments.items c.both
+
+pub call_known-keeps : {s t : Numbered} (c : Invocation) → Keeps s t → IsCallKnown s c → IsCallKnown t c
+call_known-keeps c k h = record { head = known-sets c.head k h.head; arguments = given_known-keeps c.arguments.items k h.arguments; both = known-set c.both k h.both }
+
+pub call_of-keeps : {s t : Numbered} (c : Invocation) (behind : List Hidden) → Keeps s t → IsCallKnown s c → AllKnown s behind → call_of t c behind ≡ call_of s c behind
+call_of-keeps {s} {t} c behind k h rest =
     let sets : set_at t c.both ≡ set_at s c.both = set-keeps c.both k h.both in
     let heads : hiding t c.head ≡ hiding s c.head = hiding-keeps c.head k h.head in
     let lists : given_in t c.arguments.items ≡ given_in s c.arguments.items = given-keeps c.arguments.items k h.arguments in
@@ -90,11 +99,11 @@ call_in-keeps {s} {t} c behind k h rest =
 -- an invocation that was made while sets were added
 pub call_made : {s t : Numbered} (c : Invocation) (behind : List Hidden) (gain : HideSet)
     → Keeps s t
-    → IsKnown s c.head.hide
+    → HasSets s c.head
     → ListsKnown s c.arguments.items
     → AllKnown s behind
     → set.insert (set_at t c.both) c.head.token.text ≡ gain
-    → call_in t c behind ≡ record { head = hiding s c.head; macro = c.replaced.now; arguments = given_in s c.arguments.items; gain = gain; behind = hidings s behind }
+    → call_of t c behind ≡ record { head = hiding s c.head; macro = c.replaced.now; arguments = given_in s c.arguments.items; gain = gain; behind = hidings s behind }
 call_made {s} {t} c behind gain k head lists rest gains =
     let heads : hiding t c.head ≡ hiding s c.head = hiding-keeps c.head k head in
     let arguments : given_in t c.arguments.items ≡ given_in s c.arguments.items = given-keeps c.arguments.items k lists in

@@ -29,6 +29,6 @@ hidings-marked sets true [] = refl
 hidings-marked sets false hs = refl
 
 pub known-marked : (sets : Numbered) (b : Bool) (hs : List Hidden) → AllKnown sets hs → AllKnown sets (marked b hs)
-known-marked sets true (h ∷ hs) k = record { each = k.each }
+known-marked sets true (h ∷ hs) k = record { each = (record { hide = k.each.0.hide; also = k.each.0.also }, k.each.1) }
 known-marked sets true [] k = k
 known-marked sets false hs k = k

@@ -113,7 +113,7 @@ more-known s list passed next more k h p = subst (AllKnown s) (sym k.passes) (kn
 -- tokens of a file with one set
 pub known-with_set : (s : Numbered) (n : ℕ) (ts : List Token) → IsKnown s n → AllKnown s (map (with_set n) ts)
 known-with_set s n [] h = record { each = tt }
-known-with_set s n (t ∷ ts) h = let rest = known-with_set s n ts h in record { each = (h, rest.each) }
+known-with_set s n (t ∷ ts) h = let rest = known-with_set s n ts h in record { each = (record { hide = h; also = tt }, rest.each) }
 
 pub hidings-with_set : (s : Numbered) (n : ℕ) (ts : List Token) → set_at s n ≡ set.empty → hidings s (map (with_set n) ts) ≡ map plain ts
 hidings-with_set s n [] h = refl

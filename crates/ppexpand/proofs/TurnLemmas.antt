@@ -6,6 +6,10 @@ use Rattle.ppmacro.specs.HideSets.{Hiding}
 use Rattle.pptext.specs.declared.tokens.Fault.{Fault}
 use Rattle.pptext.specs.Tokens.{is_lone_quote}
 use Rattle.ppexpand.specs.declared.env.Env.{Env}
+use Rattle.ppexpand.specs.declared.turn.Step.{Step}
+use Rattle.ppexpand.specs.declared.turn.Next.TheInside.{Inside}
+use Rattle.ppexpand.specs.declared.turn.Next.TheView.{view}
+use Rattle.ppexpand.specs.Next.{Next}
 use Rattle.ppexpand.specs.Turn.{Done, Refused, Passes, quote_fault, named_turn, Turn, macro_of, turn, within, is_spent}
 
 pub turn-quote : (macros : Macros) (env : Env) (t : Hiding) (rest : List Hiding) → is_lone_quote t.token ≡ true → turn macros env (t ∷ rest) ≡ Refused (quote_fault t)
@@ -56,3 +60,8 @@ pub nothing_left : (left : Option ℕ) → is_spent left ≡ true → left ≡ S
 nothing_left None h = absurd (true≢false (sym h))
 nothing_left (Some zero) h = refl
 nothing_left (Some (suc n)) h = absurd (true≢false (sym h))
+
+-- ---- what is to be done for the next token
+
+pub stepped : (n : Inside) {v : Next} {s : Step} → view n ≡ v → n.step ≡ s → v ≡ view (record { step = s })
+stepped n shows is = sym shows ∙ ap (λ s. view (record { step = s })) is

@@ -2,9 +2,9 @@ pub mod Arguments
 pub mod Turn
 pub mod Expansion
 pub mod Standard
+pub mod Next
 pub mod Shown
 pub mod Laws
 pub mod Lists
 pub mod Pieces
-pub mod Unread
 pub mod Skipping

@@ -10,7 +10,7 @@ use Rattle.ppexpand.specs.Turn.{macro_of}
 
 -- a token of a file, with the number of a hide set
 abbrev pub with_set : ℕ → Token → Hidden
-with_set hide t = record { token = t; hide = hide }
+with_set hide t = record { token = t; hide = hide; also = None }
 
 -- the first takes a mark
 abbrev pub marked : Bool → List Hidden → List Hidden

@@ -10,20 +10,16 @@ use Rattle.pptext.specs.declared.tokens.Fault.{Fault}
 use Rattle.pptext.specs.Tokens.{fault}
 use Rattle.ppmacro.specs.Names.{Macros}
 use Rattle.ppmacro.specs.Numbered.{Numbered}
-use Rattle.ppmacro.specs.HideSets.{set_at, IsKnown, Hiding, hiding, hidings, AllKnown}
+use Rattle.ppmacro.specs.HideSets.{set_at, IsKnown, Hiding, hiding, hidings, HasSets, AllKnown}
 use Rattle.ppmacro.specs.Substituting.{lists_of, option_of, options_of, ListsKnown}
+use Rattle.ppmacro.specs.declared.macros.Definition.{Definition}
 use Rattle.ppmacro.specs.declared.flying.Hidden.{Hidden}
 use Rattle.ppmacro.specs.declared.flying.Expansion.{Expansion}
 use Rattle.ppmacro.specs.declared.flying.Expansion.TheVariants.{Unused, AsGiven, Made}
 use Rattle.ppexpand.specs.declared.env.Env.{Env}
-use Rattle.ppexpand.specs.declared.arguments.Gathered as gathered
-use Rattle.ppexpand.specs.declared.arguments.Gathered.TheVariants as found
-use Rattle.ppexpand.specs.declared.turn.Invocation.{Invocation}
-use Rattle.ppexpand.specs.declared.turn.Next.{Next}
-use Rattle.ppexpand.specs.declared.turn.Next.TheVariants as next
-use Rattle.ppexpand.specs.Arguments.{Gathered, Closed, Quoted, Unclosed}
 use Rattle.ppexpand.specs.Turn.{Call, Turn, Done, Refused, Passes, Failed, Replaced, Called, less_one, wanted, finished}
-use Rattle.ppexpand.specs.Expansion.{Outcome, turn_within, Expands, ExpandsArguments}
+use Rattle.ppexpand.specs.Next as next
+use Rattle.ppexpand.specs.Expansion.{Outcome, ExpandedArguments, turn_within, Expands, ExpandsArguments}
 
 -- ---- arguments
 
@@ -56,47 +52,37 @@ abbrev pub is_bare : List (Vec Hidden Global) → Bool
 is_bare (v ∷ []) = length v.items == 0
 is_bare _ = false
 
--- what was gathered, where this list is left
-abbrev pub gathered_in : Numbered → List Hidden → gathered.Gathered → Gathered
-gathered_in sets left (found.Closed arguments close) = Closed (given_in sets arguments.items) (hiding sets close) (hidings sets left)
-gathered_in sets left (found.Quoted quote) = Quoted (hiding sets quote)
-gathered_in sets left found.Unclosed = Unclosed
-
-abbrev pub GatheredKnown : Numbered → List Hidden → gathered.Gathered → Type 0
-GatheredKnown sets left (found.Closed arguments close) = ListsKnown sets arguments.items × IsKnown sets close.hide × AllKnown sets left
-GatheredKnown sets left _ = Unit {0}
-
 -- ---- turns
 
--- an invocation with what stands behind its `)`
-abbrev pub call_in : Numbered → Invocation → List Hidden → Call
-call_in sets c behind = record {
-  head = hiding sets c.head;
-  macro = c.replaced.now;
-  arguments = given_in sets c.arguments.items;
-  gain = set.insert (set_at sets c.both) c.head.token.text;
+-- an invocation: a macro's name, the macro, the arguments, the set of the names that hide both the name and its `)`, and what stands behind the `)`
+abbrev pub call_in : Numbered → Hidden → Definition → List (Vec Hidden Global) → ℕ → List Hidden → Call
+call_in sets head macro given both behind = record {
+  head = hiding sets head;
+  macro = macro;
+  arguments = given_in sets given;
+  gain = set.insert (set_at sets both) head.token.text;
   behind = hidings sets behind;
 }
 
 -- the sets of an invocation are there
-pub record CallKnown (sets : Numbered) (c : Invocation) : Type 0 where
-  pub head : IsKnown sets c.head.hide
-  pub arguments : ListsKnown sets c.arguments.items
-  pub both : IsKnown sets c.both
+pub record CallKnown (sets : Numbered) (name : Hidden) (given : List (Vec Hidden Global)) (base : ℕ) : Type 0 where
+  pub head : HasSets sets name
+  pub arguments : ListsKnown sets given
+  pub both : IsKnown sets base
 
 -- the turn, where this list is left
-abbrev pub turn_in : Numbered → List Hidden → Next → Turn
+abbrev pub turn_in : Numbered → List Hidden → next.Next → Turn
 turn_in sets left next.Done = Done
 turn_in sets left (next.Refused f) = Refused f
 turn_in sets left (next.Passes head) = Passes (hiding sets head) (hidings sets left)
 turn_in sets left (next.Failed f) = Failed f
 turn_in sets left next.Replaced = Replaced (hidings sets left)
-turn_in sets left (next.Called c) = Called (call_in sets c left)
+turn_in sets left (next.Called head macro given both) = Called (call_in sets head macro given both left)
 
-abbrev pub NextKnown : Numbered → List Hidden → Next → Type 0
-NextKnown sets left (next.Passes head) = IsKnown sets head.hide × AllKnown sets left
+abbrev pub NextKnown : Numbered → List Hidden → next.Next → Type 0
+NextKnown sets left (next.Passes head) = HasSets sets head × AllKnown sets left
 NextKnown sets left next.Replaced = AllKnown sets left
-NextKnown sets left (next.Called c) = CallKnown sets c × AllKnown sets left
+NextKnown sets left (next.Called head macro given both) = CallKnown sets head given both × AllKnown sets left
 NextKnown sets left _ = Unit {0}
 
 -- a replacement, where this list is left
@@ -134,13 +120,17 @@ HasExpanded macros env level head left after before sets given e = (tokens : Lis
     × (option_map (hidings sets) (option_of given e) ≡ Some tokens)
     × ExpandsArgument macros env level head left (hidings before given) after (Ok tokens)
 
+-- the arguments of a call at this level that are to be expanded have these expansions, or this fault, and leave so much
+abbrev pub ExpandsWanted : Macros → Env → ℕ → Call → Option ℕ → Option ℕ → ExpandedArguments → Type 0
+ExpandsWanted macros env level call left after r = ExpandsArguments macros env level call left (wanted call) after r
+
 -- a call at this level, where so much is left, comes to this turn: its arguments are expanded, and then it is replaced
 pub data Invokes (macros : Macros) (env : Env) (level : ℕ) (call : Call) (left : Option ℕ) : Option ℕ → Turn → Type 0 where
   refuses : {after : Option ℕ} {f : Fault}
-      → ExpandsArguments macros env level call left (wanted call) after (Err f)
+      → ExpandsWanted macros env level call left after (Err f)
       → Invokes macros env level call left after (Failed f)
   finishes : {after : Option ℕ} {expanded : List (Option (List Hiding))}
-      → ExpandsArguments macros env level call left (wanted call) after (Ok expanded)
+      → ExpandsWanted macros env level call left after (Ok expanded)
       → Invokes macros env level call left after (finished call expanded)
 
 -- one turn led from the first list to the second, and these tokens passed

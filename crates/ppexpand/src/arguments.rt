@@ -1,10 +1,10 @@
 // The arguments of an invocation (6.10.3p4, p11, p12).
 ghost use Rattle.std.specs.Prelude.{◌≡◌, IfOk};
 ghost use Rattle.ppmacro.specs.Numbered.{Numbered};
-ghost use Rattle.ppmacro.specs.HideSets.{hidings, AllKnown};
+ghost use Rattle.ppmacro.specs.HideSets.{HasSets, hiding, hidings, AllKnown};
 ghost use Rattle.ppmacro.specs.Substituting.{ListsKnown};
-ghost use Rattle.ppexpand.specs.Arguments.{separates, fewer, separators, gather, fitted};
-ghost use Rattle.ppexpand.specs.Shown.{gathered_in, GatheredKnown, given_in, fitting_in, FittingKnown, is_bare};
+ghost use Rattle.ppexpand.specs.Arguments.{Closed, Quoted, Unclosed, separates, fewer, separators, gather, fitted};
+ghost use Rattle.ppexpand.specs.Shown.{given_in, fitting_in, FittingKnown, is_bare};
 
 use crate::cursor::Cursor;
 use crate::spellings::{Mark, mark_of};
@@ -65,8 +65,16 @@ pub(crate) fn gather<'a>(
     list: &mut Cursor<'a>,
     commas: Option<usize>,
 ) -> Result<Gathered<'a>, AllocError>
-    ensures is { IfOk result (λ g. (sets : Numbered) → gathered_in sets list.new g ≡ gather 0 commas (hidings sets list.old)) }
-    ensures known { IfOk result (λ g. (sets : Numbered) → AllKnown sets list.old → GatheredKnown sets list.new g) }
+    ensures is { IfOk result (λ g. (sets : Numbered) → (elim g [
+      | Gathered.Closed arguments close ↦ Closed (given_in sets arguments.items) (hiding sets close) (hidings sets list.new)
+      | Gathered.Quoted quote ↦ Quoted (hiding sets quote)
+      | Gathered.Unclosed ↦ Unclosed
+    ]) ≡ gather 0 commas (hidings sets list.old)) }
+    ensures known { IfOk result (λ g. (sets : Numbered) → AllKnown sets list.old → elim g [
+      | Gathered.Closed arguments close ↦ ListsKnown sets arguments.items × HasSets sets close × AllKnown sets list.new
+      | Gathered.Quoted quote ↦ Unit {0}
+      | Gathered.Unclosed ↦ Unit {0}
+    ]) }
 {
     let mut arguments: Vec<Vec<Hidden<'a>>> = Vec::new(supply.alloc());
     let mut argument = supply.list(USUAL)?;

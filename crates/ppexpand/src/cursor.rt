@@ -2,8 +2,7 @@
 ghost use Rattle.std.specs.Prelude.{◌≡◌, ◌∷◌, [], ◌++◌, true, Some, MatchOption, OnOk};
 ghost use Rattle.std.specs.Option.{option_copied};
 ghost use Rattle.ppmacro.specs.Substituting.{tokens_of};
-ghost use Rattle.ppexpand.specs.Lists.{marked, next_macro, ArePlain};
-ghost use Rattle.ppexpand.specs.Skipping.{IsAhead};
+ghost use Rattle.ppexpand.specs.Lists.{marked, is_plain, next_macro, ArePlain};
 
 use crate::stretch::Stretch;
 use crate::turn::macro_at;
@@ -123,7 +122,11 @@ impl<'a> Cursor<'a> {
 
     /// The next token, taken out, where it passes and is one of those that were put before the others; or the macro that it names.
     pub(crate) fn next_plain<'t, 'b>(&mut self, table: &'t Table<'b>) -> Ahead<'t, 'a, 'b>
-        ensures { IsAhead table.now self.old self.new result }
+        ensures { elim result [
+          | Ahead.Passes h ↦ (self.old ≡ h ∷ self.new) × (is_plain table.now h.token ≡ true)
+          | Ahead.Names m ↦ (self.new ≡ self.old) × (next_macro table.now (tokens_of self.old) ≡ Some m.now)
+          | Ahead.Unknown ↦ self.new ≡ self.old
+        ] }
     {
         let Some(last) = self.behind.last() else {
             return Ahead::Unknown;

@@ -9,13 +9,12 @@ ghost use Rattle.ppmacro.specs.Numbered.{Numbered};
 ghost use Rattle.ppmacro.specs.Substitution.{plain};
 ghost use Rattle.pptext.specs.Tokens.{fault as fault_at};
 ghost use Rattle.ppmacro.specs.declared.flying.Hidden.{Hidden};
-ghost use Rattle.ppexpand.specs.Turn.{wanted};
-ghost use Rattle.ppexpand.specs.Expansion.{ExpandsTo, ExpandsArguments, IsExpansion};
+ghost use Rattle.ppexpand.specs.Expansion.{ExpandsTo, IsExpansion};
 ghost use Rattle.ppexpand.specs.Lists.{ArePlain, is_plain, next_macro};
 ghost use Rattle.std.specs.List.{AllByRecursion};
 ghost use Rattle.ppexpand.specs.Skipping.{HasSkipped};
 ghost use Rattle.ppexpand.specs.Shown.{expanded_in, ExpansionsKnown, call_in, CallKnown, finished_in, Raises, held, ExpandsArgument, HasExpanded};
-ghost use Rattle.ppexpand.specs.Shown.{Invokes, HasTaken, HasCalled};
+ghost use Rattle.ppexpand.specs.Shown.{ExpandsWanted, Invokes, HasTaken, HasCalled};
 
 use crate::alone::used_alone;
 use crate::cursor::{Ahead, Cursor};
@@ -25,7 +24,7 @@ use crate::spellings::at_use;
 use crate::spending::less_one;
 use crate::stretch::{Stretch, is_plain, split_plain};
 use crate::supply::Supply;
-use crate::turn::{Invocation, Next, finish, next_turn};
+use crate::turn::{Invocation, Step, finish, next_turn};
 use ppmacro::{Expansion, Hidden, HideSets, Macro, Pattern, Table};
 use pptext::{Fault, Memory, Token};
 use std::alloc::{AllocError, Global};
@@ -145,32 +144,35 @@ fn take_turn<'t, 'x, 'a: 'x>(
         ((level : ℕ) → HasTaken table.now env.now level left.old (hidings sets.old list.old) (hidings sets.old passed.old)
         goes fault.new left.new (hidings sets.new list.new) (hidings sets.new passed.new))
         (λ c. HasCalled table.now env.now left.old (hidings sets.old list.old) (hidings sets.old passed.old)
-        (call_in sets.new c list.new) fault.new left.new (hidings sets.new passed.new))) }
-    ensures call_known { OnOk result (IfSome call.new (λ c. CallKnown sets.new c × AllKnown sets.new list.new)) }
+        (call_in sets.new c.head c.replaced.now c.arguments.items c.both list.new)
+        fault.new left.new (hidings sets.new passed.new))) }
+    ensures call_known { OnOk result (IfSome call.new (λ c. CallKnown sets.new c.head c.arguments.items c.both × AllKnown sets.new list.new)) }
     ensures list_known { IfOk result (λ goes. goes ≡ true → AllKnown sets.new list.new) }
     ensures passed_known { OnOk result (AllKnown sets.new passed.new) }
     ensures keeps { Keeps sets.old sets.new }
 {
-    match next_turn(supply, table, env, *left, sets, named, list)? {
-        Next::Done => Ok(false),
-        Next::Refused(found) => {
+    let next = next_turn(supply, table, env, *left, sets, named, list)?;
+    let step = next.step;
+    match step {
+        Step::Done => Ok(false),
+        Step::Refused(found) => {
             *fault = Some(found);
             Ok(false)
         }
-        Next::Passes(head) => {
+        Step::Passes(head) => {
             passed.push_single(head)?;
             Ok(true)
         }
-        Next::Failed(found) => {
+        Step::Failed(found) => {
             *left = less_one(*left);
             *fault = Some(found);
             Ok(false)
         }
-        Next::Replaced => {
+        Step::Replaced => {
             *left = less_one(*left);
             Ok(true)
         }
-        Next::Called(found) => {
+        Step::Called(found) => {
             *left = less_one(*left);
             *call = Some(found);
             Ok(true)
@@ -248,14 +250,14 @@ fn expand_arguments<'x, 'a: 'x>(
     fault: &mut Option<Fault>,
 ) -> Result<Option<Vec<Expansion<'x>>>, Memory>
     requires level { level ≤ 256 }
-    requires known { CallKnown sets.old call.now }
+    requires known { CallKnown sets.old call.now.head call.now.arguments.items call.now.both }
     requires chains { listed pattern.now ≡ chains_of call.now.replaced.now }
     requires no_fault { fault.old ≡ None }
     ensures is { IfOk result (λ r. MatchOption r
-        (Raises fault.new (λ f. (behind : List Hidden) → ExpandsArguments table.now env.now level
-        (call_in sets.old call.now behind) left.old (wanted (call_in sets.old call.now behind)) left.new (Err f)))
-        (λ v. (fault.new ≡ None) × ((behind : List Hidden) → ExpandsArguments table.now env.now level
-        (call_in sets.old call.now behind) left.old (wanted (call_in sets.old call.now behind)) left.new
+        (Raises fault.new (λ f. (behind : List Hidden) → ExpandsWanted table.now env.now level
+        (call_in sets.old call.now.head call.now.replaced.now call.now.arguments.items call.now.both behind) left.old left.new (Err f)))
+        (λ v. (fault.new ≡ None) × ((behind : List Hidden) → ExpandsWanted table.now env.now level
+        (call_in sets.old call.now.head call.now.replaced.now call.now.arguments.items call.now.both behind) left.old left.new
         (Ok (expanded_in sets.new call.now.arguments.items v.items))))) }
     ensures known { IfOk result (λ r. IfSome r (λ v. ExpansionsKnown sets.new v.items)) }
     ensures keeps { Keeps sets.old sets.new }
@@ -293,10 +295,11 @@ fn follow<'x, 'a: 'x>(
     fault: &mut Option<Fault>,
 ) -> Result<(), Memory>
     requires level { level ≤ 256 }
-    requires call_known { CallKnown sets.old call.now }
+    requires call_known { CallKnown sets.old call.now.head call.now.arguments.items call.now.both }
     requires list_known { AllKnown sets.old list.old }
     requires no_fault { fault.old ≡ None }
-    ensures is { OnOk result (Invokes table.now env.now level (call_in sets.old call.now list.old) left.old left.new
+    ensures is { OnOk result (Invokes table.now env.now level
+        (call_in sets.old call.now.head call.now.replaced.now call.now.arguments.items call.now.both list.old) left.old left.new
         (finished_in sets.new list.new fault.new)) }
     ensures known { OnOk result (fault.new ≡ None → AllKnown sets.new list.new) }
     ensures keeps { Keeps sets.old sets.new }

@@ -1,5 +1,5 @@
 // The values of the predefined names (6.10.8.1).
-ghost use Rattle.std.specs.Prelude.{◌≡◌, IfOk, decimal, nat_abs};
+ghost use Rattle.std.specs.Prelude.{◌≡◌, IfOk, None, decimal, nat_abs};
 ghost use Rattle.ppmacro.specs.Numbered.{Numbered};
 ghost use Rattle.ppmacro.specs.HideSets.{set_at, hiding};
 ghost use Rattle.ppexpand.specs.Turn.{presumed_line, quoted, predefined_kind, predefined_text, predefined_value};
@@ -67,7 +67,7 @@ pub(crate) fn predefined_value<'a>(
     gain: Set,
 ) -> Result<Hidden<'a>, AllocError>
     ensures is { IfOk result (λ h. (sets : Numbered) → hiding sets h ≡ predefined_value builtin env.now (hiding sets head.now) (set_at sets gain)) }
-    ensures gain { IfOk result (λ h. h.hide ≡ gain) }
+    ensures gain { IfOk result (λ h. (h.hide ≡ gain) × (h.also ≡ None)) }
 {
     let text = Spelling::new(predefined_text(alloc, builtin, env, head.used())?)?;
     let token = Token {

@@ -1,9 +1,8 @@
 // The tokens of a run, one by one.
-ghost use Rattle.std.specs.Prelude.{◌≡◌, ◌<◌, ◌∷◌, [], flat_map, length, IfOk, IfSome, IfNone, MatchOption};
+ghost use Rattle.std.specs.Prelude.{◌≡◌, IfOk};
 ghost use Rattle.std.specs.Iterator.{YieldsFirstBy, item_count};
 ghost use Rattle.ppmacro.specs.Substituting.{tokens_of};
 ghost use Rattle.ppexpand.specs.Pieces.{piece_list, ref_token};
-ghost use Rattle.ppexpand.specs.Unread.{unread_list, left_list};
 
 use crate::passed::{Piece, Run};
 use ppmacro::Hidden;
@@ -80,84 +79,95 @@ impl<'r, 'a> TokenRef<'r, 'a> {
     }
 }
 
-/// What is left of the piece that is being read.
+/// The tokens of a file, or those that passed one by one.
 #[derive(Clone, Copy)]
-pub(crate) enum Unread<'r, 'a> {
+pub(crate) enum Source<'r, 'a> {
     Shared(&'a [Token]),
     Made(&'r [Hidden<'a>]),
+}
+
+/// What is left of the piece that is being read. Contracts see its tokens.
+#[derive(Drop)]
+pub(crate) struct Unread<'r, 'a> {
+    source: Source<'r, 'a>,
+}
+
+impl<'r, 'a> Model for Unread<'r, 'a> {
+    ghost use Rattle.std.specs.Prelude.{List};
+    ghost use Rattle.pptext.specs.declared.tokens.Token.{Token};
+    ghost use Rattle.ppmacro.specs.Substituting.{tokens_of};
+    ghost use Rattle.ppexpand.specs.declared.run_iter.Source.TheVariants.{Shared, Made};
+
+    ghost Value = { List Token };
+
+    ghost view = { λ u. elim u.source [ Shared ts ↦ ts.now | Made hs ↦ tokens_of hs.now ] };
 }
 
 impl<'r, 'a> Unread<'r, 'a> {
     /// The tokens of a piece.
     fn new(piece: &'r Piece<'a>) -> Unread<'r, 'a>
-        ensures { unread_list result ≡ tokens_of (piece_list piece.now) }
+        ensures { result ≡ tokens_of (piece_list piece.now) }
     {
-        match piece {
-            Piece::Shared(stretch) => Unread::Shared(stretch.tokens()),
-            Piece::Made(made) => Unread::Made(made.as_slice()),
-        }
+        let source = match piece {
+            Piece::Shared(stretch) => Source::Shared(stretch.tokens()),
+            Piece::Made(made) => Source::Made(made.as_slice()),
+        };
+        Unread { source }
     }
 
     /// The first of them, taken out.
     fn next(&mut self) -> Option<TokenRef<'r, 'a>>
-        ensures { YieldsFirstBy ref_token unread_list self.old result self.new }
+        ensures { YieldsFirstBy ref_token (λ rest. rest) self.old result self.new }
     {
-        match *self {
-            Unread::Shared(tokens) => {
+        match self.source {
+            Source::Shared(tokens) => {
                 let (first, others) = tokens.split_first()?;
-                *self = Unread::Shared(others);
+                self.source = Source::Shared(others);
                 Some(TokenRef::Shared(first))
             }
-            Unread::Made(made) => {
+            Source::Made(made) => {
                 let (first, others) = made.split_first()?;
-                *self = Unread::Made(others);
+                self.source = Source::Made(others);
                 Some(TokenRef::Made(first))
             }
         }
     }
 }
 
-/// What is left of the piece that is being read, and the pieces behind it.
-#[derive(Clone, Copy)]
+/// What is left of the piece that is being read, and the pieces behind it. Contracts see the tokens of all of them.
+#[derive(Drop)]
 pub(crate) struct Left<'r, 'a> {
     unread: Unread<'r, 'a>,
     pieces: &'r [Piece<'a>],
 }
 
-impl<'r, 'a> Left<'r, 'a> {
-    /// The next piece, and those behind it.
-    fn behind(&self) -> Option<Left<'r, 'a>>
-        ensures same { IfSome result (λ left. left_list left ≡ tokens_of (flat_map piece_list self.now.pieces.now)) }
-        ensures fewer { IfSome result (λ left. length left.pieces.now < length self.now.pieces.now) }
-        ensures last { IfNone result (self.now.pieces.now ≡ []) }
-    {
-        let (piece, pieces) = self.pieces.split_first()?;
-        Some(Left {
-            unread: Unread::new(piece),
-            pieces,
-        })
-    }
+impl<'r, 'a> Model for Left<'r, 'a> {
+    ghost use Rattle.std.specs.Prelude.{List, ◌++◌, flat_map};
+    ghost use Rattle.pptext.specs.declared.tokens.Token.{Token};
+    ghost use Rattle.ppmacro.specs.Substituting.{tokens_of};
 
-    /// The first of the tokens, taken out.
-    fn next(&mut self) -> Option<TokenRef<'r, 'a>>
-        ensures { YieldsFirstBy ref_token left_list self.old result self.new }
-    {
-        let (token, left) = first_of(*self)?;
-        *self = left;
-        Some(token)
-    }
+    ghost Value = { List Token };
+
+    ghost use Rattle.ppexpand.specs.Pieces.{piece_list};
+
+    ghost view = { λ l. l.unread ++ tokens_of (flat_map piece_list l.pieces.now) };
 }
 
-/// The first token, and what is left behind it. Pieces of which nothing is left are passed over.
-fn first_of<'r, 'a>(left: Left<'r, 'a>) -> Option<(TokenRef<'r, 'a>, Left<'r, 'a>)>
-    ensures { MatchOption result (left_list left.entry ≡ []) (λ found. left_list left.entry ≡ ref_token found.0 ∷ left_list found.1) }
-{
-    let mut rest = left;
-    loop {
-        if let Some(token) = rest.unread.next() {
-            return Some((token, rest));
+impl<'r, 'a> Left<'r, 'a> {
+    /// The first of the tokens, taken out. Pieces of which nothing is left are passed over.
+    fn next(&mut self) -> Option<TokenRef<'r, 'a>>
+        ensures { YieldsFirstBy ref_token (λ rest. rest) self.old result self.new }
+    {
+        loop {
+            if let Some(token) = self.unread.next() {
+                return Some(token);
+            }
+            let (piece, pieces) = self.pieces.split_first()?;
+            *self = Left {
+                unread: Unread::new(piece),
+                pieces,
+            };
         }
-        rest = rest.behind()?;
     }
 }
 
@@ -174,9 +184,7 @@ impl<'r, 'a> Model for RunIter<'r, 'a> {
 
     ghost Value = { List Token };
 
-    ghost use Rattle.ppexpand.specs.Unread.{unread_list, left_list};
-
-    ghost view = { λ i. left_list i.left ++ unread_list i.singles };
+    ghost view = { λ i. i.left ++ i.singles };
 }
 
 impl<'r, 'a> Iterator for RunIter<'r, 'a> {
@@ -202,10 +210,14 @@ impl<'a> Run<'a> {
         let (front, pieces, singles) = self.parts();
         RunIter {
             left: Left {
-                unread: Unread::Shared(front),
+                unread: Unread {
+                    source: Source::Shared(front),
+                },
                 pieces,
             },
-            singles: Unread::Made(singles),
+            singles: Unread {
+                source: Source::Made(singles),
+            },
         }
     }
 }

@@ -3,7 +3,7 @@ ghost use Rattle.std.specs.Prelude.{◌≡◌, IfOk, OnOk, ◌∷◌, ◌++◌, 
 ghost use Rattle.std.specs.Option.{option_copied};
 ghost use Rattle.std.specs.FinSet as set;
 ghost use Rattle.ppmacro.specs.Numbered.{Numbered};
-ghost use Rattle.ppmacro.specs.HideSets.{set_at, IsKnown, hiding, hidings, AllKnown, Keeps};
+ghost use Rattle.ppmacro.specs.HideSets.{set_at, IsKnown, HasSets, hide_of, hiding, hidings, AllKnown, Keeps};
 ghost use Rattle.ppmacro.specs.Substituting.{ArgumentsKnown, arguments_in, tokens_of};
 ghost use Rattle.ppmacro.specs.Chains.{chains_of};
 ghost use Rattle.ppmacro.specs.Lone.{lone_chain};
@@ -30,6 +30,7 @@ use ppmacro::{
 };
 use pptext::{Fault, Memory, Place, Spelling, Token};
 use std::alloc::{AllocError, Global};
+use std::marker::Model;
 
 /// An invocation of a function-like macro, which is taken out of its list.
 #[derive(Drop)]
@@ -43,9 +44,9 @@ pub(crate) struct Invocation<'t, 'x, 'a> {
     pub(crate) both: Set,
 }
 
-/// What the next token of a list called for, once the list is what is left.
+/// What is to be done for the next token of a list.
 #[derive(Drop)]
-pub(crate) enum Next<'t, 'x, 'a> {
+pub(crate) enum Step<'t, 'x, 'a> {
     /// There was none.
     Done,
     Refused(Fault),
@@ -57,6 +58,21 @@ pub(crate) enum Next<'t, 'x, 'a> {
     Replaced,
     /// It is to be replaced once the arguments are expanded.
     Called(Invocation<'t, 'x, 'a>),
+}
+
+/// What the next token of a list called for, once the list is what is left.
+#[derive(Drop)]
+pub(crate) struct Next<'t, 'x, 'a> {
+    pub(crate) step: Step<'t, 'x, 'a>,
+}
+
+impl<'t, 'x, 'a> Model for Next<'t, 'x, 'a> {
+    ghost use Rattle.ppexpand.specs.Next as next;
+    ghost use Rattle.ppexpand.specs.declared.turn.Step.TheVariants.{Done, Refused, Failed, Passes, Replaced, Called};
+
+    ghost Value = { next.Next };
+
+    ghost view = { λ n. elim n.step [ Done ↦ next.Done | Refused f ↦ next.Refused f | Failed f ↦ next.Failed f | Passes h ↦ next.Passes h | Replaced ↦ next.Replaced | Called c ↦ next.Called c.head c.replaced.now c.arguments.items c.both ] };
 }
 
 /// The macro that a token names.
@@ -123,7 +139,7 @@ fn gained_token<'a>(
 ) -> Hidden<'a>
     requires { IsKnown sets.now gain }
     ensures is { hiding sets.now result ≡ gained (set_at sets.now gain) used (with_mark mark (plain token.now)) }
-    ensures known { IsKnown sets.now result.hide }
+    ensures known { HasSets sets.now result }
 {
     let _numbered = sets;
     let mut hidden = Hidden::new(token, gain);
@@ -190,17 +206,55 @@ fn predefined_turn<'t, 'x, 'a: 'x>(
     builtin: Builtin,
     list: &mut Cursor<'x>,
 ) -> Result<Next<'t, 'x, 'a>, Memory>
-    requires head { IsKnown sets.old head.hide }
+    requires head { HasSets sets.old head }
     requires list { AllKnown sets.old list.old }
     ensures is { IfOk result (λ n. turn_in sets.new list.new n
         ≡ Replaced (predefined_value builtin env.now (hiding sets.old head.entry)
-        (set.insert (set_at sets.old head.entry.hide) head.entry.token.text) ∷ hidings sets.old list.old)) }
+        (set.insert (hide_of sets.old head.entry) head.entry.token.text) ∷ hidings sets.old list.old)) }
     ensures known { IfOk result (λ n. NextKnown sets.new list.new n) }
     ensures keeps { Keeps sets.old sets.new }
 {
-    let gain = sets.with(head.hide(), head.text())?;
+    let gain = sets.with_own(&head)?;
     list.push(predefined_value(alloc, builtin, env, &head, gain)?)?;
-    Ok(Next::Replaced)
+    Ok(Next {
+        step: Step::Replaced,
+    })
+}
+
+/// Replaces an object-like macro's name. Each token of the replacement gains the names of `base` and that of the macro.
+fn replace_object<'t, 'x, 'a: 'x>(
+    alloc: Global,
+    sets: &mut HideSets,
+    base: Set,
+    head: &Hidden<'x>,
+    replaced: &Macro<'a>,
+    list: &mut Cursor<'x>,
+) -> Result<Next<'t, 'x, 'a>, Memory>
+    requires base { IsKnown sets.old base }
+    requires list { AllKnown sets.old list.old }
+    ensures is { IfOk result (λ n. turn_in sets.new list.new n
+        ≡ replaced_by (substituted replaced.now no_arguments
+        (set.insert (set_at sets.old base) head.now.token.text) head.now.token.used head.now.token.space)
+        (hidings sets.old list.old)) }
+    ensures known { IfOk result (λ n. NextKnown sets.new list.new n) }
+    ensures keeps { Keeps sets.old sets.new }
+{
+    if let Some(body) = replaced.lone_tokens() {
+        replace_by(sets, body, base, head, list)?;
+        return Ok(Next {
+            step: Step::Replaced,
+        });
+    }
+    let chains = replaced.chains(alloc)?;
+    let pattern = Pattern::Joined(chains);
+    match replace(alloc, sets, &pattern, &[], &[], base, head, list)? {
+        Ok(()) => Ok(Next {
+            step: Step::Replaced,
+        }),
+        Err(fault) => Ok(Next {
+            step: Step::Failed(fault),
+        }),
+    }
 }
 
 /// The turn of an object-like macro's name.
@@ -211,26 +265,17 @@ fn object_turn<'t, 'x, 'a: 'x>(
     replaced: &Macro<'a>,
     list: &mut Cursor<'x>,
 ) -> Result<Next<'t, 'x, 'a>, Memory>
-    requires head { IsKnown sets.old head.hide }
+    requires head { HasSets sets.old head }
     requires list { AllKnown sets.old list.old }
     ensures is { IfOk result (λ n. turn_in sets.new list.new n
         ≡ replaced_by (substituted replaced.now no_arguments
-        (set.insert (set_at sets.old head.entry.hide) head.entry.token.text) head.entry.token.used head.entry.token.space)
+        (set.insert (hide_of sets.old head.entry) head.entry.token.text) head.entry.token.used head.entry.token.space)
         (hidings sets.old list.old)) }
     ensures known { IfOk result (λ n. NextKnown sets.new list.new n) }
     ensures keeps { Keeps sets.old sets.new }
 {
-    let base = head.hide();
-    if let Some(body) = replaced.lone_tokens() {
-        replace_by(sets, body, base, &head, list)?;
-        return Ok(Next::Replaced);
-    }
-    let chains = replaced.chains(alloc)?;
-    let pattern = Pattern::Joined(chains);
-    match replace(alloc, sets, &pattern, &[], &[], base, &head, list)? {
-        Ok(()) => Ok(Next::Replaced),
-        Err(fault) => Ok(Next::Failed(fault)),
-    }
+    let base = sets.settled(&head)?;
+    replace_object(alloc, sets, base, &head, replaced, list)
 }
 
 /// The turn of an invocation whose `)` is found.
@@ -242,9 +287,9 @@ fn called<'t, 'x, 'a: 'x>(
     close: &Hidden,
     list: &Cursor,
 ) -> Result<Next<'t, 'x, 'a>, Memory>
-    requires head { IsKnown sets.old head.hide }
+    requires head { HasSets sets.old head }
     requires arguments { FittingKnown sets.old arguments }
-    requires close { IsKnown sets.old close.now.hide }
+    requires close { HasSets sets.old close.now }
     requires list { AllKnown sets.old list.now }
     ensures is { IfOk result (λ n. turn_in sets.new list.now n
         ≡ called (hiding sets.old head.entry) replaced.now (fitting_in sets.old arguments.entry) (hiding sets.old close.now)
@@ -254,15 +299,19 @@ fn called<'t, 'x, 'a: 'x>(
 {
     let _behind = list;
     let Some(arguments) = arguments else {
-        return Ok(Next::Failed(at_use(18, &head)?));
+        return Ok(Next {
+            step: Step::Failed(at_use(18, &head)?),
+        });
     };
-    let both = sets.meet(head.hide(), close.hide())?;
-    Ok(Next::Called(Invocation {
-        head,
-        replaced,
-        arguments,
-        both,
-    }))
+    let both = sets.common(&head, close)?;
+    Ok(Next {
+        step: Step::Called(Invocation {
+            head,
+            replaced,
+            arguments,
+            both,
+        }),
+    })
 }
 
 /// The turn of a function-like macro's name, behind which `(` stands.
@@ -275,7 +324,7 @@ fn invoked<'t, 'x, 'a: 'x>(
     variadic: bool,
     list: &mut Cursor<'x>,
 ) -> Result<Next<'t, 'x, 'a>, Memory>
-    requires head { IsKnown sets.old head.hide }
+    requires head { HasSets sets.old head }
     requires list { AllKnown sets.old list.old }
     ensures is { IfOk result (λ n. turn_in sets.new list.new n
         ≡ invoked (hiding sets.old head.entry) replaced.now names.now variadic
@@ -288,8 +337,12 @@ fn invoked<'t, 'x, 'a: 'x>(
             let fitting = fit(supply.alloc(), arguments, names, variadic);
             called(sets, head, replaced, fitting, &close, list)
         }
-        Gathered::Quoted(quote) => Ok(Next::Failed(lone_quote(&quote)?)),
-        Gathered::Unclosed => Ok(Next::Failed(at_use(17, &head)?)),
+        Gathered::Quoted(quote) => Ok(Next {
+            step: Step::Failed(lone_quote(&quote)?),
+        }),
+        Gathered::Unclosed => Ok(Next {
+            step: Step::Failed(at_use(17, &head)?),
+        }),
     }
 }
 
@@ -303,7 +356,7 @@ fn function_turn<'t, 'x, 'a: 'x>(
     variadic: bool,
     list: &mut Cursor<'x>,
 ) -> Result<Next<'t, 'x, 'a>, Memory>
-    requires head { IsKnown sets.old head.hide }
+    requires head { HasSets sets.old head }
     requires list { AllKnown sets.old list.old }
     ensures is { IfOk result (λ n. turn_in sets.new list.new n
         ≡ function_turn (hiding sets.old head.entry) replaced.now names.now variadic (hidings sets.old list.old)) }
@@ -311,13 +364,17 @@ fn function_turn<'t, 'x, 'a: 'x>(
     ensures keeps { Keeps sets.old sets.new }
 {
     let Some(next) = list.next() else {
-        return Ok(Next::Passes(head));
+        return Ok(Next {
+            step: Step::Passes(head),
+        });
     };
     if is_open(&next) {
         return invoked(supply, sets, head, replaced, names, variadic, list);
     }
     list.push(next)?;
-    Ok(Next::Passes(head))
+    Ok(Next {
+        step: Step::Passes(head),
+    })
 }
 
 /// The turn of a macro's name.
@@ -329,7 +386,7 @@ fn macro_turn<'t, 'x, 'a: 'x>(
     replaced: &'t Macro<'a>,
     list: &mut Cursor<'x>,
 ) -> Result<Next<'t, 'x, 'a>, Memory>
-    requires head { IsKnown sets.old head.hide }
+    requires head { HasSets sets.old head }
     requires list { AllKnown sets.old list.old }
     ensures is { IfOk result (λ n. turn_in sets.new list.new n
         ≡ macro_turn env.now (hiding sets.old head.entry) (hidings sets.old list.old) replaced.now replaced.now.shape) }
@@ -361,19 +418,27 @@ fn spent_turn<'t, 'x, 'a: 'x>(
         (sets : Numbered) (env : Env) → turn_in sets list.new n
         ≡ within (Some 0) (hiding sets head.entry ∷ hidings sets list.old)
         (macro_turn env (hiding sets head.entry) (hidings sets list.old) replaced.now replaced.now.shape)) }
-    ensures known { IfOk result (λ n. (sets : Numbered) → IsKnown sets head.entry.hide → AllKnown sets list.old → NextKnown sets list.new n) }
+    ensures known { IfOk result (λ n. (sets : Numbered) → HasSets sets head.entry → AllKnown sets list.old → NextKnown sets list.new n) }
 {
     if !matches!(replaced.definition().shape, Shape::FunctionLike { .. }) {
-        return Ok(Next::Refused(over_budget(&head)));
+        return Ok(Next {
+            step: Step::Refused(over_budget(&head)),
+        });
     }
     let Some(behind) = list.next() else {
-        return Ok(Next::Passes(head));
+        return Ok(Next {
+            step: Step::Passes(head),
+        });
     };
     if is_open(&behind) {
-        return Ok(Next::Refused(over_budget(&head)));
+        return Ok(Next {
+            step: Step::Refused(over_budget(&head)),
+        });
     }
     list.push(behind)?;
-    Ok(Next::Passes(head))
+    Ok(Next {
+        step: Step::Passes(head),
+    })
 }
 
 /// Takes the next token of a list, which names the macro `named`, and what belongs to its invocation; a replacement is put before
@@ -395,16 +460,22 @@ pub(crate) fn next_turn<'t, 'x, 'a: 'x>(
 {
     let _macros = table;
     let Some(head) = list.next() else {
-        return Ok(Next::Done);
+        return Ok(Next { step: Step::Done });
     };
     if is_quote(&head) {
-        return Ok(Next::Refused(lone_quote(&head)?));
+        return Ok(Next {
+            step: Step::Refused(lone_quote(&head)?),
+        });
     }
     let Some(replaced) = named else {
-        return Ok(Next::Passes(head));
+        return Ok(Next {
+            step: Step::Passes(head),
+        });
     };
-    if sets.has(head.hide(), head.text()) {
-        return Ok(Next::Passes(head));
+    if sets.hides(&head) {
+        return Ok(Next {
+            step: Step::Passes(head),
+        });
     }
     if is_spent(left) {
         return Ok(spent_turn(head, replaced, list)?);
@@ -424,13 +495,14 @@ pub(crate) fn finish<'x, 'a: 'x>(
     list: &mut Cursor<'x>,
     fault: &mut Option<Fault>,
 ) -> Result<(), Memory>
-    requires call { CallKnown sets.old call.now }
+    requires call { CallKnown sets.old call.now.head call.now.arguments.items call.now.both }
     requires chains { listed pattern.now ≡ chains_of call.now.replaced.now }
     requires expanded { ExpansionsKnown sets.old expanded.now }
     requires list { AllKnown sets.old list.old }
     requires no_fault { fault.old ≡ None }
     ensures is { OnOk result (finished_in sets.new list.new fault.new
-        ≡ finished (call_in sets.old call.now list.old) (expanded_in sets.old call.now.arguments.items expanded.now)) }
+        ≡ finished (call_in sets.old call.now.head call.now.replaced.now call.now.arguments.items call.now.both list.old)
+        (expanded_in sets.old call.now.arguments.items expanded.now)) }
     ensures known { OnOk result (fault.new ≡ None → AllKnown sets.new list.new) }
     ensures keeps { Keeps sets.old sets.new }
 {

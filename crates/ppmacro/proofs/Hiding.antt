@@ -9,11 +9,8 @@ use Rattle.std.specs.Ordering.{nat_cmp}
 use Rattle.std.specs.Cmp.{Equal-is, tied_itself}
 use Rattle.std.specs.Cmp.Lexicographic.{slice_cmp}
 use Rattle.std.proofs.lemmas.Cmp.{nat_list_cmp_total}
-use Rattle.ppmacro.specs.declared.hide_sets.nodes.Node.{Node}
-use Rattle.ppmacro.specs.declared.hide_sets.nodes.Operation.{Operation}
-use Rattle.ppmacro.specs.declared.hide_sets.nodes.Operation.TheVariants.{Union, Meet}
-use Rattle.ppmacro.specs.Operations.{joined}
-use Rattle.ppmacro.specs.Nodes.{member, IsPool, Keeps, IsBounded}
+use Rattle.ppmacro.specs.Operations.{Operation, Union, Meet, joined}
+use Rattle.ppmacro.specs.Nodes.{Node, member, IsPool, Keeps, IsBounded}
 use Rattle.ppmacro.specs.Names.{Name, HideSet}
 use Rattle.ppmacro.specs.Members.{same_name, kept, hide_set, counted, hide_sets}
 use Rattle.ppmacro.proofs.Tries.{member-keeps, lawful, differs}
@@ -63,7 +60,7 @@ kept-is p i q (x ∷ xs) d = elim (same_name q x) as (λ t. same_name q x ≡ t 
 contains-is : (names : List Name) (ns : List Node) (n : ℕ) (q : Name) → IsDistinct same_name names → set.contains (hide_set names ns n) q ≡ at_name (member ns n) 0 q names
 contains-is names ns n q d = set.contains-from_list nat_list_cmp_total (kept (member ns n) 0 names) q ∙ kept-is (member ns n) 0 q names d
 
-same-by : (s t : HideSet) → ((q : Name) → set.contains s q ≡ set.contains t q) → s ≡ t
+pub same-by : (s t : HideSet) → ((q : Name) → set.contains s q ≡ set.contains t q) → s ≡ t
 same-by = set.same_set nat_list_cmp_total (set.slice_cmp-IsAntisymmetric set.nat_cmp-IsAntisymmetric)
 
 at-both : (op : Bool → Bool → Bool) → op false false ≡ false → (p r : ℕ → Bool) (i : ℕ) (q : Name) (xs : List Name) → at_name (λ k. op (p k) (r k)) i q xs ≡ op (at_name p i q xs) (at_name r i q xs)

@@ -6,7 +6,7 @@ use Rattle.std.specs.Option.{option_map}
 use Rattle.pptext.specs.declared.tokens.Place.{Place}
 use Rattle.pptext.specs.declared.tokens.Fault.{Fault}
 use Rattle.ppmacro.specs.Numbered.{Numbered}
-use Rattle.ppmacro.specs.HideSets.{IsKnown, Hiding, hiding, hidings, AllKnown, Keeps}
+use Rattle.ppmacro.specs.HideSets.{Hiding, hiding, hidings, HasSets, AllKnown, Keeps}
 use Rattle.ppmacro.specs.Substitution.{after_ok, pasted, join, join_all, argument_at, expanded_at}
 use Rattle.ppmacro.specs.Substituting.{tokens_of, lists_of, option_of, options_of}
 use Rattle.ppmacro.specs.declared.flying.Hidden.{Hidden}
@@ -107,13 +107,13 @@ pub known-joined : (s t : Numbered) (ls : List Hidden) (last first hidden : Hidd
     → Keeps s t
     → AllKnown s (ls ++ last ∷ [])
     → AllKnown s (first ∷ rest)
-    → IsKnown t hidden.hide
+    → HasSets t hidden
     → AllKnown t (ls ++ hidden ∷ rest)
 known-joined s t ls last first hidden rest k left right here =
     let behind : AllKnown t rest = known-keeps rest k (record { each = right.each.1 }) in
     known-append ls (hidden ∷ rest) (known-keeps ls k (known-front ls (last ∷ []) left)) (record { each = (here, behind.each) })
 
-pub known-last : (s : Numbered) (ls : List Hidden) (last : Hidden) → AllKnown s (ls ++ last ∷ []) → IsKnown s last.hide
+pub known-last : (s : Numbered) (ls : List Hidden) (last : Hidden) → AllKnown s (ls ++ last ∷ []) → HasSets s last
 known-last s ls last known = (known-behind ls (last ∷ []) known).each.0
 
 -- ---- all lists

@@ -1,9 +1,9 @@
 -- Tokens stand for the same while hide sets are added.
-use Rattle.std.proofs.Common.{◌≡◌, ℕ, List, [], ◌∷◌, ◌++◌, length, get_or, refl, sym, ap, ◌∙◌, arith, append_assoc, append-nil, length-append}
+use Rattle.std.proofs.Common.{◌≡◌, ℕ, List, [], ◌∷◌, ◌++◌, Option, Some, None, IfSome, length, get_or, refl, sym, ap, ◌∙◌, arith, append_assoc, append-nil, length-append}
 use Rattle.std.proofs.lemmas.List.{get_or_append_left}
 use Rattle.std.specs.FinSet as set
 use Rattle.ppmacro.specs.Numbered.{Numbered}
-use Rattle.ppmacro.specs.HideSets.{set_at, IsKnown, hiding, hidings, AllKnown, Keeps}
+use Rattle.ppmacro.specs.HideSets.{set_at, IsKnown, names_in, hide_of, hiding, hidings, HasSets, AllKnown, Keeps}
 use Rattle.ppmacro.specs.declared.flying.Hidden.{Hidden}
 
 pub set-keeps : {old new : Numbered} (n : ℕ) → Keeps old new → IsKnown old n → set_at new n ≡ set_at old n
@@ -12,8 +12,22 @@ set-keeps {old} {new} n k known = ap (λ s. get_or s n set.empty) k.is ∙ get_o
 pub known-set : {old new : Numbered} (n : ℕ) → Keeps old new → IsKnown old n → IsKnown new n
 known-set {old} {new} n k known = omega (arith, ap length k.is, length-append old.sets k.more)
 
-pub hiding-keeps : {old new : Numbered} (h : Hidden) → Keeps old new → IsKnown old h.hide → hiding new h ≡ hiding old h
-hiding-keeps h k known = λ i. record { token = h.token; hide = set-keeps h.hide k known i }
+names-keep : {old new : Numbered} (n : ℕ) (also : Option ℕ) → Keeps old new → IsKnown old n → IfSome also (IsKnown old) → names_in new n also ≡ names_in old n also
+names-keep n None k known second = set-keeps n k known
+names-keep n (Some m) k known second = λ i. set.union (set-keeps n k known i) (set-keeps m k second i)
+
+known-second : {old new : Numbered} (also : Option ℕ) → Keeps old new → IfSome also (IsKnown old) → IfSome also (IsKnown new)
+known-second None k known = tt
+known-second (Some m) k known = known-set m k known
+
+pub hide-keeps : {old new : Numbered} (h : Hidden) → Keeps old new → HasSets old h → hide_of new h ≡ hide_of old h
+hide-keeps h k known = names-keep h.hide h.also k known.hide known.also
+
+pub known-sets : {old new : Numbered} (h : Hidden) → Keeps old new → HasSets old h → HasSets new h
+known-sets h k known = record { hide = known-set h.hide k known.hide; also = known-second h.also k known.also }
+
+pub hiding-keeps : {old new : Numbered} (h : Hidden) → Keeps old new → HasSets old h → hiding new h ≡ hiding old h
+hiding-keeps h k known = λ i. record { token = h.token; hide = hide-keeps h k known i }
 
 pub hidings-keeps : {old new : Numbered} (hs : List Hidden) → Keeps old new → AllKnown old hs → hidings new hs ≡ hidings old hs
 hidings-keeps [] k known = refl
@@ -25,7 +39,7 @@ pub known-keeps : {old new : Numbered} (hs : List Hidden) → Keeps old new → 
 known-keeps [] k known = record { each = tt }
 known-keeps (h ∷ hs) k known =
     let rest = known-keeps hs k (record { each = known.each.1 }) in
-    record { each = (known-set h.hide k known.each.0, rest.each) }
+    record { each = (known-sets h k known.each.0, rest.each) }
 
 pub keeps-all : (s : Numbered) → Keeps s s
 keeps-all s = record { more = []; is = sym (append-nil s.sets) }

@@ -18,6 +18,8 @@ pub mod JoinLemmas
 pub mod WholeLemmas
 -- The chains' tokens one behind the other, and what they gain, while hide sets are added.
 pub mod WalkLemmas
+-- What hides a token that gains names, in one set or in two.
+pub mod Gaining
 -- Arguments whose tokens' sets are there.
 pub mod ArgumentLemmas
 -- Tries of words.

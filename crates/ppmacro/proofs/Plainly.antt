@@ -1,5 +1,5 @@
 -- What a definition says in which nothing stands that may be refused.
-use Rattle.std.proofs.Common.{◌≡◌, Bool, true, false, not, ◌&&◌, ◌||◌, List, [], ◌∷◌, None, Result, Ok, Err, codes, refl, sym, ap, ◌∙◌, cond}
+use Rattle.std.proofs.Common.{◌≡◌, Bool, true, false, not, ◌&&◌, ◌||◌, List, [], ◌∷◌, None, Ok, codes, refl, ap, ◌∙◌}
 use Rattle.std.specs.List.{list_any}
 use Rattle.std.specs.FinMap as table
 use Rattle.std.proofs.lemmas.Bool.{or_parts, false≢true}
@@ -8,9 +8,8 @@ use Rattle.pptext.specs.declared.tokens.Token.{Token}
 use Rattle.pptext.specs.Tokens.{is_identifier, is_name}
 use Rattle.ppmacro.specs.Names.{Name, Macros}
 use Rattle.ppmacro.specs.Spellings.{is_paste}
-use Rattle.ppmacro.specs.Define.{Refusal, misplaces_paste, read_definition, fitting, judged, Named}
+use Rattle.ppmacro.specs.Define.{misplaces_paste, read_definition, fitting, judged}
 use Rattle.ppmacro.specs.Plain.{object_like, is_barred, is_special, is_plain}
-use Rattle.ppmacro.specs.declared.macros.Definition.{Definition}
 
 no-names : (ts : List Token) → list_any is_special ts ≡ false → list_any (is_name (codes "__VA_ARGS__")) ts ≡ false
 no-names [] e = refl

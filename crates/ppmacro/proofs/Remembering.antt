@@ -2,11 +2,8 @@
 use Rattle.std.proofs.Common.{◌≡◌, ℕ, ◌<◌, Bool, true, false, cond, ◌&&◌, ◌||◌, nat_eq, List, [], ◌∷◌, ◌++◌, Option, Some, None, length, refl, sym, ap, ◌∙◌, subst, if◌then◌else◌}
 use Rattle.std.proofs.Math.Bool as bool
 use Rattle.std.proofs.lemmas.Bool.{eqb-true, eq-eqb, and_parts}
-use Rattle.ppmacro.specs.declared.hide_sets.nodes.Node.{Node}
-use Rattle.ppmacro.specs.Nodes.{member, word, IsPool, Keeps}
-use Rattle.ppmacro.specs.declared.hide_sets.nodes.Operation.{Operation}
-use Rattle.ppmacro.specs.declared.hide_sets.nodes.Operation.TheVariants.{Union, Meet}
-use Rattle.ppmacro.specs.Operations.{joined, joined_word, known}
+use Rattle.ppmacro.specs.Nodes.{Node, member, word, IsPool, Keeps}
+use Rattle.ppmacro.specs.Operations.{Operation, Union, Meet, joined, joined_word, known}
 use Rattle.ppmacro.specs.Pairs.{Answered, same_pair, answer_of}
 use Rattle.ppmacro.specs.Remembered.{IsAnswer, AreAnswers}
 use Rattle.std.specs.Int.RustNames.{bit_or, bit_and}

@@ -12,11 +12,8 @@ use Rattle.std.specs.Int.RustNames.{bit_or, bit_and}
 use Rattle.std.specs.List.{list_any}
 use Rattle.std.specs.Bool.{Decides}
 use Rattle.indexmap.specs.IndexSet.{insert_key}
-use Rattle.ppmacro.specs.declared.hide_sets.nodes.Node.{Node}
-use Rattle.ppmacro.specs.declared.hide_sets.nodes.Operation.{Operation}
-use Rattle.ppmacro.specs.declared.hide_sets.nodes.Operation.TheVariants.{Union, Meet}
-use Rattle.ppmacro.specs.Operations.{joined, joined_word}
-use Rattle.ppmacro.specs.Nodes.{no_node, node_at, made, word_below, word, word_with, has_bit, member, IsWithin, IsPool, Keeps, IsBounded, first}
+use Rattle.ppmacro.specs.Operations.{Operation, Union, Meet, joined, joined_word}
+use Rattle.ppmacro.specs.Nodes.{Node, no_node, node_at, made, word_below, word, word_with, has_bit, member, IsWithin, IsPool, Keeps, IsBounded, first}
 
 -- ---- words
 

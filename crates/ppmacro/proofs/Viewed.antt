@@ -3,14 +3,11 @@ use Rattle.std.proofs.Common.{◌≡◌, ℕ, ◌<◌, ◌||◌, ◌++◌, nat_e
 use Rattle.std.specs.FinSet as set
 use Rattle.std.specs.List.{IsDistinct}
 use Rattle.ppmacro.specs.declared.hide_sets.HideSets.TheInside.{Inside}
-use Rattle.ppmacro.specs.declared.hide_sets.nodes.Node.{Node}
-use Rattle.ppmacro.specs.declared.hide_sets.nodes.Operation.{Operation}
-use Rattle.ppmacro.specs.declared.hide_sets.nodes.Operation.TheVariants.{Union, Meet}
 use Rattle.ppmacro.specs.Names.{Name}
 use Rattle.ppmacro.specs.Nodes as nodes
-use Rattle.ppmacro.specs.Nodes.{IsPool, member, IsBounded}
+use Rattle.ppmacro.specs.Nodes.{Node, IsPool, member, IsBounded}
 use Rattle.ppmacro.specs.Members.{same_name, hide_set, hide_sets, counted}
-use Rattle.ppmacro.specs.Operations.{joined}
+use Rattle.ppmacro.specs.Operations.{Operation, Union, Meet, joined}
 use Rattle.ppmacro.specs.Pairs.{Answered}
 use Rattle.ppmacro.specs.Numbered.{Numbered}
 use Rattle.ppmacro.specs.HideSets.{set_at, IsKnown, Keeps}

@@ -7,13 +7,13 @@ use Rattle.std.specs.FinSet as set
 use Rattle.pptext.specs.declared.tokens.Place.{Place}
 use Rattle.pptext.specs.declared.tokens.Fault.{Fault}
 use Rattle.ppmacro.specs.Numbered.{Numbered}
-use Rattle.ppmacro.specs.HideSets.{set_at, IsKnown, Hiding, hiding, hidings, AllKnown, Keeps}
+use Rattle.ppmacro.specs.HideSets.{set_at, IsKnown, Hiding, hiding, hidings, HasSets, AllKnown, Keeps}
 use Rattle.ppmacro.specs.Substitution.{Arguments, Marked, after_ok, argument_at, expanded_at, chain_tokens, mark_first, chains_tokens, gained}
-use Rattle.ppmacro.specs.Substituting.{lists_of, options_of, ArgumentsKnown, arguments_in, pushed, HasGained, AreGained}
+use Rattle.ppmacro.specs.Substituting.{lists_of, options_of, ArgumentsKnown, arguments_in, pushed, IsWithin}
 use Rattle.ppmacro.specs.declared.flying.Hidden.{Hidden}
 use Rattle.ppmacro.specs.declared.flying.Expansion.{Expansion}
 use Rattle.ppmacro.specs.declared.macros.Chain.{Chain}
-use Rattle.ppmacro.proofs.KeepLemmas.{set-keeps, known-set, hiding-keeps, hidings-keeps, known-keeps}
+use Rattle.ppmacro.proofs.KeepLemmas.{set-keeps, hiding-keeps, hidings-keeps, known-keeps}
 
 pub drop-item : {X : Type 0} (xs : List X) (i : ℕ) (x : X) → i < length xs → x ≡ get_or xs i x → drop i xs ≡ x ∷ drop (i + 1) xs
 drop-item xs i x h e = drop_more xs i x h ∙ ap (λ y. y ∷ drop (i + 1) xs) (sym e)
@@ -21,7 +21,7 @@ drop-item xs i x h e = drop_more xs i x h ∙ ap (λ y. y ∷ drop (i + 1) xs) (
 pub take-item : {X : Type 0} (xs : List X) (i : ℕ) (x : X) → i < length xs → x ≡ get_or xs i x → take (i + 1) xs ≡ take i xs ++ x ∷ []
 take-item xs i x h e = take_more xs i x h ∙ ap (λ y. take i xs ++ y ∷ []) (sym e)
 
-pub known-each : (s : Numbered) (hs : List Hidden) (i : ℕ) (h : Hidden) → i < length hs → h ≡ get_or hs i h → AllKnown s hs → IsKnown s h.hide
+pub known-each : (s : Numbered) (hs : List Hidden) (i : ℕ) (h : Hidden) → i < length hs → h ≡ get_or hs i h → AllKnown s hs → HasSets s h
 known-each s [] i h less e known = absurd (omega arith)
 known-each s (x ∷ hs) zero h less e known = rw e known.each.0
 known-each s (x ∷ hs) (suc i) h less e known = known-each s hs i h (omega arith) e (record { each = known.each.1 })
@@ -106,7 +106,7 @@ pub gained-more : (s t u : Numbered) (g : ℕ) (used : Place) (done earlier : Li
     → Keeps t u
     → IsKnown s g
     → AllKnown t done
-    → IsKnown s item.hide
+    → HasSets s item
     → hiding u one ≡ gained (set_at t g) used (hiding t item)
     → hidings t done ≡ map (gained (set_at s g) used) (hidings s earlier)
     → hidings u (done ++ one ∷ []) ≡ map (gained (set_at s g) used) (hidings s (earlier ++ item ∷ []))
@@ -117,17 +117,10 @@ gained-more s t u g used done earlier item one k l gain known here is so_far =
     ∙ sym (map-append (gained (set_at s g) used) (hidings s earlier) (hiding s item ∷ []))
     ∙ ap (map (gained (set_at s g) used)) (sym (map-append (hiding s) earlier (item ∷ [])))
 
-pub gained-keeps : {s t : Numbered} (gain from to : ℕ) → Keeps s t → IsKnown s gain → HasGained s gain from to → HasGained t gain from to
-gained-keeps gain from to k known h = record {
-  from_known = known-set from k h.from_known;
-  to_known = known-set to k h.to_known;
-  is = set-keeps to k h.to_known ∙ h.is ∙ (λ i. set.union (sym (set-keeps from k h.from_known) i) (sym (set-keeps gain k known) i));
-}
-
--- the same of all that are remembered
-pub all-gained-keep : {s t : Numbered} (gain : ℕ) (gs : List (ℕ × ℕ)) → Keeps s t → IsKnown s gain → AreGained s gain gs → AreGained t gain gs
-all-gained-keep gain [] k known h = tt
-all-gained-keep gain (g ∷ gs) k known h = (gained-keeps gain g.0 g.1 k known h.0, all-gained-keep gain gs k known h.1)
+pub within-keeps : {s t : Numbered} (gain n : ℕ) → Keeps s t → IsKnown s gain → IsKnown s n → IsWithin s gain n → IsWithin t gain n
+within-keeps gain n k gain_known known h =
+    let more = set-keeps gain k gain_known in
+    (λ i. set.union (set-keeps n k known i) (more i)) ∙ h ∙ sym more
 
 -- a list by its next item
 pub next-item : {X : Type 0} (xs : List X) (i : ℕ) (x : X) (rest : List X) → drop i xs ≡ x ∷ rest → (take (suc i) xs ≡ take i xs ++ x ∷ []) × (drop (suc i) xs ≡ rest)

@@ -10,7 +10,7 @@ use Rattle.pptext.specs.Lexing.{Lexes}
 use Rattle.pptext.proofs.Lexer.{one_lexing}
 use Rattle.pptext.proofs.Carried.{carried_on}
 use Rattle.ppmacro.specs.Numbered.{Numbered}
-use Rattle.ppmacro.specs.HideSets.{set_at, Hiding, hiding}
+use Rattle.ppmacro.specs.HideSets.{set_at, hide_of, Hiding, hiding}
 use Rattle.ppmacro.specs.Flying.{extended}
 use Rattle.ppmacro.specs.Lexing.{kind_of}
 use Rattle.ppmacro.specs.Substitution.{pasted, pasted_as}
@@ -31,7 +31,7 @@ carried_kind text more k e rest =
 -- what carries a token on is pasted to it
 module _ (last first grown turned : Hidden) (n : ℕ) (used : Place) (whole : IsWhole last)
     (rest : CarriesOn last.token.kind last.token.text first.token.text) (is_grown : grown ≡ extended last first.token.text)
-    (is_turned : turned ≡ record { token = record grown.token { used = used }; hide = n }) where
+    (is_turned : turned ≡ record { token = record grown.token { used = used }; hide = n; also = None }) where
   still-whole : kind_of (last.token.text ++ first.token.text) ≡ Some last.token.kind
   still-whole = carried_kind last.token.text first.token.text last.token.kind whole rest
 
@@ -39,11 +39,11 @@ module _ (last first grown turned : Hidden) (n : ℕ) (used : Place) (whole : Is
   carried-whole =
       subst IsWhole (sym is_turned) (subst (λ h. kind_of h.token.text ≡ Some h.token.kind) (sym is_grown) still-whole)
 
-  pub carried-pasted : (s t : Numbered) → set_at t n ≡ set.intersection (set_at s grown.hide) (set_at s first.hide) → Ok (hiding t turned) ≡ pasted (hiding s last) (hiding s first) used
+  pub carried-pasted : (s t : Numbered) → set_at t n ≡ set.intersection (hide_of s grown) (hide_of s first) → Ok (hiding t turned) ≡ pasted (hiding s last) (hiding s first) used
   carried-pasted s t met =
       ap (λ h. Ok (hiding t h)) is_turned
       ∙ ap (λ names. Ok (record { token = record grown.token { used = used }; hide = names })) met
-      ∙ ap (λ h. Ok (record { token = record h.token { used = used }; hide = set.intersection (set_at s h.hide) (set_at s first.hide) })) is_grown
+      ∙ ap (λ h. Ok (record { token = record h.token { used = used }; hide = set.intersection (hide_of s h) (hide_of s first) })) is_grown
       ∙ ap (λ k. pasted_as k (hiding s last) (hiding s first) used) (sym still-whole)
 
 -- what `##` makes is whole

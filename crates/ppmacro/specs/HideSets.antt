@@ -1,5 +1,5 @@
 -- What numbers of hide sets stand for.
-use Rattle.std.specs.Prelude.{◌≡◌, ℕ, ◌<◌, List, [], ◌∷◌, ◌++◌, map, length, slice_index_or}
+use Rattle.std.specs.Prelude.{◌≡◌, ℕ, ◌<◌, List, [], ◌∷◌, ◌++◌, map, length, slice_index_or, Option, Some, None, IfSome}
 use Rattle.std.specs.FinSet as set
 use Rattle.std.specs.List.{AllByRecursion}
 use Rattle.pptext.specs.declared.tokens.Token.{Token}
@@ -29,13 +29,27 @@ pub record Hiding : Type 0 where
   pub token : Token
   pub hide : HideSet
 
--- a token with the members of its set
+-- the names of a set, and of another beside it
+abbrev pub names_in : Numbered → ℕ → Option ℕ → HideSet
+names_in sets n None = set_at sets n
+names_in sets n (Some m) = set.union (set_at sets n) (set_at sets m)
+
+-- the names that a token in flight is not replaced by
+abbrev pub hide_of : Numbered → Hidden → HideSet
+hide_of sets h = names_in sets h.hide h.also
+
+-- a token with these names
 abbrev pub hiding : Numbered → Hidden → Hiding
-hiding sets h = record { token = h.token; hide = set_at sets h.hide }
+hiding sets h = record { token = h.token; hide = hide_of sets h }
+
+-- a token's sets are there
+pub record HasSets (sets : Numbered) (h : Hidden) : Type 0 where
+  pub hide : IsKnown sets h.hide
+  pub also : IfSome h.also (IsKnown sets)
 
 abbrev pub hidings : Numbered → List Hidden → List Hiding
 hidings sets hs = map (hiding sets) hs
 
 -- the sets of these tokens are there
 pub record AllKnown (sets : Numbered) (hs : List Hidden) : Type 0 where
-  pub each : AllByRecursion (λ h. IsKnown sets h.hide) hs
+  pub each : AllByRecursion (HasSets sets) hs

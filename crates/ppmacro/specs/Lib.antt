@@ -20,5 +20,4 @@ pub mod Lexing
 pub mod Substitution
 pub mod Substituting
 pub mod Flying
-pub mod Words
 pub mod Laws

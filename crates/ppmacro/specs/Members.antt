@@ -3,9 +3,8 @@ use Rattle.std.specs.Prelude.{ℕ, suc, Bool, List, [], ◌∷◌, if◌then◌e
 use Rattle.std.specs.Ordering.{nat_cmp, eq_by_cmp}
 use Rattle.std.specs.Cmp.Lexicographic.{slice_cmp}
 use Rattle.std.specs.FinSet as set
-use Rattle.ppmacro.specs.declared.hide_sets.nodes.Node.{Node}
 use Rattle.ppmacro.specs.Names.{Name, HideSet}
-use Rattle.ppmacro.specs.Nodes.{member}
+use Rattle.ppmacro.specs.Nodes.{Node, member}
 
 abbrev pub same_name : Name → Name → Bool
 same_name = eq_by_cmp (slice_cmp nat_cmp)

@@ -2,7 +2,12 @@
 -- functions, and the view of a type's private fields, cite this.
 use Rattle.std.specs.Prelude.{◌≡◌, ℕ, zero, suc, ◌<◌, ◌/◌, ◌%◌, ◌^◌, Bool, true, nat_eq, List, [], ◌∷◌, ◌++◌, length, slice_index_or, if◌then◌else◌}
 use Rattle.std.specs.Int.{bit_at}
-use Rattle.ppmacro.specs.declared.hide_sets.nodes.Node.{Node}
+
+-- a set of numbers: its word 0, the number of the set of those words that are its words 2w + 1, and of those that are its words 2w + 2
+pub record Node : Type 0 where
+  pub here : ℕ
+  pub left : ℕ
+  pub right : ℕ
 
 -- the node of the empty set
 abbrev pub no_node : Node

@@ -2,8 +2,11 @@
 use Rattle.std.specs.Prelude.{ℕ, Bool, ◌||◌, ◌&&◌, Option}
 use Rattle.std.specs.Int.RustNames.{bit_and, bit_or}
 use Rattle.ppmacro.specs.Pairs.{Answered, union_known, meet_known}
-use Rattle.ppmacro.specs.declared.hide_sets.nodes.Operation.{Operation}
-use Rattle.ppmacro.specs.declared.hide_sets.nodes.Operation.TheVariants.{Union, Meet}
+
+-- a union, or a meet
+pub data Operation : Type 0 where
+  Union : Operation
+  Meet : Operation
 
 -- whether what is made has a member, by whether either set has it
 abbrev pub joined : Operation → Bool → Bool → Bool

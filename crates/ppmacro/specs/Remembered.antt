@@ -2,12 +2,10 @@
 -- fields, cite this.
 use Rattle.std.specs.Prelude.{◌≡◌, ℕ, ◌<◌, Bool, List, length}
 use Rattle.std.specs.List.{AllByRecursion, IsDistinct}
-use Rattle.ppmacro.specs.declared.hide_sets.nodes.Node.{Node}
-use Rattle.ppmacro.specs.declared.hide_sets.nodes.Operation.TheVariants.{Union, Meet}
 use Rattle.ppmacro.specs.Names.{Name}
-use Rattle.ppmacro.specs.Nodes.{member, IsPool, IsBounded}
+use Rattle.ppmacro.specs.Nodes.{Node, member, IsPool, IsBounded}
 use Rattle.ppmacro.specs.Members.{same_name}
-use Rattle.ppmacro.specs.Operations.{joined}
+use Rattle.ppmacro.specs.Operations.{Union, Meet, joined}
 use Rattle.ppmacro.specs.Pairs.{Answered}
 
 -- two numbers are answered by that of what is made of their sets

@@ -7,7 +7,7 @@ use Rattle.std.specs.Option.{option_map}
 use Rattle.pptext.specs.declared.tokens.Token.{Token}
 use Rattle.pptext.specs.declared.tokens.Fault.{Fault}
 use Rattle.ppmacro.specs.Numbered.{Numbered}
-use Rattle.ppmacro.specs.HideSets.{set_at, IsKnown, Hiding, hiding, hidings, AllKnown}
+use Rattle.ppmacro.specs.HideSets.{set_at, Hiding, hiding, hidings, AllKnown}
 use Rattle.ppmacro.specs.Lexing.{kind_of}
 use Rattle.ppmacro.specs.Substitution.{Arguments, Marked, argument_at, expanded_at, mark_first}
 use Rattle.ppmacro.specs.declared.flying.Hidden.{Hidden}
@@ -74,12 +74,6 @@ pushed front mark (Err f) = Err f
 abbrev pub left_with : Numbered → List Hidden → Bool → Marked
 left_with sets hs pending = record { tokens = hidings sets hs; pending = pending }
 
--- a set, and what it becomes where it gains names
-pub record HasGained (sets : Numbered) (gain from to : ℕ) : Type 0 where
-  pub from_known : IsKnown sets from
-  pub to_known : IsKnown sets to
-  pub is : set_at sets to ≡ set.union (set_at sets from) (set_at sets gain)
-
--- the same of each of these pairs
-abbrev pub AreGained : Numbered → ℕ → List (ℕ × ℕ) → Type 0
-AreGained sets gain gs = AllByRecursion (λ g. HasGained sets gain g.0 g.1) gs
+-- a set's names are among those that are gained
+abbrev pub IsWithin : Numbered → ℕ → ℕ → Type 0
+IsWithin sets gain n = set.union (set_at sets n) (set_at sets gain) ≡ set_at sets gain

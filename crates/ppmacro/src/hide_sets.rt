@@ -10,7 +10,7 @@ mod pairs;
 
 use indexmap::IndexSet;
 use names::NameNumbers;
-use nodes::{Node, Operation};
+use nodes::{Node, Operation, OperationKind};
 use pairs::Pairs;
 use pptext::{Hashing, Memory};
 use std::alloc::Global;
@@ -143,7 +143,10 @@ impl HideSets {
         ensures meets { self.new.meets ≡ self.old.meets }
     {
         let (nodes, pairs) = (&mut self.nodes, &mut self.unions);
-        let number = nodes::join(nodes, pairs, Operation::Union, left.number, right.number)?;
+        let operation = Operation {
+            kind: OperationKind::Union,
+        };
+        let number = nodes::join(nodes, pairs, operation, left.number, right.number)?;
         Ok(Set { number })
     }
 
@@ -160,7 +163,10 @@ impl HideSets {
         ensures unions { self.new.unions ≡ self.old.unions }
     {
         let (nodes, pairs) = (&mut self.nodes, &mut self.meets);
-        let number = nodes::join(nodes, pairs, Operation::Meet, left.number, right.number)?;
+        let operation = Operation {
+            kind: OperationKind::Meet,
+        };
+        let number = nodes::join(nodes, pairs, operation, left.number, right.number)?;
         Ok(Set { number })
     }
 }

@@ -12,6 +12,7 @@ mod macros;
 mod marks;
 mod patterns;
 mod places;
+mod settling;
 mod spellings;
 mod substituting;
 mod tables;

@@ -1,11 +1,11 @@
 // What an invocation is replaced by (6.10.3.1 to 6.10.3.3).
-ghost use Rattle.std.specs.Prelude.{◌≡◌, ◌++◌, ◌∷◌, IfOk, OnOk, [], map, true, not, ◌||◌, ◌&&◌};
+ghost use Rattle.std.specs.Prelude.{◌≡◌, ◌++◌, ◌∷◌, IfOk, OnOk, [], true, not, ◌||◌, ◌&&◌};
 ghost use Rattle.std.specs.FinSet as set;
 ghost use Rattle.ppmacro.specs.Numbered.{Numbered};
-ghost use Rattle.ppmacro.specs.HideSets.{set_at, IsKnown, hiding, hidings, AllKnown, Keeps};
-ghost use Rattle.ppmacro.specs.Substitution.{is_joined, chain_tokens, mark_first, with_mark, plain, chains_tokens, gained, substituted_by};
+ghost use Rattle.ppmacro.specs.HideSets.{set_at, IsKnown, hidings, AllKnown, Keeps};
+ghost use Rattle.ppmacro.specs.Substitution.{is_joined, chain_tokens, mark_first, with_mark, plain, chains_tokens, substituted_by};
 ghost use Rattle.pptext.specs.Stops.{Answers};
-ghost use Rattle.ppmacro.specs.Substituting.{ArgumentsKnown, arguments_in, marked_in, pushed, left_with, AreGained};
+ghost use Rattle.ppmacro.specs.Substituting.{ArgumentsKnown, arguments_in, marked_in, pushed, left_with};
 
 mod entries;
 mod gains;
@@ -16,7 +16,7 @@ mod pasting;
 mod stringizing;
 
 pub use self::entries::substitute_pattern;
-use self::gains::{Gain, Gains};
+use self::gains::gain_names;
 use self::joining::{join_all, push_all};
 pub use self::lexing::tells_each_kind;
 use self::operands::{expansion, operands_tokens};
@@ -163,48 +163,6 @@ fn chains_tokens<'x, 'a: 'x>(
     Ok((tokens, pending))
 }
 
-// A set with the names that it gains, which `gains` remembers of a few sets.
-fn gain_set(sets: &mut HideSets, gains: &mut Gains, hide: Set, gain: Set) -> Result<Set, Memory>
-    requires gains { AreGained sets.old gain gains.old }
-    requires hide { IsKnown sets.old hide }
-    requires gain { IsKnown sets.old gain }
-    ensures is { IfOk result (λ s. set_at sets.new s ≡ set.union (set_at sets.old hide) (set_at sets.old gain)) }
-    ensures known { IfOk result (λ s. IsKnown sets.new s) }
-    ensures gains { OnOk result (AreGained sets.new gain gains.new) }
-    ensures keeps { Keeps sets.old sets.new }
-{
-    if hide == sets.empty() {
-        return Ok(gain);
-    }
-    if let Some(to) = gains.find(hide) {
-        return Ok(to);
-    }
-    let to = sets.union(hide, gain)?;
-    gains.keep(Gain { from: hide, to });
-    Ok(to)
-}
-
-// A token gains the names, and is used where the macro's name is.
-fn gain_one(
-    sets: &mut HideSets,
-    gains: &mut Gains,
-    hidden: &mut Hidden,
-    gain: Set,
-    used: Place,
-) -> Result<(), Memory>
-    requires gains { AreGained sets.old gain gains.old }
-    requires hidden { IsKnown sets.old hidden.old.hide }
-    requires gain { IsKnown sets.old gain }
-    ensures is { OnOk result (hiding sets.new hidden.new ≡ gained (set_at sets.old gain) used (hiding sets.old hidden.old)) }
-    ensures known { OnOk result (IsKnown sets.new hidden.new.hide) }
-    ensures gains { OnOk result (AreGained sets.new gain gains.new) }
-    ensures keeps { Keeps sets.old sets.new }
-{
-    let hide = gain_set(sets, gains, hidden.hide(), gain)?;
-    hidden.turn(used, hide);
-    Ok(())
-}
-
 // Puts a token behind the others.
 #[inline(always)]
 fn push_one<'a>(tokens: &mut Vec<Hidden<'a>>, hidden: Hidden<'a>) -> Result<(), AllocError>
@@ -212,51 +170,6 @@ fn push_one<'a>(tokens: &mut Vec<Hidden<'a>>, hidden: Hidden<'a>) -> Result<(), 
 {
     tokens.push(hidden)?;
     Ok(())
-}
-
-// Each token gains the names, and is used where the macro's name is. `gains` are what sets become.
-fn gain_all(
-    sets: &mut HideSets,
-    tokens: &mut Vec<Hidden>,
-    gains: Gains,
-    gain: Set,
-    used: Place,
-) -> Result<(), Memory>
-    requires tokens { AllKnown sets.old tokens.old.items }
-    requires gains { AreGained sets.old gain gains }
-    requires gain { IsKnown sets.old gain }
-    ensures is { OnOk result (hidings sets.new tokens.new.items ≡ map (gained (set_at sets.old gain) used) (hidings sets.old tokens.old.items)) }
-    ensures known { OnOk result (AllKnown sets.new tokens.new.items) }
-    ensures keeps { Keeps sets.old sets.new }
-{
-    let mut gains = gains;
-    for hidden in tokens.iter_mut() {
-        gain_one(sets, &mut gains, hidden, gain, used)?;
-    }
-    Ok(())
-}
-
-// Each token gains the names of `base` and one name more, and is used where the macro's name is. Most tokens have the set `base`
-// or none.
-fn gain_names(
-    sets: &mut HideSets,
-    tokens: &mut Vec<Hidden>,
-    base: Set,
-    name: &[u8],
-    used: Place,
-) -> Result<(), Memory>
-    requires tokens { AllKnown sets.old tokens.old.items }
-    requires base { IsKnown sets.old base }
-    ensures is { OnOk result (hidings sets.new tokens.new.items ≡ map (gained (set.insert (set_at sets.old base) name.now) used) (hidings sets.old tokens.old.items)) }
-    ensures known { OnOk result (AllKnown sets.new tokens.new.items) }
-    ensures keeps { Keeps sets.old sets.new }
-{
-    let gain = sets.with(base, name)?;
-    let gains = Gains::new(Gain {
-        from: base,
-        to: gain,
-    });
-    gain_all(sets, tokens, gains, gain, used)
 }
 
 // What an invocation is replaced by, and the mark that is left pending, or fault 19 or 20.

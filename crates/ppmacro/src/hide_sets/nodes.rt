@@ -11,6 +11,7 @@ use super::pairs::Pairs;
 use indexmap::IndexSet;
 use pptext::Hashing;
 use std::alloc::{AllocError, Global};
+use std::marker::Model;
 
 /// How many numbers a word of members has: the number n is bit n % 64 of the word n / 64.
 const WORD: usize = 64;
@@ -26,11 +27,41 @@ pub(crate) struct Node {
     right: u32,
 }
 
-/// What two sets are made into.
+impl Model for Node {
+    ghost use Rattle.ppmacro.specs.Nodes.{Node};
+
+    ghost Value = { Node };
+
+    ghost view = { λ n. record { here = n.here; left = n.left; right = n.right } };
+
+    ghost inverse = { λ n. record { here = n.here; left = n.left; right = n.right } };
+}
+
+/// Whether a union or a meet is made.
 #[derive(Clone, Copy, Debug)]
-pub(crate) enum Operation {
+pub(crate) enum OperationKind {
     Union,
     Meet,
+}
+
+/// What two sets are made into.
+#[derive(Clone, Copy, Debug)]
+pub(crate) struct Operation {
+    pub(crate) kind: OperationKind,
+}
+
+impl Model for Operation {
+    ghost use Rattle.std.specs.Prelude.{◌≡◌, refl};
+    ghost use Rattle.ppmacro.specs.Operations as definitions;
+    ghost use Rattle.ppmacro.specs.declared.hide_sets.nodes.OperationKind.TheVariants.{Union, Meet};
+
+    ghost Value = { definitions.Operation };
+
+    ghost view = { λ o. elim o.kind [ Union ↦ definitions.Union | Meet ↦ definitions.Meet ] };
+
+    ghost inverse = { λ o. record { kind = elim o [ definitions.Union ↦ Union | definitions.Meet ↦ Meet ] } };
+
+    ghost inverse_ok = { λ o h. elim o.kind as (λ k. inverse (view (record { kind = k })) ≡ record { kind = k }) [ Union ↦ refl | Meet ↦ refl ] };
 }
 
 impl Operation {
@@ -38,9 +69,9 @@ impl Operation {
     fn joins(self, left: u64, right: u64) -> u64
         ensures { result ≡ joined_word self left right }
     {
-        match self {
-            Operation::Union => left | right,
-            Operation::Meet => left & right,
+        match self.kind {
+            OperationKind::Union => left | right,
+            OperationKind::Meet => left & right,
         }
     }
 }
@@ -230,9 +261,9 @@ fn settled_meet(one: u32, two: u32) -> Option<u32>
 fn settled(operation: Operation, one: u32, two: u32) -> Option<u32>
     ensures { result ≡ known operation [] one two }
 {
-    match operation {
-        Operation::Union => settled_union(one, two),
-        Operation::Meet => settled_meet(one, two),
+    match operation.kind {
+        OperationKind::Union => settled_union(one, two),
+        OperationKind::Meet => settled_meet(one, two),
     }
 }
 

@@ -10,8 +10,9 @@ ghost use Rattle.ppmacro.specs.Substituting.{ArgumentsKnown, arguments_in, marke
 use crate::flying::{Expansion, Hidden};
 use crate::hide_sets::{HideSets, Set};
 use crate::patterns::{Entry, Pattern};
+use crate::substituting::gains::gain_names;
 use crate::substituting::operands::expansion;
-use crate::substituting::{gain_names, mark_before, push_chain, push_token, substitute};
+use crate::substituting::{mark_before, push_chain, push_token, substitute};
 use pptext::{Fault, Memory, Place};
 use std::alloc::{AllocError, Global};
 

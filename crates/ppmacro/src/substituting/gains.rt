@@ -1,78 +1,135 @@
-// What hide sets become where tokens gain the same names.
-ghost use Rattle.std.specs.Prelude.{ℕ, IfSome};
+// What each token of a replacement gains: names that hide it, and its place of use (6.10.3.4p2).
+ghost use Rattle.std.specs.Prelude.{◌≡◌, true, map, Some, None, OnOk};
+ghost use Rattle.std.specs.FinSet as set;
 ghost use Rattle.ppmacro.specs.Numbered.{Numbered};
-ghost use Rattle.ppmacro.specs.Substituting.{HasGained, AreGained};
+ghost use Rattle.ppmacro.specs.HideSets.{set_at, IsKnown, HasSets, hiding, hidings, AllKnown, Keeps};
+ghost use Rattle.ppmacro.specs.Substitution.{gained};
+ghost use Rattle.ppmacro.specs.Substituting.{IsWithin};
 
-use crate::hide_sets::Set;
-use std::marker::Model;
+use crate::flying::Hidden;
+use crate::hide_sets::{HideSets, Set};
+use pptext::{Memory, Place};
 
-/// A set, and what it becomes.
-#[derive(Clone, Copy, Debug)]
-pub(crate) struct Gain {
-    pub(crate) from: Set,
-    pub(crate) to: Set,
-}
-
-impl Model for Gain {
-    ghost use Rattle.std.specs.Prelude.{ℕ};
-
-    ghost Value = { ℕ × ℕ };
-
-    ghost view = { λ g. (g.from, g.to) };
-
-    ghost inverse = { λ g. record { from = g.0; to = g.1 } };
-}
-
-/// What a first set becomes, and those that were asked for last: the tokens of a replacement mostly have few sets, and to compare a set
-/// with these costs less than to look a pair up.
-#[derive(Drop)]
-pub(crate) struct Gains {
-    first: Gain,
-    last: [Gain; 4],
-    next: usize,
-}
-
-impl Model for Gains {
-    ghost use Rattle.std.specs.Prelude.{ℕ, List, ◌∷◌};
-
-    ghost Value = { List (ℕ × ℕ) };
-
-    ghost view = { λ g. g.first ∷ g.last };
-}
-
-impl Gains {
-    /// The first alone.
-    pub(crate) fn new(first: Gain) -> Gains
-        ensures { (sets : Numbered) (gain : ℕ) → HasGained sets gain first.0 first.1 → AreGained sets gain result }
-    {
-        Gains {
-            first,
-            last: [first, first, first, first],
-            next: 0,
-        }
+// Whether a set's names are known to be among those that are gained, which are the names of `base` and one more.
+fn is_within(set: Set, base: Set, gain: Set) -> bool
+    ensures { result ≡ true → (sets : Numbered) → IsWithin sets gain base → IsWithin sets gain set }
+{
+    if set == base {
+        return true;
     }
+    set == gain
+}
 
-    /// What a set becomes, where that is remembered.
-    pub(crate) fn find(&self, from: Set) -> Option<Set>
-        ensures { (sets : Numbered) (gain : ℕ) → AreGained sets gain self.now → IfSome result (λ to. HasGained sets gain from to) }
-    {
-        if self.first.from == from {
-            return Some(self.first.to);
-        }
-        for gain in &self.last {
-            if gain.from == from {
-                return Some(gain.to);
-            }
-        }
-        None
+// A token with one set gains the names, and is used where the macro's name is.
+fn gain_beside_one(sets: &HideSets, hidden: &mut Hidden, base: Set, gain: Set, used: Place)
+    requires hidden { HasSets sets.now hidden.old }
+    requires one { hidden.old.also ≡ None }
+    requires gain { IsKnown sets.now gain }
+    requires within { IsWithin sets.now gain base }
+    ensures is { hiding sets.now hidden.new ≡ gained (set_at sets.now gain) used (hiding sets.now hidden.old) }
+    ensures known { HasSets sets.now hidden.new }
+{
+    let hide = hidden.hide();
+    if hide == sets.empty() {
+        hidden.turn(used, gain);
+        return;
     }
+    if is_within(hide, base, gain) {
+        hidden.turn(used, gain);
+        return;
+    }
+    hidden.turn_beside(used, hide, gain);
+}
 
-    /// Remembers one more, in the place of the one that was remembered first.
-    pub(crate) fn keep(&mut self, gained: Gain)
-        ensures { (sets : Numbered) (gain : ℕ) → AreGained sets gain self.old → HasGained sets gain gained.0 gained.1 → AreGained sets gain self.new }
-    {
-        let place = self.next % self.last.len();
-        self.last[place] = gained;
-        self.next = place + 1;
+// The same of a token with two sets, which are joined where neither is among the names that are gained.
+fn gain_beside_two(
+    sets: &mut HideSets,
+    hidden: &mut Hidden,
+    also: Set,
+    base: Set,
+    gain: Set,
+    used: Place,
+) -> Result<(), Memory>
+    requires hidden { HasSets sets.old hidden.old }
+    requires two { hidden.old.also ≡ Some also }
+    requires gain { IsKnown sets.old gain }
+    requires within { IsWithin sets.old gain base }
+    ensures is { OnOk result (hiding sets.new hidden.new ≡ gained (set_at sets.old gain) used (hiding sets.old hidden.old)) }
+    ensures known { OnOk result (HasSets sets.new hidden.new) }
+    ensures keeps { Keeps sets.old sets.new }
+{
+    let hide = hidden.hide();
+    if is_within(also, base, gain) {
+        hidden.turn_beside(used, hide, gain);
+        return Ok(());
     }
+    if is_within(hide, base, gain) {
+        hidden.turn_beside(used, also, gain);
+        return Ok(());
+    }
+    let both = sets.union(hide, also)?;
+    hidden.turn_beside(used, both, gain);
+    Ok(())
+}
+
+// A token gains the names, and is used where the macro's name is.
+fn gain_one(
+    sets: &mut HideSets,
+    hidden: &mut Hidden,
+    base: Set,
+    gain: Set,
+    used: Place,
+) -> Result<(), Memory>
+    requires hidden { HasSets sets.old hidden.old }
+    requires gain { IsKnown sets.old gain }
+    requires within { IsWithin sets.old gain base }
+    ensures is { OnOk result (hiding sets.new hidden.new ≡ gained (set_at sets.old gain) used (hiding sets.old hidden.old)) }
+    ensures known { OnOk result (HasSets sets.new hidden.new) }
+    ensures keeps { Keeps sets.old sets.new }
+{
+    let Some(also) = hidden.also() else {
+        gain_beside_one(sets, hidden, base, gain, used);
+        return Ok(());
+    };
+    gain_beside_two(sets, hidden, also, base, gain, used)
+}
+
+// Each token gains the names, and is used where the macro's name is.
+fn gain_all(
+    sets: &mut HideSets,
+    tokens: &mut Vec<Hidden>,
+    base: Set,
+    gain: Set,
+    used: Place,
+) -> Result<(), Memory>
+    requires tokens { AllKnown sets.old tokens.old.items }
+    requires base { IsKnown sets.old base }
+    requires gain { IsKnown sets.old gain }
+    requires within { IsWithin sets.old gain base }
+    ensures is { OnOk result (hidings sets.new tokens.new.items ≡ map (gained (set_at sets.old gain) used) (hidings sets.old tokens.old.items)) }
+    ensures known { OnOk result (AllKnown sets.new tokens.new.items) }
+    ensures keeps { Keeps sets.old sets.new }
+{
+    for hidden in tokens.iter_mut() {
+        gain_one(sets, hidden, base, gain, used)?;
+    }
+    Ok(())
+}
+
+/// Each token gains the names of `base` and one name more, and is used where the macro's name is.
+pub(crate) fn gain_names(
+    sets: &mut HideSets,
+    tokens: &mut Vec<Hidden>,
+    base: Set,
+    name: &[u8],
+    used: Place,
+) -> Result<(), Memory>
+    requires tokens { AllKnown sets.old tokens.old.items }
+    requires base { IsKnown sets.old base }
+    ensures is { OnOk result (hidings sets.new tokens.new.items ≡ map (gained (set.insert (set_at sets.old base) name.now) used) (hidings sets.old tokens.old.items)) }
+    ensures known { OnOk result (AllKnown sets.new tokens.new.items) }
+    ensures keeps { Keeps sets.old sets.new }
+{
+    let gain = sets.with(base, name)?;
+    gain_all(sets, tokens, base, gain, used)
 }

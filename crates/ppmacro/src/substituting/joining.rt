@@ -1,7 +1,7 @@
 // Lists that `##` joins (6.10.3.3).
 ghost use Rattle.std.specs.Prelude.{◌≡◌, ◌++◌, ◌∷◌, IfOk, OnOk, IsTrue, [], map};
 ghost use Rattle.pptext.specs.Carrying.{CarriesOn};
-ghost use Rattle.ppmacro.specs.HideSets.{hiding, hidings, IsKnown, AllKnown, Keeps};
+ghost use Rattle.ppmacro.specs.HideSets.{hiding, hidings, HasSets, AllKnown, Keeps};
 ghost use Rattle.ppmacro.specs.Substitution.{pasted, join, join_all};
 ghost use Rattle.pptext.specs.Stops.{Answers};
 ghost use Rattle.ppmacro.specs.Substituting.{lists_of, ListsKnown, IsWhole, EndsWhole};
@@ -52,17 +52,17 @@ fn paste_onto<'a>(
     first: &Hidden,
     used: Place,
 ) -> Result<Hidden<'a>, Stop>
-    requires last { IsKnown sets.old last.hide }
-    requires first { IsKnown sets.old first.now.hide }
+    requires last { HasSets sets.old last }
+    requires first { HasSets sets.old first.now }
     requires whole { IsTrue whole → IsWhole last }
     ensures is { Answers result (hiding sets.new) (pasted (hiding sets.old last.entry) (hiding sets.old first.now) used) }
-    ensures known { IfOk result (λ h. IsKnown sets.new h.hide) }
+    ensures known { IfOk result (λ h. HasSets sets.new h) }
     ensures whole { IfOk result IsWhole }
     ensures keeps { Keeps sets.old sets.new }
 {
     let mut last = last;
     if is_carried_on(&last, whole, first.text()) && last.extend(alloc, first.text())? {
-        let hide = sets.meet(last.hide(), first.hide())?;
+        let hide = sets.common(&last, first)?;
         last.turn(used, hide);
         return Ok(last);
     }

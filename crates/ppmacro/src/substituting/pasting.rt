@@ -1,6 +1,6 @@
 // `##` (6.10.3.3).
 ghost use Rattle.std.specs.Prelude.{◌≡◌, ◌++◌, IfOk};
-ghost use Rattle.ppmacro.specs.HideSets.{hiding, IsKnown, Keeps};
+ghost use Rattle.ppmacro.specs.HideSets.{hiding, HasSets, Keeps};
 ghost use Rattle.ppmacro.specs.Substitution.{pasted};
 ghost use Rattle.ppmacro.specs.Substituting.{hidden_in};
 ghost use Rattle.pptext.specs.Stops.{Answers};
@@ -28,17 +28,17 @@ pub(crate) fn pasted<'a>(
     right: &Hidden,
     used: Place,
 ) -> Result<Hidden<'a>, Stop>
-    requires left { IsKnown sets.old left.now.hide }
-    requires right { IsKnown sets.old right.now.hide }
+    requires left { HasSets sets.old left.now }
+    requires right { HasSets sets.old right.now }
     ensures is { Answers result (hiding sets.new) (pasted (hiding sets.old left.now) (hiding sets.old right.now) used) }
-    ensures known { IfOk result (λ h. IsKnown sets.new h.hide) }
+    ensures known { IfOk result (λ h. HasSets sets.new h) }
     ensures keeps { Keeps sets.old sets.new }
 {
     let text = both(alloc, left, right)?;
     let Some(kind) = kind_of(text.as_slice()) else {
         return Err(Stop::Fault(Fault::new(alloc, 19, used, text.as_slice())?));
     };
-    let hide = sets.meet(left.hide(), right.hide())?;
+    let hide = sets.common(left, right)?;
     let token = Token {
         kind,
         text: Spelling::new(text)?,
@@ -59,10 +59,10 @@ pub fn paste<'a>(
     used: Place,
     sets: &mut HideSets,
 ) -> Result<Result<Hidden<'a>, Fault>, Memory>
-    requires left { IsKnown sets.old left.now.hide }
-    requires right { IsKnown sets.old right.now.hide }
+    requires left { HasSets sets.old left.now }
+    requires right { HasSets sets.old right.now }
     ensures is { IfOk result (λ r. hidden_in sets.new r ≡ pasted (hiding sets.old left.now) (hiding sets.old right.now) used) }
-    ensures known { IfOk result (λ r. IfOk r (λ h. IsKnown sets.new h.hide)) }
+    ensures known { IfOk result (λ r. IfOk r (λ h. HasSets sets.new h)) }
     ensures keeps { Keeps sets.old sets.new }
 {
     settled(pasted(alloc, sets, left, right, used))

@@ -1,6 +1,6 @@
 // `#` (6.10.3.2).
 ghost use Rattle.std.specs.Prelude.{◌≡◌, ℕ, [], ◌∷◌, ◌++◌, take, IfOk, OnOk, OnErr};
-ghost use Rattle.ppmacro.specs.HideSets.{IsKnown, hiding};
+ghost use Rattle.ppmacro.specs.HideSets.{HasSets, hiding};
 ghost use Rattle.pptext.specs.Stops.{Answers};
 ghost use Rattle.ppmacro.specs.Substitution.{escaped, spelled_space, spelled_in_string, string_text, stringized};
 ghost use Rattle.ppmacro.specs.Substituting.{tokens_of, hidden_in};
@@ -79,7 +79,7 @@ pub(crate) fn stringized<'a>(
     used: Place,
 ) -> Result<Hidden<'a>, Stop>
     ensures is { Answers result (hiding sets.now) (stringized (tokens_of argument.now) at used) }
-    ensures known { IfOk result (λ h. IsKnown sets.now h.hide) }
+    ensures known { IfOk result (λ h. HasSets sets.now h) }
 {
     let text = string_text(alloc, argument)?;
     let kind = kind_of(text.as_slice());
@@ -106,7 +106,7 @@ pub fn stringize<'a>(
     sets: &HideSets,
 ) -> Result<Result<Hidden<'a>, Fault>, Memory>
     ensures is { IfOk result (λ r. hidden_in sets.now r ≡ stringized (tokens_of argument.now) at used) }
-    ensures known { IfOk result (λ r. IfOk r (λ h. IsKnown sets.now h.hide)) }
+    ensures known { IfOk result (λ r. IfOk r (λ h. HasSets sets.now h)) }
 {
     settled(stringized(alloc, sets, argument, at, used))
 }

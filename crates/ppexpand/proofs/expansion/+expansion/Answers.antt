@@ -11,8 +11,8 @@ use Rattle.ppmacro.proofs.WalkLemmas.{drop-item}
 use Rattle.ppmacro.proofs.KeepLemmas.{hidings-keeps, known-keeps, keeps-all, keeps-after}
 use Rattle.ppexpand.specs.Turn.{finished, wanted, uses_alone, to_expand}
 use Rattle.ppexpand.specs.Expansion.{ExpandsTo, ExpandsArguments}
-use Rattle.ppexpand.specs.Shown.{finished_in, call_in, expanded_in, given_in, held, ExpansionsKnown, ExpandsArgument, deep, Invokes, refuses, finishes}
-use Rattle.ppexpand.proofs.Keeping.{call_in-keeps, call_known-keeps, given_known-keeps, expanded-keeps, expanded_known-keeps, expanded_known-push, expanded_in-push}
+use Rattle.ppexpand.specs.Shown.{finished_in, expanded_in, given_in, held, ExpansionsKnown, ExpandsArgument, deep, Invokes, refuses, finishes}
+use Rattle.ppexpand.proofs.Keeping.{call_of, call_of-keeps, call_known-keeps, given_known-keeps, expanded-keeps, expanded_known-keeps, expanded_known-push, expanded_in-push}
 use Rattle.ppexpand.proofs.ArgumentLemmas.{arguments_first, raised_some, raised_none, argument_expands, argument_raises, known-item, rest-unused, rest-used, rest-end, marked-alone}
 use Rattle.ppexpand.proofs.Skipping.{plain-expands, next-known, more-known, follows_skip, skip_falls}
 use Rattle.ppexpand.proofs.Follows.{Follows, follows_on, follows_end, advances_falls, call_taken, ArgumentsFollow, arguments_unused, arguments_used, arguments_refused, arguments_end}
@@ -36,7 +36,7 @@ advance-returns-clause-on m c =
     let s = c.take_turn.new.sets in
     let t = c.follow.new.sets in
     let called = rw c.in-Some.is at c.in_ok-goes.ensures.on in
-    let call = call_in s c.in-Some.found c.take_turn.new.list in
+    let call = call_of s c.in-Some.found c.take_turn.new.list in
     let invokes : Invokes c.args.table.now c.args.env.now c.args.level call _ c.follow.new.left (finished_in t c.follow.new.list c.follow.new.fault) =
     subst (λ l. Invokes c.args.table.now c.args.env.now c.args.level call l c.follow.new.left (finished_in t c.follow.new.list c.follow.new.fault)) called.2 c.in_ok-follow.ensures.is in
     call_taken c.args.table.now c.args.env.now c.args.level c.args.left.now (hidings c.args.sets.now c.args.list.now) call called.0 t c.follow.new.list _ _ c.follow.new.fault c.follow.new.left _ c.is_none.ensures
@@ -76,10 +76,10 @@ follow-returns-clause-is m c =
     let list = c.args.list.now in
     let u = c.expand_arguments.new.sets in
     let v = c.finish.new.sets in
-    let call = call_in s c.args.call.now list in
+    let call = call_of s c.args.call.now list in
     let made = rw c.in-Some.is at c.in_ok-expanded.ensures.is in
     let args : ExpandsArguments c.args.table.now c.args.env.now c.args.level call c.args.left.now (wanted call) c.expand_arguments.new.left (Ok (expanded_in u c.args.call.now.arguments.items c.in-Some.expanded.items)) = made.1 list in
-    let same = call_in-keeps c.args.call.now list c.in_ok-expanded.ensures.keeps c.requires.call_known c.requires.list_known in
+    let same = call_of-keeps c.args.call.now list c.in_ok-expanded.ensures.keeps c.requires.call_known c.requires.list_known in
     on_ok_weaker c.finish.result
     (λ e. subst (Invokes c.args.table.now c.args.env.now c.args.level call c.args.left.now c.expand_arguments.new.left)
     (sym (e ∙ (λ i. finished (same i) (expanded_in u c.args.call.now.arguments.items (c.as_slice.ensures.value i)))))
@@ -149,7 +149,7 @@ expand_arguments-loop-parameter-init m c = record {
   no_fault = c.requires.no_fault;
   known = rw c.in_ok-expanded.ensures.items (record { each = tt });
   keeps = keeps-all c.args.sets.now;
-  follows = λ behind. rw c.in_ok-expanded.ensures.items (arguments_first c.args.table.now c.args.env.now c.args.level (call_in c.args.sets.now c.args.call.now behind) c.args.left.now);
+  follows = λ behind. rw c.in_ok-expanded.ensures.items (arguments_first c.args.table.now c.args.env.now c.args.level (call_of c.args.sets.now c.args.call.now behind) c.args.left.now);
 }
 
 pub expand_arguments-loop-parameter-preserved-then-not-index : goal.expand_arguments-loop-parameter-preserved-then-not-index
@@ -179,7 +179,7 @@ expand_arguments-loop-parameter-preserved-then-not-index m c =
       count = ap length made ∙ length-append done (Unused ∷ []) ∙ ap (λ n. n + 1) c.loop-parameter.invariant.count;
       keeps = c.loop-parameter.invariant.keeps;
       follows = λ behind.
-          (let call = call_in s c.args.call.now behind in
+          (let call = call_of s c.args.call.now behind in
           let rest = to_expand (i + 1) cs (drop (i + 1) (given_in s vs)) in
           let here : ArgumentsFollow c.args.table.now c.args.env.now c.args.level call c.args.left.now (wanted call) (expanded_in u vs c.loop-parameter.expanded.items) c.loop-parameter.left (None ∷ rest) =
           subst (ArgumentsFollow c.args.table.now c.args.env.now c.args.level call c.args.left.now (wanted call) (expanded_in u vs c.loop-parameter.expanded.items) c.loop-parameter.left) next (c.loop-parameter.invariant.follows behind) in
@@ -227,7 +227,7 @@ expand_arguments-returns-in-None-clause-is m c =
       raised.0,
       raised.1,
       λ behind.
-          let call = call_in s c.args.call.now behind in
+          let call = call_of s c.args.call.now behind in
           let rest = to_expand (i + 1) cs (drop (i + 1) (given_in s vs)) in
           let here : ArgumentsFollow c.args.table.now c.args.env.now c.args.level call c.args.left.now (wanted call) (expanded_in u vs c.loop-parameter.expanded.items) c.loop-parameter.left (Some (hidings s v.items) ∷ rest) =
           subst (ArgumentsFollow c.args.table.now c.args.env.now c.args.level call c.args.left.now (wanted call) (expanded_in u vs c.loop-parameter.expanded.items) c.loop-parameter.left) next (c.loop-parameter.invariant.follows behind) in
@@ -275,7 +275,7 @@ expand_arguments-loop-parameter-preserved m c =
       count = ap length made ∙ length-append done (e ∷ []) ∙ ap (λ n. n + 1) c.loop-parameter.invariant.count;
       keeps = keeps-after c.loop-parameter.invariant.keeps keeps;
       follows = λ behind.
-          (let call = call_in s c.args.call.now behind in
+          (let call = call_of s c.args.call.now behind in
           let rest = to_expand (i + 1) cs (drop (i + 1) (given_in s vs)) in
           let here : ArgumentsFollow c.args.table.now c.args.env.now c.args.level call c.args.left.now (wanted call) (expanded_in u vs done) c.loop-parameter.left (Some (hidings s v.items) ∷ rest) =
           subst (ArgumentsFollow c.args.table.now c.args.env.now c.args.level call c.args.left.now (wanted call) (expanded_in u vs done) c.loop-parameter.left) next (c.loop-parameter.invariant.follows behind) in
@@ -292,7 +292,7 @@ expand_arguments-returns-clause-is m c =
     let end : to_expand c.loop-parameter.parameter cs (drop c.loop-parameter.parameter (given_in s vs)) ≡ [] = rest-end s vs cs c.loop-parameter.parameter (omega (arith, c.loop-parameter-test.false)) in (
       c.loop-parameter.invariant.no_fault,
       λ behind.
-          let call = call_in s c.args.call.now behind in
+          let call = call_of s c.args.call.now behind in
           arguments_end c.args.table.now c.args.env.now c.args.level call c.args.left.now (wanted call) (expanded_in u vs c.loop-parameter.expanded.items) c.loop-parameter.left
           (subst (ArgumentsFollow c.args.table.now c.args.env.now c.args.level call c.args.left.now (wanted call) (expanded_in u vs c.loop-parameter.expanded.items) c.loop-parameter.left) end (c.loop-parameter.invariant.follows behind)),
     )

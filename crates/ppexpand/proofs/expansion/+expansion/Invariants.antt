@@ -3,7 +3,8 @@ use Rattle.ppmacro.specs.HideSets.{hidings, AllKnown, Keeps}
 use Rattle.ppmacro.specs.Chains.{chains_of}
 use Rattle.ppmacro.specs.declared.flying.Hidden.{Hidden}
 use Rattle.ppexpand.specs.Turn.{wanted, to_expand}
-use Rattle.ppexpand.specs.Shown.{given_in, expanded_in, call_in, ExpansionsKnown}
+use Rattle.ppexpand.specs.Shown.{given_in, expanded_in, ExpansionsKnown}
+use Rattle.ppexpand.proofs.Keeping.{call_of}
 use Rattle.ppexpand.proofs.Follows.{Follows, ArgumentsFollow, turns_left}
 use Rattle.ppexpand.proofs.expansion.+expansion.Given as goal
 
@@ -44,7 +45,7 @@ invariant-expand_arguments-loop-parameter l = record {
   no_fault : l.fault ≡ None;
   keeps : Keeps l.fn.sets l.sets;
   follows : (behind : List Hidden)
-      → ArgumentsFollow l.table l.env l.level (call_in l.fn.sets l.call behind) l.fn.left (wanted (call_in l.fn.sets l.call behind))
+      → ArgumentsFollow l.table l.env l.level (call_of l.fn.sets l.call behind) l.fn.left (wanted (call_of l.fn.sets l.call behind))
       (expanded_in l.sets l.call.arguments.items l.expanded.items) l.left
       (to_expand l.parameter (chains_of l.call.replaced.now) (drop l.parameter (given_in l.fn.sets l.call.arguments.items)));
 }

@@ -4,39 +4,41 @@ use Rattle.ppmacro.specs.HideSets.{hiding, hidings, AllKnown}
 use Rattle.ppmacro.proofs.KeepLemmas.{hidings-keeps, known-keeps, known-append}
 use Rattle.ppexpand.specs.Turn.{Done, Refused, Passes, Failed, Replaced, Called}
 use Rattle.ppexpand.specs.Expansion.{turn_within, Expands, done, refused, passes, failed, replaced}
-use Rattle.ppexpand.specs.Shown.{turn_in, NextKnown, call_in, EndsWith}
+use Rattle.ppexpand.specs.Shown.{turn_in, NextKnown, EndsWith}
+use Rattle.ppexpand.proofs.Keeping.{call_of}
+use Rattle.ppexpand.proofs.TurnLemmas.{stepped}
 use Rattle.std.proofs.Common.{Some}
 use Rattle.ppexpand.proofs.expansion.take_turn.Goals as goal
 
 pub returns-in-Done-clause-on : goal.returns-in-Done-clause-on
 returns-in-Done-clause-on c =
-    let t : turn_within c.args.table.now c.args.env.now c.args.left.now (hidings c.args.sets.now c.args.list.now) ≡ Done = sym (ap (turn_in c.next_turn.new.sets c.next_turn.new.list) (sym c.in-Done.is) ∙ c.in_ok-next_turn.ensures.is) in
-    rw (c.requires.no_call, c.requires.no_fault) (λ level. (done t, hidings-keeps _ c.in_ok-next_turn.ensures.keeps c.requires.passed_known))
+    let t : turn_within c.args.table.now c.args.env.now c.args.left.now (hidings c.args.sets.now c.args.list.now) ≡ Done = sym (ap (turn_in c.next_turn.new.sets c.next_turn.new.list) (sym (stepped c.next.inside c.next.view_is c.in-Done.is)) ∙ c.in_ok-next.ensures.is) in
+    rw (c.requires.no_call, c.requires.no_fault) (λ level. (done t, hidings-keeps _ c.in_ok-next.ensures.keeps c.requires.passed_known))
 
 pub returns-in-Done-clause-passed_known : goal.returns-in-Done-clause-passed_known
-returns-in-Done-clause-passed_known c = known-keeps _ c.in_ok-next_turn.ensures.keeps c.requires.passed_known
+returns-in-Done-clause-passed_known c = known-keeps _ c.in_ok-next.ensures.keeps c.requires.passed_known
 
 pub returns-in-Refused-clause-on : goal.returns-in-Refused-clause-on
 returns-in-Refused-clause-on c =
     let t : turn_within c.args.table.now c.args.env.now c.args.left.now (hidings c.args.sets.now c.args.list.now) ≡ Refused c.in-Refused.found =
-    sym (ap (turn_in c.next_turn.new.sets c.next_turn.new.list) (sym c.in-Refused.is) ∙ c.in_ok-next_turn.ensures.is) in
-    rw c.requires.no_call (λ level. (refused t, hidings-keeps _ c.in_ok-next_turn.ensures.keeps c.requires.passed_known))
+    sym (ap (turn_in c.next_turn.new.sets c.next_turn.new.list) (sym (stepped c.next.inside c.next.view_is c.in-Refused.is)) ∙ c.in_ok-next.ensures.is) in
+    rw c.requires.no_call (λ level. (refused t, hidings-keeps _ c.in_ok-next.ensures.keeps c.requires.passed_known))
 
 pub returns-in-Refused-clause-passed_known : goal.returns-in-Refused-clause-passed_known
-returns-in-Refused-clause-passed_known c = known-keeps _ c.in_ok-next_turn.ensures.keeps c.requires.passed_known
+returns-in-Refused-clause-passed_known c = known-keeps _ c.in_ok-next.ensures.keeps c.requires.passed_known
 
 pub returns-in-Failed-clause-on : goal.returns-in-Failed-clause-on
 returns-in-Failed-clause-on c =
     let s = c.args.sets.now in
     let t : turn_within c.args.table.now c.args.env.now c.args.left.now (hidings s c.args.list.now) ≡ Failed c.in-Failed.found =
-    sym (ap (turn_in c.next_turn.new.sets c.next_turn.new.list) (sym c.in-Failed.is) ∙ c.in_ok-next_turn.ensures.is) in
+    sym (ap (turn_in c.next_turn.new.sets c.next_turn.new.list) (sym (stepped c.next.inside c.next.view_is c.in-Failed.is)) ∙ c.in_ok-next.ensures.is) in
     rw c.requires.no_call (λ level. (
       subst (EndsWith c.args.table.now c.args.env.now level c.args.left.now (hidings s c.args.list.now) (Some c.in-Failed.found)) (sym c.less_one.ensures) (failed t),
-      hidings-keeps _ c.in_ok-next_turn.ensures.keeps c.requires.passed_known,
+      hidings-keeps _ c.in_ok-next.ensures.keeps c.requires.passed_known,
     ))
 
 pub returns-in-Failed-clause-passed_known : goal.returns-in-Failed-clause-passed_known
-returns-in-Failed-clause-passed_known c = known-keeps _ c.in_ok-next_turn.ensures.keeps c.requires.passed_known
+returns-in-Failed-clause-passed_known c = known-keeps _ c.in_ok-next.ensures.keeps c.requires.passed_known
 
 pub returns-in_ok-push_single-in-Passes-clause-on : goal.returns-in_ok-push_single-in-Passes-clause-on
 returns-in_ok-push_single-in-Passes-clause-on c =
@@ -44,23 +46,23 @@ returns-in_ok-push_single-in-Passes-clause-on c =
     let passed = c.args.passed.now in
     let head = c.in-Passes.head in
     let t : turn_within c.args.table.now c.args.env.now c.args.left.now (hidings c.args.sets.now c.args.list.now) ≡ Passes (hiding s head) (hidings s c.next_turn.new.list) =
-    sym (ap (turn_in s c.next_turn.new.list) (sym c.in-Passes.is) ∙ c.in_ok-next_turn.ensures.is) in
+    sym (ap (turn_in s c.next_turn.new.list) (sym (stepped c.next.inside c.next.view_is c.in-Passes.is)) ∙ c.in_ok-next.ensures.is) in
     let shown : hidings s c.push_single.new.self ≡ hidings c.args.sets.now passed ++ hiding s head ∷ [] =
-    ap (hidings s) c.in_ok-push_single-in-Passes.ensures ∙ map-append (hiding s) passed (head ∷ []) ∙ ap (λ hs. hs ++ hiding s head ∷ []) (hidings-keeps passed c.in_ok-next_turn.ensures.keeps c.requires.passed_known) in
+    ap (hidings s) c.in_ok-push_single-in-Passes.ensures ∙ map-append (hiding s) passed (head ∷ []) ∙ ap (λ hs. hs ++ hiding s head ∷ []) (hidings-keeps passed c.in_ok-next.ensures.keeps c.requires.passed_known) in
     rw c.requires.no_call (λ level. (c.requires.no_fault, (hiding s head ∷ [], shown, record { turn = λ n out d. passes t d })))
 
 pub returns-in_ok-push_single-in-Passes-clause-passed_known : goal.returns-in_ok-push_single-in-Passes-clause-passed_known
 returns-in_ok-push_single-in-Passes-clause-passed_known c =
     let s = c.next_turn.new.sets in
-    let known = subst (NextKnown s c.next_turn.new.list) c.in-Passes.is c.in_ok-next_turn.ensures.known in
-    subst (AllKnown s) (sym c.in_ok-push_single-in-Passes.ensures) (known-append c.args.passed.now (c.in-Passes.head ∷ []) (known-keeps _ c.in_ok-next_turn.ensures.keeps c.requires.passed_known) (record { each = (known.0, tt) }))
+    let known = subst (NextKnown s c.next_turn.new.list) (stepped c.next.inside c.next.view_is c.in-Passes.is) c.in_ok-next.ensures.known in
+    subst (AllKnown s) (sym c.in_ok-push_single-in-Passes.ensures) (known-append c.args.passed.now (c.in-Passes.head ∷ []) (known-keeps _ c.in_ok-next.ensures.keeps c.requires.passed_known) (record { each = (known.0, tt) }))
 
 pub returns-in-Replaced-clause-on : goal.returns-in-Replaced-clause-on
 returns-in-Replaced-clause-on c =
     let s = c.next_turn.new.sets in
     let t : turn_within c.args.table.now c.args.env.now c.args.left.now (hidings c.args.sets.now c.args.list.now) ≡ Replaced (hidings s c.next_turn.new.list) =
-    sym (ap (turn_in s c.next_turn.new.list) (sym c.in-Replaced.is) ∙ c.in_ok-next_turn.ensures.is) in
-    let same = hidings-keeps _ c.in_ok-next_turn.ensures.keeps c.requires.passed_known ∙ sym (append-nil _) in
+    sym (ap (turn_in s c.next_turn.new.list) (sym (stepped c.next.inside c.next.view_is c.in-Replaced.is)) ∙ c.in_ok-next.ensures.is) in
+    let same = hidings-keeps _ c.in_ok-next.ensures.keeps c.requires.passed_known ∙ sym (append-nil _) in
     rw c.requires.no_call (λ level. (
       c.requires.no_fault,
       (
@@ -74,15 +76,15 @@ returns-in-Replaced-clause-on c =
     ))
 
 pub returns-in-Replaced-clause-passed_known : goal.returns-in-Replaced-clause-passed_known
-returns-in-Replaced-clause-passed_known c = known-keeps _ c.in_ok-next_turn.ensures.keeps c.requires.passed_known
+returns-in-Replaced-clause-passed_known c = known-keeps _ c.in_ok-next.ensures.keeps c.requires.passed_known
 
 pub returns-in-Called-clause-on : goal.returns-in-Called-clause-on
 returns-in-Called-clause-on c =
     let s = c.next_turn.new.sets in
     let list = c.next_turn.new.list in
-    let t : turn_within c.args.table.now c.args.env.now c.args.left.now (hidings c.args.sets.now c.args.list.now) ≡ Called (call_in s c.in-Called.found list) =
-    sym (ap (turn_in s list) (sym c.in-Called.is) ∙ c.in_ok-next_turn.ensures.is) in
-    (t, c.requires.no_fault, c.less_one-in-Called.ensures, hidings-keeps _ c.in_ok-next_turn.ensures.keeps c.requires.passed_known)
+    let t : turn_within c.args.table.now c.args.env.now c.args.left.now (hidings c.args.sets.now c.args.list.now) ≡ Called (call_of s c.in-Called.found list) =
+    sym (ap (turn_in s list) (sym (stepped c.next.inside c.next.view_is c.in-Called.is)) ∙ c.in_ok-next.ensures.is) in
+    (t, c.requires.no_fault, c.less_one-in-Called.ensures, hidings-keeps _ c.in_ok-next.ensures.keeps c.requires.passed_known)
 
 pub returns-in-Called-clause-passed_known : goal.returns-in-Called-clause-passed_known
-returns-in-Called-clause-passed_known c = known-keeps _ c.in_ok-next_turn.ensures.keeps c.requires.passed_known
+returns-in-Called-clause-passed_known c = known-keeps _ c.in_ok-next.ensures.keeps c.requires.passed_known

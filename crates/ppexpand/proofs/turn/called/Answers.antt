@@ -1,7 +1,7 @@
 use Rattle.std.proofs.Common.{◌≡◌, ◌∙◌, sym, ap, subst}
 use Rattle.std.specs.FinSet as set
-use Rattle.ppmacro.specs.HideSets.{set_at, hiding, hidings}
-use Rattle.ppmacro.proofs.KeepLemmas.{known-set, known-keeps}
+use Rattle.ppmacro.specs.HideSets.{set_at, hide_of, hiding, hidings}
+use Rattle.ppmacro.proofs.KeepLemmas.{known-sets, known-keeps}
 use Rattle.ppexpand.specs.Turn.{Called, called, gain_of}
 use Rattle.ppexpand.specs.Shown.{fitting_in, FittingKnown}
 use Rattle.ppexpand.proofs.Keeping.{call_made, given_known-keeps}
@@ -12,9 +12,7 @@ returns-clause-is c =
     let s = c.args.sets.now in
     let head = c.args.head in
     let keeps = c.in_ok-both.ensures.keeps in
-    let sets : set_at c.meet.new.self c.in_ok-both.both ≡ set.intersection (set_at s head.hide) (set_at s c.args.close.now.hide) =
-    c.in_ok-both.ensures.set ∙ (λ i. set.intersection (set_at s (c.hide.ensures i)) (set_at s (c.hide-2.ensures i))) in
-    let gains : set.insert (set_at c.meet.new.self c.in_ok-both.both) head.token.text ≡ gain_of (set_at s head.hide) (set_at s c.args.close.now.hide) head.token.text = ap (λ b. set.insert b head.token.text) sets in
+    let gains : set.insert (set_at c.common.new.self c.in_ok-both.both) head.token.text ≡ gain_of (hide_of s head) (hide_of s c.args.close.now) head.token.text = ap (λ b. set.insert b head.token.text) c.in_ok-both.ensures.set in
     ap Called (call_made (record { head = head; replaced = c.args.replaced; arguments = c.in-Some.arguments; both = c.in_ok-both.both })
     c.args.list.now _ keeps c.requires.head (subst (FittingKnown s) c.in-Some.is c.requires.arguments) c.requires.list gains)
     ∙ ap (λ a. called (hiding s head) c.args.replaced.now (fitting_in s a) (hiding s c.args.close.now) (hidings s c.args.list.now)) (sym c.in-Some.is)
@@ -23,7 +21,7 @@ pub returns-clause-known : goal.returns-clause-known
 returns-clause-known c =
     let keeps = c.in_ok-both.ensures.keeps in (
       record {
-        head = known-set c.args.head.hide keeps c.requires.head;
+        head = known-sets c.args.head keeps c.requires.head;
         arguments = given_known-keeps c.in-Some.arguments.items keeps (subst (FittingKnown c.args.sets.now) c.in-Some.is c.requires.arguments);
         both = c.in_ok-both.ensures.known;
       },

@@ -1,4 +1,4 @@
-use Rattle.std.proofs.Common.{rules, ◌≡◌, ◌∙◌, ap, sym}
+use Rattle.std.proofs.Common.{rules, ◌≡◌, ◌∙◌, None, ap, sym}
 use Rattle.ppmacro.specs.HideSets.{set_at, hiding}
 use Rattle.ppmacro.specs.Flying.{InFlight, placed}
 use Rattle.ppmacro.proofs.Hiding.{union-none}
@@ -8,6 +8,6 @@ pub returns-clause-is : goal.returns-clause-is
 returns-clause-is c =
     let s = c.args.sets.now in
     let token = placed c.args.token.now c.args.used c.args.mark in
-    let flying : InFlight = record { token = token; hide = c.args.gain } in
+    let flying : InFlight = record { token = token; hide = c.args.gain; also = None } in
     let made : c.turn.new.self ≡ flying = search rules in
     ap (hiding s) made ∙ (λ i. record { token = token; hide = sym (union-none (set_at s c.args.gain)) i })

@@ -1,14 +1,12 @@
-use Rattle.ppexpand.specs.Shown.{GatheredKnown}
-use Rattle.std.proofs.Common.{subst}
 use Rattle.ppexpand.proofs.turn.invoked.Goals as goal
 
 pub called-requires-clause-arguments : goal.called-requires-clause-arguments
 called-requires-clause-arguments c =
-    let known = subst (GatheredKnown c.args.sets.now c.gather.new.list) c.in-Closed.is (c.in_ok-arguments.ensures.known c.args.sets.now c.requires.list) in
+    let known = rw c.in-Closed.is at (c.in_ok-arguments.ensures.known c.args.sets.now c.requires.list) in
     c.fit-fitting.ensures.known c.args.sets.now known.0
 
 pub called-requires-clause-close : goal.called-requires-clause-close
-called-requires-clause-close c = (subst (GatheredKnown c.args.sets.now c.gather.new.list) c.in-Closed.is (c.in_ok-arguments.ensures.known c.args.sets.now c.requires.list)).1
+called-requires-clause-close c = (rw c.in-Closed.is at (c.in_ok-arguments.ensures.known c.args.sets.now c.requires.list)).1
 
 pub called-requires-clause-list : goal.called-requires-clause-list
-called-requires-clause-list c = (subst (GatheredKnown c.args.sets.now c.gather.new.list) c.in-Closed.is (c.in_ok-arguments.ensures.known c.args.sets.now c.requires.list)).2
+called-requires-clause-list c = (rw c.in-Closed.is at (c.in_ok-arguments.ensures.known c.args.sets.now c.requires.list)).2

@@ -3,7 +3,7 @@ use Rattle.std.specs.FinSet as set
 use Rattle.std.specs.Option.{option_copied}
 use Rattle.pptext.specs.Tokens.{is_lone_quote}
 use Rattle.ppmacro.specs.Names.{Macros}
-use Rattle.ppmacro.specs.HideSets.{set_at, Hiding, hiding, hidings}
+use Rattle.ppmacro.specs.HideSets.{hide_of, Hiding, hiding, hidings}
 use Rattle.ppmacro.specs.Substituting.{tokens_of}
 use Rattle.ppmacro.specs.declared.flying.Hidden.{Hidden}
 use Rattle.ppmacro.specs.declared.macros.Definition.{Definition}
@@ -40,13 +40,13 @@ returns-then-is_quote-clause-is c =
     ∙ sym (ap (within c.args.left (t ∷ rest)) (turn-quote c.args.table.now c.args.env.now t rest quote) ∙ refused-within c.args.left (t ∷ rest) (quote_fault t))
     ∙ ap (λ l. turn_within c.args.table.now c.args.env.now c.args.left (hidings s l)) (sym c.in-Some.ensures)
 
-pub returns-then-has-clause-is : goal.returns-then-has-clause-is
-returns-then-has-clause-is c =
+pub returns-then-hides-clause-is : goal.returns-then-hides-clause-is
+returns-then-hides-clause-is c =
     let s = c.args.sets.now in
     let t = hiding s c.in-Some.head in
     let rest = hidings s c.next.new.self in
     let quote : is_lone_quote c.in-Some.head.token ≡ false = sym c.is_quote.ensures ∙ c.if-is_quote.false in
-    let hidden : set.contains (set_at s c.in-Some.head.hide) c.in-Some.head.token.text ≡ true = (λ i. set.contains (set_at s (sym c.hide.ensures i)) (sym c.text.ensures i)) ∙ sym c.has.ensures ∙ c.if-has.true in
+    let hidden : set.contains (hide_of s c.in-Some.head) c.in-Some.head.token.text ≡ true = sym c.hides.ensures ∙ c.if-hides.true in
     sym (ap (within c.args.left (t ∷ rest)) (turn-hidden c.args.table.now c.args.env.now t rest quote hidden) ∙ passes-within c.args.left (t ∷ rest) t rest)
     ∙ ap (λ l. turn_within c.args.table.now c.args.env.now c.args.left (hidings s l)) (sym c.in-Some.ensures)
 
@@ -67,7 +67,7 @@ returns-then-is_spent-clause-is c =
     let rest = hidings s c.next.new.self in
     let none : c.args.left ≡ Some 0 = nothing_left c.args.left (sym c.is_spent.ensures ∙ c.if-is_spent.true) in
     let quote = sym c.is_quote.ensures ∙ c.if-is_quote.false in
-    let hidden = (λ i. set.contains (set_at s (sym c.hide.ensures i)) (sym c.text.ensures i)) ∙ sym c.has.ensures ∙ c.if-has.false in
+    let hidden = sym c.hides.ensures ∙ c.if-hides.false in
     let macro = named_next c.args.table.now _ _ c.args.list.now c.in-Some.ensures c.requires.named ∙ ap option_copied c.in-Some-named.is in
     c.in_ok-spent_turn.ensures.is s c.args.env.now
     ∙ sym (named c.args.table.now c.args.env.now (Some 0) t rest _ quote hidden macro)
@@ -80,7 +80,7 @@ returns-clause-is c =
     let rest = hidings s c.next.new.self in
     let some = sym c.is_spent.ensures ∙ c.if-is_spent.false in
     let quote = sym c.is_quote.ensures ∙ c.if-is_quote.false in
-    let hidden = (λ i. set.contains (set_at s (sym c.hide.ensures i)) (sym c.text.ensures i)) ∙ sym c.has.ensures ∙ c.if-has.false in
+    let hidden = sym c.hides.ensures ∙ c.if-hides.false in
     let macro = named_next c.args.table.now _ _ c.args.list.now c.in-Some.ensures c.requires.named ∙ ap option_copied c.in-Some-named.is in
     let whole = sym (free-within c.args.left (t ∷ rest) _ some)
     ∙ sym (named c.args.table.now c.args.env.now c.args.left t rest _ quote hidden macro)

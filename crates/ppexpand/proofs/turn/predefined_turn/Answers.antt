@@ -1,6 +1,6 @@
-use Rattle.std.proofs.Common.{◌≡◌, ◌∙◌, ◌∷◌, sym, ap, subst}
+use Rattle.std.proofs.Common.{◌≡◌, ◌∙◌, ◌∷◌, IfSome, sym, ap, subst}
 use Rattle.std.specs.FinSet as set
-use Rattle.ppmacro.specs.HideSets.{set_at, IsKnown, hiding, hidings, AllKnown}
+use Rattle.ppmacro.specs.HideSets.{IsKnown, HasSets, hide_of, hiding, hidings, AllKnown}
 use Rattle.ppmacro.proofs.KeepLemmas.{hiding-keeps, hidings-keeps, known-keeps}
 use Rattle.ppexpand.specs.Turn.{Replaced, predefined_value}
 use Rattle.ppexpand.proofs.turn.predefined_turn.Goals as goal
@@ -8,17 +8,17 @@ use Rattle.ppexpand.proofs.turn.predefined_turn.Goals as goal
 pub returns-clause-is : goal.returns-clause-is
 returns-clause-is c =
     let s = c.args.sets.now in
-    let t = c.with.new.self in
+    let t = c.with_own.new.self in
     let keeps = c.in_ok-gain.ensures.keeps in
-    let gains : set_at t c.in_ok-gain.gain ≡ set.insert (set_at s c.args.head.hide) c.args.head.token.text = c.in_ok-gain.ensures.set ∙ (λ i. set.insert (set_at s (c.hide.ensures i)) (c.text.ensures i)) in
-    let value : hiding t c.in_ok-predefined_value.field-0 ≡ predefined_value c.args.builtin c.args.env.now (hiding s c.args.head) (set.insert (set_at s c.args.head.hide) c.args.head.token.text) =
-    c.in_ok-predefined_value.ensures.is t ∙ (λ i. predefined_value c.args.builtin c.args.env.now (hiding-keeps c.args.head keeps c.requires.head i) (gains i)) in
+    let value : hiding t c.in_ok-predefined_value.field-0 ≡ predefined_value c.args.builtin c.args.env.now (hiding s c.args.head) (set.insert (hide_of s c.args.head) c.args.head.token.text) =
+    c.in_ok-predefined_value.ensures.is t ∙ (λ i. predefined_value c.args.builtin c.args.env.now (hiding-keeps c.args.head keeps c.requires.head i) (c.in_ok-gain.ensures.set i)) in
     let rest : hidings t c.args.list.now ≡ hidings s c.args.list.now = hidings-keeps c.args.list.now keeps c.requires.list in
     ap (λ hs. Replaced (hidings t hs)) c.in_ok-push.ensures ∙ (λ i. Replaced (value i ∷ rest i))
 
 pub returns-clause-known : goal.returns-clause-known
 returns-clause-known c =
-    let t = c.with.new.self in
-    let here : IsKnown t c.in_ok-predefined_value.field-0.hide = subst (IsKnown t) (sym c.in_ok-predefined_value.ensures.gain) c.in_ok-gain.ensures.known in
+    let t = c.with_own.new.self in
+    let gain = c.in_ok-predefined_value.ensures.gain in
+    let here : HasSets t c.in_ok-predefined_value.field-0 = record { hide = subst (IsKnown t) (sym gain.0) c.in_ok-gain.ensures.known; also = subst (λ o. IfSome o (IsKnown t)) (sym gain.1) tt } in
     let rest = known-keeps c.args.list.now c.in_ok-gain.ensures.keeps c.requires.list in
     subst (AllKnown t) (sym c.in_ok-push.ensures) (record { each = (here, rest.each) })

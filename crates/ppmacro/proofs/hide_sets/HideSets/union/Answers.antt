@@ -1,4 +1,4 @@
-use Rattle.ppmacro.specs.declared.hide_sets.nodes.Operation.TheVariants.{Union}
+use Rattle.ppmacro.specs.Operations.{Union}
 use Rattle.ppmacro.proofs.Viewed.{node-asked, keeps-seen, made-seen, kept-made}
 use Rattle.ppmacro.proofs.Hiding.{known-at}
 use Rattle.ppmacro.proofs.hide_sets.HideSets.union.Goals as goal

@@ -9,9 +9,9 @@ pub number_for-requires-clause-within : goal.number_for-requires-clause-within
 number_for-requires-clause-within t c =
     let old = c.args.nodes.now.keys in
     let w = within-at old c.args.set c.requires.pool c.requires.known in
-    let is = sym c.read-node.ensures in
+    let is = sym (c.node.view_is ∙ c.read-node.ensures) in
     record {
-      here = or_lt 64 c.read-node.result.here (1 * 2 ^ c.args.bit % 2 ^ 64) (subst (λ s. s.here < 2 ^ 64) is w.here) (mod_below (1 * 2 ^ c.args.bit) (2 ^ 64) (omega arith));
+      here = or_lt 64 c.node.inside.here (1 * 2 ^ c.args.bit % 2 ^ 64) (subst (λ s. s.here < 2 ^ 64) is w.here) (mod_below (1 * 2 ^ c.args.bit) (2 ^ 64) (omega arith));
       left = subst (λ s. s.left < length old) is w.left;
       right = subst (λ s. s.right < length old) is w.right;
     }
@@ -19,27 +19,30 @@ number_for-requires-clause-within t c =
 pub returns-then-index-eq0-clause-set : goal.returns-then-index-eq0-clause-set
 returns-then-index-eq0-clause-set t c = λ w.
     let old = c.args.nodes.now.keys in
-    let is = c.in_ok-whole.ensures.is ∙ (λ i. record { here = bit_or (c.read-node.ensures i).here (one_shl c.args.bit 64 c.requires.bit i); left = (c.read-node.ensures i).left; right = (c.read-node.ensures i).right }) in
+    let at = c.node.view_is ∙ c.read-node.ensures in
+    let is = c.in_ok-whole.ensures.is ∙ (λ i. record { here = bit_or (at i).here (one_shl c.args.bit 64 c.requires.bit i); left = (at i).left; right = (at i).right }) in
     insert-here old c.number_for.new.nodes.keys c.args.set c.in_ok-whole.whole c.args.bit w c.requires.pool c.requires.known c.in_ok-whole.ensures.keeps is
     ∙ (λ i. bit_or (word old c.args.set w) (word_with (sym c.if-index-eq0.true i) c.args.bit w))
 
 pub returns-in_ok-odd-clause-set : goal.returns-in_ok-odd-clause-set
 returns-in_ok-odd-clause-set t c = λ w.
     let old = c.args.nodes.now.keys in
-    let is = c.in_ok-odd.ensures.is ∙ (λ i. record { here = (c.read-node.ensures i).here; left = c.in_ok-left.left; right = (c.read-node.ensures i).right }) in
+    let at = c.node.view_is ∙ c.read-node.ensures in
+    let is = c.in_ok-odd.ensures.is ∙ (λ i. record { here = (at i).here; left = c.in_ok-left.left; right = (at i).right }) in
     insert-left old c.insert_bit.new.nodes.keys c.number_for-then-rest-eq0.new.nodes.keys c.args.set c.in_ok-left.left c.in_ok-odd.odd c.args.index c.args.bit w
     c.requires.pool c.in_ok-left.ensures.pool c.requires.known c.in_ok-left.ensures.known c.in_ok-left.ensures.keeps c.in_ok-odd.ensures.keeps
     (pos-of c.args.index c.if-index-eq0.false) c.if-rest-eq0.true
-    (λ y. c.in_ok-left.ensures.set y ∙ (λ i. bit_or (word old (c.read-node.ensures i).left y) (word_with ((c.args.index - 1) / 2) c.args.bit y))) is
+    (λ y. c.in_ok-left.ensures.set y ∙ (λ i. bit_or (word old (at i).left y) (word_with ((c.args.index - 1) / 2) c.args.bit y))) is
 
 pub returns-in_ok-even-clause-set : goal.returns-in_ok-even-clause-set
 returns-in_ok-even-clause-set t c = λ w.
     let old = c.args.nodes.now.keys in
-    let is = c.in_ok-even.ensures.is ∙ (λ i. record { here = (c.read-node.ensures i).here; left = (c.read-node.ensures i).left; right = c.in_ok-right.right }) in
+    let at = c.node.view_is ∙ c.read-node.ensures in
+    let is = c.in_ok-even.ensures.is ∙ (λ i. record { here = (at i).here; left = (at i).left; right = c.in_ok-right.right }) in
     insert-right old c.insert_bit-else-rest-eq0.new.nodes.keys c.number_for-else-rest-eq0.new.nodes.keys c.args.set c.in_ok-right.right c.in_ok-even.even
     c.args.index c.args.bit w c.requires.pool c.in_ok-right.ensures.pool c.requires.known c.in_ok-right.ensures.known c.in_ok-right.ensures.keeps
     c.in_ok-even.ensures.keeps (pos-of c.args.index c.if-index-eq0.false) c.if-rest-eq0.false
-    (λ y. c.in_ok-right.ensures.set y ∙ (λ i. bit_or (word old (c.read-node.ensures i).right y) (word_with ((c.args.index - 1) / 2) c.args.bit y))) is
+    (λ y. c.in_ok-right.ensures.set y ∙ (λ i. bit_or (word old (at i).right y) (word_with ((c.args.index - 1) / 2) c.args.bit y))) is
 
 pub returns-then-index-eq0-clause-bounded : goal.returns-then-index-eq0-clause-bounded
 returns-then-index-eq0-clause-bounded t c = λ limit l b.

@@ -15,18 +15,20 @@ pub make_node-returns-clause-set : goal.make_node-returns-clause-set
 make_node-returns-clause-set t c = λ w.
     let old = c.args.nodes.now.keys in
     let mid = c.make.new.nodes.keys in
+    let one = c.first.view_is ∙ c.read-first.ensures in
+    let two = c.second.view_is ∙ c.read-second.ensures in
     let is = c.in_ok-both.ensures.is
     ∙ (λ i. record { here = c.joins-here.ensures i; left = c.in_ok-left.left; right = c.in_ok-right.right })
     ∙ (λ i. record {
-      here = joined_word c.args.operation (c.read-first.ensures i).here (c.read-second.ensures i).here;
+      here = joined_word c.args.operation (one i).here (two i).here;
       left = c.in_ok-left.left;
       right = c.in_ok-right.right;
     }) in
     join-set (joined_word c.args.operation) old mid c.make-2.new.nodes.keys c.number_beside.new.nodes.keys c.args.one c.args.two c.in_ok-left.left c.in_ok-right.right c.in_ok-both.both w
     c.requires.pool c.in_ok-left.ensures.pool c.in_ok-right.ensures.pool c.requires.one c.requires.two c.in_ok-left.ensures.known
     c.in_ok-right.ensures.known c.in_ok-left.ensures.keeps c.in_ok-right.ensures.keeps c.in_ok-both.ensures.keeps
-    (λ y. c.in_ok-left.ensures.set y ∙ (λ i. joined_word c.args.operation (word old (c.read-first.ensures i).left y) (word old (c.read-second.ensures i).left y)))
-    (λ y. c.in_ok-right.ensures.set y ∙ (λ i. joined_word c.args.operation (word mid (c.read-first.ensures i).right y) (word mid (c.read-second.ensures i).right y)))
+    (λ y. c.in_ok-left.ensures.set y ∙ (λ i. joined_word c.args.operation (word old (one i).left y) (word old (two i).left y)))
+    (λ y. c.in_ok-right.ensures.set y ∙ (λ i. joined_word c.args.operation (word mid (one i).right y) (word mid (two i).right y)))
     is
 
 pub make_node-returns-clause-bounded : goal.make_node-returns-clause-bounded

@@ -10,12 +10,12 @@ loop-rest-preserved c =
     let w = within-at ns c.loop-rest.at c.requires.pool c.loop-rest.invariant.0 in
     elim c.if-rest-eq0.branch [
       | then-rest-eq0 b ↦ subst (λ m. (m < length ns) × (word ns m ((c.loop-rest.rest - 1) / 2) ≡ word ns c.args.set c.args.index))
-          (sym (b.at-is ∙ ap (λ s. s.left) c.read-node.ensures))
+          (sym (b.at-is ∙ ap (λ s. s.left) (c.node.view_is ∙ c.read-node.ensures)))
           (w.left, sym (word-left ns c.loop-rest.at c.loop-rest.rest c.loop-rest-test.true b.if-rest-eq0.true) ∙ c.loop-rest.invariant.1)
       | else-rest-eq0 b ↦ subst (λ m. (m < length ns) × (word ns m ((c.loop-rest.rest - 1) / 2) ≡ word ns c.args.set c.args.index))
-          (sym (b.at-is ∙ ap (λ s. s.right) c.read-node.ensures))
+          (sym (b.at-is ∙ ap (λ s. s.right) (c.node.view_is ∙ c.read-node.ensures)))
           (w.right, sym (word-right ns c.loop-rest.at c.loop-rest.rest c.loop-rest-test.true b.if-rest-eq0.false) ∙ c.loop-rest.invariant.1)
     ]
 
 pub returns : goal.returns
-returns c = sym (sym c.loop-rest.invariant.1 ∙ word-zero c.args.nodes.now.keys c.loop-rest.at c.loop-rest.rest c.loop-rest-test.false ∙ ap (λ s. s.here) (sym c.read.ensures))
+returns c = sym (sym c.loop-rest.invariant.1 ∙ word-zero c.args.nodes.now.keys c.loop-rest.at c.loop-rest.rest c.loop-rest-test.false ∙ ap (λ s. s.here) (sym (c.result.view_is ∙ c.read.ensures)))

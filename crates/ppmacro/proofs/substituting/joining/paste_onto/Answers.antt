@@ -1,7 +1,5 @@
 use Rattle.std.proofs.Common.{◌≡◌, ◌∙◌, refl, ap, subst, if◌then◌else◌}
 use Rattle.pptext.specs.Carrying.{CarriesOn}
-use Rattle.std.specs.FinSet as set
-use Rattle.ppmacro.specs.HideSets.{set_at}
 use Rattle.ppmacro.specs.Flying.{extended}
 use Rattle.ppmacro.proofs.WholeLemmas.{carried-whole, carried-pasted, paste-whole}
 use Rattle.ppmacro.proofs.substituting.joining.paste_onto.Goals as goal
@@ -16,16 +14,11 @@ module _ (c : goal.After-turn) where
       ∙ ap (λ made. if made then extended c.args.last c.text-then-is_carried_on.result.now else c.args.last) c.if-branch.true
       ∙ ap (extended c.args.last) c.text-then-is_carried_on.ensures
 
-  met : set_at c.meet.new.self c.in_ok-hide.hide ≡ set.intersection (set_at c.args.sets.now c.extend.new.self.hide) (set_at c.args.sets.now c.args.first.now.hide)
-  met =
-      c.in_ok-hide.ensures.set
-      ∙ (λ i. set.intersection (set_at c.args.sets.now (c.hide.ensures i)) (set_at c.args.sets.now (c.hide-then-branch.ensures i)))
-
 pub returns-then-branch-clause-is : goal.returns-then-branch-clause-is
 returns-then-branch-clause-is c =
     carried-pasted c.args.last c.args.first.now c.extend.new.self c.turn.new.self c.in_ok-hide.hide c.args.used
     (c.requires.whole (c.if-is_carried_on.ensures.whole refl)) (more c) (grown c) c.turn.ensures c.args.sets.now
-    c.meet.new.self (met c)
+    c.common.new.self c.in_ok-hide.ensures.set
 
 pub returns-then-branch-clause-whole : goal.returns-then-branch-clause-whole
 returns-then-branch-clause-whole c =

@@ -2,9 +2,9 @@ use Rattle.std.proofs.Common.{rules, ◌≡◌, ◌∙◌, ◌<◌, ◌+◌, ref
 use Rattle.std.proofs.lemmas.List.{take_more_set, drop-set-lt, drop_more}
 use Rattle.ppmacro.specs.HideSets.{set_at, hidings, AllKnown}
 use Rattle.ppmacro.specs.Substitution.{gained}
-use Rattle.ppmacro.proofs.KeepLemmas.{keeps-all, known-keeps, known-append, keeps-after}
-use Rattle.ppmacro.proofs.WalkLemmas.{next-item, known-drop, gained-more}
-use Rattle.ppmacro.proofs.substituting.gain_all.Goals as goal
+use Rattle.ppmacro.proofs.KeepLemmas.{keeps-all, known-keeps, known-append, keeps-after, known-set}
+use Rattle.ppmacro.proofs.WalkLemmas.{next-item, known-drop, gained-more, within-keeps}
+use Rattle.ppmacro.proofs.substituting.gains.gain_all.Goals as goal
 
 pub loop-hidden-init : goal.loop-hidden-init
 loop-hidden-init c =
@@ -13,7 +13,7 @@ loop-hidden-init c =
       same = refl;
       rest = c.deref_mut-hidden-items.ensures.value;
       done_known = record { each = tt };
-      gains = c.requires.gains;
+      within = c.requires.within;
       keeps = keeps-all s;
     }
 
@@ -39,6 +39,7 @@ loop-hidden-preserved c =
           ∙ ap (λ hs. map (gained (set_at s c.args.gain) c.args.used) (hidings s hs)) (sym ((λ j. take (more j) start) ∙ after.0));
       rest = drop-set-lt (i + 1) now i one (omega arith) ∙ sym ((λ j. drop (more j) start) ∙ after.1);
       done_known = subst (AllKnown u) (sym made) (known-append (take i now) (one ∷ []) (known-keeps (take i now) c.in_ok-gain_one.ensures.keeps c.loop-hidden.invariant.done_known) (record { each = (c.in_ok-gain_one.ensures.known, tt) }));
-      gains = c.in_ok-gain_one.ensures.gains;
+      within = within-keeps c.args.gain c.args.base c.in_ok-gain_one.ensures.keeps (known-set c.args.gain c.loop-hidden.invariant.keeps c.requires.gain)
+          (known-set c.args.base c.loop-hidden.invariant.keeps c.requires.base) c.loop-hidden.invariant.within;
       keeps = keeps-after c.loop-hidden.invariant.keeps c.in_ok-gain_one.ensures.keeps;
     }

@@ -4,20 +4,15 @@ use Rattle.std.proofs.lemmas.Result.{on_ok_weaker}
 use Rattle.ppmacro.specs.HideSets.{set_at, hidings}
 use Rattle.ppmacro.specs.Substitution.{gained}
 use Rattle.ppmacro.proofs.Hiding.{insert-gained}
-use Rattle.ppmacro.proofs.KeepLemmas.{set-keeps, hidings-keeps, known-set}
-use Rattle.ppmacro.proofs.substituting.gain_names.Goals as goal
+use Rattle.ppmacro.proofs.KeepLemmas.{set-keeps, hidings-keeps}
+use Rattle.ppmacro.proofs.substituting.gains.gain_names.Goals as goal
 
-pub gain_all-requires-clause-gains : goal.gain_all-requires-clause-gains
-gain_all-requires-clause-gains c =
+pub gain_all-requires-clause-within : goal.gain_all-requires-clause-within
+gain_all-requires-clause-within c =
     let s = c.args.sets.now in
-    let t = c.with.new.self in
     let base = set-keeps c.args.base c.in_ok-gain.ensures.keeps c.requires.base in
     let gain = c.in_ok-gain.ensures.set in
-    c.new-gains.ensures t c.in_ok-gain.gain (record {
-      from_known = known-set c.args.base c.in_ok-gain.ensures.keeps c.requires.base;
-      to_known = c.in_ok-gain.ensures.known;
-      is = gain ∙ insert-gained (set_at s c.args.base) c.args.name.now ∙ (λ i. set.union (sym base i) (sym gain i));
-    })
+    sym (gain ∙ insert-gained (set_at s c.args.base) c.args.name.now ∙ (λ i. set.union (sym base i) (sym gain i)))
 
 pub returns-clause-is : goal.returns-clause-is
 returns-clause-is c =

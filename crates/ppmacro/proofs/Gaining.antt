@@ -1,0 +1,65 @@
+-- What hides a token that gains names, in one set or in two.
+use Rattle.std.proofs.Common.{◌≡◌, ℕ, Bool, true, false, ◌||◌, Option, Some, None, refl, sym, ap, ◌∙◌}
+use Rattle.std.specs.FinSet as set
+use Rattle.std.proofs.lemmas.Cmp.{nat_list_cmp_total}
+use Rattle.pptext.specs.declared.tokens.Place.{Place}
+use Rattle.ppmacro.specs.Names.{Name, HideSet}
+use Rattle.ppmacro.specs.Numbered.{Numbered}
+use Rattle.ppmacro.specs.HideSets.{set_at, names_in, hide_of, hiding}
+use Rattle.ppmacro.specs.Substitution.{gained}
+use Rattle.ppmacro.specs.declared.flying.Hidden.{Hidden}
+use Rattle.ppmacro.proofs.Hiding.{same-by}
+
+contains-both : (s t : HideSet) (q : Name) → set.contains (set.union s t) q ≡ (set.contains s q || set.contains t q)
+contains-both = set.contains-union nat_list_cmp_total
+
+contains-three : (s t u : HideSet) (q : Name) → set.contains (set.union (set.union s t) u) q ≡ ((set.contains s q || set.contains t q) || set.contains u q)
+contains-three s t u q = contains-both (set.union s t) u q ∙ (λ i. contains-both s t q i || set.contains u q)
+
+twice : (a : Bool) → (a || a) ≡ a
+twice true = refl
+twice false = refl
+
+second_within : (h a g : Bool) → (a || g) ≡ g → (h || g) ≡ ((h || a) || g)
+second_within true a g e = refl
+second_within false a g e = sym e
+
+first_within : (h a g : Bool) → (h || g) ≡ g → (a || g) ≡ ((h || a) || g)
+first_within true true g e = refl
+first_within true false g e = sym e
+first_within false a g e = refl
+
+at-name : (s g : HideSet) → set.union s g ≡ g → (q : Name) → (set.contains s q || set.contains g q) ≡ set.contains g q
+at-name s g e q = sym (contains-both s g q) ∙ ap (λ u. set.contains u q) e
+
+pub within-itself : (s : HideSet) → set.union s s ≡ s
+within-itself s = same-by _ _ (λ q. contains-both s s q ∙ twice (set.contains s q))
+
+-- of two sets the second is within what is gained
+pub second-within : (h a g : HideSet) → set.union a g ≡ g → set.union h g ≡ set.union (set.union h a) g
+second-within h a g e = same-by _ _ (λ q.
+    contains-both h g q
+    ∙ second_within (set.contains h q) (set.contains a q) (set.contains g q) (at-name a g e q)
+    ∙ sym (contains-three h a g q))
+
+-- of two sets the first is within what is gained
+pub first-within : (h a g : HideSet) → set.union h g ≡ g → set.union a g ≡ set.union (set.union h a) g
+first-within h a g e = same-by _ _ (λ q.
+    contains-both a g q
+    ∙ first_within (set.contains h q) (set.contains a q) (set.contains g q) (at-name h g e q)
+    ∙ sym (contains-three h a g q))
+
+-- a name of the first set hides a token, whatever stands beside it
+pub has-first : (s : Numbered) (n : ℕ) (also : Option ℕ) (q : Name) → set.contains (set_at s n) q ≡ true → set.contains (names_in s n also) q ≡ true
+has-first s n None q e = e
+has-first s n (Some m) q e = contains-both (set_at s n) (set_at s m) q ∙ ap (λ b. b || set.contains (set_at s m) q) e
+
+-- and else a name of the second
+pub has-second : (s : Numbered) (n m : ℕ) (q : Name) → set.contains (set_at s n) q ≡ false → set.contains (names_in s n (Some m)) q ≡ set.contains (set_at s m) q
+has-second s n m q e = contains-both (set_at s n) (set_at s m) q ∙ ap (λ b. b || set.contains (set_at s m) q) e
+
+pub gained-turn : (s t : Numbered) (old new : Hidden) (used : Place) (n : ℕ) (also : Option ℕ) (g : HideSet)
+    → new ≡ record { token = record old.token { used = used }; hide = n; also = also }
+    → names_in t n also ≡ set.union (hide_of s old) g
+    → hiding t new ≡ gained g used (hiding s old)
+gained-turn s t old new used n also g is names = ap (hiding t) is ∙ (λ i. record { token = record old.token { used = used }; hide = names i })
