@@ -52,7 +52,7 @@ pub(crate) fn direct_symbols(
     table: &Table,
     tokens: &[Token],
 ) -> Result<Option<Vec<Symbol>>, AllocError>
-    ensures { IfOk result (λ r. IfSome r (λ v. StandFor table.now tokens.now (v.items))) }
+    ensures { IfOk result (λ r. IfSome r (λ v. StandFor table.now tokens.now v.items)) }
 {
     let mut symbols = Vec::with_capacity(alloc, tokens.len())?;
     let mut rest = tokens;

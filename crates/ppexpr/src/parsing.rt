@@ -253,9 +253,7 @@ impl Parser {
 /// What an expression comes to; None where the symbols are none (6.5, 6.6).
 /// Each symbol is pending at most once, so the time is linear in their number.
 pub(crate) fn parse(alloc: Global, symbols: &[Symbol]) -> Result<Option<Outcome>, AllocError>
-    ensures { IfOk result (λ r.
-        MatchOption r (¬ IsExpression symbols.now)
-        (λ o. Denotes symbols.now o)) }
+    ensures { IfOk result (λ r. MatchOption r (¬ IsExpression symbols.now) (Denotes symbols.now)) }
 {
     let mut parser = Parser {
         pending: Vec::new(alloc),
