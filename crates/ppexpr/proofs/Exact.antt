@@ -2,18 +2,13 @@
 use Rattle.std.proofs.Common.{◌≡◌, ℕ, suc, ◌<◌, ◌≤◌, List, [], length, get_or, drop, refl, sym, ap, subst, ◌∙◌, drop-cons}
 use Rattle.std.specs.Prelude.{Option, Some, None, MatchOption, IfSome, option_and_then}
 use Rattle.std.proofs.lemmas.List.{drop_all}
-use Rattle.std.specs.Option.{option_map}
-use Rattle.ppexpr.specs.declared.symbols.Symbol.{Symbol as CodeSymbol}
-use Rattle.ppexpr.specs.declared.symbols.Outcome.{Outcome as CodeOutcome}
 use Rattle.ppexpr.specs.Symbols.{Symbol}
 use Rattle.ppexpr.specs.Outcomes.{Outcome}
-use Rattle.ppexpr.specs.Meant.{symbol_meant, outcome_meant, symbols_meant}
 use Rattle.ppexpr.specs.Trees.{Tree, Leaf, Applied, Joined, Chosen}
 use Rattle.ppexpr.specs.Grammar.{IsExpression}
 use Rattle.ppexpr.specs.Values.{unary_outcome, binary_outcome, choice_outcome, outcome_of}
 use Rattle.ppexpr.specs.Reading.{Denotes}
-use Rattle.ppexpr.specs.Pending.{State, step, finish}
-use Rattle.ppexpr.specs.Frames.{outcomes}
+use Rattle.ppexpr.specs.Pending.{State, outcomes, step, finish}
 use Rattle.ppexpr.proofs.Complete.{meaning, complete}
 use Rattle.ppexpr.proofs.Sound.{Means, sound}
 use Rattle.ppexpr.proofs.Machine.{run}
@@ -38,27 +33,20 @@ exact s (Some z) e = denoted (subst (λ q. IfSome q (Means outcomes s)) e (sound
     denoted : Means outcomes s z → Denotes s z
     denoted h = (h.0, h.1, sym (meaning-outcomes h.0) ∙ sym h.2)
 
--- the machine stops at a symbol of the code's
-pub stopped : (s : List CodeSymbol) (p : State Outcome) (k : ℕ) (d : CodeSymbol)
+-- the machine stops at a symbol
+pub stopped : (s : List Symbol) (p : State Outcome) (k : ℕ) (d : Symbol)
     → k < length s
-    → run outcomes p (symbols_meant (drop k s)) ≡ run outcomes ([], None) (symbols_meant s)
-    → step outcomes p (symbol_meant (get_or s k d)) ≡ None
-    → ¬ IsExpression (symbols_meant s)
+    → run outcomes p (drop k s) ≡ run outcomes ([], None) s
+    → step outcomes p (get_or s k d) ≡ None
+    → ¬ IsExpression s
 stopped s p k d h e f =
-    let here = ap (λ l. run outcomes p (symbols_meant l)) (drop-cons s k d h) in
-    no_answer (symbols_meant s) (sym e ∙ here ∙ ap (λ t. option_and_then (λ q. run outcomes q (symbols_meant (drop (suc k) s))) t) f)
+    let here = ap (run outcomes p) (drop-cons s k d h) in
+    no_answer s (sym e ∙ here ∙ ap (λ t. option_and_then (λ q. run outcomes q (drop (suc k) s)) t) f)
 
 -- the machine is behind the last symbol
-pub ended : (s : List CodeSymbol) (p : State Outcome) (k : ℕ) (r : Option CodeOutcome)
+pub ended : (s : List Symbol) (p : State Outcome) (k : ℕ) (r : Option Outcome)
     → length s ≤ k
-    → run outcomes p (symbols_meant (drop k s)) ≡ run outcomes ([], None) (symbols_meant s)
-    → option_map outcome_meant r ≡ finish outcomes p
-    → MatchOption r (¬ IsExpression (symbols_meant s)) (λ o. Denotes (symbols_meant s) (outcome_meant o))
-ended s p k r h e f =
-    answered r (exact (symbols_meant s) (option_map outcome_meant r) (sym e ∙ ap (λ l. run outcomes p (symbols_meant l)) (drop_all k s h) ∙ sym f))
-  where
-    answered : (q : Option CodeOutcome)
-        → MatchOption (option_map outcome_meant q) (¬ IsExpression (symbols_meant s)) (Denotes (symbols_meant s))
-        → MatchOption q (¬ IsExpression (symbols_meant s)) (λ o. Denotes (symbols_meant s) (outcome_meant o))
-    answered None m = m
-    answered (Some o) m = m
+    → run outcomes p (drop k s) ≡ run outcomes ([], None) s
+    → r ≡ finish outcomes p
+    → MatchOption r (¬ IsExpression s) (Denotes s)
+ended s p k r h e f = exact s r (sym e ∙ ap (run outcomes p) (drop_all k s h) ∙ sym f)

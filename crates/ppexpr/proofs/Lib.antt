@@ -22,7 +22,7 @@ pub mod Asked
 pub mod SymbolSteps
 -- The steps of a condition.
 pub mod ConditionSteps
--- How deep the code's symbols are nested, by counts of them.
+-- How deep symbols are nested, by counts of them.
 pub mod Nested
 -- Few symbols are not nested too deep.
 pub mod Shallow

@@ -17,9 +17,9 @@ use Rattle.ppexpr.specs.Symbols.{Symbol}
 use Rattle.ppexpr.specs.Outcomes.{Outcome}
 use Rattle.ppexpr.specs.Grammar.{IsExpression}
 use Rattle.ppexpr.specs.Reading.{Denotes}
-use Rattle.ppexpr.specs.Frames.{outcomes}
 use Rattle.ppexpr.specs.Asking.{is_defined, Operand, operand, answer, Asks, nothing, other, question}
 use Rattle.ppexpr.specs.Tokens.{symbols_of}
+use Rattle.ppexpr.specs.Pending.{outcomes}
 use Rattle.ppexpr.specs.Nesting.{is_open, is_close, is_question, is_sign, IsTooNested}
 use Rattle.ppexpr.specs.Conditions.{Condition, taken, Evaluates, no_expression, has_value, Judges, too_nested, not_nested, Decides, made_defined, bad_constant, constants, IsCondition, ill_formed, not_replaced, replaced}
 use Rattle.ppexpr.proofs.Asked.{Begins, begins_other, begins_question, asks_none}

@@ -1,13 +1,11 @@
 -- The symbols of the tokens so far.
 use Rattle.std.proofs.Common.{suc, ◌≡◌, ℕ, ◌+◌, ◌<◌, ◌≤◌, List, [], ◌∷◌, ◌++◌, length, drop, get_or, Ok, Err, append_assoc, add-one, drop-cons, sym, ap, ◌∙◌, refl}
-use Rattle.std.proofs.lemmas.List.{append-nil, drop_all, map_push}
+use Rattle.std.proofs.lemmas.List.{append-nil, drop_all}
 use Rattle.pptext.specs.declared.tokens.Place.{Place}
 use Rattle.pptext.specs.declared.tokens.Token.{Token}
 use Rattle.pptext.specs.declared.tokens.Fault.{Fault}
 use Rattle.std.specs.Prelude.{Result}
 use Rattle.ppexpr.specs.Symbols.{Symbol}
-use Rattle.ppexpr.specs.declared.symbols.Symbol.{Symbol as CodeSymbol}
-use Rattle.ppexpr.specs.Meant.{symbol_meant, symbols_meant}
 use Rattle.ppexpr.specs.Tokens.{symbol_of, before, symbols_of}
 
 -- these symbols, and then those
@@ -24,29 +22,29 @@ next at ts i t h e =
     let split : drop i ts ≡ t ∷ drop (i + 1) ts = rw (add-one, drop-cons ts i t) (ap (λ x. x ∷ drop (suc i) ts) (sym e)) in
     ap (symbols_of at) split
 
-pub symbols_more : (at : Place) (ts : List Token) (i : ℕ) (t : Token) (ss : List CodeSymbol) (s : CodeSymbol)
+pub symbols_more : (at : Place) (ts : List Token) (i : ℕ) (t : Token) (ss : List Symbol) (s : Symbol)
     → i < length ts
     → t ≡ get_or ts i t
-    → symbols_of at ts ≡ led (symbols_meant ss) (symbols_of at (drop i ts))
-    → Ok (symbol_meant s) ≡ symbol_of at t
-    → symbols_of at ts ≡ led (symbols_meant (ss ++ s ∷ [])) (symbols_of at (drop (i + 1) ts))
+    → symbols_of at ts ≡ led ss (symbols_of at (drop i ts))
+    → Ok s ≡ symbol_of at t
+    → symbols_of at ts ≡ led (ss ++ s ∷ []) (symbols_of at (drop (i + 1) ts))
 symbols_more at ts i t ss s h e f g =
     let rest = symbols_of at (drop (i + 1) ts) in
-    let onward = ap (led (symbols_meant ss)) (next at ts i t h e ∙ ap (λ x. before x rest) (sym g)) in
-    f ∙ (onward ∙ (led_before (symbols_meant ss) (symbol_meant s) rest ∙ ap (λ x. led x rest) (sym (map_push symbol_meant ss s))))
+    let onward = ap (led ss) (next at ts i t h e ∙ ap (λ x. before x rest) (sym g)) in
+    f ∙ (onward ∙ led_before ss s rest)
 
-pub symbols_fault : (at : Place) (ts : List Token) (i : ℕ) (t : Token) (ss : List CodeSymbol) (q : Fault)
+pub symbols_fault : (at : Place) (ts : List Token) (i : ℕ) (t : Token) (ss : List Symbol) (q : Fault)
     → i < length ts
     → t ≡ get_or ts i t
-    → symbols_of at ts ≡ led (symbols_meant ss) (symbols_of at (drop i ts))
+    → symbols_of at ts ≡ led ss (symbols_of at (drop i ts))
     → Err q ≡ symbol_of at t
     → Err q ≡ symbols_of at ts
 symbols_fault at ts i t ss q h e f g =
-    sym (f ∙ ap (led (symbols_meant ss)) (next at ts i t h e ∙ ap (λ x. before x (symbols_of at (drop (i + 1) ts))) (sym g)))
+    sym (f ∙ ap (led ss) (next at ts i t h e ∙ ap (λ x. before x (symbols_of at (drop (i + 1) ts))) (sym g)))
 
-pub symbols_end : (at : Place) (ts : List Token) (i : ℕ) (ss : List CodeSymbol)
+pub symbols_end : (at : Place) (ts : List Token) (i : ℕ) (ss : List Symbol)
     → length ts ≤ i
-    → symbols_of at ts ≡ led (symbols_meant ss) (symbols_of at (drop i ts))
-    → Ok (symbols_meant ss) ≡ symbols_of at ts
+    → symbols_of at ts ≡ led ss (symbols_of at (drop i ts))
+    → Ok ss ≡ symbols_of at ts
 symbols_end at ts i ss h f =
-    sym (f ∙ (ap (λ x. led (symbols_meant ss) (symbols_of at x)) (drop_all i ts h) ∙ ap (λ x. Ok x) (append-nil (symbols_meant ss))))
+    sym (f ∙ (ap (λ x. led ss (symbols_of at x)) (drop_all i ts h) ∙ ap (λ x. Ok x) (append-nil ss)))

@@ -4,10 +4,8 @@ pub mod Outcomes
 pub mod Symbols
 pub mod Trees
 pub mod Values
-pub mod Meant
 pub mod Grammar
 pub mod Pending
-pub mod Frames
 pub mod Reading
 pub mod Integers
 pub mod Characters

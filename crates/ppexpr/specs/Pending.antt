@@ -1,10 +1,11 @@
 -- Reading an expression from the left with a stack of what still waits for its last operand: what the parser's own functions
 -- say of their steps. No definition rests on this file: what is read is said by the grammar alone.
-use Rattle.std.specs.Prelude.{ℕ, List, [], ◌∷◌, Option, Some, None, nat_le, if◌then◌else◌}
-use Rattle.ppexpr.specs.Outcomes.{Value}
+use Rattle.std.specs.Prelude.{◌≡◌, ℕ, Bool, List, [], ◌∷◌, Option, Some, None, nat_le, if◌then◌else◌}
+use Rattle.ppexpr.specs.Outcomes.{Value, Outcome}
 use Rattle.ppexpr.specs.Symbols.{Symbol, Constant, Operator, Open, Close, Question, Colon, unary_of, binary_of}
 use Rattle.ppexpr.specs.Operations.{Unary, Binary}
 use Rattle.ppexpr.specs.Grammar.{level_of}
+use Rattle.ppexpr.specs.Values.{constant_outcome, unary_outcome, binary_outcome, choice_outcome}
 
 -- What the trees come to, whatever it is: outcomes, or the trees themselves.
 pub record Meaning (A : Type 0) : Type 0 where
@@ -12,6 +13,9 @@ pub record Meaning (A : Type 0) : Type 0 where
   pub applied : Unary → A → A
   pub joined : Binary → A → A → A
   pub chosen : A → A → A → A
+
+abbrev pub outcomes : Meaning Outcome
+outcomes = record { leaf = constant_outcome; applied = unary_outcome; joined = binary_outcome; chosen = choice_outcome }
 
 -- What waits: an opening parenthesis, an operator for its last operand (with the operands that it has), or a condition for its `:`.
 pub data Frame (A : Type 0) : Type 0 where
@@ -80,6 +84,10 @@ step m (fs, Some z) Question = Some (Test (settled m 2 fs z) ∷ kept 2 fs, None
 step m (fs, Some z) Colon = between (kept 1 fs) (settled m 1 fs z)
 step m (fs, Some z) Close = closed (kept 1 fs) (settled m 1 fs z)
 step m (fs, Some z) s = None
+
+-- the parser takes the symbol, or there is no step
+abbrev pub Takes : State Outcome → Symbol → Bool → State Outcome → Type 0
+Takes old s more new = step outcomes old s ≡ (if more then Some new else None)
 
 abbrev pub finish : {A : Type 0} → Meaning A → State A → Option A
 finish m (fs, None) = None

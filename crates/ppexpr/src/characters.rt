@@ -2,9 +2,7 @@
 ghost use Rattle.std.specs.Prelude.{◌≡◌, ◌<◌, ◌≤◌, ◌^◌, MatchOption, IfSome, None, Some};
 ghost use Rattle.ppexpr.specs.Characters.{quoted, simple_escape, are_digits, is_octal_escape, is_hexadecimal_escape, other_escape, escape, character};
 ghost use Rattle.ppexpr.specs.Characters.{of_type, character_of};
-ghost use Rattle.ppexpr.specs.Meant.{value_meant};
 ghost use Rattle.std.specs.List.{list_all};
-ghost use Rattle.std.specs.Option.{option_map};
 ghost use Rattle.std.specs.Char.{is_digit};
 
 use crate::integers::{is_digit, number};
@@ -103,7 +101,7 @@ fn character(text: &[u8]) -> Option<u64>
 // The constant of this type, by its spelling without a prefix.
 fn of_type(greatest: u64, unsigned: bool, text: &[u8]) -> Option<Value>
     requires { greatest < 2 ^ 63 }
-    ensures { option_map value_meant result ≡ of_type greatest unsigned text.now }
+    ensures { result ≡ of_type greatest unsigned text.now }
 {
     let body = quoted(text)?;
     let number = character(body)?;
@@ -111,15 +109,15 @@ fn of_type(greatest: u64, unsigned: bool, text: &[u8]) -> Option<Value>
         return None;
     }
     Some(if unsigned {
-        Value::Unsigned(number)
+        Value::unsigned(number)
     } else {
-        Value::Signed(number as i64)
+        Value::signed(number as i64)
     })
 }
 
 /// The value of a character constant with its type, if it has one.
 pub(crate) fn character_of(text: &[u8]) -> Option<Value>
-    ensures { option_map value_meant result ≡ character_of text.now }
+    ensures { result ≡ character_of text.now }
 {
     match text {
         [b'u', rest @ ..] => of_type(65535, true, rest),

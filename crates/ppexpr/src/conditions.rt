@@ -3,7 +3,6 @@ ghost use Rattle.std.specs.Prelude.{◌≡◌, IfOk};
 ghost use Rattle.std.specs.List.{list_any};
 ghost use Rattle.pptext.specs.Stops.{IfSettled};
 ghost use Rattle.ppexpr.specs.Asking.{is_defined};
-ghost use Rattle.ppexpr.specs.Meant.{failure_meant, answer_meant, symbols_meant};
 ghost use Rattle.ppexpr.specs.Conditions.{failure_fault, taken, Evaluates, Judges, Decides, IsCondition};
 
 use crate::asking::{asked, is_defined};
@@ -11,7 +10,7 @@ use crate::definitions::definitions_hold;
 use crate::direct::direct_symbols;
 use crate::nesting::is_too_nested;
 use crate::parsing::parse;
-use crate::symbols::{Failure, Symbol, Value};
+use crate::symbols::{Failure, FailureKind, Symbol, Value};
 use crate::tokens::symbols_of;
 use ppexpand::{Env, Expanded, Run, expand};
 use ppmacro::Table;
@@ -20,18 +19,19 @@ use std::alloc::{AllocError, Global};
 
 // The fault of an expression without a value.
 fn failure_fault(alloc: Global, at: Place, failure: Failure) -> Result<Fault, AllocError>
-    ensures { IfOk result (λ f. f ≡ failure_fault at (failure_meant failure)) }
+    ensures { IfOk result (λ f. f ≡ failure_fault at failure) }
 {
-    match failure {
-        Failure::ZeroDivisor(operator) => Fault::new(alloc, 26, at, operator.spelling()),
-        Failure::Overflow(operator) => Fault::new(alloc, 27, at, operator.spelling()),
-        Failure::Shift(operator) => Fault::new(alloc, 28, at, operator.spelling()),
+    let kind = failure.kind;
+    match kind {
+        FailureKind::ZeroDivisor(operator) => Fault::new(alloc, 26, at, operator.spelling()),
+        FailureKind::Overflow(operator) => Fault::new(alloc, 27, at, operator.spelling()),
+        FailureKind::Shift(operator) => Fault::new(alloc, 28, at, operator.spelling()),
     }
 }
 
 // Whether the value is not 0.
 fn taken(alloc: Global, at: Place, value: Result<Value, Failure>) -> Result<bool, Stop>
-    ensures { IfSettled result (λ c. c ≡ taken at (answer_meant value)) }
+    ensures { IfSettled result (λ c. c ≡ taken at value) }
 {
     match value {
         Ok(value) => Ok(!value.is_zero()),
@@ -41,7 +41,7 @@ fn taken(alloc: Global, at: Place, value: Result<Value, Failure>) -> Result<bool
 
 // The condition of symbols that are nested no deeper than is allowed.
 fn evaluate_symbols(alloc: Global, at: Place, symbols: &[Symbol]) -> Result<bool, Stop>
-    ensures { IfSettled result (λ c. Evaluates at (symbols_meant symbols.now) c) }
+    ensures { IfSettled result (λ c. Evaluates at symbols.now c) }
 {
     let Some(outcome) = parse(alloc, symbols)? else {
         return Err(Stop::Fault(Fault::bare(23, at)));
@@ -51,7 +51,7 @@ fn evaluate_symbols(alloc: Global, at: Place, symbols: &[Symbol]) -> Result<bool
 
 // The condition of symbols.
 fn judge(alloc: Global, at: Place, symbols: &[Symbol]) -> Result<bool, Stop>
-    ensures { IfSettled result (λ c. Judges at (symbols_meant symbols.now) c) }
+    ensures { IfSettled result (λ c. Judges at symbols.now c) }
 {
     if is_too_nested(symbols) {
         return Err(Stop::Fault(Fault::bare(29, at)));

@@ -1,7 +1,6 @@
 // The symbols of a condition in which nothing is replaced, as in most.
 ghost use Rattle.std.specs.Prelude.{◌∷◌, IfOk, IfSome};
 ghost use Rattle.ppexpr.specs.Direct.{StandsFor, BeginsWith, StandFor};
-ghost use Rattle.ppexpr.specs.Meant.{symbol_meant, symbols_meant};
 
 use crate::asking::{is_defined, is_macro_name, operand};
 use crate::characters::character_of;
@@ -14,7 +13,7 @@ use std::alloc::{AllocError, Global};
 
 // The symbol of a token, where no macro replaces it and it has one.
 fn symbol_as_is(table: &Table, token: &Token) -> Option<Symbol>
-    ensures { IfSome result (λ s. StandsFor table.now token.now (symbol_meant s)) }
+    ensures { IfSome result (λ s. StandsFor table.now token.now s) }
 {
     let text = token.text.as_bytes();
     match token.kind {
@@ -22,11 +21,11 @@ fn symbol_as_is(table: &Table, token: &Token) -> Option<Symbol>
             if is_macro_name(table, token) {
                 return None;
             }
-            Some(Symbol::Constant(Value::Signed(0)))
+            Some(Symbol::constant(Value::signed(0)))
         }
         Kind::Punct => Some(punctuator(text)),
-        Kind::Number => Some(Symbol::Constant(integer_of(text)?)),
-        Kind::CharConst => Some(Symbol::Constant(character_of(text)?)),
+        Kind::Number => Some(Symbol::constant(integer_of(text)?)),
+        Kind::CharConst => Some(Symbol::constant(character_of(text)?)),
         _ => None,
     }
 }
@@ -37,14 +36,14 @@ fn first_symbol<'x>(
     first: &'x Token,
     behind: &'x [Token],
 ) -> Option<(Symbol, &'x [Token])>
-    ensures { IfSome result (λ r. BeginsWith table.now (first.now ∷ behind.now) (symbol_meant r.0) r.1.now) }
+    ensures { IfSome result (λ r. BeginsWith table.now (first.now ∷ behind.now) r.0 r.1.now) }
 {
     if !is_defined(first) {
         return Some((symbol_as_is(table, first)?, behind));
     }
     let (name, behind) = operand(behind)?;
     let value = Value::truth(is_macro_name(table, name));
-    Some((Symbol::Constant(value), behind))
+    Some((Symbol::constant(value), behind))
 }
 
 /// The symbols that tokens stand for as they are; None where a macro is replaced or a fault is to be told.
@@ -53,16 +52,16 @@ pub(crate) fn direct_symbols(
     table: &Table,
     tokens: &[Token],
 ) -> Result<Option<Vec<Symbol>>, AllocError>
-    ensures { IfOk result (λ r. IfSome r (λ v. StandFor table.now tokens.now (symbols_meant v.items))) }
+    ensures { IfOk result (λ r. IfSome r (λ v. StandFor table.now tokens.now v.items)) }
 {
     let mut symbols = Vec::with_capacity(alloc, tokens.len())?;
     let mut rest = tokens;
     while let Some((first, behind)) = rest.split_first() {
-        let Some((symbol, behind)) = first_symbol(table, first, behind) else {
+        let Some(begun) = first_symbol(table, first, behind) else {
             return Ok(None);
         };
-        symbols.push(symbol)?;
-        rest = behind;
+        symbols.push(begun.0)?;
+        rest = begun.1;
     }
     Ok(Some(symbols))
 }

@@ -2,8 +2,6 @@
 ghost use Rattle.std.specs.Prelude.{◌≡◌, length, ◌≤◌, ◌^◌, ◌<◌, MatchOption};
 ghost use Rattle.ppexpr.specs.Integers.{digits_len, number, is_one_of, plain_suffixes, unsigned_suffixes, typed, in_base};
 ghost use Rattle.ppexpr.specs.Integers.{integer_of};
-ghost use Rattle.ppexpr.specs.Meant.{value_meant};
-ghost use Rattle.std.specs.Option.{option_map};
 ghost use Rattle.std.specs.Char.{is_digit, digit_value};
 
 use crate::symbols::Value;
@@ -68,27 +66,27 @@ fn is_unsigned_suffix(text: &[u8]) -> bool
 
 // The constant of this number and suffix.
 fn typed(decimal: bool, suffix: &[u8], number: u64) -> Option<Value>
-    ensures { option_map value_meant result ≡ typed decimal suffix.now number }
+    ensures { result ≡ typed decimal suffix.now number }
 {
     if is_unsigned_suffix(suffix) {
-        return Some(Value::Unsigned(number));
+        return Some(Value::unsigned(number));
     }
     if !is_plain_suffix(suffix) {
         return None;
     }
     if number < 1 << 63 {
-        return Some(Value::Signed(number as i64));
+        return Some(Value::signed(number as i64));
     }
     if decimal {
         return None;
     }
-    Some(Value::Unsigned(number))
+    Some(Value::unsigned(number))
 }
 
 // The constant that is spelled so behind its prefix.
 fn in_base(base: u32, decimal: bool, text: &[u8]) -> Option<Value>
     requires { 0 < base }
-    ensures { option_map value_meant result ≡ in_base base decimal text.now }
+    ensures { result ≡ in_base base decimal text.now }
 {
     let len = digits_len(base, text);
     if len == 0 {
@@ -100,7 +98,7 @@ fn in_base(base: u32, decimal: bool, text: &[u8]) -> Option<Value>
 
 /// The value of an integer constant with its type, if the spelling is one.
 pub(crate) fn integer_of(text: &[u8]) -> Option<Value>
-    ensures { option_map value_meant result ≡ integer_of text.now }
+    ensures { result ≡ integer_of text.now }
 {
     if text.starts_with(b"0x") || text.starts_with(b"0X") {
         in_base(16, false, &text[2..])

@@ -1,23 +1,23 @@
 // How deep an expression is nested.
 ghost use Rattle.std.specs.Prelude.{◌≡◌, ◌↔◌, IsTrue, count_by};
 ghost use Rattle.ppexpr.specs.Nesting.{is_question, is_sign, NestsParentheses, NestsSigns, IsTooNested};
-ghost use Rattle.ppexpr.specs.Meant.{symbol_meant, symbols_meant};
 
-use crate::symbols::{Operator, Symbol};
+use crate::operators::OperatorKind;
+use crate::symbols::{Symbol, SymbolKind};
 
 // The most levels of one kind.
 const MOST: usize = 256;
 
 // Whether some beginning has too many more `(` than `)`.
 fn nests_parentheses(symbols: &[Symbol]) -> bool
-    ensures { IsTrue result ↔ NestsParentheses (symbols_meant symbols.now) }
+    ensures { IsTrue result ↔ NestsParentheses symbols.now }
 {
     let mut open: usize = 0;
     let mut close: usize = 0;
     for symbol in symbols {
-        match symbol {
-            Symbol::Open => open += 1,
-            Symbol::Close => close += 1,
+        match symbol.kind {
+            SymbolKind::Open => open += 1,
+            SymbolKind::Close => close += 1,
             _ => {}
         }
         if open.saturating_sub(close) > MOST {
@@ -29,27 +29,30 @@ fn nests_parentheses(symbols: &[Symbol]) -> bool
 
 // How many conditional operators there are.
 fn questions(symbols: &[Symbol]) -> usize
-    ensures { result ≡ count_by is_question (symbols_meant symbols.now) }
+    ensures { result ≡ count_by is_question symbols.now }
 {
     symbols
         .iter()
-        .filter(|symbol| matches!(symbol, Symbol::Question))
+        .filter(|symbol| matches!(symbol.kind, SymbolKind::Question))
         .count()
 }
 
 // Whether a symbol is `+ - ~ !`.
 fn is_sign(symbol: &Symbol) -> bool
-    ensures { result ≡ is_sign (symbol_meant symbol.now) }
+    ensures { result ≡ is_sign symbol.now }
 {
+    let SymbolKind::Operator(operator) = symbol.kind else {
+        return false;
+    };
     matches!(
-        symbol,
-        Symbol::Operator(Operator::Plus | Operator::Minus | Operator::Tilde | Operator::Bang)
+        operator.kind,
+        OperatorKind::Plus | OperatorKind::Minus | OperatorKind::Tilde | OperatorKind::Bang
     )
 }
 
 // Whether too many signs stand side by side.
 fn nests_signs(symbols: &[Symbol]) -> bool
-    ensures { IsTrue result ↔ NestsSigns (symbols_meant symbols.now) }
+    ensures { IsTrue result ↔ NestsSigns symbols.now }
 {
     let mut signs: usize = 0;
     for symbol in symbols {
@@ -67,7 +70,7 @@ fn nests_signs(symbols: &[Symbol]) -> bool
 
 /// Whether an expression is nested over 256 levels deep, by parentheses, conditional operators or signs.
 pub(crate) fn is_too_nested(symbols: &[Symbol]) -> bool
-    ensures { IsTrue result ↔ IsTooNested (symbols_meant symbols.now) }
+    ensures { IsTrue result ↔ IsTooNested symbols.now }
 {
     // Few symbols can't be nested so deep.
     if symbols.len() <= MOST {

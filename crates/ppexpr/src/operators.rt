@@ -1,78 +1,314 @@
-// Operators: how they are spelled, and what they may stand for.
+// Operators: how they are spelled, and what they may stand for. Each type is an enum in a struct, whose model is the value of the
+// definitions: `rt` takes no model for an enum.
 ghost use Rattle.std.specs.Prelude.{◌≡◌};
 ghost use Rattle.ppexpr.specs.Tokens.{spelling_of};
 ghost use Rattle.ppexpr.specs.Symbols.{unary_of, binary_of};
-ghost use Rattle.ppexpr.specs.Meant.{operator_meant, unary_meant, binary_meant};
-ghost use Rattle.std.specs.Option.{option_map};
 
-use crate::symbols::{Binary, Operator, Unary};
+use std::marker::Model;
+
+/// An operator by its spelling (6.4.6): `+` and `-` stand before an operand or between two.
+#[derive(Clone, Copy)]
+pub(crate) struct Operator {
+    pub(crate) kind: OperatorKind,
+}
+
+/// Which operator it is.
+#[derive(Clone, Copy)]
+pub(crate) enum OperatorKind {
+    Plus,
+    Minus,
+    Tilde,
+    Bang,
+    Star,
+    Slash,
+    Percent,
+    ShiftLeft,
+    ShiftRight,
+    Less,
+    Greater,
+    LessOrEqual,
+    GreaterOrEqual,
+    Equal,
+    NotEqual,
+    Ampersand,
+    Caret,
+    Bar,
+    And,
+    Or,
+}
+
+impl Model for Operator {
+    ghost use Rattle.ppexpr.specs.Operators as definitions;
+    ghost use Rattle.ppexpr.specs.declared.operators.OperatorKind.TheVariants as code;
+
+    ghost Value = { definitions.Operator };
+
+    ghost view = { λ o. elim o.kind [
+      | code.Plus ↦ definitions.Plus
+      | code.Minus ↦ definitions.Minus
+      | code.Tilde ↦ definitions.Tilde
+      | code.Bang ↦ definitions.Bang
+      | code.Star ↦ definitions.Star
+      | code.Slash ↦ definitions.Slash
+      | code.Percent ↦ definitions.Percent
+      | code.ShiftLeft ↦ definitions.ShiftLeft
+      | code.ShiftRight ↦ definitions.ShiftRight
+      | code.Less ↦ definitions.Less
+      | code.Greater ↦ definitions.Greater
+      | code.LessOrEqual ↦ definitions.LessOrEqual
+      | code.GreaterOrEqual ↦ definitions.GreaterOrEqual
+      | code.Equal ↦ definitions.Equal
+      | code.NotEqual ↦ definitions.NotEqual
+      | code.Ampersand ↦ definitions.Ampersand
+      | code.Caret ↦ definitions.Caret
+      | code.Bar ↦ definitions.Bar
+      | code.And ↦ definitions.And
+      | code.Or ↦ definitions.Or
+    ] };
+
+    ghost inverse = { λ o. record {
+      kind = elim o [
+        | definitions.Plus ↦ code.Plus
+        | definitions.Minus ↦ code.Minus
+        | definitions.Tilde ↦ code.Tilde
+        | definitions.Bang ↦ code.Bang
+        | definitions.Star ↦ code.Star
+        | definitions.Slash ↦ code.Slash
+        | definitions.Percent ↦ code.Percent
+        | definitions.ShiftLeft ↦ code.ShiftLeft
+        | definitions.ShiftRight ↦ code.ShiftRight
+        | definitions.Less ↦ code.Less
+        | definitions.Greater ↦ code.Greater
+        | definitions.LessOrEqual ↦ code.LessOrEqual
+        | definitions.GreaterOrEqual ↦ code.GreaterOrEqual
+        | definitions.Equal ↦ code.Equal
+        | definitions.NotEqual ↦ code.NotEqual
+        | definitions.Ampersand ↦ code.Ampersand
+        | definitions.Caret ↦ code.Caret
+        | definitions.Bar ↦ code.Bar
+        | definitions.And ↦ code.And
+        | definitions.Or ↦ code.Or
+      ];
+    } };
+}
+
+/// An operator before its operand (6.5.3.3).
+#[derive(Clone, Copy)]
+pub(crate) struct Unary {
+    pub(crate) kind: UnaryKind,
+}
+
+/// What it does.
+#[derive(Clone, Copy)]
+pub(crate) enum UnaryKind {
+    Plus,
+    Minus,
+    Complement,
+    Not,
+}
+
+impl Model for Unary {
+    ghost use Rattle.ppexpr.specs.Operations as definitions;
+    ghost use Rattle.ppexpr.specs.declared.operators.UnaryKind.TheVariants as code;
+
+    ghost Value = { definitions.Unary };
+
+    ghost view = { λ o. elim o.kind [
+      | code.Plus ↦ definitions.Plus
+      | code.Minus ↦ definitions.Minus
+      | code.Complement ↦ definitions.Complement
+      | code.Not ↦ definitions.Not
+    ] };
+
+    ghost inverse = { λ o. record {
+      kind = elim o [
+        | definitions.Plus ↦ code.Plus
+        | definitions.Minus ↦ code.Minus
+        | definitions.Complement ↦ code.Complement
+        | definitions.Not ↦ code.Not
+      ];
+    } };
+}
+
+/// An operator between its operands (6.5.5 to 6.5.14).
+#[derive(Clone, Copy)]
+pub(crate) struct Binary {
+    pub(crate) kind: BinaryKind,
+}
+
+/// What it does.
+#[derive(Clone, Copy)]
+pub(crate) enum BinaryKind {
+    Multiply,
+    Divide,
+    Remainder,
+    Add,
+    Subtract,
+    ShiftLeft,
+    ShiftRight,
+    Less,
+    Greater,
+    LessOrEqual,
+    GreaterOrEqual,
+    Equal,
+    NotEqual,
+    BitAnd,
+    BitXor,
+    BitOr,
+    And,
+    Or,
+}
+
+impl Model for Binary {
+    ghost use Rattle.ppexpr.specs.Operations as definitions;
+    ghost use Rattle.ppexpr.specs.declared.operators.BinaryKind.TheVariants as code;
+
+    ghost Value = { definitions.Binary };
+
+    ghost view = { λ o. elim o.kind [
+      | code.Multiply ↦ definitions.Multiply
+      | code.Divide ↦ definitions.Divide
+      | code.Remainder ↦ definitions.Remainder
+      | code.Add ↦ definitions.Add
+      | code.Subtract ↦ definitions.Subtract
+      | code.ShiftLeft ↦ definitions.ShiftLeft
+      | code.ShiftRight ↦ definitions.ShiftRight
+      | code.Less ↦ definitions.Less
+      | code.Greater ↦ definitions.Greater
+      | code.LessOrEqual ↦ definitions.LessOrEqual
+      | code.GreaterOrEqual ↦ definitions.GreaterOrEqual
+      | code.Equal ↦ definitions.Equal
+      | code.NotEqual ↦ definitions.NotEqual
+      | code.BitAnd ↦ definitions.BitAnd
+      | code.BitXor ↦ definitions.BitXor
+      | code.BitOr ↦ definitions.BitOr
+      | code.And ↦ definitions.And
+      | code.Or ↦ definitions.Or
+    ] };
+
+    ghost inverse = { λ o. record {
+      kind = elim o [
+        | definitions.Multiply ↦ code.Multiply
+        | definitions.Divide ↦ code.Divide
+        | definitions.Remainder ↦ code.Remainder
+        | definitions.Add ↦ code.Add
+        | definitions.Subtract ↦ code.Subtract
+        | definitions.ShiftLeft ↦ code.ShiftLeft
+        | definitions.ShiftRight ↦ code.ShiftRight
+        | definitions.Less ↦ code.Less
+        | definitions.Greater ↦ code.Greater
+        | definitions.LessOrEqual ↦ code.LessOrEqual
+        | definitions.GreaterOrEqual ↦ code.GreaterOrEqual
+        | definitions.Equal ↦ code.Equal
+        | definitions.NotEqual ↦ code.NotEqual
+        | definitions.BitAnd ↦ code.BitAnd
+        | definitions.BitXor ↦ code.BitXor
+        | definitions.BitOr ↦ code.BitOr
+        | definitions.And ↦ code.And
+        | definitions.Or ↦ code.Or
+      ];
+    } };
+}
+
+// Those that may leave an expression without a value.
+impl Operator {
+    pub(crate) const PLUS: Operator = Operator {
+        kind: OperatorKind::Plus,
+    };
+
+    pub(crate) const MINUS: Operator = Operator {
+        kind: OperatorKind::Minus,
+    };
+
+    pub(crate) const STAR: Operator = Operator {
+        kind: OperatorKind::Star,
+    };
+
+    pub(crate) const SLASH: Operator = Operator {
+        kind: OperatorKind::Slash,
+    };
+
+    pub(crate) const PERCENT: Operator = Operator {
+        kind: OperatorKind::Percent,
+    };
+
+    pub(crate) const SHIFT_LEFT: Operator = Operator {
+        kind: OperatorKind::ShiftLeft,
+    };
+
+    pub(crate) const SHIFT_RIGHT: Operator = Operator {
+        kind: OperatorKind::ShiftRight,
+    };
+}
 
 impl Operator {
     /// The spelling (6.4.6).
     pub(crate) fn spelling(self) -> &'static [u8]
-        ensures { result.now ≡ spelling_of (operator_meant self) }
+        ensures { result.now ≡ spelling_of self }
     {
-        match self {
-            Operator::Plus => b"+",
-            Operator::Minus => b"-",
-            Operator::Tilde => b"~",
-            Operator::Bang => b"!",
-            Operator::Star => b"*",
-            Operator::Slash => b"/",
-            Operator::Percent => b"%",
-            Operator::ShiftLeft => b"<<",
-            Operator::ShiftRight => b">>",
-            Operator::Less => b"<",
-            Operator::Greater => b">",
-            Operator::LessOrEqual => b"<=",
-            Operator::GreaterOrEqual => b">=",
-            Operator::Equal => b"==",
-            Operator::NotEqual => b"!=",
-            Operator::Ampersand => b"&",
-            Operator::Caret => b"^",
-            Operator::Bar => b"|",
-            Operator::And => b"&&",
-            Operator::Or => b"||",
+        match self.kind {
+            OperatorKind::Plus => b"+",
+            OperatorKind::Minus => b"-",
+            OperatorKind::Tilde => b"~",
+            OperatorKind::Bang => b"!",
+            OperatorKind::Star => b"*",
+            OperatorKind::Slash => b"/",
+            OperatorKind::Percent => b"%",
+            OperatorKind::ShiftLeft => b"<<",
+            OperatorKind::ShiftRight => b">>",
+            OperatorKind::Less => b"<",
+            OperatorKind::Greater => b">",
+            OperatorKind::LessOrEqual => b"<=",
+            OperatorKind::GreaterOrEqual => b">=",
+            OperatorKind::Equal => b"==",
+            OperatorKind::NotEqual => b"!=",
+            OperatorKind::Ampersand => b"&",
+            OperatorKind::Caret => b"^",
+            OperatorKind::Bar => b"|",
+            OperatorKind::And => b"&&",
+            OperatorKind::Or => b"||",
         }
     }
 
     /// The operator that it is before an operand (6.5.3.3), if it may stand there.
     pub(crate) fn unary(self) -> Option<Unary>
-        ensures { option_map unary_meant result ≡ unary_of (operator_meant self) }
+        ensures { result ≡ unary_of self }
     {
-        match self {
-            Operator::Plus => Some(Unary::Plus),
-            Operator::Minus => Some(Unary::Minus),
-            Operator::Tilde => Some(Unary::Complement),
-            Operator::Bang => Some(Unary::Not),
-            _ => None,
-        }
+        let kind = match self.kind {
+            OperatorKind::Plus => UnaryKind::Plus,
+            OperatorKind::Minus => UnaryKind::Minus,
+            OperatorKind::Tilde => UnaryKind::Complement,
+            OperatorKind::Bang => UnaryKind::Not,
+            _ => return None,
+        };
+        Some(Unary { kind })
     }
 
     /// The operator that it is between two operands (6.5.5 to 6.5.14), if it may stand there.
     pub(crate) fn binary(self) -> Option<Binary>
-        ensures { option_map binary_meant result ≡ binary_of (operator_meant self) }
+        ensures { result ≡ binary_of self }
     {
-        match self {
-            Operator::Plus => Some(Binary::Add),
-            Operator::Minus => Some(Binary::Subtract),
-            Operator::Star => Some(Binary::Multiply),
-            Operator::Slash => Some(Binary::Divide),
-            Operator::Percent => Some(Binary::Remainder),
-            Operator::ShiftLeft => Some(Binary::ShiftLeft),
-            Operator::ShiftRight => Some(Binary::ShiftRight),
-            Operator::Less => Some(Binary::Less),
-            Operator::Greater => Some(Binary::Greater),
-            Operator::LessOrEqual => Some(Binary::LessOrEqual),
-            Operator::GreaterOrEqual => Some(Binary::GreaterOrEqual),
-            Operator::Equal => Some(Binary::Equal),
-            Operator::NotEqual => Some(Binary::NotEqual),
-            Operator::Ampersand => Some(Binary::BitAnd),
-            Operator::Caret => Some(Binary::BitXor),
-            Operator::Bar => Some(Binary::BitOr),
-            Operator::And => Some(Binary::And),
-            Operator::Or => Some(Binary::Or),
-            Operator::Tilde | Operator::Bang => None,
-        }
+        let kind = match self.kind {
+            OperatorKind::Plus => BinaryKind::Add,
+            OperatorKind::Minus => BinaryKind::Subtract,
+            OperatorKind::Star => BinaryKind::Multiply,
+            OperatorKind::Slash => BinaryKind::Divide,
+            OperatorKind::Percent => BinaryKind::Remainder,
+            OperatorKind::ShiftLeft => BinaryKind::ShiftLeft,
+            OperatorKind::ShiftRight => BinaryKind::ShiftRight,
+            OperatorKind::Less => BinaryKind::Less,
+            OperatorKind::Greater => BinaryKind::Greater,
+            OperatorKind::LessOrEqual => BinaryKind::LessOrEqual,
+            OperatorKind::GreaterOrEqual => BinaryKind::GreaterOrEqual,
+            OperatorKind::Equal => BinaryKind::Equal,
+            OperatorKind::NotEqual => BinaryKind::NotEqual,
+            OperatorKind::Ampersand => BinaryKind::BitAnd,
+            OperatorKind::Caret => BinaryKind::BitXor,
+            OperatorKind::Bar => BinaryKind::BitOr,
+            OperatorKind::And => BinaryKind::And,
+            OperatorKind::Or => BinaryKind::Or,
+            OperatorKind::Tilde | OperatorKind::Bang => return None,
+        };
+        Some(Binary { kind })
     }
 }

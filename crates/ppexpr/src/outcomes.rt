@@ -2,18 +2,18 @@
 ghost use Rattle.std.specs.Prelude.{◌≡◌, Ok};
 ghost use Rattle.ppexpr.specs.Values.{decides, binary_answer, with_type};
 ghost use Rattle.ppexpr.specs.Values.{unary_unsigned, binary_unsigned, constant_outcome, unary_outcome, binary_outcome, choice_outcome};
-ghost use Rattle.ppexpr.specs.Meant.{unary_meant, binary_meant, value_meant, answer_meant, outcome_meant};
 
-use crate::symbols::{Binary, Failure, Outcome, Unary, Value};
+use crate::operators::{Binary, BinaryKind, Unary, UnaryKind};
+use crate::symbols::{Failure, Number, Outcome, Value};
 use crate::values::{binary_value, unary_value};
 
 impl Unary {
     // Whether the result is of the unsigned type.
     fn is_unsigned(self, operand: bool) -> bool
-        ensures { result ≡ unary_unsigned (unary_meant self) operand }
+        ensures { result ≡ unary_unsigned self operand }
     {
-        match self {
-            Unary::Not => false,
+        match self.kind {
+            UnaryKind::Not => false,
             _ => operand,
         }
     }
@@ -22,36 +22,36 @@ impl Unary {
 impl Binary {
     // Whether the result is of the unsigned type.
     fn is_unsigned(self, left: bool, right: bool) -> bool
-        ensures { result ≡ binary_unsigned (binary_meant self) left right }
+        ensures { result ≡ binary_unsigned self left right }
     {
-        match self {
-            Binary::Multiply
-            | Binary::Divide
-            | Binary::Remainder
-            | Binary::Add
-            | Binary::Subtract
-            | Binary::BitAnd
-            | Binary::BitXor
-            | Binary::BitOr => left || right,
-            Binary::ShiftLeft | Binary::ShiftRight => left,
+        match self.kind {
+            BinaryKind::Multiply
+            | BinaryKind::Divide
+            | BinaryKind::Remainder
+            | BinaryKind::Add
+            | BinaryKind::Subtract
+            | BinaryKind::BitAnd
+            | BinaryKind::BitXor
+            | BinaryKind::BitOr => left || right,
+            BinaryKind::ShiftLeft | BinaryKind::ShiftRight => left,
             _ => false,
         }
     }
 
     // Whether the left operand decides alone (6.5.13p4, 6.5.14p4).
     fn decides(self, left: Value) -> bool
-        ensures { result ≡ decides (binary_meant self) (value_meant left) }
+        ensures { result ≡ decides self left }
     {
-        match self {
-            Binary::And => left.is_zero(),
-            Binary::Or => !left.is_zero(),
+        match self.kind {
+            BinaryKind::And => left.is_zero(),
+            BinaryKind::Or => !left.is_zero(),
             _ => false,
         }
     }
 
     // The value from that of the left operand, where there is one.
     fn answer(self, left: Value, right: Result<Value, Failure>) -> Result<Value, Failure>
-        ensures { answer_meant result ≡ binary_answer (binary_meant self) (Ok (value_meant left)) (answer_meant right) }
+        ensures { result ≡ binary_answer self (Ok left) right }
     {
         if self.decides(left) {
             return Ok(Value::truth(!left.is_zero()));
@@ -62,29 +62,29 @@ impl Binary {
 
 // Brought to the type of a choice (6.5.15p5).
 fn with_type(unsigned: bool, value: Result<Value, Failure>) -> Result<Value, Failure>
-    ensures { answer_meant result ≡ with_type unsigned (answer_meant value) }
+    ensures { result ≡ with_type unsigned value }
 {
     if !unsigned {
         return value;
     }
-    Ok(Value::Unsigned(value?.as_unsigned()))
+    Ok(Value::unsigned(value?.as_unsigned()))
 }
 
 #[tactic(auto, unfolding(crate::specs::Values::constant_outcome, crate::specs::Values::unary_outcome, crate::specs::Values::binary_outcome, crate::specs::Values::choice_outcome))]
 impl Outcome {
     /// That of a constant.
     pub(crate) fn constant(value: Value) -> Outcome
-        ensures { outcome_meant result ≡ constant_outcome (value_meant value) }
+        ensures { result ≡ constant_outcome value }
     {
         Outcome {
-            unsigned: matches!(value, Value::Unsigned(_)),
+            unsigned: matches!(value.number, Number::Unsigned(_)),
             value: Ok(value),
         }
     }
 
     /// That of an operator before its operand.
     pub(crate) fn unary(operator: Unary, operand: Outcome) -> Outcome
-        ensures { outcome_meant result ≡ unary_outcome (unary_meant operator) (outcome_meant operand) }
+        ensures { result ≡ unary_outcome operator operand }
     {
         Outcome {
             unsigned: operator.is_unsigned(operand.unsigned),
@@ -97,7 +97,7 @@ impl Outcome {
 
     /// That of an operator between its operands.
     pub(crate) fn binary(operator: Binary, left: Outcome, right: Outcome) -> Outcome
-        ensures { outcome_meant result ≡ binary_outcome (binary_meant operator) (outcome_meant left) (outcome_meant right) }
+        ensures { result ≡ binary_outcome operator left right }
     {
         Outcome {
             unsigned: operator.is_unsigned(left.unsigned, right.unsigned),
@@ -110,7 +110,7 @@ impl Outcome {
 
     /// That of `test ? yes : no`.
     pub(crate) fn choice(test: Outcome, yes: Outcome, no: Outcome) -> Outcome
-        ensures { outcome_meant result ≡ choice_outcome (outcome_meant test) (outcome_meant yes) (outcome_meant no) }
+        ensures { result ≡ choice_outcome test yes no }
     {
         let unsigned = yes.unsigned || no.unsigned;
         let value = match test.value {

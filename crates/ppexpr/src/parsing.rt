@@ -1,14 +1,14 @@
 // Reading an expression by precedence (6.5): from the left, with a stack of what still waits for its last operand.
-ghost use Rattle.std.specs.Prelude.{◌≡◌, Some, None, IfOk, MatchOption};
+ghost use Rattle.std.specs.Prelude.{◌≡◌, Some, None, IfOk, MatchOption, ◌∷◌, MatchBool, reverse};
 ghost use Rattle.ppexpr.specs.Grammar.{IsExpression, level_of};
-ghost use Rattle.ppexpr.specs.Pending.{frame_level, completed, kept, settled, finish};
-ghost use Rattle.ppexpr.specs.Frames.{frame, frames, outcomes, state_of, Takes};
-ghost use Rattle.ppexpr.specs.Meant.{binary_meant, outcome_meant, symbols_meant};
-ghost use Rattle.std.specs.Option.{option_map};
+ghost use Rattle.ppexpr.specs.Outcomes.{Outcome};
+ghost use Rattle.ppexpr.specs.Pending.{Group, Test, frame_level, outcomes, completed, kept, settled, between, closed, Takes, finish};
 ghost use Rattle.ppexpr.specs.Reading.{Denotes};
 
-use crate::symbols::{Binary, Outcome, Symbol, Unary};
+use crate::operators::{Binary, BinaryKind, Unary};
+use crate::symbols::{Outcome, Symbol, SymbolKind};
 use std::alloc::{AllocError, Global};
+use std::marker::Model;
 
 // The level of a conditional expression (6.5.15).
 const CONDITIONAL: u8 = 1;
@@ -18,7 +18,13 @@ const LOGICAL_OR: u8 = 2;
 
 /// What waits for its last operand, or for the symbol that closes it.
 #[derive(Clone, Copy)]
-enum Pending {
+struct Pending {
+    kind: PendingKind,
+}
+
+/// What it is.
+#[derive(Clone, Copy)]
+enum PendingKind {
     /// A parenthesis, for its `)`.
     Group,
     /// A unary operator.
@@ -31,6 +37,32 @@ enum Pending {
     Arms(Outcome, Outcome),
 }
 
+impl Model for Pending {
+    ghost use Rattle.ppexpr.specs.Outcomes.{Outcome};
+    ghost use Rattle.ppexpr.specs.Pending as definitions;
+    ghost use Rattle.ppexpr.specs.declared.parsing.PendingKind.TheVariants as code;
+
+    ghost Value = { definitions.Frame Outcome };
+
+    ghost view = { λ p. elim p.kind [
+      | code.Group ↦ definitions.Group
+      | code.Sign o ↦ definitions.Sign o
+      | code.Left o x ↦ definitions.Left o x
+      | code.Test x ↦ definitions.Test x
+      | code.Arms x y ↦ definitions.Arms x y
+    ] };
+
+    ghost inverse = { λ p. record {
+      kind = elim p [
+        | definitions.Group ↦ code.Group
+        | definitions.Sign o ↦ code.Sign o
+        | definitions.Left o x ↦ code.Left o x
+        | definitions.Test x ↦ code.Test x
+        | definitions.Arms x y ↦ code.Arms x y
+      ];
+    } };
+}
+
 /// An expression as far as it was read: what is pending, the innermost last, and the operand that was just read.
 #[derive(Drop)]
 struct Parser {
@@ -38,22 +70,35 @@ struct Parser {
     operand: Option<Outcome>,
 }
 
+impl Model for Parser {
+    ghost use Rattle.std.specs.Prelude.{reverse};
+    ghost use Rattle.ppexpr.specs.Outcomes.{Outcome};
+    ghost use Rattle.ppexpr.specs.Pending.{State};
+
+    ghost Value = { State Outcome };
+
+    ghost view = { λ p. (reverse p.pending.items, p.operand) };
+}
+
 impl Binary {
     // The level of the expressions that it makes: 2 for `||` to 11 for `*`.
     fn level(self) -> u8
-        ensures { result ≡ level_of (binary_meant self) }
+        ensures { result ≡ level_of self }
     {
-        match self {
-            Binary::Or => 2,
-            Binary::And => 3,
-            Binary::BitOr => 4,
-            Binary::BitXor => 5,
-            Binary::BitAnd => 6,
-            Binary::Equal | Binary::NotEqual => 7,
-            Binary::Less | Binary::Greater | Binary::LessOrEqual | Binary::GreaterOrEqual => 8,
-            Binary::ShiftLeft | Binary::ShiftRight => 9,
-            Binary::Add | Binary::Subtract => 10,
-            Binary::Multiply | Binary::Divide | Binary::Remainder => 11,
+        match self.kind {
+            BinaryKind::Or => 2,
+            BinaryKind::And => 3,
+            BinaryKind::BitOr => 4,
+            BinaryKind::BitXor => 5,
+            BinaryKind::BitAnd => 6,
+            BinaryKind::Equal | BinaryKind::NotEqual => 7,
+            BinaryKind::Less
+            | BinaryKind::Greater
+            | BinaryKind::LessOrEqual
+            | BinaryKind::GreaterOrEqual => 8,
+            BinaryKind::ShiftLeft | BinaryKind::ShiftRight => 9,
+            BinaryKind::Add | BinaryKind::Subtract => 10,
+            BinaryKind::Multiply | BinaryKind::Divide | BinaryKind::Remainder => 11,
         }
     }
 }
@@ -61,32 +106,34 @@ impl Binary {
 impl Pending {
     // The level of the expression that it becomes; 0 where a closing symbol comes first.
     fn level(self) -> u8
-        ensures { result ≡ frame_level (frame self) }
+        ensures { result ≡ frame_level self }
     {
-        match self {
-            Pending::Group | Pending::Test(_) => 0,
-            Pending::Arms(_, _) => CONDITIONAL,
-            Pending::Left(operator, _) => operator.level(),
-            Pending::Sign(_) => 12,
+        let kind = self.kind;
+        match kind {
+            PendingKind::Group | PendingKind::Test(_) => 0,
+            PendingKind::Arms(_, _) => CONDITIONAL,
+            PendingKind::Left(operator, _) => operator.level(),
+            PendingKind::Sign(_) => 12,
         }
     }
 
     fn complete(self, operand: Outcome) -> Outcome
-        ensures { outcome_meant result ≡ completed outcomes (frame self) (outcome_meant operand) }
+        ensures { result ≡ completed outcomes self operand }
     {
-        match self {
-            Pending::Group | Pending::Test(_) => operand,
-            Pending::Sign(operator) => Outcome::unary(operator, operand),
-            Pending::Left(operator, left) => Outcome::binary(operator, left, operand),
-            Pending::Arms(test, yes) => Outcome::choice(test, yes, operand),
+        let kind = self.kind;
+        match kind {
+            PendingKind::Group | PendingKind::Test(_) => operand,
+            PendingKind::Sign(operator) => Outcome::unary(operator, operand),
+            PendingKind::Left(operator, left) => Outcome::binary(operator, left, operand),
+            PendingKind::Arms(test, yes) => Outcome::choice(test, yes, operand),
         }
     }
 }
 
 // Gives the operand to what waits for one at this level or a tighter one.
 fn settle(pending: &mut Vec<Pending>, level: u8, mut operand: Outcome) -> Outcome
-    ensures stay { frames pending.new.items ≡ kept level (frames pending.old.items) }
-    ensures value { outcome_meant result ≡ settled outcomes level (frames pending.old.items) (outcome_meant operand) }
+    ensures stay { reverse pending.new.items ≡ kept level (reverse pending.old.items) }
+    ensures value { result ≡ settled outcomes level (reverse pending.old.items) operand }
 {
     while let Some(last) = pending.pop_if(|last| last.level() >= level) {
         operand = last.complete(operand);
@@ -94,20 +141,47 @@ fn settle(pending: &mut Vec<Pending>, level: u8, mut operand: Outcome) -> Outcom
     operand
 }
 
+// Whether a parenthesis is the innermost, which then waits no longer.
+fn pop_group(pending: &mut Vec<Pending>) -> bool
+    ensures { MatchBool result (reverse pending.old.items ≡ Group ∷ reverse pending.new.items) ((z : Outcome) → closed (reverse pending.old.items) z ≡ None) }
+{
+    let Some(last) = pending.pop() else {
+        return false;
+    };
+    matches!(last.kind, PendingKind::Group)
+}
+
+// The condition before a `?` that is the innermost, which then waits no longer.
+fn pop_test(pending: &mut Vec<Pending>) -> Option<Outcome>
+    ensures { MatchOption result ((z : Outcome) → between (reverse pending.old.items) z ≡ None) (λ x. reverse pending.old.items ≡ Test x ∷ reverse pending.new.items) }
+{
+    let last = pending.pop()?;
+    let kind = last.kind;
+    match kind {
+        PendingKind::Test(test) => Some(test),
+        _ => None,
+    }
+}
+
 impl Parser {
     // Takes a symbol where an operand is awaited; false where none begins with it.
     fn begin(&mut self, symbol: Symbol) -> Result<bool, AllocError>
-        requires { self.old.operand ≡ None }
+        requires { self.old.1 ≡ None }
         ensures { IfOk result (λ more. Takes self.old symbol more self.new) }
     {
-        match symbol {
-            Symbol::Constant(value) => self.operand = Some(Outcome::constant(value)),
-            Symbol::Open => self.pending.push(Pending::Group)?,
-            Symbol::Operator(operator) => {
+        let kind = symbol.kind;
+        match kind {
+            SymbolKind::Constant(value) => self.operand = Some(Outcome::constant(value)),
+            SymbolKind::Open => {
+                let kind = PendingKind::Group;
+                self.pending.push(Pending { kind })?;
+            }
+            SymbolKind::Operator(operator) => {
                 let Some(sign) = operator.unary() else {
                     return Ok(false);
                 };
-                self.pending.push(Pending::Sign(sign))?;
+                let kind = PendingKind::Sign(sign);
+                self.pending.push(Pending { kind })?;
             }
             _ => return Ok(false),
         }
@@ -116,39 +190,40 @@ impl Parser {
 
     // Takes a symbol behind an operand; false where none goes on with it.
     fn go_on(&mut self, operand: Outcome, symbol: Symbol) -> Result<bool, AllocError>
-        requires { self.old.operand ≡ Some operand }
+        requires { self.old.1 ≡ Some operand }
         ensures { IfOk result (λ more. Takes self.old symbol more self.new) }
     {
-        let mut ended = None;
-        match symbol {
-            Symbol::Operator(sign) => {
+        let kind = symbol.kind;
+        match kind {
+            SymbolKind::Operator(sign) => {
                 let Some(operator) = sign.binary() else {
                     return Ok(false);
                 };
                 let left = settle(&mut self.pending, operator.level(), operand);
-                self.pending.push(Pending::Left(operator, left))?;
+                let kind = PendingKind::Left(operator, left);
+                self.pending.push(Pending { kind })?;
             }
-            Symbol::Question => {
+            SymbolKind::Question => {
                 let test = settle(&mut self.pending, LOGICAL_OR, operand);
-                self.pending.push(Pending::Test(test))?;
+                let kind = PendingKind::Test(test);
+                self.pending.push(Pending { kind })?;
             }
-            Symbol::Colon => {
+            SymbolKind::Colon => {
                 let yes = settle(&mut self.pending, CONDITIONAL, operand);
-                let Some(Pending::Test(test)) = self.pending.pop() else {
+                let Some(test) = pop_test(&mut self.pending) else {
                     return Ok(false);
                 };
-                self.pending.push(Pending::Arms(test, yes))?;
+                let kind = PendingKind::Arms(test, yes);
+                self.pending.push(Pending { kind })?;
             }
-            Symbol::Close => {
+            SymbolKind::Close => {
                 let inside = settle(&mut self.pending, CONDITIONAL, operand);
-                let Some(Pending::Group) = self.pending.pop() else {
-                    return Ok(false);
-                };
-                ended = Some(inside);
+                self.operand = Some(inside);
+                return Ok(pop_group(&mut self.pending));
             }
             _ => return Ok(false),
         }
-        self.operand = ended;
+        self.operand = None;
         Ok(true)
     }
 
@@ -164,7 +239,7 @@ impl Parser {
 
     // The outcome behind the last symbol; None where an operand or a closing symbol is still awaited.
     fn finish(self) -> Option<Outcome>
-        ensures { option_map outcome_meant result ≡ finish outcomes (state_of self) }
+        ensures { result ≡ finish outcomes self }
     {
         let Parser {
             mut pending,
@@ -178,9 +253,7 @@ impl Parser {
 /// What an expression comes to; None where the symbols are none (6.5, 6.6).
 /// Each symbol is pending at most once, so the time is linear in their number.
 pub(crate) fn parse(alloc: Global, symbols: &[Symbol]) -> Result<Option<Outcome>, AllocError>
-    ensures { IfOk result (λ r.
-        MatchOption r (¬ IsExpression (symbols_meant symbols.now))
-        (λ o. Denotes (symbols_meant symbols.now) (outcome_meant o))) }
+    ensures { IfOk result (λ r. MatchOption r (¬ IsExpression symbols.now) (Denotes symbols.now)) }
 {
     let mut parser = Parser {
         pending: Vec::new(alloc),

@@ -5,11 +5,11 @@ ghost use Rattle.std.specs.Int.{w64, int_bit_and, int_bit_or, int_bit_xor};
 ghost use Rattle.std.specs.Ordering.{int_eq};
 ghost use Rattle.std.specs.Option.{SomeIff};
 ghost use Rattle.ppexpr.specs.Operators.{Star, Slash, Percent, Plus, Minus, ShiftLeft, ShiftRight};
-ghost use Rattle.ppexpr.specs.Meant.{value_meant, operator_meant, unary_meant, binary_meant, answer_meant};
 ghost use Rattle.ppexpr.specs.Values.{is_zero, as_unsigned, truth, is_amount, whole, signed, negative, complement, unary_value, converted, BothSigned, BothUnsigned};
 ghost use Rattle.ppexpr.specs.Values.{arithmetic, division, comparison, bitwise, shift, left_shift, right_shift, binary_value};
 
-use crate::symbols::{Binary, Failure, Operator, Unary, Value};
+use crate::operators::{Binary, BinaryKind, Operator, Unary, UnaryKind};
+use crate::symbols::{Failure, Number, Value};
 
 /// Two operands of one type.
 #[derive(Clone, Copy)]
@@ -21,80 +21,80 @@ enum Operands {
 impl Value {
     /// Whether it is 0.
     pub(crate) fn is_zero(self) -> bool
-        ensures { result ≡ is_zero (value_meant self) }
+        ensures { result ≡ is_zero self }
     {
-        match self {
-            Value::Signed(n) => n == 0,
-            Value::Unsigned(n) => n == 0,
+        match self.number {
+            Number::Signed(n) => n == 0,
+            Number::Unsigned(n) => n == 0,
         }
     }
 
     /// The value modulo 2^64 (6.3.1.3p2).
     pub(crate) fn as_unsigned(self) -> u64
-        ensures { result ≡ as_unsigned (value_meant self) }
+        ensures { result ≡ as_unsigned self }
     {
-        match self {
-            Value::Signed(n) => n.cast_unsigned(),
-            Value::Unsigned(n) => n,
+        match self.number {
+            Number::Signed(n) => n.cast_unsigned(),
+            Number::Unsigned(n) => n,
         }
     }
 
     /// What a comparison answers (6.5.8p6).
     pub(crate) fn truth(holds: bool) -> Value
-        ensures { value_meant result ≡ truth holds }
+        ensures { result ≡ truth holds }
     {
-        Value::Signed(if holds { 1 } else { 0 })
+        Value::signed(if holds { 1 } else { 0 })
     }
 }
 
 // A signed result, if it is in range.
 fn signed(operator: Operator, value: Option<i64>) -> Result<Value, Failure>
-    ensures { (z : ℤ) → SomeIff value (FitsSigned w64 z) z → answer_meant result ≡ signed (operator_meant operator) z }
+    ensures { (z : ℤ) → SomeIff value (FitsSigned w64 z) z → result ≡ signed operator z }
 {
     match value {
-        Some(value) => Ok(Value::Signed(value)),
-        None => Err(Failure::Overflow(operator)),
+        Some(value) => Ok(Value::signed(value)),
+        None => Err(Failure::overflow(operator)),
     }
 }
 
 // `-` before an operand.
 fn negative(value: Value) -> Result<Value, Failure>
-    ensures { answer_meant result ≡ negative (value_meant value) }
+    ensures { result ≡ negative value }
 {
-    match value {
-        Value::Signed(n) => signed(Operator::Minus, n.checked_neg()),
-        Value::Unsigned(n) => Ok(Value::Unsigned(n.wrapping_neg())),
+    match value.number {
+        Number::Signed(n) => signed(Operator::MINUS, n.checked_neg()),
+        Number::Unsigned(n) => Ok(Value::unsigned(n.wrapping_neg())),
     }
 }
 
 // `~` before an operand.
 fn complement(value: Value) -> Result<Value, Failure>
-    ensures { answer_meant result ≡ complement (value_meant value) }
+    ensures { result ≡ complement value }
 {
-    Ok(match value {
-        Value::Signed(n) => Value::Signed(!n),
-        Value::Unsigned(n) => Value::Unsigned(!n),
+    Ok(match value.number {
+        Number::Signed(n) => Value::signed(!n),
+        Number::Unsigned(n) => Value::unsigned(!n),
     })
 }
 
 /// An operator before a value.
 pub(crate) fn unary_value(operator: Unary, value: Value) -> Result<Value, Failure>
-    ensures { answer_meant result ≡ unary_value (unary_meant operator) (value_meant value) }
+    ensures { result ≡ unary_value operator value }
 {
-    match operator {
-        Unary::Plus => Ok(value),
-        Unary::Minus => negative(value),
-        Unary::Complement => complement(value),
-        Unary::Not => Ok(Value::truth(value.is_zero())),
+    match operator.kind {
+        UnaryKind::Plus => Ok(value),
+        UnaryKind::Minus => negative(value),
+        UnaryKind::Complement => complement(value),
+        UnaryKind::Not => Ok(Value::truth(value.is_zero())),
     }
 }
 
 // The usual conversions (6.3.1.8).
 fn converted(left: Value, right: Value) -> Operands
-    ensures { (elim result [ Operands.BothSigned a b ↦ BothSigned a b | Operands.BothUnsigned a b ↦ BothUnsigned a b ]) ≡ converted (value_meant left) (value_meant right) }
+    ensures { (elim result [ Operands.BothSigned a b ↦ BothSigned a b | Operands.BothUnsigned a b ↦ BothUnsigned a b ]) ≡ converted left right }
 {
-    if let Value::Signed(a) = left {
-        if let Value::Signed(b) = right {
+    if let Number::Signed(a) = left.number {
+        if let Number::Signed(b) = right.number {
             return Operands::BothSigned(a, b);
         }
     }
@@ -103,69 +103,69 @@ fn converted(left: Value, right: Value) -> Operands
 
 // 6.5.5p3
 fn product(left: Value, right: Value) -> Result<Value, Failure>
-    ensures { answer_meant result ≡ arithmetic Star (λ a b. a *ℤ b) (converted (value_meant left) (value_meant right)) }
+    ensures { result ≡ arithmetic Star (λ a b. a *ℤ b) (converted left right) }
 {
     match converted(left, right) {
-        Operands::BothSigned(a, b) => signed(Operator::Star, a.checked_mul(b)),
-        Operands::BothUnsigned(a, b) => Ok(Value::Unsigned(a.wrapping_mul(b))),
+        Operands::BothSigned(a, b) => signed(Operator::STAR, a.checked_mul(b)),
+        Operands::BothUnsigned(a, b) => Ok(Value::unsigned(a.wrapping_mul(b))),
     }
 }
 
 // 6.5.6p5
 fn sum(left: Value, right: Value) -> Result<Value, Failure>
-    ensures { answer_meant result ≡ arithmetic Plus (λ a b. a +ℤ b) (converted (value_meant left) (value_meant right)) }
+    ensures { result ≡ arithmetic Plus (λ a b. a +ℤ b) (converted left right) }
 {
     match converted(left, right) {
-        Operands::BothSigned(a, b) => signed(Operator::Plus, a.checked_add(b)),
-        Operands::BothUnsigned(a, b) => Ok(Value::Unsigned(a.wrapping_add(b))),
+        Operands::BothSigned(a, b) => signed(Operator::PLUS, a.checked_add(b)),
+        Operands::BothUnsigned(a, b) => Ok(Value::unsigned(a.wrapping_add(b))),
     }
 }
 
 // 6.5.6p6
 fn difference(left: Value, right: Value) -> Result<Value, Failure>
-    ensures { answer_meant result ≡ arithmetic Minus (λ a b. a -ℤ b) (converted (value_meant left) (value_meant right)) }
+    ensures { result ≡ arithmetic Minus (λ a b. a -ℤ b) (converted left right) }
 {
     match converted(left, right) {
-        Operands::BothSigned(a, b) => signed(Operator::Minus, a.checked_sub(b)),
-        Operands::BothUnsigned(a, b) => Ok(Value::Unsigned(a.wrapping_sub(b))),
+        Operands::BothSigned(a, b) => signed(Operator::MINUS, a.checked_sub(b)),
+        Operands::BothUnsigned(a, b) => Ok(Value::unsigned(a.wrapping_sub(b))),
     }
 }
 
 // 6.5.5p5
 fn quotient(left: Value, right: Value) -> Result<Value, Failure>
-    ensures { answer_meant result ≡ division Slash int_div (converted (value_meant left) (value_meant right)) }
+    ensures { result ≡ division Slash int_div (converted left right) }
 {
     match converted(left, right) {
         Operands::BothSigned(_, 0) | Operands::BothUnsigned(_, 0) => {
-            Err(Failure::ZeroDivisor(Operator::Slash))
+            Err(Failure::zero_divisor(Operator::SLASH))
         }
         Operands::BothSigned(a, b) => match a.checked_div(b) {
-            Some(value) => Ok(Value::Signed(value)),
-            None => Err(Failure::Overflow(Operator::Slash)),
+            Some(value) => Ok(Value::signed(value)),
+            None => Err(Failure::overflow(Operator::SLASH)),
         },
-        Operands::BothUnsigned(a, b) => Ok(Value::Unsigned(a / b)),
+        Operands::BothUnsigned(a, b) => Ok(Value::unsigned(a / b)),
     }
 }
 
 // 6.5.5p5, p6
 fn remainder(left: Value, right: Value) -> Result<Value, Failure>
-    ensures { answer_meant result ≡ division Percent int_rem (converted (value_meant left) (value_meant right)) }
+    ensures { result ≡ division Percent int_rem (converted left right) }
 {
     match converted(left, right) {
         Operands::BothSigned(_, 0) | Operands::BothUnsigned(_, 0) => {
-            Err(Failure::ZeroDivisor(Operator::Percent))
+            Err(Failure::zero_divisor(Operator::PERCENT))
         }
         Operands::BothSigned(a, b) => match a.checked_rem(b) {
-            Some(value) => Ok(Value::Signed(value)),
-            None => Err(Failure::Overflow(Operator::Percent)),
+            Some(value) => Ok(Value::signed(value)),
+            None => Err(Failure::overflow(Operator::PERCENT)),
         },
-        Operands::BothUnsigned(a, b) => Ok(Value::Unsigned(a % b)),
+        Operands::BothUnsigned(a, b) => Ok(Value::unsigned(a % b)),
     }
 }
 
 // 6.5.8p6
 fn less(left: Value, right: Value) -> Value
-    ensures { Ok (value_meant result) ≡ comparison int_lt (converted (value_meant left) (value_meant right)) }
+    ensures { Ok result ≡ comparison int_lt (converted left right) }
 {
     Value::truth(match converted(left, right) {
         Operands::BothSigned(a, b) => a < b,
@@ -175,7 +175,7 @@ fn less(left: Value, right: Value) -> Value
 
 // 6.5.8p6
 fn less_or_equal(left: Value, right: Value) -> Value
-    ensures { Ok (value_meant result) ≡ comparison int_le (converted (value_meant left) (value_meant right)) }
+    ensures { Ok result ≡ comparison int_le (converted left right) }
 {
     Value::truth(match converted(left, right) {
         Operands::BothSigned(a, b) => a <= b,
@@ -185,7 +185,7 @@ fn less_or_equal(left: Value, right: Value) -> Value
 
 // 6.5.8p6
 fn greater(left: Value, right: Value) -> Value
-    ensures { Ok (value_meant result) ≡ comparison (λ a b. int_lt b a) (converted (value_meant left) (value_meant right)) }
+    ensures { Ok result ≡ comparison (λ a b. int_lt b a) (converted left right) }
 {
     Value::truth(match converted(left, right) {
         Operands::BothSigned(a, b) => a > b,
@@ -195,7 +195,7 @@ fn greater(left: Value, right: Value) -> Value
 
 // 6.5.8p6
 fn greater_or_equal(left: Value, right: Value) -> Value
-    ensures { Ok (value_meant result) ≡ comparison (λ a b. int_le b a) (converted (value_meant left) (value_meant right)) }
+    ensures { Ok result ≡ comparison (λ a b. int_le b a) (converted left right) }
 {
     Value::truth(match converted(left, right) {
         Operands::BothSigned(a, b) => a >= b,
@@ -205,7 +205,7 @@ fn greater_or_equal(left: Value, right: Value) -> Value
 
 // 6.5.9p3
 fn equal(left: Value, right: Value) -> Value
-    ensures { Ok (value_meant result) ≡ comparison int_eq (converted (value_meant left) (value_meant right)) }
+    ensures { Ok result ≡ comparison int_eq (converted left right) }
 {
     Value::truth(match converted(left, right) {
         Operands::BothSigned(a, b) => a == b,
@@ -215,7 +215,7 @@ fn equal(left: Value, right: Value) -> Value
 
 // 6.5.9p3
 fn not_equal(left: Value, right: Value) -> Value
-    ensures { Ok (value_meant result) ≡ comparison (λ a b. not (int_eq a b)) (converted (value_meant left) (value_meant right)) }
+    ensures { Ok result ≡ comparison (λ a b. not (int_eq a b)) (converted left right) }
 {
     Value::truth(match converted(left, right) {
         Operands::BothSigned(a, b) => a != b,
@@ -225,41 +225,41 @@ fn not_equal(left: Value, right: Value) -> Value
 
 // 6.5.10p4
 fn bit_and(left: Value, right: Value) -> Value
-    ensures { Ok (value_meant result) ≡ bitwise (int_bit_and w64) bit_and (converted (value_meant left) (value_meant right)) }
+    ensures { Ok result ≡ bitwise (int_bit_and w64) bit_and (converted left right) }
 {
     match converted(left, right) {
-        Operands::BothSigned(a, b) => Value::Signed(a & b),
-        Operands::BothUnsigned(a, b) => Value::Unsigned(a & b),
+        Operands::BothSigned(a, b) => Value::signed(a & b),
+        Operands::BothUnsigned(a, b) => Value::unsigned(a & b),
     }
 }
 
 // 6.5.11p4
 fn bit_xor(left: Value, right: Value) -> Value
-    ensures { Ok (value_meant result) ≡ bitwise (int_bit_xor w64) bit_xor (converted (value_meant left) (value_meant right)) }
+    ensures { Ok result ≡ bitwise (int_bit_xor w64) bit_xor (converted left right) }
 {
     match converted(left, right) {
-        Operands::BothSigned(a, b) => Value::Signed(a ^ b),
-        Operands::BothUnsigned(a, b) => Value::Unsigned(a ^ b),
+        Operands::BothSigned(a, b) => Value::signed(a ^ b),
+        Operands::BothUnsigned(a, b) => Value::unsigned(a ^ b),
     }
 }
 
 // 6.5.12p4
 fn bit_or(left: Value, right: Value) -> Value
-    ensures { Ok (value_meant result) ≡ bitwise (int_bit_or w64) bit_or (converted (value_meant left) (value_meant right)) }
+    ensures { Ok result ≡ bitwise (int_bit_or w64) bit_or (converted left right) }
 {
     match converted(left, right) {
-        Operands::BothSigned(a, b) => Value::Signed(a | b),
-        Operands::BothUnsigned(a, b) => Value::Unsigned(a | b),
+        Operands::BothSigned(a, b) => Value::signed(a | b),
+        Operands::BothUnsigned(a, b) => Value::unsigned(a | b),
     }
 }
 
 // A shift's amount, where it is one.
 fn amount(value: Value) -> Option<u32>
-    ensures { MatchOption result (is_amount (whole (value_meant value)) ≡ false) (λ n. (whole (value_meant value) ≡ pos n) × (n < 64)) }
+    ensures { MatchOption result (is_amount (whole value) ≡ false) (λ n. (whole value ≡ pos n) × (n < 64)) }
 {
-    match value {
-        Value::Signed(n) if 0 <= n && n < 64 => Some(n as u32),
-        Value::Unsigned(n) if n < 64 => Some(n as u32),
+    match value.number {
+        Number::Signed(n) if 0 <= n && n < 64 => Some(n as u32),
+        Number::Unsigned(n) if n < 64 => Some(n as u32),
         _ => None,
     }
 }
@@ -267,74 +267,74 @@ fn amount(value: Value) -> Option<u32>
 // `<<` (6.5.7p4).
 fn left_shift(value: Value, amount: u32) -> Result<Value, Failure>
     requires { amount < 64 }
-    ensures { answer_meant result ≡ left_shift (value_meant value) amount }
+    ensures { result ≡ left_shift value amount }
 {
-    let number = match value {
-        Value::Signed(number) => number,
-        Value::Unsigned(number) => return Ok(Value::Unsigned(number << amount)),
+    let number = match value.number {
+        Number::Signed(number) => number,
+        Number::Unsigned(number) => return Ok(Value::unsigned(number << amount)),
     };
     if number < 0 {
-        return Err(Failure::Shift(Operator::ShiftLeft));
+        return Err(Failure::shift(Operator::SHIFT_LEFT));
     }
     if number > i64::MAX >> amount {
-        return Err(Failure::Shift(Operator::ShiftLeft));
+        return Err(Failure::shift(Operator::SHIFT_LEFT));
     }
-    Ok(Value::Signed(number << amount))
+    Ok(Value::signed(number << amount))
 }
 
 // `>>` (6.5.7p5).
 fn right_shift(value: Value, amount: u32) -> Value
     requires { amount < 64 }
-    ensures { Ok (value_meant result) ≡ right_shift (value_meant value) amount }
+    ensures { Ok result ≡ right_shift value amount }
 {
-    match value {
-        Value::Signed(number) => Value::Signed(number >> amount),
-        Value::Unsigned(number) => Value::Unsigned(number >> amount),
+    match value.number {
+        Number::Signed(number) => Value::signed(number >> amount),
+        Number::Unsigned(number) => Value::unsigned(number >> amount),
     }
 }
 
 // `<<` by any amount (6.5.7p3).
 fn shifted_left(left: Value, right: Value) -> Result<Value, Failure>
-    ensures { answer_meant result ≡ shift ShiftLeft left_shift (value_meant left) (value_meant right) }
+    ensures { result ≡ shift ShiftLeft left_shift left right }
 {
     match amount(right) {
         Some(amount) => left_shift(left, amount),
-        None => Err(Failure::Shift(Operator::ShiftLeft)),
+        None => Err(Failure::shift(Operator::SHIFT_LEFT)),
     }
 }
 
 // `>>` by any amount (6.5.7p3).
 fn shifted_right(left: Value, right: Value) -> Result<Value, Failure>
-    ensures { answer_meant result ≡ shift ShiftRight right_shift (value_meant left) (value_meant right) }
+    ensures { result ≡ shift ShiftRight right_shift left right }
 {
     match amount(right) {
         Some(amount) => Ok(right_shift(left, amount)),
-        None => Err(Failure::Shift(Operator::ShiftRight)),
+        None => Err(Failure::shift(Operator::SHIFT_RIGHT)),
     }
 }
 
 /// An operator between two values.
 pub(crate) fn binary_value(operator: Binary, left: Value, right: Value) -> Result<Value, Failure>
-    ensures { answer_meant result ≡ binary_value (binary_meant operator) (value_meant left) (value_meant right) }
+    ensures { result ≡ binary_value operator left right }
 {
-    match operator {
-        Binary::Multiply => product(left, right),
-        Binary::Divide => quotient(left, right),
-        Binary::Remainder => remainder(left, right),
-        Binary::Add => sum(left, right),
-        Binary::Subtract => difference(left, right),
-        Binary::ShiftLeft => shifted_left(left, right),
-        Binary::ShiftRight => shifted_right(left, right),
-        Binary::Less => Ok(less(left, right)),
-        Binary::Greater => Ok(greater(left, right)),
-        Binary::LessOrEqual => Ok(less_or_equal(left, right)),
-        Binary::GreaterOrEqual => Ok(greater_or_equal(left, right)),
-        Binary::Equal => Ok(equal(left, right)),
-        Binary::NotEqual => Ok(not_equal(left, right)),
-        Binary::BitAnd => Ok(bit_and(left, right)),
-        Binary::BitXor => Ok(bit_xor(left, right)),
-        Binary::BitOr => Ok(bit_or(left, right)),
-        Binary::And => Ok(Value::truth(!left.is_zero() && !right.is_zero())),
-        Binary::Or => Ok(Value::truth(!left.is_zero() || !right.is_zero())),
+    match operator.kind {
+        BinaryKind::Multiply => product(left, right),
+        BinaryKind::Divide => quotient(left, right),
+        BinaryKind::Remainder => remainder(left, right),
+        BinaryKind::Add => sum(left, right),
+        BinaryKind::Subtract => difference(left, right),
+        BinaryKind::ShiftLeft => shifted_left(left, right),
+        BinaryKind::ShiftRight => shifted_right(left, right),
+        BinaryKind::Less => Ok(less(left, right)),
+        BinaryKind::Greater => Ok(greater(left, right)),
+        BinaryKind::LessOrEqual => Ok(less_or_equal(left, right)),
+        BinaryKind::GreaterOrEqual => Ok(greater_or_equal(left, right)),
+        BinaryKind::Equal => Ok(equal(left, right)),
+        BinaryKind::NotEqual => Ok(not_equal(left, right)),
+        BinaryKind::BitAnd => Ok(bit_and(left, right)),
+        BinaryKind::BitXor => Ok(bit_xor(left, right)),
+        BinaryKind::BitOr => Ok(bit_or(left, right)),
+        BinaryKind::And => Ok(Value::truth(!left.is_zero() && !right.is_zero())),
+        BinaryKind::Or => Ok(Value::truth(!left.is_zero() || !right.is_zero())),
     }
 }

@@ -1,9 +1,7 @@
-use Rattle.std.proofs.Common.{sym, ap, ◌∙◌}
-use Rattle.std.specs.Option.{option_map}
-use Rattle.ppexpr.specs.Meant.{value_meant}
+use Rattle.std.proofs.Common.{sym, ◌∙◌}
 use Rattle.ppexpr.proofs.Large.{of_type_large}
 use Rattle.ppexpr.proofs.characters.of_type.Goals as goal
 
 pub returns-in_err-number : goal.returns-in_err-number
 returns-in_err-number c =
-    ap (λ o. option_map value_meant o) c.from_residual-in_err-number.ensures ∙ sym (of_type_large c.args.greatest c.args.unsigned c.args.text.now c.in_ok-body.body.now c.requires c.in_ok-body.ensures c.in_err-number.ensures)
+    c.from_residual-in_err-number.ensures ∙ sym (of_type_large c.args.greatest c.args.unsigned c.args.text.now c.in_ok-body.body.now c.requires c.in_ok-body.ensures c.in_err-number.ensures)

@@ -1,8 +1,6 @@
 use Rattle.std.proofs.Common.{true≢false, sym}
-use Rattle.std.proofs.lemmas.List.{length-map}
-use Rattle.ppexpr.specs.Meant.{symbols_meant}
 use Rattle.ppexpr.proofs.Shallow.{few_shallow}
 use Rattle.ppexpr.proofs.nesting.is_too_nested.Goals as goal
 
 pub returns-then-symbols-le-MOST : goal.returns-then-symbols-le-MOST
-returns-then-symbols-le-MOST c = (λ t. absurd (true≢false (sym t)), λ n. absurd (few_shallow (symbols_meant c.args.symbols.now) (rw (length-map c.args.symbols.now) c.if-symbols-le-MOST.true) n))
+returns-then-symbols-le-MOST c = (λ t. absurd (true≢false (sym t)), λ n. absurd (few_shallow c.args.symbols.now c.if-symbols-le-MOST.true n))

@@ -1,11 +1,11 @@
 use Rattle.std.proofs.Common.{◌+◌, arith, refl, sym, true≢false}
 use Rattle.std.proofs.lemmas.Grind.{common_steps}
-use Rattle.ppexpr.proofs.Nested.{nests, nests_not}
+use Rattle.ppexpr.proofs.Nested.{nests_not}
 use Rattle.ppexpr.proofs.nesting.nests_parentheses.Goals as goal
 
 pub returns-then-saturating_sub-gt-MOST : goal.returns-then-saturating_sub-gt-MOST
 returns-then-saturating_sub-gt-MOST c =
-    (λ _. nests c.args.symbols.now (c.loop-symbol.symbol-index + 1) (grind (arith, common_steps)), λ _. refl)
+    (λ _. (c.loop-symbol.symbol-index + 1, grind (arith, common_steps)), λ _. refl)
 
 pub returns : goal.returns
 returns c = (

@@ -1,11 +1,11 @@
 use Rattle.std.proofs.Common.{◌+◌, arith, refl, sym, true≢false}
 use Rattle.std.proofs.lemmas.Grind.{common_steps}
-use Rattle.ppexpr.proofs.Nested.{nests_signs, nests_signs_not}
+use Rattle.ppexpr.proofs.Nested.{nests_signs_not}
 use Rattle.ppexpr.proofs.nesting.nests_signs.Goals as goal
 
 pub returns-then-signs-gt-MOST : goal.returns-then-signs-gt-MOST
 returns-then-signs-gt-MOST c =
-    (λ _. nests_signs c.args.symbols.now (c.loop-symbol.symbol-index + 1) (grind (arith, common_steps)), λ _. refl)
+    (λ _. (c.loop-symbol.symbol-index + 1, grind (arith, common_steps)), λ _. refl)
 
 pub returns : goal.returns
 returns c = (
