@@ -4,8 +4,9 @@ mod definitions;
 mod hide_sets;
 mod keys;
 mod substitution;
+mod two_sets;
 
-use ppmacro::{HideSets, Set, Shape, Table, define, undef};
+use ppmacro::{Hidden, HideSets, Set, Shape, Table, define, undef};
 use pptext::{Fault, Memory, Place, Profile, Token, read_source};
 use std::alloc::{AllocError, Global};
 use std::fmt::Debug;
@@ -52,6 +53,17 @@ fn more<R: Abort>(rt: &R, sets: &mut HideSets, set: Set, name: &[u8]) -> Result<
 fn has<R: Abort>(rt: &R, sets: &HideSets, set: Set, name: &[u8]) -> bool {
     assert!(rt; sets.knows(set));
     sets.has(set, name)
+}
+
+/// Whether this name is among those that hide a token.
+fn is_hidden_by<R: Abort>(rt: &R, sets: &HideSets, hidden: &Hidden, name: &[u8]) -> bool {
+    if has(rt, sets, hidden.hide(), name) {
+        return true;
+    }
+    match hidden.also() {
+        Some(also) => has(rt, sets, also, name),
+        None => false,
+    }
 }
 
 /// What a `#define` or `#undef` line does to a table.

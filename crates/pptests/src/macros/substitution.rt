@@ -4,7 +4,7 @@ ghost use Rattle.ppmacro.specs.HideSets.{IsKnown, AllKnown};
 ghost use Rattle.ppmacro.specs.Substituting.{ListsKnown, ArgumentsKnown};
 ghost use Rattle.ppmacro.specs.declared.flying.Expansion.TheVariants.{Made};
 
-use super::{HASH, all_lexed, assert_same, has, lexed, more, push_spelled, table_of};
+use super::{HASH, all_lexed, assert_same, has, is_hidden_by, lexed, more, push_spelled, table_of};
 use crate::showing::{assert_shown, push_fault};
 use ppmacro::{
     Chain, Expansion, Hidden, HideSets, Macro, Pattern, Set, Table, paste, stringize, substitute,
@@ -185,8 +185,8 @@ fn hide_and_base<R: Abort>(rt: &R, sets: &mut HideSets, hides: bool) -> Result<(
 
 /// Whether a token is used where the macro's name is, and has the names `b` and `f`, which each gains.
 fn is_gained<R: Abort>(rt: &R, sets: &HideSets, hidden: &Hidden) -> bool {
-    has(rt, sets, hidden.hide(), b"f")
-        && has(rt, sets, hidden.hide(), b"b")
+    is_hidden_by(rt, sets, hidden, b"f")
+        && is_hidden_by(rt, sets, hidden, b"b")
         && hidden.used() == USED
 }
 
@@ -213,7 +213,7 @@ fn push_all_placed<R: Abort>(
     tokens: &[Hidden],
 ) -> Result<(), AllocError> {
     for hidden in tokens {
-        let mark = if has(rt, sets, hidden.hide(), b"g") {
+        let mark = if is_hidden_by(rt, sets, hidden, b"g") {
             'g'
         } else {
             '-'
@@ -481,7 +481,7 @@ fn assert_literal<R: Abort>(rt: &R, sets: &HideSets, literal: &Hidden) {
     assert_same(rt, "kinds", &literal.kind(), &Kind::Str);
     assert_same(rt, "places", &literal.at(), &HASH);
     assert_same(rt, "places of use", &literal.used(), &USED);
-    assert!(rt; !literal.space() && !has(rt, sets, literal.hide(), b"a"));
+    assert!(rt; !literal.space() && !is_hidden_by(rt, sets, literal, b"a"));
 }
 
 /// The tokens, each with the name `a`.
@@ -531,7 +531,7 @@ fn assert_pasted<R: Abort>(rt: &R, sets: &HideSets, pasted: &Hidden, at: Place) 
     assert_same(rt, "places", &pasted.at(), &at);
     assert_same(rt, "places of use", &pasted.used(), &USED);
     assert!(rt; pasted.space());
-    assert!(rt; has(rt, sets, pasted.hide(), b"a") && !has(rt, sets, pasted.hide(), b"b"));
+    assert!(rt; is_hidden_by(rt, sets, pasted, b"a") && !is_hidden_by(rt, sets, pasted, b"b"));
 }
 
 /// The paste of two tokens with the hide sets `a`, `b` and `a`.
