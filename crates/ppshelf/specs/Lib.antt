@@ -1,5 +1,4 @@
 pub mod Content
-pub mod Parsed
 pub mod Names
 pub mod Indexed
 pub mod Files

@@ -1,11 +1,11 @@
 // A kept content with its row, its name and the profile that it was read by.
 ghost use Rattle.std.specs.Prelude.{◌≡◌, ◌<◌, ◌≤◌, ◌↔◌, length, Ok, Err, option_copied};
 ghost use Rattle.std.specs.Prelude.{IfOk, IfSome, IsTrue, MatchOption, MatchResult, OnErr};
+ghost use Rattle.std.specs.Option.{option_map};
 ghost use Rattle.std.specs.String.{string_bytes};
 ghost use Rattle.pptext.specs.Sources.{Reads};
 ghost use Rattle.ppshelf.specs.Content.{unreadable, readable, Lawful, longest, content_of, IsRead};
 ghost use Rattle.ppshelf.specs.Files.{most_rows};
-ghost use Rattle.ppshelf.specs.Parsed.{parsed_content, HasReading};
 ghost use Rattle.ppshelf.specs.Shelved.{Held, IsPlaced};
 
 use crate::disk::{Disk, ReadFault};
@@ -30,16 +30,24 @@ pub struct Loaded<D: Disk> {
 }
 
 impl<D: Disk> Model for Loaded<D> {
+    ghost use Rattle.std.specs.Prelude.{IfSome};
+    ghost use Rattle.std.specs.Option.{option_map};
     ghost use Rattle.std.specs.String.{string_bytes};
-    ghost use Rattle.ppshelf.specs.Content.{Lawful};
+    ghost use Rattle.pptext.specs.Sources.{Reads};
+    ghost use Rattle.ppshelf.specs.Content.{content_of, Lawful};
     ghost use Rattle.ppshelf.specs.Shelved.{Held};
-    ghost use Rattle.ppshelf.specs.Parsed.{parsed_content, HasReading};
 
     ghost Value = { Held };
 
-    ghost view = { λ l. record { row = l.row; name = string_bytes l.name; profile = l.profile; content = parsed_content l.parsed } };
+    ghost view = { λ l. record {
+      row = l.row;
+      name = string_bytes l.name;
+      profile = l.profile;
+      content = content_of (option_map (λ p. p.bytes.items) l.parsed);
+    } };
 
-    ghost invariant = { λ l. Lawful D.may (string_bytes l.name) (parsed_content l.parsed) × HasReading l.profile l.row l.parsed };
+    ghost invariant = { λ l. Lawful D.may (string_bytes l.name) (content_of (option_map (λ p. p.bytes.items) l.parsed))
+        × IfSome l.parsed (λ p. Reads l.profile l.row p.bytes.items p.lines) };
 }
 
 impl<D: Disk> Drop for Loaded<D> {
@@ -79,8 +87,8 @@ fn parsed_of<D: Disk>(
     name: &str,
 ) -> Result<Option<Parsed>, Memory>
     requires { row < most_rows }
-    ensures content { IfOk result (λ p. Lawful (D.gives disk.now) name.now (parsed_content p)) }
-    ensures reading { IfOk result (λ p. HasReading profile row p) }
+    ensures content { IfOk result (λ parsed. Lawful (D.gives disk.now) name.now (content_of (option_map (λ p. p.bytes.items) parsed))) }
+    ensures reading { IfOk result (λ parsed. IfSome parsed (λ p. Reads profile row p.bytes.items p.lines)) }
 {
     match disk.read(alloc, name) {
         Ok(bytes) => {
