@@ -12,9 +12,8 @@ use Rattle.ppunit.specs.Laws.{Grows}
 use Rattle.pppool.specs.declared.keeping.Keep.{Keep}
 use Rattle.pppool.specs.Kept.{IsKept}
 use Rattle.pppool.proofs.Kept.{kept_grows}
-use Rattle.pppool.specs.declared.workers.Answer.{Answer}
 use Rattle.pppool.specs.Desk.{times}
-use Rattle.pppool.specs.Workers.{IsAnswer, AreAnswers, AllAnswered, answered}
+use Rattle.pppool.specs.Workers.{Answer, IsAnswer, AreAnswers, AllAnswered, answered}
 use Rattle.pppool.proofs.Totals.{times-append, times_at}
 
 -- what is true of an answer over some files is true over more

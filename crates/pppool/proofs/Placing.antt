@@ -17,10 +17,9 @@ use Rattle.pppool.specs.Kept.{IsKept, AreKept, kept}
 use Rattle.pppool.proofs.Kept.{kept_grows}
 use Rattle.ppunit.specs.Capped.{IsWithin, IsCappedOver, StaysWithin, BudgetCaps}
 use Rattle.ppunit.specs.Units.{AreUnits, AreWithin, AreCapped}
-use Rattle.pppool.specs.declared.workers.Answer.{Answer}
 use Rattle.pppool.specs.Desk.{DeskId, SeatView, times, claims_of, once_below}
 use Rattle.pppool.specs.Laws.{ListGrows}
-use Rattle.pppool.specs.Workers.{AreAnswers, AllFilled, FitSlots, answered, placed}
+use Rattle.pppool.specs.Workers.{Answer, AreAnswers, AllFilled, FitSlots, answered, placed}
 use Rattle.pppool.proofs.Answering.{times_other}
 use Rattle.pppool.proofs.Closing.{claims-append}
 use Rattle.pppool.proofs.Totals.{times-append, below_once_one}

@@ -1,4 +1,4 @@
--- Units in blocks, and what comes of the blocks that a worker claims. Only the contracts of private functions cite this.
+-- Units in blocks, and what comes of the blocks that a worker claims. Only the contracts of private functions, and the views of private types, cite this.
 use Rattle.std.specs.Prelude.{◌≡◌, ℕ, ◌<◌, ◌/◌, List, [], ◌∷◌, length, All, Option, Some, None, IfSome, IsSome, true, slice_index_or, slice_set}
 use Rattle.std.specs.List.{AllZip}
 use Rattle.ppshelf.specs.Files.{Files, Stock, Known}
@@ -8,7 +8,11 @@ use Rattle.ppunit.specs.declared.units.UnitOut.{UnitOut}
 use Rattle.pppool.specs.Kept.{IsKept}
 use Rattle.pppool.specs.declared.keeping.Keep.{Keep}
 use Rattle.pppool.specs.Desk.{DeskId, SeatView, times}
-use Rattle.pppool.specs.declared.workers.Answer.{Answer}
+
+-- what is kept of what a unit gives, with the unit's number in the list
+pub record Answer : Type 0 where
+  pub unit : ℕ
+  pub out : UnitOut
 
 -- the answer is what is kept of the value of the unit with its number
 pub record IsAnswer (keep : Keep) (stock : Stock) (files : Files) (setting : Setting) (units : List UnitOfList) (a : Answer) : Type 0 where

@@ -11,6 +11,7 @@ use ppshelf::{Disk, Pass, Shelf};
 use pptext::Memory;
 use ppunit::{Setting, Unit, UnitOut, growth, preprocess};
 use std::alloc::Global;
+use std::marker::Model;
 
 /// What all workers share: the units of a list in blocks, and the desk at which these are claimed.
 pub(crate) struct Job<'a, 'j, D: Disk, G: Gate> {
@@ -46,6 +47,14 @@ impl<D: Disk, G: Gate> Drop for Job<'_, '_, D, G> {
 pub(crate) struct Answer<'a> {
     pub unit: usize,
     pub out: UnitOut<'a>,
+}
+
+impl<'a> Model for Answer<'a> {
+    ghost use Rattle.pppool.specs.Workers.{Answer};
+
+    ghost Value = { Answer };
+
+    ghost view = { λ a. record { unit = a.unit; out = a.out } };
 }
 
 /// A worker: its seat at the desk, what it knows of the shelf, and what the units of its blocks gave.

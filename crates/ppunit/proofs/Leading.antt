@@ -10,8 +10,7 @@ use Rattle.pptext.specs.Lines.{LogicalLine}
 use Rattle.pptext.specs.Tree.{sign_place, opens_section, ends_group}
 use Rattle.ppshelf.specs.Files.{Files}
 use Rattle.ppunit.specs.Including.{Asked}
-use Rattle.ppunit.specs.declared.opening.Entered.{Entered}
-use Rattle.ppunit.specs.declared.walking.Next.{Next}
+use Rattle.ppunit.specs.Opening.{Entered}
 use Rattle.ppunit.specs.Directives.{Asks, Finds, ControlBy}
 use Rattle.ppunit.specs.States.{State, Surroundings, Reached, going, stopped, with_left}
 use Rattle.ppunit.specs.Lines.{directed}
@@ -81,12 +80,12 @@ leads_included around files depth deeper row found at line s t after a r one pla
     (λ more m. Controls (around more) depth row s line m) t r (λ more m opened. Controls.include is alone (Includes.included a found asks (finds more) opened)) here
 
 pub steps_line : (around : Files → Surroundings) (files : Files) (depth row : ℕ) (lines : List LogicalLine) (index : ℕ) (s t : State)
-    (next : ℕ) (r : Next)
-    → r ≡ record { line = next; entered = None }
+    (next : ℕ) (r : ℕ × Option Entered)
+    → r ≡ (next, None)
     → Advances around files depth row lines index s t (Ok next)
     → Steps around files depth row lines index s t (Ok r)
 steps_line around files depth row lines index s t next r is advances =
-    subst (λ (z : Next). Steps around files depth row lines index s t (Ok z)) (sym is) advances
+    subst (λ (z : ℕ × Option Entered). Steps around files depth row lines index s t (Ok z)) (sym is) advances
 
 module _ (around : Files → Surroundings) (files : Files) (depth row : ℕ) (lines : List LogicalLine) (index : ℕ) (s t : State) (d : Directive)
     (tokens : List Token) (number : ℕ) (within : index < length lines) (is : (line_at lines index).directive ≡ Some d)

@@ -1,16 +1,13 @@
 -- A walk over the lines of a file and of all that it includes, with the files that wait.
-use Rattle.std.proofs.Common.{◌≡◌, ℕ, suc, ◌≤◌, List, [], ◌∷◌, length, Option, None, Some, Ok, Err}
+use Rattle.std.proofs.Common.{◌≡◌, ℕ, suc, ◌≤◌, List, [], ◌∷◌, length, Option, None, Some, Err}
 use Rattle.pptext.specs.declared.tokens.Fault.{Fault}
 use Rattle.pptext.specs.Lines.{LogicalLine}
 use Rattle.pptext.specs.Tree.{Parts, Tree}
 use Rattle.ppshelf.specs.Files.{Files, Extends}
-use Rattle.ppunit.specs.declared.opening.Entered.{Entered}
-use Rattle.ppunit.specs.declared.opening.OpenFile.{OpenFile}
-use Rattle.ppunit.specs.declared.stack.Waiting.{Waiting}
-use Rattle.ppunit.specs.declared.walking.Next.{Next}
+use Rattle.ppunit.specs.Opening.{OpenFile, Entered}
 use Rattle.ppunit.specs.Group.{Group, Controls}
 use Rattle.ppunit.specs.States.{State, Surroundings, Reached, going, stopped}
-use Rattle.ppunit.specs.Walk.{line_at, Outer, StandsAt, Ends, Advances, Passes, EntersFile, StepsTo, Steps, Walks, back, next_file, next_waiting, brought_back}
+use Rattle.ppunit.specs.Walk.{line_at, Outer, StandsAt, Ends, Advances, Passes, EntersFile, StepsTo, Waiting, Walks, back, next_file, next_waiting, brought_back}
 use Rattle.ppunit.proofs.WholeFile.{FileSoFar, file_start, file_more, file_stop, file_done, extends_trans}
 use Rattle.ppunit.proofs.Advancing.{ends_stop}
 
@@ -21,7 +18,7 @@ Rest = Parts × Outer
 -- each file waits at the line behind the one that included the next
 abbrev pub Waits : List Waiting → List Rest → Type 0
 Waits [] [] = Unit {0}
-Waits (w ∷ ws) ((ps, k) ∷ rests) = StandsAt w.file.source.now w.file.index ps k × Waits ws rests
+Waits (w ∷ ws) ((ps, k) ∷ rests) = StandsAt w.file.lines w.file.index ps k × Waits ws rests
 Waits ws rests = ⊥
 
 -- What is to be reached by the file whose lines are worked off: with the names brought back, the rest of the file that waits for it has to lead to
@@ -34,18 +31,18 @@ Owes around whole ws rests more m = whole more m
 pub record StackAt (around : Files → Surroundings) (files : Files) (whole : Files → Reached → Type 0) (ws : List Waiting) (file : OpenFile) (t : State) : Type 0 where
   pub rests : List Rest
   pub waits : Waits ws rests
-  pub file_so_far : FileSoFar around files (Owes around whole ws rests) (length ws) file.row file.source.now file.index t
+  pub file_so_far : FileSoFar around files (Owes around whole ws rests) (length ws) file.row file.lines file.index t
 
 -- the same for each tree of the first file
 pub record StackSoFar (around : Files → Surroundings) (files : Files) (row : ℕ) (lines : List LogicalLine) (s : State) (ws : List Waiting) (file : OpenFile) (t : State) : Type 0 where
   pub so_far : (parts : Parts) → Tree lines parts → StackAt around files (λ more m. Group (around more) 0 row (going s) parts m) ws file t
 
-pub stack_start : (around : Files → Surroundings) (files : Files) (s : State) (file : OpenFile) → file.index ≡ 0 → StackSoFar around files file.row file.source.now s [] file s
+pub stack_start : (around : Files → Surroundings) (files : Files) (s : State) (file : OpenFile) → file.index ≡ 0 → StackSoFar around files file.row file.lines s [] file s
 stack_start around files s file begins = record {
   so_far = λ parts tree. record {
     rests = [];
     waits = tt;
-    file_so_far = file_start around files (λ more m. Group (around more) 0 file.row (going s) parts m) 0 file.row file.source.now file.index s parts begins tree (λ more grows end group. group);
+    file_so_far = file_start around files (λ more m. Group (around more) 0 file.row (going s) parts m) 0 file.row file.lines file.index s parts begins tree (λ more grows end group. group);
   };
 }
 
@@ -53,8 +50,8 @@ enters_at : (around : Files → Surroundings) (old new : Files) (whole : Files �
     (file : OpenFile) (e : Entered)
     → StackAt around old whole ws file t
     → Extends new old
-    → Passes (length ws) file.row file.source.now file.index t next
-    → EntersFile around new (suc (length ws)) (λ more m. Controls (around more) (length ws) file.row t (line_at file.source.now file.index) m) u e
+    → Passes (length ws) file.row file.lines file.index t next
+    → EntersFile around new (suc (length ws)) (λ more m. Controls (around more) (length ws) file.row t (line_at file.lines file.index) m) u e
     → StackAt around new whole (record { file = record file { index = next }; env = e.outer } ∷ ws) e.file u
 enters_at around old new whole next t u ws file e at wider passes enters =
     let f = at.file_so_far in
@@ -64,7 +61,7 @@ enters_at around old new whole next t u ws file e at wider passes enters =
       waits = (g.2, at.waits);
       file_so_far =
           file_start around new (Owes around whole (record { file = record file { index = next }; env = e.outer } ∷ ws) ((g.0, g.1) ∷ at.rests))
-          (suc (length ws)) e.file.row e.file.source.now e.file.index u enters.parts enters.begins enters.tree
+          (suc (length ws)) e.file.row e.file.lines e.file.index u enters.parts enters.begins enters.tree
           (λ more grows m group end rest. f.ends more (extends_trans more new old grows wider) end
           (g.3 (around more) (back e.outer m) end (enters.group more grows m group) rest));
     }
@@ -73,24 +70,23 @@ next_at : (around : Files → Surroundings) (old new : Files) (whole : Files →
     (file : OpenFile) (entered : Option Entered)
     → StackAt around old whole ws file t
     → Extends new old
-    → StepsTo around new (length ws) file.row file.source.now file.index t u next entered
+    → StepsTo around new (length ws) file.row file.lines file.index t u next entered
     → StackAt around new whole (next_waiting (record file { index = next }) entered ws) (next_file (record file { index = next }) entered) u
 next_at around old new whole next t u ws file None at wider step = record {
   rests = at.rests;
   waits = at.waits;
-  file_so_far = file_more around old new (Owes around whole ws at.rests) (length ws) file.row file.source.now file.index next t u at.file_so_far wider step;
+  file_so_far = file_more around old new (Owes around whole ws at.rests) (length ws) file.row file.lines file.index next t u at.file_so_far wider step;
 }
 next_at around old new whole next t u ws file (Some e) at wider step = enters_at around old new whole next t u ws file e at wider step.0 step.1
 
 pub stack_next : (around : Files → Surroundings) (old new : Files) (row : ℕ) (lines : List LogicalLine) (s t u : State) (ws : List Waiting)
-    (file : OpenFile) (next : Next)
+    (file : OpenFile) (next : ℕ) (entered : Option Entered)
     → StackSoFar around old row lines s ws file t
     → Extends new old
-    → Steps around new (length ws) file.row file.source.now file.index t u (Ok next)
-    → StackSoFar around new row lines s (next_waiting (record file { index = next.line }) next.entered ws)
-    (next_file (record file { index = next.line }) next.entered) u
-stack_next around old new row lines s t u ws file next sofar wider step = record {
-  so_far = λ parts tree. next_at around old new (λ more m. Group (around more) 0 row (going s) parts m) next.line t u ws file next.entered (sofar.so_far parts tree) wider step;
+    → StepsTo around new (length ws) file.row file.lines file.index t u next entered
+    → StackSoFar around new row lines s (next_waiting (record file { index = next }) entered ws) (next_file (record file { index = next }) entered) u
+stack_next around old new row lines s t u ws file next entered sofar wider step = record {
+  so_far = λ parts tree. next_at around old new (λ more m. Group (around more) 0 row (going s) parts m) next t u ws file entered (sofar.so_far parts tree) wider step;
 }
 
 -- no file is deeper than 200
@@ -105,8 +101,8 @@ next_depth around files row lines index next s t ws file (Some e) deep step = st
 leaves_at : (around : Files → Surroundings) (files : Files) (whole : Files → Reached → Type 0) (w : Waiting) (ws : List Waiting) (file : OpenFile)
     (t : State) (rests : List Rest)
     → Waits (w ∷ ws) rests
-    → FileSoFar around files (Owes around whole (w ∷ ws) rests) (suc (length ws)) file.row file.source.now file.index t
-    → length file.source.now ≤ file.index
+    → FileSoFar around files (Owes around whole (w ∷ ws) rests) (suc (length ws)) file.row file.lines file.index t
+    → length file.lines ≤ file.index
     → StackAt around files whole ws w.file (record t { env = w.env })
 leaves_at around files whole w ws file t [] waits sofar over = absurd waits
 leaves_at around files whole w ws file t ((ps, k) ∷ rests) waits sofar over = record {
@@ -118,14 +114,14 @@ leaves_at around files whole w ws file t ((ps, k) ∷ rests) waits sofar over = 
         outer = k;
         stands = waits.0;
         ends = λ more grows end rest. file_done around files
-            (Owes around whole (w ∷ ws) ((ps, k) ∷ rests)) (suc (length ws)) file.row file.source.now file.index t sofar over more grows end rest;
+            (Owes around whole (w ∷ ws) ((ps, k) ∷ rests)) (suc (length ws)) file.row file.lines file.index t sofar over more grows end rest;
       };
 }
 
 pub stack_leaves : (around : Files → Surroundings) (files : Files) (row : ℕ) (lines : List LogicalLine) (s t : State) (w : Waiting)
     (ws : List Waiting) (file : OpenFile)
     → StackSoFar around files row lines s (w ∷ ws) file t
-    → length file.source.now ≤ file.index
+    → length file.lines ≤ file.index
     → StackSoFar around files row lines s ws w.file (record t { env = w.env })
 stack_leaves around files row lines s t w ws file sofar over = record {
   so_far = λ parts tree.
@@ -148,18 +144,18 @@ pub stack_stops : (around : Files → Surroundings) (old new : Files) (row : ℕ
     (ws : List Waiting) (file : OpenFile)
     → StackSoFar around old row lines s ws file t
     → Extends new old
-    → Advances around new (length ws) file.row file.source.now file.index t u (Err fault)
+    → Advances around new (length ws) file.row file.lines file.index t u (Err fault)
     → Walks around new 0 row lines s (stopped (brought_back ws u) fault)
 stack_stops around old new row lines s t u fault ws file sofar wider step parts tree more grows =
     let f = sofar.so_far parts tree in
     let whole : Files → Reached → Type 0 = λ more m. Group (around more) 0 row (going s) parts m in
-    stops_at around whole more u fault ws f.rests f.waits (file_stop around old new (Owes around whole ws f.rests) (length ws) file.row file.source.now file.index t u fault f.file_so_far wider step more grows)
+    stops_at around whole more u fault ws f.rests f.waits (file_stop around old new (Owes around whole ws f.rests) (length ws) file.row file.lines file.index t u fault f.file_so_far wider step more grows)
 
 pub stack_done : (around : Files → Surroundings) (files : Files) (row : ℕ) (lines : List LogicalLine) (s t : State) (file : OpenFile)
     → StackSoFar around files row lines s [] file t
-    → length file.source.now ≤ file.index
+    → length file.lines ≤ file.index
     → Walks around files 0 row lines s (going t)
 stack_done around files row lines s t file sofar over parts tree more grows =
     let f = sofar.so_far parts tree in
     let whole : Files → Reached → Type 0 = λ more m. Group (around more) 0 row (going s) parts m in
-    file_done around files (Owes around whole [] f.rests) 0 file.row file.source.now file.index t f.file_so_far over more grows
+    file_done around files (Owes around whole [] f.rests) 0 file.row file.lines file.index t f.file_so_far over more grows

@@ -1,5 +1,5 @@
 -- Opening a file, from what the steps of the code ensure.
-use Rattle.std.proofs.Common.{◌≡◌, ℕ, ◌≤◌, ◌<◌, ◌^◌, pos, List, [], length, sym, ap, ◌∙◌, subst, Bool, true, false, Option, None, Some, Ok, inl, inr}
+use Rattle.std.proofs.Common.{◌≡◌, ℕ, ◌≤◌, pos, List, [], refl, sym, ap, ◌∙◌, subst, Bool, true, false, Option, None, Some, Ok, inl, inr}
 use Rattle.pptext.specs.declared.tokens.Place.{Place}
 use Rattle.pptext.specs.declared.tokens.Fault.{Fault}
 use Rattle.pptext.specs.declared.sources.Profile.{Profile}
@@ -12,12 +12,11 @@ use Rattle.ppexpand.specs.Turn.{is_spent}
 use Rattle.ppshelf.specs.Content.{unreadable, readable}
 use Rattle.ppshelf.specs.Names.{name_in}
 use Rattle.ppshelf.specs.Files.{Files, Extends}
-use Rattle.ppunit.specs.declared.opening.Entered.{Entered}
-use Rattle.ppunit.specs.States.{Library, State, going, stopped, depending, entering, paying, literal, surroundings_of, Surroundings}
+use Rattle.ppunit.specs.States.{Library, State, Reached, going, stopped, depending, entering, paying, literal, surroundings_of, Surroundings}
 use Rattle.ppunit.specs.Dependencies.{is_among}
 use Rattle.ppunit.specs.Group.{deepest, Group, Opened}
-use Rattle.ppunit.specs.Opening.{IsUnpaid, Pays, HasLines, HasFault, Begins}
-use Rattle.ppunit.specs.Walk.{Leads, back}
+use Rattle.ppunit.specs.Opening.{Entered, IsUnpaid, Pays, HasLines, HasFault, Begins}
+use Rattle.ppunit.specs.Walk.{EntersFile, Leads, back}
 use Rattle.ppunit.proofs.Guarding.{opens_left_out}
 
 -- an opening that is not paid for
@@ -101,19 +100,18 @@ opens_begun library files depth row at s t u name lines None (fits, some, new, i
     (opens_left_out (surroundings_of library more) depth row at s t content lines fits some (grows row content known) reads is left)
 opens_begun library files depth row at s t u name lines (Some e) noted (unreadable, known, reads) named begins = absurd reads
 opens_begun library files depth row at s t u name lines (Some e) (fits, some, new, is) (readable bytes, known, reads) named
-    (here, source, begins, few, outer, enters) =
+    (file, few, enters) =
     let tree = tree_of library.shelf.profile row bytes lines reads in
-    record {
+    let whole : Files → Reached → Type 0 = λ more m. Opened (surroundings_of library more) depth at s row m in
+    subst (λ (z : Entered). EntersFile (surroundings_of library) files depth whole u z) (sym file) (record {
       fits = fits;
-      begins = begins;
-      few = subst (λ (z : List LogicalLine). length z < 2 ^ 64) (sym source) few;
+      begins = refl;
+      few = few;
       parts = tree.0;
-      tree = subst (λ (z : List LogicalLine). Tree z tree.0) (sym source) tree.1;
+      tree = tree.1;
       group = λ more grows m group.
           let inside = subst (λ (z : State). Group (surroundings_of library more) depth row (going z) tree.0 m)
-          (entering_is (surroundings_of library more) row (paying s) t u name is enters named)
-          (subst (λ (z : ℕ). Group (surroundings_of library more) depth z (going u) tree.0 m) here group) in
-          let left : e.outer ≡ s.env = outer ∙ ap (λ (z : State). z.env) is in
-          subst (λ (z : Env). Opened (surroundings_of library more) depth at s row (back z m)) (sym left)
+          (entering_is (surroundings_of library more) row (paying s) t u name is enters named) group in
+          subst (λ (z : Env). Opened (surroundings_of library more) depth at s row (back z m)) (sym (ap (λ (z : State). z.env) is))
           (Opened.read fits some new (grows row (readable bytes) known) reads tree.1 inside);
-    }
+    })

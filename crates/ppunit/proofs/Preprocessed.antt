@@ -14,7 +14,7 @@ use Rattle.ppunit.specs.declared.units.Unit.{Unit as UnitOfList}
 use Rattle.ppunit.specs.declared.units.Setting.{Setting}
 use Rattle.ppunit.specs.Group.{Opened}
 use Rattle.ppunit.specs.Unit.{IsUnit, beginning, command_file, command_text, unread, processed, Translates, undefined, translated, first_place}
-use Rattle.ppunit.specs.declared.opening.Entered.{Entered}
+use Rattle.ppunit.specs.Opening.{Entered}
 use Rattle.ppunit.specs.Walk.{EntersFile, Walks, DefinesOver}
 use Rattle.ppunit.proofs.WholeFile.{extends_trans}
 
@@ -66,7 +66,7 @@ pub entered_file : (around : Files → Surroundings) (files new : Files) (depth 
     (fault : Option Fault)
     → Extends new files
     → EntersFile around files depth whole t e
-    → Walks around new depth e.file.row e.file.source.now t (record { state = u; fault = fault })
+    → Walks around new depth e.file.row e.file.lines t (record { state = u; fault = fault })
     → (more : Files)
     → Extends more new
     → whole more (record { state = record u { env = e.outer }; fault = fault })

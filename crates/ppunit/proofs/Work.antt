@@ -3,11 +3,9 @@ use Rattle.std.proofs.Common.{◌≡◌, ℕ, zero, suc, ◌+◌, ◌-◌, ◌*�
 use Rattle.std.proofs.Math.Nat.{mul-lt-mul_of_pos_right, mul-le-mul_right}
 use Rattle.pptext.specs.Lines.{LogicalLine}
 use Rattle.ppshelf.specs.Files.{Files}
-use Rattle.ppunit.specs.declared.opening.Entered.{Entered}
-use Rattle.ppunit.specs.declared.opening.OpenFile.{OpenFile}
-use Rattle.ppunit.specs.declared.stack.Waiting.{Waiting}
+use Rattle.ppunit.specs.Opening.{OpenFile, Entered}
 use Rattle.ppunit.specs.States.{State, Surroundings}
-use Rattle.ppunit.specs.Walk.{StepsTo, next_file, next_waiting}
+use Rattle.ppunit.specs.Walk.{StepsTo, Waiting, next_file, next_waiting}
 
 -- more than a file has lines, with its end
 limit : ℕ
@@ -29,13 +27,13 @@ room_more n deep = let one : 200 - n ≡ suc (200 - suc n) = omega arith in ap r
 
 -- the lines of a file that are left, and its end
 lines_left : OpenFile → ℕ
-lines_left f = suc (length f.source.now - f.index)
+lines_left f = suc (length f.lines - f.index)
 
-lines_fewer : (f : OpenFile) (next : ℕ) → f.index < length f.source.now → f.index < next → lines_left (record f { index = next }) < lines_left f
+lines_fewer : (f : OpenFile) (next : ℕ) → f.index < length f.lines → f.index < next → lines_left (record f { index = next }) < lines_left f
 unfolding lines_left
 lines_fewer f next within further = omega arith
 
-lines_few : (f : OpenFile) → length f.source.now < 2 ^ 64 → lines_left f < limit
+lines_few : (f : OpenFile) → length f.lines < 2 ^ 64 → lines_left f < limit
 unfolding lines_left limit
 lines_few f few = omega arith
 
@@ -54,7 +52,7 @@ work f ws = lines_left f * room (200 - length ws) + waiting_work ws
 fewer : (x y r rest : ℕ) → x < y → 0 < r → x * r + rest < y * r + rest
 fewer x y r rest less some = omega (arith, mul-lt-mul_of_pos_right less some)
 
-work_on : (f : OpenFile) (next : ℕ) (ws : List Waiting) → f.index < length f.source.now → f.index < next → work (record f { index = next }) ws < work f ws
+work_on : (f : OpenFile) (next : ℕ) (ws : List Waiting) → f.index < length f.lines → f.index < next → work (record f { index = next }) ws < work f ws
 unfolding work
 work_on f next ws within further =
     fewer (lines_left (record f { index = next })) (lines_left f) (room (200 - length ws)) (waiting_work ws) (lines_fewer f next within further) (room_pos (200 - length ws))
@@ -66,9 +64,9 @@ deeper x y z r s rest is some few less =
     omega arith
 
 work_entering : (f : OpenFile) (next : ℕ) (e : Entered) (ws : List Waiting)
-    → f.index < length f.source.now
+    → f.index < length f.lines
     → f.index < next
-    → length e.file.source.now < 2 ^ 64
+    → length e.file.lines < 2 ^ 64
     → length ws < 200
     → work e.file (record { file = record f { index = next }; env = e.outer } ∷ ws) < work f ws
 unfolding work waiting_work
@@ -78,7 +76,7 @@ work_entering f next e ws within further few deep =
 
 pub work_next : (around : Files → Surroundings) (files : Files) (row : ℕ) (lines : List LogicalLine) (index next : ℕ) (s t : State) (f : OpenFile)
     (entered : Option Entered) (ws : List Waiting)
-    → f.index < length f.source.now
+    → f.index < length f.lines
     → f.index < next
     → StepsTo around files (length ws) row lines index s t next entered
     → work (next_file (record f { index = next }) entered) (next_waiting (record f { index = next }) entered ws) < work f ws

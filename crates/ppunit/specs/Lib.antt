@@ -20,5 +20,4 @@ pub mod Forms
 pub mod Guarded
 pub mod Opening
 pub mod Parts
-pub mod PartsLeft
 pub mod Yielding

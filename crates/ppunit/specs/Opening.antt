@@ -1,17 +1,28 @@
--- The steps by which a file is opened (6.10.2). Only the contracts of private functions cite this.
+-- The steps by which a file is opened (6.10.2). Only the contracts of private functions, and the views of private types, cite this.
 use Rattle.std.specs.Prelude.{◌≡◌, ℕ, ◌<◌, ◌≤◌, ◌^◌, pos, List, [], true, false, Option, None, Some, Ok, Err, ◌⊎◌, length}
 use Rattle.pptext.specs.declared.tokens.Place.{Place}
 use Rattle.pptext.specs.declared.tokens.Fault.{Fault}
 use Rattle.pptext.specs.Lines.{LogicalLine}
 use Rattle.pptext.specs.Tokens.{fault}
+use Rattle.ppexpand.specs.declared.env.Env.{Env}
 use Rattle.ppexpand.specs.Turn.{is_spent}
 use Rattle.ppshelf.specs.Content.{Content, unreadable, IsRead}
 use Rattle.ppshelf.specs.Files.{Files, Stock, file_at}
 use Rattle.ppshelf.specs.Names.{name_in}
-use Rattle.ppunit.specs.declared.opening.Entered.{Entered}
 use Rattle.ppunit.specs.States.{State, paying, literal}
 use Rattle.ppunit.specs.Group.{deepest}
 use Rattle.ppunit.specs.Guarded.{IsLeftOut}
+
+-- a file whose lines are worked off: its row, its lines, and the index of the line that the work goes on with
+pub record OpenFile : Type 0 where
+  pub row : ℕ
+  pub lines : List LogicalLine
+  pub index : ℕ
+
+-- a file that was just opened, and what the predefined names stand for behind it
+pub record Entered : Type 0 where
+  pub file : OpenFile
+  pub outer : Env
 
 -- why a file of this name is not opened: it is too deep, or else nothing is left
 abbrev pub IsUnpaid : ℕ → Place → List ℕ → State → Fault → Type 0
@@ -37,5 +48,5 @@ HasFault shelf files row at f =
 abbrev pub Begins : List ℕ → ℕ → List LogicalLine → State → State → Option Entered → Type 0
 Begins name row lines s t None = IsLeftOut s lines × (t ≡ s)
 Begins name row lines s t (Some e) =
-    (e.file.row ≡ row) × (e.file.source.now ≡ lines) × (e.file.index ≡ 0) × (length lines < 2 ^ 64) × (e.outer ≡ s.env)
+    (e ≡ record { file = record { row = row; lines = lines; index = 0 }; outer = s.env }) × (length lines < 2 ^ 64)
     × (t ≡ record s { env = record s.env { name = literal name; shift = pos 0 } })

@@ -1,5 +1,5 @@
--- Where a walk over the lines of a file, and of the files that it includes, stands in the tree of its groups. Only the contracts of private functions
--- cite this.
+-- Where a walk over the lines of a file, and of the files that it includes, stands in the tree of its groups. Only the contracts of private functions,
+-- and the views of private types, cite this.
 use Rattle.std.specs.Prelude.{◌≡◌, ℕ, suc, ◌+◌, ◌<◌, ◌≤◌, ◌^◌, Bool, true, false, Option, None, Some, Result, Ok, Err}
 use Rattle.std.specs.Prelude.{List, [], ◌∷◌, ◌++◌, length, drop, map, slice_index_or}
 use Rattle.pptext.specs.declared.tokens.Fault.{Fault}
@@ -9,13 +9,10 @@ use Rattle.pptext.specs.Sources.{next_branch}
 use Rattle.pptext.specs.Tree.{Parts, Branches, part_lines, branch_lines, AreParts, AreBranches, Tree, role, branch_behind, has_condition}
 use Rattle.ppexpand.specs.declared.env.Env.{Env}
 use Rattle.ppshelf.specs.Files.{Files, Extends}
-use Rattle.ppunit.specs.declared.opening.Entered.{Entered}
-use Rattle.ppunit.specs.declared.opening.OpenFile.{OpenFile}
-use Rattle.ppunit.specs.declared.stack.Waiting.{Waiting}
-use Rattle.ppunit.specs.declared.walking.Next.{Next}
 use Rattle.ppunit.specs.States.{State, Surroundings, Reached, going, stopped}
 use Rattle.ppunit.specs.Conditions.{DecidesFreely, Decides}
 use Rattle.ppunit.specs.Group.{deepest, Group, Branched, Controls}
+use Rattle.ppunit.specs.Opening.{OpenFile, Entered}
 use Rattle.ppunit.specs.Unit.{Defines}
 
 abbrev pub no_line : LogicalLine
@@ -76,9 +73,9 @@ pub record EntersFile (around : Files → Surroundings) (files : Files) (depth :
     : Type 0 where
   pub fits : depth ≤ deepest
   pub begins : e.file.index ≡ 0
-  pub few : length e.file.source.now < 2 ^ 64
+  pub few : length e.file.lines < 2 ^ 64
   pub parts : Parts
-  pub tree : Tree e.file.source.now parts
+  pub tree : Tree e.file.lines parts
   pub group : (more : Files)
       → Extends more files
       → (m : Reached)
@@ -114,9 +111,14 @@ StepsTo around files depth row lines index s t next (Some e) =
     × EntersFile around files (suc depth) (λ more m. Controls (around more) depth row s (line_at lines index) m) t e
 
 -- the same, or to a fault
-abbrev pub Steps : (Files → Surroundings) → Files → ℕ → ℕ → List LogicalLine → ℕ → State → State → Result Next Fault → Type 0
-Steps around files depth row lines index s t (Ok next) = StepsTo around files depth row lines index s t next.line next.entered
+abbrev pub Steps : (Files → Surroundings) → Files → ℕ → ℕ → List LogicalLine → ℕ → State → State → Result (ℕ × Option Entered) Fault → Type 0
+Steps around files depth row lines index s t (Ok (next, entered)) = StepsTo around files depth row lines index s t next entered
 Steps around files depth row lines index s t (Err f) = Advances around files depth row lines index s t (Err f)
+
+-- a file that waits for one that it includes, and what the predefined names stand for in it
+pub record Waiting : Type 0 where
+  pub file : OpenFile
+  pub env : Env
 
 -- the file whose lines come next: the one that was entered, for which this one waits, or else this one
 abbrev pub next_file : OpenFile → Option Entered → OpenFile

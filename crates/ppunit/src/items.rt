@@ -2,7 +2,6 @@
 ghost use Rattle.std.specs.Prelude.{◌≡◌, IfOk};
 ghost use Rattle.std.specs.Iterator.{YieldsFirstBy, YieldsFirstRef, item_count};
 ghost use Rattle.ppunit.specs.Yielding.{ref_item};
-ghost use Rattle.ppunit.specs.PartsLeft.{parts_left};
 
 use crate::lists::{Items, Part};
 use crate::units::Item;
@@ -34,15 +33,24 @@ impl<'r, 'a> ItemRef<'r, 'a> {
 }
 
 /// The parts that are still to be read.
-#[derive(Clone, Copy)]
-pub(crate) struct PartsLeft<'r, 'a> {
+#[derive(Drop)]
+struct PartsLeft<'r, 'a> {
     parts: &'r [Part<'a>],
+}
+
+impl<'r, 'a> Model for PartsLeft<'r, 'a> {
+    ghost use Rattle.std.specs.Prelude.{List};
+    ghost use Rattle.ppunit.specs.declared.lists.Part.{Part};
+
+    ghost Value = { List Part };
+
+    ghost view = { λ l. l.parts.now };
 }
 
 impl<'r, 'a> PartsLeft<'r, 'a> {
     /// The first of them, taken out.
     fn next(&mut self) -> Option<&'r Part<'a>>
-        ensures { YieldsFirstRef parts_left self.old result self.new }
+        ensures { YieldsFirstRef (λ rest. rest) self.old result self.new }
     {
         let (first, parts) = self.parts.split_first()?;
         *self = PartsLeft { parts };
@@ -65,9 +73,8 @@ impl<'r, 'a> Model for ItemsIter<'r, 'a> {
 
     ghost use Rattle.ppunit.specs.Parts.{part_items};
     ghost use Rattle.ppunit.specs.Yielding.{run_items};
-    ghost use Rattle.ppunit.specs.PartsLeft.{parts_left};
 
-    ghost view = { λ i. run_items i.run ++ flat_map part_items (parts_left i.left) };
+    ghost view = { λ i. run_items i.run ++ flat_map part_items i.left };
 }
 
 impl<'r, 'a> Iterator for ItemsIter<'r, 'a> {

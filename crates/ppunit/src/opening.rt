@@ -105,19 +105,25 @@ impl<'a, 'b, D: Disk> Around<'a, 'b, D> {
 }
 
 /// A file whose lines are worked off: its row, its lines, and the line that the work goes on with.
-#[derive(Clone, Copy, Drop)]
+#[derive(Drop)]
 pub(crate) struct OpenFile<'a> {
     pub row: usize,
     pub source: &'a Source,
     pub index: usize,
 }
 
+impl<'a> Model for OpenFile<'a> {
+    ghost use Rattle.ppunit.specs.Opening.{OpenFile};
+
+    ghost Value = { OpenFile };
+
+    ghost view = { λ f. record { row = f.row; lines = f.source.now; index = f.index } };
+}
+
 impl<'a> OpenFile<'a> {
     /// A file before its first line.
     pub(crate) fn new(row: usize, source: &'a Source) -> OpenFile<'a>
-        ensures row { result.row ≡ row }
-        ensures source { result.source.now ≡ source.now }
-        ensures index { result.index ≡ 0 }
+        ensures file { result ≡ record { row = row; lines = source.now; index = 0 } }
         ensures few { length source.now < 2 ^ 64 }
     {
         // For proofs: the number of lines fits.
@@ -135,6 +141,14 @@ impl<'a> OpenFile<'a> {
 pub(crate) struct Entered<'a> {
     pub file: OpenFile<'a>,
     pub outer: Env,
+}
+
+impl<'a> Model for Entered<'a> {
+    ghost use Rattle.ppunit.specs.Opening.{Entered};
+
+    ghost Value = { Entered };
+
+    ghost view = { λ e. record { file = e.file; outer = e.outer } };
 }
 
 // What predefined names stand for where a file begins.

@@ -15,6 +15,14 @@ pub(crate) struct Waiting<'a> {
     pub env: Env,
 }
 
+impl<'a> Model for Waiting<'a> {
+    ghost use Rattle.ppunit.specs.Walk.{Waiting};
+
+    ghost Value = { Waiting };
+
+    ghost view = { λ w. record { file = w.file; env = w.env } };
+}
+
 /// The files that wait, each for the next one and the last one for the file whose lines are worked off. Contracts see them
 /// from the last one on.
 #[derive(Drop)]
@@ -24,7 +32,7 @@ pub(crate) struct Stack<'a> {
 
 impl<'a> Model for Stack<'a> {
     ghost use Rattle.std.specs.Prelude.{List, reverse};
-    ghost use Rattle.ppunit.specs.declared.stack.Waiting.{Waiting};
+    ghost use Rattle.ppunit.specs.Walk.{Waiting};
 
     ghost Value = { List Waiting };
 

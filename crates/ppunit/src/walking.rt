@@ -26,6 +26,7 @@ use crate::states::State;
 use ppshelf::{Disk, Pass};
 use pptext::{Directive, Source, Stop, Token};
 use std::alloc::Global;
+use std::marker::Model;
 
 // Where the text run ends that begins at this line.
 fn run_end(source: &Source, start: usize) -> usize
@@ -213,9 +214,18 @@ struct Next<'a> {
     entered: Option<Entered<'a>>,
 }
 
+impl<'a> Model for Next<'a> {
+    ghost use Rattle.std.specs.Prelude.{ℕ, Option};
+    ghost use Rattle.ppunit.specs.Opening.{Entered};
+
+    ghost Value = { ℕ × Option Entered };
+
+    ghost view = { λ n. (n.line, n.entered) };
+}
+
 // This line comes next, and no file was opened.
 fn to_line<'a>(line: usize) -> Next<'a>
-    ensures { result ≡ record { line = line; entered = None } }
+    ensures { result ≡ (line, None) }
 {
     Next {
         line,
@@ -234,12 +244,12 @@ fn step<'x, 'a: 'x, D: Disk>(
     requires shelf { pass.old.shelf ≡ around.now.shelf }
     requires rows { 0 < length around.now.shelf.names }
     requires depth { depth ≤ 200 }
-    requires index { file.now.index < length file.now.source.now }
+    requires index { file.now.index < length file.now.lines }
     ensures shelf { pass.new.shelf ≡ around.now.shelf }
     ensures grows { Extends pass.new.files pass.old.files }
-    ensures further { IfOk result (λ next. file.now.index < next.line) }
+    ensures further { IfOk result (λ next. file.now.index < next.0) }
     ensures step { IfSettled result (λ found.
-        Steps (surroundings_of around.now) pass.new.files depth file.now.row file.now.source.now file.now.index state.old state.new found) }
+        Steps (surroundings_of around.now) pass.new.files depth file.now.row file.now.lines file.now.index state.old state.new found) }
 {
     let OpenFile { row, source, index } = *file;
     let Some(directive) = line(source, index).directive else {
@@ -273,7 +283,7 @@ pub(crate) fn walk<'s, 'a: 's, D: Disk>(
     ensures shelf { pass.new.shelf ≡ around.now.shelf }
     ensures grows { Extends pass.new.files pass.old.files }
     ensures walk { IfSettled result (λ r.
-        Walks (surroundings_of around.now) pass.new.files 0 first.entry.row first.entry.source.now state.old
+        Walks (surroundings_of around.now) pass.new.files 0 first.entry.row first.entry.lines state.old
         (record { state = state.new; fault = result_err r })) }
 {
     let mut waiting = Stack::new(around.alloc);

@@ -1,9 +1,8 @@
 use Rattle.std.proofs.Common.{ℕ, ◌≡◌, ◌<◌, ◌/◌, List, Option, None, sym, ap, ◌∙◌, subst, length, IsSome, get_or}
 use Rattle.ppshelf.specs.Files.{Extends, Known}
 use Rattle.ppunit.specs.declared.units.UnitOut.{UnitOut}
-use Rattle.pppool.specs.declared.workers.Answer.{Answer}
 use Rattle.pppool.specs.Desk.{SeatView, times}
-use Rattle.pppool.specs.Workers.{AreAnswers, FitSlots, placed}
+use Rattle.pppool.specs.Workers.{Answer, AreAnswers, FitSlots, placed}
 use Rattle.pppool.proofs.Answering.{answers_grow}
 use Rattle.pppool.proofs.Placing.{slots_grow, slots_placed, placed_stays, placed_fills, within_slots, slots_long}
 use Rattle.pppool.proofs.running.absorb.Goals as goal

@@ -6,7 +6,7 @@ use Rattle.ppunit.proofs.preprocessing.define_all.Goals as goal
 
 pub returns-clause-defined : goal.returns-clause-defined
 returns-clause-defined g c =
-    let walked = rw (c.new-file.ensures.row, c.new-file.ensures.source) at c.walk.ensures.walk in
+    let walked = rw c.new-file.ensures.file at c.walk.ensures.walk in
     on_settled c.walk.result
     (λ r walks. defines_walked c.tree_unless_fault.ensures (surroundings_of c.args.around.now) c.walk.new.pass.files c.args.defines.now.profile
     c.args.defines.now.texts _ _ c.args.state.now (record { state = c.walk.new.state; fault = result_err r }) (λ more. c.requires.profile) c.in-Ok.is

@@ -7,50 +7,50 @@ use Rattle.ppunit.proofs.walking.step.Goals as goal
 
 pub returns-in_err-do_run-clause-step : goal.returns-in_err-do_run-clause-step
 returns-in_err-do_run-clause-step g c =
-    stopped _ _ _ _ c.from_residual.ensures.1
-    (c.in_err-do_run.ensures.run (surroundings_of c.args.around.now) c.args.pass.now.files c.args.depth c.args.file.now.row)
-    (λ fault advances. advances)
+    rw (← c.file.view_is) (stopped _ _ _ _ c.from_residual.ensures.1
+    (c.in_err-do_run.ensures.run (surroundings_of c.args.around.now) c.args.pass.now.files c.args.depth c.file.inside.row)
+    (λ fault advances. advances))
 
 pub returns-in_default-clause-step : goal.returns-in_default-clause-step
 returns-in_default-clause-step g c =
-    steps_line (surroundings_of c.args.around.now) c.args.pass.now.files c.args.depth c.args.file.now.row c.args.file.now.source.now
-    c.args.file.now.index c.args.state.now c.do_run.new.state c.in_ok-do_run.field-0 c.to_line.result c.to_line.ensures
-    (c.in_ok-do_run.ensures.run (surroundings_of c.args.around.now) c.args.pass.now.files c.args.depth c.args.file.now.row)
+    rw (← c.file.view_is) (steps_line (surroundings_of c.args.around.now) c.args.pass.now.files c.args.depth c.file.inside.row c.file.inside.source.now
+    c.file.inside.index c.args.state.now c.do_run.new.state c.in_ok-do_run.field-0 c.to_line.result c.to_line.ensures
+    (c.in_ok-do_run.ensures.run (surroundings_of c.args.around.now) c.args.pass.now.files c.args.depth c.file.inside.row))
 
 pub returns-in_err-enter_section-clause-step : goal.returns-in_err-enter_section-clause-step
 returns-in_err-enter_section-clause-step g c =
-    stopped _ _ _ _ c.from_residual-in_err-enter_section.ensures.1
-    (c.in_err-enter_section.ensures.entered (surroundings_of c.args.around.now) c.args.pass.now.files c.args.depth c.args.file.now.row)
-    (λ fault advances. advances)
+    rw (← c.file.view_is) (stopped _ _ _ _ c.from_residual-in_err-enter_section.ensures.1
+    (c.in_err-enter_section.ensures.entered (surroundings_of c.args.around.now) c.args.pass.now.files c.args.depth c.file.inside.row)
+    (λ fault advances. advances))
 
 pub returns-then-opens_section-clause-step : goal.returns-then-opens_section-clause-step
 returns-then-opens_section-clause-step g c =
-    steps_line (surroundings_of c.args.around.now) c.args.pass.now.files c.args.depth c.args.file.now.row c.args.file.now.source.now
-    c.args.file.now.index c.args.state.now c.enter_section.new.state c.in_ok-enter_section.field-0 c.to_line-then-opens_section.result
+    rw (← c.file.view_is) (steps_line (surroundings_of c.args.around.now) c.args.pass.now.files c.args.depth c.file.inside.row c.file.inside.source.now
+    c.file.inside.index c.args.state.now c.enter_section.new.state c.in_ok-enter_section.field-0 c.to_line-then-opens_section.result
     c.to_line-then-opens_section.ensures
-    (c.in_ok-enter_section.ensures.entered (surroundings_of c.args.around.now) c.args.pass.now.files c.args.depth c.args.file.now.row)
+    (c.in_ok-enter_section.ensures.entered (surroundings_of c.args.around.now) c.args.pass.now.files c.args.depth c.file.inside.row))
 
 pub returns-then-ends_group-clause-step : goal.returns-then-ends_group-clause-step
 returns-then-ends_group-clause-step g c =
-    steps_line (surroundings_of c.args.around.now) c.args.pass.now.files c.args.depth c.args.file.now.row c.args.file.now.source.now
-    c.args.file.now.index c.args.state.now c.args.state.now c.section_end.result c.to_line-then-ends_group.result
+    rw (← c.file.view_is) (steps_line (surroundings_of c.args.around.now) c.args.pass.now.files c.args.depth c.file.inside.row c.file.inside.source.now
+    c.file.inside.index c.args.state.now c.args.state.now c.section_end.result c.to_line-then-ends_group.result
     c.to_line-then-ends_group.ensures
-    (end_advances (surroundings_of c.args.around.now) c.args.pass.now.files c.args.depth c.args.file.now.row c.args.file.now.source.now
-    c.args.file.now.index c.section_end.result c.args.state.now c.in-Some.directive c.requires.index (sym c.line.ensures.directive ∙ c.in-Some.is)
-    (sym c.ends_group.ensures ∙ c.if-ends_group.true) c.section_end.ensures.end)
+    (end_advances (surroundings_of c.args.around.now) c.args.pass.now.files c.args.depth c.file.inside.row c.file.inside.source.now
+    c.file.inside.index c.section_end.result c.args.state.now c.in-Some.directive (rw (← c.file.view_is) at c.requires.index) (sym c.line.ensures.directive ∙ c.in-Some.is)
+    (sym c.ends_group.ensures ∙ c.if-ends_group.true) c.section_end.ensures.end))
 
 pub returns-in_err-entered-clause-step : goal.returns-in_err-entered-clause-step
 returns-in_err-entered-clause-step g c =
-    stopped _ _ _ _ c.from_residual-in_err-entered.ensures.1 c.in_err-entered.ensures.control
-    (stops_control (surroundings_of c.args.around.now) c.do_line.new.pass.files c.args.depth c.args.file.now.row c.args.file.now.source.now
-    c.args.file.now.index c.args.state.now c.do_line.new.state c.in-Some.directive c.tokens_at-tokens.result.now c.line-2.result.now.number
-    c.requires.index (sym c.line.ensures.directive ∙ c.in-Some.is) (sym c.opens_section.ensures ∙ c.if-opens_section.false)
-    (sym c.ends_group.ensures ∙ c.if-ends_group.false) c.tokens_at-tokens.ensures.tokens c.line-2.ensures.number)
+    rw (← c.file.view_is) (stopped _ _ _ _ c.from_residual-in_err-entered.ensures.1 c.in_err-entered.ensures.control
+    (stops_control (surroundings_of c.args.around.now) c.do_line.new.pass.files c.args.depth c.file.inside.row c.file.inside.source.now
+    c.file.inside.index c.args.state.now c.do_line.new.state c.in-Some.directive c.tokens_at-tokens.result.now c.line-2.result.now.number
+    (rw (← c.file.view_is) at c.requires.index) (sym c.line.ensures.directive ∙ c.in-Some.is) (sym c.opens_section.ensures ∙ c.if-opens_section.false)
+    (sym c.ends_group.ensures ∙ c.if-ends_group.false) c.tokens_at-tokens.ensures.tokens c.line-2.ensures.number))
 
 pub returns-clause-step : goal.returns-clause-step
 returns-clause-step g c =
-    steps_control (surroundings_of c.args.around.now) c.do_line.new.pass.files c.args.depth c.args.file.now.row c.args.file.now.source.now
-    c.args.file.now.index c.args.state.now c.do_line.new.state c.in-Some.directive c.tokens_at-tokens.result.now c.line-2.result.now.number
-    c.requires.index (sym c.line.ensures.directive ∙ c.in-Some.is) (sym c.opens_section.ensures ∙ c.if-opens_section.false)
+    rw (← c.file.view_is) (steps_control (surroundings_of c.args.around.now) c.do_line.new.pass.files c.args.depth c.file.inside.row c.file.inside.source.now
+    c.file.inside.index c.args.state.now c.do_line.new.state c.in-Some.directive c.tokens_at-tokens.result.now c.line-2.result.now.number
+    (rw (← c.file.view_is) at c.requires.index) (sym c.line.ensures.directive ∙ c.in-Some.is) (sym c.opens_section.ensures ∙ c.if-opens_section.false)
     (sym c.ends_group.ensures ∙ c.if-ends_group.false) c.tokens_at-tokens.ensures.tokens c.line-2.ensures.number c.in_ok-entered.entered
-    c.in_ok-entered.ensures.control
+    c.in_ok-entered.ensures.control)

@@ -1,8 +1,8 @@
 use Rattle.std.proofs.Common.{◌≡◌, ◌<◌, ◌≤◌, List, [], ◌∷◌, length, Err, refl, sym, ap, subst, arith}
 use Rattle.pptext.proofs.Stopping.{stopped as halted}
-use Rattle.ppunit.specs.declared.stack.Waiting.{Waiting}
 use Rattle.ppunit.specs.States.{State, stopped, surroundings_of}
-use Rattle.ppunit.specs.Walk.{Walks}
+use Rattle.ppunit.specs.Opening.{OpenFile}
+use Rattle.ppunit.specs.Walk.{Waiting, Walks}
 use Rattle.ppunit.proofs.WholeFile.{extends_trans}
 use Rattle.ppunit.proofs.OpenFiles.{StackSoFar, stack_start, stack_next, next_depth, stack_leaves, stack_stops, stack_done}
 use Rattle.ppunit.proofs.Work.{work, work_next, work_leaving}
@@ -16,7 +16,7 @@ loop-file-init g c =
       grows = λ row content known. known;
       depth = omega (arith, ap length none);
       walked =
-          subst (λ (z : List Waiting). StackSoFar (surroundings_of c.args.around.now) c.args.pass.now.files c.args.first.row c.args.first.source.now
+          subst (λ (z : List Waiting). StackSoFar (surroundings_of c.args.around.now) c.args.pass.now.files c.args.first.row c.args.first.lines
           c.args.state.now z c.args.first c.args.state.now) (sym none)
           (stack_start (surroundings_of c.args.around.now) c.args.pass.now.files c.args.state.now c.args.first c.requires.begins);
     }
@@ -24,59 +24,63 @@ loop-file-init g c =
 pub returns-in_default-clause-walk : goal.returns-in_default-clause-walk
 returns-in_default-clause-walk g c =
     let none : c.loop-file.waiting ≡ [] = c.in_default.ensures.0 in
-    let over : length c.loop-file.file.source.now ≤ c.loop-file.file.index = omega (arith, c.count.ensures, c.if-file-count.false) in
-    stack_done (surroundings_of c.args.around.now) c.loop-file.pass.files c.args.first.row c.args.first.source.now c.args.state.now c.loop-file.state
+    let over = subst (λ (z : OpenFile). length z.lines ≤ z.index) c.file.view_is (omega (arith, c.count.ensures, c.if-file-count.false)) in
+    stack_done (surroundings_of c.args.around.now) c.loop-file.pass.files c.args.first.row c.args.first.lines c.args.state.now c.loop-file.state
     c.loop-file.file
-    (subst (λ (z : List Waiting). StackSoFar (surroundings_of c.args.around.now) c.loop-file.pass.files c.args.first.row c.args.first.source.now
+    (subst (λ (z : List Waiting). StackSoFar (surroundings_of c.args.around.now) c.loop-file.pass.files c.args.first.row c.args.first.lines
     c.args.state.now z c.loop-file.file c.loop-file.state) none c.loop-file.invariant.walked) over
 
 pub loop-file-smaller : goal.loop-file-smaller
 loop-file-smaller g c =
-    let there : c.loop-file.waiting ≡ c.in-Some.outer ∷ c.pop.new.self = c.in-Some.ensures in
-    subst (λ (z : List Waiting). work c.in-Some.outer.file c.pop.new.self < work c.loop-file.file z) (sym there) (work_leaving c.loop-file.file c.in-Some.outer c.pop.new.self)
+    let outer : Waiting = record { file = c.outer.inside.file; env = c.outer.inside.env } in
+    let there : c.loop-file.waiting ≡ outer ∷ c.pop.new.self = rw (← c.outer.view_is) at c.in-Some.ensures in
+    subst (λ (z : List Waiting). work outer.file c.pop.new.self < work c.loop-file.file z) (sym there) (work_leaving c.loop-file.file outer c.pop.new.self)
 
 pub loop-file-preserved : goal.loop-file-preserved
 loop-file-preserved g c =
-    let there : c.loop-file.waiting ≡ c.in-Some.outer ∷ c.pop.new.self = c.in-Some.ensures in
-    let over : length c.loop-file.file.source.now ≤ c.loop-file.file.index = omega (arith, c.count.ensures, c.if-file-count.false) in
+    let outer : Waiting = record { file = c.outer.inside.file; env = c.outer.inside.env } in
+    let there : c.loop-file.waiting ≡ outer ∷ c.pop.new.self = rw (← c.outer.view_is) at c.in-Some.ensures in
+    let over = subst (λ (z : OpenFile). length z.lines ≤ z.index) c.file.view_is (omega (arith, c.count.ensures, c.if-file-count.false)) in
     record {
       shelf = c.loop-file.invariant.shelf;
       grows = c.loop-file.invariant.grows;
       depth = omega (arith, ap length there, c.loop-file.invariant.depth);
       walked =
-          subst (λ (z : State). StackSoFar (surroundings_of c.args.around.now) c.loop-file.pass.files c.args.first.row c.args.first.source.now
-          c.args.state.now c.pop.new.self c.in-Some.outer.file (record z { env = c.in-Some.outer.env })) (sym c.state.view_is)
-          (stack_leaves (surroundings_of c.args.around.now) c.loop-file.pass.files c.args.first.row c.args.first.source.now c.args.state.now
-          c.loop-file.state c.in-Some.outer c.pop.new.self c.loop-file.file
-          (subst (λ (z : List Waiting). StackSoFar (surroundings_of c.args.around.now) c.loop-file.pass.files c.args.first.row c.args.first.source.now
+          subst (λ (z : State). StackSoFar (surroundings_of c.args.around.now) c.loop-file.pass.files c.args.first.row c.args.first.lines
+          c.args.state.now c.pop.new.self outer.file (record z { env = outer.env })) (sym c.state.view_is)
+          (stack_leaves (surroundings_of c.args.around.now) c.loop-file.pass.files c.args.first.row c.args.first.lines c.args.state.now
+          c.loop-file.state outer c.pop.new.self c.loop-file.file
+          (subst (λ (z : List Waiting). StackSoFar (surroundings_of c.args.around.now) c.loop-file.pass.files c.args.first.row c.args.first.lines
           c.args.state.now z c.loop-file.file c.loop-file.state) there c.loop-file.invariant.walked) over);
     }
 
 pub loop-file-smaller-in-Ok : goal.loop-file-smaller-in-Ok
 loop-file-smaller-in-Ok g c =
-    let step = rw (c.in-Ok.is, c.depth.ensures) at c.step.ensures.step in
-    let further = rw c.in-Ok.is at c.step.ensures.further in
-    let within : c.loop-file.file.index < length c.loop-file.file.source.now = omega (arith, c.count.ensures, c.if-file-count.true) in
-    let less = work_next (surroundings_of c.args.around.now) c.step.new.pass.files c.loop-file.file.row c.loop-file.file.source.now
-    c.loop-file.file.index c.in-Ok.next.line c.loop-file.state c.step.new.state c.loop-file.file c.in-Ok.next.entered c.loop-file.waiting within
+    let step = rw (c.in-Ok.is, c.depth.ensures, ← c.next.view_is) at c.step.ensures.step in
+    let further = rw (c.in-Ok.is, ← c.next.view_is) at c.step.ensures.further in
+    let within = subst (λ (z : OpenFile). z.index < length z.lines) c.file.view_is (omega (arith, c.count.ensures, c.if-file-count.true)) in
+    let less = work_next (surroundings_of c.args.around.now) c.step.new.pass.files c.loop-file.file.row c.loop-file.file.lines
+    c.loop-file.file.index c.next.inside.line c.loop-file.state c.step.new.state c.loop-file.file c.next.inside.entered c.loop-file.waiting within
     further step in
-    rw (c.in_ok-file-in-Ok.ensures.file, c.in_ok-file-in-Ok.ensures.waiting) less
+    let moved = ap (λ (z : OpenFile). record z { index = c.next.inside.line }) c.file.view_is in
+    rw (c.in_ok-file-in-Ok.ensures.file, c.in_ok-file-in-Ok.ensures.waiting, moved) less
 
 pub loop-file-preserved-in-Ok : goal.loop-file-preserved-in-Ok
 loop-file-preserved-in-Ok g c =
-    let step = rw (c.in-Ok.is, c.depth.ensures) at c.step.ensures.step in
+    let step = rw (c.in-Ok.is, c.depth.ensures, ← c.next.view_is) at c.step.ensures.step in
+    let moved = ap (λ (z : OpenFile). record z { index = c.next.inside.line }) c.file.view_is in
     record {
       shelf = c.step.ensures.shelf;
       grows = extends_trans c.step.new.pass.files c.loop-file.pass.files c.args.pass.now.files c.step.ensures.grows c.loop-file.invariant.grows;
       depth =
           rw c.in_ok-file-in-Ok.ensures.waiting
-          (next_depth (surroundings_of c.args.around.now) c.step.new.pass.files c.loop-file.file.row c.loop-file.file.source.now
-          c.loop-file.file.index c.in-Ok.next.line c.loop-file.state c.step.new.state c.loop-file.waiting
-          (record c.loop-file.file { index = c.in-Ok.next.line }) c.in-Ok.next.entered c.loop-file.invariant.depth step);
+          (next_depth (surroundings_of c.args.around.now) c.step.new.pass.files c.loop-file.file.row c.loop-file.file.lines
+          c.loop-file.file.index c.next.inside.line c.loop-file.state c.step.new.state c.loop-file.waiting
+          _ c.next.inside.entered c.loop-file.invariant.depth step);
       walked =
-          rw (c.in_ok-file-in-Ok.ensures.file, c.in_ok-file-in-Ok.ensures.waiting)
-          (stack_next (surroundings_of c.args.around.now) c.loop-file.pass.files c.step.new.pass.files c.args.first.row c.args.first.source.now
-          c.args.state.now c.loop-file.state c.step.new.state c.loop-file.waiting c.loop-file.file c.in-Ok.next c.loop-file.invariant.walked
+          rw (c.in_ok-file-in-Ok.ensures.file, c.in_ok-file-in-Ok.ensures.waiting, moved)
+          (stack_next (surroundings_of c.args.around.now) c.loop-file.pass.files c.step.new.pass.files c.args.first.row c.args.first.lines
+          c.args.state.now c.loop-file.state c.step.new.state c.loop-file.waiting c.loop-file.file c.next.inside.line c.next.inside.entered c.loop-file.invariant.walked
           c.step.ensures.grows step);
     }
 
@@ -84,8 +88,8 @@ pub returns-in-Err-clause-walk : goal.returns-in-Err-clause-walk
 returns-in-Err-clause-walk g c =
     let step = rw (c.in-Err.is, c.depth.ensures) at c.step.ensures.step in
     halted (Err c.in-Err.stop) c.in-Err.stop _ _ refl step (λ fault steps.
-    subst (λ (z : State). Walks (surroundings_of c.args.around.now) c.step.new.pass.files 0 c.args.first.row c.args.first.source.now c.args.state.now
+    subst (λ (z : State). Walks (surroundings_of c.args.around.now) c.step.new.pass.files 0 c.args.first.row c.args.first.lines c.args.state.now
     (stopped z fault)) (sym c.stop.ensures)
-    (stack_stops (surroundings_of c.args.around.now) c.loop-file.pass.files c.step.new.pass.files c.args.first.row c.args.first.source.now
+    (stack_stops (surroundings_of c.args.around.now) c.loop-file.pass.files c.step.new.pass.files c.args.first.row c.args.first.lines
     c.args.state.now c.loop-file.state c.step.new.state fault c.loop-file.waiting c.loop-file.file c.loop-file.invariant.walked
     c.step.ensures.grows steps))

@@ -10,7 +10,7 @@ invariant-loop-file g l = record {
   shelf : l.pass.shelf ≡ l.around.shelf;
   grows : Extends l.pass.files l.fn.pass.files;
   depth : length l.waiting ≤ 200;
-  walked : StackSoFar (surroundings_of l.around) l.pass.files l.fn.first.row l.fn.first.source.now l.fn.state l.waiting l.file l.state;
+  walked : StackSoFar (surroundings_of l.around) l.pass.files l.fn.first.row l.fn.first.lines l.fn.state l.waiting l.file l.state;
 }
 
 abbrev pub decreases-loop-file : goal.decreases-loop-file

@@ -1,8 +1,7 @@
 use Rattle.std.proofs.Common.{List, sym, subst, ap, ◌∙◌}
 use Rattle.ppunit.specs.declared.units.Unit.{Unit as UnitOfList}
-use Rattle.pppool.specs.declared.workers.Answer.{Answer}
 use Rattle.pppool.specs.Kept.{IsKept}
-use Rattle.pppool.specs.Workers.{AreAnswers, answered}
+use Rattle.pppool.specs.Workers.{Answer, AreAnswers, answered}
 use Rattle.pppool.proofs.Answering.{answers_push, answered_push}
 use Rattle.pppool.proofs.Kept.{kept_of}
 use Rattle.pppool.proofs.workers.Worker.work_unit.Goals as goal

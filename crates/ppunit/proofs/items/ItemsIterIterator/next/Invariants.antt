@@ -1,12 +1,11 @@
 use Rattle.std.proofs.Common.{◌≡◌, ◌++◌, flat_map, length}
 use Rattle.ppunit.specs.Parts.{part_items}
 use Rattle.ppunit.specs.Yielding.{run_items}
-use Rattle.ppunit.specs.PartsLeft.{parts_left}
 use Rattle.ppunit.proofs.items.ItemsIterIterator.next.Given as goal
 
 -- only runs that were read whole were passed over
 abbrev pub invariant-loop-self : goal.invariant-loop-self
-invariant-loop-self l = run_items l.self-inside.run ++ flat_map part_items (parts_left l.self-inside.left) ≡ l.fn.self
+invariant-loop-self l = run_items l.self-inside.run ++ flat_map part_items l.self-inside.left ≡ l.fn.self
 
 abbrev pub decreases-loop-self : goal.decreases-loop-self
-decreases-loop-self l = length l.self-inside.left.parts.now
+decreases-loop-self l = length l.self-inside.left
