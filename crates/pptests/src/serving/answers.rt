@@ -5,6 +5,7 @@ use ppserve::{Contents, List, Units, deps, dump};
 use pptext::{Fault, Place, Spelling};
 use ppunit::{Items, Rows, Texts, UnitOut};
 use std::alloc::{AllocError, Global};
+use std::process::Abort;
 use std::test::Fail;
 
 /// Two units of the second file.
@@ -76,25 +77,33 @@ fn two_outs<'a>(alloc: Global) -> Result<Vec<UnitOut<'a>>, AllocError> {
     Ok(outs)
 }
 
-/// What the list of two units gives, as a text, and the same without the items.
-fn printed(alloc: Global, list: &List, outs: &[UnitOut]) -> Result<(Vec<u8>, Vec<u8>), Fail> {
-    if list.units.as_slice().len() != outs.len() {
-        return Err(Fail::new("units without an outcome"));
-    }
-    let dumped = dump(alloc, list, outs)?;
-    Ok((dumped, deps(alloc, list, outs)?))
-}
-
 const PRINTED: &str =
     "unit 0 c.c\ndep 1 c.c\ndep 0 a b.h\nfault 9 1:20:300 a%25\nunit 1 c.c\ndep 1 c.c\ndep 0 a b.h\nfault 9 1:20:300 a%25\n";
 
+/// That this is what these answers are printed as, also without the items, since they have none.
+fn assert_printed(
+    rt: &impl Abort,
+    alloc: Global,
+    list: &List,
+    outs: &[UnitOut],
+) -> Result<(), Fail> {
+    if list.units.as_slice().len() != outs.len() {
+        return Err(Fail::new("units without an outcome"));
+    }
+    assert_shown(rt, dump(alloc, list, outs)?.as_slice(), PRINTED);
+    assert_shown(rt, deps(alloc, list, outs)?.as_slice(), PRINTED);
+    Ok(())
+}
+
+/// The same of two answers.
+fn assert_two_printed(rt: &impl Abort, alloc: Global, list: &List) -> Result<(), Fail> {
+    let outs = two_outs(alloc)?;
+    assert_printed(rt, alloc, list, outs.as_slice())
+}
+
 #[test]
 fn dumps_units(rt: HostRuntime) -> Result<(), Fail> {
-    let list = list_of(rt.alloc(), two_units(rt.alloc())?)?;
-    let outs = two_outs(rt.alloc())?;
-    let (dumped, dependencies) = printed(rt.alloc(), &list, outs.as_slice())?;
-    assert_shown(&rt, dumped.as_slice(), PRINTED);
-    // they have no items
-    assert_shown(&rt, dependencies.as_slice(), PRINTED);
-    Ok(())
+    let units = two_units(rt.alloc())?;
+    let list = list_of(rt.alloc(), units)?;
+    assert_two_printed(&rt, rt.alloc(), &list)
 }

@@ -60,16 +60,25 @@ fn assert_judged(
     assert_dated(rt, alloc, ("Feb  9 2024", files, units), number)
 }
 
+/// That so many arrays, each in the one before, are refused by this number.
+fn assert_arrays_refused(
+    rt: &impl Abort,
+    alloc: Global,
+    depth: usize,
+    number: u8,
+) -> Result<(), AllocError> {
+    let list = arrays(alloc, depth)?;
+    assert_refusal(rt, alloc, list.as_str(), number)
+}
+
 #[test]
 fn refuses_what_is_no_json(rt: HostRuntime) -> Result<(), Fail> {
     for list in &["", "{\"date\":", "{\"date\":1e999}"] {
         assert_refusal(&rt, rt.alloc(), list, 1)?;
     }
     assert!(rt; refusal(rt.alloc(), b"\"\xff\"", true)? == 1);
-    for &(depth, number) in &[(100, 2), (200, 1)] {
-        let list = arrays(rt.alloc(), depth)?;
-        assert_refusal(&rt, rt.alloc(), list.as_str(), number)?;
-    }
+    assert_arrays_refused(&rt, rt.alloc(), 100, 2)?;
+    assert_arrays_refused(&rt, rt.alloc(), 200, 1)?;
     Ok(())
 }
 

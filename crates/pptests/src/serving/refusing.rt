@@ -1,6 +1,7 @@
 // Lists that a run refuses, and what the program says of a run that failed.
 use super::{arrays, list_of_one, name_of, pass_memory, run_list};
 use ppserve::{Mode, RunFault, status, words};
+use std::alloc::{AllocError, Global};
 use std::process::Abort;
 use std::test::Fail;
 use std::thread::Threads;
@@ -23,8 +24,7 @@ fn assert_refused<R: Threads + AllocGlobal + Abort + Sync>(
     pass_memory(rt, &run, "")?;
     let found = refusal(&run.outcome);
     assert!(rt; found == number, "{found} in place of {number} at {list}");
-    assert!(rt; status(&run.outcome) == 3);
-    assert!(rt; run.writer.bytes().is_empty());
+    assert!(rt; status(&run.outcome) == 3 && run.writer.bytes().is_empty());
     Ok(())
 }
 
@@ -59,16 +59,30 @@ const REFUSED: &[(&str, u8)] = &[
     ),
 ];
 
+/// That so many arrays, each in the one before, are refused by this number.
+fn assert_arrays_refused<R: Threads + AllocGlobal + Abort + Sync>(
+    rt: &R,
+    depth: usize,
+    number: u8,
+) -> Result<(), Fail> {
+    let list = arrays(rt.alloc(), depth)?;
+    assert_refused(rt, list.as_str(), number)
+}
+
+/// A list of one file whose name has so many bytes.
+fn long_named(alloc: Global, len: usize) -> Result<String, AllocError> {
+    let name = name_of(alloc, len)?;
+    list_of_one(alloc, name.as_str(), "\"text\":\"\"")
+}
+
 #[test]
 fn refuses_by_the_least_number(rt: HostRuntime) -> Result<(), Fail> {
     for &(list, number) in REFUSED {
         assert_refused(&rt, list, number)?;
     }
-    for &(depth, number) in &[(100, 2), (200, 1)] {
-        assert_refused(&rt, arrays(rt.alloc(), depth)?.as_str(), number)?;
-    }
-    let name = name_of(rt.alloc(), 1025)?;
-    let list = list_of_one(rt.alloc(), name.as_str(), "\"text\":\"\"")?;
+    assert_arrays_refused(&rt, 100, 2)?;
+    assert_arrays_refused(&rt, 200, 1)?;
+    let list = long_named(rt.alloc(), 1025)?;
     assert_refused(&rt, list.as_str(), 3)
 }
 

@@ -62,6 +62,23 @@ impl Feed for Broken<'_> {
     }
 }
 
+/// That a run that could not read its list wrote nothing, and says so.
+fn assert_unread(
+    rt: &impl Abort,
+    reader: &Broken,
+    writer: &VecSink,
+    outcome: &Result<bool, RunFault>,
+) -> Result<(), Fail> {
+    assert!(rt; writer.bytes().is_empty());
+    if matches!(outcome, Err(RunFault::Memory)) {
+        return Err(Fail::from(Memory));
+    }
+    assert!(rt; matches!(outcome, Err(RunFault::Read)));
+    assert!(rt; status(outcome) == 5);
+    assert!(rt; reader.failed() && !writer.failed());
+    Ok(())
+}
+
 #[test]
 fn writes_nothing_after_a_failed_read(rt: HostRuntime) -> Result<(), Fail> {
     let mut reader = Broken {
@@ -71,15 +88,7 @@ fn writes_nothing_after_a_failed_read(rt: HostRuntime) -> Result<(), Fail> {
     };
     let mut writer = VecSink::new(rt.alloc());
     let outcome = run_over(&rt, &mut reader, &mut writer);
-    assert!(rt; writer.bytes().is_empty());
-    if matches!(outcome, Err(RunFault::Memory)) {
-        return Err(Fail::from(Memory));
-    }
-    assert!(rt; matches!(outcome, Err(RunFault::Read)));
-    assert!(rt; status(&outcome) == 5);
-    assert!(rt; reader.failed());
-    assert!(rt; !writer.failed());
-    Ok(())
+    assert_unread(&rt, &reader, &writer, &outcome)
 }
 
 /// Takes at most so many bytes a call, and fails at one call.
@@ -151,30 +160,30 @@ fn send<R: Threads + AllocGlobal + Abort + Sync>(
     Sent { outcome, writer }
 }
 
-/// That what went out is a beginning of the whole, that it is all of it or the run says that a write failed, and that no write came after
-/// one that failed. Want of memory is a test's error.
+/// Whether a run and its writer say what they are to where all went out, or not all did: it ended well, or a write failed, and no write came
+/// after that one.
+fn is_as_told(sent: &Sent, all: bool) -> bool {
+    let writer = &sent.writer;
+    let ended = if all {
+        matches!(sent.outcome, Ok(false))
+    } else {
+        matches!(sent.outcome, Err(RunFault::Write))
+    };
+    let failed = writer.bytes.failed() || writer.calls >= writer.fails_at;
+    ended && failed == !all && writer.failed() == !all && writer.calls <= writer.fails_at
+}
+
+/// That what went out is a beginning of the whole, and that the run says whether it is all of it. Want of memory is a test's error.
 fn assert_beginning(rt: &impl Abort, sent: &Sent, whole: &[u8]) -> Result<(), Fail> {
-    let (writer, fails_at) = (&sent.writer, sent.writer.fails_at);
-    let went = writer.bytes.bytes();
+    let (went, fails_at) = (sent.writer.bytes.bytes(), sent.writer.fails_at);
     assert!(rt; whole.starts_with(went), "at call {fails_at}");
     if matches!(sent.outcome, Err(RunFault::Memory)) {
         assert!(rt; went.is_empty());
         return Err(Fail::from(Memory));
     }
     let all = went.len() == whole.len();
-    assert!(rt;
-        all == matches!(sent.outcome, Ok(false)),
-        "at call {fails_at}"
-    );
-    assert!(rt;
-        all == !matches!(sent.outcome, Err(RunFault::Write)),
-        "at call {fails_at}"
-    );
-    let failed = writer.bytes.failed() || writer.calls >= fails_at;
-    assert!(rt; all == !failed, "at call {fails_at}");
-    assert!(rt; all == !writer.failed(), "at call {fails_at}");
-    assert!(rt; writer.calls <= fails_at, "at call {fails_at}");
-    if writer.bytes.failed() {
+    assert!(rt; is_as_told(sent, all), "at call {fails_at}");
+    if sent.writer.bytes.failed() {
         return Err(Fail::from(Memory));
     }
     Ok(())
@@ -203,18 +212,40 @@ fn breaks_off_at_a_failed_write(rt: HostRuntime) -> Result<(), Fail> {
     assert_sent(&rt, EXAMPLE, EXAMPLE_OUTPUT.as_bytes(), 5, 3, 10)
 }
 
+/// That a run over the example wrote its output, or a beginning of it where memory was wanting.
+fn assert_example(
+    rt: &impl Abort,
+    bytes: &[u8],
+    outcome: &Result<bool, RunFault>,
+) -> Result<(), Fail> {
+    assert!(rt; EXAMPLE_OUTPUT.as_bytes().starts_with(bytes));
+    if matches!(outcome, Err(RunFault::Memory) | Err(RunFault::Write)) {
+        return Err(Fail::from(Memory));
+    }
+    assert!(rt; status(outcome) == 0);
+    assert!(rt; bytes.len() == EXAMPLE_OUTPUT.len());
+    Ok(())
+}
+
 #[test]
 fn serves_over_a_reader_and_a_writer(rt: HostRuntime) -> Result<(), Fail> {
     let mut reader = ReaderFeed::new(EXAMPLE.as_bytes());
     let mut bytes = Vec::new(rt.alloc());
     let mut writer = WriterSink::new(&mut bytes);
     let outcome = run_over(&rt, &mut reader, &mut writer);
-    assert!(rt; EXAMPLE_OUTPUT.as_bytes().starts_with(bytes.as_slice()));
-    if matches!(outcome, Err(RunFault::Memory) | Err(RunFault::Write)) {
-        return Err(Fail::from(Memory));
+    assert_example(&rt, bytes.as_slice(), &outcome)
+}
+
+/// That of a list's output so much goes out to writers that take at most so many bytes a call, and fail at one call.
+fn assert_each_sent<R: Threads + AllocGlobal + Abort + Sync>(
+    rt: &R,
+    list: &str,
+    whole: &str,
+    cases: &[(usize, usize, usize)],
+) -> Result<(), Fail> {
+    for &(most, fails_at, len) in cases {
+        assert_sent(rt, list, whole.as_bytes(), most, fails_at, len)?;
     }
-    assert!(rt; status(&outcome) == 0);
-    assert!(rt; bytes.len() == EXAMPLE_OUTPUT.len());
     Ok(())
 }
 
@@ -254,30 +285,27 @@ fn breaks_off_at_each_write(rt: HostRuntime) -> Result<(), Fail> {
     let name = "n".repeat(rt.alloc(), 40_000)?;
     let list = list_of_names(rt.alloc(), name.as_str())?;
     let whole = output_of_names(rt.alloc(), name.as_str())?;
-    for &(most, fails_at, len) in BROKEN_OFF {
-        assert_sent(&rt, list.as_str(), whole.as_bytes(), most, fails_at, len)?;
-    }
-    Ok(())
+    assert_each_sent(&rt, list.as_str(), whole.as_str(), BROKEN_OFF)
 }
 
 /// What went out until a call: what stands before a spelling that is longer than a page, the spelling by itself, and what is behind it.
-const BY_THE_PAGE: &[(usize, usize)] = &[(1, 0), (2, 30), (3, 65_567), (4, 65_581)];
+const BY_THE_PAGE: &[(usize, usize, usize)] = &[
+    (1_000_000, 1, 0),
+    (1_000_000, 2, 30),
+    (1_000_000, 3, 65_567),
+    (1_000_000, 4, 65_581),
+];
+
+/// A list of one file that holds this name alone.
+fn list_of_name(alloc: Global, name: &str) -> Result<String, AllocError> {
+    let text = format!(in alloc; "\"text\":\"{name}\"")?;
+    list_of_one(alloc, "a.c", text.as_str())
+}
 
 #[test]
 fn puts_more_than_a_page_holds(rt: HostRuntime) -> Result<(), Fail> {
     let long = "x".repeat(rt.alloc(), 65_537)?;
-    let text = format!(in rt.alloc(); "\"text\":\"{long}\"")?;
-    let list = list_of_one(rt.alloc(), "a.c", text.as_str())?;
+    let list = list_of_name(rt.alloc(), long.as_str())?;
     let whole = format!(in rt.alloc(); "unit 0 a.c\ntok 0:1:1 0:1:1 i+ {long}\ndep 0 a.c\nok\n")?;
-    for &(fails_at, len) in BY_THE_PAGE {
-        assert_sent(
-            &rt,
-            list.as_str(),
-            whole.as_bytes(),
-            1_000_000,
-            fails_at,
-            len,
-        )?;
-    }
-    Ok(())
+    assert_each_sent(&rt, list.as_str(), whole.as_str(), BY_THE_PAGE)
 }
