@@ -5,8 +5,8 @@
 
 For each NAME the tests are crates/NAME/out/NAME_tests, which `rt test` leaves behind.  Each test runs with its 1st, 2nd,
 3rd .. request refused, and with all refused from that one on, until a run meets no refusal; behind the Nth, fewer and fewer
-requests are refused.  N is by default 200, since threads that aren't made make some tests slow; and 20 in ppserve, whose
-tests take long texts.  As many tests run side by side as there are processors.  A test that looks at what a
+requests are refused.  N is by default 200, since threads that aren't made make some tests slow; and 20 in those of ppserve
+(`serving::` in pptests), which take long texts.  As many tests run side by side as there are processors.  A test that looks at what a
 refused call left, and calls again, passes where the second call gets what it asks for; in another the want of memory is the
 test's own error.  Whatever else fails is a problem, and so is a test with `after_want_of_memory` or
 `where_memory_is_refused` in its name that passes over no refused request: it is there to call again.
@@ -20,7 +20,7 @@ from concurrent.futures import ThreadPoolExecutor
 
 from refusals import HERE, KINDS, refused, refusing_malloc, run, tally
 
-EACH_UP_TO = {"ppserve": 20}
+LONG_TEXTS = "serving::"
 CALLS_AGAIN = re.compile(r"after_want_of_memory|where_memory_is_refused")
 WANT_OF_MEMORY = re.compile(rb"[Ee]rror: (Memory|AllocError|AllocFailed|Kind\(OutOfMemory\))")
 
@@ -61,7 +61,7 @@ def judged(name, test, malloc, each_up_to):
 def cases(names, malloc, each_up_to):
     tests = [(name, test) for name in names for test in tests_of(os.path.join(HERE, "..", "crates", name, "out", name + "_tests"))]
     with ThreadPoolExecutor(os.cpu_count()) as pool:
-        yield from pool.map(lambda one: judged(*one, malloc, each_up_to or EACH_UP_TO.get(one[0], 200)), tests)
+        yield from pool.map(lambda one: judged(*one, malloc, each_up_to or (20 if one[1].startswith(LONG_TEXTS) else 200)), tests)
 
 
 def main():

@@ -9,8 +9,6 @@ mod page;
 mod running;
 mod serving;
 mod streams;
-#[cfg(test)]
-mod tests;
 mod writing;
 
 pub use ending::{status, words};

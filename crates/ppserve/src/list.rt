@@ -6,8 +6,6 @@ ghost use Rattle.ppserve.specs.declared.list.ListFault.TheVariants.{Bad, Memory 
 
 mod drafts;
 mod judging;
-#[cfg(test)]
-mod tests;
 
 pub use crate::list::drafts::shape_decides;
 use crate::list::drafts::{Draft, draft_of};

@@ -13,9 +13,6 @@ ghost use Rattle.ppunit.specs.Parts.{part_items};
 ghost use Rattle.ppunit.specs.declared.units.Item.TheVariants as item;
 ghost use Rattle.ppserve.specs.Lines.{before_spelling, token_line};
 
-#[cfg(test)]
-mod tests;
-
 use crate::list::List;
 use crate::page::Page;
 use crate::streams::{Failed, Sink, VecSink};

@@ -94,6 +94,37 @@ pub fn serve<T: Threads + Sync, R: Feed, W: Sink>(
     ensures untouched { IfErr result (λ fault. fault ≢ WriteFailed → writer.new ≡ writer.old) }
 {
     let list = receive(alloc, reader, true, hashing)?;
+    let crew = Crew {
+        workers,
+        block,
+        mode,
+    };
+    hand_out_held(threads, alloc, writer, list, crew, hashing)
+}
+
+/// Preprocesses the units of a list that holds its files by so many workers, and writes their output once they are all done. Answers whether some unit has a
+/// fault.
+fn hand_out_held<T: Threads + Sync, W: Sink>(
+    threads: &T,
+    alloc: Global,
+    writer: &mut W,
+    list: List,
+    crew: Crew,
+    hashing: Hashing,
+) -> Result<bool, RunFault>
+    requires writer { W.has_failed writer.old ≡ false }
+    requires runnable { IsRunnable list }
+    requires contents { length list.contents ≡ length list.names }
+    requires workers { (1 ≤ crew.workers) × (crew.workers ≤ 64) }
+    requires block { (1 ≤ crew.block) × (crew.block ≤ 1024) }
+    ensures ok { IfOk result (λ any. (before after : Option (ListOf ℕ)) → Comes true before after list
+        → Serves true StandIn crew.mode before after (W.written writer.old) (W.written writer.new) any) }
+    ensures kinds { IfErr result (λ fault. (fault ≡ OutOfMemory) ⊎ (fault ≡ WriteFailed)) }
+    ensures write { IsErrOf result WriteFailed → W.has_failed writer.new ≡ true }
+    ensures broken_off { IsErrOf result WriteFailed → (before after : Option (ListOf ℕ)) → Comes true before after list
+        → BreaksOff true StandIn crew.mode before after (W.written writer.old) (W.written writer.new) }
+    ensures untouched { IfErr result (λ fault. fault ≢ WriteFailed → writer.new ≡ writer.old) }
+{
     let List {
         setting,
         names,
@@ -102,13 +133,8 @@ pub fn serve<T: Threads + Sync, R: Feed, W: Sink>(
     } = list;
     let shelf = filled_shelf(alloc, &names, setting.profile, contents, hashing)?;
     let units = units.as_slice();
-    let crew = Crew {
-        workers,
-        block,
-        mode,
-    };
     let outs = over_contents(threads, alloc, &shelf, &setting, units, crew)?;
-    let answer = hand_out(alloc, writer, mode, &names, units, outs.as_slice());
+    let answer = hand_out(alloc, writer, crew.mode, &names, units, outs.as_slice());
     // The program ends next: the system takes memory back at once, where token by token it costs a tenth of a run.
     mem::forget(outs);
     mem::forget(shelf);
@@ -183,7 +209,7 @@ fn hand_out_from<T: Threads + Sync, W: Sink, D: Disk + Send + Sync>(
         units,
         outs.as_slice(),
     );
-    // as in `serve`
+    // as in `hand_out_held`
     mem::forget(outs);
     mem::forget(shelf);
     answer

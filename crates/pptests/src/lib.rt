@@ -14,6 +14,8 @@ mod macros;
 #[cfg(test)]
 mod pool;
 #[cfg(test)]
+mod serving;
+#[cfg(test)]
 mod shelf;
 #[cfg(test)]
 mod showing;

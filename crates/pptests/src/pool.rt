@@ -2,5 +2,5 @@ mod callers;
 mod desks;
 mod failing;
 mod keeping;
-mod lists;
+pub(crate) mod lists;
 mod runs;

@@ -1,35 +1,8 @@
-use Rattle.std.proofs.Common.{◌∙◌, refl, ap, sym, length}
-use Rattle.ppserve.specs.Contents.{files_of}
-use Rattle.ppserve.specs.Needed.{needed}
 use Rattle.pppool.proofs.Placing.{if_ok_then}
-use Rattle.ppserve.proofs.Giving.{broken_off, came_of, can_run, few_units, gives_all, one_each, served}
 use Rattle.ppserve.proofs.serving.serve.Goals as goal
 
-pub over_contents-requires-clause-count : goal.over_contents-requires-clause-count
-over_contents-requires-clause-count g c κs within = few_units c.in_ok-list.list c.as_slice-units.result.now c.in_ok-list.ensures.runnable c.as_slice-units.ensures
-
-pub over_contents-requires-clause-units : goal.over_contents-requires-clause-units
-over_contents-requires-clause-units g c κs within = can_run c.in_ok-list.list c.in_ok-shelf.shelf.names c.as_slice-units.result.now c.in_ok-list.ensures.runnable c.in_ok-shelf.ensures.names c.as_slice-units.ensures
-
-pub hand_out-answer-requires-clause-counts : goal.hand_out-answer-requires-clause-counts
-hand_out-answer-requires-clause-counts g c =
-    let list = c.in_ok-list.list in
-    let outs = c.in_ok-outs.outs.items in
-    let gives = gives_all (needed c.args.mode) list c.in_ok-shelf.shelf c.as_slice-units.result.now outs c.in_ok-shelf.ensures.names c.in_ok-shelf.ensures.files c.as_slice-units.ensures c.in_ok-outs.ensures in
-    ap length c.as_slice.ensures.value ∙ (one_each (needed c.args.mode) list.names (files_of list.contents) list.setting list.units outs gives ∙ sym (ap length c.as_slice-units.ensures))
-
 pub returns-clause-ok : goal.returns-clause-ok
-returns-clause-ok g c =
-    let list = c.in_ok-list.list in
-    let outs = c.in_ok-outs.outs.items in
-    let gives = gives_all (needed c.args.mode) list c.in_ok-shelf.shelf c.as_slice-units.result.now outs c.in_ok-shelf.ensures.names c.in_ok-shelf.ensures.files c.as_slice-units.ensures c.in_ok-outs.ensures in
-    if_ok_then c.hand_out-answer.result c.hand_out-answer.ensures.ok (λ any given. served c.args.mode list _ _ _ _ any (came_of c.args.mode list c.as_slice-units.result.now c.as_slice.result.now outs
-    c.as_slice-units.ensures c.as_slice.ensures.value c.in_ok-list.ensures.ok (files_of list.contents) refl gives) given)
+returns-clause-ok g c = if_ok_then c.hand_out_held.result c.hand_out_held.ensures.ok (λ any serves. serves _ _ c.in_ok-list.ensures.ok)
 
 pub returns-clause-broken_off : goal.returns-clause-broken_off
-returns-clause-broken_off g c = λ failed.
-    let list = c.in_ok-list.list in
-    let outs = c.in_ok-outs.outs.items in
-    let gives = gives_all (needed c.args.mode) list c.in_ok-shelf.shelf c.as_slice-units.result.now outs c.in_ok-shelf.ensures.names c.in_ok-shelf.ensures.files c.as_slice-units.ensures c.in_ok-outs.ensures in
-    broken_off c.args.mode list _ _ _ _ (came_of c.args.mode list c.as_slice-units.result.now c.as_slice.result.now outs
-    c.as_slice-units.ensures c.as_slice.ensures.value c.in_ok-list.ensures.ok (files_of list.contents) refl gives) (c.hand_out-answer.ensures.front failed)
+returns-clause-broken_off g c = λ failed. c.hand_out_held.ensures.broken_off failed _ _ c.in_ok-list.ensures.ok
