@@ -125,22 +125,20 @@ fn is_hidden<R: Abort>(rt: &R, sets: &HideSets, token: &Token, one: Set, two: Se
     sets.hides(&hidden_by_both(sets, token, one, two))
 }
 
-/// Asserts that the sets of `a` and of `b` together hide the first two of three tokens.
-fn assert_first_two_hidden<R: Abort>(
+/// Asserts whether the sets of `a` and of `b` together hide each of these tokens.
+fn assert_hidden<R: Abort>(
     rt: &R,
     sets: &mut HideSets,
     tokens: &[Token],
+    wanted: &[bool],
 ) -> Result<(), Memory> {
     let none = sets.empty();
     let a = more(rt, sets, none, b"a")?;
     let b = more(rt, sets, none, b"b")?;
-    let mut hidden = 0;
-    for token in tokens {
-        if is_hidden(rt, sets, token, a, b) {
-            hidden += 1;
-        }
+    assert_same(rt, "count", &tokens.len(), &wanted.len());
+    for (token, is) in tokens.iter().zip(wanted) {
+        assert_same(rt, "token", &is_hidden(rt, sets, token, a, b), is);
     }
-    assert_same(rt, "count", &hidden, &2);
     Ok(())
 }
 
@@ -148,5 +146,5 @@ fn assert_first_two_hidden<R: Abort>(
 fn hides_by_either_set(rt: HostRuntime) -> Result<(), Fail> {
     let tokens = lexed(rt.alloc(), "a b c")?;
     let mut sets = HideSets::new(rt.alloc())?;
-    Ok(assert_first_two_hidden(&rt, &mut sets, tokens.as_slice())?)
+    Ok(assert_hidden(&rt, &mut sets, tokens.as_slice(), &[true, true, false])?)
 }
