@@ -10,12 +10,7 @@ use Rattle.ppserve.specs.Drafting.{draft_file, draft_unit, profile_at, written, 
 use Rattle.ppserve.specs.Shape.{IsText, HasText, AreItems, nothing, more, HasItems, HasTexts, no_texts, some_texts}
 use Rattle.ppserve.specs.Shape.{HasContent, as_text, as_hex, left_out, HasProfile, no_profile, some_profile}
 use Rattle.ppserve.specs.Shape.{HasBudget, no_budget, whole_budget, other_budget, IsFileDraft, IsUnitDraft, IsSettingDraft, IsDraft}
-use Rattle.ppserve.specs.declared.list.drafts.DraftFile.{DraftFile}
-use Rattle.ppserve.specs.declared.list.drafts.DraftUnit.{DraftUnit}
-use Rattle.ppserve.specs.declared.list.drafts.DraftBudget.{DraftBudget}
-use Rattle.ppserve.specs.declared.list.drafts.DraftBudget.TheVariants as budget
-use Rattle.ppserve.specs.declared.list.drafts.DraftSetting.{DraftSetting}
-use Rattle.ppserve.specs.declared.list.drafts.Draft.{Draft}
+use Rattle.ppserve.specs.Drafts.{DraftFile, DraftUnit, DraftBudget, Missing, DraftSetting, Draft}
 
 -- ---- one value
 
@@ -134,7 +129,7 @@ budget_from_member : (d : Data) (b : DraftBudget) → budget_at d ≡ Some b →
 budget_from_member d b e = by (get (codes "budget") d) refl e
   where
     by : (o : Option Data) → get (codes "budget") d ≡ o → budget_from o ≡ Some b → HasBudget d b
-    by None at e = subst (HasBudget d) (same_Some budget.Missing b e) (no_budget at)
+    by None at e = subst (HasBudget d) (same_Some Missing b e) (no_budget at)
     by (Some v) at e =
         let m = mapped (λ (n : Num). written (as_u64 n)) (as_number v) b e in
         subst (HasBudget d) m.2 (numbered d m.0 (as_u64 m.0) (at ∙ ap Some (is_number v m.0 m.1)) refl)

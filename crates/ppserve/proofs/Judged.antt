@@ -23,9 +23,7 @@ use Rattle.ppshelf.proofs.Naming.{names_from_test}
 use Rattle.ppserve.specs.Listing.{accepted, refused, json_value, outcome_of, judged, listed, listed_unit, names_of, contents_of, names_hold, sizes_hold}
 use Rattle.ppserve.specs.Listing.{are_known, times_hold, lines_hold, folders_hold, profile_holds, profile_of, budget_holds, most_input, IsRunnable}
 use Rattle.ppserve.specs.declared.list.List.{List as CompilationList}
-use Rattle.ppserve.specs.declared.list.drafts.Draft.{Draft}
-use Rattle.ppserve.specs.declared.list.drafts.DraftFile.{DraftFile}
-use Rattle.ppserve.specs.declared.list.drafts.DraftUnit.{DraftUnit}
+use Rattle.ppserve.specs.Drafts.{Draft, DraftFile, DraftUnit}
 
 fits_test : (most n : ℕ) → n ≤ most → nat_lt most n ≡ false
 fits_test most n h = grind (arith, nat_tests)

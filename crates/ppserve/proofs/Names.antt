@@ -4,7 +4,7 @@ use Rattle.std.proofs.lemmas.List.{get_or-map, length-map}
 use Rattle.ppshelf.specs.Names.{name_in}
 use Rattle.ppshelf.proofs.Naming.{Indexed}
 use Rattle.ppserve.specs.Listing.{names_of}
-use Rattle.ppserve.specs.declared.list.drafts.DraftFile.{DraftFile}
+use Rattle.ppserve.specs.Drafts.{DraftFile}
 
 -- the file whose turn it is, with its name, behind those whose names the index holds
 pub record Turn (files : List DraftFile) (row : ℕ) (index : List (List ℕ)) (name : List ℕ) : Type 0 where

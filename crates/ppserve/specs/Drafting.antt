@@ -4,12 +4,7 @@ use Rattle.std.specs.Prelude.{if◌then◌else◌, codes, Option, Some, None, op
 use Rattle.serde_json.specs.Data.{Num, Data, Items, no_items, item}
 use Rattle.serde_json.specs.Find.{get, as_number, as_str, as_array, as_u64}
 use Rattle.ppserve.specs.Shape.{is_object_of, file_members, unit_members, list_members, hex_bytes, IsDraft}
-use Rattle.ppserve.specs.declared.list.drafts.DraftFile.{DraftFile}
-use Rattle.ppserve.specs.declared.list.drafts.DraftUnit.{DraftUnit}
-use Rattle.ppserve.specs.declared.list.drafts.DraftBudget.{DraftBudget}
-use Rattle.ppserve.specs.declared.list.drafts.DraftBudget.TheVariants as budget
-use Rattle.ppserve.specs.declared.list.drafts.DraftSetting.{DraftSetting}
-use Rattle.ppserve.specs.declared.list.drafts.Draft.{Draft}
+use Rattle.ppserve.specs.Drafts.{DraftFile, DraftUnit, DraftBudget, Missing, Whole, Other, DraftSetting, Draft}
 
 -- what comes of a part where it is there, and nothing where it is not
 abbrev pub given : {A B : Type 0} → Option A → (A → Option B) → Option B
@@ -77,12 +72,12 @@ profile_at d = text_or (codes "c11") (get (codes "profile") d)
 
 -- a number as it is written: a whole one of 64 bits without a sign, or another
 abbrev pub written : Option ℕ → DraftBudget
-written (Some n) = budget.Whole n
-written None = budget.Other
+written (Some n) = Whole n
+written None = Other
 
 -- the budget, a number, or that it is missing
 abbrev pub budget_from : Option Data → Option DraftBudget
-budget_from None = Some budget.Missing
+budget_from None = Some Missing
 budget_from (Some d) = option_map (λ (n : Num). written (as_u64 n)) (as_number d)
 
 abbrev pub budget_at : Data → Option DraftBudget

@@ -1,3 +1,4 @@
+pub mod Drafts
 pub mod Shape
 pub mod Drafting
 pub mod Listing

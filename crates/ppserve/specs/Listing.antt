@@ -19,12 +19,7 @@ use Rattle.ppserve.specs.Drafting.{draft}
 use Rattle.ppserve.specs.declared.list.List.{List as CompilationList}
 use Rattle.ppserve.specs.declared.list.ListFault.{ListFault}
 use Rattle.ppserve.specs.declared.list.ListFault.TheVariants.{Bad, Memory}
-use Rattle.ppserve.specs.declared.list.drafts.Draft.{Draft}
-use Rattle.ppserve.specs.declared.list.drafts.DraftFile.{DraftFile}
-use Rattle.ppserve.specs.declared.list.drafts.DraftUnit.{DraftUnit}
-use Rattle.ppserve.specs.declared.list.drafts.DraftBudget.{DraftBudget}
-use Rattle.ppserve.specs.declared.list.drafts.DraftBudget.TheVariants as budget
-use Rattle.ppserve.specs.declared.list.drafts.DraftSetting.{DraftSetting}
+use Rattle.ppserve.specs.Drafts.{DraftFile, DraftUnit, DraftBudget, Missing, Whole, Other, DraftSetting, Draft}
 
 -- a list, or the number of its refusal
 pub data Outcome : Type 0 where
@@ -93,18 +88,18 @@ most_budget = 2 ^ 32 - 1
 
 -- no budget, or a whole number that isn't too large
 abbrev pub is_budget : DraftBudget → Bool
-is_budget budget.Missing = true
-is_budget (budget.Whole n) = nat_le n most_budget
-is_budget budget.Other = false
+is_budget Missing = true
+is_budget (Whole n) = nat_le n most_budget
+is_budget Other = false
 
 abbrev pub budget_holds : DraftSetting → Bool
 budget_holds s = is_budget s.budget
 
 -- what the list allows each unit, if it says so
 abbrev pub budget_of : DraftBudget → Option ℕ
-budget_of budget.Missing = None
-budget_of (budget.Whole n) = Some n
-budget_of budget.Other = None
+budget_of Missing = None
+budget_of (Whole n) = Some n
+budget_of Other = None
 
 abbrev pub listed_setting : DraftSetting → Setting
 listed_setting s = record {

@@ -5,12 +5,7 @@ use Rattle.std.specs.List.{list_any}
 use Rattle.std.specs.Str.{bytes_eq}
 use Rattle.serde_json.specs.Data.{Num, Data, number, string, array, Items, no_items, item, Members, no_members, member}
 use Rattle.serde_json.specs.Find.{get, as_object, as_u64}
-use Rattle.ppserve.specs.declared.list.drafts.DraftFile.{DraftFile}
-use Rattle.ppserve.specs.declared.list.drafts.DraftUnit.{DraftUnit}
-use Rattle.ppserve.specs.declared.list.drafts.DraftBudget.{DraftBudget}
-use Rattle.ppserve.specs.declared.list.drafts.DraftBudget.TheVariants as budget
-use Rattle.ppserve.specs.declared.list.drafts.DraftSetting.{DraftSetting}
-use Rattle.ppserve.specs.declared.list.drafts.Draft.{Draft}
+use Rattle.ppserve.specs.Drafts.{DraftFile, DraftUnit, DraftBudget, Missing, Whole, Other, DraftSetting, Draft}
 
 -- ---- names of members
 
@@ -101,15 +96,15 @@ pub data HasProfile (d : Data) : List ℕ → Type 0 where
 
 -- the budget: missing, a whole number of 64 bits without a sign, or another number
 pub data HasBudget (d : Data) : DraftBudget → Type 0 where
-  no_budget : get (codes "budget") d ≡ None → HasBudget d budget.Missing
+  no_budget : get (codes "budget") d ≡ None → HasBudget d Missing
   whole_budget : {n : Num} {amount : ℕ}
       → get (codes "budget") d ≡ Some (number n)
       → as_u64 n ≡ Some amount
-      → HasBudget d (budget.Whole amount)
+      → HasBudget d (Whole amount)
   other_budget : {n : Num}
       → get (codes "budget") d ≡ Some (number n)
       → as_u64 n ≡ None
-      → HasBudget d budget.Other
+      → HasBudget d Other
 
 -- ---- one object, a field a member
 

@@ -12,12 +12,21 @@ use pptext::Sequence;
 use ppunit::{Text, Texts};
 use serde_json::{Map, Value};
 use std::alloc::Global;
+use std::marker::Model;
 
 /// A file of a list as it stands.
 #[derive(Drop, Debug)]
 pub(super) struct DraftFile {
     pub(super) name: Text,
     pub(super) content: Sequence<u8>,
+}
+
+impl Model for DraftFile {
+    ghost use Rattle.ppserve.specs.Drafts.{DraftFile};
+
+    ghost Value = { DraftFile };
+
+    ghost view = { λ f. record { name = f.name; content = f.content } };
 }
 
 /// A unit of a list as it stands, with the name of its file.
@@ -28,15 +37,38 @@ pub(super) struct DraftUnit {
     pub(super) search: Texts,
 }
 
-/// A list's budget as it stands.
-#[derive(Clone, Copy, Drop, Debug)]
-pub(super) enum DraftBudget {
+impl Model for DraftUnit {
+    ghost use Rattle.ppserve.specs.Drafts.{DraftUnit};
+
+    ghost Value = { DraftUnit };
+
+    ghost view = { λ u. record { file = u.file; defines = u.defines; search = u.search } };
+}
+
+/// How a list's budget is written.
+#[derive(Drop, Debug)]
+pub(super) enum WrittenBudget {
     /// The list has none.
     Missing,
     /// A whole number of 64 bits without a sign.
     Whole(u64),
     /// Another number: one below 0, a fraction, or one that is too large.
     Other,
+}
+
+/// A list's budget as it stands.
+#[derive(Drop, Debug)]
+pub(super) struct DraftBudget {
+    pub(super) written: WrittenBudget,
+}
+
+impl Model for DraftBudget {
+    ghost use Rattle.ppserve.specs.Drafts as drafts;
+    ghost use Rattle.ppserve.specs.declared.list.drafts.WrittenBudget.TheVariants.{Missing, Whole, Other};
+
+    ghost Value = { drafts.DraftBudget };
+
+    ghost view = { λ b. elim b.written [ Missing ↦ drafts.Missing | Whole n ↦ drafts.Whole n | Other ↦ drafts.Other ] };
 }
 
 /// What all units share as it stands, with the text of the profile.
@@ -49,12 +81,34 @@ pub(super) struct DraftSetting {
     pub(super) search: Texts,
 }
 
+impl Model for DraftSetting {
+    ghost use Rattle.ppserve.specs.Drafts.{DraftSetting};
+
+    ghost Value = { DraftSetting };
+
+    ghost view = { λ s. record {
+      profile = s.profile;
+      budget = s.budget;
+      date = s.date;
+      time = s.time;
+      search = s.search;
+    } };
+}
+
 /// A list as it stands.
 #[derive(Drop, Debug)]
 pub(super) struct Draft {
     pub(super) setting: DraftSetting,
     pub(super) files: Sequence<DraftFile>,
     pub(super) units: Sequence<DraftUnit>,
+}
+
+impl Model for Draft {
+    ghost use Rattle.ppserve.specs.Drafts.{Draft};
+
+    ghost Value = { Draft };
+
+    ghost view = { λ d. record { setting = d.setting; files = d.files; units = d.units } };
 }
 
 /// The list as it stands.
@@ -125,15 +179,18 @@ fn budget_at(value: &Value) -> Result<DraftBudget, ListFault>
     ensures err { IfErr result (RefusedFor 2 (drafting.budget_at (view value.now) ≡ None)) }
 {
     let Some(member) = value.get("budget") else {
-        return Ok(DraftBudget::Missing);
+        return Ok(DraftBudget {
+            written: WrittenBudget::Missing,
+        });
     };
     let Some(number) = member.as_number() else {
         return Err(ListFault::Bad(2));
     };
-    Ok(match number.as_u64() {
-        Some(whole) => DraftBudget::Whole(whole),
-        None => DraftBudget::Other,
-    })
+    let written = match number.as_u64() {
+        Some(whole) => WrittenBudget::Whole(whole),
+        None => WrittenBudget::Other,
+    };
+    Ok(DraftBudget { written })
 }
 
 fn text_of(value: &Value) -> Result<&str, ListFault>

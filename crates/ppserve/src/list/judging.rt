@@ -9,7 +9,7 @@ ghost use Rattle.ppserve.specs.Listing as spec;
 ghost use Rattle.ppserve.specs.Listing.{RefusedFor, judged, judged_texts, judged_choices, accepted, refused};
 ghost use Rattle.ppserve.specs.declared.list.ListFault.TheVariants.{Bad};
 
-use crate::list::drafts::{Draft, DraftBudget, DraftFile, DraftSetting, DraftUnit};
+use crate::list::drafts::{Draft, DraftBudget, DraftFile, DraftSetting, DraftUnit, WrittenBudget};
 use crate::list::{Contents, List, ListFault, Units};
 use ppshelf::{Index, LONGEST, MOST_ROWS, is_folder, is_name};
 use pptext::{Hashing, Memory, Profile, Sequence};
@@ -78,7 +78,7 @@ fn judge_choices(
     let Some(profile) = profile_named(draft.setting.profile.as_str()) else {
         return Err(ListFault::Bad(9));
     };
-    if !is_budget(draft.setting.budget) {
+    if !is_budget(&draft.setting.budget) {
         return Err(ListFault::Bad(10));
     }
     Ok(listed(alloc, draft, index, profile, inline)?)
@@ -151,13 +151,13 @@ fn profile_named(text: &str) -> Option<Profile>
 }
 
 /// Whether a list may have this budget: none, or a whole number of at most 32 bits.
-fn is_budget(budget: DraftBudget) -> bool
-    ensures { result ≡ spec.is_budget budget }
+fn is_budget(budget: &DraftBudget) -> bool
+    ensures { result ≡ spec.is_budget budget.now }
 {
-    match budget {
-        DraftBudget::Missing => true,
-        DraftBudget::Whole(number) => number <= MOST_BUDGET,
-        DraftBudget::Other => false,
+    match budget.written {
+        WrittenBudget::Missing => true,
+        WrittenBudget::Whole(number) => number <= MOST_BUDGET,
+        WrittenBudget::Other => false,
     }
 }
 
@@ -165,9 +165,9 @@ fn is_budget(budget: DraftBudget) -> bool
 fn budget_of(budget: DraftBudget) -> Option<u64>
     ensures { result ≡ spec.budget_of budget }
 {
-    match budget {
-        DraftBudget::Whole(number) => Some(number),
-        DraftBudget::Missing | DraftBudget::Other => None,
+    match budget.written {
+        WrittenBudget::Whole(number) => Some(number),
+        WrittenBudget::Missing | WrittenBudget::Other => None,
     }
 }
 

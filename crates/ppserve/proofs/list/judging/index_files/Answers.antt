@@ -1,10 +1,13 @@
-use Rattle.std.proofs.Common.{◌≡◌, ◌∙◌, sym, refl, inr, List, ℕ, length, arith}
+use Rattle.std.proofs.Common.{◌≡◌, ◌∙◌, sym, ap, refl, inr, List, ℕ, length, arith}
 use Rattle.std.proofs.lemmas.List.{length-map}
 use Rattle.ppshelf.proofs.Naming.{bad_form, next_name, put_fails, test_fails, test_of_names}
 use Rattle.ppserve.specs.Listing.{names_of}
-use Rattle.ppserve.specs.declared.list.drafts.DraftFile.{DraftFile}
+use Rattle.ppserve.specs.Drafts.{DraftFile}
 use Rattle.ppserve.proofs.Names.{Turn, turn}
 use Rattle.ppserve.proofs.list.judging.index_files.Goals as goal
+
+abbrev name_of : DraftFile → List ℕ
+name_of f = f.name
 
 pub returns-then-not-is_name-clause-err : goal.returns-then-not-is_name-clause-err
 returns-then-not-is_name-clause-err c =
@@ -12,7 +15,7 @@ returns-then-not-is_name-clause-err c =
     let row = c.loop-file.file-index in
     let index = c.loop-file.index in
     let name = c.as_bytes-name.result.now in
-    let t : Turn files row index name = turn files row index c.file-item.result name c.loop-file-test.true c.file-item.is (c.as_bytes-name.ensures.value ∙ c.as_str.ensures) c.loop-file.invariant in
+    let t : Turn files row index name = turn files row index c.file-item.result name c.loop-file-test.true c.file-item.is (c.as_bytes-name.ensures.value ∙ (c.as_str.ensures ∙ ap name_of c.file.view_is)) c.loop-file.invariant in
     inr (refl, test_fails (names_of files) row t.within (bad_form (names_of files) row name t.name_is (sym c.is_name.ensures ∙ c.if-not-is_name.true)))
 
 pub returns-then-not-new-clause-err : goal.returns-then-not-new-clause-err
@@ -21,7 +24,7 @@ returns-then-not-new-clause-err c =
     let row = c.loop-file.file-index in
     let index = c.loop-file.index in
     let name = c.as_bytes-name.result.now in
-    let t : Turn files row index name = turn files row index c.file-item.result name c.loop-file-test.true c.file-item.is (c.as_bytes-name.ensures.value ∙ c.as_str.ensures) c.loop-file.invariant in
+    let t : Turn files row index name = turn files row index c.file-item.result name c.loop-file-test.true c.file-item.is (c.as_bytes-name.ensures.value ∙ (c.as_str.ensures ∙ ap name_of c.file.view_is)) c.loop-file.invariant in
     inr (refl, test_fails (names_of files) row t.within (put_fails (names_of files) row name index c.push.new.self t.names t.within t.name_is c.in_ok-new.new c.if-not-new.true c.in_ok-new.ensures))
 
 pub loop-file-preserved : goal.loop-file-preserved
@@ -30,13 +33,12 @@ loop-file-preserved c =
     let row = c.loop-file.file-index in
     let index = c.loop-file.index in
     let name = c.as_bytes-name.result.now in
-    let t : Turn files row index name = turn files row index c.file-item.result name c.loop-file-test.true c.file-item.is (c.as_bytes-name.ensures.value ∙ c.as_str.ensures) c.loop-file.invariant in
+    let t : Turn files row index name = turn files row index c.file-item.result name c.loop-file-test.true c.file-item.is (c.as_bytes-name.ensures.value ∙ (c.as_str.ensures ∙ ap name_of c.file.view_is)) c.loop-file.invariant in
     next_name (names_of files) row name index c.push.new.self t.names t.within t.name_is (sym c.is_name.ensures ∙ c.if-not-is_name.false) c.in_ok-new.new c.if-not-new.false c.in_ok-new.ensures
 
 pub returns-clause-ok : goal.returns-clause-ok
 returns-clause-ok c =
     let files = c.args.files.now in
     let all = c.loop-file-test.false in
-    let name_of : DraftFile → List ℕ = λ f. f.name in
     let count : length (names_of files) ≡ length files = length-map files name_of in
     test_of_names (names_of files) (λ row within. c.loop-file.invariant.good row (omega arith))

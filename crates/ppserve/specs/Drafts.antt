@@ -1,0 +1,32 @@
+-- A list as it stands in JSON, before its names and times are judged.
+use Rattle.std.specs.Prelude.{ℕ, List}
+
+-- a file, with its content where lists hold contents
+pub record DraftFile : Type 0 where
+  pub name : List ℕ
+  pub content : List ℕ
+
+-- a unit, with the name of its file
+pub record DraftUnit : Type 0 where
+  pub file : List ℕ
+  pub defines : List (List ℕ)
+  pub search : List (List ℕ)
+
+-- the budget: missing, a whole number of 64 bits without a sign, or another number
+pub data DraftBudget : Type 0 where
+  Missing : DraftBudget
+  Whole : ℕ → DraftBudget
+  Other : DraftBudget
+
+-- what all units share, with the text of the profile
+pub record DraftSetting : Type 0 where
+  pub profile : List ℕ
+  pub budget : DraftBudget
+  pub date : List ℕ
+  pub time : List ℕ
+  pub search : List (List ℕ)
+
+pub record Draft : Type 0 where
+  pub setting : DraftSetting
+  pub files : List DraftFile
+  pub units : List DraftUnit
