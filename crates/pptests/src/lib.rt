@@ -12,10 +12,6 @@ mod expanding;
 #[cfg(test)]
 mod macros;
 #[cfg(test)]
-mod pool;
-#[cfg(test)]
-mod serving;
-#[cfg(test)]
 mod shelf;
 #[cfg(test)]
 mod showing;

@@ -1,6 +1,6 @@
 // What is read of lists.
+use super::assert_shown;
 use super::judging::refusal;
-use crate::showing::assert_shown;
 use ppserve::{List, ListFault, read_list};
 use pptext::Hashing;
 use ppunit::Unit;

@@ -1,5 +1,5 @@
 use Rattle.pppool.proofs.Closing.{nearer}
-use Rattle.pptests.proofs.pool.desks.drain.Goals as goal
+use Rattle.ppruntests.proofs.pool.desks.drain.Goals as goal
 
 pub loop-count-smaller : goal.loop-count-smaller
 loop-count-smaller c =

@@ -1,6 +1,6 @@
 use Rattle.std.proofs.Common.{◌≡◌, ◌-◌}
 use Rattle.pppool.proofs.Closing.{next_claim}
-use Rattle.pptests.proofs.pool.desks.drain.Given as goal
+use Rattle.ppruntests.proofs.pool.desks.drain.Given as goal
 
 abbrev pub invariant-loop-count : goal.invariant-loop-count
 invariant-loop-count l = l.seat.desk ≡ l.desk

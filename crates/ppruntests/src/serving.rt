@@ -16,6 +16,11 @@ use std::process::Abort;
 use std::test::Fail;
 use std::thread::Threads;
 
+/// That what was found is the text that was wanted.
+fn assert_shown(rt: &impl Abort, found: &[u8], wanted: &str) {
+    assert!(rt; found == wanted.as_bytes(), "{found:?} for {wanted}");
+}
+
 /// So many arrays, each in the one before.
 fn arrays(alloc: Global, depth: usize) -> Result<String, AllocError> {
     let opening = "[".repeat(alloc, depth)?;

@@ -1,6 +1,6 @@
 // The output of units whose answers are known.
+use super::assert_shown;
 use crate::pool::lists::{setting_of, unit_of};
-use crate::showing::assert_shown;
 use ppserve::{Contents, List, Units, deps, dump};
 use pptext::{Fault, Place, Spelling};
 use ppunit::{Items, Rows, Texts, UnitOut};

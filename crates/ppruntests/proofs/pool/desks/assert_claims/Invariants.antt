@@ -1,5 +1,5 @@
 use Rattle.std.proofs.Common.{◌≡◌, All}
-use Rattle.pptests.proofs.pool.desks.assert_claims.Given as goal
+use Rattle.ppruntests.proofs.pool.desks.assert_claims.Given as goal
 
 abbrev pub invariant-loop-place : goal.invariant-loop-place
 invariant-loop-place g l = All (λ s. s.desk ≡ l.desk) l.seats.items
