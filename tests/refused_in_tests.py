@@ -6,7 +6,7 @@
 For each NAME the tests are crates/NAME/out/NAME_tests, which `rt test` leaves behind.  Each test runs with its 1st, 2nd,
 3rd .. request refused, and with all refused from that one on, until a run meets no refusal; behind the Nth, fewer and fewer
 requests are refused.  N is by default 200, since threads that aren't made make some tests slow; and 20 in those of ppserve
-(`serving::` in pptests), which take long texts.  As many tests run side by side as there are processors.  A test that looks at what a
+(`serving::` in ppruntests), which take long texts.  As many tests run side by side as there are processors.  A test that looks at what a
 refused call left, and calls again, passes where the second call gets what it asks for; in another the want of memory is the
 test's own error.  Whatever else fails is a problem, and so is a test with `after_want_of_memory` or
 `where_memory_is_refused` in its name that passes over no refused request: it is there to call again.
