@@ -250,6 +250,22 @@ fn put<'a>(
     Ok(())
 }
 
+// Puts a part behind the chains. Whether `##` stands behind them then.
+fn put_item<'a>(
+    chains: &mut Vec<Chain<'a>>,
+    joined: bool,
+    item: Item<'a>,
+) -> Result<bool, AllocError>
+    ensures { IfOk result (λ j. (is : List definitions.Item) → resumed j chains.new.items is ≡ resumed joined chains.old.items
+        ((elim item.entry [ Item.Operates mark operand ↦ definitions.Operates mark operand | Item.Joins ↦ definitions.Joins ]) ∷ is)) }
+{
+    let Item::Operates(mark, operand) = item else {
+        return Ok(true);
+    };
+    put(chains, joined, mark, operand)?;
+    Ok(false)
+}
+
 // The chains of these tokens.
 fn chains_in<'a>(
     alloc: Global,
@@ -270,12 +286,7 @@ fn chains_in<'a>(
             continue;
         };
         hash = None;
-        let Item::Operates(mark, operand) = item else {
-            joined = true;
-            continue;
-        };
-        put(&mut chains, joined, mark, operand)?;
-        joined = false;
+        joined = put_item(&mut chains, joined, item)?;
     }
     Ok(Chains::new(chains))
 }

@@ -75,6 +75,32 @@ fn push_entries<'a>(
     Ok(())
 }
 
+// What each token of a replacement list is.
+fn entries_of<'a>(
+    alloc: Global,
+    shape: &Parameters,
+    body: &'a [Token],
+) -> Result<Vec<Entry<'a>>, AllocError>
+    ensures { IfOk result (λ v. v.items ≡ map (entry_of shape.now) body.now) }
+{
+    let mut entries = Vec::with_capacity(alloc, body.len())?;
+    push_entries(&mut entries, shape, body)?;
+    Ok(entries)
+}
+
+// What each token of a definition's replacement list is. Its parameters are hashed so.
+fn entries_in<'a>(
+    alloc: Global,
+    definition: &Definition<'a>,
+    hashing: Hashing,
+) -> Result<Vec<Entry<'a>>, AllocError>
+    ensures { IfOk result (λ v. v.items ≡ map (entry_of definition.now.shape) definition.now.body) }
+{
+    let body = definition.body.as_slice();
+    let shape = Parameters::new(alloc, &definition.shape, body.len(), hashing)?;
+    entries_of(alloc, &shape, body)
+}
+
 /// A definition's replacement list. Its parameters are hashed so. What it needs of the stack isn't to stand in each level of arguments that asks for it.
 #[inline(never)]
 pub(crate) fn pattern_of<'a>(
@@ -84,12 +110,8 @@ pub(crate) fn pattern_of<'a>(
 ) -> Result<Pattern<'a>, AllocError>
     ensures { IfOk result (λ p. listed p ≡ chains_of definition.now) }
 {
-    let body = definition.body.as_slice();
-    if has_operator(body) {
+    if has_operator(definition.body.as_slice()) {
         return Ok(Pattern::Joined(chains_of(alloc, definition, hashing)?));
     }
-    let shape = Parameters::new(alloc, &definition.shape, body.len(), hashing)?;
-    let mut entries = Vec::with_capacity(alloc, body.len())?;
-    push_entries(&mut entries, &shape, body)?;
-    Ok(Pattern::Alone(entries))
+    Ok(Pattern::Alone(entries_in(alloc, definition, hashing)?))
 }

@@ -55,6 +55,15 @@ fn chain_tokens<'x, 'a: 'x>(
     join_all(alloc, sets, lists.as_slice(), used)
 }
 
+// A copy of a token, with this mark.
+fn marked_copy<'a>(token: &Hidden<'a>, mark: bool) -> Result<Hidden<'a>, AllocError>
+    ensures { IfOk result (λ h. h ≡ record token.now { token = record token.now.token { space = mark } }) }
+{
+    let mut hidden = token.clone()?;
+    hidden.mark(mark);
+    Ok(hidden)
+}
+
 // Puts a chain's tokens behind the others, the first with the pending mark. The mark that is pending then.
 fn push_chain<'a>(
     tokens: &mut Vec<Hidden<'a>>,
@@ -65,15 +74,12 @@ fn push_chain<'a>(
     ensures pending { IfOk result (λ p. (s : Numbered) → p ≡ (mark_first pending (hidings s more.now)).pending) }
     ensures known { OnOk result ((s : Numbered) → AllKnown s tokens.old.items → AllKnown s more.now → AllKnown s tokens.new.items) }
 {
-    let first = match more.first() {
-        Some(first) => first,
-        None => return Ok(pending),
+    let Some((first, others)) = more.split_first() else {
+        return Ok(pending);
     };
-    let mut hidden = first.clone()?;
-    hidden.mark(pending);
     tokens.reserve(more.len())?;
-    tokens.push(hidden)?;
-    push_all(tokens, &more[1..])?;
+    push_one(tokens, marked_copy(first, pending)?)?;
+    push_all(tokens, others)?;
     Ok(false)
 }
 

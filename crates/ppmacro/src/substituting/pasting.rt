@@ -8,7 +8,7 @@ ghost use Rattle.pptext.specs.Stops.{Answers};
 use crate::flying::Hidden;
 use crate::hide_sets::HideSets;
 use crate::substituting::lexing::kind_of;
-use pptext::{Fault, Memory, Place, Spelling, Stop, Token, settled};
+use pptext::{Fault, Kind, Memory, Place, Spelling, Stop, Token, settled};
 use std::alloc::{AllocError, Global};
 
 // Both spellings as one.
@@ -18,6 +18,19 @@ fn both(alloc: Global, left: &Hidden, right: &Hidden) -> Result<Vec<u8>, AllocEr
     let mut text = Vec::from_slice(alloc, left.text())?;
     text.extend_from_slice(right.text())?;
     Ok(text)
+}
+
+// A token of this kind and spelling, with the place and space mark of the left one.
+fn made_of(kind: Kind, text: Vec<u8>, left: &Hidden, used: Place) -> Result<Token, AllocError>
+    ensures { IfOk result (λ t. t ≡ record { kind = kind; text = text.items; space = left.now.token.space; at = left.now.token.at; used = used }) }
+{
+    Ok(Token {
+        kind,
+        text: Spelling::new(text)?,
+        space: left.space(),
+        at: left.at(),
+        used,
+    })
 }
 
 // Two tokens as one, or fault 19.
@@ -39,13 +52,7 @@ pub(crate) fn pasted<'a>(
         return Err(Stop::Fault(Fault::new(alloc, 19, used, text.as_slice())?));
     };
     let hide = sets.common(left, right)?;
-    let token = Token {
-        kind,
-        text: Spelling::new(text)?,
-        space: left.space(),
-        at: left.at(),
-        used,
-    };
+    let token = made_of(kind, text, left, used)?;
     Ok(Hidden::made(alloc, token, hide)?)
 }
 
