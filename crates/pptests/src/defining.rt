@@ -1,7 +1,11 @@
-// Files of small texts, and tables of the macros that their lines define.
+// Files of small texts, tables of the macros that their lines define, and what is predefined.
+use ppexpand::Env;
 use ppmacro::{Table, define, undef};
-use pptext::{Directive, Fault, LONGEST, Memory, Profile, Source, Token, read_source};
-use std::alloc::Global;
+use pptext::{
+    Directive, Fault, Hashing, LONGEST, Memory, Profile, Source, Spelling, Token, read_source,
+};
+use std::alloc::{AllocError, Global};
+use std::hash::RandomState;
 use std::process::Abort;
 use std::test::Fail;
 
@@ -16,32 +20,29 @@ pub(crate) fn tokens_at(source: &Source, start: usize, end: usize) -> &[Token] {
     source.tokens().get(start..end).unwrap_or(&[])
 }
 
+/// The predefined values in a file `a.c` where each token's line is the file's own and so much.
+pub(crate) fn env(alloc: Global, shift: i64) -> Result<Env, AllocError> {
+    Ok(Env {
+        name: Spelling::from_slice(alloc, b"\"a.c\"")?,
+        shift,
+        date: Spelling::from_slice(alloc, b"Jul  4 1976")?,
+        time: Spelling::from_slice(alloc, b"12:34:56")?,
+    })
+}
+
 /// What a line of `#define` or `#undef` makes of a table.
-fn direct<'a>(
+pub(crate) fn direct<'a>(
     alloc: Global,
     table: &mut Table<'a>,
-    directive: Directive,
     line: &'a [Token],
 ) -> Result<Result<(), Fault>, Memory> {
-    let [hash, _name, rest @ ..] = line else {
+    let [hash, name, rest @ ..] = line else {
         return Ok(Ok(()));
     };
-    if directive == Directive::Undef {
+    if name.is_name(b"undef") {
         return undef(alloc, table, hash.at, rest);
     }
     define(alloc, table, hash.at, rest)
-}
-
-/// Puts the macro of a line into a table.
-pub(crate) fn direct_line<'a>(
-    rt: &impl Abort,
-    alloc: Global,
-    table: &mut Table<'a>,
-    directive: Directive,
-    line: &'a [Token],
-) -> Result<(), Memory> {
-    assert!(rt; direct(alloc, table, directive, line)?.is_ok());
-    Ok(())
 }
 
 /// Puts the macros of a file's lines into a table. The tokens behind the last of them.
@@ -53,11 +54,29 @@ pub(crate) fn directed<'a>(
 ) -> Result<&'a [Token], Memory> {
     let mut behind = 0;
     for line in source.lines() {
-        if let Some(directive) = line.directive {
+        if matches!(line.directive, Some(Directive::Define | Directive::Undef)) {
             let tokens = tokens_at(source, line.start, line.end);
-            direct_line(rt, alloc, table, directive, tokens)?;
+            assert!(rt; direct(alloc, table, tokens)?.is_ok());
             behind = line.end;
         }
     }
     Ok(tokens_at(source, behind, source.tokens().len()))
+}
+
+/// How a key of its own hashes names.
+pub(crate) fn drawn(rt: &HostRuntime) -> Result<Hashing, Fail> {
+    match RandomState::new(rt) {
+        Ok(key) => Ok(Hashing::keyed(key)),
+        Err(_) => Err(Fail::new("no key was drawn")),
+    }
+}
+
+/// Definitions of `a0` to `a64`, each but the first of two of the one before it, and an invocation of the last.
+pub(crate) fn doubling(alloc: Global) -> Result<String, AllocError> {
+    let mut text = String::from_str(alloc, "#define a0 0\n")?;
+    for i in 0..64 {
+        text.push_str(format!(in alloc; "#define a{} a{i} a{i}\n", i + 1)?.as_str())?;
+    }
+    text.push_str("a64\n")?;
+    Ok(text)
 }

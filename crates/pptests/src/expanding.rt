@@ -3,24 +3,14 @@ mod budgets;
 mod examples;
 mod runs;
 
-use crate::defining::{directed, source_of};
+use crate::defining::{directed, env, source_of};
 use crate::showing::{assert_shown, push_fault, push_fields, push_token};
-use ppexpand::{Env, Expanded, Piece, Run, TokenRef, expand};
+use ppexpand::{Expanded, Piece, Run, TokenRef, expand};
 use ppmacro::{Hidden, Table};
-use pptext::{Fault, Memory, Source, Spelling, Token};
+use pptext::{Fault, Memory, Source, Token};
 use std::alloc::{AllocError, Global};
 use std::process::Abort;
 use std::test::Fail;
-
-/// An environment in which each token's line is the file's own and so much.
-fn env(alloc: Global, shift: i64) -> Result<Env, AllocError> {
-    Ok(Env {
-        name: Spelling::from_slice(alloc, b"\"a.c\"")?,
-        shift,
-        date: Spelling::from_slice(alloc, b"Jul  4 1976")?,
-        time: Spelling::from_slice(alloc, b"12:34:56")?,
-    })
-}
 
 /// What is shown of the tokens that passed.
 #[derive(Clone, Copy)]
@@ -189,44 +179,20 @@ fn told(
     Ok(text)
 }
 
-/// What is shown of what tokens are expanded to, where so much is left.
-fn expanded_by(
-    rt: &impl Abort,
-    alloc: Global,
-    table: &Table,
-    env: &Env,
-    left: Option<u64>,
-    tokens: &[Token],
-    shown: Shown,
-) -> Result<Vec<u8>, Memory> {
-    let expanded = expand(alloc, table, env, left, tokens)?;
-    Ok(told(rt, alloc, &expanded, tokens.len(), shown)?)
-}
-
-/// The same, where lines are shifted by so much.
-fn expanded_of(
-    rt: &impl Abort,
-    alloc: Global,
-    table: &Table,
-    (shift, left): (i64, Option<u64>),
-    tokens: &[Token],
-    shown: Shown,
-) -> Result<Vec<u8>, Memory> {
-    let env = env(alloc, shift)?;
-    expanded_by(rt, alloc, table, &env, left, tokens, shown)
-}
-
-/// The same of the lines behind the last directive of a file.
+/// What is shown of what the lines behind the last directive of a file are expanded to, where lines are shifted by so much and so
+/// much is left.
 fn expanded_in(
     rt: &impl Abort,
     alloc: Global,
-    with: (i64, Option<u64>),
+    (shift, left): (i64, Option<u64>),
     source: &Source,
     shown: Shown,
 ) -> Result<Vec<u8>, Memory> {
     let mut table = Table::new(alloc)?;
     let tokens = directed(rt, alloc, &mut table, source)?;
-    expanded_of(rt, alloc, &table, with, tokens, shown)
+    let env = env(alloc, shift)?;
+    let expanded = expand(alloc, &table, &env, left, tokens)?;
+    Ok(told(rt, alloc, &expanded, tokens.len(), shown)?)
 }
 
 /// The same of a text.
@@ -274,40 +240,13 @@ fn assert_gives(
     Ok(())
 }
 
+/// A text, a budget, the text whose tokens the first one gives, and how it ends: `ok`, or a fault, and what it leaves.
+type Case = (&'static str, Option<u64>, &'static str, &'static str);
+
 /// That texts give the tokens of others, and end so.
-fn assert_all_give(
-    rt: &impl Abort,
-    alloc: Global,
-    cases: &[(&str, &str, &str)],
-) -> Result<(), Fail> {
-    for &(text, given, end) in cases {
-        assert_gives(rt, alloc, None, text.as_bytes(), (given, end))?;
-    }
-    Ok(())
-}
-
-/// The same within budgets.
-fn assert_all_cost(
-    rt: &impl Abort,
-    alloc: Global,
-    cases: &[(&str, u64, &str, &str)],
-) -> Result<(), Fail> {
+fn assert_all_give(rt: &impl Abort, alloc: Global, cases: &[Case]) -> Result<(), Fail> {
     for &(text, budget, given, end) in cases {
-        assert_gives(rt, alloc, Some(budget), text.as_bytes(), (given, end))?;
-    }
-    Ok(())
-}
-
-/// That this is shown of what texts are expanded to, where lines are shifted by so much.
-fn assert_all_shown(
-    rt: &impl Abort,
-    alloc: Global,
-    shown: Shown,
-    cases: &[(&str, i64, &str)],
-) -> Result<(), Fail> {
-    for &(text, shift, wanted) in cases {
-        let found = expanded(rt, alloc, (shift, None), text.as_bytes(), shown)?;
-        assert_shown(rt, found.as_slice(), wanted);
+        assert_gives(rt, alloc, budget, text.as_bytes(), (given, end))?;
     }
     Ok(())
 }

@@ -6,57 +6,76 @@ mod keys;
 mod substitution;
 mod two_sets;
 
-use ppmacro::{Hidden, HideSets, Set, Shape, Table, define, undef};
-use pptext::{Fault, Memory, Place, Profile, Token, read_source};
+use crate::defining::{directed, source_of};
+use ppmacro::{Hidden, HideSets, Macro, Set, Shape, Table};
+use pptext::{Memory, Place, Source, Token};
 use std::alloc::{AllocError, Global};
-use std::fmt::Debug;
 use std::process::Abort;
 use std::test::Fail;
 
 /// Where the `#` of a line stands.
 const HASH: Place = Place {
-    file: 3,
+    file: 1,
     line: 1,
     col: 1,
 };
 
-/// Asserts that what was found of a text is what was wanted.
-fn assert_same<T: PartialEq + Debug>(rt: &impl Abort, text: &str, found: &T, wanted: &T) {
-    assert_eq!(rt; found, wanted, "of {text}");
+/// The file of each of these texts.
+fn sources_of(rt: &impl Abort, alloc: Global, texts: &[&str]) -> Result<Vec<Source>, Fail> {
+    let mut sources = Vec::new(alloc);
+    for text in texts {
+        sources.push(source_of(rt, alloc, text.as_bytes())?)?;
+    }
+    Ok(sources)
 }
 
-/// The tokens of a line.
-fn lexed(alloc: Global, line: &str) -> Result<Vec<Token>, Fail> {
-    if line.len() > 1_000 {
-        return Err(Fail::new("a long line"));
-    }
-    let source = read_source(alloc, line.as_bytes(), HASH.file, Profile::C11)?;
-    Ok(Vec::from_clones(alloc, source.tokens())?)
+/// The table after the lines of a file.
+fn table_of<'a>(rt: &impl Abort, alloc: Global, source: &'a Source) -> Result<Table<'a>, Memory> {
+    let mut table = Table::new(alloc)?;
+    let _behind = directed(rt, alloc, &mut table, source)?;
+    Ok(table)
 }
 
-/// The tokens of each of these lines.
-fn all_lexed(alloc: Global, lines: &[&str]) -> Result<Vec<Vec<Token>>, Fail> {
-    let mut lists = Vec::new(alloc);
-    for line in lines {
-        lists.push(lexed(alloc, line)?)?;
-    }
-    Ok(lists)
+/// The macro of the name that stands in a `#define` line.
+fn macro_of<'t, 'a>(table: &'t Table<'a>, line: &[Token]) -> Option<&'t Macro<'a>> {
+    let name = line.get(2)?;
+    table.get(name.text.as_bytes())
 }
 
 /// A hide set with one name more.
-fn more<R: Abort>(rt: &R, sets: &mut HideSets, set: Set, name: &[u8]) -> Result<Set, Memory> {
+fn more(rt: &impl Abort, sets: &mut HideSets, set: Set, name: &[u8]) -> Result<Set, Memory> {
     assert!(rt; sets.knows(set));
     sets.with(set, name)
 }
 
+/// The set of these names, each of one letter.
+fn set_of(rt: &impl Abort, sets: &mut HideSets, names: &[u8]) -> Result<Set, Memory> {
+    let mut set = sets.empty();
+    for name in names {
+        set = more(rt, sets, set, &[*name])?;
+    }
+    Ok(set)
+}
+
 /// Whether a hide set has this name.
-fn has<R: Abort>(rt: &R, sets: &HideSets, set: Set, name: &[u8]) -> bool {
+fn has(rt: &impl Abort, sets: &HideSets, set: Set, name: &[u8]) -> bool {
     assert!(rt; sets.knows(set));
     sets.has(set, name)
 }
 
+/// Asserts that a set has these of the names `a`, `b` and `c`.
+fn assert_names(rt: &impl Abort, sets: &HideSets, set: Set, names: &[u8]) {
+    for name in b"abc" {
+        let is_wanted = names.contains(name);
+        assert!(rt;
+            has(rt, sets, set, &[*name]) == is_wanted,
+            "{name} of {names:?}"
+        );
+    }
+}
+
 /// Whether this name is among those that hide a token.
-fn is_hidden_by<R: Abort>(rt: &R, sets: &HideSets, hidden: &Hidden, name: &[u8]) -> bool {
+fn is_hidden_by(rt: &impl Abort, sets: &HideSets, hidden: &Hidden, name: &[u8]) -> bool {
     if has(rt, sets, hidden.hide(), name) {
         return true;
     }
@@ -64,40 +83,6 @@ fn is_hidden_by<R: Abort>(rt: &R, sets: &HideSets, hidden: &Hidden, name: &[u8])
         Some(also) => has(rt, sets, also, name),
         None => false,
     }
-}
-
-/// What a `#define` or `#undef` line does to a table.
-fn directed<'a>(
-    alloc: Global,
-    table: &mut Table<'a>,
-    line: &'a [Token],
-) -> Result<Result<(), Fault>, Memory> {
-    let [hash, name, rest @ ..] = line else {
-        return Ok(Ok(()));
-    };
-    if name.text.as_bytes() == b"define".as_slice() {
-        return define(alloc, table, hash.at, rest);
-    }
-    undef(alloc, table, hash.at, rest)
-}
-
-/// The table after a line, which raises no fault.
-fn table_of<'a, R: Abort>(rt: &R, alloc: Global, line: &'a [Token]) -> Result<Table<'a>, Memory> {
-    let mut table = Table::new(alloc)?;
-    assert_accepted(rt, alloc, &mut table, line)?;
-    Ok(table)
-}
-
-/// Asserts that a line raises no fault.
-fn assert_accepted<'a, R: Abort>(
-    rt: &R,
-    alloc: Global,
-    table: &mut Table<'a>,
-    line: &'a [Token],
-) -> Result<(), Memory> {
-    let answer = directed(alloc, table, line)?;
-    assert!(rt; answer.is_ok());
-    Ok(())
 }
 
 /// Puts a token's spelling behind a text, and a space before it where it has a mark.

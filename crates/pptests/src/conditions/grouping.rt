@@ -1,5 +1,5 @@
 // What expressions come to by their grouping (6.5).
-use super::{assert_fault, taken};
+use super::{Wanted, assert_condition};
 use std::alloc::Global;
 use std::process::Abort;
 use std::test::Fail;
@@ -33,19 +33,17 @@ const GROUPED: &[(&str, i64)] = &[
     ("1!=1<=0", 1),
 ];
 
-/// Whether an expression is one as it stands, and in parentheses has this value, which is signed.
-fn has_value(rt: &impl Abort, alloc: Global, text: &str, value: i64) -> Result<bool, Fail> {
-    if taken(rt, alloc, "", text.as_bytes())? != Some(value != 0) {
-        return Ok(false);
-    }
+/// That an expression is one as it stands, and in parentheses has this value, which is signed.
+fn assert_value(rt: &impl Abort, alloc: Global, text: &str, value: i64) -> Result<(), Fail> {
+    assert_condition(rt, alloc, "", text.as_bytes(), Wanted::Taken(value != 0))?;
     let compared = format!(in alloc; "({text}) == {value} && ({text}) - {value} - 1 < 0")?;
-    Ok(taken(rt, alloc, "", compared.as_bytes())? == Some(true))
+    assert_condition(rt, alloc, "", compared.as_bytes(), Wanted::Taken(true))
 }
 
 #[test]
 fn groups_as_the_standard_says(rt: HostRuntime) -> Result<(), Fail> {
     for (text, value) in GROUPED {
-        assert!(rt; has_value(&rt, rt.alloc(), text, *value)?, "{text}");
+        assert_value(&rt, rt.alloc(), text, *value)?;
     }
     Ok(())
 }
@@ -79,7 +77,8 @@ const UNGROUPED: &str = "
 #[test]
 fn refuses_what_is_no_expression(rt: HostRuntime) -> Result<(), Fail> {
     for text in UNGROUPED.lines() {
-        assert_fault(&rt, rt.alloc(), "", text, (23, 1, ""))?;
+        let wanted = Wanted::Fault(23, 1, "");
+        assert_condition(&rt, rt.alloc(), "", text.as_bytes(), wanted)?;
     }
     Ok(())
 }

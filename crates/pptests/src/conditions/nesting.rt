@@ -1,10 +1,13 @@
 // How deep expressions may be nested, and how long they may be.
-use super::{fault_within, is_fault, taken};
+use super::{Wanted, assert_condition};
 use std::alloc::{AllocError, Global};
 use std::process::Abort;
 use std::test::Fail;
 
-/// Puts so many times one text behind another.
+/// Texts, each of which stands so many times behind the one before it.
+type Parts<'t> = &'t [(usize, &'t str)];
+
+/// Puts a text so many times behind another.
 fn push_times(text: &mut Vec<u8>, count: usize, more: &str) -> Result<(), AllocError> {
     for _ in 0..count {
         text.extend_from_slice(more.as_bytes())?;
@@ -12,119 +15,74 @@ fn push_times(text: &mut Vec<u8>, count: usize, more: &str) -> Result<(), AllocE
     Ok(())
 }
 
-/// So many times one text, then another, and so many times a third.
-fn around(
-    alloc: Global,
-    count: usize,
-    open: &str,
-    middle: &str,
-    close: &str,
-) -> Result<Vec<u8>, AllocError> {
+/// The expression of these parts.
+fn repeated(alloc: Global, parts: Parts) -> Result<Vec<u8>, AllocError> {
     let mut text = Vec::new(alloc);
-    push_times(&mut text, count, open)?;
-    text.extend_from_slice(middle.as_bytes())?;
-    push_times(&mut text, count, close)?;
+    for (count, more) in parts {
+        push_times(&mut text, *count, more)?;
+    }
     Ok(text)
 }
 
-/// Whether the group of so many levels around a text is taken.
-fn is_taken(
+/// That the condition of an expression of these parts is as it is wanted.
+fn assert_repeated(
     rt: &impl Abort,
     alloc: Global,
-    count: usize,
-    open: &str,
-    middle: &str,
-    close: &str,
-) -> Result<bool, Fail> {
-    let text = around(alloc, count, open, middle, close)?;
-    Ok(taken(rt, alloc, "", text.as_slice())? == Some(true))
+    parts: Parts,
+    wanted: Wanted,
+) -> Result<(), Fail> {
+    let text = repeated(alloc, parts)?;
+    assert_condition(rt, alloc, "", text.as_slice(), wanted)
 }
 
-/// Whether an expression nests too deeply.
-fn is_too_deep(rt: &impl Abort, alloc: Global, expression: &[u8]) -> Result<bool, Fail> {
-    let (fault, _left) = fault_within(rt, alloc, None, "", expression)?;
-    Ok(is_fault(&fault, 29, 1, ""))
-}
-
-/// Whether 257 levels around a text are too many.
-fn are_too_many(
-    rt: &impl Abort,
-    alloc: Global,
-    open: &str,
-    middle: &str,
-    close: &str,
-) -> Result<bool, Fail> {
-    let text = around(alloc, 257, open, middle, close)?;
-    is_too_deep(rt, alloc, text.as_slice())
-}
-
-/// What opens a level, what stands within the last, and what closes a level.
-const NESTED: &[(&str, &str, &str)] = &[
-    ("(", "1", ")"),
-    ("!", "1", ""),
-    ("0?0:", "1", ""),
-    ("- ", "1", ""),
-    ("1 ? (", "1", ") : 0"),
+/// What opens a level, and what closes it.
+const NESTED: &[(&str, &str)] = &[
+    ("(", ")"),
+    ("!", ""),
+    ("0?0:", ""),
+    ("- ", ""),
+    ("1 ? (", ") : 0"),
 ];
+
+/// Expressions that are nested too deeply where they are none: the depth comes first, also where a sign has two operands.
+const TOO_DEEP: &[Parts] = &[
+    &[(1, "1 "), (257, "?")],
+    &[(1, "1 "), (257, "(")],
+    &[(1, "1 "), (257, "- "), (1, "1")],
+    &[(1, "1 "), (257, "~ ")],
+];
+
+/// The fault of an expression that is nested too deeply.
+const DEPTH: Wanted = Wanted::Fault(29, 1, "");
 
 #[test]
 fn nests_up_to_a_depth(rt: HostRuntime) -> Result<(), Fail> {
-    let alloc = rt.alloc();
-    for (open, middle, close) in NESTED {
-        assert!(rt; is_taken(&rt, alloc, 256, open, middle, close)?, "{open}");
-        assert!(rt; are_too_many(&rt, alloc, open, middle, close)?, "{open}");
+    for &(open, close) in NESTED {
+        for (count, wanted) in [(256, Wanted::Taken(true)), (257, DEPTH)] {
+            let parts = [(count, open), (1, "1"), (count, close)];
+            assert_repeated(&rt, rt.alloc(), &parts, wanted)?;
+        }
     }
-    // Parentheses that are closed count no more.
-    assert!(rt; is_taken(&rt, alloc, 300, "(1) + ", "1", "")?);
-    Ok(())
-}
-
-/// Whether 257 levels behind `1 ` are too many.
-fn are_too_many_behind_one(
-    rt: &impl Abort,
-    alloc: Global,
-    open: &str,
-    middle: &str,
-) -> Result<bool, Fail> {
-    let mut text = Vec::from_slice(alloc, b"1 ")?;
-    push_times(&mut text, 257, open)?;
-    text.extend_from_slice(middle.as_bytes())?;
-    is_too_deep(rt, alloc, text.as_slice())
-}
-
-#[test]
-fn tells_a_depth_first(rt: HostRuntime) -> Result<(), Fail> {
-    // Also where it is no expression, and where a sign has two operands.
-    for (open, middle) in &[("?", ""), ("(", ""), ("- ", "1"), ("~ ", "")] {
-        assert!(rt;
-            are_too_many_behind_one(&rt, rt.alloc(), open, middle)?,
-            "{open}"
-        );
+    for parts in TOO_DEEP {
+        assert_repeated(&rt, rt.alloc(), parts, DEPTH)?;
     }
     Ok(())
 }
 
-#[test]
-fn sums_a_long_chain(rt: HostRuntime) -> Result<(), Fail> {
-    assert!(rt; is_taken(&rt, rt.alloc(), 100_000, "1 + ", "0 == 100000", "")?);
-    Ok(())
-}
-
-/// As many parentheses and signs as may nest, around a 1.
-fn deepest(alloc: Global) -> Result<Vec<u8>, AllocError> {
-    let mut text = Vec::new(alloc);
-    push_times(&mut text, 256, "(")?;
-    push_times(&mut text, 256, "!")?;
-    text.push(b'1')?;
-    push_times(&mut text, 256, ")")?;
-    text.extend_from_slice(b" == 1")?;
-    Ok(text)
-}
+/// Expressions that are taken, however long.
+const LONG: &[Parts] = &[
+    // parentheses that are closed count no more
+    &[(300, "(1) + "), (1, "1")],
+    &[(100_000, "1 + "), (1, "0 == 100000")],
+    &[(99_999, "1+"), (1, "1 == 100000")],
+    // as many parentheses and signs as may nest
+    &[(256, "("), (256, "!"), (1, "1"), (256, ")"), (1, " == 1")],
+];
 
 #[test]
 fn reads_long_and_deep_expressions(rt: HostRuntime) -> Result<(), Fail> {
-    let alloc = rt.alloc();
-    assert!(rt; is_taken(&rt, alloc, 99_999, "1+", "1 == 100000", "")?);
-    assert!(rt; taken(&rt, alloc, "", deepest(alloc)?.as_slice())? == Some(true));
+    for parts in LONG {
+        assert_repeated(&rt, rt.alloc(), parts, Wanted::Taken(true))?;
+    }
     Ok(())
 }

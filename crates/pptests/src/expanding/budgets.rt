@@ -1,5 +1,6 @@
 // How deep arguments are expanded, and what expansions spend of a budget.
-use super::{Shown, assert_all_cost, assert_gives, expanded};
+use super::{Case, Shown, assert_all_give, assert_gives, expanded};
+use crate::defining::doubling;
 use std::alloc::{AllocError, Global};
 use std::process::Abort;
 use std::test::Fail;
@@ -35,155 +36,129 @@ fn stops_below_level_256(rt: HostRuntime) -> Result<(), Fail> {
 }
 
 /// Texts, their budgets, what they give, and how they end.
-const LEFT: &[(&str, u64, &str, &str)] = &[
+const LEFT: &[Case] = &[
     (
         "#define f(a) a*g\n#define g(a) f(a)\nf(2)(9)",
-        5,
+        Some(5),
         "2*9*g",
         "ok leaves 2",
     ),
     (
         "#define f(a) a*g\n#define g(a) f(a)\nf(2)(9)",
-        3,
+        Some(3),
         "2*9*g",
         "ok leaves 0",
     ),
     (
         "#define f(a) a*g\n#define g(a) f(a)\nf(2)(9)",
-        2,
+        Some(2),
         "2*",
         "35 1:3:1  leaves 0",
     ),
     (
         "#define f(a) a*g\n#define g(a) f(a)\nf(2)(9)",
-        1,
+        Some(1),
         "2*",
         "35 1:3:1  leaves 0",
     ),
     (
         "#define f(a) a*g\n#define g(a) f(a)\nf(2)(9)",
-        0,
+        Some(0),
         "",
         "35 1:3:1  leaves 0",
     ),
     // The fault is at the place where the name is used, not at the name's own.
     (
         "#define X a Y\n#define Y 1\nb  X c",
-        2,
+        Some(2),
         "b a 1 c",
         "ok leaves 0",
     ),
     (
         "#define X a Y\n#define Y 1\nb  X c",
-        1,
+        Some(1),
         "b a",
         "35 1:3:4  leaves 0",
     ),
 ];
 
-#[test]
-fn stops_where_nothing_is_left(rt: HostRuntime) -> Result<(), Fail> {
-    assert_all_cost(&rt, rt.alloc(), LEFT)
-}
-
-const REPLACED: &[(&str, u64, &str, &str)] = &[
-    ("#define X\na __LINE__", 0, "a", "35 1:2:3  leaves 0"),
-    ("#define X\na __LINE__", 1, "a 2", "ok leaves 0"),
+/// What is counted: each name that is replaced, whatever comes of it.
+const REPLACED: &[Case] = &[
+    ("#define X\na __LINE__", Some(0), "a", "35 1:2:3  leaves 0"),
+    ("#define X\na __LINE__", Some(1), "a 2", "ok leaves 0"),
     // A macro's name that passes costs nothing, and neither does a hidden one.
-    ("#define f(a) a\nf a f", 0, "f a f", "ok leaves 0"),
-    ("#define X X\nX", 1, "X", "ok leaves 0"),
+    ("#define f(a) a\nf a f", Some(0), "f a f", "ok leaves 0"),
+    ("#define X X\nX", Some(1), "X", "ok leaves 0"),
     // An invocation is counted before its arguments are cut, and whatever becomes of it.
-    ("#define f(a) a\nf(1", 0, "", "35 1:2:1  leaves 0"),
-    ("#define f(a) a\nf(1", 1, "", "17 1:2:1 f leaves 0"),
-    ("#define f(a) a\nf(1,2)", 1, "", "18 1:2:1 f leaves 0"),
-    ("#define f(a) a##.\nf(+)", 1, "", "19 1:2:1 +. leaves 0"),
-    ("#define X\n'", 0, "", "7 1:2:1 ' leaves 0"),
+    ("#define f(a) a\nf(1", Some(0), "", "35 1:2:1  leaves 0"),
+    ("#define f(a) a\nf(1", Some(1), "", "17 1:2:1 f leaves 0"),
+    ("#define f(a) a\nf(1,2)", Some(1), "", "18 1:2:1 f leaves 0"),
+    (
+        "#define f(a) a##.\nf(+)",
+        Some(1),
+        "",
+        "19 1:2:1 +. leaves 0",
+    ),
+    ("#define X\n'", Some(0), "", "7 1:2:1 ' leaves 0"),
 ];
 
-#[test]
-fn counts_what_is_replaced(rt: HostRuntime) -> Result<(), Fail> {
-    assert_all_cost(&rt, rt.alloc(), REPLACED)
-}
-
-const IN_ARGUMENTS: &[(&str, u64, &str, &str)] = &[
+/// The same in arguments.
+const IN_ARGUMENTS: &[Case] = &[
     (
         "#define X 1\n#define f(a,b) a a+b+#b\nf(X,X X)",
-        4,
+        Some(4),
         "1 1+1 1+\"X X\"",
         "ok leaves 0",
     ),
     (
         "#define X 1\n#define f(a,b) a a+b+#b\nf(X,X X)",
-        3,
+        Some(3),
         "",
         "35 1:3:7  leaves 0",
     ),
     (
         "#define X 1\n#define f(a,b) a a+b+#b\nf(X,X X)",
-        2,
+        Some(2),
         "",
         "35 1:3:5  leaves 0",
     ),
     (
         "#define X 1\n#define f(a,b) a a+b+#b\nf(X,X X)",
-        1,
+        Some(1),
         "",
         "35 1:3:3  leaves 0",
     ),
     // An argument that is only spelled or joined is not expanded.
     (
         "#define X 1\n#define f(a,b) #a b##0\nf(X,X) X",
-        2,
+        Some(2),
         "\"X\" X0 1",
         "ok leaves 0",
     ),
     (
         "#define X 1\n#define f(a,b) #a b##0\nf(X,X) X",
-        1,
+        Some(1),
         "\"X\" X0",
         "35 1:3:8  leaves 0",
     ),
 ];
 
 #[test]
-fn counts_what_is_replaced_in_arguments(rt: HostRuntime) -> Result<(), Fail> {
-    assert_all_cost(&rt, rt.alloc(), IN_ARGUMENTS)
-}
-
-/// The name `a00` to `a99` of a macro by its number.
-fn numbered(number: u8) -> [u8; 3] {
-    [b'a', b'0' + number / 10 % 10, b'0' + number % 10]
-}
-
-/// Puts a macro behind a text in which another stands twice.
-fn push_doubled(text: &mut Vec<u8>, name: &[u8], inner: &[u8]) -> Result<(), AllocError> {
-    text.extend_from_slice(b"#define ")?;
-    text.extend_from_slice(name)?;
-    for _ in 0..2 {
-        text.push(b' ')?;
-        text.extend_from_slice(inner)?;
+fn stops_where_nothing_is_left(rt: HostRuntime) -> Result<(), Fail> {
+    for cases in [LEFT, REPLACED, IN_ARGUMENTS] {
+        assert_all_give(&rt, rt.alloc(), cases)?;
     }
-    Ok(text.push(b'\n')?)
+    Ok(())
 }
 
-/// A chain of macros `a00` to `a64`, each of which stands twice in the next, and the last one's name.
-fn doubling(alloc: Global) -> Result<Vec<u8>, AllocError> {
-    let mut text = Vec::from_slice(alloc, b"#define a00 0\n")?;
-    for number in 0..64u8 {
-        push_doubled(&mut text, &numbered(number + 1), &numbered(number))?;
-    }
-    text.extend_from_slice(b"a64")?;
-    Ok(text)
-}
-
-/// What the chain is expanded to within a budget of 1000.
+/// What the last of a chain of macros, each of which stands twice in the next, is expanded to within a budget of 1000.
 fn doubled(rt: &impl Abort, alloc: Global) -> Result<Vec<u8>, Fail> {
     let text = doubling(alloc)?;
     expanded(
         rt,
         alloc,
         (0, Some(1_000)),
-        text.as_slice(),
+        text.as_bytes(),
         Shown::Spellings,
     )
 }

@@ -1,9 +1,9 @@
 // The examples of 6.10.3, arguments, faults and predefined names.
-use super::assert_all_give;
+use super::{Case, assert_all_give};
 use std::test::Fail;
 
 /// The example of 6.10.3.5p5: its lines, what they give, and how they end.
-const RESCANNED: &[(&str, &str, &str)] = &[(
+const RESCANNED: &[Case] = &[(
     "#define x 3
 #define f(a) f(x * (a))
 #undef x
@@ -24,6 +24,7 @@ g(x+(3,4)-w) | h 5) & m
 p() i[q()] = { q(1), r(2,3), r(4,), r(,5), r(,) };
 char c[2][6] = { str(hello), str() };
 ",
+    None,
     "f(2 * (y+1)) + f(2 * (f(2 * (z[0])))) % f(2 * (0)) + t(1);
 f(2 * (2+(3,4)-0,1)) | f(2 * (~ 5)) & f(2 * (0,1))^m(0,1);
 int i[] = { 1, 23, 4, 5, };
@@ -32,12 +33,8 @@ char c[2][6] = { \"hello\", \"\" };
     "ok",
 )];
 
-#[test]
-fn rescans_with_further_tokens(rt: HostRuntime) -> Result<(), Fail> {
-    assert_all_give(&rt, rt.alloc(), RESCANNED)
-}
-
-const MADE: &[(&str, &str, &str)] = &[(
+/// Literals that `#` makes and tokens that `##` makes, which are macros' names again (6.10.3.5p6).
+const MADE: &[Case] = &[(
     "#define str(s) # s
 #define xstr(s) str(s)
 #define debug(s, t) printf(\"x\" # s \"= %d, x\" # t \"= %s\", \\
@@ -54,6 +51,7 @@ xstr(INCFILE(2).h)
 glue(HIGH, LOW);
 xglue(HIGH, LOW)
 ",
+    None,
     "printf(\"x\" \"1\" \"= %d, x\" \"2\" \"= %s\", x1, x2);
 fputs(\"strncmp(\\\"abc\\\\0d\\\", \\\"abc\\\", '\\\\4') == 0\" \": @\\n\", s);
 \"vers2.h\"
@@ -63,17 +61,14 @@ fputs(\"strncmp(\\\"abc\\\\0d\\\", \\\"abc\\\", '\\\\4') == 0\" \": @\\n\", s);
     "ok",
 )];
 
-#[test]
-fn makes_literals_and_tokens(rt: HostRuntime) -> Result<(), Fail> {
-    assert_all_give(&rt, rt.alloc(), MADE)
-}
-
-const JOINED: &[(&str, &str, &str)] = &[
+/// Arguments without tokens beside `##` (6.10.3.5p7), and a `##` that is none (6.10.3.3p4).
+const JOINED: &[Case] = &[
     (
         "#define t(x,y,z) x ## y ## z
 int j[] = { t(1,2,3), t(,4,5), t(6,,7), t(8,9,),
  t(10,,), t(,11,), t(,,12), t(,,) };
 ",
+        None,
         "int j[] = { 123, 45, 67, 89, 10, 11, 12, };",
         "ok",
     ),
@@ -84,17 +79,14 @@ int j[] = { t(1,2,3), t(,4,5), t(6,,7), t(8,9,),
 #define join(c, d) in_between(c hash_hash d)
 char p[] = join(x, y);
 ",
+        None,
         "char p[] = \"x ## y\";",
         "ok",
     ),
 ];
 
-#[test]
-fn joins_placemarkers(rt: HostRuntime) -> Result<(), Fail> {
-    assert_all_give(&rt, rt.alloc(), JOINED)
-}
-
-const VARIABLE: &[(&str, &str, &str)] = &[
+/// Variable arguments (6.10.3.5p9).
+const VARIABLE: &[Case] = &[
     (
         "#define debug(...) fprintf(stderr, __VA_ARGS__)
 #define showlist(...) puts(#__VA_ARGS__)
@@ -105,6 +97,7 @@ debug(\"X = %d\\n\", x);
 showlist(The first, second, and third items.);
 report(x>y, \"x is %d but y is %d\", x, y);
 ",
+        None,
         "fprintf(stderr, \"Flag\");
 fprintf(stderr, \"X = %d\\n\", x);
 puts(\"The first, second, and third items.\");
@@ -114,78 +107,86 @@ puts(\"The first, second, and third items.\");
     ),
     (
         "#define s(...) #__VA_ARGS__\n#define f(...) [__VA_ARGS__]\ns(a ,b) f()",
+        None,
         "\"a ,b\" []",
         "ok",
     ),
 ];
 
-#[test]
-fn takes_variable_arguments(rt: HostRuntime) -> Result<(), Fail> {
-    assert_all_give(&rt, rt.alloc(), VARIABLE)
-}
-
-const HIDDEN: &[(&str, &str, &str)] = &[
-    ("#define x x\nx", "x", "ok"),
+/// Names that are hidden.
+const HIDDEN: &[Case] = &[
+    ("#define x x\nx", None, "x", "ok"),
     (
         "#define M(a,b) a b\n#define X g\n#define Y (1)\n#define g(z) z M(X,Y)\nM(X,Y)",
+        None,
         "1 M(g,(1))",
         "ok",
     ),
 ];
 
-#[test]
-fn hides_names(rt: HostRuntime) -> Result<(), Fail> {
-    assert_all_give(&rt, rt.alloc(), HIDDEN)
-}
-
-const COUNTED: &[(&str, &str, &str)] = &[
-    ("#define f(a) a\nf()", "", "ok"),
-    ("#define z() 1\nz( )", "1", "ok"),
-    ("#define E\n#define f(a) [a]\nf(E)", "[]", "ok"),
+/// How many arguments there are.
+const COUNTED: &[Case] = &[
+    ("#define f(a) a\nf()", None, "", "ok"),
+    ("#define z() 1\nz( )", None, "1", "ok"),
+    ("#define E\n#define f(a) [a]\nf(E)", None, "[]", "ok"),
     (
         "#define f(a,...) [a] [__VA_ARGS__]\nf(1,(2,3),4)",
+        None,
         "[1] [(2,3),4]",
         "ok",
     ),
-    ("#define f(a) a\nb f(1,2)", "b", "18 1:2:3 f"),
-    ("#define f(a,...) a\nf(1)", "", "18 1:2:1 f"),
+    ("#define f(a) a\nb f(1,2)", None, "b", "18 1:2:3 f"),
+    ("#define f(a,...) a\nf(1)", None, "", "18 1:2:1 f"),
 ];
 
-#[test]
-fn counts_arguments(rt: HostRuntime) -> Result<(), Fail> {
-    assert_all_give(&rt, rt.alloc(), COUNTED)
-}
-
-const FOUND: &[(&str, &str, &str)] = &[
-    ("#define E\n#define f(a) [a]\nf E (1) f", "f (1) f", "ok"),
+/// Where an invocation is, and which fault comes first.
+const FOUND: &[Case] = &[
+    (
+        "#define E\n#define f(a) [a]\nf E (1) f",
+        None,
+        "f (1) f",
+        "ok",
+    ),
     // a lone quote comes before a missing `)`, and that before the number of arguments
-    ("#define f(a) a\nb ' c", "b", "7 1:2:3 '"),
-    ("#define f(a) a\nb f(1,'", "b", "7 1:2:7 '"),
-    ("#define f(a) a\nb f(1,2", "b", "17 1:2:3 f"),
+    ("#define f(a) a\nb ' c", None, "b", "7 1:2:3 '"),
+    ("#define f(a) a\nb f(1,'", None, "b", "7 1:2:7 '"),
+    ("#define f(a) a\nb f(1,2", None, "b", "17 1:2:3 f"),
     // an argument's fault is its invocation's and comes before `#`, and that before `##`
-    ("#define f(a) a\nb f(c f(1,2)) d", "b", "18 1:2:7 f"),
-    ("#define s(a) #a a\nb s(s(\\))", "b", "20 1:2:5 \"\\\""),
-    ("#define s(a) #a - ## a\nb s(\\)", "b", "20 1:2:3 \"\\\""),
-    ("#define c(a) x ## + a\nb c(1)", "b", "19 1:2:3 x+"),
+    ("#define f(a) a\nb f(c f(1,2)) d", None, "b", "18 1:2:7 f"),
+    (
+        "#define s(a) #a a\nb s(s(\\))",
+        None,
+        "b",
+        "20 1:2:5 \"\\\"",
+    ),
+    (
+        "#define s(a) #a - ## a\nb s(\\)",
+        None,
+        "b",
+        "20 1:2:3 \"\\\"",
+    ),
+    ("#define c(a) x ## + a\nb c(1)", None, "b", "19 1:2:3 x+"),
 ];
 
-#[test]
-fn finds_invocations(rt: HostRuntime) -> Result<(), Fail> {
-    assert_all_give(&rt, rt.alloc(), FOUND)
-}
-
-const PREDEFINED: &[(&str, &str, &str)] = &[
+/// Values of predefined names.
+const PREDEFINED: &[Case] = &[
     (
         "__DATE__ __TIME__ __STDC_VERSION__ __FILE__ __STDC__ __STDC_HOSTED__",
+        None,
         "\"Jul  4 1976\" \"12:34:56\" 201112L \"a.c\" 1 1",
         "ok",
     ),
     // the line where the argument stands, and that of the invocation
-    ("#define f(a) a\nf(\n__LINE__)", "3", "ok"),
-    ("#define g(a,b) a##b\ng(\n__LINE__,)", "2", "ok"),
+    ("#define f(a) a\nf(\n__LINE__)", None, "3", "ok"),
+    ("#define g(a,b) a##b\ng(\n__LINE__,)", None, "2", "ok"),
 ];
 
 #[test]
-fn gives_predefined_values(rt: HostRuntime) -> Result<(), Fail> {
-    assert_all_give(&rt, rt.alloc(), PREDEFINED)
+fn gives_what_the_standard_says(rt: HostRuntime) -> Result<(), Fail> {
+    for cases in [
+        RESCANNED, MADE, JOINED, VARIABLE, HIDDEN, COUNTED, FOUND, PREDEFINED,
+    ] {
+        assert_all_give(&rt, rt.alloc(), cases)?;
+    }
+    Ok(())
 }

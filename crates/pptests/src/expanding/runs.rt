@@ -1,5 +1,8 @@
 // What passes: places, marks, and the parts of a run.
-use super::{Shown, assert_all_shown};
+use super::{Shown, expanded};
+use crate::showing::assert_shown;
+use std::alloc::Global;
+use std::process::Abort;
 use std::test::Fail;
 
 /// Texts, by how much lines are shifted, and the tokens with their marks and places.
@@ -13,11 +16,7 @@ const PLACED: &[(&str, i64, &str)] = &[
     ("#define L __LINE__\n\nL", -2, "n+ 1 1:1:11 1:3:1,  | ok"),
 ];
 
-#[test]
-fn keeps_places_and_marks(rt: HostRuntime) -> Result<(), Fail> {
-    assert_all_shown(&rt, rt.alloc(), Shown::Places, PLACED)
-}
-
+/// The mark of what vanished is kept.
 const VANISHED: &[(&str, i64, &str)] = &[
     (
         "#define E\n\n[ E]-",
@@ -31,11 +30,7 @@ const VANISHED: &[(&str, i64, &str)] = &[
     ),
 ];
 
-#[test]
-fn keeps_the_mark_of_what_vanished(rt: HostRuntime) -> Result<(), Fail> {
-    assert_all_shown(&rt, rt.alloc(), Shown::Places, VANISHED)
-}
-
+/// The parts of a run: `.` before a token that passed in a stretch of the file, and `!` before one that passed by itself.
 const PASSED: &[(&str, i64, &str)] = &[
     (
         "#define X 1 + 2\na b X c d e f g h i j k l m n o X",
@@ -45,11 +40,7 @@ const PASSED: &[(&str, i64, &str)] = &[
     ("#define X 1 + 2\nX c X", 0, "!1!+!2!c!1!+!2 | ok"),
 ];
 
-#[test]
-fn passes_stretches_of_the_file(rt: HostRuntime) -> Result<(), Fail> {
-    assert_all_shown(&rt, rt.alloc(), Shown::Parts, PASSED)
-}
-
+/// Tokens one by one.
 const YIELDED: &[(&str, i64, &str)] = &[
     (
         "#define X 1 + 2\n#define J(a,b) a##b\na b X c X J(d,e)",
@@ -66,18 +57,37 @@ const YIELDED: &[(&str, i64, &str)] = &[
     ("#define X\nX", 0, " | ok"),
 ];
 
-#[test]
-fn yields_tokens_one_by_one(rt: HostRuntime) -> Result<(), Fail> {
-    assert_all_shown(&rt, rt.alloc(), Shown::Singles, YIELDED)
-}
-
+/// What names no macro passes unchanged.
 const UNCHANGED: &[(&str, i64, &str)] = &[
     ("#define X 1\na b c", 0, "unchanged | ok"),
     ("#define X 1\n", 0, "unchanged | ok"),
     ("#define X 1\na b X", 0, "changed | ok"),
 ];
 
+/// That this is shown of what texts are expanded to, where lines are shifted by so much.
+fn assert_all_shown(
+    rt: &impl Abort,
+    alloc: Global,
+    shown: Shown,
+    cases: &[(&str, i64, &str)],
+) -> Result<(), Fail> {
+    for &(text, shift, wanted) in cases {
+        let found = expanded(rt, alloc, (shift, None), text.as_bytes(), shown)?;
+        assert_shown(rt, found.as_slice(), wanted);
+    }
+    Ok(())
+}
+
 #[test]
-fn passes_what_names_no_macro_unchanged(rt: HostRuntime) -> Result<(), Fail> {
-    assert_all_shown(&rt, rt.alloc(), Shown::Unchanged, UNCHANGED)
+fn keeps_places_marks_and_parts(rt: HostRuntime) -> Result<(), Fail> {
+    for (shown, cases) in [
+        (Shown::Places, PLACED),
+        (Shown::Places, VANISHED),
+        (Shown::Parts, PASSED),
+        (Shown::Singles, YIELDED),
+        (Shown::Unchanged, UNCHANGED),
+    ] {
+        assert_all_shown(&rt, rt.alloc(), shown, cases)?;
+    }
+    Ok(())
 }

@@ -1,125 +1,90 @@
 // `#define` and `#undef` (6.10.3, 6.10.3.5).
-use super::{HASH, all_lexed, assert_accepted, assert_same, directed, lexed, shown, table_of};
-use ppmacro::{Chain, Table};
-use pptext::{Fault, Hashing, Memory, Token};
-use std::alloc::{AllocError, Global};
-use std::hash::RandomState;
+use super::{HASH, shown, table_of};
+use crate::defining::{direct, drawn, source_of};
+use ppmacro::Table;
+use pptext::{Fault, Hashing, Memory, Source, Token};
+use std::alloc::Global;
 use std::process::Abort;
 use std::test::Fail;
 
-/// Asserts the definition of a name after a line.
-fn assert_shown<R: Abort>(
-    rt: &R,
-    alloc: Global,
-    table: &Table,
-    (line, name): (&str, &str),
-    wanted: &[u8],
-) -> Result<(), AllocError> {
-    let found = shown(alloc, table, name)?;
-    assert_same(rt, line, &found.as_slice(), &wanted);
-    Ok(())
-}
-
 /// What a line does to a table. Where memory is refused, the name has the definition that it had, and the call is made again.
-fn directed_again<'a, R: Abort>(
-    rt: &R,
+fn direct_again<'a>(
+    rt: &impl Abort,
     alloc: Global,
     table: &mut Table<'a>,
-    tokens: &'a [Token],
-    of: (&str, &str),
-    before: &[u8],
+    line: &'a [Token],
+    (name, before): (&str, &[u8]),
 ) -> Result<Result<(), Fault>, Memory> {
-    let Ok(answer) = directed(alloc, table, tokens) else {
-        assert_shown(rt, alloc, table, of, before)?;
-        return directed(alloc, table, tokens);
+    let Ok(answer) = direct(alloc, table, line) else {
+        assert!(rt; shown(alloc, table, name)?.as_slice() == before, "{name}");
+        return direct(alloc, table, line);
     };
     Ok(answer)
 }
 
-/// Asserts that a line raises this fault, with this text.
-fn assert_fault<R: Abort>(rt: &R, fault: &Fault, number: u8, (line, text): (&str, &str)) {
-    assert_same(rt, line, &fault.number, &number);
-    assert_same(rt, line, &fault.at, &HASH);
-    assert_same(rt, line, &fault.text.as_bytes(), &text.as_bytes());
-}
-
-/// Asserts that a line raises no fault, or the one of this number.
-fn assert_answer<R: Abort>(
-    rt: &R,
+/// Whether a line leaves this definition of a name, or raises the fault of this number and leaves what the name had.
+fn is_wanted(
     answer: &Result<(), Fault>,
+    name: &str,
+    (before, after): (&[u8], &[u8]),
     wanted: Result<&str, u8>,
-    of: (&str, &str),
-) {
+) -> bool {
     match (answer, wanted) {
-        (Ok(()), Ok(_)) => {}
-        (Err(fault), Err(number)) => assert_fault(rt, fault, number, of),
-        _ => assert!(rt; false, "{}", of.0),
+        (Ok(()), Ok(definition)) => after == definition.as_bytes(),
+        (Err(fault), Err(number)) => {
+            fault.number == number
+                && fault.at == HASH
+                && fault.text.as_bytes() == name.as_bytes()
+                && after == before
+        }
+        _ => false,
     }
-}
-
-/// The definition that a name has after a line that leaves this one, or after a line that raises a fault.
-fn left<'a>(wanted: Result<&'a str, u8>, before: &'a [u8]) -> &'a [u8] {
-    match wanted {
-        Ok(definition) => definition.as_bytes(),
-        Err(_) => before,
-    }
-}
-
-/// Asserts that a line raises no fault, or this one, in a table where a name has this definition.
-fn assert_answers<'a, R: Abort>(
-    rt: &R,
-    alloc: Global,
-    table: &mut Table<'a>,
-    tokens: &'a [Token],
-    of: (&str, &str),
-    before: &[u8],
-    wanted: Result<&str, u8>,
-) -> Result<(), Memory> {
-    let answer = directed_again(rt, alloc, table, tokens, of, before)?;
-    assert_answer(rt, &answer, wanted, of);
-    Ok(())
 }
 
 /// Asserts what a line does to a table.
-fn assert_changes<'a, R: Abort>(
-    rt: &R,
+fn assert_changes<'a>(
+    rt: &impl Abort,
     alloc: Global,
     table: &mut Table<'a>,
-    tokens: &'a [Token],
-    of: (&str, &str),
+    line: &'a [Token],
+    name: &str,
     wanted: Result<&str, u8>,
 ) -> Result<(), Memory> {
-    let before = shown(alloc, table, of.1)?;
-    assert_answers(rt, alloc, table, tokens, of, before.as_slice(), wanted)?;
-    let definition = left(wanted, before.as_slice());
-    Ok(assert_shown(rt, alloc, table, of, definition)?)
+    let before = shown(alloc, table, name)?;
+    let answer = direct_again(rt, alloc, table, line, (name, before.as_slice()))?;
+    let after = shown(alloc, table, name)?;
+    assert!(rt;
+        is_wanted(&answer, name, (before.as_slice(), after.as_slice()), wanted),
+        "{name}"
+    );
+    Ok(())
 }
 
-/// Asserts what the second of two lines does to a table in which only the first was done.
-fn assert_second<'a, R: Abort>(
-    rt: &R,
+/// Asserts what a line does to the table after these lines.
+fn assert_next(
+    rt: &impl Abort,
     alloc: Global,
-    (first, tokens): (&'a [Token], &'a [Token]),
-    of: (&str, &str),
+    lines: &Source,
+    line: &[Token],
+    name: &str,
     wanted: Result<&str, u8>,
 ) -> Result<(), Memory> {
-    let mut table = table_of(rt, alloc, first)?;
-    assert_changes(rt, alloc, &mut table, tokens, of, wanted)
+    let mut table = table_of(rt, alloc, lines)?;
+    assert_changes(rt, alloc, &mut table, line, name, wanted)
 }
 
-/// Asserts what a line does to a table in which only the line before it was done: it leaves this definition of the name, or
+/// Asserts what a line does to a table in which only the lines before it were done: it leaves this definition of the name, or
 /// raises the fault of this number and leaves what the name had.
-fn assert_directed<R: Abort>(
-    rt: &R,
+fn assert_directed(
+    rt: &impl Abort,
     alloc: Global,
-    first: &str,
-    of: (&str, &str),
+    (lines, line): (&str, &str),
+    name: &str,
     wanted: Result<&str, u8>,
 ) -> Result<(), Fail> {
-    let kept = lexed(alloc, first)?;
-    let tokens = lexed(alloc, of.0)?;
-    let lines = (kept.as_slice(), tokens.as_slice());
-    Ok(assert_second(rt, alloc, lines, of, wanted)?)
+    let lines = source_of(rt, alloc, lines.as_bytes())?;
+    let line = source_of(rt, alloc, line.as_bytes())?;
+    Ok(assert_next(rt, alloc, &lines, line.tokens(), name, wanted)?)
 }
 
 /// Lines that are refused where `X` is 7: each with its fault's text and number.
@@ -178,12 +143,12 @@ const REFUSED: &[(&str, &str, u8)] = &[
 #[test]
 fn refuses_in_the_order_of_the_rules(rt: HostRuntime) -> Result<(), Fail> {
     for &(line, name, number) in REFUSED {
-        assert_directed(&rt, rt.alloc(), "#define X 7", (line, name), Err(number))?;
+        assert_directed(&rt, rt.alloc(), ("#define X 7", line), name, Err(number))?;
     }
     Ok(())
 }
 
-/// Lines, each with the line before it, and a name with the definition that it has then.
+/// Lines, each with the lines before it, and a name with the definition that it has then.
 const DEFINED: &[(&str, &str, &str, &str)] = &[
     ("", "#define O (1-1)", "O", " (1-1)"),
     (
@@ -213,45 +178,15 @@ const DEFINED: &[(&str, &str, &str, &str)] = &[
         "(a,...)a##__VA_ARGS__",
     ),
     ("#define w(a,...)a##__VA_ARGS__", "#undef w", "w", "none"),
+    ("#define O 1\n#undef O", "#define O 2", "O", " 2"),
 ];
 
 #[test]
 fn defines_and_undefines(rt: HostRuntime) -> Result<(), Fail> {
-    for &(first, line, name, definition) in DEFINED {
-        assert_directed(&rt, rt.alloc(), first, (line, name), Ok(definition))?;
+    for &(lines, line, name, definition) in DEFINED {
+        assert_directed(&rt, rt.alloc(), (lines, line), name, Ok(definition))?;
     }
     Ok(())
-}
-
-/// A table after lines, none of which raises a fault.
-fn table_after<'a, R: Abort>(
-    rt: &R,
-    alloc: Global,
-    lines: &'a [Vec<Token>],
-) -> Result<Table<'a>, Memory> {
-    let mut table = Table::new(alloc)?;
-    for line in lines {
-        assert_accepted(rt, alloc, &mut table, line.as_slice())?;
-    }
-    Ok(table)
-}
-
-/// Asserts the definition of a name after lines.
-fn assert_defined_after<R: Abort>(
-    rt: &R,
-    alloc: Global,
-    lines: &[Vec<Token>],
-    name: &str,
-    wanted: &[u8],
-) -> Result<(), Memory> {
-    let table = table_after(rt, alloc, lines)?;
-    Ok(assert_shown(rt, alloc, &table, (name, name), wanted)?)
-}
-
-#[test]
-fn defines_again_what_was_taken_out(rt: HostRuntime) -> Result<(), Fail> {
-    let lines = all_lexed(rt.alloc(), &["#define O 1", "#undef O", "#define O 2"])?;
-    Ok(assert_defined_after(&rt, rt.alloc(), lines.as_slice(), "O", b" 2")?)
 }
 
 /// Two definitions of `X`: the one that is left, or the number of the fault.
@@ -279,26 +214,25 @@ const COMPARED: &[(&str, &str, Result<&str, u8>)] = &[
 #[test]
 fn compares_definitions(rt: HostRuntime) -> Result<(), Fail> {
     for &(first, second, wanted) in COMPARED {
-        assert_directed(&rt, rt.alloc(), first, (second, "X"), wanted)?;
+        assert_directed(&rt, rt.alloc(), (first, second), "X", wanted)?;
     }
     Ok(())
 }
 
-/// Asserts that a table has `X` with one token, on line 2.
-fn assert_later<R: Abort>(rt: &R, table: &Table) -> Result<(), Fail> {
-    let found = table.get(b"X").ok_or("no X")?;
-    let [token] = found.definition().body.as_slice() else {
-        return Err(Fail::new("not one token"));
-    };
-    assert_same(rt, "X", &token.at.line, &2);
-    Ok(())
+/// The line of the one token that `X` is defined by.
+fn line_of_x(table: &Table) -> Option<u32> {
+    match table.get(b"X")?.definition().body.as_slice() {
+        [token] => Some(token.at.line),
+        _ => None,
+    }
 }
 
 #[test]
 fn the_later_of_two_agreeing_definitions_stays(rt: HostRuntime) -> Result<(), Fail> {
-    let lines = all_lexed(rt.alloc(), &["#define X 1", "\n#define X 1"])?;
-    let table = table_after(&rt, rt.alloc(), lines.as_slice())?;
-    assert_later(&rt, &table)
+    let lines = source_of(&rt, rt.alloc(), b"#define X 1\n#define X 1")?;
+    let table = table_of(&rt, rt.alloc(), &lines)?;
+    assert!(&rt; line_of_x(&table) == Some(2));
+    Ok(())
 }
 
 /// Names with what a new table has of them.
@@ -315,62 +249,23 @@ const PREDEFINED: &[(&str, &str)] = &[
     ("__STDC", "none"),
 ];
 
-fn assert_predefined<R: Abort>(rt: &R, alloc: Global, table: &Table) -> Result<(), AllocError> {
-    for &(name, definition) in PREDEFINED {
-        assert_shown(rt, alloc, table, (name, name), definition.as_bytes())?;
-    }
-    Ok(())
-}
-
-/// Asserts what a new table has of the names.
-fn assert_new<R: Abort>(rt: &R, alloc: Global) -> Result<(), Memory> {
-    let table = Table::new(alloc)?;
-    Ok(assert_predefined(rt, alloc, &table)?)
-}
-
-#[test]
-fn holds_the_predefined_names_alone(rt: HostRuntime) -> Result<(), Fail> {
-    Ok(assert_new(&rt, rt.alloc())?)
-}
-
 /// Asserts what a new table has of the names, where they are hashed so. How it says that it hashes them.
-fn hashed<R: Abort>(rt: &R, alloc: Global, hashing: Hashing) -> Result<Hashing, Memory> {
+fn hashed(rt: &impl Abort, alloc: Global, hashing: Hashing) -> Result<Hashing, Memory> {
     let table = Table::with_hasher(alloc, hashing)?;
-    assert_predefined(rt, alloc, &table)?;
+    for &(name, definition) in PREDEFINED {
+        assert!(rt;
+            shown(alloc, &table, name)?.as_slice() == definition.as_bytes(),
+            "{name}"
+        );
+    }
     Ok(table.hashing())
 }
 
 #[test]
-fn holds_them_by_a_key(rt: HostRuntime) -> Result<(), Fail> {
-    let Ok(key) = RandomState::new(&rt) else {
-        return Err(Fail::new("no key was drawn"));
-    };
-    let hashing = hashed(&rt, rt.alloc(), Hashing::keyed(key))?;
-    let _same = hashed(&rt, rt.alloc(), hashing)?;
+fn holds_the_predefined_names_alone(rt: HostRuntime) -> Result<(), Fail> {
+    for hashing in [Hashing::fixed(), drawn(&rt)?] {
+        let same = hashed(&rt, rt.alloc(), hashing)?;
+        let _same = hashed(&rt, rt.alloc(), same)?;
+    }
     Ok(())
-}
-
-/// Asserts the marks of two chains, of three operands and of one.
-fn assert_chains<R: Abort>(rt: &R, chains: &[Chain]) {
-    let [joined, alone] = chains else {
-        assert!(rt; false, "{} chains", chains.len());
-        return;
-    };
-    assert!(rt; joined.mark && alone.mark);
-    assert_same(rt, "joined operands", &joined.operands.as_slice().len(), &3);
-    assert_same(rt, "operands alone", &alone.operands.as_slice().len(), &1);
-}
-
-/// Asserts the chains of the macro `f`.
-fn assert_joined<R: Abort>(rt: &R, alloc: Global, table: &Table) -> Result<(), Fail> {
-    let chains = table.get(b"f").ok_or("no f")?.chains(alloc)?;
-    assert_chains(rt, chains.as_slice());
-    Ok(())
-}
-
-#[test]
-fn joins_operands_in_chains(rt: HostRuntime) -> Result<(), Fail> {
-    let line = lexed(rt.alloc(), "#define f(a) x ## #a##a y")?;
-    let table = table_of(&rt, rt.alloc(), line.as_slice())?;
-    assert_joined(&rt, rt.alloc(), &table)
 }

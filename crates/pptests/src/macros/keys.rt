@@ -1,5 +1,4 @@
 // Hashes of names by the key that everybody knows, as bench/colliding.py reckons them.
-use super::assert_same;
 use pptext::Hashing;
 use std::hash::{BuildHasher, Hasher};
 
@@ -19,6 +18,6 @@ fn names_hash_as_they_are_made_to_collide(rt: HostRuntime) {
     ] {
         let mut hasher = Hashing::fixed().build_hasher();
         hasher.write(name.as_bytes());
-        assert_same(&rt, name, &hasher.finish(), &hash);
+        assert!(&rt; hasher.finish() == hash, "{name}");
     }
 }

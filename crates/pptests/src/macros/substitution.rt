@@ -4,13 +4,14 @@ ghost use Rattle.ppmacro.specs.HideSets.{IsKnown, AllKnown};
 ghost use Rattle.ppmacro.specs.Substituting.{ListsKnown, ArgumentsKnown};
 ghost use Rattle.ppmacro.specs.declared.flying.Expansion.TheVariants.{Made};
 
-use super::{HASH, all_lexed, assert_same, has, is_hidden_by, lexed, more, push_spelled, table_of};
-use crate::showing::{assert_shown, push_fault};
+use super::{HASH, has, is_hidden_by, macro_of, push_spelled, set_of, sources_of, table_of};
+use crate::defining::source_of;
+use crate::showing::{assert_shown, push_fault, push_fields};
 use ppmacro::{
     Chain, Expansion, Hidden, HideSets, Macro, Pattern, Set, Table, paste, stringize, substitute,
     substitute_pattern, tells_each_kind,
 };
-use pptext::{Fault, Kind, Memory, Place, Token};
+use pptext::{Fault, Memory, Place, Source, Token};
 use std::alloc::{AllocError, Global};
 use std::process::Abort;
 use std::test::Fail;
@@ -47,14 +48,14 @@ fn arguments<'a>(
     alloc: Global,
     sets: &HideSets,
     hide: Set,
-    texts: &'a [Vec<Token>],
+    texts: &'a [Source],
 ) -> Result<Vec<Vec<Hidden<'a>>>, AllocError>
     requires { IsKnown sets.now hide }
     ensures { IfOk result (λ v. ListsKnown sets.now v.items) }
 {
     let mut lists = Vec::new(alloc);
     for text in texts {
-        lists.push(hidden(alloc, sets, hide, text.as_slice())?)?;
+        lists.push(hidden(alloc, sets, hide, text.tokens())?)?;
     }
     Ok(lists)
 }
@@ -74,8 +75,8 @@ fn as_they_are<'a>(
 
 /// What `substitute` answers, where `f` is the name. Where memory is refused, the set `base` has its member `b`, and the call is
 /// made again.
-fn substituted<'x, 'a: 'x, R: Abort>(
-    rt: &R,
+fn substituted<'x, 'a: 'x>(
+    rt: &impl Abort,
     alloc: Global,
     chains: &[Chain<'a>],
     given: &[Vec<Hidden<'x>>],
@@ -101,12 +102,12 @@ fn substituted<'x, 'a: 'x, R: Abort>(
 
 /// What an invocation is replaced by, and the mark that is left pending. No argument names a macro; each argument's tokens
 /// have the hide set `hide`.
-fn replaced_by<'x, 'a: 'x, R: Abort>(
-    rt: &R,
+fn replaced_by<'x, 'a: 'x>(
+    rt: &impl Abort,
     alloc: Global,
     sets: &mut HideSets,
     chains: &[Chain<'a>],
-    texts: &'x [Vec<Token>],
+    texts: &'x [Source],
     (hide, base, space): (Set, Set, bool),
 ) -> Result<Replaced<'x>, Memory> {
     assert!(rt; sets.knows(hide) && sets.knows(base));
@@ -117,12 +118,12 @@ fn replaced_by<'x, 'a: 'x, R: Abort>(
 }
 
 /// The same by `substitute_pattern`.
-fn replaced_by_pattern<'x, 'a: 'x, R: Abort>(
-    rt: &R,
+fn replaced_by_pattern<'x, 'a: 'x>(
+    rt: &impl Abort,
     alloc: Global,
     sets: &mut HideSets,
     pattern: &Pattern<'a>,
-    texts: &'x [Vec<Token>],
+    texts: &'x [Source],
     (hide, base, space): (Set, Set, bool),
 ) -> Result<Replaced<'x>, Memory> {
     assert!(rt; sets.knows(hide) && sets.knows(base));
@@ -132,12 +133,6 @@ fn replaced_by_pattern<'x, 'a: 'x, R: Abort>(
     substitute_pattern(
         alloc, pattern, given, expanded, base, b"f", USED, space, sets,
     )
-}
-
-/// The macro of the name that stands in a `#define` line.
-fn macro_of<'t, 'a>(table: &'t Table<'a>, line: &[Token]) -> Option<&'t Macro<'a>> {
-    let name = line.get(2)?;
-    table.get(name.text.as_bytes())
 }
 
 /// What of a macro an invocation is replaced by.
@@ -151,12 +146,12 @@ enum By {
 type With = (By, bool, bool);
 
 /// What an invocation of a macro is replaced by.
-fn replaced<'x, 'a: 'x, R: Abort>(
-    rt: &R,
+fn replaced<'x, 'a: 'x>(
+    rt: &impl Abort,
     alloc: Global,
     sets: &mut HideSets,
     (table, named): (&Table<'a>, &Macro<'a>),
-    texts: &'x [Vec<Token>],
+    texts: &'x [Source],
     by: By,
     with: (Set, Set, bool),
 ) -> Result<Replaced<'x>, Memory> {
@@ -172,27 +167,16 @@ fn replaced<'x, 'a: 'x, R: Abort>(
     }
 }
 
-/// The hide sets of the arguments' tokens and of the macro's name, which hides `b`.
-fn hide_and_base<R: Abort>(rt: &R, sets: &mut HideSets, hides: bool) -> Result<(Set, Set), Memory> {
-    let none = sets.empty();
-    let hide = if hides {
-        more(rt, sets, none, b"g")?
-    } else {
-        none
-    };
-    Ok((hide, more(rt, sets, none, b"b")?))
-}
-
 /// Whether a token is used where the macro's name is, and has the names `b` and `f`, which each gains.
-fn is_gained<R: Abort>(rt: &R, sets: &HideSets, hidden: &Hidden) -> bool {
+fn is_gained(rt: &impl Abort, sets: &HideSets, hidden: &Hidden) -> bool {
     is_hidden_by(rt, sets, hidden, b"f")
         && is_hidden_by(rt, sets, hidden, b"b")
         && hidden.used() == USED
 }
 
 /// Puts tokens as a text behind another.
-fn push_all_spelled<R: Abort>(
-    rt: &R,
+fn push_all_spelled(
+    rt: &impl Abort,
     text: &mut Vec<u8>,
     sets: &HideSets,
     tokens: &[Hidden],
@@ -205,8 +189,8 @@ fn push_all_spelled<R: Abort>(
 }
 
 /// Puts of each token behind a text whether it hides `g`, and the column where it stands.
-fn push_all_placed<R: Abort>(
-    rt: &R,
+fn push_all_placed(
+    rt: &impl Abort,
     alloc: Global,
     text: &mut Vec<u8>,
     sets: &HideSets,
@@ -226,8 +210,8 @@ fn push_all_placed<R: Abort>(
 
 /// What an invocation is replaced by as a text, and `+` where the mark is left pending; behind it the places, where arguments hide
 /// `g`. Or the fault.
-fn told<R: Abort>(
-    rt: &R,
+fn told(
+    rt: &impl Abort,
     alloc: Global,
     sets: &HideSets,
     answer: &Replaced,
@@ -247,147 +231,159 @@ fn told<R: Abort>(
     Ok(text)
 }
 
-/// The same of an invocation among these hide sets.
-fn told_among<R: Abort>(
-    rt: &R,
+/// The same of an invocation. The macro's name hides `b`.
+fn told_of(
+    rt: &impl Abort,
     alloc: Global,
-    sets: &mut HideSets,
     of: (&Table, &Macro),
-    texts: &[Vec<Token>],
+    texts: &[Source],
     (by, hides, space): With,
 ) -> Result<Vec<u8>, Memory> {
-    let (hide, base) = hide_and_base(rt, sets, hides)?;
-    let answer = replaced(rt, alloc, sets, of, texts, by, (hide, base, space))?;
-    Ok(told(rt, alloc, sets, &answer, hides)?)
-}
-
-/// The same among hide sets of its own.
-fn told_alone<R: Abort>(
-    rt: &R,
-    alloc: Global,
-    of: (&Table, &Macro),
-    texts: &[Vec<Token>],
-    with: With,
-) -> Result<Vec<u8>, Memory> {
     let mut sets = HideSets::new(alloc)?;
-    told_among(rt, alloc, &mut sets, of, texts, with)
+    let names: &[u8] = if hides { b"g" } else { b"" };
+    let hide = set_of(rt, &mut sets, names)?;
+    let base = set_of(rt, &mut sets, b"b")?;
+    let answer = replaced(rt, alloc, &mut sets, of, texts, by, (hide, base, space))?;
+    Ok(told(rt, alloc, &sets, &answer, hides)?)
 }
 
-/// The same of the macro that a `#define` line defines.
-fn told_of<R: Abort>(
-    rt: &R,
+/// The same of the macro that a line defines.
+fn told_in(
+    rt: &impl Abort,
     alloc: Global,
-    line: &[Token],
-    texts: &[Vec<Token>],
+    line: &Source,
+    texts: &[Source],
     with: With,
 ) -> Result<Vec<u8>, Fail> {
     let table = table_of(rt, alloc, line)?;
-    let named = macro_of(&table, line).ok_or("no macro")?;
-    Ok(told_alone(rt, alloc, (&table, named), texts, with)?)
+    let named = macro_of(&table, line.tokens()).ok_or("no macro")?;
+    Ok(told_of(rt, alloc, (&table, named), texts, with)?)
 }
 
 /// Asserts what an invocation is replaced by: its text and the mark that is left, or its fault.
-fn assert_told<R: Abort>(
-    rt: &R,
+fn assert_told(
+    rt: &impl Abort,
     alloc: Global,
-    line: &str,
-    texts: &[&str],
+    (line, texts): (&str, &[&str]),
     with: With,
     wanted: &str,
 ) -> Result<(), Fail> {
-    let line = lexed(alloc, line)?;
-    let texts = all_lexed(alloc, texts)?;
-    let found = told_of(rt, alloc, line.as_slice(), texts.as_slice(), with)?;
+    let line = source_of(rt, alloc, line.as_bytes())?;
+    let texts = sources_of(rt, alloc, texts)?;
+    let found = told_in(rt, alloc, &line, texts.as_slice(), with)?;
     assert_shown(rt, found.as_slice(), wanted);
     Ok(())
 }
+
+/// A macro, the arguments of an invocation, whether its name has a space mark, and what it is replaced by with the mark left.
+type Case = (&'static str, &'static [&'static str], bool, &'static str);
 
 /// Arguments of so many parameters that they have an index, where many tokens are compared with them.
 const SEVENTEEN: &[&str] = &[
     "1", "2", "3", "4", "5", "6", "7", "8", "9", "10", "11", "12", "13", "14", "15", "16", "17",
 ];
 
-/// Macros, the arguments of an invocation, and what it is replaced by.
-const REPLACED: &[(&str, &[&str], &str)] = &[
-    ("#define O (1-1)", &[], "(1-1) |-"),
-    ("#define u(x,y,z) a x ## y ## z", &["", "", "c"], "a c |-"),
-    ("#define hash_hash # ## #", &[], "## |-"),
-    ("#define mkstr(a) # a", &["x ## y"], "\"x ## y\" |-"),
-    ("#define t(x,y,z) x ## y ## z", &["1", "2", "3"], "123 |-"),
-    ("#define t(x,y,z) x ## y ## z", &["", "4", "5"], "45 |-"),
-    ("#define t(x,y,z) x ## y ## z", &["6", "", "7"], "67 |-"),
-    ("#define t(x,y,z) x ## y ## z", &["10", "", ""], "10 |-"),
-    ("#define t(x,y,z) x ## y ## z", &["", "", ""], " |-"),
-    ("#define p(a,b) a ## b", &["x y", "1 2"], "x y1 2 |-"),
-    ("#define f(a) a %:%: a", &["y"], "yy |-"),
+// Examples of 6.10.3.3p4 and 6.10.3.5p5 to p9, and of this crate's own.
+const REPLACED: &[Case] = &[
+    ("#define O (1-1)", &[], false, "(1-1) |-"),
+    (
+        "#define u(x,y,z) a x ## y ## z",
+        &["", "", "c"],
+        false,
+        "a c |-",
+    ),
+    ("#define hash_hash # ## #", &[], false, "## |-"),
+    ("#define mkstr(a) # a", &["x ## y"], false, "\"x ## y\" |-"),
+    (
+        "#define t(x,y,z) x ## y ## z",
+        &["1", "2", "3"],
+        false,
+        "123 |-",
+    ),
+    (
+        "#define t(x,y,z) x ## y ## z",
+        &["", "4", "5"],
+        false,
+        "45 |-",
+    ),
+    (
+        "#define t(x,y,z) x ## y ## z",
+        &["6", "", "7"],
+        false,
+        "67 |-",
+    ),
+    (
+        "#define t(x,y,z) x ## y ## z",
+        &["10", "", ""],
+        false,
+        "10 |-",
+    ),
+    ("#define t(x,y,z) x ## y ## z", &["", "", ""], false, " |-"),
+    ("#define p(a,b) a ## b", &["x y", "1 2"], false, "x y1 2 |-"),
+    ("#define f(a) a %:%: a", &["y"], false, "yy |-"),
     (
         "#define str(s) # s",
         &["strncmp(\"abc\\0d\", \"abc\", '\\4') == 0"],
+        false,
         "\"strncmp(\\\"abc\\\\0d\\\", \\\"abc\\\", '\\\\4') == 0\" |-",
     ),
-    ("#define str(s) # s", &[" : @\\n "], "\": @\\n\" |-"),
-    ("#define str(s) # s", &[""], "\"\" |-"),
+    ("#define str(s) # s", &[" : @\\n "], false, "\": @\\n\" |-"),
+    ("#define str(s) # s", &[""], false, "\"\" |-"),
     (
         "#define showlist(...) puts(#__VA_ARGS__)",
         &["The first, second, and third items."],
+        false,
         "puts(\"The first, second, and third items.\") |-",
     ),
     (
         "#define g(defined,__LINE__) __LINE__ defined",
         &["1", "2"],
+        false,
         "2 1 |-",
     ),
-    ("#define f(a) a ## 1 #a", &["x"], "x1 \"x\" |-"),
+    ("#define f(a) a ## 1 #a", &["x"], false, "x1 \"x\" |-"),
     (
         "#define c(x,y,z) x ## y ## _1 ## z ## $",
         &["a", "b c", ""],
+        false,
         "ab c_1$ |-",
     ),
     (
         "#define n(x) 1 ## 2 ## x ## . ## 3 ## L",
         &["e"],
+        false,
         "12e.3L |-",
     ),
     (
         "#define u(x) x ## a ## \\u00c0 ## b",
         &["_"],
+        false,
         "_a\\u00c0b |-",
     ),
     (
         "#define l(x) x ## 0123456789 ## 0123456789 ## x",
         &["a"],
+        false,
         "a01234567890123456789a |-",
     ),
     (
         "#define pick(a,b,c,d,e,f,g,h,i,j,k,l,m,n,o,p,q) q a",
         SEVENTEEN,
+        false,
         "17 1 |-",
     ),
     (
         "#define turned(a,b,c,d,e,f,g,h,i,j,k,l,m,n,o,p,q) q p o n m l k j i h g f e d c b a",
         SEVENTEEN,
+        false,
         "17 16 15 14 13 12 11 10 9 8 7 6 5 4 3 2 1 |-",
     ),
 ];
 
-// Examples of 6.10.3.3p4 and 6.10.3.5p5 to p9, and of this crate's own.
-#[test]
-fn replaces_by_the_replacement_list(rt: HostRuntime) -> Result<(), Fail> {
-    for &(line, texts, wanted) in REPLACED {
-        assert_told(
-            &rt,
-            rt.alloc(),
-            line,
-            texts,
-            (By::Chains, false, false),
-            wanted,
-        )?;
-    }
-    Ok(())
-}
-
-/// Macros, the arguments of an invocation, whether it has a space mark, and what it is replaced by with the mark left.
-const MARKED: &[(&str, &[&str], bool, &str)] = &[
+// The macro's name hands its mark on. The first token of a chain takes the mark that is pending, which is then cleared; a
+// chain without tokens leaves it to what comes next. A chain's own mark is that of its first token in the definition, which
+// for the first chain does not count.
+const MARKED: &[Case] = &[
     ("#define E", &[], false, " |-"),
     ("#define E", &[], true, " |+"),
     ("#define O (1-1)", &[], true, " (1-1) |-"),
@@ -407,53 +403,76 @@ const MARKED: &[(&str, &[&str], bool, &str)] = &[
     ("#define f(a) x# a", &["1"], false, "x\"1\" |-"),
 ];
 
-// The macro's name hands its mark on. The first token of a chain takes the mark that is pending, which is then cleared; a
-// chain without tokens leaves it to what comes next. A chain's own mark is that of its first token in the definition, which
-// for the first chain does not count.
-#[test]
-fn passes_space_marks_on(rt: HostRuntime) -> Result<(), Fail> {
-    for &(line, texts, space, wanted) in MARKED {
-        assert_told(
-            &rt,
-            rt.alloc(),
-            line,
-            texts,
-            (By::Chains, false, space),
-            wanted,
-        )?;
-    }
-    Ok(())
-}
-
-/// Macros, the arguments of an invocation, and the fault's number, place and text.
-const REFUSED: &[(&str, &[&str], &str)] = &[
-    ("#define C(a,b) a ## b", &["/", "/"], "19 3:40:5 //"),
-    ("#define S(x) #x", &["\\ "], "20 3:40:5 \"\\\""),
+// Faults by number, place and text. Chains come from the left; in each `#` comes first, and then `##` from the left.
+const REFUSED: &[Case] = &[
+    ("#define C(a,b) a ## b", &["/", "/"], false, "19 3:40:5 //"),
+    ("#define S(x) #x", &["\\ "], false, "20 3:40:5 \"\\\""),
     (
         "#define f(a,b) a ## - ## #b",
         &["/", "\\ "],
+        false,
         "20 3:40:5 \"\\\"",
     ),
-    ("#define f(a,b) a ## - #b", &["/", "\\ "], "19 3:40:5 /-"),
-    ("#define f(a,b) a ## b ## -", &["/", "/"], "19 3:40:5 //"),
-    ("#define f(a) a ## a", &["1 -"], "19 3:40:5 -1"),
-    ("#define f(a) # a ## 1", &["x"], "19 3:40:5 \"x\"1"),
-    ("#define f(a) x ## 1 ## a ## +", &["y"], "19 3:40:5 x1y+"),
-    ("#define f(a) 1 ## a ## 2 ## +", &["."], "19 3:40:5 1.2+"),
+    (
+        "#define f(a,b) a ## - #b",
+        &["/", "\\ "],
+        false,
+        "19 3:40:5 /-",
+    ),
+    (
+        "#define f(a,b) a ## b ## -",
+        &["/", "/"],
+        false,
+        "19 3:40:5 //",
+    ),
+    ("#define f(a) a ## a", &["1 -"], false, "19 3:40:5 -1"),
+    ("#define f(a) # a ## 1", &["x"], false, "19 3:40:5 \"x\"1"),
+    (
+        "#define f(a) x ## 1 ## a ## +",
+        &["y"],
+        false,
+        "19 3:40:5 x1y+",
+    ),
+    (
+        "#define f(a) 1 ## a ## 2 ## +",
+        &["."],
+        false,
+        "19 3:40:5 1.2+",
+    ),
 ];
 
-// Chains come from the left; in each `#` comes first, and then `##` from the left.
+// Macros whose parameters are used once, twice and not at all.
+const PATTERNS: &[Case] = &[
+    ("#define I(x) x", &["a b"], true, " a b |-"),
+    (
+        "#define D(x, y) y(x, y) x",
+        &["1", "+ 2"],
+        false,
+        "+ 2(1, + 2) 1 |-",
+    ),
+    ("#define N(x) 0", &["a"], false, "0 |-"),
+    ("#define E(x)", &["a"], true, " |+"),
+    ("#define M(x) - x -", &[""], false, "- - |-"),
+    ("#define L(x) x", &[""], true, " |+"),
+    (
+        "#define V(x, ...) x __VA_ARGS__",
+        &["f", "a, b"],
+        false,
+        "f a, b |-",
+    ),
+    ("#define P(x) x ## 1", &["a"], false, "a1 |-"),
+    ("#define S(x) %: x", &["a"], false, "\"a\" |-"),
+];
+
 #[test]
-fn refuses_what_is_no_token(rt: HostRuntime) -> Result<(), Fail> {
-    for &(line, texts, wanted) in REFUSED {
-        assert_told(
-            &rt,
-            rt.alloc(),
-            line,
-            texts,
-            (By::Chains, false, false),
-            wanted,
-        )?;
+fn replaces_by_the_replacement_list(rt: HostRuntime) -> Result<(), Fail> {
+    for by in [By::Chains, By::Pattern] {
+        for cases in [REPLACED, MARKED, REFUSED, PATTERNS] {
+            for &(line, texts, space, wanted) in cases {
+                let with = (by, false, space);
+                assert_told(&rt, rt.alloc(), (line, texts), with, wanted)?;
+            }
+        }
     }
     Ok(())
 }
@@ -465,236 +484,158 @@ fn refuses_what_is_no_token(rt: HostRuntime) -> Result<(), Fail> {
 fn hides_and_places_what_it_gives(rt: HostRuntime) -> Result<(), Fail> {
     let line = "#define f(a,b) a a##a a##1 #a x b##a";
     let wanted = "y yy y1 \"y\" x y |- g1 g1 -1 -28 -31 g1";
-    assert_told(
-        &rt,
-        rt.alloc(),
-        line,
-        &["y", ""],
-        (By::Chains, true, false),
-        wanted,
-    )
-}
-
-/// Asserts that a literal is what is wanted, without the name `a`.
-fn assert_literal<R: Abort>(rt: &R, sets: &HideSets, literal: &Hidden) {
-    assert_same(rt, "texts", &literal.text(), &b"\"x + '\\\"'\"".as_slice());
-    assert_same(rt, "kinds", &literal.kind(), &Kind::Str);
-    assert_same(rt, "places", &literal.at(), &HASH);
-    assert_same(rt, "places of use", &literal.used(), &USED);
-    assert!(rt; !literal.space() && !is_hidden_by(rt, sets, literal, b"a"));
-}
-
-/// The tokens, each with the name `a`.
-fn hiding_a<'a, R: Abort>(
-    rt: &R,
-    alloc: Global,
-    sets: &mut HideSets,
-    tokens: &'a [Token],
-) -> Result<Vec<Hidden<'a>>, Memory> {
-    let none = sets.empty();
-    let hide = more(rt, sets, none, b"a")?;
-    assert!(rt; sets.knows(hide));
-    Ok(hidden(alloc, sets, hide, tokens)?)
-}
-
-fn assert_stringized<R: Abort>(
-    rt: &R,
-    alloc: Global,
-    sets: &mut HideSets,
-    tokens: &[Token],
-) -> Result<(), Fail> {
-    let argument = hiding_a(rt, alloc, sets, tokens)?;
-    let Ok(literal) = stringize(alloc, argument.as_slice(), HASH, USED, sets)? else {
-        return Err(Fail::new("no literal"));
-    };
-    assert_literal(rt, sets, &literal);
+    for by in [By::Chains, By::Pattern] {
+        assert_told(
+            &rt,
+            rt.alloc(),
+            (line, &["y", ""]),
+            (by, true, false),
+            wanted,
+        )?;
+    }
     Ok(())
 }
 
-fn literal_is_made<R: Abort>(rt: &R, alloc: Global, tokens: &[Token]) -> Result<(), Fail> {
-    let mut sets = HideSets::new(alloc)?;
-    assert_stringized(rt, alloc, &mut sets, tokens)
-}
-
-#[test]
-fn makes_a_literal_of_tokens(rt: HostRuntime) -> Result<(), Fail> {
-    let alloc = rt.alloc();
-    tells_each_kind();
-    let tokens = lexed(alloc, " x  + '\"'")?;
-    literal_is_made(&rt, alloc, tokens.as_slice())
-}
-
-/// Asserts that a token is what is wanted, with the name `a` alone.
-fn assert_pasted<R: Abort>(rt: &R, sets: &HideSets, pasted: &Hidden, at: Place) {
-    assert_same(rt, "texts", &pasted.text(), &b"x1".as_slice());
-    assert_same(rt, "kinds", &pasted.kind(), &Kind::Ident);
-    assert_same(rt, "places", &pasted.at(), &at);
-    assert_same(rt, "places of use", &pasted.used(), &USED);
-    assert!(rt; pasted.space());
-    assert!(rt; is_hidden_by(rt, sets, pasted, b"a") && !is_hidden_by(rt, sets, pasted, b"b"));
-}
-
-/// The paste of two tokens with the hide sets `a`, `b` and `a`.
-fn pasted<'a, R: Abort>(
-    rt: &R,
+/// How many tokens the list of the macro has that a line defines, where the name is replaced by the list; and whether the macro's
+/// pattern has chains.
+fn list_and_chains(
+    rt: &impl Abort,
     alloc: Global,
-    sets: &mut HideSets,
-    left: &Token,
-    right: &Token,
-) -> Result<Result<Hidden<'a>, Fault>, Memory> {
-    let none = sets.empty();
-    let a = more(rt, sets, none, b"a")?;
-    let ab = more(rt, sets, a, b"b")?;
-    assert!(rt; sets.knows(a) && sets.knows(ab));
-    paste(
-        alloc,
-        &Hidden::new(left, ab),
-        &Hidden::new(right, a),
-        USED,
-        sets,
-    )
-}
-
-fn assert_pastes<R: Abort>(
-    rt: &R,
-    alloc: Global,
-    sets: &mut HideSets,
-    left: &Token,
-    right: &Token,
-) -> Result<(), Fail> {
-    let Ok(token) = pasted(rt, alloc, sets, left, right)? else {
-        return Err(Fail::new("no token"));
-    };
-    assert_pasted(rt, sets, &token, left.at);
-    Ok(())
-}
-
-fn tokens_are_pasted<R: Abort>(rt: &R, alloc: Global, tokens: &[Token]) -> Result<(), Fail> {
-    let [_, left, right] = tokens else {
-        return Err(Fail::new("other tokens"));
-    };
-    let mut sets = HideSets::new(alloc)?;
-    assert_pastes(rt, alloc, &mut sets, left, right)
-}
-
-#[test]
-fn pastes_two_tokens(rt: HostRuntime) -> Result<(), Fail> {
-    let alloc = rt.alloc();
-    let tokens = lexed(alloc, "+ x 1")?;
-    tokens_are_pasted(&rt, alloc, tokens.as_slice())
-}
-
-/// How many tokens the list of the macro has that a `#define` line defines, where the name is replaced by the list.
-fn lone_tokens<R: Abort>(rt: &R, alloc: Global, line: &[Token]) -> Result<Option<usize>, Fail> {
+    line: &Source,
+) -> Result<(Option<usize>, bool), Fail> {
     let table = table_of(rt, alloc, line)?;
-    let named = macro_of(&table, line).ok_or("no macro")?;
-    Ok(named.lone_tokens().map(|body| body.len()))
+    let named = macro_of(&table, line.tokens()).ok_or("no macro")?;
+    let pattern = named.pattern(alloc, table.hashing())?;
+    let lone = match named.lone_tokens() {
+        Some(body) => Some(body.len()),
+        None => None,
+    };
+    Ok((lone, matches!(&pattern, Pattern::Joined(_))))
 }
 
-/// That macros have so many lone tokens, or none.
-fn assert_lone<R: Abort>(
-    rt: &R,
-    alloc: Global,
-    cases: &[(&str, Option<usize>)],
-) -> Result<(), Fail> {
-    for &(line, wanted) in cases {
-        let tokens = lexed(alloc, line)?;
+/// Macros, how many tokens the list has where the name is replaced by it, and whether the pattern has chains.
+const LISTED: &[(&str, Option<usize>, bool)] = &[
+    ("#define O (1-1)", Some(5), false),
+    ("#define H # x", Some(2), true),
+    ("#define E", Some(0), false),
+    ("#define P a ## b", None, true),
+    ("#define D a %:%: b", None, true),
+    ("#define F() a", None, false),
+    ("#define G(x) x", None, false),
+    ("#define I(x) x", None, false),
+    ("#define D(x, y) y(x, y) x", None, false),
+    ("#define N(x) 0", None, false),
+    ("#define E(x)", None, false),
+    ("#define M(x) - x -", None, false),
+    ("#define L(x) x", None, false),
+    ("#define V(x, ...) x __VA_ARGS__", None, false),
+    ("#define P(x) x ## 1", None, true),
+    ("#define S(x) %: x", None, true),
+];
+
+// Where no `##` stands in its list, an object-like macro's name is replaced by the list. Where neither `#` nor `##` stands there, no
+// chains are made for an invocation.
+#[test]
+fn makes_chains_where_tokens_are_made(rt: HostRuntime) -> Result<(), Fail> {
+    for &(line, lone, joined) in LISTED {
+        let source = source_of(&rt, rt.alloc(), line.as_bytes())?;
         assert!(rt;
-            lone_tokens(rt, alloc, tokens.as_slice())? == wanted,
+            list_and_chains(&rt, rt.alloc(), &source)? == (lone, joined),
             "{line}"
         );
     }
     Ok(())
 }
 
-/// Macros without `##` in the list, and how many tokens it has.
-const LONE: &[(&str, Option<usize>)] = &[
-    ("#define O (1-1)", Some(5)),
-    ("#define H # x", Some(2)),
-    ("#define E", Some(0)),
-];
-
-// Where no `##` stands in its list, an object-like macro's name is replaced by the list.
-#[test]
-fn has_lone_tokens(rt: HostRuntime) -> Result<(), Fail> {
-    assert_lone(&rt, rt.alloc(), LONE)
-}
-
-/// Macros with a `##` in the list, or with parameters.
-const JOINED: &[(&str, Option<usize>)] = &[
-    ("#define P a ## b", None),
-    ("#define D a %:%: b", None),
-    ("#define F() a", None),
-    ("#define G(x) x", None),
-];
-
-#[test]
-fn has_no_lone_tokens(rt: HostRuntime) -> Result<(), Fail> {
-    assert_lone(&rt, rt.alloc(), JOINED)
-}
-
-/// Whether the pattern of the macro that a `#define` line defines has chains.
-fn has_chains<R: Abort>(rt: &R, alloc: Global, line: &[Token]) -> Result<bool, Fail> {
-    let table = table_of(rt, alloc, line)?;
-    let named = macro_of(&table, line).ok_or("no macro")?;
-    let pattern = named.pattern(alloc, table.hashing())?;
-    Ok(matches!(&pattern, Pattern::Joined(_)))
-}
-
-/// Asserts whether the pattern of a macro has chains.
-fn assert_has_chains<R: Abort>(
-    rt: &R,
+/// Asserts that a token is shown as this text, and that these of the names `a`, `b` and `c` hide it.
+fn assert_made(
+    rt: &impl Abort,
     alloc: Global,
-    line: &str,
-    wanted: bool,
-) -> Result<(), Fail> {
-    let tokens = lexed(alloc, line)?;
-    assert!(rt;
-        has_chains(rt, alloc, tokens.as_slice())? == wanted,
-        "{line}"
-    );
-    Ok(())
-}
-
-/// Macros whose parameters are used once, twice and not at all, whether `#` or `##` stands in the list, the arguments, whether the name
-/// has a space mark, and what an invocation is replaced by with the mark left.
-const PATTERNS: &[(&str, bool, &[&str], bool, &str)] = &[
-    ("#define I(x) x", false, &["a b"], true, " a b |-"),
-    (
-        "#define D(x, y) y(x, y) x",
-        false,
-        &["1", "+ 2"],
-        false,
-        "+ 2(1, + 2) 1 |-",
-    ),
-    ("#define N(x) 0", false, &["a"], false, "0 |-"),
-    ("#define E(x)", false, &["a"], true, " |+"),
-    ("#define M(x) - x -", false, &[""], false, "- - |-"),
-    ("#define L(x) x", false, &[""], true, " |+"),
-    (
-        "#define V(x, ...) x __VA_ARGS__",
-        false,
-        &["f", "a, b"],
-        false,
-        "f a, b |-",
-    ),
-    ("#define P(x) x ## 1", true, &["a"], false, "a1 |-"),
-    ("#define S(x) %: x", true, &["a"], false, "\"a\" |-"),
-];
-
-// Where neither `#` nor `##` stands in its list, no chains are made for an invocation.
-#[test]
-fn replaces_by_patterns(rt: HostRuntime) -> Result<(), Fail> {
-    for &(line, joined, texts, space, wanted) in PATTERNS {
-        assert_has_chains(&rt, rt.alloc(), line, joined)?;
-        assert_told(
-            &rt,
-            rt.alloc(),
-            line,
-            texts,
-            (By::Pattern, false, space),
-            wanted,
-        )?;
+    sets: &HideSets,
+    made: &Hidden,
+    (wanted, names): (&str, &[u8]),
+) -> Result<(), AllocError> {
+    let mut text = Vec::new(alloc);
+    let marks = (made.kind(), made.space());
+    push_fields(
+        alloc,
+        &mut text,
+        marks,
+        made.text(),
+        (made.at(), made.used()),
+    )?;
+    assert_shown(rt, text.as_slice(), wanted);
+    for name in b"abc" {
+        let is_wanted = names.contains(name);
+        assert!(rt;
+            is_hidden_by(rt, sets, made, &[*name]) == is_wanted,
+            "{name}"
+        );
     }
     Ok(())
+}
+
+/// Asserts the literal of tokens that `a` hides.
+fn assert_stringized(
+    rt: &impl Abort,
+    alloc: Global,
+    sets: &mut HideSets,
+    tokens: &[Token],
+    wanted: &str,
+) -> Result<(), Fail> {
+    let hide = set_of(rt, sets, b"a")?;
+    assert!(rt; sets.knows(hide));
+    let argument = hidden(alloc, sets, hide, tokens)?;
+    let Ok(literal) = stringize(alloc, argument.as_slice(), HASH, USED, sets)? else {
+        return Err(Fail::new("no literal"));
+    };
+    Ok(assert_made(rt, alloc, sets, &literal, (wanted, b""))?)
+}
+
+/// The paste of two tokens, of which `a` and `b` hide the left one, and `a` the other.
+fn pasted<'a>(
+    rt: &impl Abort,
+    alloc: Global,
+    sets: &mut HideSets,
+    left: &Token,
+    right: &Token,
+) -> Result<Result<Hidden<'a>, Fault>, Memory> {
+    let (a, ab) = (set_of(rt, sets, b"a")?, set_of(rt, sets, b"ab")?);
+    assert!(rt; sets.knows(a) && sets.knows(ab));
+    let (left, right) = (Hidden::new(left, ab), Hidden::new(right, a));
+    paste(alloc, &left, &right, USED, sets)
+}
+
+/// Asserts the paste of the second and the third of three tokens, which `a` hides.
+fn assert_pasted(
+    rt: &impl Abort,
+    alloc: Global,
+    sets: &mut HideSets,
+    tokens: &[Token],
+    wanted: &str,
+) -> Result<(), Fail> {
+    let [_, left, right] = tokens else {
+        return Err(Fail::new("other tokens"));
+    };
+    let Ok(token) = pasted(rt, alloc, sets, left, right)? else {
+        return Err(Fail::new("no token"));
+    };
+    Ok(assert_made(rt, alloc, sets, &token, (wanted, b"a"))?)
+}
+
+#[test]
+fn makes_a_literal_of_tokens(rt: HostRuntime) -> Result<(), Fail> {
+    tells_each_kind();
+    let source = source_of(&rt, rt.alloc(), b" x  + '\"'")?;
+    let mut sets = HideSets::new(rt.alloc())?;
+    let wanted = "s- \"x + '\\\"'\" 1:1:1 3:40:5, ";
+    assert_stringized(&rt, rt.alloc(), &mut sets, source.tokens(), wanted)
+}
+
+#[test]
+fn pastes_two_tokens(rt: HostRuntime) -> Result<(), Fail> {
+    let source = source_of(&rt, rt.alloc(), b"+ x 1")?;
+    let mut sets = HideSets::new(rt.alloc())?;
+    let wanted = "i+ x1 1:1:3 3:40:5, ";
+    assert_pasted(&rt, rt.alloc(), &mut sets, source.tokens(), wanted)
 }

@@ -1,7 +1,8 @@
 // Tokens that the names of two sets hide.
 ghost use Rattle.ppmacro.specs.HideSets.{IsKnown, HasSets};
 
-use super::{HASH, assert_same, has, lexed, more};
+use super::{HASH, assert_names, set_of};
+use crate::defining::source_of;
 use ppmacro::{Hidden, HideSets, Set};
 use pptext::{Memory, Token};
 use std::process::Abort;
@@ -30,8 +31,8 @@ enum Asked {
 }
 
 /// The set that is asked for.
-fn asked_of<R: Abort>(
-    rt: &R,
+fn asked_of(
+    rt: &impl Abort,
     sets: &mut HideSets,
     token: &Token,
     one: Set,
@@ -47,104 +48,43 @@ fn asked_of<R: Abort>(
     }
 }
 
-/// Asserts which of the names `a`, `b` and `c` the set has that is asked for of a token `c` with the sets of `a` and of `b`.
-fn assert_asked<R: Abort>(
-    rt: &R,
+/// Asserts that the set of these names is asked for of a token with the sets of `a` and of `b`.
+fn assert_asked(
+    rt: &impl Abort,
     sets: &mut HideSets,
     token: &Token,
     asked: Asked,
-    wanted: [bool; 3],
+    wanted: &[u8],
 ) -> Result<(), Memory> {
-    let none = sets.empty();
-    let a = more(rt, sets, none, b"a")?;
-    let b = more(rt, sets, none, b"b")?;
+    let (a, b) = (set_of(rt, sets, b"a")?, set_of(rt, sets, b"b")?);
     let set = asked_of(rt, sets, token, a, b, asked)?;
-    let found = [
-        has(rt, sets, set, b"a"),
-        has(rt, sets, set, b"b"),
-        has(rt, sets, set, b"c"),
-    ];
-    assert_same(rt, "names", &found, &wanted);
+    assert_names(rt, sets, set, wanted);
     Ok(())
 }
 
-/// Asserts it of new sets.
-fn assert_of_c<R: Abort>(
-    rt: &R,
-    sets: &mut HideSets,
-    tokens: &[Token],
-    asked: Asked,
-    wanted: [bool; 3],
-) -> Result<(), Fail> {
-    let token = tokens.first().ok_or("no token")?;
-    Ok(assert_asked(rt, sets, token, asked, wanted)?)
+/// Whether a token's own name is among those of the sets of `a` and of `b`.
+fn is_hidden(rt: &impl Abort, sets: &mut HideSets, token: &Token) -> Result<bool, Memory> {
+    let (a, b) = (set_of(rt, sets, b"a")?, set_of(rt, sets, b"b")?);
+    assert!(rt; sets.knows(a) && sets.knows(b));
+    Ok(sets.hides(&hidden_by_both(sets, token, a, b)))
 }
 
-#[test]
-fn joins_the_sets_of_a_token(rt: HostRuntime) -> Result<(), Fail> {
-    let tokens = lexed(rt.alloc(), "c")?;
-    let mut sets = HideSets::new(rt.alloc())?;
-    assert_of_c(
-        &rt,
-        &mut sets,
-        tokens.as_slice(),
-        Asked::Settled,
-        [true, true, false],
-    )
-}
-
-#[test]
-fn hides_a_token_by_its_own_name(rt: HostRuntime) -> Result<(), Fail> {
-    let tokens = lexed(rt.alloc(), "c")?;
-    let mut sets = HideSets::new(rt.alloc())?;
-    assert_of_c(
-        &rt,
-        &mut sets,
-        tokens.as_slice(),
-        Asked::WithOwn,
-        [true, true, true],
-    )
-}
-
-#[test]
-fn finds_what_two_tokens_share(rt: HostRuntime) -> Result<(), Fail> {
-    let tokens = lexed(rt.alloc(), "c")?;
-    let mut sets = HideSets::new(rt.alloc())?;
-    assert_of_c(
-        &rt,
-        &mut sets,
-        tokens.as_slice(),
-        Asked::Common,
-        [false, true, false],
-    )
-}
-
-/// Whether a token's own name is among those of these two sets.
-fn is_hidden<R: Abort>(rt: &R, sets: &HideSets, token: &Token, one: Set, two: Set) -> bool {
-    assert!(rt; sets.knows(one) && sets.knows(two));
-    sets.hides(&hidden_by_both(sets, token, one, two))
-}
-
-/// Asserts whether the sets of `a` and of `b` together hide each of these tokens.
-fn assert_hidden<R: Abort>(
-    rt: &R,
-    sets: &mut HideSets,
-    tokens: &[Token],
-    wanted: &[bool],
-) -> Result<(), Memory> {
-    let none = sets.empty();
-    let a = more(rt, sets, none, b"a")?;
-    let b = more(rt, sets, none, b"b")?;
-    assert_same(rt, "count", &tokens.len(), &wanted.len());
-    for (token, is) in tokens.iter().zip(wanted) {
-        assert_same(rt, "token", &is_hidden(rt, sets, token, a, b), is);
+/// Asserts what is asked of each of the tokens `c`, `a` and `b`: whether the two sets hide it, and the names of the sets.
+fn assert_of_tokens(rt: &impl Abort, sets: &mut HideSets, tokens: &[Token]) -> Result<(), Memory> {
+    let asked: [(bool, &[u8]); 3] = [(false, b"abc"), (true, b"ab"), (true, b"ab")];
+    for (token, (is_hidden_by_either, with_own)) in tokens.iter().zip(asked) {
+        assert!(rt; is_hidden(rt, sets, token)? == is_hidden_by_either);
+        assert_asked(rt, sets, token, Asked::Settled, b"ab")?;
+        assert_asked(rt, sets, token, Asked::WithOwn, with_own)?;
+        assert_asked(rt, sets, token, Asked::Common, b"b")?;
     }
     Ok(())
 }
 
 #[test]
-fn hides_by_either_set(rt: HostRuntime) -> Result<(), Fail> {
-    let tokens = lexed(rt.alloc(), "a b c")?;
+fn hides_by_either_of_two_sets(rt: HostRuntime) -> Result<(), Fail> {
+    let tokens = source_of(&rt, rt.alloc(), b"c a b")?;
     let mut sets = HideSets::new(rt.alloc())?;
-    Ok(assert_hidden(&rt, &mut sets, tokens.as_slice(), &[true, true, false])?)
+    assert!(&rt; tokens.tokens().len() == 3);
+    Ok(assert_of_tokens(&rt, &mut sets, tokens.tokens())?)
 }

@@ -1,15 +1,8 @@
 // Hashes of names by drawn keys.
+use crate::defining::drawn;
 use pptext::Hashing;
-use std::hash::{BuildHasher, RandomState};
+use std::hash::BuildHasher;
 use std::test::Fail;
-
-/// How a key of its own hashes names.
-fn drawn(rt: &HostRuntime) -> Result<Hashing, Fail> {
-    match RandomState::new(rt) {
-        Ok(key) => Ok(Hashing::keyed(key)),
-        Err(_) => Err(Fail::new("no key was drawn")),
-    }
-}
 
 /// Whether two ways hash a text of so many bytes to one number.
 fn agree(left: Hashing, right: Hashing, len: usize) -> bool {

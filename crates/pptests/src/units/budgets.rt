@@ -1,19 +1,10 @@
 // Budgets of units.
 use super::{assert_units_within, repeated};
+use crate::defining::doubling;
 use pptext::Profile;
-use std::alloc::{AllocError, Global};
+use std::alloc::Global;
 use std::process::Abort;
 use std::test::Fail;
-
-/// Definitions of `a0` to `a64`, each but the first of two of the one before it, and an invocation of the last.
-fn doubling(alloc: Global) -> Result<String, AllocError> {
-    let mut text = String::from_str(alloc, "#define a0 0\n")?;
-    for i in 0..64 {
-        text.push_str(format!(in alloc; "#define a{} a{i} a{i}\n", i + 1)?.as_str())?;
-    }
-    text.push_str("a64\n")?;
-    Ok(text)
-}
 
 /// That a unit of the first of these files, in the later profile, gives a text within each of these budgets.
 fn assert_budgets(
