@@ -2,16 +2,16 @@
 use ppexpand::{is_spent, less_one};
 
 #[test]
-fn tells_what_is_spent(rt: HostRuntime) {
-    assert_eq!(&rt; is_spent(Some(0)), true);
-    assert_eq!(&rt; is_spent(Some(1)), false);
-    assert_eq!(&rt; is_spent(None), false);
-}
-
-#[test]
 fn spends_one(rt: HostRuntime) {
-    assert_eq!(&rt; less_one(Some(u64::MAX)), Some(u64::MAX - 1));
-    assert_eq!(&rt; less_one(Some(1)), Some(0));
-    assert_eq!(&rt; less_one(Some(0)), Some(0));
-    assert_eq!(&rt; less_one(None), None);
+    for (left, spent, less) in [
+        (Some(u64::MAX), false, Some(u64::MAX - 1)),
+        (Some(1), false, Some(0)),
+        (Some(0), true, Some(0)),
+        (None, false, None),
+    ] {
+        assert!(rt;
+            is_spent(left) == spent && less_one(left) == less,
+            "{left:?}"
+        );
+    }
 }

@@ -1,7 +1,7 @@
 // Files beside the plain passes of phases 1 and 2.
 use super::passes::clean_slowly;
 use super::read;
-use pptext::{Char, Line, Memory, Place, Profile, Token};
+use pptext::{Char, Fault, Line, Memory, Place, Profile, Source, Token};
 use std::alloc::{AllocError, Global};
 use std::process::Abort;
 use std::test::Fail;
@@ -60,48 +60,40 @@ fn are_all(tokens: &[Token], chars: &[Char]) -> bool {
     blanks(rest) == rest.len()
 }
 
+/// Whether a line is there and has this number.
+fn is_numbered(line: Option<&Line>, number: u32) -> bool {
+    match line {
+        Some(line) => line.number == number,
+        None => false,
+    }
+}
+
 /// Whether a line ends in each new-line of these characters, and no other line is there.
 fn have_ends(lines: &[Line], chars: &[Char]) -> bool {
     let mut lines = lines.iter();
     for char in chars {
-        if char.code == b'\n' && lines.next().map(|line| line.number) != Some(char.at.line) {
+        if char.code == b'\n' && !is_numbered(lines.next(), char.at.line) {
             return false;
         }
     }
     lines.next().is_none()
 }
 
-/// Whether a file is read into the tokens and lines of these characters.
-fn is_read_into(
-    rt: &impl Abort,
-    alloc: Global,
-    bytes: &[u8],
-    chars: &[Char],
-) -> Result<bool, Memory> {
-    let Ok(source) = read(rt, alloc, Profile::C11, bytes)? else {
-        return Ok(false);
-    };
-    Ok(are_all(source.tokens(), chars) && have_ends(source.lines(), chars))
-}
+/// What a file is read into, or its fault.
+type Read = Result<Source, Fault>;
 
-/// Whether a file is refused for the backslash in this place.
-fn is_refused_at(
-    rt: &impl Abort,
-    alloc: Global,
-    bytes: &[u8],
-    place: Place,
-) -> Result<bool, Memory> {
-    let Err(fault) = read(rt, alloc, Profile::C11, bytes)? else {
-        return Ok(false);
-    };
-    Ok(fault.number == 2 && fault.at == place)
-}
+/// What the plain passes give, or the place of the backslash that it must not end in.
+type Cleaned = Result<Vec<Char>, Place>;
 
 /// Whether a file is read into what the plain passes give, each token and each new-line in its place, or refused as they do.
-fn agree(rt: &impl Abort, alloc: Global, bytes: &[u8]) -> Result<bool, Memory> {
-    match clean_slowly(rt, alloc, bytes)? {
-        Ok(chars) => is_read_into(rt, alloc, bytes, chars.as_slice()),
-        Err(place) => is_refused_at(rt, alloc, bytes, place),
+fn is_read_so(read: &Read, cleaned: &Cleaned) -> bool {
+    match (read, cleaned) {
+        (Ok(source), Ok(chars)) => {
+            let chars = chars.as_slice();
+            are_all(source.tokens(), chars) && have_ends(source.lines(), chars)
+        }
+        (Err(fault), Err(place)) => fault.number == 2 && fault.at == *place,
+        _ => false,
     }
 }
 
@@ -124,21 +116,35 @@ fn is_last(tokens: &[Token], lines: &[Line], chars: &[Char]) -> bool {
 }
 
 /// Whether a file of one token that ends it is read so.
-fn ends_in_token(rt: &impl Abort, alloc: Global, file: &[u8]) -> Result<bool, Memory> {
-    let Ok(chars) = clean_slowly(rt, alloc, file)? else {
-        return Ok(false);
-    };
-    let Ok(source) = read(rt, alloc, Profile::C11, file)? else {
-        return Ok(false);
-    };
-    Ok(is_last(source.tokens(), source.lines(), chars.as_slice()))
+fn ends_so(read: &Read, cleaned: &Cleaned) -> bool {
+    match (read, cleaned) {
+        (Ok(source), Ok(chars)) => is_last(source.tokens(), source.lines(), chars.as_slice()),
+        _ => false,
+    }
+}
+
+/// What of a file is compared with the plain passes.
+#[derive(Clone, Copy)]
+enum Compared {
+    All,
+    End,
+}
+
+/// Whether a file agrees with the plain passes.
+fn agree(rt: &impl Abort, alloc: Global, bytes: &[u8], compared: Compared) -> Result<bool, Memory> {
+    let cleaned = clean_slowly(rt, alloc, bytes)?;
+    let read = read(rt, alloc, Profile::C11, bytes)?;
+    Ok(match compared {
+        Compared::All => is_read_so(&read, &cleaned),
+        Compared::End => ends_so(&read, &cleaned),
+    })
 }
 
 /// Whether each place agrees that is asked for at once, over all that stands in front of it.
 fn agree_at_once(rt: &impl Abort, alloc: Global, bytes: &[u8]) -> Result<bool, Memory> {
     for len in 0..=bytes.len() {
         let file = commented(alloc, &bytes[..len])?;
-        if !ends_in_token(rt, alloc, file.as_slice())? {
+        if !agree(rt, alloc, file.as_slice(), Compared::End)? {
             return Ok(false);
         }
     }
@@ -163,7 +169,7 @@ fn agrees_on_short_texts(rt: HostRuntime) -> Result<(), Fail> {
         for n in 0..*count {
             let text = spell(n);
             assert!(rt;
-                agree(&rt, rt.alloc(), &text[..len])?,
+                agree(&rt, rt.alloc(), &text[..len], Compared::All)?,
                 "at {n} of length {len}"
             );
         }
@@ -195,18 +201,7 @@ const TEXTS: &[&[u8]] = &[
     b"\\\\\n\n",
     b"@\r",
     b"\xef\xbb\xbf??/\r\n\\\n;\r\n\r\n??(\\\n??)@",
-];
-
-#[test]
-fn agrees_with_the_plain_passes(rt: HostRuntime) -> Result<(), Fail> {
-    for bytes in TEXTS {
-        assert!(rt; agree(&rt, rt.alloc(), bytes)?, "at {bytes:?}");
-    }
-    Ok(())
-}
-
-/// Texts of many breaks.
-const BROKEN: &[&[u8]] = &[
+    // many breaks
     b"\r\n\r\n\r\n\r\n@\r\n\r\n",
     b"@;\r\n,~\r\n@;",
     b"??=??(??)??'??<??!??>??-@??=\n??-",
@@ -216,9 +211,12 @@ const BROKEN: &[&[u8]] = &[
 ];
 
 #[test]
-fn agrees_behind_many_breaks(rt: HostRuntime) -> Result<(), Fail> {
-    for bytes in BROKEN {
-        assert!(rt; agree(&rt, rt.alloc(), bytes)?, "at {bytes:?}");
+fn agrees_with_the_plain_passes(rt: HostRuntime) -> Result<(), Fail> {
+    for bytes in TEXTS {
+        assert!(rt;
+            agree(&rt, rt.alloc(), bytes, Compared::All)?,
+            "at {bytes:?}"
+        );
         assert!(rt;
             agree_at_once(&rt, rt.alloc(), bytes)?,
             "at once at {bytes:?}"

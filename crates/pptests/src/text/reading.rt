@@ -1,10 +1,25 @@
-// What files are read into: tokens, lines, the first fault; what one token is, and what carries one on.
-use super::{FILE, push_link, read};
+// What files are read into: tokens, lines, branches, guards, the first fault; what one token is, and what carries one on.
+use super::{FILE, read};
 use crate::showing::{assert_shown, push_fault, push_token};
 use pptext::{Fault, Kind, Line, Memory, Profile, Source, Token, carries_on, read_lines, relex};
 use std::alloc::{AllocError, Global};
 use std::process::Abort;
 use std::test::Fail;
+
+/// What is shown of a file.
+#[derive(Clone, Copy)]
+enum Shown {
+    /// Its tokens.
+    Tokens,
+    /// The spellings of its header names.
+    Headers,
+    /// Its lines, as `0-3 1 Ifndef 3, `: the tokens, the number, the directive and the next branch line.
+    Lines,
+    /// The lines' directives and next branch lines.
+    Links,
+    /// The name that guards it.
+    Guard,
+}
 
 /// Puts tokens behind a text.
 fn push_tokens(alloc: Global, text: &mut Vec<u8>, tokens: &[Token]) -> Result<(), AllocError> {
@@ -14,117 +29,234 @@ fn push_tokens(alloc: Global, text: &mut Vec<u8>, tokens: &[Token]) -> Result<()
     Ok(())
 }
 
-/// Puts the tokens of a file behind a text, or its fault.
-fn push_cut(
-    alloc: Global,
-    text: &mut Vec<u8>,
-    answer: &Result<Source, Fault>,
-) -> Result<(), AllocError> {
-    match answer {
-        Ok(source) => push_tokens(alloc, text, source.tokens()),
-        Err(fault) => push_fault(alloc, text, fault),
+/// Puts the header names among tokens behind a text.
+fn push_headers(text: &mut Vec<u8>, tokens: &[Token]) -> Result<(), AllocError> {
+    for token in tokens {
+        if token.kind == Kind::Header {
+            text.extend_from_slice(token.text.as_bytes())?;
+        }
     }
-}
-
-/// The tokens of a file, or its fault.
-fn tokens_in(rt: &impl Abort, alloc: Global, bytes: &[u8]) -> Result<Vec<u8>, Memory> {
-    let answer = read(rt, alloc, Profile::C11, bytes)?;
-    let mut text = Vec::new(alloc);
-    push_cut(alloc, &mut text, &answer)?;
-    Ok(text)
-}
-
-#[test]
-fn reads_tokens(rt: HostRuntime) -> Result<(), Fail> {
-    let found = tokens_in(&rt, rt.alloc(), b"a+b/**/c")?;
-    let wanted = "i+ a 7:1:1 7:1:1, p- + 7:1:2 7:1:2, i- b 7:1:3 7:1:3, i+ c 7:1:8 7:1:8, ";
-    assert_shown(&rt, found.as_slice(), wanted);
     Ok(())
 }
 
-/// Puts a line behind a text: its tokens, number, directive and next branch line, as `0-3 1 Ifndef 3, `.
-fn push_line(alloc: Global, text: &mut Vec<u8>, line: &Line) -> Result<(), AllocError> {
-    let span = format!(in alloc; "{}-{} {} ", line.start, line.end, line.number)?;
-    text.extend_from_slice(span.as_bytes())?;
+/// Puts a line's directive and next branch line behind a text, as `Ifdef 3, `, with a `-` for what isn't there.
+fn push_link(alloc: Global, text: &mut Vec<u8>, line: &Line) -> Result<(), AllocError> {
+    match line.directive {
+        Some(directive) => {
+            text.extend_from_slice(format!(in alloc; "{directive:?} ")?.as_bytes())?
+        }
+        None => text.extend_from_slice(b"- ")?,
+    }
+    match line.next_branch {
+        Some(next) => text.extend_from_slice(format!(in alloc; "{next}, ")?.as_bytes()),
+        None => text.extend_from_slice(b"-, "),
+    }
+}
+
+/// Puts a line behind a text, and in front of it its tokens and its number, where these are asked for.
+fn push_line(
+    alloc: Global,
+    text: &mut Vec<u8>,
+    line: &Line,
+    numbered: bool,
+) -> Result<(), AllocError> {
+    if numbered {
+        let span = format!(in alloc; "{}-{} {} ", line.start, line.end, line.number)?;
+        text.extend_from_slice(span.as_bytes())?;
+    }
     push_link(alloc, text, line)
 }
 
-/// Puts the lines of a file and its guard behind a text.
-fn push_lines(alloc: Global, text: &mut Vec<u8>, source: &Source) -> Result<(), AllocError> {
-    for line in source.lines() {
-        push_line(alloc, text, line)?;
-    }
-    text.extend_from_slice(source.guard().unwrap_or(b"-"))
-}
-
-/// The same, or the file's fault.
-fn push_read(
+/// Puts lines behind a text.
+fn push_lines(
     alloc: Global,
     text: &mut Vec<u8>,
-    answer: &Result<Source, Fault>,
+    lines: &[Line],
+    numbered: bool,
 ) -> Result<(), AllocError> {
-    match answer {
-        Ok(source) => push_lines(alloc, text, source),
-        Err(fault) => push_fault(alloc, text, fault),
+    for line in lines {
+        push_line(alloc, text, line, numbered)?;
+    }
+    Ok(())
+}
+
+/// Puts what is shown of a file behind a text.
+fn push_source(
+    alloc: Global,
+    text: &mut Vec<u8>,
+    source: &Source,
+    shown: Shown,
+) -> Result<(), AllocError> {
+    match shown {
+        Shown::Tokens => push_tokens(alloc, text, source.tokens()),
+        Shown::Headers => push_headers(text, source.tokens()),
+        Shown::Lines => push_lines(alloc, text, source.lines(), true),
+        Shown::Links => push_lines(alloc, text, source.lines(), false),
+        Shown::Guard => text.extend_from_slice(source.guard().unwrap_or(b"none")),
     }
 }
 
-/// The lines of a file and its guard, or its fault.
-fn lines_in(rt: &impl Abort, alloc: Global, bytes: &[u8]) -> Result<Vec<u8>, Memory> {
-    let answer = read(rt, alloc, Profile::C11, bytes)?;
+/// What is shown of a file, or its fault.
+fn shown_of(
+    alloc: Global,
+    answer: &Result<Source, Fault>,
+    shown: Shown,
+) -> Result<Vec<u8>, AllocError> {
     let mut text = Vec::new(alloc);
-    push_read(alloc, &mut text, &answer)?;
+    match answer {
+        Ok(source) => push_source(alloc, &mut text, source, shown)?,
+        Err(fault) => push_fault(alloc, &mut text, fault)?,
+    }
     Ok(text)
 }
 
-/// Files, and their lines and guard or their first fault.
-const READ: &[(&str, &str)] = &[(
-    "#ifndef X\n\t/*\n*/ # def\\\nine X\n\n??=endif\n",
-    "0-3 1 Ifndef 3, 3-6 4 Define -, 6-6 5 - -, 6-8 6 Endif -, X",
-)];
-
-/// That files have these lines and guards, or these faults.
-fn assert_lines(rt: &impl Abort, alloc: Global, cases: &[(&str, &str)]) -> Result<(), Fail> {
-    for (file, wanted) in cases {
-        let found = lines_in(rt, alloc, file.as_bytes())?;
+/// That this is shown of files.
+fn assert_files(
+    rt: &impl Abort,
+    alloc: Global,
+    shown: Shown,
+    cases: &[(Profile, &str, &str)],
+) -> Result<(), Fail> {
+    for (profile, file, wanted) in cases {
+        let answer = read(rt, alloc, *profile, file.as_bytes())?;
+        let found = shown_of(alloc, &answer, shown)?;
         assert_shown(rt, found.as_slice(), wanted);
     }
     Ok(())
 }
 
-#[test]
-fn reads_lines(rt: HostRuntime) -> Result<(), Fail> {
-    assert_lines(&rt, rt.alloc(), READ)
-}
+const TOKENS: &[(Profile, &str, &str)] = &[(
+    Profile::C11,
+    "a+b/**/c",
+    "i+ a 7:1:1 7:1:1, p- + 7:1:2 7:1:2, i- b 7:1:3 7:1:3, i+ c 7:1:8 7:1:8, ",
+)];
 
-/// Files and their first fault.
-const FAULTS: &[(&str, &str)] = &[
-    ("/*\na \\", "2 7:2:3 "),
-    ("\u{feff}#else\n/\\\n* ", "1 7:2:1 "),
-    ("#if 1\n# else\n#elif\n", "4 7:3:1 elif"),
-    ("#if 1\n#ifdef X\n", "5 7:2:1 ifdef"),
+/// Header names, and what is none.
+const HEADERS: &[(Profile, &str, &str)] = &[
+    (Profile::C11, "%:include<a b>c", "<a b>"),
+    (Profile::C11, "%:include\"a\\\"b\"", "\"a\\\""),
+    (Profile::C11, "%:include<a\"b>", "<a\"b>"),
+    (Profile::C11, "%:include<>", ""),
+    (Profile::C11, "%:include<a\n>", ""),
+    (Profile::C11, "%:include\"a", ""),
+    (Profile::C11, "%:include x<a>", ""),
+    (Profile::C11, "%:include include<a>", ""),
+];
+
+const LINES: &[(Profile, &str, &str)] = &[
+    (
+        Profile::C11,
+        "#ifndef X\n\t/*\n*/ # def\\\nine X\n\n??=endif\n",
+        "0-3 1 Ifndef 3, 3-6 4 Define -, 6-6 5 - -, 6-8 6 Endif -, ",
+    ),
+    // the first fault
+    (Profile::C11, "/*\na \\", "2 7:2:3 "),
+    (Profile::C11, "\u{feff}#else\n/\\\n* ", "1 7:2:1 "),
+    (Profile::C11, "#if 1\n# else\n#elif\n", "4 7:3:1 elif"),
+    (Profile::C11, "#if 1\n#ifdef X\n", "5 7:2:1 ifdef"),
+];
+
+/// Branches, and faults of groups.
+const LINKS: &[(Profile, &str, &str)] = &[
+    (
+        Profile::C11,
+        "#if a\n#ifdef B\nx\n#endif\n#elif b\n%:\n#else\n#endif\n",
+        "If 4, Ifdef 3, - -, Endif -, Elif 6, Null -, Else 7, Endif -, ",
+    ),
+    (Profile::C11, "\n # endif", "3 7:2:2 endif"),
+    (Profile::C11, "#if 1\n#endif\n#elif 1\n#if", "3 7:3:1 elif"),
+    (Profile::C11, "#if 1\n#else\n#else\n#endif", "4 7:3:1 else"),
+    (Profile::C11, "#if 1\n#ifdef X\n#endif\n#else", "5 7:1:1 if"),
+    // by profile
+    (
+        Profile::Later,
+        "#if a\n#elifdef B\nx\n%: elifndef C\n#else\n#endif\n",
+        "If 1, Elifdef 3, - -, Elifndef 4, Else 5, Endif -, ",
+    ),
+    (
+        Profile::C11,
+        "#if a\n#elifdef B\nx\n%: elifndef C\n#else\n#endif\n",
+        "If 4, Unknown -, - -, Unknown -, Else 5, Endif -, ",
+    ),
+    (Profile::Later, " #elifndef Q", "3 7:1:2 elifndef"),
+    (Profile::C11, " #elifndef Q", "Unknown -, "),
+    (
+        Profile::Later,
+        "#if 1\n#else\n#elifdef X\n#endif",
+        "4 7:3:1 elifdef",
+    ),
+    (
+        Profile::C11,
+        "#if 1\n#else\n#elifdef X\n#endif",
+        "If 1, Else 3, Unknown -, Endif -, ",
+    ),
+];
+
+const GUARDS: &[(Profile, &str, &str)] = &[
+    (Profile::C11, "\n#ifndef X\na\n#endif\n\n", "X"),
+    (Profile::C11, "# if !defined X\n#endif", "X"),
+    (
+        Profile::C11,
+        "#if !defined(X)\n#if 1\n#else\n#endif\n#endif",
+        "X",
+    ),
+    (
+        Profile::C11,
+        "#ifndef X\n\t/*\n*/ # def\\\nine X\n\n??=endif\n",
+        "X",
+    ),
+    (Profile::C11, "#ifndef X\n#else\n#endif", "none"),
+    (Profile::C11, "#ifndef X\n#elif 1\n#endif", "none"),
+    (Profile::C11, "#ifndef X\n#endif\na", "none"),
+    (Profile::C11, "a\n#ifndef X\n#endif", "none"),
+    (Profile::C11, "#ifndef X\n#endif\n#ifndef X\n#endif", "none"),
+    (Profile::C11, "#ifdef X\n#endif", "none"),
+    (Profile::C11, "#ifndef 1\n#endif", "none"),
+    (Profile::C11, "", "none"),
+    // a branch of the later profile, whose name is that of no directive in C11
+    (Profile::Later, "#ifndef X\n#elifdef Y\n#endif", "none"),
+    (Profile::C11, "#ifndef X\n#elifdef Y\n#endif", "X"),
+    (Profile::Later, "#ifndef X\n#elifndef Y\n#endif", "none"),
+    (Profile::C11, "#ifndef X\n#elifndef Y\n#endif", "X"),
+    (
+        Profile::Later,
+        "#ifndef X\n#if 1\n#elifdef Y\n#endif\n#endif",
+        "X",
+    ),
+    (
+        Profile::C11,
+        "#ifndef X\n#if 1\n#elifdef Y\n#endif\n#endif",
+        "X",
+    ),
 ];
 
 #[test]
-fn tells_the_first_fault(rt: HostRuntime) -> Result<(), Fail> {
-    assert_lines(&rt, rt.alloc(), FAULTS)
+fn reads_files(rt: HostRuntime) -> Result<(), Fail> {
+    for (shown, cases) in [
+        (Shown::Tokens, TOKENS),
+        (Shown::Headers, HEADERS),
+        (Shown::Lines, LINES),
+        (Shown::Links, LINKS),
+        (Shown::Guard, GUARDS),
+    ] {
+        assert_files(&rt, rt.alloc(), shown, cases)?;
+    }
+    Ok(())
 }
 
-/// What is kept of a file: its lines and its guard, or its fault.
+/// What is kept of a file: its lines, or its fault.
 fn kept_of(alloc: Global, profile: Profile) -> Result<Vec<u8>, Memory> {
     let answer = read_lines(alloc, b"#elifdef X\n", FILE, profile)?;
-    let mut text = Vec::new(alloc);
-    push_read(alloc, &mut text, &answer)?;
-    Ok(text)
+    Ok(shown_of(alloc, &answer, Shown::Lines)?)
 }
 
 #[test]
 fn keeps_lines_and_faults(rt: HostRuntime) -> Result<(), Fail> {
-    for (profile, wanted) in &[
+    for (profile, wanted) in [
         (Profile::Later, "3 7:1:1 elifdef"),
-        (Profile::C11, "0-3 1 Unknown -, -"),
+        (Profile::C11, "0-3 1 Unknown -, "),
     ] {
-        let found = kept_of(rt.alloc(), *profile)?;
+        let found = kept_of(rt.alloc(), profile)?;
         assert_shown(&rt, found.as_slice(), wanted);
     }
     Ok(())

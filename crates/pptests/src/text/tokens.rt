@@ -10,13 +10,6 @@ const AT: Place = Place {
     col: 3,
 };
 
-/// That a spelling is of these bytes, and so is a copy of it.
-fn assert_spells(rt: &impl Abort, spelling: &Spelling, bytes: &[u8]) -> Result<(), AllocError> {
-    assert!(rt; spelling.as_bytes() == bytes, "{bytes:?}");
-    assert!(rt; spelling.clone()? == *spelling, "{bytes:?}");
-    Ok(())
-}
-
 /// A token of this kind and spelling.
 fn word(alloc: Global, kind: Kind, text: &[u8]) -> Result<Token, AllocError> {
     Ok(Token {
@@ -35,13 +28,17 @@ fn list(alloc: Global) -> Result<Tokens, AllocError> {
     Ok(Tokens::new(tokens))
 }
 
+/// Whether these tokens are `ab` alone.
+fn are_ab(tokens: &[Token]) -> bool {
+    matches!(tokens, [token] if token.at == AT && token.is_name(b"ab"))
+}
+
 #[test]
 fn gives_back_what_it_was_made_of(rt: HostRuntime) -> Result<(), Fail> {
     let tokens = list(rt.alloc())?;
-    assert!(rt; tokens.as_slice().len() == 1);
-    let token = tokens.into_vec().pop().ok_or("no token")?;
-    assert!(rt; token.at == AT);
-    Ok(assert_spells(&rt, &token.text, b"ab")?)
+    assert!(rt; are_ab(tokens.as_slice()));
+    assert!(rt; are_ab(tokens.into_vec().as_slice()));
+    Ok(())
 }
 
 /// What is asked of a token: whether it is an identifier, the name and the punctuator of a spelling, a lone quote.
@@ -85,15 +82,9 @@ fn tells_what_tokens_are(rt: HostRuntime) -> Result<(), Fail> {
     Ok(())
 }
 
-/// That a fault has this number and text, and stands at the place.
-fn assert_is_fault(
-    rt: &impl Abort,
-    fault: &Fault,
-    number: u8,
-    text: &[u8],
-) -> Result<(), AllocError> {
-    assert!(rt; fault.number == number && fault.at == AT);
-    assert_spells(rt, &fault.text, text)
+/// Whether a fault has this text, and stands at the place.
+fn is_fault(fault: &Fault, text: &[u8]) -> bool {
+    fault.number == 8 && fault.at == AT && fault.text.as_bytes() == text
 }
 
 /// The fault of the token `ab`.
@@ -103,67 +94,46 @@ fn fault_of_token(alloc: Global) -> Result<Fault, AllocError> {
 
 #[test]
 fn makes_faults(rt: HostRuntime) -> Result<(), Fail> {
-    let alloc = rt.alloc();
-    assert_is_fault(&rt, &Fault::bare(6, AT), 6, b"")?;
-    let told = Fault::new(alloc, 8, AT, b"ab")?;
-    assert_is_fault(&rt, &told, 8, b"ab")?;
-    assert!(rt; fault_of_token(alloc)? == told);
+    assert!(rt; is_fault(&Fault::bare(8, AT), b""));
+    assert!(rt; is_fault(&Fault::new(rt.alloc(), 8, AT, b"ab")?, b"ab"));
+    assert!(rt; is_fault(&fault_of_token(rt.alloc())?, b"ab"));
     Ok(())
 }
 
-/// What comes of an empty spelling that is extended by these texts.
-fn extended(alloc: Global, texts: &[&[u8]]) -> Result<Spelling, AllocError> {
+/// An empty spelling that is extended by each of these bytes.
+fn extended(alloc: Global, bytes: &[u8]) -> Result<Spelling, AllocError> {
     let mut spelling = Spelling::empty();
-    for text in texts {
-        spelling.extend(alloc, text)?;
+    for byte in bytes {
+        spelling.extend(alloc, &[*byte])?;
     }
     Ok(spelling)
 }
 
-// The short one and the long one, which has a block of its own.
-#[test]
-fn extends_spellings(rt: HostRuntime) -> Result<(), Fail> {
-    let spelling = extended(rt.alloc(), &[b"ab", b"", b"cdefghijklmno", b"p"])?;
-    Ok(assert_spells(&rt, &spelling, b"abcdefghijklmnop")?)
-}
-
 /// Whether a spelling of these bytes stands in the value itself, as the first of its room.
-fn stands_in_place(alloc: Global, bytes: &[u8]) -> Result<bool, AllocError> {
-    let spelling = Spelling::from_slice(alloc, bytes)?;
-    Ok(match spelling.in_place() {
+fn stands_in_place(spelling: &Spelling, bytes: &[u8]) -> bool {
+    match spelling.in_place() {
         Some((room, len)) => &room[..len] == bytes,
         None => false,
-    })
+    }
 }
 
-// Up to 14 bytes stand in the value itself, and are the first of its room.
-#[test]
-fn tells_where_short_spellings_stand(rt: HostRuntime) -> Result<(), Fail> {
-    let alloc = rt.alloc();
-    assert!(rt; stands_in_place(alloc, b"abc")?);
-    assert!(rt;
-        Spelling::from_slice(alloc, b"abcdefghijklmno")?
-            .in_place()
-            .is_none()
-    );
-    Ok(())
-}
-
-/// That both ways to make a spelling of bytes give one of them.
-fn assert_keeps(rt: &impl Abort, bytes: Vec<u8>, alloc: Global) -> Result<(), AllocError> {
-    let copied = Spelling::from_slice(alloc, bytes.as_slice())?;
-    assert_spells(rt, &copied, bytes.as_slice())?;
-    assert!(rt; Spelling::new(bytes)? == copied);
+/// That each way to make a spelling of bytes gives one of them. Up to 14 stand in the value itself, and are the first of its room;
+/// more have a block of their own.
+fn assert_keeps(rt: &impl Abort, alloc: Global, bytes: &[u8]) -> Result<(), AllocError> {
+    let spelling = Spelling::from_slice(alloc, bytes)?;
+    assert!(rt; spelling.as_bytes() == bytes);
+    assert!(rt; stands_in_place(&spelling, bytes) == (bytes.len() <= 14));
+    assert!(rt; spelling.clone()? == spelling);
+    assert!(rt; extended(alloc, bytes)? == spelling);
+    assert!(rt; Spelling::new(Vec::from_slice(alloc, bytes)?)? == spelling);
     Ok(())
 }
 
 #[test]
-fn keeps_long_spellings(rt: HostRuntime) -> Result<(), Fail> {
-    let alloc = rt.alloc();
-    assert_spells(&rt, &Spelling::empty(), b"")?;
-    assert_keeps(&rt, [b'a', b'b'].to_vec(alloc)?, alloc)?;
-    for length in [0, 1, 13, 14, 15, 100] {
-        assert_keeps(&rt, vec![in alloc; b'x'; length]?, alloc)?;
+fn keeps_short_and_long_spellings(rt: HostRuntime) -> Result<(), Fail> {
+    for len in [0, 1, 2, 13, 14, 15, 26] {
+        let bytes = b"abcdefghijklmnopqrstuvwxyz";
+        assert_keeps(&rt, rt.alloc(), &bytes[..len.min(26)])?;
     }
     Ok(())
 }
