@@ -11,7 +11,7 @@ mod reading;
 mod searching;
 
 use ppshelf::{Disk, File, Loaded, MemoryDisk, Pass, ReadFault, Shelf};
-use pptext::{Fault, Memory, Profile, Source};
+use pptext::{Directive, Line, Memory, Profile};
 use std::alloc::{AllocError, Global};
 use std::process::Abort;
 use std::sync::atomic::AtomicU64;
@@ -116,46 +116,92 @@ fn bytes_of<'a, D: Disk>(
     }
 }
 
-// And the lines.
-fn lines_of<'a, D: Disk>(
-    shelf: &'a Shelf<D>,
-    pass: &mut Pass<'a, D>,
-    row: usize,
-    disk: &D,
-) -> Result<Option<Result<&'a Source, &'a Fault>>, Memory>
-    requires { pass.old.shelf ≡ shelf.now }
-    ensures { pass.new.shelf ≡ shelf.now }
-{
-    match shown_of(shelf, pass, row, disk)? {
-        Some(loaded) => Ok(loaded.lines()),
-        None => Ok(None),
+// What a row's file was read into: the number of its fault, or how many lines it has and the directive of the second.
+type Lines = Result<(usize, Option<Directive>), u8>;
+
+// What a content was read into, if it is readable.
+fn lines_in<D: Disk>(loaded: &Loaded<D>) -> Option<Lines> {
+    match loaded.lines()? {
+        Ok(source) => Some(Ok((source.lines().len(), second_directive(source.lines())))),
+        Err(fault) => Some(Err(fault.number)),
     }
 }
 
-// That a pass is shown these bytes of a row.
+// The directive of the second of these lines.
+fn second_directive(lines: &[Line]) -> Option<Directive> {
+    match lines {
+        [_, line, ..] => line.directive,
+        _ => None,
+    }
+}
+
+// That a new pass finds this of a row.
+fn assert_lines<D: Disk>(
+    rt: &impl Abort,
+    shelf: &Shelf<D>,
+    disk: &D,
+    row: usize,
+    wanted: Option<Lines>,
+) -> Result<(), Memory> {
+    let mut pass = shelf.pass()?;
+    let found = match shown_of(shelf, &mut pass, row, disk)? {
+        Some(loaded) => lines_in(loaded),
+        None => None,
+    };
+    assert!(rt; found == wanted, "{row}");
+    Ok(())
+}
+
+// Whether these are the bytes of a text.
+fn are_bytes(found: Option<&[u8]>, wanted: Option<&str>) -> bool {
+    match (found, wanted) {
+        (Some(found), Some(wanted)) => found == wanted.as_bytes(),
+        (None, None) => true,
+        _ => false,
+    }
+}
+
+// That a pass is shown this text of a row.
 fn assert_shown<'a, D: Disk>(
     rt: &impl Abort,
     shelf: &'a Shelf<D>,
     pass: &mut Pass<'a, D>,
-    row: usize,
     disk: &D,
-    wanted: Option<&[u8]>,
+    row: usize,
+    wanted: Option<&str>,
 ) -> Result<(), Memory>
     requires { pass.old.shelf ≡ shelf.now }
     ensures { pass.new.shelf ≡ shelf.now }
 {
     let found = bytes_of(shelf, pass, row, disk)?;
-    assert!(rt; found == wanted, "{row}");
+    assert!(rt; are_bytes(found, wanted), "{row}");
     Ok(())
 }
 
-// That a new pass is shown these bytes of the first row.
-fn assert_first<D: Disk>(
+// That a pass is shown these texts of rows.
+fn assert_rows<'a, D: Disk>(
+    rt: &impl Abort,
+    shelf: &'a Shelf<D>,
+    pass: &mut Pass<'a, D>,
+    disk: &D,
+    rows: &[(usize, Option<&str>)],
+) -> Result<(), Memory>
+    requires { pass.old.shelf ≡ shelf.now }
+    ensures { pass.new.shelf ≡ shelf.now }
+{
+    for case in rows {
+        assert_shown(rt, shelf, pass, disk, case.0, case.1)?;
+    }
+    Ok(())
+}
+
+// That a new pass is.
+fn assert_new<D: Disk>(
     rt: &impl Abort,
     shelf: &Shelf<D>,
     disk: &D,
-    wanted: &[u8],
+    rows: &[(usize, Option<&str>)],
 ) -> Result<(), Memory> {
     let mut pass = shelf.pass()?;
-    assert_shown(rt, shelf, &mut pass, 0, disk, Some(wanted))
+    assert_rows(rt, shelf, &mut pass, disk, rows)
 }

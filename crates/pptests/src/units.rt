@@ -9,8 +9,9 @@ mod forms;
 mod judging;
 mod lines;
 
+use crate::showing::{push_fault, push_place};
 use ppshelf::{File, MOST_ROWS, MemoryDisk, Pass, Shelf};
-use pptext::{Fault, Memory, Place, Profile, Token};
+use pptext::{Fault, Memory, Profile, Token};
 use ppunit::{
     Definitions, Item, Items, Setting, Text, Texts, Unit, UnitOut, fits_command, preprocess,
     unit_ok,
@@ -23,7 +24,7 @@ use std::test::Fail;
 const GONE: &str = "gone.h";
 
 /// The names of these files, and `GONE`.
-fn names_of(alloc: Global, files: &[(&str, &str)]) -> Result<Vec<String>, AllocError> {
+fn names_of(alloc: Global, files: Files) -> Result<Vec<String>, AllocError> {
     let mut names = Vec::new(alloc);
     for (name, _text) in files {
         names.push(String::from_str(alloc, name)?)?;
@@ -33,11 +34,7 @@ fn names_of(alloc: Global, files: &[(&str, &str)]) -> Result<Vec<String>, AllocE
 }
 
 /// The shelf of these files and `GONE`.
-fn shelf_of(
-    alloc: Global,
-    profile: Profile,
-    files: &[(&str, &str)],
-) -> Result<Shelf<MemoryDisk>, Fail> {
+fn shelf_of(alloc: Global, profile: Profile, files: Files) -> Result<Shelf<MemoryDisk>, Fail> {
     let names = names_of(alloc, files)?;
     if names.len() > MOST_ROWS {
         return Err(Fail::new("too many files"));
@@ -45,7 +42,7 @@ fn shelf_of(
     Ok(Shelf::new(alloc, names, profile)?)
 }
 
-fn disk_of(alloc: Global, files: &[(&str, &str)]) -> Result<MemoryDisk, AllocError> {
+fn disk_of(alloc: Global, files: Files) -> Result<MemoryDisk, AllocError> {
     let mut disk = MemoryDisk {
         files: Vec::new(alloc),
     };
@@ -98,11 +95,6 @@ fn unit_of(alloc: Global, profile: Profile, file: usize, defines: &[&str]) -> Re
     })
 }
 
-fn push_place(alloc: Global, text: &mut Vec<u8>, at: Place) -> Result<(), AllocError> {
-    let place = format!(in alloc; "{}:{}:{}", at.file, at.line, at.col)?;
-    text.extend_from_slice(place.as_bytes())
-}
-
 fn push_token(text: &mut Vec<u8>, token: &Token) -> Result<(), AllocError> {
     text.extend_from_slice(token.text.as_bytes())?;
     text.push(b' ')?;
@@ -129,16 +121,6 @@ fn push_item(alloc: Global, text: &mut Vec<u8>, item: &Item) -> Result<(), Alloc
     }
 }
 
-fn push_fault(alloc: Global, text: &mut Vec<u8>, fault: Option<&Fault>) -> Result<(), AllocError> {
-    let Some(fault) = fault else {
-        return text.extend_from_slice(b"ok");
-    };
-    text.extend_from_slice(format!(in alloc; "{} ", fault.number)?.as_bytes())?;
-    push_place(alloc, text, fault.at)?;
-    text.push(b' ')?;
-    text.extend_from_slice(fault.text.as_bytes())
-}
-
 /// The text of items, one by one.
 fn spelled(alloc: Global, items: &Items) -> Result<Vec<u8>, AllocError> {
     let mut text = Vec::new(alloc);
@@ -157,35 +139,32 @@ fn listed(alloc: Global, items: &Items) -> Result<Vec<u8>, AllocError> {
     Ok(text)
 }
 
-/// Whether the items one by one are those of the list.
-fn yields_all(alloc: Global, items: &Items) -> Result<bool, AllocError> {
-    Ok(listed(alloc, items)?.as_slice() == spelled(alloc, items)?.as_slice())
-}
-
-/// Puts rows behind a text, each with a space after it.
-fn push_rows(alloc: Global, text: &mut Vec<u8>, rows: &[usize]) -> Result<(), AllocError> {
+/// Puts behind a text the rows that a unit depends on, and its fault: `| 0 2 | 31 0:4:1 y.h`.
+fn push_end(
+    alloc: Global,
+    text: &mut Vec<u8>,
+    rows: &[usize],
+    fault: Option<&Fault>,
+) -> Result<(), AllocError> {
+    text.extend_from_slice(b"| ")?;
     for row in rows {
         text.extend_from_slice(format!(in alloc; "{row} ")?.as_bytes())?;
     }
-    Ok(())
+    text.extend_from_slice(b"| ")?;
+    match fault {
+        Some(fault) => push_fault(alloc, text, fault),
+        None => text.extend_from_slice(b"ok"),
+    }
 }
 
-/// A unit's items, the rows that it depends on, and its fault: `1 x | 0 2 | 31 0:4:1 y.h`.
-fn shown(alloc: Global, out: &UnitOut) -> Result<Vec<u8>, AllocError> {
-    let mut text = listed(alloc, &out.items)?;
-    text.extend_from_slice(b"| ")?;
-    push_rows(alloc, &mut text, out.deps.as_slice())?;
-    text.extend_from_slice(b"| ")?;
-    push_fault(alloc, &mut text, out.fault.as_ref())?;
-    Ok(text)
-}
-
-/// What a unit gave, as a text, where its items one by one are those of the list.
+/// What a unit gave, as a text: its items, which one by one are those of the list, and its end.
 fn told(alloc: Global, out: &UnitOut) -> Result<Vec<u8>, Fail> {
-    if !yields_all(alloc, &out.items)? {
+    let mut text = listed(alloc, &out.items)?;
+    if spelled(alloc, &out.items)?.as_slice() != text.as_slice() {
         return Err(Fail::new("other items one by one"));
     }
-    Ok(shown(alloc, out)?)
+    push_end(alloc, &mut text, out.deps.as_slice(), out.fault.as_ref())?;
+    Ok(text)
 }
 
 /// What a unit gives. Where memory is refused, it is preprocessed again over the same shelf and pass.
@@ -264,23 +243,14 @@ fn all_given<'a>(
     Ok(text)
 }
 
-/// That units of these files, one after the other over one pass, give texts in a profile.
-fn assert_units(
-    rt: &impl Abort,
-    alloc: Global,
-    profile: Profile,
-    files: &[(&str, &str)],
-    cases: &[(usize, &[&str], &str)],
-) -> Result<(), Fail> {
-    assert_units_within(rt, alloc, profile, None, files, cases)
-}
+/// Names and texts of files.
+type Files<'t> = &'t [(&'t str, &'t str)];
+
+/// A unit by the row of its file and its definitions, and what it gives.
+type Case<'t> = (usize, &'t [&'t str], &'t str);
 
 /// The units of these cases.
-fn units_of(
-    alloc: Global,
-    profile: Profile,
-    cases: &[(usize, &[&str], &str)],
-) -> Result<Vec<Unit>, Fail> {
+fn units_of(alloc: Global, profile: Profile, cases: &[Case]) -> Result<Vec<Unit>, Fail> {
     let mut units = Vec::new(alloc);
     for (file, defines, _wanted) in cases {
         units.push(unit_of(alloc, profile, *file, defines)?)?;
@@ -288,57 +258,35 @@ fn units_of(
     Ok(units)
 }
 
-/// What units give over a disk in a profile, within a budget for each.
-fn given_by(
-    alloc: Global,
-    shelf: &Shelf<MemoryDisk>,
-    disk: &MemoryDisk,
-    budget: Option<u64>,
-    units: &[Unit],
-) -> Result<Vec<u8>, Fail> {
-    let mut setting = setting_of(alloc, shelf.profile(), "Feb  9 2024", "08:05:03")?;
-    setting.budget = budget;
-    all_given(alloc, shelf, disk, &setting, units)
-}
-
-/// What the units of these cases give over a disk.
+/// What units give over a shelf of these files, within a budget for each.
 fn given_over(
     alloc: Global,
     shelf: &Shelf<MemoryDisk>,
-    disk: &MemoryDisk,
     budget: Option<u64>,
-    cases: &[(usize, &[&str], &str)],
-) -> Result<Vec<u8>, Fail> {
-    let units = units_of(alloc, shelf.profile(), cases)?;
-    given_by(alloc, shelf, disk, budget, units.as_slice())
-}
-
-/// The same over a disk of these files.
-fn given_among(
-    alloc: Global,
-    shelf: &Shelf<MemoryDisk>,
-    budget: Option<u64>,
-    files: &[(&str, &str)],
-    cases: &[(usize, &[&str], &str)],
+    files: Files,
+    units: &[Unit],
 ) -> Result<Vec<u8>, Fail> {
     let disk = disk_of(alloc, files)?;
-    given_over(alloc, shelf, &disk, budget, cases)
+    let mut setting = setting_of(alloc, shelf.profile(), "Feb  9 2024", "08:05:03")?;
+    setting.budget = budget;
+    all_given(alloc, shelf, &disk, &setting, units)
 }
 
-/// The same over a shelf of them.
+/// What the units of these cases give.
 fn given_within(
     alloc: Global,
     profile: Profile,
     budget: Option<u64>,
-    files: &[(&str, &str)],
-    cases: &[(usize, &[&str], &str)],
+    files: Files,
+    cases: &[Case],
 ) -> Result<Vec<u8>, Fail> {
     let shelf = shelf_of(alloc, profile, files)?;
-    given_among(alloc, &shelf, budget, files, cases)
+    let units = units_of(alloc, profile, cases)?;
+    given_over(alloc, &shelf, budget, files, units.as_slice())
 }
 
 /// What the units of these cases are to give, each on a line.
-fn wanted_of(alloc: Global, cases: &[(usize, &[&str], &str)]) -> Result<Vec<u8>, AllocError> {
+fn wanted_of(alloc: Global, cases: &[Case]) -> Result<Vec<u8>, AllocError> {
     let mut text = Vec::new(alloc);
     for (_file, _defines, wanted) in cases {
         text.extend_from_slice(wanted.as_bytes())?;
@@ -347,14 +295,14 @@ fn wanted_of(alloc: Global, cases: &[(usize, &[&str], &str)]) -> Result<Vec<u8>,
     Ok(text)
 }
 
-/// That units of these files give texts in a profile, each within a budget.
+/// That units of these files, one after the other over one pass, give texts in a profile, each within a budget.
 fn assert_units_within(
     rt: &impl Abort,
     alloc: Global,
     profile: Profile,
     budget: Option<u64>,
-    files: &[(&str, &str)],
-    cases: &[(usize, &[&str], &str)],
+    files: Files,
+    cases: &[Case],
 ) -> Result<(), Fail> {
     let wanted = wanted_of(alloc, cases)?;
     let found = given_within(alloc, profile, budget, files, cases)?;
@@ -367,6 +315,17 @@ fn assert_units_within(
     Ok(())
 }
 
+/// The same without a budget.
+fn assert_units(
+    rt: &impl Abort,
+    alloc: Global,
+    profile: Profile,
+    files: Files,
+    cases: &[Case],
+) -> Result<(), Fail> {
+    assert_units_within(rt, alloc, profile, None, files, cases)
+}
+
 /// That a unit of the one file `a.c` gives a text in a profile, for each of these contents.
 fn assert_contents(
     rt: &impl Abort,
@@ -376,19 +335,6 @@ fn assert_contents(
 ) -> Result<(), Fail> {
     for (text, wanted) in cases {
         assert_units(rt, alloc, profile, &[("a.c", text)], &[(0, &[], wanted)])?;
-    }
-    Ok(())
-}
-
-/// That a unit of the one file `a.c` gives a text in C11 and another in the later profile, for each of these contents.
-fn assert_branches(
-    rt: &impl Abort,
-    alloc: Global,
-    cases: &[(&str, &str, &str)],
-) -> Result<(), Fail> {
-    for (text, c11, later) in cases {
-        assert_contents(rt, alloc, Profile::C11, &[(text, c11)])?;
-        assert_contents(rt, alloc, Profile::Later, &[(text, later)])?;
     }
     Ok(())
 }

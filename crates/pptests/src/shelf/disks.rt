@@ -1,6 +1,6 @@
 // Files from memory, and from a folder.
-use super::{assert_shown, disk_of, named};
-use ppshelf::{Disk, FolderDisk, LONGEST, MemoryDisk, ReadFault, Shelf};
+use super::{assert_new, disk_of, named};
+use ppshelf::{Disk, FolderDisk, LONGEST, ReadFault};
 use pptext::Memory;
 use std::alloc::{AllocError, Global};
 use std::fs::OpenFile;
@@ -9,25 +9,13 @@ use std::rt::Files;
 use std::test::Fail;
 use std::{env, fs, process};
 
-// That the first row has a content, and the second none.
-fn assert_answered(
-    rt: &impl Abort,
-    shelf: &Shelf<MemoryDisk>,
-    disk: &MemoryDisk,
-) -> Result<(), Memory> {
-    let mut pass = shelf.pass()?;
-    assert_shown(rt, shelf, &mut pass, 0, disk, Some(b"x\n".as_slice()))?;
-    assert_shown(rt, shelf, &mut pass, 1, disk, None)
-}
-
 #[test]
 fn a_memory_disk_answers_its_files(rt: HostRuntime) -> Result<(), Fail> {
     let alloc = rt.alloc();
     let disk = disk_of(alloc, b"x\n".as_slice())?;
     let mut shelf = named(alloc, &["a", "b"])?;
     shelf.fill(&disk)?;
-    assert_answered(&rt, &shelf, &disk)?;
-    Ok(())
+    Ok(assert_new(&rt, &shelf, &disk, &[(0, Some("x\n")), (1, None)])?)
 }
 
 // The path of a file of a folder.
@@ -64,30 +52,13 @@ fn assert_long_is_cut<R: Abort + Files + AllocGlobal>(
     Ok(())
 }
 
-// That the shelf shows the short file alone.
-fn assert_short_is_shown<'a, R: Abort + Files>(
-    rt: &R,
-    shelf: &Shelf<FolderDisk<'a, R>>,
-    disk: &FolderDisk<'a, R>,
-) -> Result<(), Memory> {
-    let mut pass = shelf.pass()?;
-    for row in 0..4 {
-        let wanted = if row == 0 {
-            Some(b"x\n".as_slice())
-        } else {
-            None
-        };
-        assert_shown(rt, shelf, &mut pass, row, disk, wanted)?;
-    }
-    Ok(())
-}
-
 fn read_files<R: Abort + Files + AllocGlobal>(rt: &R, folder: &str) -> Result<(), Fail> {
     let disk = FolderDisk { files: rt, folder };
     assert_long_is_cut(rt, &disk)?;
     let shelf = named(rt.alloc(), &["inc/x.h", "inc", "x.h", "long"])?;
-    assert_short_is_shown(rt, &shelf, &disk)?;
-    Ok(())
+    // the short file alone
+    let rows = [(0, Some("x\n")), (1, None), (2, None), (3, None)];
+    Ok(assert_new(rt, &shelf, &disk, &rows)?)
 }
 
 // A folder that no other run of the tests has.

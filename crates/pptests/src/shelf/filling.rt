@@ -3,21 +3,13 @@ ghost use Rattle.std.specs.Prelude.{◌≡◌, ℕ, ◌<◌, ◌≤◌, length, 
 ghost use Rattle.ppshelf.specs.Content.{longest};
 ghost use Rattle.ppshelf.specs.Files.{bytes_at};
 
-use super::{Counting, assert_first, assert_shown, lines_of, named, refusing};
-use ppshelf::{LONGEST, Pass, Shelf};
+use super::{Counting, assert_lines, assert_new, named, refusing};
+use ppshelf::{LONGEST, Shelf};
 use pptext::Memory;
 use std::alloc::Global;
 use std::process::Abort;
 use std::sync::atomic::Ordering::SeqCst;
 use std::test::Fail;
-
-// That a shelf shows the numbers of its fills without a read.
-fn assert_numbers_are_kept(rt: &impl Abort, shelf: &Shelf<Counting>) -> Result<(), Memory> {
-    let none = refusing(0);
-    let mut pass = shelf.pass()?;
-    assert_shown(rt, shelf, &mut pass, 0, &none, Some(b"0\n".as_slice()))?;
-    assert_shown(rt, shelf, &mut pass, 2, &none, Some(b"3\n".as_slice()))
-}
 
 #[test]
 fn a_fill_goes_on_after_want_of_memory(rt: HostRuntime) -> Result<(), Fail> {
@@ -26,18 +18,18 @@ fn a_fill_goes_on_after_want_of_memory(rt: HostRuntime) -> Result<(), Fail> {
     assert!(rt; shelf.fill(&disk) == Err(Memory));
     shelf.fill(&disk)?;
     assert!(rt; disk.reads.load(SeqCst) == 4);
-    assert_numbers_are_kept(&rt, &shelf)?;
-    Ok(())
+    // what its fills read is shown without a read
+    let rows = [(0, Some("0\n")), (2, Some("3\n"))];
+    Ok(assert_new(&rt, &shelf, &refusing(0), &rows)?)
 }
 
 #[test]
 fn a_fill_reads_what_a_look_has_kept(rt: HostRuntime) -> Result<(), Fail> {
     let mut shelf = named(rt.alloc(), &["a"])?;
     let disk = refusing(99);
-    assert_first(&rt, &shelf, &disk, b"0\n".as_slice())?;
+    assert_new(&rt, &shelf, &disk, &[(0, Some("0\n"))])?;
     shelf.fill(&disk)?;
-    assert_first(&rt, &shelf, &disk, b"1\n".as_slice())?;
-    Ok(())
+    Ok(assert_new(&rt, &shelf, &disk, &[(0, Some("1\n"))])?)
 }
 
 // Whether each content is short enough for a row.
@@ -64,27 +56,11 @@ fn fill_with_texts(alloc: Global, shelf: &mut Shelf<Counting>, texts: &[&str]) -
     Ok(shelf.fill_with(contents)?)
 }
 
-// That the first row has one line, and the second a fault.
-fn assert_moved_lines<'a>(
-    rt: &impl Abort,
-    shelf: &'a Shelf<Counting>,
-    pass: &mut Pass<'a, Counting>,
-    disk: &Counting,
-) -> Result<(), Memory>
-    requires { pass.old.shelf ≡ shelf.now }
-{
-    let lines = lines_of(shelf, pass, 0, disk)?;
-    assert!(rt; matches!(lines, Some(Ok(source)) if source.lines().len() == 1));
-    assert!(rt; matches!(lines_of(shelf, pass, 1, disk)?, Some(Err(_))));
-    Ok(())
-}
-
-// That the rows have the texts of the first fill.
+// That the rows have the texts of the first fill, of which the second has a fault.
 fn assert_moved(rt: &impl Abort, shelf: &Shelf<Counting>, disk: &Counting) -> Result<(), Memory> {
-    let mut pass = shelf.pass()?;
-    assert_shown(rt, shelf, &mut pass, 0, disk, Some(b"x\n".as_slice()))?;
-    assert_shown(rt, shelf, &mut pass, 1, disk, Some(b"/*".as_slice()))?;
-    assert_moved_lines(rt, shelf, &mut pass, disk)
+    assert_new(rt, shelf, disk, &[(0, Some("x\n")), (1, Some("/*"))])?;
+    assert_lines(rt, shelf, disk, 0, Some(Ok((1, None))))?;
+    assert_lines(rt, shelf, disk, 1, Some(Err(1)))
 }
 
 #[test]

@@ -1,7 +1,7 @@
 // Looks by several passes and threads.
 ghost use Rattle.std.specs.Prelude.{◌≡◌, IfOk};
 
-use super::{Counting, assert_first, assert_shown, bytes_of, named, refusing};
+use super::{Counting, assert_new, assert_rows, bytes_of, lines_in, named, refusing};
 use ppshelf::{Loaded, Pass, Shelf};
 use pptext::Memory;
 use std::alloc::Global;
@@ -11,20 +11,6 @@ use std::test::Fail;
 use std::thread;
 use std::thread::Threads;
 
-// That a pass is shown the first numbers.
-fn assert_both_shown<'a>(
-    rt: &impl Abort,
-    shelf: &'a Shelf<Counting>,
-    pass: &mut Pass<'a, Counting>,
-    disk: &Counting,
-) -> Result<(), Memory>
-    requires { pass.old.shelf ≡ shelf.now }
-    ensures { pass.new.shelf ≡ shelf.now }
-{
-    assert_shown(rt, shelf, pass, 0, disk, Some(b"0\n".as_slice()))?;
-    assert_shown(rt, shelf, pass, 1, disk, Some(b"1\n".as_slice()))
-}
-
 // That two passes are shown the same, and that one knows what the other knew once they have met.
 fn assert_passes_meet(
     rt: &impl Abort,
@@ -32,10 +18,16 @@ fn assert_passes_meet(
     disk: &Counting,
 ) -> Result<(), Memory> {
     let (mut one, mut two) = (shelf.pass()?, shelf.pass()?);
-    assert_shown(rt, shelf, &mut one, 0, disk, Some(b"0\n".as_slice()))?;
-    assert_both_shown(rt, shelf, &mut two, disk)?;
+    assert_rows(rt, shelf, &mut one, disk, &[(0, Some("0\n"))])?;
+    assert_rows(
+        rt,
+        shelf,
+        &mut two,
+        disk,
+        &[(0, Some("0\n")), (1, Some("1\n"))],
+    )?;
     shelf.meet(&mut one, two);
-    assert_shown(rt, shelf, &mut one, 1, disk, Some(b"1\n".as_slice()))
+    assert_rows(rt, shelf, &mut one, disk, &[(1, Some("1\n"))])
 }
 
 #[test]
@@ -123,37 +115,48 @@ fn all_open<'a>(
     Ok(open)
 }
 
-// That a content has these bytes, a number and its new-line.
-fn assert_is_number(rt: &impl Abort, loaded: &Loaded<Counting>, text: &[u8]) -> Result<(), Fail> {
-    let Some(Ok(source)) = loaded.lines() else {
-        return Err(Fail::new("a number and its new-line have no fault"));
-    };
-    assert!(rt; source.lines().len() == 1 && source.tokens().len() == 1);
-    assert!(rt; loaded.bytes() == Some(text));
-    Ok(())
+// Whether a content has these bytes, a number and its new-line.
+fn is_number(loaded: &Loaded<Counting>, text: &str) -> bool {
+    lines_in(loaded) == Some(Ok((1, None))) && loaded.bytes() == Some(text.as_bytes())
 }
 
-// That three contents are the first numbers.
-fn assert_are_numbers(rt: &impl Abort, open: &[&Loaded<Counting>]) -> Result<(), Fail> {
-    for (loaded, text) in open.iter().zip(&[b"0\n", b"1\n", b"2\n"]) {
-        assert_is_number(rt, loaded, text.as_slice())?;
+// Whether three contents are the first numbers.
+fn are_numbers(open: &[&Loaded<Counting>]) -> bool {
+    match open {
+        [one, two, three] => {
+            is_number(one, "0\n") && is_number(two, "1\n") && is_number(three, "2\n")
+        }
+        _ => false,
     }
-    assert!(rt; open.len() == 3);
-    Ok(())
 }
 
 // That contents stay as they are while later rows are looked at.
-fn assert_outlive(rt: &impl Abort, alloc: Global, shelf: &Shelf<Counting>) -> Result<(), Fail> {
+fn assert_outlive(rt: &impl Abort, alloc: Global, shelf: &Shelf<Counting>) -> Result<(), Memory> {
     let mut pass = shelf.pass()?;
     let open = all_open(alloc, shelf, &mut pass, &refusing(99))?;
-    assert_are_numbers(rt, open.as_slice())
+    assert!(rt; are_numbers(open.as_slice()));
+    Ok(())
 }
 
 #[test]
 fn contents_outlive_later_looks(rt: HostRuntime) -> Result<(), Fail> {
     let alloc = rt.alloc();
     let shelf = named(alloc, &["a", "b", "c"])?;
-    assert_outlive(&rt, alloc, &shelf)
+    Ok(assert_outlive(&rt, alloc, &shelf)?)
+}
+
+// Whether two passes are shown the same of the first row.
+fn share_first<'a>(
+    shelf: &'a Shelf<Counting>,
+    one: &mut Pass<'a, Counting>,
+    two: &mut Pass<'a, Counting>,
+    disk: &Counting,
+) -> Result<bool, Memory>
+    requires one { one.old.shelf ≡ shelf.now }
+    requires two { two.old.shelf ≡ shelf.now }
+{
+    let first = bytes_of(shelf, one, 0, disk)?;
+    Ok(first.is_some() && bytes_of(shelf, two, 0, disk)? == first)
 }
 
 // That a pass is shown what four threads have been shown.
@@ -163,10 +166,9 @@ fn assert_same_by_threads<R: Abort + Threads + Sync>(
     disk: &Counting,
 ) -> Result<(), Memory> {
     let mut pass = by_four_threads(rt, shelf, disk)?;
-    let first = bytes_of(shelf, &mut pass, 0, disk)?;
-    assert!(rt; first.is_some());
     let mut other = shelf.pass()?;
-    assert_shown(rt, shelf, &mut other, 0, disk, first)
+    assert!(rt; share_first(shelf, &mut pass, &mut other, disk)?);
+    Ok(())
 }
 
 #[test]
@@ -181,23 +183,9 @@ fn assert_read_once(rt: &impl Abort, shelf: &Shelf<Counting>) -> Result<(), Memo
     let mut pass = shelf.pass()?;
     let first = bytes_of(shelf, &mut pass, 0, &refusing(0));
     assert!(rt; first == Err(Memory));
-    assert_shown(
-        rt,
-        shelf,
-        &mut pass,
-        0,
-        &refusing(1),
-        Some(b"0\n".as_slice()),
-    )?;
-    assert_shown(
-        rt,
-        shelf,
-        &mut pass,
-        0,
-        &refusing(0),
-        Some(b"0\n".as_slice()),
-    )?;
-    assert_first(rt, shelf, &refusing(0), b"0\n".as_slice())
+    assert_rows(rt, shelf, &mut pass, &refusing(1), &[(0, Some("0\n"))])?;
+    assert_rows(rt, shelf, &mut pass, &refusing(0), &[(0, Some("0\n"))])?;
+    assert_new(rt, shelf, &refusing(0), &[(0, Some("0\n"))])
 }
 
 #[test]

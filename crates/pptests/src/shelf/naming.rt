@@ -3,49 +3,50 @@ ghost use Rattle.std.specs.Prelude.{◌≤◌, length};
 ghost use Rattle.ppshelf.specs.Files.{most_rows};
 
 use super::{named, texts};
+use crate::defining::drawn;
 use ppshelf::{MOST_ROWS, MemoryDisk, Shelf, ShelfFault, is_folder, is_name};
 use pptext::{Hashing, Memory, Profile};
 use std::alloc::{AllocError, Global};
-use std::hash::RandomState;
 use std::process::Abort;
 use std::test::Fail;
 
 /// The most bytes that a name of a file has.
 const LONGEST_NAME: usize = 1_024;
 
-// That these are in normal form.
-fn assert_names(rt: &impl Abort, names: &[&str]) {
-    for name in names {
-        assert!(rt;
-            is_name(name.as_bytes()) && is_folder(name.as_bytes()),
-            "{name}"
-        );
-    }
-}
+/// Texts, whether each is a name in normal form, and whether it is a folder's.
+const NAMES: &[(&str, bool, bool)] = &[
+    ("a", true, true),
+    ("a/b.h", true, true),
+    ("...", true, true),
+    (".a", true, true),
+    ("a b", true, true),
+    ("\u{e9}", true, true),
+    (".", false, true),
+    ("", false, false),
+    ("/a", false, false),
+    ("a/", false, false),
+    ("a//b", false, false),
+    ("..", false, false),
+    ("a/../b", false, false),
+    ("a/.", false, false),
+    ("a\n", false, false),
+    ("a\u{7f}", false, false),
+];
 
-// That none of these is in normal form.
-fn assert_no_names(rt: &impl Abort, names: &[&str]) {
-    for name in names {
-        assert!(rt;
-            !is_name(name.as_bytes()) && !is_folder(name.as_bytes()),
-            "{name}"
-        );
+#[test]
+fn names_have_one_form(rt: HostRuntime) {
+    for &(name, of_file, of_folder) in NAMES {
+        let found = (is_name(name.as_bytes()), is_folder(name.as_bytes()));
+        assert!(rt; found == (of_file, of_folder), "{name}");
     }
 }
 
 #[test]
-fn names_have_one_form(rt: HostRuntime) -> Result<(), Fail> {
-    assert_names(&rt, &["a", "a/b.h", "...", ".a", "a b", "\u{e9}"]);
-    assert_no_names(
-        &rt,
-        &[
-            "", "/a", "a/", "a//b", "..", "a/../b", "a/.", "a\n", "a\u{7f}",
-        ],
-    );
-    assert!(rt; is_folder(b".".as_slice()) && !is_name(b".".as_slice()));
-    let longest = Vec::from_elem(rt.alloc(), b'a', LONGEST_NAME)?;
-    let longer = Vec::from_elem(rt.alloc(), b'a', LONGEST_NAME + 1)?;
-    assert!(rt; is_name(longest.as_slice()) && !is_name(longer.as_slice()));
+fn names_have_up_to_1024_bytes(rt: HostRuntime) -> Result<(), Fail> {
+    for (len, is_short) in [(LONGEST_NAME, true), (LONGEST_NAME + 1, false)] {
+        let name = Vec::from_elem(rt.alloc(), b'a', len)?;
+        assert!(rt; is_name(name.as_slice()) == is_short, "{len}");
+    }
     Ok(())
 }
 
@@ -72,28 +73,24 @@ fn a_shelf_refuses_the_first_bad_name(rt: HostRuntime) -> Result<(), Fail> {
     assert_refuses(&rt, rt.alloc(), &["a", "b/", "a"], 1)
 }
 
+// A shelf of `a` and `b/c` whose names are hashed so.
+fn keyed(alloc: Global, hashing: Hashing) -> Result<Shelf<MemoryDisk>, Fail> {
+    let names = texts(alloc, &["a", "b/c"])?;
+    Ok(Shelf::with_hasher(alloc, names, Profile::C11, hashing)?)
+}
+
+// That it finds its rows by their names. How it says that it hashes them.
+fn assert_finds(rt: &impl Abort, shelf: &Shelf<MemoryDisk>) -> Hashing {
+    for (name, row) in [("a", Some(0)), ("b/c", Some(1)), ("b", None)] {
+        assert!(rt; shelf.row_of(name.as_bytes()) == row, "{name}");
+    }
+    shelf.hashing()
+}
+
 #[test]
 fn a_shelf_by_a_key_finds_its_rows(rt: HostRuntime) -> Result<(), Fail> {
-    let Ok(key) = RandomState::new(&rt) else {
-        return Err(Fail::new("no key was drawn"));
-    };
-    let names = texts(rt.alloc(), &["a", "b/c"])?;
-    let shelf: Shelf<MemoryDisk> = Shelf::with_hasher(
-        rt.alloc(),
-        names,
-        Profile::C11,
-        Hashing::keyed(key),
-    )?;
-    assert!(rt; shelf.row_of(b"a") == Some(0) && shelf.row_of(b"b/c") == Some(1));
-    assert!(rt; shelf.row_of(b"b") == None);
-    let names = texts(rt.alloc(), &["c"])?;
-    let other: Shelf<MemoryDisk> = Shelf::with_hasher(
-        rt.alloc(),
-        names,
-        Profile::C11,
-        shelf.hashing(),
-    )?;
-    assert!(rt; other.row_of(b"c") == Some(0));
+    let hashing = assert_finds(&rt, &keyed(rt.alloc(), drawn(&rt)?)?);
+    let _same = assert_finds(&rt, &keyed(rt.alloc(), hashing)?);
     Ok(())
 }
 
@@ -116,22 +113,22 @@ fn largest(alloc: Global) -> Result<Shelf<MemoryDisk>, Fail> {
 }
 
 // That it has each name in its row.
-fn assert_is_largest(rt: &impl Abort, shelf: &Shelf<MemoryDisk>) -> Result<(), Fail> {
-    if shelf.len() != MOST_ROWS {
-        return Err(Fail::new("not all names"));
+fn assert_is_largest(rt: &impl Abort, shelf: &Shelf<MemoryDisk>) {
+    for (name, row) in [
+        ("f00000.h", Some(0)),
+        ("f65534.h", Some(MOST_ROWS - 1)),
+        ("f65535.h", None),
+    ] {
+        assert!(rt; shelf.row_of(name.as_bytes()) == row, "{name}");
     }
+    assert!(rt; shelf.len() == MOST_ROWS);
     assert!(rt; shelf.name(MOST_ROWS - 1) == "f65534.h");
-    assert!(rt; shelf.row_of(b"f00000.h".as_slice()) == Some(0));
-    assert!(rt; shelf.row_of(b"f65534.h".as_slice()) == Some(MOST_ROWS - 1));
-    assert!(rt; shelf.row_of(b"f65535.h".as_slice()) == None);
-    Ok(())
 }
 
 #[test]
 fn a_shelf_holds_its_most_names(rt: HostRuntime) -> Result<(), Fail> {
-    let alloc = rt.alloc();
-    assert_is_largest(&rt, &largest(alloc)?)?;
-    let empty: Shelf<MemoryDisk> = named(alloc, &[])?;
-    assert!(rt; empty.len() == 0 && empty.row_of(b"f00000.h".as_slice()) == None);
+    assert_is_largest(&rt, &largest(rt.alloc())?);
+    let empty: Shelf<MemoryDisk> = named(rt.alloc(), &[])?;
+    assert!(rt; empty.len() == 0 && empty.row_of(b"f00000.h") == None);
     Ok(())
 }

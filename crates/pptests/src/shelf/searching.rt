@@ -1,12 +1,12 @@
 // The search for included files.
-ghost use Rattle.std.specs.Prelude.{◌≤◌, length};
-ghost use Rattle.ppshelf.specs.Files.{most_rows};
-
 use super::{named, texts};
-use ppshelf::{Folders, Form, MemoryDisk, Shelf, resolve};
+use ppshelf::{Folders, Form, MOST_ROWS, MemoryDisk, Shelf, resolve};
 use std::alloc::Global;
 use std::process::Abort;
 use std::test::Fail;
+
+/// A row, the form and the name of an include line in it, and the row that this leads to.
+type Case = (usize, Form, &'static str, Option<usize>);
 
 // That the name of an include line in a row leads to this row.
 fn assert_leads(
@@ -14,7 +14,7 @@ fn assert_leads(
     alloc: Global,
     shelf: &Shelf<MemoryDisk>,
     folders: Folders,
-    case: &(usize, Form, &str, Option<usize>),
+    case: &Case,
 ) -> Result<(), Fail> {
     let (from, form, name, row) = case;
     if *from >= shelf.len() {
@@ -31,7 +31,7 @@ fn assert_all_lead(
     alloc: Global,
     shelf: &Shelf<MemoryDisk>,
     folders: Folders,
-    cases: &[(usize, Form, &str, Option<usize>)],
+    cases: &[Case],
 ) -> Result<(), Fail> {
     for case in cases {
         assert_leads(rt, alloc, shelf, folders, case)?;
@@ -39,16 +39,17 @@ fn assert_all_lead(
     Ok(())
 }
 
-fn searched<R: Abort + AllocGlobal>(
-    rt: &R,
+// The same over a shelf of these names.
+fn assert_searched(
+    rt: &impl Abort,
+    alloc: Global,
     names: &[&str],
-    unit: &[&str],
-    setting: &[&str],
-    cases: &[(usize, Form, &str, Option<usize>)],
-) -> Result<(), Fail>
-    requires { length names.now ≤ most_rows }
-{
-    let alloc = rt.alloc();
+    (unit, setting): (&[&str], &[&str]),
+    cases: &[Case],
+) -> Result<(), Fail> {
+    if names.len() > MOST_ROWS {
+        return Err(Fail::new("too many names"));
+    }
     let shelf = named(alloc, names)?;
     let (unit, setting) = (texts(alloc, unit)?, texts(alloc, setting)?);
     let folders = Folders {
@@ -58,50 +59,60 @@ fn searched<R: Abort + AllocGlobal>(
     assert_all_lead(rt, alloc, &shelf, folders, cases)
 }
 
-#[test]
-fn the_including_folder_comes_first(rt: HostRuntime) -> Result<(), Fail> {
-    let names = ["src/a.c", "src/x.h", "inc/x.h"];
-    let cases = [
-        (0, Form::Quote, "x.h", Some(1)),
-        (0, Form::Angle, "x.h", Some(2)),
-        (0, Form::Quote, "../inc/x.h", Some(2)),
-        (0, Form::Angle, "y.h", None),
-    ];
-    searched(&rt, &names, &[], &["inc"], &cases)
-}
-
-#[test]
-fn folders_are_searched_in_order(rt: HostRuntime) -> Result<(), Fail> {
-    let names = ["src/a.c", "src/x.h", "inc/x.h", "h.h"];
-    let cases = [
-        (0, Form::Angle, "x.h", Some(2)),
-        (0, Form::Quote, "h.h", Some(3)),
-        (3, Form::Quote, "x.h", Some(2)),
-        (3, Form::Quote, "src/x.h", Some(1)),
-        (0, Form::Angle, "../h.h", Some(3)),
-    ];
-    searched(&rt, &names, &["."], &["inc", "src"], &cases)
-}
-
-// What the name of an include line leads to, by its segments.
-const WALKED: &[(usize, Form, &str, Option<usize>)] = &[
-    (0, Form::Angle, "h.h/", Some(2)),
-    (0, Form::Angle, "./x/../h.h", Some(2)),
-    (0, Form::Angle, "inc//x.h", Some(1)),
-    (0, Form::Angle, "inc/./x.h", Some(1)),
-    (0, Form::Angle, "h.h ", None),
-    (0, Form::Angle, "inc", None),
-    (0, Form::Angle, ".", None),
-    (0, Form::Quote, "..", None),
-    (0, Form::Quote, "../h.h", Some(2)),
-    (0, Form::Quote, "../../h.h", None),
-    (0, Form::Angle, "../h.h", None),
-    (0, Form::Angle, "x/../../h.h", None),
-    (2, Form::Quote, "../h.h", None),
+/// Names of a shelf, folders of the unit and of the setting, and include lines.
+const SEARCHED: &[(&[&str], &[&str], &[&str], &[Case])] = &[
+    // the including folder comes first
+    (
+        &["src/a.c", "src/x.h", "inc/x.h"],
+        &[],
+        &["inc"],
+        &[
+            (0, Form::Quote, "x.h", Some(1)),
+            (0, Form::Angle, "x.h", Some(2)),
+            (0, Form::Quote, "../inc/x.h", Some(2)),
+            (0, Form::Angle, "y.h", None),
+        ],
+    ),
+    // folders are searched in order
+    (
+        &["src/a.c", "src/x.h", "inc/x.h", "h.h"],
+        &["."],
+        &["inc", "src"],
+        &[
+            (0, Form::Angle, "x.h", Some(2)),
+            (0, Form::Quote, "h.h", Some(3)),
+            (3, Form::Quote, "x.h", Some(2)),
+            (3, Form::Quote, "src/x.h", Some(1)),
+            (0, Form::Angle, "../h.h", Some(3)),
+        ],
+    ),
+    // names are walked by their segments
+    (
+        &["src/a.c", "inc/x.h", "h.h"],
+        &["."],
+        &[],
+        &[
+            (0, Form::Angle, "h.h/", Some(2)),
+            (0, Form::Angle, "./x/../h.h", Some(2)),
+            (0, Form::Angle, "inc//x.h", Some(1)),
+            (0, Form::Angle, "inc/./x.h", Some(1)),
+            (0, Form::Angle, "h.h ", None),
+            (0, Form::Angle, "inc", None),
+            (0, Form::Angle, ".", None),
+            (0, Form::Quote, "..", None),
+            (0, Form::Quote, "../h.h", Some(2)),
+            (0, Form::Quote, "../../h.h", None),
+            (0, Form::Angle, "../h.h", None),
+            (0, Form::Angle, "x/../../h.h", None),
+            (2, Form::Quote, "../h.h", None),
+        ],
+    ),
 ];
 
 #[test]
-fn names_are_walked_by_segments(rt: HostRuntime) -> Result<(), Fail> {
-    let names = ["src/a.c", "inc/x.h", "h.h"];
-    searched(&rt, &names, &["."], &[], WALKED)
+fn finds_included_files(rt: HostRuntime) -> Result<(), Fail> {
+    for &(names, unit, setting, cases) in SEARCHED {
+        assert_searched(&rt, rt.alloc(), names, (unit, setting), cases)?;
+    }
+    Ok(())
 }

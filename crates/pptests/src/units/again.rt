@@ -1,19 +1,16 @@
 // Units that are preprocessed again where they are refused memory: `given` does so over the same shelf and pass.
-use super::{assert_contents, assert_units};
+use super::{Case, Files, assert_contents, assert_units};
 use pptext::Profile;
 use std::test::Fail;
 
 /// A file that includes a guarded header twice, and the header.
-const GUARDED: &[(&str, &str)] = &[
+const GUARDED: Files = &[
     ("a.c", "#include \"h.h\"\n#include \"h.h\"\n"),
     ("h.h", "#ifndef H\n#define H\nint a;\n#endif\n"),
 ];
 
 /// What two units of the file give, of which the second defines the guard.
-const GIVEN: &[(usize, &[&str], &str)] = &[
-    (0, &[], "int a ; | 0 1 | ok"),
-    (0, &["H"], "| 0 1 | ok"),
-];
+const GIVEN: &[Case] = &[(0, &[], "int a ; | 0 1 | ok"), (0, &["H"], "| 0 1 | ok")];
 
 /// One token; and an invocation that goes on behind the replacement of another (6.10.3.4).
 const TEXTS: &[(&str, &str)] = &[

@@ -1,5 +1,5 @@
 // Budgets of units.
-use super::{assert_units_within, repeated};
+use super::{Case, Files, assert_units_within, repeated};
 use crate::defining::doubling;
 use pptext::Profile;
 use std::alloc::Global;
@@ -10,7 +10,7 @@ use std::test::Fail;
 fn assert_budgets(
     rt: &impl Abort,
     alloc: Global,
-    files: &[(&str, &str)],
+    files: Files,
     cases: &[(u64, &str)],
 ) -> Result<(), Fail> {
     for (budget, wanted) in cases {
@@ -21,7 +21,7 @@ fn assert_budgets(
 }
 
 /// A file; and budgets, with what a unit of it gives within each.
-const REPLACING: &[(&str, &str)] = &[("a.c", "#define f(a) a*g\n#define g(a) f(a)\nf(2)(9)\n")];
+const REPLACING: Files = &[("a.c", "#define f(a) a*g\n#define g(a) f(a)\nf(2)(9)\n")];
 
 const REPLACED_WITHIN: &[(u64, &str)] = &[
     (u64::MAX, "2 * 9 * g | 0 | ok"),
@@ -31,7 +31,7 @@ const REPLACED_WITHIN: &[(u64, &str)] = &[
 ];
 
 /// A condition spends, also where its group is not taken.
-const ASKING: &[(&str, &str)] = &[(
+const ASKING: Files = &[(
     "a.c",
     "#define A 0\n#if 0\n#elif A\n#endif\n#if A\n#endif\nA\n",
 )];
@@ -43,7 +43,8 @@ const ASKED_WITHIN: &[(u64, &str)] = &[
     (1, "| 0 | 35 0:3:7 "),
 ];
 
-const NUMBERING: &[(&str, &str)] = &[("a.c", "#define N 7\n#line N\n__LINE__\n")];
+/// The number of a line is replaced.
+const NUMBERING: Files = &[("a.c", "#define N 7\n#line N\n__LINE__\n")];
 
 const NUMBERED_WITHIN: &[(u64, &str)] = &[
     (3, "7 | 0 | ok"),
@@ -51,15 +52,8 @@ const NUMBERED_WITHIN: &[(u64, &str)] = &[
     (1, "| 0 | 35 0:2:7 "),
 ];
 
-#[test]
-fn stops_where_nothing_is_left_of_the_budget(rt: HostRuntime) -> Result<(), Fail> {
-    assert_budgets(&rt, rt.alloc(), REPLACING, REPLACED_WITHIN)?;
-    assert_budgets(&rt, rt.alloc(), ASKING, ASKED_WITHIN)?;
-    assert_budgets(&rt, rt.alloc(), NUMBERING, NUMBERED_WITHIN)
-}
-
 /// The dependency comes behind what is left.
-const OPENING: &[(&str, &str)] = &[("a.c", "#define N \"h.h\"\n#include N\n"), ("h.h", "t\n")];
+const OPENING: Files = &[("a.c", "#define N \"h.h\"\n#include N\n"), ("h.h", "t\n")];
 
 const OPENED_WITHIN: &[(u64, &str)] = &[
     (3, "t | 0 1 | ok"),
@@ -67,7 +61,7 @@ const OPENED_WITHIN: &[(u64, &str)] = &[
     (1, "| 0 | 35 0:2:10 "),
 ];
 
-const OPENING_ONCE: &[(&str, &str)] = &[
+const OPENING_ONCE: Files = &[
     ("a.c", "#include \"o.h\"\n#include \"o.h\"\n"),
     ("o.h", "#pragma once\nt\n"),
 ];
@@ -78,41 +72,47 @@ const OPENED_ONCE_WITHIN: &[(u64, &str)] = &[
 ];
 
 /// The depth comes before what is left.
-const OPENING_ITSELF: &[(&str, &str)] = &[("s.c", "#include \"s.c\"\n")];
+const OPENING_ITSELF: Files = &[("s.c", "#include \"s.c\"\n")];
 
 const OPENED_DEEP_WITHIN: &[(u64, &str)] = &[(201, "| 0 | 32 0:1:1 s.c"), (200, "| 0 | 35 0:1:1 ")];
 
-#[test]
-fn counts_openings(rt: HostRuntime) -> Result<(), Fail> {
-    assert_budgets(&rt, rt.alloc(), OPENING, OPENED_WITHIN)?;
-    assert_budgets(&rt, rt.alloc(), OPENING_ONCE, OPENED_ONCE_WITHIN)?;
-    assert_budgets(&rt, rt.alloc(), OPENING_ITSELF, OPENED_DEEP_WITHIN)
-}
-
-const GUARDED: &[(&str, &str)] = &[
+/// Units of a header that is included twice.
+const GUARDED: Files = &[
     ("a.c", "#include \"h.h\"\n#include \"h.h\"\n"),
     ("h.h", "#ifndef H\n#define H\nint a;\n#endif\n"),
 ];
 
-const ENOUGH: &[(usize, &[&str], &str)] = &[
-    (0, &[], "int a ; | 0 1 | ok"),
-    (0, &["H"], "| 0 1 | ok"),
-];
+const ENOUGH: &[Case] = &[(0, &[], "int a ; | 0 1 | ok"), (0, &["H"], "| 0 1 | ok")];
 
-const SHORT: &[(usize, &[&str], &str)] = &[
+const SHORT: &[Case] = &[
     (0, &[], "int a ; | 0 1 | 35 0:2:1 "),
     (0, &["H"], "| 0 1 | 35 0:2:1 "),
 ];
 
 /// A fault before anything is counted.
-const TWICE: &[(usize, &[&str], &str)] = &[(0, &["X 1", "X 2"], "| | 16 65535:2:1 X")];
+const TWICE: &[Case] = &[(0, &["X 1", "X 2"], "| | 16 65535:2:1 X")];
+
+#[test]
+fn stops_where_nothing_is_left_of_the_budget(rt: HostRuntime) -> Result<(), Fail> {
+    for (files, cases) in [
+        (REPLACING, REPLACED_WITHIN),
+        (ASKING, ASKED_WITHIN),
+        (NUMBERING, NUMBERED_WITHIN),
+        (OPENING, OPENED_WITHIN),
+        (OPENING_ONCE, OPENED_ONCE_WITHIN),
+        (OPENING_ITSELF, OPENED_DEEP_WITHIN),
+    ] {
+        assert_budgets(&rt, rt.alloc(), files, cases)?;
+    }
+    Ok(())
+}
 
 #[test]
 fn has_a_budget_for_each_unit(rt: HostRuntime) -> Result<(), Fail> {
-    let (alloc, profile) = (rt.alloc(), Profile::C11);
-    assert_units_within(&rt, alloc, profile, Some(3), GUARDED, ENOUGH)?;
-    assert_units_within(&rt, alloc, profile, Some(2), GUARDED, SHORT)?;
-    assert_units_within(&rt, alloc, profile, Some(0), GUARDED, TWICE)
+    for (budget, cases) in [(3, ENOUGH), (2, SHORT), (0, TWICE)] {
+        assert_units_within(&rt, rt.alloc(), Profile::C11, Some(budget), GUARDED, cases)?;
+    }
+    Ok(())
 }
 
 /// That a unit of a file of this text gives another within a budget of 1000.

@@ -1,18 +1,19 @@
 // Files that units include.
-use super::{assert_units, repeated};
+use super::{Case, Files, assert_units, repeated};
 use pptext::Profile;
 use std::alloc::Global;
 use std::process::Abort;
 use std::test::Fail;
 
-const APART: &[(&str, &str)] = &[
+/// Units that are kept apart.
+const APART: Files = &[
     ("a.c", "#include \"h.h\"\n#include \"h.h\"\n"),
     ("h.h", "#ifndef H\n#define H\nint a;\n#endif\n"),
     ("b.c", "H X\n"),
 ];
 
 /// Units of these files by their rows and definitions, and what they give.
-const GIVEN_APART: &[(usize, &[&str], &str)] = &[
+const GIVEN_APART: &[Case] = &[
     (0, &[], "int a ; | 0 1 | ok"),
     (0, &["H"], "| 0 1 | ok"),
     (2, &["X a b"], "H a b | 2 | ok"),
@@ -21,13 +22,8 @@ const GIVEN_APART: &[(usize, &[&str], &str)] = &[
     (1, &[], "int a ; | 1 | ok"),
 ];
 
-#[test]
-fn keeps_units_apart(rt: HostRuntime) -> Result<(), Fail> {
-    assert_units(&rt, rt.alloc(), Profile::C11, APART, GIVEN_APART)
-}
-
 /// Files that include one another.
-const INCLUDING: &[(&str, &str)] = &[
+const INCLUDING: Files = &[
     (
         "src/a.c",
         "#include \"x.h\"\n#include <x.h>\n#include \"../inc/x.h\"\n#include <y.h>\n",
@@ -46,7 +42,7 @@ const INCLUDING: &[(&str, &str)] = &[
 ];
 
 /// What units of these files give.
-const INCLUDED: &[(usize, &[&str], &str)] = &[
+const INCLUDED: &[Case] = &[
     (0, &[], "1 2 2 | 0 1 2 | 31 0:4:1 y.h"),
     (3, &[], "| 3 | 31 3:2:1 inc/x.h"),
     (3, &["inc x"], "| 3 | 31 3:2:1 x/x.h"),
@@ -61,30 +57,11 @@ const INCLUDED: &[(usize, &[&str], &str)] = &[
     (9, &[], "| 9 | 6 9:1:1 gone.h"),
 ];
 
-#[test]
-fn includes_files(rt: HostRuntime) -> Result<(), Fail> {
-    assert_units(&rt, rt.alloc(), Profile::C11, INCLUDING, INCLUDED)
-}
+/// A file that includes itself, down to depth 200.
+const OPENED: Files = &[("s.c", "t\n#include \"s.c\"\n")];
 
-/// That a unit of the first file gives a text, so many times, and an end.
-fn assert_repeats(
-    rt: &impl Abort,
-    alloc: Global,
-    files: &[(&str, &str)],
-    (text, times, end): (&str, usize, &str),
-) -> Result<(), Fail> {
-    let wanted = repeated(alloc, text, times, end)?;
-    assert_units(rt, alloc, Profile::C11, files, &[(0, &[], wanted.as_str())])
-}
-
-const OPENED: &[(&str, &str)] = &[("s.c", "t\n#include \"s.c\"\n")];
-
-#[test]
-fn opens_files_down_to_depth_200(rt: HostRuntime) -> Result<(), Fail> {
-    assert_repeats(&rt, rt.alloc(), OPENED, ("t ", 201, "| 0 | 32 0:2:1 s.c"))
-}
-
-const READ: &[(&str, &str)] = &[
+/// Files that are read once.
+const READ: Files = &[
     ("s.c", "#pragma once\nt\n#include \"s.c\"\n"),
     ("a.c", "#include \"h.h\"\n#include \"h.h\"\n"),
     ("h.h", "#if 0\n#pragma once\n#endif\nt\n"),
@@ -95,7 +72,7 @@ const READ: &[(&str, &str)] = &[
     ("inc/k.h", "t\n#pragma once\n#pragma once x\n"),
 ];
 
-const READ_ONCE: &[(usize, &[&str], &str)] = &[
+const READ_ONCE: &[Case] = &[
     (0, &[], "pragma@0:1:1[ once ] t | 0 | ok"),
     // what one unit reads once the next one reads again
     (0, &[], "pragma@0:1:1[ once ] t | 0 | ok"),
@@ -108,26 +85,59 @@ const READ_ONCE: &[(usize, &[&str], &str)] = &[
     ),
 ];
 
-#[test]
-fn reads_files_once(rt: HostRuntime) -> Result<(), Fail> {
-    assert_units(&rt, rt.alloc(), Profile::Later, READ, READ_ONCE)?;
-    let wanted = ("pragma@0:1:1[ once ] t ", 201, "| 0 | 32 0:3:1 s.c");
-    assert_repeats(&rt, rt.alloc(), READ, wanted)
-}
-
-const DEEP: &[(&str, &str)] = &[
+/// A file at the last depth: the depth is asked for first.
+const DEEP: Files = &[
     ("a.c", "#include \"o.h\"\n#include \"d.h\"\n"),
     ("o.h", "#pragma once\n"),
     ("d.h", "#include \"o.h\"\n#include \"d.h\"\n"),
 ];
 
-const ASKED_FIRST: &[(usize, &[&str], &str)] = &[(
-    0,
-    &[],
-    "pragma@1:1:1[ once ] | 0 1 2 | 32 2:1:1 o.h",
-)];
+const ASKED_FIRST: &[Case] = &[(0, &[], "pragma@1:1:1[ once ] | 0 1 2 | 32 2:1:1 o.h")];
+
+/// An included file has its own name and lines, and the includer its own again.
+const NUMBERED_APART: Files = &[
+    (
+        "a.c",
+        "#line 9 \"q\"\n#include \"h.h\"\n__LINE__ __FILE__\n",
+    ),
+    ("h.h", "__LINE__ __FILE__\n#line 50 \"r\"\n"),
+];
+
+const NUMBERED: &[Case] = &[(0, &[], "1 \"h.h\" 10 \"q\" | 0 1 | ok")];
 
 #[test]
-fn asks_for_the_depth_first(rt: HostRuntime) -> Result<(), Fail> {
-    assert_units(&rt, rt.alloc(), Profile::Later, DEEP, ASKED_FIRST)
+fn includes_files(rt: HostRuntime) -> Result<(), Fail> {
+    for (profile, files, cases) in [
+        (Profile::C11, APART, GIVEN_APART),
+        (Profile::C11, INCLUDING, INCLUDED),
+        (Profile::C11, NUMBERED_APART, NUMBERED),
+        (Profile::Later, READ, READ_ONCE),
+        (Profile::Later, DEEP, ASKED_FIRST),
+    ] {
+        assert_units(&rt, rt.alloc(), profile, files, cases)?;
+    }
+    Ok(())
+}
+
+/// That a unit of the first file gives a text, so many times, and an end.
+fn assert_repeats(
+    rt: &impl Abort,
+    alloc: Global,
+    files: Files,
+    (text, times, end): (&str, usize, &str),
+) -> Result<(), Fail> {
+    let wanted = repeated(alloc, text, times, end)?;
+    assert_units(rt, alloc, Profile::C11, files, &[(0, &[], wanted.as_str())])
+}
+
+#[test]
+fn opens_files_down_to_depth_200(rt: HostRuntime) -> Result<(), Fail> {
+    for (files, wanted) in [
+        (OPENED, ("t ", 201, "| 0 | 32 0:2:1 s.c")),
+        // by the later profile alone a pragma says that a file is read once
+        (READ, ("pragma@0:1:1[ once ] t ", 201, "| 0 | 32 0:3:1 s.c")),
+    ] {
+        assert_repeats(&rt, rt.alloc(), files, wanted)?;
+    }
+    Ok(())
 }

@@ -1,49 +1,54 @@
+// The forms of dates, times and definitions.
 use ppunit::{fits_command, is_date, is_one_line, is_time};
 use std::alloc::{AllocError, Global};
 
-#[test]
-fn judges_dates(rt: HostRuntime) {
-    for (date, good) in &[
-        ("Jan  1 0000", true),
-        ("May 10 2024", true),
-        ("Oct 31 9999", true),
-        ("Feb 31 2023", true),
-        ("Feb 09 2024", false),
-        ("Feb  0 2024", false),
-        ("Feb 32 2024", false),
-        ("feb  9 2024", false),
-        ("Feb  9 202x", false),
-        ("Feb  9 20240", false),
-    ] {
-        assert!(rt; is_date(date.as_bytes()) == *good, "at {date}");
+/// What a text may be.
+#[derive(Clone, Copy)]
+enum Form {
+    Date,
+    Time,
+    Line,
+}
+
+/// Whether a text is of a form.
+fn is_of(form: Form, text: &str) -> bool {
+    match form {
+        Form::Date => is_date(text.as_bytes()),
+        Form::Time => is_time(text.as_bytes()),
+        Form::Line => is_one_line(text.as_bytes()),
     }
 }
 
-#[test]
-fn judges_times(rt: HostRuntime) {
-    for (time, good) in &[
-        ("00:00:00", true),
-        ("19:09:60", true),
-        ("23:59:59", true),
-        ("24:00:00", false),
-        ("08:60:03", false),
-        ("08:05:61", false),
-        ("8:05:03", false),
-        ("08.05.03", false),
-    ] {
-        assert!(rt; is_time(time.as_bytes()) == *good, "at {time}");
-    }
-}
+/// Texts, and whether they are of a form.
+const JUDGED: &[(Form, &str, bool)] = &[
+    (Form::Date, "Jan  1 0000", true),
+    (Form::Date, "May 10 2024", true),
+    (Form::Date, "Oct 31 9999", true),
+    (Form::Date, "Feb 31 2023", true),
+    (Form::Date, "Feb 09 2024", false),
+    (Form::Date, "Feb  0 2024", false),
+    (Form::Date, "Feb 32 2024", false),
+    (Form::Date, "feb  9 2024", false),
+    (Form::Date, "Feb  9 202x", false),
+    (Form::Date, "Feb  9 20240", false),
+    (Form::Time, "00:00:00", true),
+    (Form::Time, "19:09:60", true),
+    (Form::Time, "23:59:59", true),
+    (Form::Time, "24:00:00", false),
+    (Form::Time, "08:60:03", false),
+    (Form::Time, "08:05:61", false),
+    (Form::Time, "8:05:03", false),
+    (Form::Time, "08.05.03", false),
+    (Form::Line, "", true),
+    (Form::Line, "F(x) x \\ \u{b}\u{c}", true),
+    (Form::Line, "A 1\n", false),
+    (Form::Line, "A\r1", false),
+];
 
 #[test]
-fn judges_lines(rt: HostRuntime) {
-    for (text, good) in &[
-        ("", true),
-        ("F(x) x \\ \u{b}\u{c}", true),
-        ("A 1\n", false),
-        ("A\r1", false),
-    ] {
-        assert!(rt; is_one_line(text.as_bytes()) == *good, "at {text}");
+fn judges_dates_times_and_lines(rt: HostRuntime) {
+    for &(form, text, good) in JUDGED {
+        assert!(rt; is_of(form, text) == good, "at {text}");
     }
 }
 

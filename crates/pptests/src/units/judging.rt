@@ -7,11 +7,6 @@ use std::alloc::{AllocError, Global};
 use std::process::Abort;
 use std::test::Fail;
 
-/// Whether a setting with this date and time is good.
-fn is_good_setting(alloc: Global, date: &str, time: &str) -> Result<bool, AllocError> {
-    Ok(setting_ok(&setting_of(alloc, Profile::C11, date, time)?))
-}
-
 /// Whether a unit of the file in this row is good over a shelf, and has the profile and the definitions that it was made of.
 fn is_good_unit(
     alloc: Global,
@@ -43,10 +38,8 @@ fn assert_settings(
     cases: &[(&str, &str, bool)],
 ) -> Result<(), AllocError> {
     for (date, time, good) in cases {
-        assert!(rt;
-            is_good_setting(alloc, date, time)? == *good,
-            "{date} {time}"
-        );
+        let setting = setting_of(alloc, Profile::C11, date, time)?;
+        assert!(rt; setting_ok(&setting) == *good, "{date} {time}");
     }
     Ok(())
 }
@@ -80,15 +73,14 @@ const UNITS: &[(Profile, usize, &str, bool)] = &[
     (Profile::Later, 1, "A", false),
 ];
 
-/// That units are good or not over a shelf of C11.
-fn assert_judged_over(rt: &impl Abort, alloc: Global) -> Result<(), Fail> {
-    let shelf = shelf_of(alloc, Profile::C11, &[("a.c", "")])?;
-    assert_judged(rt, alloc, &shelf, UNITS)
+#[test]
+fn judges_settings(rt: HostRuntime) -> Result<(), Fail> {
+    assert_settings(&rt, rt.alloc(), SETTINGS)?;
+    assert_defines(&rt, rt.alloc())
 }
 
 #[test]
-fn judges_settings_and_units(rt: HostRuntime) -> Result<(), Fail> {
-    assert_settings(&rt, rt.alloc(), SETTINGS)?;
-    assert_defines(&rt, rt.alloc())?;
-    assert_judged_over(&rt, rt.alloc())
+fn judges_units(rt: HostRuntime) -> Result<(), Fail> {
+    let shelf = shelf_of(rt.alloc(), Profile::C11, &[("a.c", "")])?;
+    assert_judged(&rt, rt.alloc(), &shelf, UNITS)
 }

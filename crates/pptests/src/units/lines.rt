@@ -1,5 +1,5 @@
 // Text runs, directive lines and groups in units.
-use super::{assert_branches, assert_contents, assert_units};
+use super::assert_contents;
 use pptext::Profile;
 use std::test::Fail;
 
@@ -20,21 +20,13 @@ const DIRECTIVES: &[(&str, &str)] = &[
     ),
 ];
 
-#[test]
-fn processes_directive_lines(rt: HostRuntime) -> Result<(), Fail> {
-    assert_contents(&rt, rt.alloc(), Profile::C11, DIRECTIVES)
-}
-
+/// Items of every kind in a row.
 const YIELDED: &[(&str, &str)] = &[(
     "#define X 1 + 2\n#define J(a,b) a##b\na b X c\n#pragma p q\nJ(d,e) X\n#pragma\nf\n",
     "a b 1 + 2 c pragma@0:4:1[ p q ] de 1 + 2 pragma@0:6:1[ ] f | 0 | ok",
 )];
 
-#[test]
-fn yields_items_one_by_one(rt: HostRuntime) -> Result<(), Fail> {
-    assert_contents(&rt, rt.alloc(), Profile::C11, YIELDED)
-}
-
+/// One group of a section is taken.
 const TAKEN: &[(&str, &str)] = &[
     (
         "#ifdef A\n1\n#else\n2\n#endif\n#ifndef A\n3\n#endif\n",
@@ -63,11 +55,7 @@ const TAKEN: &[(&str, &str)] = &[
     ("#if 1\ndon't\n#endif\nx\n", "don | 0 | 7 0:2:4 '"),
 ];
 
-#[test]
-fn takes_one_group_of_a_section(rt: HostRuntime) -> Result<(), Fail> {
-    assert_contents(&rt, rt.alloc(), Profile::C11, TAKEN)
-}
-
+/// Lines are numbered, and named.
 const NUMBERED: &[(&str, &str)] = &[
     ("__LINE__ __FILE__\n", "1 \"a.c\" | 0 | ok"),
     (
@@ -82,20 +70,12 @@ const NUMBERED: &[(&str, &str)] = &[
     ("#line 1 L\"a\"\n", "| 0 | 33 0:1:1 "),
 ];
 
-/// An included file has its own name and lines, and the includer its own again.
-const NUMBERED_APART: &[(&str, &str)] = &[
-    (
-        "a.c",
-        "#line 9 \"q\"\n#include \"h.h\"\n__LINE__ __FILE__\n",
-    ),
-    ("h.h", "__LINE__ __FILE__\n#line 50 \"r\"\n"),
-];
-
 #[test]
-fn numbers_lines(rt: HostRuntime) -> Result<(), Fail> {
-    assert_contents(&rt, rt.alloc(), Profile::C11, NUMBERED)?;
-    let cases: &[(usize, &[&str], &str)] = &[(0, &[], "1 \"h.h\" 10 \"q\" | 0 1 | ok")];
-    assert_units(&rt, rt.alloc(), Profile::C11, NUMBERED_APART, cases)
+fn processes_lines_and_groups(rt: HostRuntime) -> Result<(), Fail> {
+    for cases in [DIRECTIVES, YIELDED, TAKEN, NUMBERED] {
+        assert_contents(&rt, rt.alloc(), Profile::C11, cases)?;
+    }
+    Ok(())
 }
 
 /// Files, and what a unit of each gives in C11 and in the later profile.
@@ -145,5 +125,10 @@ const BRANCHED: &[(&str, &str, &str)] = &[
 
 #[test]
 fn has_the_later_branches(rt: HostRuntime) -> Result<(), Fail> {
-    assert_branches(&rt, rt.alloc(), BRANCHED)
+    for &(text, c11, later) in BRANCHED {
+        for (profile, wanted) in [(Profile::C11, c11), (Profile::Later, later)] {
+            assert_contents(&rt, rt.alloc(), profile, &[(text, wanted)])?;
+        }
+    }
+    Ok(())
 }
