@@ -34,14 +34,14 @@ fn joined(
 fn joined_again(
     rt: &impl Abort,
     sets: &mut HideSets,
-    both: (Set, Set),
+    (left, right): (Set, Set),
     (one, two): (&[u8], &[u8]),
     join: Join,
 ) -> Result<Set, Memory> {
-    let Ok(set) = joined(rt, sets, both, join) else {
-        assert_names(rt, sets, both.0, one);
-        assert_names(rt, sets, both.1, two);
-        return joined(rt, sets, both, join);
+    let Ok(set) = joined(rt, sets, (left, right), join) else {
+        assert_names(rt, sets, left, one);
+        assert_names(rt, sets, right, two);
+        return joined(rt, sets, (left, right), join);
     };
     Ok(set)
 }
@@ -56,9 +56,13 @@ fn assert_joined(
     join: Join,
     wanted: &[u8],
 ) -> Result<(), Memory> {
-    let both = (set_of(rt, sets, one)?, set_of(rt, sets, two)?);
-    let set = joined_again(rt, sets, both, (one, two), join)?;
-    assert!(rt; joined(rt, sets, both, join) == Ok(set), "a second call");
+    let left = set_of(rt, sets, one)?;
+    let right = set_of(rt, sets, two)?;
+    let set = joined_again(rt, sets, (left, right), (one, two), join)?;
+    assert!(rt;
+        joined(rt, sets, (left, right), join) == Ok(set),
+        "a second call"
+    );
     assert_names(rt, sets, set, wanted);
     // sets with the same names are the same, whatever made them
     assert!(rt; set == set_of(rt, sets, wanted)?);
