@@ -10,7 +10,23 @@ use std::test::Fail;
 /// A header with a guard.
 const HEADER: &str = "#ifndef H\n#define H\nint a;\n#endif\n";
 
-// That a pass is shown this text of a row. Where memory is refused, the pass looks again.
+// What a pass is shown of a row. Where memory is refused, the pass looks again.
+fn bytes_again<'a>(
+    shelf: &'a Shelf<MemoryDisk>,
+    pass: &mut Pass<'a, MemoryDisk>,
+    disk: &MemoryDisk,
+    row: usize,
+) -> Result<Option<&'a [u8]>, Memory>
+    requires { pass.old.shelf ≡ shelf.now }
+    ensures { pass.new.shelf ≡ shelf.now }
+{
+    let Ok(bytes) = bytes_of(shelf, pass, row, disk) else {
+        return bytes_of(shelf, pass, row, disk);
+    };
+    Ok(bytes)
+}
+
+// That a pass is shown this text of a row, at the second look if not at the first.
 fn assert_shown_again<'a>(
     rt: &impl Abort,
     shelf: &'a Shelf<MemoryDisk>,
@@ -22,10 +38,7 @@ fn assert_shown_again<'a>(
     requires { pass.old.shelf ≡ shelf.now }
     ensures { pass.new.shelf ≡ shelf.now }
 {
-    let found = match bytes_of(shelf, pass, row, disk) {
-        Ok(found) => found,
-        Err(Memory) => bytes_of(shelf, pass, row, disk)?,
-    };
+    let found = bytes_again(shelf, pass, disk, row)?;
     assert!(rt; are_bytes(found, wanted), "{row}");
     Ok(())
 }
