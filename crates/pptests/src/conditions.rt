@@ -248,105 +248,151 @@ fn takes_what_gcc_takes(rt: HostRuntime) -> Result<(), Fail> {
 }
 
 /// Definitions, expressions behind them, and the number, the column and the text of their faults.
-const FAULTS: &[(&str, &str, u8, u32, &str)] = &[
+const FAULTS: &[(&str, &str, Wanted)] = &[
     // what an expression is
-    ("", "", 23, 1, ""),
-    ("", "1 2", 23, 1, ""),
-    ("", "(1", 23, 1, ""),
-    ("", "1 +", 23, 1, ""),
-    ("", "--1", 23, 1, ""),
-    ("", "\"a\"", 23, 1, ""),
-    ("", "1, 2", 23, 1, ""),
-    ("", "x = 1", 23, 1, ""),
-    ("", "@", 23, 1, ""),
-    ("", "u8'a'", 23, 1, ""),
-    ("", "f(1)", 23, 1, ""),
-    ("", "1 ? 2", 23, 1, ""),
-    ("", "9223372036854775808", 24, 1, "9223372036854775808"),
-    ("", "-9223372036854775808", 24, 1, "9223372036854775808"),
-    ("", "18446744073709551616u", 24, 1, "18446744073709551616u"),
-    ("", "0x10000000000000000", 24, 1, "0x10000000000000000"),
-    ("", "09", 24, 1, "09"),
-    ("", "0x", 24, 1, "0x"),
-    ("", "1.0", 24, 1, "1.0"),
-    ("", ".1", 24, 1, ".1"),
-    ("", "1ulu", 24, 1, "1ulu"),
-    ("", "1lL", 24, 1, "1lL"),
-    ("", "1 || 1x", 24, 1, "1x"),
-    ("", "1x + 'ab'", 24, 1, "1x"),
-    ("", "'ab' + 1x", 25, 1, "'ab'"),
-    ("", "0 && 'ab'", 25, 1, "'ab'"),
-    ("", "'\\u00e9'", 25, 1, "'\\u00e9'"),
-    ("", "'\\x100'", 25, 1, "'\\x100'"),
-    ("", "u'\\x10000'", 25, 1, "u'\\x10000'"),
-    ("", "U'\\x100000000'", 25, 1, "U'\\x100000000'"),
-    ("", "'\\400'", 25, 1, "'\\400'"),
-    ("", "'\\1234'", 25, 1, "'\\1234'"),
-    ("", "'\\8'", 25, 1, "'\\8'"),
-    ("", "'\\q'", 25, 1, "'\\q'"),
-    ("", "'\\x'", 25, 1, "'\\x'"),
-    ("", "1/0", 26, 1, "/"),
-    ("", "1 % 0u", 26, 1, "%"),
-    ("", "(-9223372036854775807 - 1) / 0", 26, 1, "/"),
-    ("", "0x7fffffffffffffff + 1", 27, 1, "+"),
-    ("", "-9223372036854775807 - 2", 27, 1, "-"),
-    ("", "4611686018427387904 * 2", 27, 1, "*"),
-    ("", "-(-9223372036854775807 - 1)", 27, 1, "-"),
-    ("", "(-9223372036854775807 - 1) / -1", 27, 1, "/"),
-    ("", "(-9223372036854775807 - 1) % -1", 27, 1, "%"),
-    ("", "1 << 64", 28, 1, "<<"),
-    ("", "1 << -1", 28, 1, "<<"),
-    ("", "1 >> 64u", 28, 1, ">>"),
-    ("", "1 >> 0xffffffffffffffff", 28, 1, ">>"),
-    ("", "-1 << 1", 28, 1, "<<"),
-    ("", "1 << 63", 28, 1, "<<"),
-    ("", "1/0 + (1 << 64)", 26, 1, "/"),
-    ("", "(1 << 64) + 1/0", 28, 1, "<<"),
-    ("", "1/0 ? 1 : 2", 26, 1, "/"),
-    ("", "1/0 && 0", 26, 1, "/"),
-    ("", "1 ? 1/0 : 2", 26, 1, "/"),
+    ("", "", Wanted::Fault(23, 1, "")),
+    ("", "1 2", Wanted::Fault(23, 1, "")),
+    ("", "(1", Wanted::Fault(23, 1, "")),
+    ("", "1 +", Wanted::Fault(23, 1, "")),
+    ("", "--1", Wanted::Fault(23, 1, "")),
+    ("", "\"a\"", Wanted::Fault(23, 1, "")),
+    ("", "1, 2", Wanted::Fault(23, 1, "")),
+    ("", "x = 1", Wanted::Fault(23, 1, "")),
+    ("", "@", Wanted::Fault(23, 1, "")),
+    ("", "u8'a'", Wanted::Fault(23, 1, "")),
+    ("", "f(1)", Wanted::Fault(23, 1, "")),
+    ("", "1 ? 2", Wanted::Fault(23, 1, "")),
+    (
+        "",
+        "9223372036854775808",
+        Wanted::Fault(24, 1, "9223372036854775808"),
+    ),
+    (
+        "",
+        "-9223372036854775808",
+        Wanted::Fault(24, 1, "9223372036854775808"),
+    ),
+    (
+        "",
+        "18446744073709551616u",
+        Wanted::Fault(24, 1, "18446744073709551616u"),
+    ),
+    (
+        "",
+        "0x10000000000000000",
+        Wanted::Fault(24, 1, "0x10000000000000000"),
+    ),
+    ("", "09", Wanted::Fault(24, 1, "09")),
+    ("", "0x", Wanted::Fault(24, 1, "0x")),
+    ("", "1.0", Wanted::Fault(24, 1, "1.0")),
+    ("", ".1", Wanted::Fault(24, 1, ".1")),
+    ("", "1ulu", Wanted::Fault(24, 1, "1ulu")),
+    ("", "1lL", Wanted::Fault(24, 1, "1lL")),
+    ("", "1 || 1x", Wanted::Fault(24, 1, "1x")),
+    ("", "1x + 'ab'", Wanted::Fault(24, 1, "1x")),
+    ("", "'ab' + 1x", Wanted::Fault(25, 1, "'ab'")),
+    ("", "0 && 'ab'", Wanted::Fault(25, 1, "'ab'")),
+    ("", "'\\u00e9'", Wanted::Fault(25, 1, "'\\u00e9'")),
+    ("", "'\\x100'", Wanted::Fault(25, 1, "'\\x100'")),
+    ("", "u'\\x10000'", Wanted::Fault(25, 1, "u'\\x10000'")),
+    (
+        "",
+        "U'\\x100000000'",
+        Wanted::Fault(25, 1, "U'\\x100000000'"),
+    ),
+    ("", "'\\400'", Wanted::Fault(25, 1, "'\\400'")),
+    ("", "'\\1234'", Wanted::Fault(25, 1, "'\\1234'")),
+    ("", "'\\8'", Wanted::Fault(25, 1, "'\\8'")),
+    ("", "'\\q'", Wanted::Fault(25, 1, "'\\q'")),
+    ("", "'\\x'", Wanted::Fault(25, 1, "'\\x'")),
+    ("", "1/0", Wanted::Fault(26, 1, "/")),
+    ("", "1 % 0u", Wanted::Fault(26, 1, "%")),
+    (
+        "",
+        "(-9223372036854775807 - 1) / 0",
+        Wanted::Fault(26, 1, "/"),
+    ),
+    ("", "0x7fffffffffffffff + 1", Wanted::Fault(27, 1, "+")),
+    ("", "-9223372036854775807 - 2", Wanted::Fault(27, 1, "-")),
+    ("", "4611686018427387904 * 2", Wanted::Fault(27, 1, "*")),
+    ("", "-(-9223372036854775807 - 1)", Wanted::Fault(27, 1, "-")),
+    (
+        "",
+        "(-9223372036854775807 - 1) / -1",
+        Wanted::Fault(27, 1, "/"),
+    ),
+    (
+        "",
+        "(-9223372036854775807 - 1) % -1",
+        Wanted::Fault(27, 1, "%"),
+    ),
+    ("", "1 << 64", Wanted::Fault(28, 1, "<<")),
+    ("", "1 << -1", Wanted::Fault(28, 1, "<<")),
+    ("", "1 >> 64u", Wanted::Fault(28, 1, ">>")),
+    ("", "1 >> 0xffffffffffffffff", Wanted::Fault(28, 1, ">>")),
+    ("", "-1 << 1", Wanted::Fault(28, 1, "<<")),
+    ("", "1 << 63", Wanted::Fault(28, 1, "<<")),
+    ("", "1/0 + (1 << 64)", Wanted::Fault(26, 1, "/")),
+    ("", "(1 << 64) + 1/0", Wanted::Fault(28, 1, "<<")),
+    ("", "1/0 ? 1 : 2", Wanted::Fault(26, 1, "/")),
+    ("", "1/0 && 0", Wanted::Fault(26, 1, "/")),
+    ("", "1 ? 1/0 : 2", Wanted::Fault(26, 1, "/")),
     // what is asked before and after replacement
-    ("", "defined", 22, 1, ""),
-    ("", "defined 1", 22, 1, ""),
-    ("", "defined (X", 22, 1, ""),
-    ("", "defined (X 1)", 22, 1, ""),
-    ("", "defined ()", 22, 1, ""),
-    ("", "1x defined", 22, 1, ""),
-    ("#define EAT(x)\n", "EAT(defined) 1", 22, 1, ""),
-    ("#define D defined X\n", "D", 22, 1, ""),
-    ("#define D defined\n", "D 1x", 22, 1, ""),
-    ("#define D defined\n", "D (", 22, 1, ""),
-    ("#define D defined\n#define f(a) a\n", "D f(", 17, 7, "f"),
-    ("#define f(a) a\n", "f( defined", 22, 1, ""),
+    ("", "defined", Wanted::Fault(22, 1, "")),
+    ("", "defined 1", Wanted::Fault(22, 1, "")),
+    ("", "defined (X", Wanted::Fault(22, 1, "")),
+    ("", "defined (X 1)", Wanted::Fault(22, 1, "")),
+    ("", "defined ()", Wanted::Fault(22, 1, "")),
+    ("", "1x defined", Wanted::Fault(22, 1, "")),
+    (
+        "#define EAT(x)\n",
+        "EAT(defined) 1",
+        Wanted::Fault(22, 1, ""),
+    ),
+    ("#define D defined X\n", "D", Wanted::Fault(22, 1, "")),
+    ("#define D defined\n", "D 1x", Wanted::Fault(22, 1, "")),
+    ("#define D defined\n", "D (", Wanted::Fault(22, 1, "")),
+    (
+        "#define D defined\n#define f(a) a\n",
+        "D f(",
+        Wanted::Fault(17, 7, "f"),
+    ),
+    ("#define f(a) a\n", "f( defined", Wanted::Fault(22, 1, "")),
 ];
 
-/// Definitions, and expressions behind them whose group is taken.
-const ASKED: &[(&str, &str)] = &[
-    ("#define EAT(x)\n", "EAT(defined X) 1"),
-    ("#define EAT(x)\n#define D defined\n", "EAT(D) 1"),
+/// Definitions, and expressions behind them whose group is taken: what is asked before and after replacement.
+const ASKED: &[(&str, &str, Wanted)] = &[
+    ("#define EAT(x)\n", "EAT(defined X) 1", Wanted::Taken(true)),
+    (
+        "#define EAT(x)\n#define D defined\n",
+        "EAT(D) 1",
+        Wanted::Taken(true),
+    ),
     (
         "#define S(x) #x\n#define EAT(x)\n#define D defined X\n",
         "1 EAT(S(D))",
+        Wanted::Taken(true),
     ),
-    ("#define defined_too 1\n", "defined defined_too"),
-    ("", "!defined defined"),
-    ("#define X 2\n", "X == 2 && defined X && defined ( X )"),
+    (
+        "#define defined_too 1\n",
+        "defined defined_too",
+        Wanted::Taken(true),
+    ),
+    ("", "!defined defined", Wanted::Taken(true)),
+    (
+        "#define X 2\n",
+        "X == 2 && defined X && defined ( X )",
+        Wanted::Taken(true),
+    ),
 ];
 
 #[test]
-fn asks_before_and_after_replacement(rt: HostRuntime) -> Result<(), Fail> {
-    for (definitions, expression) in ASKED {
-        let text = expression.as_bytes();
-        assert_condition(&rt, rt.alloc(), definitions, text, Wanted::Taken(true))?;
-    }
-    Ok(())
-}
-
-#[test]
-fn tells_the_fault_of_an_expression(rt: HostRuntime) -> Result<(), Fail> {
-    for &(definitions, expression, number, col, text) in FAULTS {
-        let wanted = Wanted::Fault(number, col, text);
-        assert_condition(&rt, rt.alloc(), definitions, expression.as_bytes(), wanted)?;
+fn tells_faults_and_definitions(rt: HostRuntime) -> Result<(), Fail> {
+    for cases in [FAULTS, ASKED] {
+        for &(definitions, expression, wanted) in cases {
+            let text = expression.as_bytes();
+            assert_condition(&rt, rt.alloc(), definitions, text, wanted)?;
+        }
     }
     Ok(())
 }

@@ -87,134 +87,157 @@ fn assert_directed(
     Ok(assert_next(rt, alloc, &lines, line.tokens(), name, wanted)?)
 }
 
-/// Lines that are refused where `X` is 7: each with its fault's text and number.
-const REFUSED: &[(&str, &str, u8)] = &[
-    ("#define", "define", 9),
-    ("#define 1 X", "define", 9),
-    ("#define \"X\"", "define", 9),
-    ("#define __LINE__ 1", "__LINE__", 10),
-    ("#define __STDC_HOSTED__", "__STDC_HOSTED__", 10),
-    ("#define defined+", "defined", 10),
-    ("#define __VA_ARGS__ 1", "__VA_ARGS__", 10),
-    ("#define f(a,a) a", "f", 11),
+/// Lines, the next line and a name: the definition that it then has, or the number of the fault whose text it is.
+type Case = (
+    &'static str,
+    &'static str,
+    &'static str,
+    Result<&'static str, u8>,
+);
+
+/// Lines that are refused where `X` is 7, in the order of the rules.
+const REFUSED: &[Case] = &[
+    ("#define X 7", "#define", "define", Err(9)),
+    ("#define X 7", "#define 1 X", "define", Err(9)),
+    ("#define X 7", "#define \"X\"", "define", Err(9)),
+    ("#define X 7", "#define __LINE__ 1", "__LINE__", Err(10)),
     (
+        "#define X 7",
+        "#define __STDC_HOSTED__",
+        "__STDC_HOSTED__",
+        Err(10),
+    ),
+    ("#define X 7", "#define defined+", "defined", Err(10)),
+    (
+        "#define X 7",
+        "#define __VA_ARGS__ 1",
+        "__VA_ARGS__",
+        Err(10),
+    ),
+    ("#define X 7", "#define f(a,a) a", "f", Err(11)),
+    (
+        "#define X 7",
         "#define f(a,b,c,d,e,f,g,h,i,j,k,l,m,n,o,p,q,r,a) a",
         "f",
-        11,
+        Err(11),
     ),
-    ("#define f(a,) a", "f", 11),
-    ("#define f(,a) a", "f", 11),
-    ("#define f(a,...,b) a", "f", 11),
-    ("#define f(a...) a", "f", 11),
-    ("#define f(. . .) 1", "f", 11),
-    ("#define f(a b) a", "f", 11),
-    ("#define X(", "X", 11),
-    ("#define X(a", "X", 11),
-    ("#define f(__VA_ARGS__,__VA_ARGS__) 1", "f", 11),
-    ("#define f(__VA_ARGS__,...) 1", "f", 15),
-    ("#define X+1", "X", 12),
-    ("#define X\"\"", "X", 12),
-    ("#define X __VA_ARGS__", "X", 15),
-    ("#define X __VA_ARGS__ ##", "X", 15),
-    ("#define f(a) __VA_ARGS__", "f", 15),
-    ("#define X ## a", "X", 13),
-    ("#define X a ##", "X", 13),
-    ("#define X a ## %:%: b", "X", 13),
-    ("#define f(a) # ## a ##", "f", 13),
-    ("#define f(a) # b", "f", 14),
+    ("#define X 7", "#define f(a,) a", "f", Err(11)),
+    ("#define X 7", "#define f(,a) a", "f", Err(11)),
+    ("#define X 7", "#define f(a,...,b) a", "f", Err(11)),
+    ("#define X 7", "#define f(a...) a", "f", Err(11)),
+    ("#define X 7", "#define f(. . .) 1", "f", Err(11)),
+    ("#define X 7", "#define f(a b) a", "f", Err(11)),
+    ("#define X 7", "#define X(", "X", Err(11)),
+    ("#define X 7", "#define X(a", "X", Err(11)),
     (
+        "#define X 7",
+        "#define f(__VA_ARGS__,__VA_ARGS__) 1",
+        "f",
+        Err(11),
+    ),
+    ("#define X 7", "#define f(__VA_ARGS__,...) 1", "f", Err(15)),
+    ("#define X 7", "#define X+1", "X", Err(12)),
+    ("#define X 7", "#define X\"\"", "X", Err(12)),
+    ("#define X 7", "#define X __VA_ARGS__", "X", Err(15)),
+    ("#define X 7", "#define X __VA_ARGS__ ##", "X", Err(15)),
+    ("#define X 7", "#define f(a) __VA_ARGS__", "f", Err(15)),
+    ("#define X 7", "#define X ## a", "X", Err(13)),
+    ("#define X 7", "#define X a ##", "X", Err(13)),
+    ("#define X 7", "#define X a ## %:%: b", "X", Err(13)),
+    ("#define X 7", "#define f(a) # ## a ##", "f", Err(13)),
+    ("#define X 7", "#define f(a) # b", "f", Err(14)),
+    (
+        "#define X 7",
         "#define f(a,b,c,d,e,f,g,h,i,j,k,l,m,n,o,p,q,r) a b c d e f g h i j k l m n #r # z",
         "f",
-        14,
+        Err(14),
     ),
-    ("#define f(a) a #", "f", 14),
-    ("#define f(a) %: 1", "f", 14),
-    ("#define X 8", "X", 16),
-    ("#define X() 7", "X", 16),
-    ("#undef", "undef", 9),
-    ("#undef 1", "undef", 9),
-    ("#undef X Y", "undef", 9),
-    ("#undef __FILE__ X", "undef", 9),
-    ("#undef __FILE__", "__FILE__", 10),
-    ("#undef defined", "defined", 10),
-    ("#undef __VA_ARGS__", "__VA_ARGS__", 10),
+    ("#define X 7", "#define f(a) a #", "f", Err(14)),
+    ("#define X 7", "#define f(a) %: 1", "f", Err(14)),
+    ("#define X 7", "#define X 8", "X", Err(16)),
+    ("#define X 7", "#define X() 7", "X", Err(16)),
+    ("#define X 7", "#undef", "undef", Err(9)),
+    ("#define X 7", "#undef 1", "undef", Err(9)),
+    ("#define X 7", "#undef X Y", "undef", Err(9)),
+    ("#define X 7", "#undef __FILE__ X", "undef", Err(9)),
+    ("#define X 7", "#undef __FILE__", "__FILE__", Err(10)),
+    ("#define X 7", "#undef defined", "defined", Err(10)),
+    ("#define X 7", "#undef __VA_ARGS__", "__VA_ARGS__", Err(10)),
 ];
 
-#[test]
-fn refuses_in_the_order_of_the_rules(rt: HostRuntime) -> Result<(), Fail> {
-    for &(line, name, number) in REFUSED {
-        assert_directed(&rt, rt.alloc(), ("#define X 7", line), name, Err(number))?;
-    }
-    Ok(())
-}
-
-/// Lines, each with the lines before it, and a name with the definition that it has then.
-const DEFINED: &[(&str, &str, &str, &str)] = &[
-    ("", "#define O (1-1)", "O", " (1-1)"),
+/// Lines that define and undefine.
+const DEFINED: &[Case] = &[
+    ("", "#define O (1-1)", "O", Ok(" (1-1)")),
     (
         "#define O (1-1)",
         "#define O (1-1) /* same */",
         "O",
-        " (1-1)",
+        Ok(" (1-1)"),
     ),
-    ("#define O (1-1)", "#undef O", "O", "none"),
-    ("", "#undef O", "O", "none"),
-    ("#define O", "#define E", "O", ""),
-    ("", "#define E", "E", ""),
-    ("", "#define hash_hash # ## #", "hash_hash", " # ## #"),
-    ("", "#define p() 1", "p", "() 1"),
+    ("#define O (1-1)", "#undef O", "O", Ok("none")),
+    ("", "#undef O", "O", Ok("none")),
+    ("#define O", "#define E", "O", Ok("")),
+    ("", "#define E", "E", Ok("")),
+    ("", "#define hash_hash # ## #", "hash_hash", Ok(" # ## #")),
+    ("", "#define p() 1", "p", Ok("() 1")),
     (
         "",
         "#define g(defined,__LINE__) # __LINE__",
         "g",
-        "(defined,__LINE__,) # __LINE__",
+        Ok("(defined,__LINE__,) # __LINE__"),
     ),
-    ("", "#define h(a)#a##a", "h", "(a,)#a##a"),
-    ("", "#define v(...) #__VA_ARGS__", "v", "(...) #__VA_ARGS__"),
+    ("", "#define h(a)#a##a", "h", Ok("(a,)#a##a")),
+    (
+        "",
+        "#define v(...) #__VA_ARGS__",
+        "v",
+        Ok("(...) #__VA_ARGS__"),
+    ),
     (
         "",
         "#define w(a,...)a##__VA_ARGS__",
         "w",
-        "(a,...)a##__VA_ARGS__",
+        Ok("(a,...)a##__VA_ARGS__"),
     ),
-    ("#define w(a,...)a##__VA_ARGS__", "#undef w", "w", "none"),
-    ("#define O 1\n#undef O", "#define O 2", "O", " 2"),
+    (
+        "#define w(a,...)a##__VA_ARGS__",
+        "#undef w",
+        "w",
+        Ok("none"),
+    ),
+    ("#define O 1\n#undef O", "#define O 2", "O", Ok(" 2")),
 ];
 
-#[test]
-fn defines_and_undefines(rt: HostRuntime) -> Result<(), Fail> {
-    for &(lines, line, name, definition) in DEFINED {
-        assert_directed(&rt, rt.alloc(), (lines, line), name, Ok(definition))?;
-    }
-    Ok(())
-}
-
-/// Two definitions of `X`: the one that is left, or the number of the fault.
-const COMPARED: &[(&str, &str, Result<&str, u8>)] = &[
+/// Two definitions of `X`, which are compared.
+const COMPARED: &[Case] = &[
     (
         "#define X (1-1)",
         "#define X (1-1) /* same */",
+        "X",
         Ok(" (1-1)"),
     ),
-    ("#define X (1-1)", "#define X ( 1-1 )", Err(16)),
-    ("#define X 1", "#define X", Err(16)),
-    ("#define X", "#define X", Ok("")),
-    ("#define X(a)x", "#define X(a) x", Ok("(a,) x")),
-    ("#define X(a) 1", "#define X(b) 1", Err(16)),
-    ("#define X(a) #a", "#define X(a) %:a", Err(16)),
-    ("#define X()", "#define X", Err(16)),
-    ("#define X(...)", "#define X()", Err(16)),
+    ("#define X (1-1)", "#define X ( 1-1 )", "X", Err(16)),
+    ("#define X 1", "#define X", "X", Err(16)),
+    ("#define X", "#define X", "X", Ok("")),
+    ("#define X(a)x", "#define X(a) x", "X", Ok("(a,) x")),
+    ("#define X(a) 1", "#define X(b) 1", "X", Err(16)),
+    ("#define X(a) #a", "#define X(a) %:a", "X", Err(16)),
+    ("#define X()", "#define X", "X", Err(16)),
+    ("#define X(...)", "#define X()", "X", Err(16)),
     (
         "#define X __LINE__",
         "#define X  __LINE__ ",
+        "X",
         Ok(" __LINE__"),
     ),
 ];
 
 #[test]
-fn compares_definitions(rt: HostRuntime) -> Result<(), Fail> {
-    for &(first, second, wanted) in COMPARED {
-        assert_directed(&rt, rt.alloc(), (first, second), "X", wanted)?;
+fn defines_compares_and_refuses(rt: HostRuntime) -> Result<(), Fail> {
+    for cases in [REFUSED, DEFINED, COMPARED] {
+        for &(lines, line, name, wanted) in cases {
+            assert_directed(&rt, rt.alloc(), (lines, line), name, wanted)?;
+        }
     }
     Ok(())
 }
