@@ -1,6 +1,5 @@
 mod callers;
 mod desks;
-mod failing;
-mod keeping;
 pub(crate) mod lists;
 mod runs;
+pub(crate) mod stage;

@@ -1,14 +1,13 @@
 // Whole runs, from the bytes of a list to the bytes of its output.
-ghost use Rattle.std.specs.Prelude.{◌≤◌};
-
 mod answers;
+mod devices;
 mod judging;
 mod lists;
 mod printing;
-mod refusing;
 mod streams;
 
-use ppserve::{Mode, RunFault, Sink, SliceFeed, VecSink, serve, serve_from, status};
+use devices::{Limits, Reader, UNLIMITED, Writer};
+use ppserve::{Feed, Mode, RunFault, Sink, serve, serve_from, status, words};
 use ppshelf::MemoryDisk;
 use pptext::{Hashing, Memory};
 use std::alloc::{AllocError, Global};
@@ -16,121 +15,179 @@ use std::process::Abort;
 use std::test::Fail;
 use std::thread::Threads;
 
-/// That what was found is the text that was wanted.
-fn assert_shown(rt: &impl Abort, found: &[u8], wanted: &str) {
-    assert!(rt; found == wanted.as_bytes(), "{found:?} for {wanted}");
+/// What stands for what in the tests' lists.
+const SPELLED: &[(&str, &str)] = &[
+    ("$when", r#""date":"Feb  9 2024","time":"08:05:03""#),
+    ("$file", r#"{"name":"a.c","text":""}"#),
+    ("$unit", r#"{"file":"a.c"}"#),
+];
+
+/// A text with all this spelled out, and the filler for each tilde.
+fn spelled(alloc: Global, text: &str, filler: &str) -> Result<String, AllocError> {
+    let mut whole = text.replace(alloc, "~", filler)?;
+    for &(short, long) in SPELLED {
+        whole = whole.replace(alloc, short, long)?;
+    }
+    Ok(whole)
 }
 
-/// So many arrays, each in the one before.
-fn arrays(alloc: Global, depth: usize) -> Result<String, AllocError> {
-    let opening = "[".repeat(alloc, depth)?;
-    let closing = "]".repeat(alloc, depth)?;
-    format!(in alloc; "{opening}{closing}")
-}
-
-/// A name of so many bytes.
-fn name_of(alloc: Global, len: usize) -> Result<String, AllocError> {
-    "n".repeat(alloc, len)
-}
-
-/// A list of one file, with this content, that its only unit is.
-fn list_of_one(alloc: Global, name: &str, content: &str) -> Result<String, AllocError> {
-    format!(in alloc;
-        "{{\"date\":\"Feb  9 2024\",\"time\":\"08:05:03\",\"files\":[{{\"name\":\"{name}\",{content}}}],\"units\":[{{\"file\":\"{name}\"}}]}}"
-    )
-}
-
-/// What a run ended with, and where it wrote.
-#[derive(Drop)]
-struct RunEnd {
-    outcome: Result<bool, RunFault>,
-    writer: VecSink,
-}
-
-/// What so many workers make of a list that holds its files, in blocks of so many units.
-fn run_list<R: Threads + AllocGlobal + Sync>(
-    rt: &R,
-    list: &str,
+/// What a run prints, how many workers make it in blocks of how many units, and what its reader and writer are held to.
+#[derive(Clone, Copy, Drop)]
+struct How {
     mode: Mode,
     workers: usize,
     block: usize,
-) -> RunEnd
-    requires workers { (1 ≤ workers) × (workers ≤ 64) }
-    requires block { (1 ≤ block) × (block ≤ 1024) }
-{
-    let mut reader = SliceFeed::new(list.as_bytes());
-    let mut writer = VecSink::new(rt.alloc());
+    reader: Limits,
+    writer: Limits,
+}
+
+/// The program's own choice, over streams that never fail.
+const BY_FOUR: How = How {
+    mode: Mode::Dump,
+    workers: 4,
+    block: 8,
+    reader: UNLIMITED,
+    writer: UNLIMITED,
+};
+
+/// What a run ended with, and what it read from and wrote to.
+#[derive(Drop)]
+struct RunEnd<'l> {
+    outcome: Result<bool, RunFault>,
+    reader: Reader<'l>,
+    writer: Writer,
+}
+
+/// What comes of a list that holds its files.
+fn run_list<'l, R: Threads + AllocGlobal + Sync>(rt: &R, list: &'l str, how: &How) -> RunEnd<'l> {
+    let mut reader = Reader::new(list.as_bytes(), how.reader);
+    let mut writer = Writer::new(rt.alloc(), how.writer);
     let outcome = serve(
         rt,
         rt.alloc(),
         &mut reader,
         &mut writer,
-        mode,
-        workers,
-        block,
+        how.mode,
+        how.workers.clamp(1, 64),
+        how.block.clamp(1, 1024),
         Hashing::fixed(),
     );
-    RunEnd { outcome, writer }
+    RunEnd {
+        outcome,
+        reader,
+        writer,
+    }
 }
 
-/// The same of a list of names, whose files stand on a disk.
-fn run_from<R: Threads + AllocGlobal + Sync>(
+/// What comes of a list of names, whose files stand on a disk.
+fn run_from<'l, R: Threads + AllocGlobal + Sync>(
     rt: &R,
-    list: &str,
+    list: &'l str,
     disk: &MemoryDisk,
-    mode: Mode,
-    workers: usize,
-    block: usize,
-) -> RunEnd
-    requires workers { (1 ≤ workers) × (workers ≤ 64) }
-    requires block { (1 ≤ block) × (block ≤ 1024) }
-{
-    let mut reader = SliceFeed::new(list.as_bytes());
-    let mut writer = VecSink::new(rt.alloc());
+    how: &How,
+) -> RunEnd<'l> {
+    let mut reader = Reader::new(list.as_bytes(), how.reader);
+    let mut writer = Writer::new(rt.alloc(), how.writer);
     let outcome = serve_from(
         rt,
         rt.alloc(),
         &mut reader,
         &mut writer,
         disk,
-        mode,
-        workers,
-        block,
+        how.mode,
+        how.workers.clamp(1, 64),
+        how.block.clamp(1, 1024),
         Hashing::fixed(),
     );
-    RunEnd { outcome, writer }
+    RunEnd {
+        outcome,
+        reader,
+        writer,
+    }
 }
+
+/// What the program says of a run.
+fn said_of(outcome: &Result<bool, RunFault>) -> &'static str {
+    match outcome {
+        Ok(_) => "",
+        Err(fault) => words(fault),
+    }
+}
+
+/// What the program says where its writer failed.
+const WRITE_FAILED: (u8, &str) = (5, "cppunits: write failed");
 
 /// Want of memory is a test's error: the run's own, before which nothing is written, or that of the writer, to which a beginning of
 /// this went out.
-fn pass_memory(rt: &impl Abort, run: &RunEnd, want: &str) -> Result<(), Fail> {
+fn pass_memory(rt: &impl Abort, run: &RunEnd, want: &[u8]) -> Result<(), Fail> {
     let went = run.writer.bytes();
-    if run.writer.failed() {
-        assert!(rt; matches!(run.outcome, Err(RunFault::Write)));
-        assert!(rt; want.as_bytes().starts_with(went), "a failed writer");
+    assert!(rt; want.starts_with(went), "{went:?}");
+    let wants_memory = matches!(run.outcome, Err(RunFault::Memory));
+    assert!(rt;
+        went.is_empty() || !wants_memory,
+        "written before want of memory"
+    );
+    if wants_memory || run.writer.wants_memory() {
         return Err(Fail::from(Memory));
     }
-    if !matches!(run.outcome, Err(RunFault::Memory)) {
-        return Ok(());
-    }
-    assert!(rt; went.is_empty(), "written before want of memory");
-    Err(Fail::from(Memory))
-}
-
-/// That a run wrote this, and that its status is 1 where the last line tells a fault, and 0 else.
-fn assert_ended(rt: &impl Abort, run: &RunEnd, want: &str, at: &str) -> Result<(), Fail> {
-    pass_memory(rt, run, want)?;
-    assert!(rt; run.writer.bytes() == want.as_bytes(), "at {at}");
-    let faulty = !(want.is_empty() || want.ends_with("ok\n"));
-    assert!(rt; status(&run.outcome) == u8::from(faulty), "status at {at}");
     Ok(())
 }
 
-/// That four workers print this of a list that holds its files.
-fn assert_prints<R: Threads + AllocGlobal + Abort + Sync>(
+/// That a run wrote this, ended by this status and with these words, that its streams failed where these say so, and that no write came after one
+/// that failed.
+fn assert_ended(
+    rt: &impl Abort,
+    run: &RunEnd,
+    want: &[u8],
+    (code, said): (u8, &str),
+) -> Result<(), Fail> {
+    pass_memory(rt, run, want)?;
+    let (found, words) = (status(&run.outcome), said_of(&run.outcome));
+    assert!(rt;
+        found == code && words == said,
+        "{found} {words} for {code} {said}"
+    );
+    assert!(rt; run.writer.bytes().len() == want.len(), "{code} {said}");
+    let failed = (run.reader.failed(), run.writer.failed());
+    let told = (
+        said == "cppunits: read failed",
+        (code, said) == WRITE_FAILED,
+    );
+    assert!(rt;
+        failed == told && run.writer.is_let_alone(),
+        "{code} {said}"
+    );
+    Ok(())
+}
+
+/// That a run of a list prints this, or so many bytes of it to a writer that fails then. It has a fault where the last line doesn't say ok.
+fn assert_printed<R: Threads + AllocGlobal + Abort + Sync>(
     rt: &R,
     list: &str,
     want: &str,
+    how: &How,
+    len: usize,
 ) -> Result<(), Fail> {
-    assert_ended(rt, &run_list(rt, list, Mode::Dump, 4, 8), want, list)
+    let want = want.as_bytes();
+    let faulty = !(want.is_empty() || want.ends_with(b"ok\n"));
+    let end = if len < want.len() {
+        WRITE_FAILED
+    } else {
+        (u8::from(faulty), "")
+    };
+    let len = len.min(want.len());
+    assert_ended(rt, &run_list(rt, list, how), &want[..len], end)
+}
+
+/// The same of texts that are yet to be spelled out.
+fn assert_prints<R: Threads + AllocGlobal + Abort + Sync>(
+    rt: &R,
+    (list, want): (&str, &str),
+    filler: &str,
+    how: &How,
+    len: usize,
+) -> Result<(), Fail> {
+    let list = spelled(rt.alloc(), list, filler)?;
+    let want = spelled(rt.alloc(), want, filler)?;
+    assert_printed(rt, list.as_str(), want.as_str(), how, len)
 }

@@ -3,7 +3,9 @@ ghost use Rattle.std.specs.Prelude.{◌≡◌, All, IfOk, length};
 ghost use Rattle.pptext.specs.declared.sources.Profile.TheVariants.{C11};
 ghost use Rattle.ppunit.specs.Unit.{IsUnitOf};
 
-use super::lists::{Changing, first_units, push_given, setting_of, shelf_of};
+use super::lists::{push_unit, setting_of, shelf_of, units_of};
+use super::runs::{OVER_ONE_HEADER, assert_one_header, changing};
+use super::stage::Stage;
 use ppshelf::{Pass, Shelf};
 use pptext::Memory;
 use ppunit::{Setting, Unit, preprocess};
@@ -14,14 +16,14 @@ use std::thread;
 use std::thread::Threads;
 
 // What a thread found: its pass, what the units gave as a text, and whether all threads that it met found the same.
-type Found<'a> = (Pass<'a, Changing>, Vec<u8>, bool);
+type Found<'a> = (Pass<'a, Stage>, Vec<u8>, bool);
 
 // Puts behind a text what a unit gives.
 fn push_one<'a>(
     alloc: Global,
-    shelf: &'a Shelf<Changing>,
-    pass: &mut Pass<'a, Changing>,
-    disk: &Changing,
+    shelf: &'a Shelf<Stage>,
+    pass: &mut Pass<'a, Stage>,
+    disk: &Stage,
     setting: &Setting,
     unit: &'a Unit,
     text: &mut Vec<u8>,
@@ -32,15 +34,15 @@ fn push_one<'a>(
     ensures { pass.new.shelf ≡ shelf.now }
 {
     let out = preprocess(alloc, shelf, pass, disk, setting, unit)?;
-    Ok(push_given(alloc, text, &out)?)
+    Ok(push_unit(alloc, text, &out)?)
 }
 
 // What units give one after the other, as a text.
 fn all_in_turn<'a>(
     alloc: Global,
-    shelf: &'a Shelf<Changing>,
-    pass: &mut Pass<'a, Changing>,
-    disk: &Changing,
+    shelf: &'a Shelf<Stage>,
+    pass: &mut Pass<'a, Stage>,
+    disk: &Stage,
     setting: &Setting,
     units: &'a [Unit],
 ) -> Result<Vec<u8>, Memory>
@@ -58,8 +60,8 @@ fn all_in_turn<'a>(
 
 fn by_one<'a>(
     alloc: Global,
-    shelf: &'a Shelf<Changing>,
-    disk: &Changing,
+    shelf: &'a Shelf<Stage>,
+    disk: &Stage,
     setting: &Setting,
     units: &'a [Unit],
 ) -> Result<Found<'a>, Memory>
@@ -72,7 +74,7 @@ fn by_one<'a>(
     Ok((pass, text, true))
 }
 
-fn together<'a>(shelf: &'a Shelf<Changing>, one: Found<'a>, two: Found<'a>) -> Found<'a>
+fn together<'a>(shelf: &'a Shelf<Stage>, one: Found<'a>, two: Found<'a>) -> Found<'a>
     requires { (one.0.shelf ≡ shelf.now) × (two.0.shelf ≡ shelf.now) }
     ensures { result.0.shelf ≡ shelf.now }
 {
@@ -86,8 +88,8 @@ fn together<'a>(shelf: &'a Shelf<Changing>, one: Found<'a>, two: Found<'a>) -> F
 fn by_two<'a, R: Threads>(
     rt: &R,
     alloc: Global,
-    shelf: &'a Shelf<Changing>,
-    disk: &Changing,
+    shelf: &'a Shelf<Stage>,
+    disk: &Stage,
     setting: &Setting,
     units: &'a [Unit],
 ) -> Result<Found<'a>, Memory>
@@ -110,8 +112,8 @@ fn by_two<'a, R: Threads>(
 fn by_four<'a, R: Threads + Sync>(
     rt: &R,
     alloc: Global,
-    shelf: &'a Shelf<Changing>,
-    disk: &Changing,
+    shelf: &'a Shelf<Stage>,
+    disk: &Stage,
     setting: &Setting,
     units: &'a [Unit],
 ) -> Result<Found<'a>, Memory>
@@ -131,37 +133,27 @@ fn by_four<'a, R: Threads + Sync>(
     Ok(together(shelf, one?, two?))
 }
 
-// That four threads find the same of the shelf's first two units, which both give what the third file reads.
+// That four threads find the same of two units, which both give what the third file reads.
 fn assert_found<R: Threads + Sync + Abort>(
     rt: &R,
     alloc: Global,
-    shelf: &Shelf<Changing>,
-    setting: &Setting,
-    units: &[Unit],
-) -> Result<(), Memory>
-    requires profile { shelf.now.profile ≡ setting.now.profile }
-    requires rows { All (IsUnitOf (length shelf.now.names) setting.now.profile) units.now }
-{
-    let disk = Changing::new();
-    let (_pass, text, same) = by_four(rt, alloc, shelf, &disk, setting, units)?;
-    assert!(rt; same && text.len() == 8 && text[0] == text[4]);
-    Ok(())
-}
-
-fn assert_found_over<R: Threads + Sync + Abort>(
-    rt: &R,
-    alloc: Global,
-    shelf: &Shelf<Changing>,
+    shelf: &Shelf<Stage>,
+    disk: &Stage,
 ) -> Result<(), Fail>
     requires { shelf.now.profile ≡ C11 }
 {
     let setting = setting_of(alloc)?;
-    let units = first_units(alloc, shelf, 2)?;
-    Ok(assert_found(rt, alloc, shelf, &setting, units.as_slice())?)
+    let units = units_of(alloc, shelf, OVER_ONE_HEADER.units)?;
+    let units = units.as_slice();
+    let (_pass, text, same) = by_four(rt, alloc, shelf, disk, &setting, units)?;
+    assert!(rt; same);
+    assert_one_header(rt, text.as_slice());
+    Ok(())
 }
 
 #[test]
 fn callers_threads_find_the_same(rt: HostRuntime) -> Result<(), Fail> {
-    let shelf = shelf_of(rt.alloc(), &["a.c", "b.c", "h.h"])?;
-    assert_found_over(&rt, rt.alloc(), &shelf)
+    let shelf = shelf_of(rt.alloc(), OVER_ONE_HEADER.names)?;
+    let disk = changing(rt.alloc())?;
+    assert_found(&rt, rt.alloc(), &shelf, &disk)
 }

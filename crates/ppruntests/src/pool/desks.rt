@@ -35,46 +35,66 @@ fn assert_claims(
     }
 }
 
-/// What two seats claim in turn of three blocks.
-const IN_TURN: &[(usize, Option<u64>)] = &[
-    (0, Some(0)),
-    (1, Some(1)),
-    (0, Some(2)),
-    (0, None),
-    (0, None),
-    (1, None),
+// Loses the last of a desk's seats, where one is to be missing.
+fn lose_one(desk: &Desk, seats: &mut Vec<DeskSeat>, missing: bool)
+    requires { All (λ s. s.desk ≡ desk.now) seats.old.items }
+    ensures { All (λ s. s.desk ≡ desk.now) seats.new.items }
+{
+    if missing {
+        let _lost = seats.pop();
+    }
+}
+
+/// So many blocks and seats, what seats claim in turn, whether one is missing then, and whether that closes the desk.
+type Claims<'c> = (u64, usize, &'c [(usize, Option<u64>)], bool, bool);
+
+const CLAIMS: &[Claims] = &[
+    (
+        3,
+        2,
+        &[
+            (0, Some(0)),
+            (1, Some(1)),
+            (0, Some(2)),
+            (0, None),
+            (0, None),
+            (1, None),
+        ],
+        false,
+        true,
+    ),
+    (0, 2, &[(0, None)], false, true),
+    (
+        3,
+        2,
+        &[
+            (1, Some(0)),
+            (1, Some(1)),
+            (1, Some(2)),
+            (1, None),
+            (0, None),
+        ],
+        true,
+        false,
+    ),
+    // a block may be left as long as no seat was told that none is
+    (2, 1, &[(0, Some(0)), (0, Some(1))], false, false),
 ];
+
+fn assert_closes(rt: &impl Abort, alloc: Global, case: Claims) -> Result<(), Fail> {
+    let (blocks, count, claims, missing, closes) = case;
+    let (desk, mut seats) = Desk::new(alloc, blocks.min(65_535), count.clamp(1, 64))?;
+    assert_claims(rt, &desk, &mut seats, claims);
+    lose_one(&desk, &mut seats, missing);
+    assert!(rt; desk.close(seats) == closes, "{blocks} blocks");
+    Ok(())
+}
 
 #[test]
 fn blocks_are_claimed_in_order(rt: HostRuntime) -> Result<(), Fail> {
-    let (desk, mut seats) = Desk::new(rt.alloc(), 3, 2)?;
-    assert_claims(&rt, &desk, &mut seats, IN_TURN);
-    assert!(rt; desk.close(seats));
-    Ok(())
-}
-
-#[test]
-fn no_blocks_are_claimed_at_once(rt: HostRuntime) -> Result<(), Fail> {
-    let (desk, mut seats) = Desk::new(rt.alloc(), 0, 2)?;
-    assert_claims(&rt, &desk, &mut seats, &[(0, None)]);
-    assert!(rt; desk.close(seats));
-    Ok(())
-}
-
-#[test]
-fn a_missing_seat_leaves_it_open(rt: HostRuntime) -> Result<(), Fail> {
-    let (desk, mut seats) = Desk::new(rt.alloc(), 3, 2)?;
-    assert!(rt; drained_last(&desk, &mut seats) == Some(3));
-    assert_claims(&rt, &desk, &mut seats, &[(0, None)]);
-    assert!(rt; !desk.close(seats));
-    Ok(())
-}
-
-#[test]
-fn blocks_that_may_be_left_leave_it_open(rt: HostRuntime) -> Result<(), Fail> {
-    let (desk, mut seats) = Desk::new(rt.alloc(), 2, 1)?;
-    assert_claims(&rt, &desk, &mut seats, &[(0, Some(0)), (0, Some(1))]);
-    assert!(rt; !desk.close(seats));
+    for &case in CLAIMS {
+        assert_closes(&rt, rt.alloc(), case)?;
+    }
     Ok(())
 }
 
@@ -94,15 +114,6 @@ fn drain(desk: &Desk, mut seat: DeskSeat) -> Drained
         count = count.saturating_add(1);
     }
     Drained { seat, count }
-}
-
-// How many blocks the last of these seats claims until none is left. It is taken out.
-fn drained_last(desk: &Desk, seats: &mut Vec<DeskSeat>) -> Option<u64>
-    requires { All (λ s. s.desk ≡ desk.now) seats.old.items }
-    ensures { All (λ s. s.desk ≡ desk.now) seats.new.items }
-{
-    let seat = seats.pop()?;
-    Some(drain(desk, seat).count)
 }
 
 // Each seat is drained by a thread.

@@ -1,82 +1,15 @@
-// Units of small files, what they give as texts, disks, and a gate that holds nobody.
+// Units of small files, and what they give as texts.
 ghost use Rattle.std.specs.Prelude.{◌≡◌, ◌≤◌, IfOk, All, length};
 ghost use Rattle.pptext.specs.declared.sources.Profile.TheVariants.{C11};
 ghost use Rattle.ppshelf.specs.Files.{most_rows};
 ghost use Rattle.ppunit.specs.Unit.{IsUnitOf};
 
-use pppool::Gate;
-use ppshelf::{Disk, File, MOST_ROWS, MemoryDisk, ReadFault, Shelf};
+use super::stage::Stage;
+use ppshelf::{MOST_ROWS, Shelf};
 use pptext::{Fault, Profile};
 use ppunit::{Definitions, Item, Setting, Text, Texts, Unit, UnitOut, fits_command};
 use std::alloc::{AllocError, Global};
-use std::sync::atomic::AtomicU64;
-use std::sync::atomic::Ordering::SeqCst;
 use std::test::Fail;
-
-/// Holds nobody.
-#[derive(Drop)]
-pub(crate) struct Open;
-
-impl Gate for Open {
-    fn enter(&self, _unit: usize) {}
-}
-
-/// A disk that reads `#include "h.h"` in all files but `h.h`, in which it reads `1` at first, then `2`, and so on.
-#[derive(Drop)]
-pub(crate) struct Changing {
-    pub reads: AtomicU64,
-}
-
-impl Disk for Changing {
-    ghost may = { λ name c. Unit {0} };
-
-    ghost gives = { λ disk name c. Unit {0} };
-
-    ghost gives_may = { λ disk name c h. tt };
-
-    fn read(&self, alloc: Global, name: &str) -> Result<Vec<u8>, ReadFault> {
-        let Ok(text) = self.text_of(alloc, name) else {
-            return Err(ReadFault::Memory);
-        };
-        let Ok(bytes) = Vec::from_slice(alloc, text.as_bytes()) else {
-            return Err(ReadFault::Memory);
-        };
-        Ok(bytes)
-    }
-}
-
-impl Changing {
-    pub(crate) fn new() -> Changing {
-        Changing {
-            reads: AtomicU64::new(1),
-        }
-    }
-
-    fn text_of(&self, alloc: Global, name: &str) -> Result<String, AllocError> {
-        if name == "h.h" {
-            let count = self.reads.fetch_add(1, SeqCst);
-            format!(in alloc; "{count}\n")
-        } else {
-            String::from_str(alloc, "#include \"h.h\"\n")
-        }
-    }
-}
-
-/// A disk of files with these names and texts.
-pub(crate) fn disk_of(alloc: Global, texts: &[(&str, &str)]) -> Result<MemoryDisk, AllocError> {
-    let mut files = Vec::new(alloc);
-    for (name, text) in texts {
-        files.push(file_of(alloc, name, text)?)?;
-    }
-    Ok(MemoryDisk { files })
-}
-
-fn file_of(alloc: Global, name: &str, text: &str) -> Result<File, AllocError> {
-    Ok(File {
-        name: String::from_str(alloc, name)?,
-        bytes: Vec::from_slice(alloc, text.as_bytes())?,
-    })
-}
 
 fn strings_of(alloc: Global, texts: &[&str]) -> Result<Vec<String>, AllocError> {
     let mut strings = Vec::new(alloc);
@@ -87,7 +20,7 @@ fn strings_of(alloc: Global, texts: &[&str]) -> Result<Vec<String>, AllocError> 
 }
 
 /// A shelf of these names.
-pub(crate) fn shelf_of<D: Disk>(alloc: Global, names: &[&str]) -> Result<Shelf<D>, Fail>
+pub(crate) fn shelf_of(alloc: Global, names: &[&str]) -> Result<Shelf<Stage>, Fail>
     ensures { IfOk result (λ s. s.profile ≡ C11) }
 {
     let names = strings_of(alloc, names)?;
@@ -97,6 +30,7 @@ pub(crate) fn shelf_of<D: Disk>(alloc: Global, names: &[&str]) -> Result<Shelf<D
     Ok(Shelf::new(alloc, names, Profile::C11)?)
 }
 
+/// A setting in which the folder `inc` is searched.
 pub(crate) fn setting_of(alloc: Global) -> Result<Setting, AllocError>
     ensures { IfOk result (λ s. s.profile ≡ C11) }
 {
@@ -104,7 +38,7 @@ pub(crate) fn setting_of(alloc: Global) -> Result<Setting, AllocError>
         profile: Profile::C11,
         date: Text::new(String::from_str(alloc, "Feb  9 2024")?),
         time: Text::new(String::from_str(alloc, "08:05:03")?),
-        search: Texts::new(Vec::new(alloc)),
+        search: Texts::new(strings_of(alloc, &["inc"])?),
         budget: None,
     })
 }
@@ -124,18 +58,24 @@ pub(crate) fn unit_of(alloc: Global, file: usize, defines: &[&str]) -> Result<Un
     })
 }
 
-/// A unit for each of the shelf's first rows.
-pub(crate) fn first_units<D: Disk>(
+/// A unit for each of these rows of the shelf and definitions.
+pub(crate) fn units_of(
     alloc: Global,
-    shelf: &Shelf<D>,
-    count: usize,
+    shelf: &Shelf<Stage>,
+    rows: &[(usize, &[&str])],
 ) -> Result<Vec<Unit>, Fail>
     ensures rows { IfOk result (λ us. All (IsUnitOf (length shelf.now.names) C11) us.items) }
     ensures few { IfOk result (λ us. length us.items ≤ most_rows) }
 {
     let mut units = Vec::new(alloc);
-    for file in 0..count.min(shelf.len()) {
-        units.push(unit_of(alloc, file, &[])?)?;
+    for &(file, defines) in rows {
+        if file >= shelf.len() {
+            return Err(Fail::new("no such file"));
+        }
+        units.push(unit_of(alloc, file, defines)?)?;
+    }
+    if units.len() > MOST_ROWS {
+        return Err(Fail::new("too many units"));
     }
     Ok(units)
 }
@@ -155,25 +95,6 @@ fn push_tokens(alloc: Global, text: &mut Vec<u8>, out: &UnitOut) -> Result<(), A
         push_token(text, item)?;
     }
     Ok(())
-}
-
-/// The tokens of a unit, each with a space behind it, and a semicolon.
-pub(crate) fn push_given(
-    alloc: Global,
-    text: &mut Vec<u8>,
-    out: &UnitOut,
-) -> Result<(), AllocError> {
-    push_tokens(alloc, text, out)?;
-    text.extend_from_slice(b"; ")
-}
-
-/// What `push_given` says of each of these units, one after the other.
-pub(crate) fn given_by(alloc: Global, outs: &[UnitOut]) -> Result<Vec<u8>, AllocError> {
-    let mut text = Vec::new(alloc);
-    for out in outs {
-        push_given(alloc, &mut text, out)?;
-    }
-    Ok(text)
 }
 
 fn push_rows(alloc: Global, text: &mut Vec<u8>, rows: &[usize]) -> Result<(), AllocError> {
@@ -198,7 +119,12 @@ fn push_end(alloc: Global, text: &mut Vec<u8>, end: Option<&Fault>) -> Result<()
     }
 }
 
-fn push_unit(alloc: Global, text: &mut Vec<u8>, out: &UnitOut) -> Result<(), AllocError> {
+/// Puts behind a text a unit's tokens, the rows that it depends on, and its end.
+pub(crate) fn push_unit(
+    alloc: Global,
+    text: &mut Vec<u8>,
+    out: &UnitOut,
+) -> Result<(), AllocError> {
     push_tokens(alloc, text, out)?;
     text.extend_from_slice(b"| ")?;
     push_rows(alloc, text, out.deps.as_slice())?;
@@ -207,7 +133,7 @@ fn push_unit(alloc: Global, text: &mut Vec<u8>, out: &UnitOut) -> Result<(), All
     text.extend_from_slice(b"; ")
 }
 
-/// The tokens of units, the rows that they depend on, and their ends: `1 x | 0 2 | ok; | 0 | 6 0:1:1 a.c; `.
+/// What `push_unit` says of each of these units, one after the other: `1 x | 0 2 | ok; | 0 | 6 0:1:1 a.c; `.
 pub(crate) fn told(alloc: Global, outs: &[UnitOut]) -> Result<Vec<u8>, AllocError> {
     let mut text = Vec::new(alloc);
     for out in outs {

@@ -1,326 +1,379 @@
-// Lists of units, run by several workers.
+// Lists of units, run by several workers, over disks that hold them, fail or change, and again after want of memory.
 ghost use Rattle.std.specs.Prelude.{◌≡◌, ◌≤◌, All, length};
 ghost use Rattle.pptext.specs.declared.sources.Profile.TheVariants.{C11};
 ghost use Rattle.ppshelf.specs.Files.{most_rows};
 ghost use Rattle.ppunit.specs.Unit.{IsUnitOf};
 
-use super::lists::{Changing, Open, disk_of, first_units, given_by, setting_of, shelf_of};
-use pppool::{Gate, run};
-use ppshelf::{Disk, MemoryDisk, ReadFault, Shelf};
+use super::lists::{setting_of, shelf_of, told, units_of};
+use super::stage::{Meeting, Stage};
+use pppool::{Keep, run, run_keeping};
+use ppshelf::{Pass, ReadFault, Shelf};
 use pptext::Memory;
 use ppunit::{Setting, Unit, UnitOut};
 use std::alloc::{AllocError, Global};
 use std::process::Abort;
-use std::sync::atomic::AtomicU64;
 use std::sync::atomic::Ordering::SeqCst;
 use std::test::Fail;
 use std::thread::Threads;
 
-/// How often a gate that holds a worker looks for another before it lets it go.
-const MOST_LOADS: u64 = 1_000_000_000;
-
-/// Seven files.
-pub(crate) const SEVEN: &[&str] = &["u0.c", "u1.c", "u2.c", "u3.c", "u4.c", "u5.c", "u6.c"];
-
-/// In each of the seven files its number.
-const SEVEN_TEXTS: &[(&str, &str)] = &[
-    ("u0.c", "0\n"),
-    ("u1.c", "1\n"),
-    ("u2.c", "2\n"),
-    ("u3.c", "3\n"),
-    ("u4.c", "4\n"),
-    ("u5.c", "5\n"),
-    ("u6.c", "6\n"),
-];
-
-// Whether a number gets to a bound in time.
-fn comes_to(number: &AtomicU64, bound: u64) -> bool {
-    for _ in 0..MOST_LOADS {
-        if number.load(SeqCst) >= bound {
-            return true;
-        }
-    }
-    false
-}
-
-// Where two wait for one another.
-#[derive(Drop)]
-struct Pair {
-    came: AtomicU64,
-    met: AtomicU64,
-}
-
-impl Pair {
-    fn new() -> Pair {
-        Pair {
-            came: AtomicU64::new(0),
-            met: AtomicU64::new(0),
-        }
-    }
-
-    fn wait(&self) {
-        let _before = self.came.fetch_add(1, SeqCst);
-        if comes_to(&self.came, 2) {
-            let _before = self.met.fetch_add(1, SeqCst);
-        }
-    }
-}
-
-// Holds the workers of units 0 and 1 until both came.
-impl Gate for Pair {
-    fn enter(&self, unit: usize) {
-        if unit <= 1 {
-            self.wait();
-        }
-    }
-}
-
-// Holds the reads of the first two files until both came.
-#[derive(Drop)]
-struct Paired {
-    files: MemoryDisk,
-    pair: Pair,
-}
-
-impl Disk for Paired {
-    ghost may = { λ name c. Unit {0} };
-
-    ghost gives = { λ disk name c. Unit {0} };
-
-    ghost gives_may = { λ disk name c h. tt };
-
-    fn read(&self, alloc: Global, name: &str) -> Result<Vec<u8>, ReadFault> {
-        if name == "u0.c" || name == "u1.c" {
-            self.pair.wait();
-        }
-        self.files.read(alloc, name)
-    }
-}
-
-// Holds the worker of unit 0 until that of unit 6 came.
-#[derive(Drop)]
-struct First {
-    last: AtomicU64,
-    met: AtomicU64,
-}
-
-impl Gate for First {
-    fn enter(&self, unit: usize) {
-        if unit == 6 {
-            self.last.store(1, SeqCst);
-        }
-        if unit == 0 && comes_to(&self.last, 1) {
-            self.met.store(1, SeqCst);
-        }
-    }
-}
-
-// What the units give, by a pass that knows nothing.
-fn run_by_new_pass<'a, R: Threads + Sync, D: Disk + Send + Sync, G: Gate + Sync>(
-    rt: &R,
-    alloc: Global,
-    shelf: &'a Shelf<D>,
-    disk: &D,
-    gate: &G,
-    setting: &Setting,
-    units: &'a [Unit],
+/// How many workers run the units, in blocks of how many, and what is kept of the answers.
+#[derive(Clone, Copy, Drop)]
+struct Crew {
     workers: usize,
     block: usize,
+    keep: Keep,
+}
+
+/// Names, what stands in files of these names, units by the rows of their names and their definitions, and what they give.
+#[derive(Clone, Copy, Drop)]
+pub(crate) struct Case<'c> {
+    pub names: &'c [&'c str],
+    pub files: &'c [(&'c str, &'c str)],
+    pub units: &'c [(usize, &'c [&'c str])],
+    pub told: &'c str,
+}
+
+// What units give. With all kept, by the call that keeps all.
+fn run_once<'a, R: Threads + Sync>(
+    rt: &R,
+    alloc: Global,
+    shelf: &'a Shelf<Stage>,
+    pass: &mut Pass<'a, Stage>,
+    disk: &Stage,
+    setting: &Setting,
+    units: &'a [Unit],
+    crew: Crew,
 ) -> Result<Vec<UnitOut<'a>>, Memory>
-    requires workers { (1 ≤ workers) × (workers ≤ 64) }
-    requires block { (1 ≤ block) × (block ≤ 1024) }
+    requires pass { pass.old.shelf ≡ shelf.now }
+    requires count { length units.now ≤ most_rows }
+    requires profile { shelf.now.profile ≡ setting.now.profile }
+    requires rows { All (IsUnitOf (length shelf.now.names) setting.now.profile) units.now }
+    ensures { pass.new.shelf ≡ shelf.now }
+{
+    let (workers, block) = (crew.workers.clamp(1, 64), crew.block.clamp(1, 1024));
+    match crew.keep {
+        Keep::Whole => run(
+            rt, alloc, shelf, pass, disk, disk, setting, units, workers, block,
+        ),
+        Keep::Bare => run_keeping(
+            rt,
+            alloc,
+            shelf,
+            pass,
+            disk,
+            disk,
+            setting,
+            units,
+            workers,
+            block,
+            Keep::Bare,
+        ),
+    }
+}
+
+// The same by a pass that knows nothing. Where memory is refused, on a disk whose reads may want memory, the run is made again over the same shelf
+// and pass.
+fn run_over<'a, R: Threads + Sync + Abort>(
+    rt: &R,
+    alloc: Global,
+    shelf: &'a Shelf<Stage>,
+    disk: &Stage,
+    setting: &Setting,
+    units: &'a [Unit],
+    crew: Crew,
+) -> Result<Vec<UnitOut<'a>>, Memory>
     requires count { length units.now ≤ most_rows }
     requires profile { shelf.now.profile ≡ setting.now.profile }
     requires rows { All (IsUnitOf (length shelf.now.names) setting.now.profile) units.now }
 {
     let mut pass = shelf.pass()?;
-    run(
-        rt, alloc, shelf, &mut pass, disk, gate, setting, units, workers, block,
-    )
+    let first = run_once(rt, alloc, shelf, &mut pass, disk, setting, units, crew);
+    if first.is_ok() || disk.fault == ReadFault::Unreadable {
+        // a run fails where one of its reads has no memory
+        assert!(rt;
+            disk.fault == ReadFault::Unreadable || disk.failing == 0,
+            "read {}",
+            disk.failing
+        );
+        return first;
+    }
+    run_once(rt, alloc, shelf, &mut pass, disk, setting, units, crew)
 }
 
 // The same as a text.
-fn given<R: Threads + Sync, D: Disk + Send + Sync, G: Gate + Sync>(
+fn told_over<R: Threads + Sync + Abort>(
     rt: &R,
     alloc: Global,
-    shelf: &Shelf<D>,
-    disk: &D,
-    gate: &G,
+    shelf: &Shelf<Stage>,
+    disk: &Stage,
     setting: &Setting,
     units: &[Unit],
-    workers: usize,
-    block: usize,
+    crew: Crew,
 ) -> Result<Vec<u8>, Memory>
-    requires workers { (1 ≤ workers) × (workers ≤ 64) }
-    requires block { (1 ≤ block) × (block ≤ 1024) }
     requires count { length units.now ≤ most_rows }
     requires profile { shelf.now.profile ≡ setting.now.profile }
     requires rows { All (IsUnitOf (length shelf.now.names) setting.now.profile) units.now }
 {
-    let outs = run_by_new_pass(rt, alloc, shelf, disk, gate, setting, units, workers, block)?;
-    Ok(given_by(alloc, outs.as_slice())?)
+    let outs = run_over(rt, alloc, shelf, disk, setting, units, crew)?;
+    Ok(told(alloc, outs.as_slice())?)
 }
 
-// What the units of the shelf's first rows give, as a text.
-fn given_by_first<R: Threads + Sync, D: Disk + Send + Sync, G: Gate + Sync>(
+// What the units of these rows and definitions give, as a text.
+fn told_by<R: Threads + Sync + Abort>(
     rt: &R,
     alloc: Global,
-    shelf: &Shelf<D>,
-    disk: &D,
-    gate: &G,
-    count: usize,
-    workers: usize,
-    block: usize,
+    shelf: &Shelf<Stage>,
+    disk: &Stage,
+    rows: &[(usize, &[&str])],
+    crew: Crew,
 ) -> Result<Vec<u8>, Fail>
-    requires workers { (1 ≤ workers) × (workers ≤ 64) }
-    requires block { (1 ≤ block) × (block ≤ 1024) }
-    requires profile { shelf.now.profile ≡ C11 }
+    requires { shelf.now.profile ≡ C11 }
 {
     let setting = setting_of(alloc)?;
-    let units = first_units(alloc, shelf, count)?;
-    Ok(given(
-        rt,
-        alloc,
-        shelf,
-        disk,
-        gate,
-        &setting,
-        units.as_slice(),
-        workers,
-        block,
-    )?)
+    let units = units_of(alloc, shelf, rows)?;
+    Ok(told_over(rt, alloc, shelf, disk, &setting, units.as_slice(), crew)?)
 }
 
-// The same over a shelf of these names.
-fn given_over<R: Threads + Sync, D: Disk + Send + Sync, G: Gate + Sync>(
+// What a case's units give over a new shelf.
+fn given<R: Threads + Sync + Abort>(
     rt: &R,
     alloc: Global,
-    names: &[&str],
-    disk: &D,
-    gate: &G,
-    count: usize,
-    workers: usize,
-    block: usize,
-) -> Result<Vec<u8>, Fail>
-    requires workers { (1 ≤ workers) × (workers ≤ 64) }
-    requires block { (1 ≤ block) × (block ≤ 1024) }
-{
-    let shelf: Shelf<D> = shelf_of(alloc, names)?;
-    given_by_first(rt, alloc, &shelf, disk, gate, count, workers, block)
+    case: &Case,
+    disk: &Stage,
+    crew: Crew,
+) -> Result<Vec<u8>, Fail> {
+    let shelf = shelf_of(alloc, case.names)?;
+    told_by(rt, alloc, &shelf, disk, case.units, crew)
 }
 
-// That the seven files give their numbers in order.
-fn assert_numbers<R: Threads + Sync + Abort, D: Disk + Send + Sync, G: Gate + Sync>(
+// That they give this.
+fn assert_gives<R: Threads + Sync + Abort>(
     rt: &R,
     alloc: Global,
-    disk: &D,
-    gate: &G,
-    workers: usize,
-    block: usize,
-) -> Result<(), Fail>
-    requires workers { (1 ≤ workers) × (workers ≤ 64) }
-    requires block { (1 ≤ block) × (block ≤ 1024) }
-{
-    let text = given_over(rt, alloc, SEVEN, disk, gate, 7, workers, block)?;
-    assert!(rt; text.as_slice() == b"0 ; 1 ; 2 ; 3 ; 4 ; 5 ; 6 ; ".as_slice());
+    case: &Case,
+    disk: &Stage,
+    crew: Crew,
+) -> Result<(), Fail> {
+    let text = given(rt, alloc, case, disk, crew)?;
+    assert!(rt;
+        text.as_slice() == case.told.as_bytes(),
+        "{:?} for {}",
+        text.as_slice(),
+        case.told
+    );
     Ok(())
 }
 
-fn assert_seven<R: Threads + Sync + Abort, G: Gate + Sync>(
-    rt: &R,
-    alloc: Global,
-    gate: &G,
-    workers: usize,
-    block: usize,
-) -> Result<(), Fail>
-    requires workers { (1 ≤ workers) × (workers ≤ 64) }
-    requires block { (1 ≤ block) × (block ≤ 1024) }
-{
-    let disk = disk_of(alloc, SEVEN_TEXTS)?;
-    assert_numbers(rt, alloc, &disk, gate, workers, block)
-}
+/// A unit for each of seven files, the last of which can't be read.
+const SEVEN: Case = Case {
+    names: &["u0.c", "u1.c", "u2.c", "u3.c", "u4.c", "u5.c", "u6.c"],
+    files: &[
+        ("u0.c", "0\n"),
+        ("u1.c", "1\n"),
+        ("u2.c", "2\n"),
+        ("u3.c", "3\n"),
+        ("u4.c", "4\n"),
+        ("u5.c", "5\n"),
+    ],
+    units: &[
+        (0, &[]),
+        (1, &[]),
+        (2, &[]),
+        (3, &[]),
+        (4, &[]),
+        (5, &[]),
+        (6, &[]),
+    ],
+    told: "0 | 0 | ok; 1 | 1 | ok; 2 | 2 | ok; 3 | 3 | ok; 4 | 4 | ok; 5 | 5 | ok; | 6 | 6 6:1:1 u6.c; ",
+};
 
-// That they do in blocks of several lengths.
-fn assert_in_blocks<R: Threads + Sync + Abort>(
-    rt: &R,
-    alloc: Global,
-    workers: usize,
-) -> Result<(), Fail>
-    requires { (1 ≤ workers) × (workers ≤ 64) }
-{
-    assert_seven(rt, alloc, &Open, workers, 1)?;
-    assert_seven(rt, alloc, &Open, workers, 3)?;
-    assert_seven(rt, alloc, &Open, workers, 1024)
-}
+/// The same where their items aren't kept.
+const BARE: &str =
+    "| 0 | ok; | 1 | ok; | 2 | ok; | 3 | ok; | 4 | ok; | 5 | ok; | 6 | 6 6:1:1 u6.c; ";
+
+/// Workers, blocks, and what is kept.
+const CREWS: &[(usize, usize, Keep)] = &[
+    (1, 1, Keep::Whole),
+    (1, 3, Keep::Whole),
+    (1, 1024, Keep::Whole),
+    (2, 1, Keep::Whole),
+    (2, 3, Keep::Whole),
+    (2, 1024, Keep::Whole),
+    (7, 1, Keep::Whole),
+    (7, 3, Keep::Whole),
+    (7, 1024, Keep::Whole),
+    (2, 3, Keep::Bare),
+];
 
 #[test]
 fn answers_come_in_the_lists_order(rt: HostRuntime) -> Result<(), Fail> {
-    assert_in_blocks(&rt, rt.alloc(), 1)?;
-    assert_in_blocks(&rt, rt.alloc(), 2)?;
-    assert_in_blocks(&rt, rt.alloc(), 7)
-}
-
-// The tests of workers that wait for one another have two runs: where a thread is refused memory the workers run in turn, and
-// do not meet.
-
-// Whether two workers work at once.
-fn work_at_once<R: Threads + Sync + Abort>(rt: &R, alloc: Global) -> Result<bool, Fail> {
-    let gate = Pair::new();
-    assert_seven(rt, alloc, &gate, 2, 1)?;
-    Ok(gate.met.load(SeqCst) == 2)
-}
-
-#[test]
-fn two_workers_work_at_once(rt: HostRuntime) -> Result<(), Fail> {
-    let met = work_at_once(&rt, rt.alloc())? || work_at_once(&rt, rt.alloc())?;
-    assert!(rt; met);
+    let disk = Stage::new(rt.alloc(), SEVEN.files)?;
+    for &(workers, block, keep) in CREWS {
+        let told = if keep == Keep::Bare { BARE } else { SEVEN.told };
+        let (case, crew) = (
+            Case { told, ..SEVEN },
+            Crew {
+                workers,
+                block,
+                keep,
+            },
+        );
+        assert_gives(&rt, rt.alloc(), &case, &disk, crew)?;
+    }
     Ok(())
 }
 
-// Whether two workers read at once.
-fn read_at_once<R: Threads + Sync + Abort>(rt: &R, alloc: Global) -> Result<bool, Fail> {
-    let disk = Paired {
-        files: disk_of(alloc, SEVEN_TEXTS)?,
-        pair: Pair::new(),
-    };
-    assert_numbers(rt, alloc, &disk, &Open, 2, 1)?;
-    Ok(disk.pair.met.load(SeqCst) == 2)
-}
+/// Two workers with blocks of one unit.
+const TWO: Crew = Crew {
+    workers: 2,
+    block: 1,
+    keep: Keep::Whole,
+};
 
-#[test]
-fn two_workers_read_at_once(rt: HostRuntime) -> Result<(), Fail> {
-    let met = read_at_once(&rt, rt.alloc())? || read_at_once(&rt, rt.alloc())?;
-    assert!(rt; met);
-    Ok(())
-}
-
-// Whether the other worker comes to the last unit while one is held at the first.
-fn goes_on_beside_a_held_one<R: Threads + Sync + Abort>(
+// Whether two workers meet there.
+fn two_meet<R: Threads + Sync + Abort>(
     rt: &R,
     alloc: Global,
+    meeting: Meeting,
 ) -> Result<bool, Fail> {
-    let gate = First {
-        last: AtomicU64::new(0),
-        met: AtomicU64::new(0),
-    };
-    assert_seven(rt, alloc, &gate, 2, 1)?;
-    Ok(gate.met.load(SeqCst) == 1)
+    let mut disk = Stage::new(alloc, SEVEN.files)?;
+    disk.meeting = meeting;
+    assert_gives(rt, alloc, &SEVEN, &disk, TWO)?;
+    Ok(disk.met.load(SeqCst) == 2)
 }
 
+// Two workers work at once, and read at once; and where one is held at the first unit the other takes all blocks up to the last one. Each
+// has two runs: where a thread is refused memory the workers run in turn, and do not meet.
 #[test]
-fn a_held_worker_leaves_the_blocks_to_the_other(rt: HostRuntime) -> Result<(), Fail> {
-    let alloc = rt.alloc();
-    let met = goes_on_beside_a_held_one(&rt, alloc)? || goes_on_beside_a_held_one(&rt, alloc)?;
-    assert!(rt; met);
+fn two_workers_meet(rt: HostRuntime) -> Result<(), Fail> {
+    for &meeting in &[Meeting::AtUnits(1), Meeting::AtReads, Meeting::AtUnits(6)] {
+        let met = two_meet(&rt, rt.alloc(), meeting)? || two_meet(&rt, rt.alloc(), meeting)?;
+        assert!(rt; met, "{meeting:?}");
+    }
     Ok(())
+}
+
+/// Two units that both give what the third file reads, at which disks change.
+pub(crate) const OVER_ONE_HEADER: Case = Case {
+    names: &["a.c", "b.c", "h.h"],
+    files: &[("a.c", "#include \"h.h\"\n"), ("b.c", "#include \"h.h\"\n")],
+    units: &[(0, &[]), (1, &[])],
+    told: "1 | 0 2 | ok; 1 | 1 2 | ok; ",
+};
+
+/// A disk for them that reads the third file in another way each time.
+pub(crate) fn changing(alloc: Global) -> Result<Stage, AllocError> {
+    let mut disk = Stage::new(alloc, OVER_ONE_HEADER.files)?;
+    disk.is_changing = true;
+    Ok(disk)
+}
+
+/// That both units give one content of the header, whichever.
+pub(crate) fn assert_one_header(rt: &impl Abort, text: &[u8]) {
+    assert!(rt;
+        text.len() == OVER_ONE_HEADER.told.len() && text[0] == text[14],
+        "{text:?}"
+    );
+    assert!(rt; text.ends_with(b" | 1 2 | ok; "), "{text:?}");
 }
 
 #[test]
 fn workers_find_one_content(rt: HostRuntime) -> Result<(), Fail> {
-    let names = ["a.c", "b.c", "h.h"];
-    let (disk, gate) = (Changing::new(), Pair::new());
-    let text = given_over(&rt, rt.alloc(), &names, &disk, &gate, 2, 2, 1)?;
-    let text = text.as_slice();
-    assert!(rt; text == b"1 ; 1 ; ".as_slice() || text == b"2 ; 2 ; ".as_slice());
+    let mut disk = changing(rt.alloc())?;
+    disk.meeting = Meeting::AtUnits(1);
+    let text = given(&rt, rt.alloc(), &OVER_ONE_HEADER, &disk, TWO)?;
+    assert_one_header(&rt, text.as_slice());
+    Ok(())
+}
+
+/// Two units of the first file, one with no definition and one with `H`.
+const TWICE: &[(usize, &[&str])] = &[(0, &[]), (0, &["H"])];
+
+const GUARDED_TOLD: &str = "int a ; | 0 1 | ok; | 0 1 | ok; ";
+
+/// A file that includes a guarded header twice.
+const GUARDED: Case = Case {
+    names: &["a.c", "h.h"],
+    files: &[
+        ("a.c", "#include \"h.h\"\n#include \"h.h\"\n"),
+        ("h.h", "#ifndef H\n#define H\nint a;\n#endif\n"),
+    ],
+    units: TWICE,
+    told: GUARDED_TOLD,
+};
+
+/// Reads that fail, the number of reads, and what the two units give. What is read once stays as it was read. A read that has no memory is made
+/// again.
+const FAILING: &[(u64, ReadFault, u64, &str)] = &[
+    (
+        1,
+        ReadFault::Unreadable,
+        1,
+        "| 0 | 6 0:1:1 a.c; | 0 | 6 0:1:1 a.c; ",
+    ),
+    (
+        2,
+        ReadFault::Unreadable,
+        2,
+        "| 0 1 | 6 0:1:1 h.h; | 0 1 | 6 0:1:1 h.h; ",
+    ),
+    (3, ReadFault::Unreadable, 2, GUARDED_TOLD),
+    (1, ReadFault::Memory, 3, GUARDED_TOLD),
+    (2, ReadFault::Memory, 3, GUARDED_TOLD),
+];
+
+#[test]
+fn a_read_fails(rt: HostRuntime) -> Result<(), Fail> {
+    let alloc = rt.alloc();
+    for &(failing, fault, reads, told) in FAILING {
+        let mut disk = Stage::new(alloc, GUARDED.files)?;
+        (disk.failing, disk.fault) = (failing, fault);
+        let crew = Crew { workers: 1, ..TWO };
+        assert_gives(&rt, alloc, &Case { told, ..GUARDED }, &disk, crew)?;
+        assert!(rt; disk.reads.load(SeqCst) == reads, "read {failing}");
+    }
+    Ok(())
+}
+
+/// Two units of one token, of an invocation that reaches behind what it is replaced by, of a guarded header, and of headers that are looked for beside
+/// a file, in the folder `inc`, and in vain.
+const AGAIN: &[Case] = &[
+    Case {
+        names: &["a.c"],
+        files: &[("a.c", "x\n")],
+        units: TWICE,
+        told: "x | 0 | ok; x | 0 | ok; ",
+    },
+    Case {
+        names: &["a.c"],
+        files: &[("a.c", "#define f(a) a*g\n#define g(a) f(a)\nf(2)(9)\n")],
+        units: TWICE,
+        told: "2 * 9 * g | 0 | ok; 2 * 9 * g | 0 | ok; ",
+    },
+    GUARDED,
+    Case {
+        names: &["src/a.c", "src/x.h", "inc/x.h"],
+        files: &[
+            (
+                "src/a.c",
+                "#include \"x.h\"\n#include <x.h>\n#include \"../inc/x.h\"\n#include <y.h>\n",
+            ),
+            ("src/x.h", "1"),
+            ("inc/x.h", "2"),
+        ],
+        units: TWICE,
+        told: "1 2 2 | 0 1 2 | 31 0:4:1 y.h; 1 2 2 | 0 1 2 | 31 0:4:1 y.h; ",
+    },
+];
+
+#[test]
+fn a_run_is_made_again_after_want_of_memory(rt: HostRuntime) -> Result<(), Fail> {
+    for case in AGAIN {
+        for workers in 1..=2 {
+            let mut disk = Stage::new(rt.alloc(), case.files)?;
+            disk.fault = ReadFault::Memory;
+            assert_gives(&rt, rt.alloc(), case, &disk, Crew { workers, ..TWO })?;
+        }
+    }
     Ok(())
 }

@@ -1,40 +1,20 @@
-// The output of units whose answers are known.
-use super::assert_shown;
-use crate::pool::lists::{setting_of, unit_of};
-use ppserve::{Contents, List, Units, deps, dump};
-use pptext::{Fault, Place, Spelling};
-use ppunit::{Items, Rows, Texts, UnitOut};
+// The output of a unit whose answer is known.
+use super::spelled;
+use ppserve::{List, ListFault, deps, dump, read_list};
+use pptext::{Fault, Hashing, Place, Spelling};
+use ppunit::{Items, Rows, UnitOut};
 use std::alloc::{AllocError, Global};
 use std::process::Abort;
 use std::test::Fail;
 
-/// Two units of the second file.
-fn two_units(alloc: Global) -> Result<Units, Fail> {
-    let mut units = Vec::new(alloc);
-    for _ in 0..2 {
-        units.push(unit_of(alloc, 1, &[])?)?;
-    }
-    Ok(Units::new(units))
-}
+const UNIT_OF_TWO: &str =
+    r#"{$when,"files":[{"name":"a b.h"},{"name":"c.c"}],"units":[{"file":"c.c"}]}"#;
 
-/// The names of two files.
-fn two_names(alloc: Global) -> Result<Texts, AllocError> {
-    let mut names = Vec::new(alloc);
-    for name in &["a b.h", "c.c"] {
-        names.push(String::from_str(alloc, name)?)?;
-    }
-    Ok(Texts::new(names))
-}
+const PRINTED: &str = "unit 0 c.c\ndep 1 c.c\ndep 0 a b.h\nfault 9 1:20:300 a%25\n";
 
-/// A list of these units of two files.
-fn list_of(alloc: Global, units: Units) -> Result<List, AllocError> {
-    let names = two_names(alloc)?;
-    Ok(List {
-        setting: setting_of(alloc)?,
-        names,
-        contents: Contents::new(Vec::new(alloc)),
-        units,
-    })
+fn list_of_unit(alloc: Global) -> Result<List, ListFault> {
+    let text = spelled(alloc, UNIT_OF_TWO, "")?;
+    read_list(alloc, text.as_bytes(), false, Hashing::fixed())
 }
 
 /// The second row and the first.
@@ -58,7 +38,7 @@ fn fault_of(alloc: Global) -> Result<Fault, AllocError> {
     })
 }
 
-/// A unit without items that depends on the second file and the first, with a fault.
+/// An answer without items that depends on the second file and the first, with a fault.
 fn out_of<'a>(alloc: Global) -> Result<UnitOut<'a>, AllocError> {
     let fault = fault_of(alloc)?;
     let deps = rows_of(alloc)?;
@@ -69,41 +49,20 @@ fn out_of<'a>(alloc: Global) -> Result<UnitOut<'a>, AllocError> {
     })
 }
 
-fn two_outs<'a>(alloc: Global) -> Result<Vec<UnitOut<'a>>, AllocError> {
-    let mut outs = Vec::new(alloc);
-    for _ in 0..2 {
-        outs.push(out_of(alloc)?)?;
-    }
-    Ok(outs)
-}
-
-const PRINTED: &str =
-    "unit 0 c.c\ndep 1 c.c\ndep 0 a b.h\nfault 9 1:20:300 a%25\nunit 1 c.c\ndep 1 c.c\ndep 0 a b.h\nfault 9 1:20:300 a%25\n";
-
-/// That this is what these answers are printed as, also without the items, since they have none.
-fn assert_printed(
-    rt: &impl Abort,
-    alloc: Global,
-    list: &List,
-    outs: &[UnitOut],
-) -> Result<(), Fail> {
+/// That this is what the answer is printed as, also without the items, since it has none.
+fn assert_printed(rt: &impl Abort, alloc: Global, list: &List, out: UnitOut) -> Result<(), Fail> {
+    let outs = [out];
     if list.units.as_slice().len() != outs.len() {
         return Err(Fail::new("units without an outcome"));
     }
-    assert_shown(rt, dump(alloc, list, outs)?.as_slice(), PRINTED);
-    assert_shown(rt, deps(alloc, list, outs)?.as_slice(), PRINTED);
+    let (dumped, told) = (dump(alloc, list, &outs)?, deps(alloc, list, &outs)?);
+    assert!(rt; dumped.as_slice() == PRINTED.as_bytes(), "{dumped:?}");
+    assert!(rt; told.as_slice() == PRINTED.as_bytes(), "{told:?}");
     Ok(())
 }
 
-/// The same of two answers.
-fn assert_two_printed(rt: &impl Abort, alloc: Global, list: &List) -> Result<(), Fail> {
-    let outs = two_outs(alloc)?;
-    assert_printed(rt, alloc, list, outs.as_slice())
-}
-
 #[test]
-fn dumps_units(rt: HostRuntime) -> Result<(), Fail> {
-    let units = two_units(rt.alloc())?;
-    let list = list_of(rt.alloc(), units)?;
-    assert_two_printed(&rt, rt.alloc(), &list)
+fn dumps_a_unit(rt: HostRuntime) -> Result<(), Fail> {
+    let list = list_of_unit(rt.alloc())?;
+    assert_printed(&rt, rt.alloc(), &list, out_of(rt.alloc())?)
 }

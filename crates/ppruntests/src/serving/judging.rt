@@ -1,17 +1,14 @@
 // How lists are judged: taken, or refused by the least number that applies.
-use super::{arrays, list_of_one, name_of};
+use super::{BY_FOUR, assert_ended, run_list, spelled};
 use ppserve::{ListFault, read_list};
 use pptext::Hashing;
 use std::alloc::{AllocError, Global};
 use std::process::Abort;
 use std::test::Fail;
-
-const FILE: &str = r#"{"name":"a.c","text":""}"#;
-
-const UNIT: &str = r#"{"file":"a.c"}"#;
+use std::thread::Threads;
 
 /// The number of the refusal of a list, with contents or with names alone, or 0.
-pub(crate) fn refusal(alloc: Global, list: &[u8], inline: bool) -> Result<u8, AllocError> {
+fn refusal(alloc: Global, list: &[u8], inline: bool) -> Result<u8, AllocError> {
     match read_list(alloc, list, inline, Hashing::fixed()) {
         Ok(_) => Ok(0),
         Err(ListFault::Bad(number)) => Ok(number),
@@ -19,321 +16,413 @@ pub(crate) fn refusal(alloc: Global, list: &[u8], inline: bool) -> Result<u8, Al
     }
 }
 
-/// A list of these files and units.
-fn list_of(alloc: Global, date: &str, files: &str, units: &str) -> Result<String, AllocError> {
-    format!(in alloc;
-        "{{\"date\":\"{date}\",\"time\":\"08:05:03\",\"files\":[{files}],\"units\":[{units}]}}"
-    )
-}
-
-/// That a list is refused by this number, or taken at 0.
-fn assert_refusal(
-    rt: &impl Abort,
-    alloc: Global,
+/// That a run of a list that is refused by this number says so, and writes nothing.
+fn assert_refused<R: Threads + AllocGlobal + Abort + Sync>(
+    rt: &R,
     list: &str,
     number: u8,
-) -> Result<(), AllocError> {
-    let found = refusal(alloc, list.as_bytes(), true)?;
+) -> Result<(), Fail> {
+    let said = format!(in rt.alloc(); "cppunits: list refused L{number}")?;
+    assert_ended(rt, &run_list(rt, list, &BY_FOUR), b"", (3, said.as_str()))
+}
+
+/// That a list is refused by this number, also by a run, or taken at 0.
+fn assert_judged<R: Threads + AllocGlobal + Abort + Sync>(
+    rt: &R,
+    list: &str,
+    number: u8,
+) -> Result<(), Fail> {
+    let found = refusal(rt.alloc(), list.as_bytes(), true)?;
     assert!(rt; found == number, "{found} in place of {number} at {list}");
+    if number > 0 {
+        assert_refused(rt, list, number)?;
+    }
     Ok(())
 }
 
-/// That a list of this date, with these files and units, is refused by this number, or taken at 0.
-fn assert_dated(
-    rt: &impl Abort,
-    alloc: Global,
-    (date, files, units): (&str, &str, &str),
-    number: u8,
-) -> Result<(), AllocError> {
-    let list = list_of(alloc, date, files, units)?;
-    assert_refusal(rt, alloc, list.as_str(), number)
-}
-
-/// The same of a date that is one.
-fn assert_judged(
-    rt: &impl Abort,
-    alloc: Global,
-    files: &str,
-    units: &str,
-    number: u8,
-) -> Result<(), AllocError> {
-    assert_dated(rt, alloc, ("Feb  9 2024", files, units), number)
-}
-
-/// That so many arrays, each in the one before, are refused by this number.
-fn assert_arrays_refused(
-    rt: &impl Abort,
-    alloc: Global,
-    depth: usize,
-    number: u8,
-) -> Result<(), AllocError> {
-    let list = arrays(alloc, depth)?;
-    assert_refusal(rt, alloc, list.as_str(), number)
-}
+/// Lists with the numbers by which they are refused, or 0.
+const JUDGED: &[(&str, u8)] = &[
+    // no JSON: nothing, a list that breaks off, a number that is too large
+    ("", 1),
+    (r#"{"date":"#, 1),
+    (r#"{$when,"files":[$file],"units":[$unit]"#, 1),
+    (r#"{"date":1e999}"#, 1),
+    // other shapes
+    ("[]", 2),
+    (r#"{$when,"files":[$file]}"#, 2),
+    (
+        r#"{"date":"Feb  9 2024","time":8,"files":[$file],"units":[$unit]}"#,
+        2,
+    ),
+    (r#"{$when,"files":$file,"units":[$unit]}"#, 2),
+    (r#"{$when,"files":[$file],"units":[$unit],"folders":[]}"#, 2),
+    (
+        r#"{$when,"files":[$file],"units":[$unit],"search":null}"#,
+        2,
+    ),
+    (r#"{$when,"files":[$file],"units":[$unit],"search":[7]}"#, 2),
+    (r#"{"profile":1,$when,"files":[$file],"units":[$unit]}"#, 2),
+    (
+        r#"{"profile":null,$when,"files":[$file],"units":[$unit]}"#,
+        2,
+    ),
+    (
+        r#"{"profile":["c11"],$when,"files":[$file],"units":[$unit]}"#,
+        2,
+    ),
+    (
+        r#"{"budget":null,$when,"files":[$file],"units":[$unit]}"#,
+        2,
+    ),
+    (
+        r#"{"budget":true,$when,"files":[$file],"units":[$unit]}"#,
+        2,
+    ),
+    (r#"{"budget":[5],$when,"files":[$file],"units":[$unit]}"#, 2),
+    // files of other shapes, and files with names alone
+    (r#"{$when,"files":[7],"units":[$unit]}"#, 2),
+    (r#"{$when,"files":[{"text":""}],"units":[$unit]}"#, 2),
+    (r#"{$when,"files":[{"name":"a.c"}],"units":[$unit]}"#, 2),
+    (
+        r#"{$when,"files":[{"name":"a.c","text":"","hex":""}],"units":[$unit]}"#,
+        2,
+    ),
+    (
+        r#"{$when,"files":[{"name":"a.c","hex":"0"}],"units":[$unit]}"#,
+        2,
+    ),
+    (
+        r#"{$when,"files":[{"name":"a.c","hex":"0A"}],"units":[$unit]}"#,
+        2,
+    ),
+    (
+        r#"{$when,"files":[{"name":"a.c","text":null}],"units":[$unit]}"#,
+        2,
+    ),
+    (
+        r#"{$when,"files":[{"name":"a.c","text":"","kind":"c"}],"units":[$unit]}"#,
+        2,
+    ),
+    (
+        r#"{$when,"files":[$file,{"name":"b.c"}],"units":[$unit]}"#,
+        2,
+    ),
+    // units of other shapes
+    (r#"{$when,"files":[$file],"units":[{}]}"#, 2),
+    (r#"{$when,"files":[$file],"units":[{"file":["a.c"]}]}"#, 2),
+    (
+        r#"{$when,"files":[$file],"units":[{"file":"a.c","define":"X"}]}"#,
+        2,
+    ),
+    (
+        r#"{$when,"files":[$file],"units":[{"file":"a.c","define":[["X"]]}]}"#,
+        2,
+    ),
+    (
+        r#"{$when,"files":[$file],"units":[{"file":"a.c","search":null}]}"#,
+        2,
+    ),
+    (
+        r#"{$when,"files":[$file],"units":[$unit,{"file":"a.c","defines":[]}]}"#,
+        2,
+    ),
+    // names in normal form, and out of it
+    (
+        r#"{$when,"files":[{"name":"a.c","text":""}],"units":[]}"#,
+        0,
+    ),
+    (
+        r#"{$when,"files":[{"name":"a/b/.c","text":""}],"units":[]}"#,
+        0,
+    ),
+    (
+        r#"{$when,"files":[{"name":"...","text":""}],"units":[]}"#,
+        0,
+    ),
+    (
+        r#"{$when,"files":[{"name":"a b","text":""}],"units":[]}"#,
+        0,
+    ),
+    (
+        "{$when,\"files\":[{\"name\":\"\u{e9}\",\"text\":\"\"}],\"units\":[]}",
+        0,
+    ),
+    (r#"{$when,"files":[{"name":"","text":""}],"units":[]}"#, 3),
+    (r#"{$when,"files":[{"name":".","text":""}],"units":[]}"#, 3),
+    (
+        r#"{$when,"files":[{"name":"/a.c","text":""}],"units":[]}"#,
+        3,
+    ),
+    (
+        r#"{$when,"files":[{"name":"a.c/","text":""}],"units":[]}"#,
+        3,
+    ),
+    (
+        r#"{$when,"files":[{"name":"a//b.c","text":""}],"units":[]}"#,
+        3,
+    ),
+    (
+        r#"{$when,"files":[{"name":"./a.c","text":""}],"units":[]}"#,
+        3,
+    ),
+    (
+        r#"{$when,"files":[{"name":"b/../a.c","text":""}],"units":[$unit]}"#,
+        3,
+    ),
+    (
+        r#"{$when,"files":[{"name":"a\u001f","text":""}],"units":[]}"#,
+        3,
+    ),
+    (
+        "{$when,\"files\":[{\"name\":\"a\u{7f}\",\"text\":\"\"}],\"units\":[]}",
+        3,
+    ),
+    // an hour of 24
+    (
+        r#"{"date":"Feb  9 2024","time":"24:00:00","files":[$file],"units":[$unit]}"#,
+        6,
+    ),
+    // what a unit asks for
+    (
+        r#"{$when,"files":[$file],"units":[{"file":"a.c","define":["A 1\n"]}]}"#,
+        7,
+    ),
+    (
+        r#"{$when,"files":[$file],"units":[{"file":"a.c","define":["A","\r"]}]}"#,
+        7,
+    ),
+    (
+        r#"{$when,"files":[$file],"units":[{"file":"a.c","search":[""]}]}"#,
+        8,
+    ),
+    (
+        r#"{$when,"files":[$file],"units":[{"file":"a.c","search":["inc","../inc"]}]}"#,
+        8,
+    ),
+    (
+        r#"{$when,"files":[$file],"units":[$unit,{"file":"a.c","search":["a/"]}]}"#,
+        8,
+    ),
+    // other profiles
+    (
+        r#"{"profile":"c23",$when,"files":[$file],"units":[$unit]}"#,
+        9,
+    ),
+    (
+        r#"{"profile":"C11",$when,"files":[$file],"units":[$unit]}"#,
+        9,
+    ),
+    (r#"{"profile":"",$when,"files":[$file],"units":[$unit]}"#, 9),
+    // other budgets
+    (r#"{"budget":-1,$when,"files":[$file],"units":[$unit]}"#, 10),
+    (
+        r#"{"budget":4294967296,$when,"files":[$file],"units":[$unit]}"#,
+        10,
+    ),
+    (
+        r#"{"budget":18446744073709551616,$when,"files":[$file],"units":[$unit]}"#,
+        10,
+    ),
+    (
+        r#"{"budget":1.5,$when,"files":[$file],"units":[$unit]}"#,
+        10,
+    ),
+    (
+        r#"{"budget":1.0,$when,"files":[$file],"units":[$unit]}"#,
+        10,
+    ),
+    (r#"{"budget":-0,$when,"files":[$file],"units":[$unit]}"#, 10),
+    (
+        r#"{"budget":1e1,$when,"files":[$file],"units":[$unit]}"#,
+        10,
+    ),
+    // of several numbers the least
+    (
+        r#"{$when,"files":[{"name":"a//c","hex":"A0"}],"units":[$unit]}"#,
+        2,
+    ),
+    (
+        r#"{"budget":"5",$when,"files":[{"name":"a//c","text":""}],"units":[$unit]}"#,
+        2,
+    ),
+    (
+        r#"{"profile":"c23","budget":"5",$when,"files":[$file],"units":[$unit]}"#,
+        2,
+    ),
+    (
+        r#"{"profile":null,$when,"files":[$file],"units":[{"file":"a.c","search":["/"]}]}"#,
+        2,
+    ),
+    (
+        r#"{$when,"files":[{"name":"a//c","text":""}],"units":[{"file":"b.c"}]}"#,
+        3,
+    ),
+    (
+        r#"{$when,"files":[$file,{"name":"b.c","text":""},$file],"units":[{"file":"c.c"}]}"#,
+        3,
+    ),
+    (r#"{$when,"files":[$file],"units":[{"file":"b.c"}]}"#, 5),
+    (
+        r#"{"date":"9 Feb","time":"08:05:03","files":[$file],"units":[{"file":"b.c"}]}"#,
+        5,
+    ),
+    (
+        r#"{$when,"files":[$file],"units":[{"file":"b.c","define":["A\n"]}]}"#,
+        5,
+    ),
+    (
+        r#"{$when,"files":[$file],"units":[{"file":"a.c","define":["A\n"]},{"file":"b.c"}]}"#,
+        5,
+    ),
+    (
+        r#"{"date":"9 Feb","time":"08:05:03","files":[$file],"units":[{"file":"a.c","define":["X\n"]}]}"#,
+        6,
+    ),
+    (
+        r#"{"budget":-1,"date":"Feb  9 2024","time":"24:00:00","files":[$file],"units":[$unit]}"#,
+        6,
+    ),
+    (
+        r#"{$when,"files":[$file],"units":[{"file":"a.c","define":["A\n"],"search":["/"]}]}"#,
+        7,
+    ),
+    (
+        r#"{"profile":"c23",$when,"files":[$file],"units":[{"file":"a.c","search":["/"]}]}"#,
+        8,
+    ),
+    (
+        r#"{"profile":"c23","budget":-1,$when,"files":[$file],"units":[$unit]}"#,
+        9,
+    ),
+    // of a member that stands twice the last is taken
+    (r#"{"date":"x",$when,"files":[$file],"units":[$unit]}"#, 0),
+];
 
 #[test]
-fn refuses_what_is_no_json(rt: HostRuntime) -> Result<(), Fail> {
-    for list in &["", "{\"date\":", "{\"date\":1e999}"] {
-        assert_refusal(&rt, rt.alloc(), list, 1)?;
-    }
+fn judges_lists(rt: HostRuntime) -> Result<(), Fail> {
     assert!(rt; refusal(rt.alloc(), b"\"\xff\"", true)? == 1);
-    assert_arrays_refused(&rt, rt.alloc(), 100, 2)?;
-    assert_arrays_refused(&rt, rt.alloc(), 200, 1)?;
+    for &(list, number) in JUDGED {
+        let list = spelled(rt.alloc(), list, "")?;
+        assert_judged(&rt, list.as_str(), number)?;
+    }
     Ok(())
 }
 
-const OTHER_SHAPES: &[&str] = &[
-    "[]",
-    r#"{"date":"Feb  9 2024","time":"08:05:03","files":[{"name":"a.c","text":""}]}"#,
-    r#"{"date":"Feb  9 2024","time":8,"files":[{"name":"a.c","text":""}],"units":[{"file":"a.c"}]}"#,
-    r#"{"date":"Feb  9 2024","time":"08:05:03","files":{"name":"a.c","text":""},"units":[{"file":"a.c"}]}"#,
-    r#"{"date":"Feb  9 2024","time":"08:05:03","files":[{"name":"a.c","text":""}],"units":[{"file":"a.c"}],"folders":[]}"#,
-    r#"{"date":"Feb  9 2024","time":"08:05:03","files":[{"name":"a.c","text":""}],"units":[{"file":"a.c"}],"search":null}"#,
-    r#"{"date":"Feb  9 2024","time":"08:05:03","files":[{"name":"a.c","text":""}],"units":[{"file":"a.c"}],"search":[7]}"#,
-    r#"{"profile":1,"date":"Feb  9 2024","time":"08:05:03","files":[{"name":"a.c","text":""}],"units":[{"file":"a.c"}]}"#,
+/// Arrays that end 100 times, and 200 times.
+const NESTED: &str =
+    "~]]]]]]]]]]]]]]]]]]]]]]]]]]]]]]]]]]]]]]]]]]]]]]]]]]]]]]]]]]]]]]]]]]]]]]]]]]]]]]]]]]]]]]]]]]]]]]]]]]]]";
+
+const NESTED_TWICE: &str = concat!(
+    "~]]]]]]]]]]]]]]]]]]]]]]]]]]]]]]]]]]]]]]]]]]]]]]]]]]]]]]]]]]]]]]]]]]]]]]]]]]]]]]]]]]]]]]]]]]]]]]]]]]]]",
+    "]]]]]]]]]]]]]]]]]]]]]]]]]]]]]]]]]]]]]]]]]]]]]]]]]]]]]]]]]]]]]]]]]]]]]]]]]]]]]]]]]]]]]]]]]]]]]]]]]]]]"
+);
+
+/// Lists where what stands for the tilde comes so often, and the numbers by which they are refused, or 0.
+type Sized<'s> = (&'s str, &'s str, usize, u8);
+
+const MANY: &[Sized] = &[
+    // so many arrays, each in the one before
+    (NESTED, "[", 100, 2),
+    (NESTED_TWICE, "[", 200, 1),
+    // a name of 1,024 bytes, and one byte more
+    (
+        r#"{$when,"files":[{"name":"~","text":""}],"units":[{"file":"~"}]}"#,
+        "n",
+        1024,
+        0,
+    ),
+    (
+        r#"{$when,"files":[{"name":"~","text":""}],"units":[{"file":"~"}]}"#,
+        "n",
+        1025,
+        3,
+    ),
+    // 65,535 units, and one more
+    (
+        r#"{$when,"files":[$file],"units":[~$unit]}"#,
+        "$unit,",
+        65_534,
+        0,
+    ),
+    (
+        r#"{$when,"files":[$file],"units":[~$unit]}"#,
+        "$unit,",
+        65_535,
+        4,
+    ),
 ];
 
-/// Files and units of other shapes.
-const OTHER_PARTS: &[(&str, &str)] = &[
-    ("7", UNIT),
-    (r#"{"text":""}"#, UNIT),
-    (r#"{"name":"a.c"}"#, UNIT),
-    (r#"{"name":"a.c","text":"","hex":""}"#, UNIT),
-    (r#"{"name":"a.c","hex":"0"}"#, UNIT),
-    (r#"{"name":"a.c","hex":"0A"}"#, UNIT),
-    (r#"{"name":"a.c","text":null}"#, UNIT),
-    (r#"{"name":"a.c","text":"","kind":"c"}"#, UNIT),
-    (r#"{"name":"a.c","text":""},{"name":"b.c"}"#, UNIT),
-    (FILE, r#"{}"#),
-    (FILE, r#"{"file":["a.c"]}"#),
-    (FILE, r#"{"file":"a.c","define":"X"}"#),
-    (FILE, r#"{"file":"a.c","define":[["X"]]}"#),
-    (FILE, r#"{"file":"a.c","search":null}"#),
-    (FILE, r#"{"file":"a.c"},{"file":"a.c","defines":[]}"#),
+const LONG: &[Sized] = &[
+    // a content of 16,777,216 bytes, and one byte more
+    (
+        r#"{$when,"files":[{"name":"a.c","text":"~"}],"units":[$unit]}"#,
+        " ",
+        16_777_216,
+        0,
+    ),
+    (
+        r#"{$when,"files":[{"name":"a.c","text":"~"}],"units":[$unit]}"#,
+        " ",
+        16_777_217,
+        4,
+    ),
+    // the lines of two definitions: 16,777,216 bytes, and one byte more
+    (
+        r#"{$when,"files":[$file],"units":[{"file":"a.c","define":["~","A B"]}]}"#,
+        "x",
+        16_777_195,
+        0,
+    ),
+    (
+        r#"{$when,"files":[$file],"units":[{"file":"a.c","define":["~","A B"]}]}"#,
+        "x",
+        16_777_196,
+        4,
+    ),
 ];
 
-#[test]
-fn refuses_shapes(rt: HostRuntime) -> Result<(), Fail> {
-    for list in OTHER_SHAPES {
-        assert_refusal(&rt, rt.alloc(), list, 2)?;
-    }
-    for &(files, units) in OTHER_PARTS {
-        assert_judged(&rt, rt.alloc(), files, units, 2)?;
-    }
-    Ok(())
-}
-
-/// That a list of one file of this name is refused by this number, or taken at 0.
-fn assert_named(rt: &impl Abort, alloc: Global, name: &str, number: u8) -> Result<(), AllocError> {
-    let list = list_of_one(alloc, name, "\"text\":\"\"")?;
-    assert_refusal(rt, alloc, list.as_str(), number)
-}
-
-const NAMES: &[(&str, u8)] = &[
-    ("a.c", 0),
-    ("a/b/.c", 0),
-    ("...", 0),
-    ("a b", 0),
-    ("\u{e9}", 0),
-    ("", 3),
-    (".", 3),
-    ("/a.c", 3),
-    ("a.c/", 3),
-    ("a//b.c", 3),
-    ("./a.c", 3),
-    ("b/../a.c", 3),
-    ("a\\u001f", 3),
-    ("a\u{7f}", 3),
-];
-
-#[test]
-fn judges_names(rt: HostRuntime) -> Result<(), Fail> {
-    for &(name, number) in NAMES {
-        assert_named(&rt, rt.alloc(), name, number)?;
+/// That these lists are judged so.
+fn assert_sized<R: Threads + AllocGlobal + Abort + Sync>(
+    rt: &R,
+    cases: &[Sized],
+) -> Result<(), Fail> {
+    for &(list, filler, times, number) in cases {
+        let filler = filler.repeat(rt.alloc(), times)?;
+        let list = spelled(rt.alloc(), list, filler.as_str())?;
+        assert_judged(rt, list.as_str(), number)?;
     }
     Ok(())
 }
 
 #[test]
-fn judges_lengths_of_names(rt: HostRuntime) -> Result<(), Fail> {
-    for &(len, number) in &[(1024, 0), (1025, 3)] {
-        let name = name_of(rt.alloc(), len)?;
-        assert_named(&rt, rt.alloc(), name.as_str(), number)?;
-    }
-    Ok(())
-}
-
-/// A list of one file with so many spaces.
-fn list_of_spaces(alloc: Global, len: usize) -> Result<String, AllocError> {
-    let content = " ".repeat(alloc, len)?;
-    let content = format!(in alloc; "\"text\":\"{content}\"")?;
-    list_of_one(alloc, "a.c", content.as_str())
+fn judges_names_units_and_depths(rt: HostRuntime) -> Result<(), Fail> {
+    assert_sized(&rt, MANY)
 }
 
 #[test]
-fn judges_lengths_of_contents(rt: HostRuntime) -> Result<(), Fail> {
-    for &(len, number) in &[(16_777_216, 0), (16_777_217, 4)] {
-        let list = list_of_spaces(rt.alloc(), len)?;
-        assert!(rt;
-            refusal(rt.alloc(), list.as_bytes(), true)? == number,
-            "{len}"
-        );
-    }
-    Ok(())
+fn judges_contents_and_definitions(rt: HostRuntime) -> Result<(), Fail> {
+    assert_sized(&rt, LONG)
 }
 
-/// So many files whose names are numbers.
-fn numbered_files(alloc: Global, count: usize) -> Result<String, AllocError> {
-    let mut files = String::from_str(alloc, r#"{"name":"0","text":""}"#)?;
+/// A list of so many files whose names are numbers, and no unit.
+fn list_of_files(alloc: Global, count: usize) -> Result<String, AllocError> {
+    let mut files = String::new(alloc);
     for file in 1..count {
-        let entry = format!(in alloc; ",{{\"name\":\"{file}\",\"text\":\"\"}}")?;
-        files.push_str(entry.as_str())?;
+        files.push_str(format!(in alloc; "{{\"name\":\"{file}\",\"text\":\"\"}},")?.as_str())?;
     }
-    Ok(files)
-}
-
-/// A list of so many files, and of so many units, one at least, of the file `0`.
-fn list_of_many(alloc: Global, files: usize, units: usize) -> Result<String, AllocError> {
-    let files = numbered_files(alloc, files)?;
-    let others = r#"{"file":"0"},"#.repeat(alloc, units.saturating_sub(1))?;
-    format!(in alloc;
-        "{{\"date\":\"Feb  9 2024\",\"time\":\"08:05:03\",\"files\":[{files}],\"units\":[{others}{{\"file\":\"0\"}}]}}"
+    spelled(
+        alloc,
+        r#"{$when,"files":[~$file],"units":[]}"#,
+        files.as_str(),
     )
 }
 
 #[test]
-fn judges_numbers_of_files_and_units(rt: HostRuntime) -> Result<(), Fail> {
-    for &(files, units, number) in &[(65_535, 65_535, 0), (65_536, 1, 4), (1, 65_536, 4)] {
-        let list = list_of_many(rt.alloc(), files, units)?;
+fn judges_numbers_of_files(rt: HostRuntime) -> Result<(), Fail> {
+    for &(count, number) in &[(65_535, 0), (65_536, 4)] {
+        let list = list_of_files(rt.alloc(), count)?;
         let found = refusal(rt.alloc(), list.as_bytes(), true)?;
-        assert!(rt; found == number, "{files} files, {units} units");
+        assert!(rt; found == number, "{count} files");
     }
-    Ok(())
-}
-
-/// A list of one unit with a definition of so many bytes and a short one.
-fn list_of_definitions(alloc: Global, len: usize) -> Result<String, AllocError> {
-    let long = "x".repeat(alloc, len)?;
-    format!(in alloc;
-        "{{\"date\":\"Feb  9 2024\",\"time\":\"08:05:03\",\"files\":[{FILE}],\"units\":[{{\"file\":\"a.c\",\"define\":[\"{long}\",\"A B\"]}}]}}"
-    )
-}
-
-#[test]
-fn judges_sizes_of_definitions(rt: HostRuntime) -> Result<(), Fail> {
-    for &(len, number) in &[(16_777_195, 0), (16_777_196, 4)] {
-        let list = list_of_definitions(rt.alloc(), len)?;
-        assert!(rt;
-            refusal(rt.alloc(), list.as_bytes(), true)? == number,
-            "{len}"
-        );
-    }
-    Ok(())
-}
-
-const ASKED: &[(&str, u8)] = &[
-    (r#"{"file":"a.c","define":["A 1\n"]}"#, 7),
-    (r#"{"file":"a.c","define":["A","\r"]}"#, 7),
-    (r#"{"file":"a.c","search":[""]}"#, 8),
-    (r#"{"file":"a.c","search":["inc","../inc"]}"#, 8),
-    (r#"{"file":"a.c"},{"file":"a.c","search":["a/"]}"#, 8),
-    (r#"{"file":"a.c","define":["A\n"],"search":["/"]}"#, 7),
-    (r#"{"file":"b.c","define":["A\n"]}"#, 5),
-    (r#"{"file":"a.c","define":["A\n"]},{"file":"b.c"}"#, 5),
-];
-
-#[test]
-fn refuses_what_a_unit_asks_for(rt: HostRuntime) -> Result<(), Fail> {
-    for &(units, number) in ASKED {
-        assert_judged(&rt, rt.alloc(), FILE, units, number)?;
-    }
-    Ok(())
-}
-
-const SEVERAL: &[(&str, &str, &str, u8)] = &[
-    ("Feb  9 2024", FILE, r#"{"file":"b.c"}"#, 5),
-    (
-        "Feb  9 2024",
-        r#"{"name":"a//c","text":""}"#,
-        r#"{"file":"b.c"}"#,
-        3,
-    ),
-    ("9 Feb", FILE, r#"{"file":"b.c"}"#, 5),
-    ("9 Feb", FILE, r#"{"file":"a.c","define":["X\n"]}"#, 6),
-    (
-        "Feb  9 2024",
-        r#"{"name":"a.c","text":""},{"name":"b.c","text":""},{"name":"a.c","text":""}"#,
-        r#"{"file":"c.c"}"#,
-        3,
-    ),
-    ("9 Feb", r#"{"name":"a//c","hex":"A0"}"#, UNIT, 2),
-];
-
-#[test]
-fn tells_the_least_number(rt: HostRuntime) -> Result<(), Fail> {
-    for &(date, files, units, number) in SEVERAL {
-        assert_dated(&rt, rt.alloc(), (date, files, units), number)?;
-    }
-    Ok(())
-}
-
-/// That a list of one file and one unit, with these members beside, whose unit searches this folder, is refused by this number.
-fn assert_refused(
-    rt: &impl Abort,
-    alloc: Global,
-    members: &str,
-    folder: &str,
-    number: u8,
-) -> Result<(), AllocError> {
-    let list = format!(in alloc;
-        "{{{members},\"date\":\"Feb  9 2024\",\"time\":\"08:05:03\",\"files\":[{FILE}],\"units\":[{{\"file\":\"a.c\",\"search\":[\"{folder}\"]}}]}}"
-    )?;
-    assert_refusal(rt, alloc, list.as_str(), number)
-}
-
-const OTHER_PROFILES: &[(&str, &str, u8)] = &[
-    (r#""profile":"c23""#, ".", 9),
-    (r#""profile":"C11""#, ".", 9),
-    (r#""profile":"""#, ".", 9),
-    (r#""profile":"c23""#, "/", 8),
-    (r#""profile":null"#, "/", 2),
-    (r#""profile":["c11"]"#, ".", 2),
-];
-
-#[test]
-fn refuses_other_profiles(rt: HostRuntime) -> Result<(), Fail> {
-    for &(members, folder, number) in OTHER_PROFILES {
-        assert_refused(&rt, rt.alloc(), members, folder, number)?;
-    }
-    Ok(())
-}
-
-const OTHER_BUDGETS: &[(&str, u8)] = &[
-    (r#""profile":"c11","budget":-1"#, 10),
-    (r#""profile":"c11","budget":4294967296"#, 10),
-    (r#""profile":"c11","budget":18446744073709551616"#, 10),
-    (r#""profile":"c11","budget":1.5"#, 10),
-    (r#""profile":"c11","budget":1.0"#, 10),
-    (r#""profile":"c11","budget":-0"#, 10),
-    (r#""profile":"c11","budget":1e1"#, 10),
-    (r#""profile":"c23","budget":-1"#, 9),
-    (r#""profile":"c23","budget":"5""#, 2),
-    (r#""profile":"c11","budget":null"#, 2),
-    (r#""profile":"c11","budget":true"#, 2),
-    (r#""profile":"c11","budget":[5]"#, 2),
-];
-
-#[test]
-fn refuses_other_budgets(rt: HostRuntime) -> Result<(), Fail> {
-    for &(members, number) in OTHER_BUDGETS {
-        assert_refused(&rt, rt.alloc(), members, ".", number)?;
-    }
-    Ok(())
-}
-
-#[test]
-fn takes_the_last_of_a_member_that_stands_twice(rt: HostRuntime) -> Result<(), Fail> {
-    let twice = "x\",\"date\":\"Feb  9 2024";
-    assert_dated(&rt, rt.alloc(), (twice, FILE, UNIT), 0)?;
     Ok(())
 }

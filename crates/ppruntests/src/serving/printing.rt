@@ -1,71 +1,143 @@
 // What is printed of lists.
-ghost use Rattle.std.specs.Prelude.{◌≤◌};
-
-use super::{assert_ended, assert_prints, list_of_one, name_of, run_from, run_list};
-use crate::pool::lists::disk_of;
+use super::{BY_FOUR, How, assert_ended, assert_prints, run_from, spelled};
+use crate::pool::stage::disk_of;
 use ppserve::Mode;
 use ppshelf::MemoryDisk;
 use std::process::Abort;
 use std::test::Fail;
 use std::thread::Threads;
 
-/// The file's `text` or `hex`, what is printed between the unit's name and its dependency, and the last line.
-fn prints<R: Threads + AllocGlobal + Abort + Sync>(
-    rt: &R,
-    content: &str,
-    items: &str,
-    last: &str,
-) -> Result<(), Fail> {
-    let list = list_of_one(rt.alloc(), "a.c", content)?;
-    let want = format!(in rt.alloc(); "unit 0 a.c\n{items}dep 0 a.c\n{last}")?;
-    assert_prints(rt, list.as_str(), want.as_str())
-}
-
-const TOKENS: &[(&str, &str)] = &[
-    (r#""text":"""#, ""),
+/// What is printed of lists of one unit, of the tokens of its file, the fault at which it ends, by the profile and within the budget.
+const PRINTED: &[(&str, &str)] = &[
+    // no file is read without units
     (
-        r#""text":"a+b/**/c\n""#,
-        "tok 0:1:1 0:1:1 i+ a\ntok 0:1:2 0:1:2 p- +\ntok 0:1:3 0:1:3 i- b\ntok 0:1:8 0:1:8 i+ c\n",
+        r#"{$when,"files":[{"name":"a.c","text":"/*"}],"units":[]}"#,
+        "",
     ),
     (
-        r#""hex":"efbbbf780d0a79""#,
-        "tok 0:1:1 0:1:1 i+ x\ntok 0:2:1 0:2:1 i+ y\n",
+        r#"{$when,"files":[$file],"units":[$unit]}"#,
+        "unit 0 a.c\ndep 0 a.c\nok\n",
     ),
-    (r#""hex":"c3a9""#, "tok 0:1:1 0:1:1 i+ %C3%A9\n"),
+    // a comment as one space
     (
-        r#""text":"a\\\nb \"/*\"//\n""#,
-        "tok 0:1:1 0:1:1 i+ ab\ntok 0:2:3 0:2:3 s+ \"/*\"\n",
+        r#"{$when,"files":[{"name":"a.c","text":"a+b/**/c\n"}],"units":[$unit]}"#,
+        "unit 0 a.c\ntok 0:1:1 0:1:1 i+ a\ntok 0:1:2 0:1:2 p- +\ntok 0:1:3 0:1:3 i- b\ntok 0:1:8 0:1:8 i+ c\ndep 0 a.c\nok\n",
+    ),
+    // a byte order mark, CR LF and no last new-line
+    (
+        r#"{$when,"files":[{"name":"a.c","hex":"efbbbf780d0a79"}],"units":[$unit]}"#,
+        "unit 0 a.c\ntok 0:1:1 0:1:1 i+ x\ntok 0:2:1 0:2:1 i+ y\ndep 0 a.c\nok\n",
+    ),
+    // bytes from 128 up
+    (
+        r#"{$when,"files":[{"name":"a.c","hex":"c3a9"}],"units":[$unit]}"#,
+        "unit 0 a.c\ntok 0:1:1 0:1:1 i+ %C3%A9\ndep 0 a.c\nok\n",
+    ),
+    // a spliced name, a comment's opening in a literal
+    (
+        r#"{$when,"files":[{"name":"a.c","text":"a\\\nb \"/*\"//\n"}],"units":[$unit]}"#,
+        "unit 0 a.c\ntok 0:1:1 0:1:1 i+ ab\ntok 0:2:3 0:2:3 s+ \"/*\"\ndep 0 a.c\nok\n",
+    ),
+    // percent signs
+    (
+        r#"{$when,"files":[{"name":"a.c","text":"a%:b\n%:\n50%\n"}],"units":[$unit]}"#,
+        concat!(
+            "unit 0 a.c\ntok 0:1:1 0:1:1 i+ a\ntok 0:1:2 0:1:2 p- %25:\ntok 0:1:4 0:1:4 i- b\n",
+            "tok 0:3:1 0:3:1 n+ 50\ntok 0:3:3 0:3:3 p- %25\ndep 0 a.c\nok\n"
+        ),
+    ),
+    // a backslash at the end of a file
+    (
+        r#"{$when,"files":[{"name":"a.c","hex":"785c"}],"units":[$unit]}"#,
+        "unit 0 a.c\ndep 0 a.c\nfault 2 0:1:2\n",
+    ),
+    // a lone quote in text, an unknown directive, and the one before the other
+    (
+        r#"{$when,"files":[{"name":"a.c","text":"x ' y\n"}],"units":[$unit]}"#,
+        "unit 0 a.c\ntok 0:1:1 0:1:1 i+ x\ndep 0 a.c\nfault 7 0:1:3 '\n",
     ),
     (
-        r#""text":"a%:b\n%:\n50%\n""#,
-        "tok 0:1:1 0:1:1 i+ a\ntok 0:1:2 0:1:2 p- %25:\ntok 0:1:4 0:1:4 i- b\ntok 0:3:1 0:3:1 n+ 50\ntok 0:3:3 0:3:3 p- %25\n",
+        r##"{$when,"files":[{"name":"a.c","text":"#foo\n"}],"units":[$unit]}"##,
+        "unit 0 a.c\ndep 0 a.c\nfault 8 0:1:1 foo\n",
+    ),
+    (
+        r##"{$when,"files":[{"name":"a.c","text":"#foo 'z\n"}],"units":[$unit]}"##,
+        "unit 0 a.c\ndep 0 a.c\nfault 7 0:1:6 '\n",
+    ),
+    // a line of `#` alone, spelled as a trigraph, and a definition of nothing
+    (
+        r##"{$when,"files":[{"name":"a.c","text":"??=\n#define\n"}],"units":[$unit]}"##,
+        "unit 0 a.c\ndep 0 a.c\nfault 9 0:2:1 define\n",
+    ),
+    // a branch of the later profile
+    (
+        r##"{"profile":"later",$when,"files":[{"name":"a.c","text":"#if 0\n#elifdef __STDC__\n1\n#endif\n"}],"units":[$unit]}"##,
+        "unit 0 a.c\ntok 0:3:1 0:3:1 n+ 1\ndep 0 a.c\nok\n",
+    ),
+    (
+        r##"{"profile":"c11",$when,"files":[{"name":"a.c","text":"#if 0\n#elifdef __STDC__\n1\n#endif\n"}],"units":[$unit]}"##,
+        "unit 0 a.c\ndep 0 a.c\nok\n",
+    ),
+    // a file that includes itself is read once by the later profile
+    (
+        r##"{"profile":"later",$when,"files":[{"name":"a.c","text":"#pragma once\nt\n#include \"a.c\"\n"}],"units":[$unit]}"##,
+        "unit 0 a.c\nprag 0:1:1\nptok 0:1:9 0:1:9 i+ once\ntok 0:2:1 0:2:1 i+ t\ndep 0 a.c\nok\n",
+    ),
+    // a call within a call takes four replacements and openings
+    (
+        r##"{"budget":5,$when,"files":[{"name":"a.c","text":"#define f(a) a*g\n#define g(a) f(a)\nf(2)(9)\n"}],"units":[$unit]}"##,
+        CALL_IN_A_CALL,
+    ),
+    (
+        r##"{"budget":4,$when,"files":[{"name":"a.c","text":"#define f(a) a*g\n#define g(a) f(a)\nf(2)(9)\n"}],"units":[$unit]}"##,
+        CALL_IN_A_CALL,
+    ),
+    (
+        r##"{"budget":3,$when,"files":[{"name":"a.c","text":"#define f(a) a*g\n#define g(a) f(a)\nf(2)(9)\n"}],"units":[$unit]}"##,
+        "unit 0 a.c\ntok 0:3:3 0:3:1 n+ 2\ntok 0:1:15 0:3:1 p- *\ndep 0 a.c\nfault 35 0:3:1\n",
+    ),
+    (
+        r##"{"budget":0,$when,"files":[{"name":"a.c","text":"#define f(a) a*g\n#define g(a) f(a)\nf(2)(9)\n"}],"units":[$unit]}"##,
+        "unit 0 a.c\nfault 35 0:1:1\n",
     ),
 ];
 
+const CALL_IN_A_CALL: &str = concat!(
+    "unit 0 a.c\ntok 0:3:3 0:3:1 n+ 2\ntok 0:1:15 0:3:1 p- *\ntok 0:3:6 0:3:1 n- 9\n",
+    "tok 0:1:15 0:3:1 p- *\ntok 0:1:16 0:3:1 i- g\ndep 0 a.c\nok\n"
+);
+
 #[test]
-fn prints_the_tokens_of_a_file(rt: HostRuntime) -> Result<(), Fail> {
-    for &(content, items) in TOKENS {
-        prints(&rt, content, items, "ok\n")?;
+fn prints_tokens_and_faults(rt: HostRuntime) -> Result<(), Fail> {
+    for &case in PRINTED {
+        assert_prints(&rt, case, "", &BY_FOUR, usize::MAX)?;
     }
     Ok(())
 }
 
-const FAULTS: &[(&str, &str, &str)] = &[
-    (r#""hex":"785c""#, "", "fault 2 0:1:2\n"),
+/// What is printed of lists where what stands for the tilde comes so often.
+const REPEATED: &[(&str, &str, &str, usize)] = &[
+    // a name of 1,024 bytes
     (
-        r#""text":"x ' y\n""#,
-        "tok 0:1:1 0:1:1 i+ x\n",
-        "fault 7 0:1:3 '\n",
+        r#"{$when,"files":[{"name":"~","text":""}],"units":[{"file":"~"}]}"#,
+        "unit 0 ~\ndep 0 ~\nok\n",
+        "n",
+        1024,
     ),
-    (r##""text":"#foo\n""##, "", "fault 8 0:1:1 foo\n"),
-    (r##""text":"#foo 'z\n""##, "", "fault 7 0:1:6 '\n"),
-    (r##""text":"??=\n#define\n""##, "", "fault 9 0:2:1 define\n"),
+    // a file that includes itself, by a profile without the pragma
+    (
+        r##"{"profile":"c11",$when,"files":[{"name":"a.c","text":"#pragma once\nt\n#include \"a.c\"\n"}],"units":[$unit]}"##,
+        "unit 0 a.c\n~dep 0 a.c\nfault 32 0:3:1 a.c\n",
+        "prag 0:1:1\nptok 0:1:9 0:1:9 i+ once\ntok 0:2:1 0:2:1 i+ t\n",
+        201,
+    ),
 ];
 
 #[test]
-fn prints_the_fault_of_a_file(rt: HostRuntime) -> Result<(), Fail> {
-    for &(content, items, last) in FAULTS {
-        prints(&rt, content, items, last)?;
+fn prints_what_is_long(rt: HostRuntime) -> Result<(), Fail> {
+    for &(list, want, filler, times) in REPEATED {
+        let filler = filler.repeat(rt.alloc(), times)?;
+        assert_prints(&rt, (list, want), filler.as_str(), &BY_FOUR, usize::MAX)?;
     }
     Ok(())
 }
@@ -105,11 +177,6 @@ unit 2 a.c
 fault 16 65535:2:1 N
 "#;
 
-#[test]
-fn prints_units_over_a_shared_header(rt: HostRuntime) -> Result<(), Fail> {
-    assert_prints(&rt, SHARED, SHARED_OUTPUT)
-}
-
 /// The same without the items.
 const SHARED_DEPS: &str = r#"unit 0 a.c
 dep 0 a.c
@@ -123,33 +190,30 @@ unit 2 a.c
 fault 16 65535:2:1 N
 "#;
 
-#[test]
-fn prints_dependencies_alone(rt: HostRuntime) -> Result<(), Fail> {
-    let run = run_list(&rt, SHARED, Mode::Deps, 4, 8);
-    assert_ended(&rt, &run, SHARED_DEPS, "dependencies alone")
-}
-
-/// That so many workers, in blocks of so many units, print the same of the shared list.
-fn assert_shared<R: Threads + AllocGlobal + Abort + Sync>(
-    rt: &R,
-    workers: usize,
-    block: usize,
-) -> Result<(), Fail>
-    requires workers { (1 ≤ workers) × (workers ≤ 64) }
-    requires block { (1 ≤ block) × (block ≤ 1024) }
-{
-    let run = run_list(rt, SHARED, Mode::Dump, workers, block);
-    assert_ended(rt, &run, SHARED_OUTPUT, "shared")
-}
+/// What is printed of the shared list by so many workers, in blocks of so many units.
+const BY_WORKERS: &[(Mode, usize, usize, &str)] = &[
+    (Mode::Dump, 1, 1, SHARED_OUTPUT),
+    (Mode::Dump, 1, 1024, SHARED_OUTPUT),
+    (Mode::Dump, 2, 1, SHARED_OUTPUT),
+    (Mode::Dump, 2, 3, SHARED_OUTPUT),
+    (Mode::Dump, 4, 8, SHARED_OUTPUT),
+    (Mode::Dump, 7, 1, SHARED_OUTPUT),
+    (Mode::Dump, 64, 2, SHARED_OUTPUT),
+    (Mode::Deps, 4, 8, SHARED_DEPS),
+];
 
 #[test]
 fn gives_the_same_by_any_workers_and_blocks(rt: HostRuntime) -> Result<(), Fail> {
-    assert_shared(&rt, 1, 1)?;
-    assert_shared(&rt, 1, 1024)?;
-    assert_shared(&rt, 2, 1)?;
-    assert_shared(&rt, 2, 3)?;
-    assert_shared(&rt, 7, 1)?;
-    assert_shared(&rt, 64, 2)
+    for &(mode, workers, block, want) in BY_WORKERS {
+        let how = How {
+            mode,
+            workers,
+            block,
+            ..BY_FOUR
+        };
+        assert_prints(&rt, (SHARED, want), "", &how, usize::MAX)?;
+    }
+    Ok(())
 }
 
 /// The same list with names alone.
@@ -169,123 +233,39 @@ const SHARED_FILES: &[(&str, &str)] = &[
     ("b.c", "#include <h.h>\nP(2)\n#error no M\nx\n"),
 ];
 
-/// That two workers print this of the shared list over a disk.
-fn assert_serves<R: Threads + AllocGlobal + Abort + Sync>(
+/// What two workers print of lists of names over a disk, which lacks the file of the last one.
+const FROM_A_DISK: &[(&str, Mode, &str)] = &[
+    (SHARED_NAMES, Mode::Dump, SHARED_OUTPUT),
+    (SHARED_NAMES, Mode::Deps, SHARED_DEPS),
+    (
+        r#"{$when,"files":[{"name":"lacking.c"}],"units":[{"file":"lacking.c"}]}"#,
+        Mode::Dump,
+        "unit 0 lacking.c\ndep 0 lacking.c\nfault 6 0:1:1 lacking.c\n",
+    ),
+];
+
+/// That this is what they print. Each of these lists has a fault.
+fn assert_served<R: Threads + AllocGlobal + Abort + Sync>(
     rt: &R,
     disk: &MemoryDisk,
-    mode: Mode,
-    want: &str,
+    (list, mode, want): (&str, Mode, &str),
 ) -> Result<(), Fail> {
-    assert_ended(
-        rt,
-        &run_from(rt, SHARED_NAMES, disk, mode, 2, 1),
-        want,
-        want,
-    )
+    let list = spelled(rt.alloc(), list, "")?;
+    let how = How {
+        mode,
+        workers: 2,
+        block: 1,
+        ..BY_FOUR
+    };
+    let run = run_from(rt, list.as_str(), disk, &how);
+    assert_ended(rt, &run, want.as_bytes(), (1, ""))
 }
 
 #[test]
 fn serves_the_files_of_a_disk(rt: HostRuntime) -> Result<(), Fail> {
     let disk = disk_of(rt.alloc(), SHARED_FILES)?;
-    assert_serves(&rt, &disk, Mode::Dump, SHARED_OUTPUT)?;
-    assert_serves(&rt, &disk, Mode::Deps, SHARED_DEPS)
-}
-
-#[test]
-fn tells_a_file_that_the_disk_lacks(rt: HostRuntime) -> Result<(), Fail> {
-    let disk = disk_of(rt.alloc(), &[])?;
-    let list =
-        r#"{"date":"Feb  9 2024","time":"08:05:03","files":[{"name":"a.c"}],"units":[{"file":"a.c"}]}"#;
-    let run = run_from(&rt, list, &disk, Mode::Dump, 4, 8);
-    let want = "unit 0 a.c\ndep 0 a.c\nfault 6 0:1:1 a.c\n";
-    assert_ended(&rt, &run, want, list)
-}
-
-#[test]
-fn prints_nothing_without_units(rt: HostRuntime) -> Result<(), Fail> {
-    let list =
-        r#"{"date":"Feb  9 2024","time":"08:05:03","files":[{"name":"a.c","text":"/*"}],"units":[]}"#;
-    assert_prints(&rt, list, "")
-}
-
-/// That a list of this profile prints this of one file with this text between the unit's name and its dependency, and then this last line.
-fn assert_by<R: Threads + AllocGlobal + Abort + Sync>(
-    rt: &R,
-    profile: &str,
-    text: &str,
-    items: &str,
-    last: &str,
-) -> Result<(), Fail> {
-    let list = format!(in rt.alloc();
-        "{{\"profile\":\"{profile}\",\"date\":\"Feb  9 2024\",\"time\":\"08:05:03\",\"files\":[{{\"name\":\"s.c\",\"text\":\"{text}\"}}],\"units\":[{{\"file\":\"s.c\"}}]}}"
-    )?;
-    let want = format!(in rt.alloc(); "unit 0 s.c\n{items}dep 0 s.c\n{last}")?;
-    assert_prints(rt, list.as_str(), want.as_str())
-}
-
-const BRANCH: &str = "#if 0\\n#elifdef __STDC__\\n1\\n#endif\\n";
-
-/// A file that includes itself, and may be read once.
-const ONCE: &str = "#pragma once\\nt\\n#include \\\"s.c\\\"\\n";
-
-/// What is printed of that file each time.
-const ITEM: &str = "prag 0:1:1\nptok 0:1:9 0:1:9 i+ once\ntok 0:2:1 0:2:1 i+ t\n";
-
-/// Profiles, files, how often the items are printed that follow, and the last line.
-const BY_PROFILES: &[(&str, &str, usize, &str, &str)] = &[
-    ("later", BRANCH, 1, "tok 0:3:1 0:3:1 n+ 1\n", "ok\n"),
-    ("c11", BRANCH, 0, "", "ok\n"),
-    ("later", ONCE, 1, ITEM, "ok\n"),
-    ("c11", ONCE, 201, ITEM, "fault 32 0:3:1 s.c\n"),
-];
-
-#[test]
-fn prints_by_the_profile(rt: HostRuntime) -> Result<(), Fail> {
-    for &(profile, text, times, item, last) in BY_PROFILES {
-        let items = item.repeat(rt.alloc(), times)?;
-        assert_by(&rt, profile, text, items.as_str(), last)?;
+    for &case in FROM_A_DISK {
+        assert_served(&rt, &disk, case)?;
     }
     Ok(())
-}
-
-/// That a list with this budget prints this of a call within a call.
-fn assert_within<R: Threads + AllocGlobal + Abort + Sync>(
-    rt: &R,
-    budget: u64,
-    want: &str,
-) -> Result<(), Fail> {
-    let list = format!(in rt.alloc();
-        "{{\"budget\":{budget},\"date\":\"Feb  9 2024\",\"time\":\"08:05:03\",\"files\":[{{\"name\":\"a.c\",\"text\":\"#define f(a) a*g\\n#define g(a) f(a)\\nf(2)(9)\\n\"}}],\"units\":[{{\"file\":\"a.c\"}}]}}"
-    )?;
-    assert_prints(rt, list.as_str(), want)
-}
-
-const WHOLE: &str =
-    "unit 0 a.c\ntok 0:3:3 0:3:1 n+ 2\ntok 0:1:15 0:3:1 p- *\ntok 0:3:6 0:3:1 n- 9\ntok 0:1:15 0:3:1 p- *\ntok 0:1:16 0:3:1 i- g\ndep 0 a.c\nok\n";
-
-/// Budgets, and what is printed within them.
-const WITHIN: &[(u64, &str)] = &[
-    (5, WHOLE),
-    (4, WHOLE),
-    (
-        3,
-        "unit 0 a.c\ntok 0:3:3 0:3:1 n+ 2\ntok 0:1:15 0:3:1 p- *\ndep 0 a.c\nfault 35 0:3:1\n",
-    ),
-    (0, "unit 0 a.c\nfault 35 0:1:1\n"),
-];
-
-#[test]
-fn prints_within_the_budget(rt: HostRuntime) -> Result<(), Fail> {
-    for &(budget, want) in WITHIN {
-        assert_within(&rt, budget, want)?;
-    }
-    Ok(())
-}
-
-#[test]
-fn prints_a_name_of_1024_bytes(rt: HostRuntime) -> Result<(), Fail> {
-    let name = name_of(rt.alloc(), 1024)?;
-    let list = list_of_one(rt.alloc(), name.as_str(), "\"text\":\"\"")?;
-    let want = format!(in rt.alloc(); "unit 0 {name}\ndep 0 {name}\nok\n")?;
-    assert_prints(&rt, list.as_str(), want.as_str())
 }

@@ -1,0 +1,117 @@
+// Where the tests' files stand: a disk and a gate that hold, fail and change as a test asks for.
+use pppool::Gate;
+use ppshelf::{Disk, File, MemoryDisk, ReadFault};
+use std::alloc::{AllocError, Global};
+use std::sync::atomic::AtomicU64;
+use std::sync::atomic::Ordering::SeqCst;
+
+/// How often who is held looks for the other before it is let go.
+const MOST_LOADS: u64 = 1_000_000_000;
+
+/// Where two workers wait for one another.
+#[derive(Clone, Copy, Debug, PartialEq, Eq)]
+pub(crate) enum Meeting {
+    Nowhere,
+    /// At the gate, before unit 0 and this one.
+    AtUnits(usize),
+    /// At the reads of `u0.c` and `u1.c`.
+    AtReads,
+}
+
+#[derive(Drop)]
+pub(crate) struct Stage {
+    pub files: MemoryDisk,
+    /// The read that fails, and how. Reads have the numbers 1, 2 and so on.
+    pub failing: u64,
+    pub fault: ReadFault,
+    pub reads: AtomicU64,
+    /// Whether `h.h` is `1` at its first read, `2` at the next, and so on.
+    pub is_changing: bool,
+    pub headers: AtomicU64,
+    pub meeting: Meeting,
+    pub came: AtomicU64,
+    pub met: AtomicU64,
+}
+
+impl Stage {
+    /// Files with these names and texts, which hold nobody, don't fail and don't change.
+    pub(crate) fn new(alloc: Global, files: &[(&str, &str)]) -> Result<Stage, AllocError> {
+        Ok(Stage {
+            files: disk_of(alloc, files)?,
+            failing: 0,
+            fault: ReadFault::Unreadable,
+            reads: AtomicU64::new(0),
+            is_changing: false,
+            headers: AtomicU64::new(0),
+            meeting: Meeting::Nowhere,
+            came: AtomicU64::new(0),
+            met: AtomicU64::new(0),
+        })
+    }
+
+    // Waits until two came, but not for ever.
+    fn wait(&self) {
+        let _before = self.came.fetch_add(1, SeqCst);
+        for _ in 0..MOST_LOADS {
+            if self.came.load(SeqCst) >= 2 {
+                let _before = self.met.fetch_add(1, SeqCst);
+                return;
+            }
+        }
+    }
+}
+
+impl Gate for Stage {
+    fn enter(&self, unit: usize) {
+        if let Meeting::AtUnits(other) = self.meeting {
+            if unit == 0 || unit == other {
+                self.wait();
+            }
+        }
+    }
+}
+
+impl Disk for Stage {
+    ghost may = { λ name c. Unit {0} };
+
+    ghost gives = { λ disk name c. Unit {0} };
+
+    ghost gives_may = { λ disk name c h. tt };
+
+    fn read(&self, alloc: Global, name: &str) -> Result<Vec<u8>, ReadFault> {
+        if self.reads.fetch_add(1, SeqCst).saturating_add(1) == self.failing {
+            return Err(self.fault);
+        }
+        if self.meeting == Meeting::AtReads && (name == "u0.c" || name == "u1.c") {
+            self.wait();
+        }
+        if self.is_changing && name == "h.h" {
+            return text_of(alloc, self.headers.fetch_add(1, SeqCst).saturating_add(1));
+        }
+        self.files.read(alloc, name)
+    }
+}
+
+// A number on a line.
+fn text_of(alloc: Global, number: u64) -> Result<Vec<u8>, ReadFault> {
+    let Ok(text) = format!(in alloc; "{number}\n") else {
+        return Err(ReadFault::Memory);
+    };
+    Ok(text.into_bytes())
+}
+
+/// A disk of files with these names and texts.
+pub(crate) fn disk_of(alloc: Global, texts: &[(&str, &str)]) -> Result<MemoryDisk, AllocError> {
+    let mut files = Vec::new(alloc);
+    for (name, text) in texts {
+        files.push(file_of(alloc, name, text)?)?;
+    }
+    Ok(MemoryDisk { files })
+}
+
+fn file_of(alloc: Global, name: &str, text: &str) -> Result<File, AllocError> {
+    Ok(File {
+        name: String::from_str(alloc, name)?,
+        bytes: Vec::from_slice(alloc, text.as_bytes())?,
+    })
+}
