@@ -4,8 +4,8 @@ ghost use Rattle.pptext.specs.declared.sources.Profile.TheVariants.{C11};
 ghost use Rattle.ppunit.specs.Unit.{IsUnitOf};
 
 use super::lists::{push_unit, setting_of, shelf_of, units_of};
-use super::runs::{OVER_ONE_HEADER, assert_one_header, changing};
-use super::stage::Stage;
+use super::runs::{OVER_ONE_HEADER, changing, is_of_one_header};
+use super::stage::{Meeting, Stage};
 use ppshelf::{Pass, Shelf};
 use pptext::Memory;
 use ppunit::{Setting, Unit, preprocess};
@@ -138,22 +138,32 @@ fn assert_found<R: Threads + Sync + Abort>(
     rt: &R,
     alloc: Global,
     shelf: &Shelf<Stage>,
-    disk: &Stage,
+    setting: &Setting,
+    units: &[Unit],
+) -> Result<(), Memory>
+    requires profile { shelf.now.profile ≡ setting.now.profile }
+    requires rows { All (IsUnitOf (length shelf.now.names) setting.now.profile) units.now }
+{
+    let disk = changing(Meeting::Nowhere);
+    let (_pass, text, same) = by_four(rt, alloc, shelf, &disk, setting, units)?;
+    assert!(rt; same && is_of_one_header(text.as_slice()));
+    Ok(())
+}
+
+fn assert_found_over<R: Threads + Sync + Abort>(
+    rt: &R,
+    alloc: Global,
+    shelf: &Shelf<Stage>,
 ) -> Result<(), Fail>
     requires { shelf.now.profile ≡ C11 }
 {
     let setting = setting_of(alloc)?;
     let units = units_of(alloc, shelf, OVER_ONE_HEADER.units)?;
-    let units = units.as_slice();
-    let (_pass, text, same) = by_four(rt, alloc, shelf, disk, &setting, units)?;
-    assert!(rt; same);
-    assert_one_header(rt, text.as_slice());
-    Ok(())
+    Ok(assert_found(rt, alloc, shelf, &setting, units.as_slice())?)
 }
 
 #[test]
 fn callers_threads_find_the_same(rt: HostRuntime) -> Result<(), Fail> {
     let shelf = shelf_of(rt.alloc(), OVER_ONE_HEADER.names)?;
-    let disk = changing(rt.alloc())?;
-    assert_found(&rt, rt.alloc(), &shelf, &disk)
+    assert_found_over(&rt, rt.alloc(), &shelf)
 }

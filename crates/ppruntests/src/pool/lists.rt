@@ -30,15 +30,16 @@ pub(crate) fn shelf_of(alloc: Global, names: &[&str]) -> Result<Shelf<Stage>, Fa
     Ok(Shelf::new(alloc, names, Profile::C11)?)
 }
 
-/// A setting in which the folder `inc` is searched.
+/// A setting in which the folder `inc` is searched. No file asks for its date and time.
 pub(crate) fn setting_of(alloc: Global) -> Result<Setting, AllocError>
     ensures { IfOk result (λ s. s.profile ≡ C11) }
 {
+    let search = strings_of(alloc, &["inc"])?;
     Ok(Setting {
         profile: Profile::C11,
-        date: Text::new(String::from_str(alloc, "Feb  9 2024")?),
-        time: Text::new(String::from_str(alloc, "08:05:03")?),
-        search: Texts::new(strings_of(alloc, &["inc"])?),
+        date: Text::new(String::new(alloc)),
+        time: Text::new(String::new(alloc)),
+        search: Texts::new(search),
         budget: None,
     })
 }
@@ -94,7 +95,7 @@ fn push_tokens(alloc: Global, text: &mut Vec<u8>, out: &UnitOut) -> Result<(), A
     for item in &out.items.to_vec(alloc)? {
         push_token(text, item)?;
     }
-    Ok(())
+    text.extend_from_slice(b"| ")
 }
 
 fn push_rows(alloc: Global, text: &mut Vec<u8>, rows: &[usize]) -> Result<(), AllocError> {
@@ -106,15 +107,16 @@ fn push_rows(alloc: Global, text: &mut Vec<u8>, rows: &[usize]) -> Result<(), Al
 
 fn push_fault(alloc: Global, text: &mut Vec<u8>, fault: &Fault) -> Result<(), AllocError> {
     let (number, at) = (fault.number, fault.at);
-    let place = format!(in alloc; "{number} {}:{}:{} ", at.file, at.line, at.col)?;
+    let place = format!(in alloc; "| {number} {}:{}:{} ", at.file, at.line, at.col)?;
     text.extend_from_slice(place.as_bytes())?;
-    text.extend_from_slice(fault.text.as_bytes())
+    text.extend_from_slice(fault.text.as_bytes())?;
+    text.extend_from_slice(b"; ")
 }
 
 // Whether a unit ends well, or the fault at which it ends.
 fn push_end(alloc: Global, text: &mut Vec<u8>, end: Option<&Fault>) -> Result<(), AllocError> {
     match end {
-        None => text.extend_from_slice(b"ok"),
+        None => text.extend_from_slice(b"| ok; "),
         Some(fault) => push_fault(alloc, text, fault),
     }
 }
@@ -126,11 +128,8 @@ pub(crate) fn push_unit(
     out: &UnitOut,
 ) -> Result<(), AllocError> {
     push_tokens(alloc, text, out)?;
-    text.extend_from_slice(b"| ")?;
     push_rows(alloc, text, out.deps.as_slice())?;
-    text.extend_from_slice(b"| ")?;
-    push_end(alloc, text, out.fault.as_ref())?;
-    text.extend_from_slice(b"; ")
+    push_end(alloc, text, out.fault.as_ref())
 }
 
 /// What `push_unit` says of each of these units, one after the other: `1 x | 0 2 | ok; | 0 | 6 0:1:1 a.c; `.

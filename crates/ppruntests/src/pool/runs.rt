@@ -10,7 +10,7 @@ use pppool::{Keep, run, run_keeping};
 use ppshelf::{Pass, ReadFault, Shelf};
 use pptext::Memory;
 use ppunit::{Setting, Unit, UnitOut};
-use std::alloc::{AllocError, Global};
+use std::alloc::Global;
 use std::process::Abort;
 use std::sync::atomic::Ordering::SeqCst;
 use std::test::Fail;
@@ -26,11 +26,11 @@ struct Crew {
 
 /// Names, what stands in files of these names, units by the rows of their names and their definitions, and what they give.
 #[derive(Clone, Copy, Drop)]
-pub(crate) struct Case<'c> {
-    pub names: &'c [&'c str],
-    pub files: &'c [(&'c str, &'c str)],
-    pub units: &'c [(usize, &'c [&'c str])],
-    pub told: &'c str,
+pub(crate) struct Case {
+    pub names: &'static [&'static str],
+    pub files: &'static [(&'static str, &'static str)],
+    pub units: &'static [(usize, &'static [&'static str])],
+    pub told: &'static str,
 }
 
 // What units give. With all kept, by the call that keeps all.
@@ -155,13 +155,13 @@ fn assert_gives<R: Threads + Sync + Abort>(
     crew: Crew,
 ) -> Result<(), Fail> {
     let text = given(rt, alloc, case, disk, crew)?;
-    assert!(rt;
-        text.as_slice() == case.told.as_bytes(),
-        "{:?} for {}",
-        text.as_slice(),
-        case.told
-    );
+    assert_shown(rt, text.as_slice(), case.told);
     Ok(())
+}
+
+// That what was found is the text that was wanted.
+fn assert_shown(rt: &impl Abort, found: &[u8], wanted: &str) {
+    assert!(rt; found == wanted.as_bytes(), "{found:?} for {wanted}");
 }
 
 /// A unit for each of seven files, the last of which can't be read.
@@ -188,37 +188,34 @@ const SEVEN: Case = Case {
 };
 
 /// The same where their items aren't kept.
-const BARE: &str =
-    "| 0 | ok; | 1 | ok; | 2 | ok; | 3 | ok; | 4 | ok; | 5 | ok; | 6 | 6 6:1:1 u6.c; ";
+const BARE: Case = Case {
+    told: "| 0 | ok; | 1 | ok; | 2 | ok; | 3 | ok; | 4 | ok; | 5 | ok; | 6 | 6 6:1:1 u6.c; ",
+    ..SEVEN
+};
 
 /// Workers, blocks, and what is kept.
-const CREWS: &[(usize, usize, Keep)] = &[
-    (1, 1, Keep::Whole),
-    (1, 3, Keep::Whole),
-    (1, 1024, Keep::Whole),
-    (2, 1, Keep::Whole),
-    (2, 3, Keep::Whole),
-    (2, 1024, Keep::Whole),
-    (7, 1, Keep::Whole),
-    (7, 3, Keep::Whole),
-    (7, 1024, Keep::Whole),
-    (2, 3, Keep::Bare),
+const CREWS: &[(usize, usize, Keep, Case)] = &[
+    (1, 1, Keep::Whole, SEVEN),
+    (1, 3, Keep::Whole, SEVEN),
+    (1, 1024, Keep::Whole, SEVEN),
+    (2, 1, Keep::Whole, SEVEN),
+    (2, 3, Keep::Whole, SEVEN),
+    (2, 1024, Keep::Whole, SEVEN),
+    (7, 1, Keep::Whole, SEVEN),
+    (7, 3, Keep::Whole, SEVEN),
+    (7, 1024, Keep::Whole, SEVEN),
+    (2, 3, Keep::Bare, BARE),
 ];
 
 #[test]
 fn answers_come_in_the_lists_order(rt: HostRuntime) -> Result<(), Fail> {
-    let disk = Stage::new(rt.alloc(), SEVEN.files)?;
-    for &(workers, block, keep) in CREWS {
-        let told = if keep == Keep::Bare { BARE } else { SEVEN.told };
-        let (case, crew) = (
-            Case { told, ..SEVEN },
-            Crew {
-                workers,
-                block,
-                keep,
-            },
-        );
-        assert_gives(&rt, rt.alloc(), &case, &disk, crew)?;
+    for &(workers, block, keep, case) in CREWS {
+        let crew = Crew {
+            workers,
+            block,
+            keep,
+        };
+        assert_gives(&rt, rt.alloc(), &case, &Stage::new(case.files), crew)?;
     }
     Ok(())
 }
@@ -236,7 +233,7 @@ fn two_meet<R: Threads + Sync + Abort>(
     alloc: Global,
     meeting: Meeting,
 ) -> Result<bool, Fail> {
-    let mut disk = Stage::new(alloc, SEVEN.files)?;
+    let mut disk = Stage::new(SEVEN.files);
     disk.meeting = meeting;
     assert_gives(rt, alloc, &SEVEN, &disk, TWO)?;
     Ok(disk.met.load(SeqCst) == 2)
@@ -262,27 +259,23 @@ pub(crate) const OVER_ONE_HEADER: Case = Case {
 };
 
 /// A disk for them that reads the third file in another way each time.
-pub(crate) fn changing(alloc: Global) -> Result<Stage, AllocError> {
-    let mut disk = Stage::new(alloc, OVER_ONE_HEADER.files)?;
+pub(crate) fn changing(meeting: Meeting) -> Stage {
+    let mut disk = Stage::new(OVER_ONE_HEADER.files);
     disk.is_changing = true;
-    Ok(disk)
+    disk.meeting = meeting;
+    disk
 }
 
-/// That both units give one content of the header, whichever.
-pub(crate) fn assert_one_header(rt: &impl Abort, text: &[u8]) {
-    assert!(rt;
-        text.len() == OVER_ONE_HEADER.told.len() && text[0] == text[14],
-        "{text:?}"
-    );
-    assert!(rt; text.ends_with(b" | 1 2 | ok; "), "{text:?}");
+/// Whether both units give one content of the header, whichever.
+pub(crate) fn is_of_one_header(text: &[u8]) -> bool {
+    text.len() == 28 && text[0] == text[14]
 }
 
 #[test]
 fn workers_find_one_content(rt: HostRuntime) -> Result<(), Fail> {
-    let mut disk = changing(rt.alloc())?;
-    disk.meeting = Meeting::AtUnits(1);
+    let disk = changing(Meeting::AtUnits(1));
     let text = given(&rt, rt.alloc(), &OVER_ONE_HEADER, &disk, TWO)?;
-    assert_one_header(&rt, text.as_slice());
+    assert!(rt; is_of_one_header(text.as_slice()));
     Ok(())
 }
 
@@ -326,7 +319,7 @@ const FAILING: &[(u64, ReadFault, u64, &str)] = &[
 fn a_read_fails(rt: HostRuntime) -> Result<(), Fail> {
     let alloc = rt.alloc();
     for &(failing, fault, reads, told) in FAILING {
-        let mut disk = Stage::new(alloc, GUARDED.files)?;
+        let mut disk = Stage::new(GUARDED.files);
         (disk.failing, disk.fault) = (failing, fault);
         let crew = Crew { workers: 1, ..TWO };
         assert_gives(&rt, alloc, &Case { told, ..GUARDED }, &disk, crew)?;
@@ -370,7 +363,7 @@ const AGAIN: &[Case] = &[
 fn a_run_is_made_again_after_want_of_memory(rt: HostRuntime) -> Result<(), Fail> {
     for case in AGAIN {
         for workers in 1..=2 {
-            let mut disk = Stage::new(rt.alloc(), case.files)?;
+            let mut disk = Stage::new(case.files);
             disk.fault = ReadFault::Memory;
             assert_gives(&rt, rt.alloc(), case, &disk, Crew { workers, ..TWO })?;
         }

@@ -1,7 +1,7 @@
 // Where the tests' files stand: a disk and a gate that hold, fail and change as a test asks for.
 use pppool::Gate;
-use ppshelf::{Disk, File, MemoryDisk, ReadFault};
-use std::alloc::{AllocError, Global};
+use ppshelf::{Disk, ReadFault};
+use std::alloc::Global;
 use std::sync::atomic::AtomicU64;
 use std::sync::atomic::Ordering::SeqCst;
 
@@ -20,7 +20,7 @@ pub(crate) enum Meeting {
 
 #[derive(Drop)]
 pub(crate) struct Stage {
-    pub files: MemoryDisk,
+    pub files: &'static [(&'static str, &'static str)],
     /// The read that fails, and how. Reads have the numbers 1, 2 and so on.
     pub failing: u64,
     pub fault: ReadFault,
@@ -35,9 +35,9 @@ pub(crate) struct Stage {
 
 impl Stage {
     /// Files with these names and texts, which hold nobody, don't fail and don't change.
-    pub(crate) fn new(alloc: Global, files: &[(&str, &str)]) -> Result<Stage, AllocError> {
-        Ok(Stage {
-            files: disk_of(alloc, files)?,
+    pub(crate) fn new(files: &'static [(&'static str, &'static str)]) -> Stage {
+        Stage {
+            files,
             failing: 0,
             fault: ReadFault::Unreadable,
             reads: AtomicU64::new(0),
@@ -46,7 +46,17 @@ impl Stage {
             meeting: Meeting::Nowhere,
             came: AtomicU64::new(0),
             met: AtomicU64::new(0),
-        })
+        }
+    }
+
+    // What stands in a file.
+    fn text_of(&self, alloc: Global, wanted: &str) -> Result<Vec<u8>, ReadFault> {
+        for &(name, text) in self.files {
+            if name == wanted {
+                return copied(alloc, text);
+            }
+        }
+        Err(ReadFault::Unreadable)
     }
 
     // Waits until two came, but not for ever.
@@ -86,32 +96,23 @@ impl Disk for Stage {
             self.wait();
         }
         if self.is_changing && name == "h.h" {
-            return text_of(alloc, self.headers.fetch_add(1, SeqCst).saturating_add(1));
+            return numbered(alloc, self.headers.fetch_add(1, SeqCst).saturating_add(1));
         }
-        self.files.read(alloc, name)
+        self.text_of(alloc, name)
     }
 }
 
 // A number on a line.
-fn text_of(alloc: Global, number: u64) -> Result<Vec<u8>, ReadFault> {
+fn numbered(alloc: Global, number: u64) -> Result<Vec<u8>, ReadFault> {
     let Ok(text) = format!(in alloc; "{number}\n") else {
         return Err(ReadFault::Memory);
     };
     Ok(text.into_bytes())
 }
 
-/// A disk of files with these names and texts.
-pub(crate) fn disk_of(alloc: Global, texts: &[(&str, &str)]) -> Result<MemoryDisk, AllocError> {
-    let mut files = Vec::new(alloc);
-    for (name, text) in texts {
-        files.push(file_of(alloc, name, text)?)?;
-    }
-    Ok(MemoryDisk { files })
-}
-
-fn file_of(alloc: Global, name: &str, text: &str) -> Result<File, AllocError> {
-    Ok(File {
-        name: String::from_str(alloc, name)?,
-        bytes: Vec::from_slice(alloc, text.as_bytes())?,
-    })
+fn copied(alloc: Global, text: &str) -> Result<Vec<u8>, ReadFault> {
+    let Ok(bytes) = Vec::from_slice(alloc, text.as_bytes()) else {
+        return Err(ReadFault::Memory);
+    };
+    Ok(bytes)
 }

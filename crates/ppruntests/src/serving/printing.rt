@@ -1,8 +1,8 @@
 // What is printed of lists.
 use super::{BY_FOUR, How, assert_ended, assert_prints, run_from, spelled};
-use crate::pool::stage::disk_of;
 use ppserve::Mode;
-use ppshelf::MemoryDisk;
+use ppshelf::{File, MemoryDisk};
+use std::alloc::{AllocError, Global};
 use std::process::Abort;
 use std::test::Fail;
 use std::thread::Threads;
@@ -232,6 +232,22 @@ const SHARED_FILES: &[(&str, &str)] = &[
     ),
     ("b.c", "#include <h.h>\nP(2)\n#error no M\nx\n"),
 ];
+
+/// A disk of files with these names and texts.
+fn disk_of(alloc: Global, texts: &[(&str, &str)]) -> Result<MemoryDisk, AllocError> {
+    let mut files = Vec::new(alloc);
+    for (name, text) in texts {
+        files.push(file_of(alloc, name, text)?)?;
+    }
+    Ok(MemoryDisk { files })
+}
+
+fn file_of(alloc: Global, name: &str, text: &str) -> Result<File, AllocError> {
+    Ok(File {
+        name: String::from_str(alloc, name)?,
+        bytes: Vec::from_slice(alloc, text.as_bytes())?,
+    })
+}
 
 /// What two workers print of lists of names over a disk, which lacks the file of the last one.
 const FROM_A_DISK: &[(&str, Mode, &str)] = &[
