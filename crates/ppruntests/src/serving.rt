@@ -32,7 +32,7 @@ fn spelled(alloc: Global, text: &str, filler: &str) -> Result<String, AllocError
 }
 
 /// What a run prints, how many workers make it in blocks of how many units, and what its reader and writer are held to.
-#[derive(Clone, Copy, Drop)]
+#[derive(Clone, Copy)]
 struct How {
     mode: Mode,
     workers: usize,
@@ -117,46 +117,35 @@ fn said_of(outcome: &Result<bool, RunFault>) -> &'static str {
 /// What the program says where its writer failed.
 const WRITE_FAILED: (u8, &str) = (5, "cppunits: write failed");
 
-/// Want of memory is a test's error: the run's own, before which nothing is written, or that of the writer, to which a beginning of
-/// this went out.
-fn pass_memory(rt: &impl Abort, run: &RunEnd, want: &[u8]) -> Result<(), Fail> {
-    let went = run.writer.bytes();
-    assert!(rt; want.starts_with(went), "{went:?}");
-    let wants_memory = matches!(run.outcome, Err(RunFault::Memory));
-    assert!(rt;
-        went.is_empty() || !wants_memory,
-        "written before want of memory"
-    );
-    if wants_memory || run.writer.wants_memory() {
-        return Err(Fail::from(Memory));
-    }
-    Ok(())
+/// Whether a run wants memory, or its writer does.
+fn wants_memory(run: &RunEnd) -> bool {
+    matches!(run.outcome, Err(RunFault::Memory)) || run.writer.wants_memory()
 }
 
-/// That a run wrote this, ended by this status and with these words, that its streams failed where these say so, and that no write came after one
-/// that failed.
-fn assert_ended(
-    rt: &impl Abort,
-    run: &RunEnd,
-    want: &[u8],
-    (code, said): (u8, &str),
-) -> Result<(), Fail> {
-    pass_memory(rt, run, want)?;
-    let (found, words) = (status(&run.outcome), said_of(&run.outcome));
-    assert!(rt;
-        found == code && words == said,
-        "{found} {words} for {code} {said}"
-    );
-    assert!(rt; run.writer.bytes().len() == want.len(), "{code} {said}");
-    let failed = (run.reader.failed(), run.writer.failed());
-    let told = (
-        said == "cppunits: read failed",
-        (code, said) == WRITE_FAILED,
-    );
-    assert!(rt;
-        failed == told && run.writer.is_let_alone(),
-        "{code} {said}"
-    );
+/// Whether a run wrote a beginning of this, and nothing where memory was wanting before.
+fn writes_beginning(run: &RunEnd, want: &[u8]) -> bool {
+    let went = run.writer.bytes();
+    want.starts_with(went) && (went.is_empty() || !matches!(run.outcome, Err(RunFault::Memory)))
+}
+
+/// Whether a run ended by this status and with these words, its streams failed where these say so, and no write came after one that failed.
+fn ends_so(run: &RunEnd, (code, said): (u8, &str)) -> bool {
+    status(&run.outcome) == code
+        && said_of(&run.outcome) == said
+        && run.reader.failed() == (said == "cppunits: read failed")
+        && run.writer.failed() == (said == "cppunits: write failed")
+        && run.writer.is_let_alone()
+}
+
+/// That a run wrote this, and ended so. Want of memory is a test's error, before which a beginning went out.
+fn assert_ended(rt: &impl Abort, run: &RunEnd, want: &[u8], end: (u8, &str)) -> Result<(), Fail> {
+    let begins = writes_beginning(run, want);
+    if begins && wants_memory(run) {
+        return Err(Fail::from(Memory));
+    }
+    let went = run.writer.bytes();
+    let ends = begins && went.len() == want.len() && ends_so(run, end);
+    assert!(rt; ends, "{went:?} for {want:?}, {}", end.1);
     Ok(())
 }
 

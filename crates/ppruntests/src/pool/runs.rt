@@ -5,7 +5,7 @@ ghost use Rattle.ppshelf.specs.Files.{most_rows};
 ghost use Rattle.ppunit.specs.Unit.{IsUnitOf};
 
 use super::lists::{setting_of, shelf_of, told, units_of};
-use super::stage::{Meeting, Stage};
+use super::stage::{Meeting, Scene, Stage};
 use pppool::{Keep, run, run_keeping};
 use ppshelf::{Pass, ReadFault, Shelf};
 use pptext::Memory;
@@ -17,18 +17,18 @@ use std::test::Fail;
 use std::thread::Threads;
 
 /// How many workers run the units, in blocks of how many, and what is kept of the answers.
-#[derive(Clone, Copy, Drop)]
+#[derive(Clone, Copy)]
 struct Crew {
     workers: usize,
     block: usize,
     keep: Keep,
 }
 
-/// Names, what stands in files of these names, units by the rows of their names and their definitions, and what they give.
-#[derive(Clone, Copy, Drop)]
+/// Names, the scene that has files of these names, units by the rows of their names and their definitions, and what they give.
+#[derive(Clone, Copy)]
 pub(crate) struct Case {
     pub names: &'static [&'static str],
-    pub files: &'static [(&'static str, &'static str)],
+    pub scene: Scene,
     pub units: &'static [(usize, &'static [&'static str])],
     pub told: &'static str,
 }
@@ -167,14 +167,7 @@ fn assert_shown(rt: &impl Abort, found: &[u8], wanted: &str) {
 /// A unit for each of seven files, the last of which can't be read.
 const SEVEN: Case = Case {
     names: &["u0.c", "u1.c", "u2.c", "u3.c", "u4.c", "u5.c", "u6.c"],
-    files: &[
-        ("u0.c", "0\n"),
-        ("u1.c", "1\n"),
-        ("u2.c", "2\n"),
-        ("u3.c", "3\n"),
-        ("u4.c", "4\n"),
-        ("u5.c", "5\n"),
-    ],
+    scene: Scene::Seven,
     units: &[
         (0, &[]),
         (1, &[]),
@@ -215,7 +208,7 @@ fn answers_come_in_the_lists_order(rt: HostRuntime) -> Result<(), Fail> {
             block,
             keep,
         };
-        assert_gives(&rt, rt.alloc(), &case, &Stage::new(case.files), crew)?;
+        assert_gives(&rt, rt.alloc(), &case, &Stage::new(case.scene), crew)?;
     }
     Ok(())
 }
@@ -233,19 +226,25 @@ fn two_meet<R: Threads + Sync + Abort>(
     alloc: Global,
     meeting: Meeting,
 ) -> Result<bool, Fail> {
-    let mut disk = Stage::new(SEVEN.files);
+    let mut disk = Stage::new(SEVEN.scene);
     disk.meeting = meeting;
     assert_gives(rt, alloc, &SEVEN, &disk, TWO)?;
     Ok(disk.met.load(SeqCst) == 2)
 }
 
-// Two workers work at once, and read at once; and where one is held at the first unit the other takes all blocks up to the last one. Each
-// has two runs: where a thread is refused memory the workers run in turn, and do not meet.
+/// Two workers work at once, and read at once; and where one is held at the first unit the other takes all blocks up to the last one.
+const MEETINGS: &[(&str, Meeting)] = &[
+    ("work at once", Meeting::AtUnits(1)),
+    ("read at once", Meeting::AtReads),
+    ("take what the other leaves", Meeting::AtUnits(6)),
+];
+
+// Each has two runs: where a thread is refused memory the workers run in turn, and do not meet.
 #[test]
 fn two_workers_meet(rt: HostRuntime) -> Result<(), Fail> {
-    for &meeting in &[Meeting::AtUnits(1), Meeting::AtReads, Meeting::AtUnits(6)] {
+    for &(what, meeting) in MEETINGS {
         let met = two_meet(&rt, rt.alloc(), meeting)? || two_meet(&rt, rt.alloc(), meeting)?;
-        assert!(rt; met, "{meeting:?}");
+        assert!(rt; met, "{what}");
     }
     Ok(())
 }
@@ -253,14 +252,14 @@ fn two_workers_meet(rt: HostRuntime) -> Result<(), Fail> {
 /// Two units that both give what the third file reads, at which disks change.
 pub(crate) const OVER_ONE_HEADER: Case = Case {
     names: &["a.c", "b.c", "h.h"],
-    files: &[("a.c", "#include \"h.h\"\n"), ("b.c", "#include \"h.h\"\n")],
+    scene: Scene::OneHeader,
     units: &[(0, &[]), (1, &[])],
     told: "1 | 0 2 | ok; 1 | 1 2 | ok; ",
 };
 
 /// A disk for them that reads the third file in another way each time.
 pub(crate) fn changing(meeting: Meeting) -> Stage {
-    let mut disk = Stage::new(OVER_ONE_HEADER.files);
+    let mut disk = Stage::new(OVER_ONE_HEADER.scene);
     disk.is_changing = true;
     disk.meeting = meeting;
     disk
@@ -287,10 +286,7 @@ const GUARDED_TOLD: &str = "int a ; | 0 1 | ok; | 0 1 | ok; ";
 /// A file that includes a guarded header twice.
 const GUARDED: Case = Case {
     names: &["a.c", "h.h"],
-    files: &[
-        ("a.c", "#include \"h.h\"\n#include \"h.h\"\n"),
-        ("h.h", "#ifndef H\n#define H\nint a;\n#endif\n"),
-    ],
+    scene: Scene::Guarded,
     units: TWICE,
     told: GUARDED_TOLD,
 };
@@ -319,7 +315,7 @@ const FAILING: &[(u64, ReadFault, u64, &str)] = &[
 fn a_read_fails(rt: HostRuntime) -> Result<(), Fail> {
     let alloc = rt.alloc();
     for &(failing, fault, reads, told) in FAILING {
-        let mut disk = Stage::new(GUARDED.files);
+        let mut disk = Stage::new(GUARDED.scene);
         (disk.failing, disk.fault) = (failing, fault);
         let crew = Crew { workers: 1, ..TWO };
         assert_gives(&rt, alloc, &Case { told, ..GUARDED }, &disk, crew)?;
@@ -333,27 +329,20 @@ fn a_read_fails(rt: HostRuntime) -> Result<(), Fail> {
 const AGAIN: &[Case] = &[
     Case {
         names: &["a.c"],
-        files: &[("a.c", "x\n")],
+        scene: Scene::OneToken,
         units: TWICE,
         told: "x | 0 | ok; x | 0 | ok; ",
     },
     Case {
         names: &["a.c"],
-        files: &[("a.c", "#define f(a) a*g\n#define g(a) f(a)\nf(2)(9)\n")],
+        scene: Scene::Invocation,
         units: TWICE,
         told: "2 * 9 * g | 0 | ok; 2 * 9 * g | 0 | ok; ",
     },
     GUARDED,
     Case {
         names: &["src/a.c", "src/x.h", "inc/x.h"],
-        files: &[
-            (
-                "src/a.c",
-                "#include \"x.h\"\n#include <x.h>\n#include \"../inc/x.h\"\n#include <y.h>\n",
-            ),
-            ("src/x.h", "1"),
-            ("inc/x.h", "2"),
-        ],
+        scene: Scene::Searched,
         units: TWICE,
         told: "1 2 2 | 0 1 2 | 31 0:4:1 y.h; 1 2 2 | 0 1 2 | 31 0:4:1 y.h; ",
     },
@@ -363,7 +352,7 @@ const AGAIN: &[Case] = &[
 fn a_run_is_made_again_after_want_of_memory(rt: HostRuntime) -> Result<(), Fail> {
     for case in AGAIN {
         for workers in 1..=2 {
-            let mut disk = Stage::new(case.files);
+            let mut disk = Stage::new(case.scene);
             disk.fault = ReadFault::Memory;
             assert_gives(&rt, rt.alloc(), case, &disk, Crew { workers, ..TWO })?;
         }

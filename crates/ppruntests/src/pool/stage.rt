@@ -9,7 +9,7 @@ use std::sync::atomic::Ordering::SeqCst;
 const MOST_LOADS: u64 = 1_000_000_000;
 
 /// Where two workers wait for one another.
-#[derive(Clone, Copy, Debug, PartialEq, Eq)]
+#[derive(Clone, Copy)]
 pub(crate) enum Meeting {
     Nowhere,
     /// At the gate, before unit 0 and this one.
@@ -18,9 +18,67 @@ pub(crate) enum Meeting {
     AtReads,
 }
 
+/// The files of a stage.
+#[derive(Clone, Copy)]
+pub(crate) enum Scene {
+    /// Six files of one number, and no seventh.
+    Seven,
+    /// Two files that include a third one, which changes.
+    OneHeader,
+    /// A file that includes a guarded header twice.
+    Guarded,
+    /// A file of one token.
+    OneToken,
+    /// An invocation that reaches behind what it is replaced by.
+    Invocation,
+    /// Headers that are looked for beside a file, in the folder `inc`, and in vain.
+    Searched,
+}
+
+/// Their names and texts.
+fn files_of(scene: Scene) -> &'static [(&'static str, &'static str)] {
+    match scene {
+        Scene::Seven => SEVEN,
+        Scene::OneHeader => ONE_HEADER,
+        Scene::Guarded => GUARDED,
+        Scene::OneToken => ONE_TOKEN,
+        Scene::Invocation => INVOCATION,
+        Scene::Searched => SEARCHED,
+    }
+}
+
+const SEVEN: &[(&str, &str)] = &[
+    ("u0.c", "0\n"),
+    ("u1.c", "1\n"),
+    ("u2.c", "2\n"),
+    ("u3.c", "3\n"),
+    ("u4.c", "4\n"),
+    ("u5.c", "5\n"),
+];
+
+const ONE_HEADER: &[(&str, &str)] = &[("a.c", "#include \"h.h\"\n"), ("b.c", "#include \"h.h\"\n")];
+
+const GUARDED: &[(&str, &str)] = &[
+    ("a.c", "#include \"h.h\"\n#include \"h.h\"\n"),
+    ("h.h", "#ifndef H\n#define H\nint a;\n#endif\n"),
+];
+
+const ONE_TOKEN: &[(&str, &str)] = &[("a.c", "x\n")];
+
+const INVOCATION: &[(&str, &str)] = &[("a.c", "#define f(a) a*g\n#define g(a) f(a)\nf(2)(9)\n")];
+
+const SEARCHED: &[(&str, &str)] = &[
+    (
+        "src/a.c",
+        "#include \"x.h\"\n#include <x.h>\n#include \"../inc/x.h\"\n#include <y.h>\n",
+    ),
+    ("src/x.h", "1"),
+    ("inc/x.h", "2"),
+];
+
 #[derive(Drop)]
 pub(crate) struct Stage {
-    pub files: &'static [(&'static str, &'static str)],
+    pub scene: Scene,
     /// The read that fails, and how. Reads have the numbers 1, 2 and so on.
     pub failing: u64,
     pub fault: ReadFault,
@@ -34,10 +92,10 @@ pub(crate) struct Stage {
 }
 
 impl Stage {
-    /// Files with these names and texts, which hold nobody, don't fail and don't change.
-    pub(crate) fn new(files: &'static [(&'static str, &'static str)]) -> Stage {
+    /// The files of a scene, which hold nobody, don't fail and don't change.
+    pub(crate) fn new(scene: Scene) -> Stage {
         Stage {
-            files,
+            scene,
             failing: 0,
             fault: ReadFault::Unreadable,
             reads: AtomicU64::new(0),
@@ -51,7 +109,7 @@ impl Stage {
 
     // What stands in a file.
     fn text_of(&self, alloc: Global, wanted: &str) -> Result<Vec<u8>, ReadFault> {
-        for &(name, text) in self.files {
+        for &(name, text) in files_of(self.scene) {
             if name == wanted {
                 return copied(alloc, text);
             }
@@ -92,7 +150,7 @@ impl Disk for Stage {
         if self.reads.fetch_add(1, SeqCst).saturating_add(1) == self.failing {
             return Err(self.fault);
         }
-        if self.meeting == Meeting::AtReads && (name == "u0.c" || name == "u1.c") {
+        if matches!(self.meeting, Meeting::AtReads) && (name == "u0.c" || name == "u1.c") {
             self.wait();
         }
         if self.is_changing && name == "h.h" {

@@ -55,9 +55,8 @@ fn assert_printed(rt: &impl Abort, alloc: Global, list: &List, out: UnitOut) -> 
     if list.units.as_slice().len() != outs.len() {
         return Err(Fail::new("units without an outcome"));
     }
-    let (dumped, told) = (dump(alloc, list, &outs)?, deps(alloc, list, &outs)?);
-    assert!(rt; dumped.as_slice() == PRINTED.as_bytes(), "{dumped:?}");
-    assert!(rt; told.as_slice() == PRINTED.as_bytes(), "{told:?}");
+    assert!(rt; dump(alloc, list, &outs)?.as_slice() == PRINTED.as_bytes());
+    assert!(rt; deps(alloc, list, &outs)?.as_slice() == PRINTED.as_bytes());
     Ok(())
 }
 

@@ -5,7 +5,7 @@ use ppserve::{Failed, Feed, Sink, SliceFeed, VecSink};
 use std::alloc::Global;
 
 /// The most bytes that go through a stream at a call, and the call at which it fails. Calls have the numbers 1, 2 and so on.
-#[derive(Clone, Copy, Drop)]
+#[derive(Clone, Copy)]
 pub(crate) struct Limits {
     pub most: usize,
     pub fails_at: usize,

@@ -36,15 +36,20 @@ fn shown(alloc: Global, list: &List) -> Result<String, AllocError> {
     Ok(text)
 }
 
-/// That a list, with contents or with names alone, is read as this.
+/// What is read of a list, with contents or with names alone, as a text.
+fn read(alloc: Global, text: &str, inline: bool) -> Result<String, ListFault> {
+    let list = read_list(alloc, text.as_bytes(), inline, Hashing::fixed())?;
+    Ok(shown(alloc, &list)?)
+}
+
+/// That this is read of it.
 fn assert_read(
     rt: &impl Abort,
     alloc: Global,
     (inline, text, wanted): (bool, &str, &str),
 ) -> Result<(), ListFault> {
     let text = spelled(alloc, text, "")?;
-    let list = read_list(alloc, text.as_bytes(), inline, Hashing::fixed())?;
-    let found = shown(alloc, &list)?;
+    let found = read(alloc, text.as_str(), inline)?;
     assert!(rt; found.as_str() == wanted, "{found} for {wanted}");
     Ok(())
 }
