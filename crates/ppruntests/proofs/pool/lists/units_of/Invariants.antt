@@ -4,4 +4,4 @@ use Rattle.ppunit.specs.Unit.{IsUnitOf}
 use Rattle.ppruntests.proofs.pool.lists.units_of.Given as goal
 
 abbrev pub invariant-loop-file : goal.invariant-loop-file
-invariant-loop-file g l = All (IsUnitOf (length l.shelf.names) C11) l.units.items
+invariant-loop-file l = All (IsUnitOf (length l.shelf.names) C11) l.units.items
