@@ -1,5 +1,5 @@
 -- How the arguments of an invocation are expanded one after the other.
-use Rattle.std.proofs.Common.{◌≡◌, ℕ, zero, suc, ◌+◌, ◌<◌, ◌≤◌, Bool, true, false, ◌||◌, List, [], ◌∷◌, map, drop, Option, Some, None, Ok, Err, Vec}
+use Rattle.std.proofs.Common.{MatchOption, ◌≡◌, ℕ, zero, suc, ◌+◌, ◌<◌, ◌≤◌, Bool, true, false, ◌||◌, List, [], ◌∷◌, map, drop, Option, Some, None, Ok, Err, Vec}
 use Rattle.std.proofs.Common.{Global, is_some, true≢false, refl, sym, ap, ◌∙◌, subst, get_or, length, add-one, arith}
 use Rattle.std.proofs.lemmas.List.{get_or_default}
 use Rattle.pptext.specs.declared.tokens.Token.{Token}
@@ -40,6 +40,14 @@ raised_some None h = absurd (true≢false (sym h))
 pub raised_none : (o : Option Fault) → is_some o ≡ false → o ≡ None
 raised_none None h = refl
 raised_none (Some f) h = absurd (true≢false h)
+
+pub raised_not : {X : Type 0} (o : Option Fault) (f : Fault) → o ≡ Some f → o ≡ None → X
+raised_not o f some none = absurd (let clash : Some f ≡ None = sym some ∙ none in cc clash)
+
+-- what follows from each of two cases
+pub match_weaker : {A N M : Type 0} {P Q : A → Type 0} (o : Option A) → (N → M) → ((a : A) → P a → Q a) → MatchOption o N P → MatchOption o M Q
+match_weaker None n p h = n h
+match_weaker (Some a) n p h = p a h
 
 -- an argument's expansion, or its fault
 module _ (macros : Macros) (env : Env) (level : ℕ) (head : Token) (left after : Option ℕ) (list tokens : List Hiding) (o : Option Fault) where

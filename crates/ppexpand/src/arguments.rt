@@ -1,5 +1,5 @@
 // The arguments of an invocation (6.10.3p4, p11, p12).
-ghost use Rattle.std.specs.Prelude.{◌≡◌, IfOk};
+ghost use Rattle.std.specs.Prelude.{◌≡◌, ◌∷◌, ◌++◌, [], IfOk, OnOk};
 ghost use Rattle.ppmacro.specs.Numbered.{Numbered};
 ghost use Rattle.ppmacro.specs.HideSets.{HasSets, hiding, hidings, AllKnown};
 ghost use Rattle.ppmacro.specs.Substituting.{ListsKnown};
@@ -7,17 +7,19 @@ ghost use Rattle.ppexpand.specs.Arguments.{Closed, Quoted, Unclosed, separates, 
 ghost use Rattle.ppexpand.specs.Shown.{given_in, fitting_in, FittingKnown, is_bare};
 
 use crate::cursor::Cursor;
+use crate::lists::put;
 use crate::spellings::{Mark, mark_of};
 use crate::supply::Supply;
 use ppmacro::Hidden;
 use pptext::Spelling;
 use std::alloc::{AllocError, Global};
+use std::mem;
 
 // Room for so many tokens is asked for at once: few arguments have more.
 const USUAL: usize = 8;
 
-// So many arguments have that room. Few invocations have more, and one that has very many mostly has short ones.
-const ROOMY: usize = 64;
+// So many arguments behind the first have that room. Few invocations have more, and one that has very many mostly has short ones.
+const ROOMY: usize = 63;
 
 /// What stands behind the `(` of an invocation.
 #[derive(Drop)]
@@ -54,9 +56,18 @@ fn fewer(commas: Option<usize>) -> Option<usize>
     }
 }
 
-/// The room that an argument begins with behind so many others. Takes no memory.
-fn room_behind(arguments: usize) -> usize {
-    if arguments < ROOMY { USUAL } else { 0 }
+/// Ends an argument, which is put behind the others, and begins the next one.
+fn end_argument<'a>(
+    supply: &mut Supply<'a>,
+    arguments: &mut Vec<Vec<Hidden<'a>>>,
+    argument: &mut Vec<Hidden<'a>>,
+) -> Result<(), AllocError>
+    ensures ended { OnOk result (arguments.new.items ≡ arguments.old.items ++ argument.old ∷ []) }
+    ensures begun { OnOk result (argument.new.items ≡ []) }
+{
+    let room = if arguments.len() < ROOMY { USUAL } else { 0 };
+    let begun = supply.list(room)?;
+    put(arguments, mem::replace(argument, begun))
 }
 
 /// Takes the arguments of an invocation with the matching `)` out of the list behind the `(`.
@@ -84,12 +95,11 @@ pub(crate) fn gather<'a>(
         match mark_of(&hidden) {
             Mark::Quote => return Ok(Gathered::Quoted(hidden)),
             Mark::Close if depth == 0 => {
-                arguments.push(argument)?;
+                put(&mut arguments, argument)?;
                 return Ok(Gathered::Closed(arguments, hidden));
             }
             Mark::Comma if separates(depth, commas) => {
-                arguments.push(argument)?;
-                argument = supply.list(room_behind(arguments.len()))?;
+                end_argument(supply, &mut arguments, &mut argument)?;
                 commas = fewer(commas);
                 continue;
             }
@@ -98,7 +108,7 @@ pub(crate) fn gather<'a>(
             Mark::Comma => {}
             Mark::Inner => {}
         }
-        argument.push(hidden)?;
+        put(&mut argument, hidden)?;
     }
     Ok(Gathered::Unclosed)
 }

@@ -1,12 +1,13 @@
 // The list that is being expanded.
-ghost use Rattle.std.specs.Prelude.{◌≡◌, ◌∷◌, [], ◌++◌, true, Some, MatchOption, OnOk};
+ghost use Rattle.std.specs.Prelude.{◌≡◌, ◌∷◌, [], ◌++◌, true, Some, MatchOption, IfOk, OnOk};
 ghost use Rattle.std.specs.Option.{option_copied};
 ghost use Rattle.ppmacro.specs.Substituting.{tokens_of};
 ghost use Rattle.ppexpand.specs.Lists.{marked, is_plain, next_macro, ArePlain};
 
+use crate::lists::put;
 use crate::stretch::Stretch;
 use crate::turn::macro_at;
-use ppmacro::{Hidden, Macro, Table};
+use ppmacro::{Hidden, Macro, Set, Table};
 use std::alloc::{AllocError, Global};
 use std::marker::Model;
 
@@ -55,6 +56,24 @@ impl<'a> Cursor<'a> {
         }
     }
 
+    /// Copies of these tokens. No token of a file is below them, whatever the hide set of those is.
+    #[inline(never)]
+    pub(crate) fn of_clones(
+        alloc: Global,
+        tokens: &[Hidden<'a>],
+        hide: Set,
+    ) -> Result<Cursor<'a>, AllocError>
+        ensures { IfOk result (λ list. list ≡ tokens.now) }
+    {
+        let mut behind = Vec::from_clones(alloc, tokens)?;
+        behind.reverse();
+        Ok(Cursor {
+            behind,
+            below: Stretch::new(Default::default(), hide),
+            pending: false,
+        })
+    }
+
     /// The next token, taken out.
     pub(crate) fn next(&mut self) -> Option<Hidden<'a>>
         ensures { MatchOption result ((self.old ≡ []) × (self.new ≡ [])) (λ h. self.old ≡ h ∷ self.new) }
@@ -76,8 +95,7 @@ impl<'a> Cursor<'a> {
     pub(crate) fn push(&mut self, hidden: Hidden<'a>) -> Result<(), AllocError>
         ensures { OnOk result (self.new ≡ hidden.entry ∷ self.old) }
     {
-        self.behind.push(hidden)?;
-        Ok(())
+        put(&mut self.behind, hidden)
     }
 
     /// Puts tokens before the next one.
@@ -92,18 +110,6 @@ impl<'a> Cursor<'a> {
         }
         self.behind.append(&mut tokens)?;
         Ok(())
-    }
-
-    /// Puts copies of tokens before the next one.
-    #[inline(never)]
-    pub(crate) fn push_clones(
-        &mut self,
-        alloc: Global,
-        tokens: &[Hidden<'a>],
-    ) -> Result<(), AllocError>
-        ensures { OnOk result (self.new ≡ tokens.now ++ self.old) }
-    {
-        self.push_all(Vec::from_clones(alloc, tokens)?)
     }
 
     /// Gives the next token, if there is one, a space mark that is left pending.

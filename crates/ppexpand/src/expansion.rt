@@ -1,9 +1,9 @@
 // The expansion of a list.
-ghost use Rattle.std.specs.Prelude.{◌≡◌, ℕ, ◌≤◌, ◌++◌, ◌∷◌, [], List, map, true, Some, None, Ok, Err, IfOk, OnOk, MatchOption, IfSome};
+ghost use Rattle.std.specs.Prelude.{◌≡◌, ℕ, ◌≤◌, ◌++◌, ◌∷◌, [], List, map, true, false, is_some, Some, None, Ok, Err, IfOk, OnOk, MatchOption, IfSome};
 ghost use Rattle.ppmacro.specs.Chains.{chains_of};
 ghost use Rattle.ppmacro.specs.Patterns.{listed};
 ghost use Rattle.std.specs.Option.{option_copied};
-ghost use Rattle.ppmacro.specs.Substituting.{tokens_of};
+ghost use Rattle.ppmacro.specs.Substituting.{tokens_of, option_of};
 ghost use Rattle.ppmacro.specs.HideSets.{hidings, AllKnown, Keeps};
 ghost use Rattle.ppmacro.specs.Numbered.{Numbered};
 ghost use Rattle.ppmacro.specs.Substitution.{plain};
@@ -19,6 +19,7 @@ ghost use Rattle.ppexpand.specs.Shown.{ExpandsWanted, Invokes, HasTaken, HasCall
 use crate::alone::used_alone;
 use crate::cursor::{Ahead, Cursor};
 use crate::env::Env;
+use crate::lists::put;
 use crate::passed::{Passed, Run};
 use crate::spellings::at_use;
 use crate::spending::less_one;
@@ -37,17 +38,6 @@ const ROOM: usize = 32;
 
 // So many levels need stack. What leads from a level to the next returns little by value, and leaves what it found with its caller; what
 // doesn't lead there isn't to be inlined into it.
-
-/// Puts one more behind the expansions.
-fn push_expansion<'a>(
-    expanded: &mut Vec<Expansion<'a>>,
-    expansion: Expansion<'a>,
-) -> Result<(), AllocError>
-    ensures { OnOk result (expanded.new.items ≡ expanded.old.items ++ expansion.entry ∷ []) }
-{
-    expanded.push(expansion)?;
-    Ok(())
-}
 
 /// Passes tokens in flight, where they are next. The macro that is named behind them, where a token in flight names one.
 fn skip_flying<'t, 'x, 'a>(
@@ -119,9 +109,9 @@ fn keep_arguments<'x>(
     }
 }
 
-/// Takes the next turn of a list, whose next token names the macro `named`, up to an invocation of a function-like macro: that becomes `call`, and is still to be followed. What
-/// passes is put behind `passed`, the list becomes what is behind it, and `left` what is left of the budget. Whether the list goes on; where
-/// a fault ended it, `fault` becomes that.
+/// Takes the next turn of a list, whose next token names the macro `named`, up to an invocation of a function-like macro: that becomes
+/// `call`, and is still to be followed. What passes is put behind `passed`, the list becomes what is behind it, and `left` what is left of
+/// the budget. Whether the list goes on; where a fault ended it, `fault` becomes that.
 #[inline(never)]
 fn take_turn<'t, 'x, 'a: 'x>(
     supply: &mut Supply<'x>,
@@ -180,6 +170,22 @@ fn take_turn<'t, 'x, 'a: 'x>(
     }
 }
 
+/// The expansion of an argument that came to these tokens; or none where a fault was raised.
+#[inline(never)]
+fn made<'x>(
+    alloc: Global,
+    passed: Passed<'x>,
+    fault: &Option<Fault>,
+) -> Result<Option<Expansion<'x>>, Memory>
+    ensures { IfOk result (λ r. MatchOption r (is_some fault.now ≡ true)
+        (λ e. (is_some fault.now ≡ false) × (held e ≡ passed.entry) × ((given : List Hidden) → option_of given e ≡ Some passed.entry))) }
+{
+    if fault.is_some() {
+        return Ok(None);
+    }
+    Ok(Some(Expansion::Made(passed.into_vec(alloc)?)))
+}
+
 /// The expansion of an argument; or none where a fault was raised, 21 where it is too deep, which `fault` becomes. `left` becomes what
 /// it leaves.
 #[cycle(expansion)]
@@ -211,11 +217,7 @@ fn expand_argument<'x, 'a: 'x>(
     if all_pass(table, argument) {
         return Ok(Some(Expansion::AsGiven));
     }
-    let mut list = Cursor::over(
-        supply.alloc(),
-        Stretch::new(Default::default(), sets.empty()),
-    );
-    list.push_clones(supply.alloc(), argument)?;
+    let mut list = Cursor::of_clones(supply.alloc(), argument, sets.empty())?;
     // An argument mostly comes to about as many tokens as it has.
     let mut passed = Passed::with_room(supply.alloc(), argument.len())?;
     expand_list(
@@ -229,10 +231,7 @@ fn expand_argument<'x, 'a: 'x>(
         &mut passed,
         fault,
     )?;
-    if fault.is_some() {
-        return Ok(None);
-    }
-    Ok(Some(Expansion::Made(passed.into_vec(supply.alloc())?)))
+    made(supply.alloc(), passed, fault)
 }
 
 /// The expansions of the arguments that stand away from `#` and `##` in this list, which is the macro's, each by its
@@ -267,13 +266,13 @@ fn expand_arguments<'x, 'a: 'x>(
     let mut expanded = Vec::with_capacity(supply.alloc(), count)?;
     for (parameter, argument) in call.arguments.iter().enumerate() {
         if !used[parameter] {
-            push_expansion(&mut expanded, Expansion::Unused)?;
+            put(&mut expanded, Expansion::Unused)?;
             continue;
         }
         let head = &call.head;
         let tokens = argument.as_slice();
         match expand_argument(supply, table, env, level, left, sets, head, tokens, fault)? {
-            Some(expansion) => push_expansion(&mut expanded, expansion)?,
+            Some(expansion) => put(&mut expanded, expansion)?,
             None => return Ok(None),
         }
     }
@@ -322,8 +321,9 @@ fn follow<'x, 'a: 'x>(
     )
 }
 
-/// One turn, of a list whose next token names the macro `named`: what passes is put behind `passed`, the list becomes what is behind it, and `left` what is left of the budget. Whether the list
-/// goes on; where a fault ended it, `fault` becomes that.
+/// One turn, of a list whose next token names the macro `named`: what passes is put behind `passed`, the list becomes what is behind it,
+/// and `left` what is left of the budget. Whether the list goes on; where a fault ended it, `fault` becomes that. `call` is room for an
+/// invocation.
 #[cycle(expansion)]
 fn advance<'t, 'x, 'a: 'x>(
     supply: &mut Supply<'x>,
@@ -336,12 +336,14 @@ fn advance<'t, 'x, 'a: 'x>(
     list: &mut Cursor<'x>,
     passed: &mut Passed<'x>,
     fault: &mut Option<Fault>,
+    call: &mut Option<Invocation<'t, 'x, 'a>>,
 ) -> Result<bool, Memory>
     requires level { level ≤ 256 }
     requires named { option_copied named ≡ next_macro table.now (tokens_of list.old) }
     requires list_known { AllKnown sets.old list.old }
     requires passed_known { AllKnown sets.old passed.old }
     requires no_fault { fault.old ≡ None }
+    requires no_call { call.old ≡ None }
     ensures on { IfOk result (λ goes.
         HasTaken table.now env.now level left.old (hidings sets.old list.old) (hidings sets.old passed.old)
         goes fault.new left.new (hidings sets.new list.new) (hidings sets.new passed.new)) }
@@ -349,15 +351,14 @@ fn advance<'t, 'x, 'a: 'x>(
     ensures passed_known { OnOk result (AllKnown sets.new passed.new) }
     ensures keeps { Keeps sets.old sets.new }
 {
-    let mut call = None;
     let goes = take_turn(
-        supply, table, env, left, sets, named, list, passed, fault, &mut call,
+        supply, table, env, left, sets, named, list, passed, fault, call,
     )?;
-    let Some(found) = &call else {
+    let Some(found) = &*call else {
         return Ok(goes);
     };
     follow(supply, table, env, level, left, sets, found, list, fault)?;
-    keep_arguments(supply, &mut call)?;
+    keep_arguments(supply, call)?;
     Ok(fault.is_none())
 }
 
@@ -386,9 +387,14 @@ fn expand_list<'x, 'a: 'x>(
 {
     loop {
         let named = skip(table, list, passed)?;
-        if !advance(
-            supply, table, env, level, left, sets, named, list, passed, fault,
-        )? {
+        // An invocation is done with when its turn is.
+        let goes = {
+            let mut call = None;
+            advance(
+                supply, table, env, level, left, sets, named, list, passed, fault, &mut call,
+            )
+        };
+        if !goes? {
             return Ok(());
         }
     }

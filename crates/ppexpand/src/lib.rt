@@ -7,6 +7,7 @@ mod cursor;
 mod env;
 mod expansion;
 mod laws;
+mod lists;
 mod passed;
 mod predefined;
 mod run_iter;

@@ -3,6 +3,7 @@ ghost use Rattle.std.specs.Prelude.{◌≡◌, ◌∷◌, ◌++◌, [], flat_map
 ghost use Rattle.ppexpand.specs.Pieces.{piece_list};
 ghost use Rattle.ppmacro.specs.Substituting.{tokens_of};
 
+use crate::lists::put;
 use crate::stretch::Stretch;
 use ppmacro::Hidden;
 use pptext::Token;
@@ -55,8 +56,7 @@ fn close<'a>(pieces: &mut Vec<Piece<'a>>, singles: &mut Vec<Hidden<'a>>) -> Resu
     if singles.is_empty() {
         return Ok(());
     }
-    pieces.push(Piece::Made(fitted(singles)?))?;
-    Ok(())
+    put(pieces, Piece::Made(fitted(singles)?))
 }
 
 impl<'a> Passed<'a> {
@@ -88,8 +88,7 @@ impl<'a> Passed<'a> {
             return push_stretch(&mut self.singles, stretch);
         }
         close(&mut self.pieces, &mut self.singles)?;
-        self.pieces.push(Piece::Shared(stretch))?;
-        Ok(())
+        put(&mut self.pieces, Piece::Shared(stretch))
     }
 
     /// Puts a token behind the others.
@@ -97,8 +96,7 @@ impl<'a> Passed<'a> {
     pub(crate) fn push_single(&mut self, hidden: Hidden<'a>) -> Result<(), AllocError>
         ensures { OnOk result (self.new ≡ self.old ++ hidden.entry ∷ []) }
     {
-        self.singles.push(hidden)?;
-        Ok(())
+        put(&mut self.singles, hidden)
     }
 
     /// Gives back room for more: what passed is kept until all units are done.
@@ -115,14 +113,6 @@ impl<'a> Passed<'a> {
         ensures { result ≡ true → self.now ≡ [] }
     {
         self.pieces.is_empty() && self.singles.is_empty()
-    }
-
-    /// Puts copies of the tokens behind others, without their hide sets.
-    pub(crate) fn copy_to(&self, tokens: &mut Vec<Token>) -> Result<(), AllocError>
-        ensures { OnOk result (tokens.new.items ≡ tokens.old.items ++ tokens_of self.now) }
-    {
-        copy_pieces(tokens, self.pieces.as_slice())?;
-        copy_made(tokens, self.singles.as_slice())
     }
 
     /// The tokens as one list.
@@ -148,7 +138,7 @@ fn push_all<'a>(tokens: &mut Vec<Hidden<'a>>, more: Vec<Hidden<'a>>) -> Result<(
     ensures { OnOk result (tokens.new.items ≡ tokens.old.items ++ more.entry.items) }
 {
     for hidden in more {
-        tokens.push(hidden)?;
+        put(tokens, hidden)?;
     }
     Ok(())
 }
@@ -159,7 +149,7 @@ fn push_stretch<'a>(tokens: &mut Vec<Hidden<'a>>, stretch: Stretch<'a>) -> Resul
 {
     let mut stretch = stretch;
     while let Some(hidden) = stretch.next() {
-        tokens.push(hidden)?;
+        put(tokens, hidden)?;
     }
     Ok(())
 }
@@ -218,54 +208,5 @@ impl<'a> Run<'a> {
         } else {
             None
         }
-    }
-
-    /// A copy of the tokens as one list.
-    pub fn to_vec(&self, alloc: Global) -> Result<Vec<Token>, AllocError>
-        ensures { IfOk result (λ v. v.items ≡ self.now) }
-    {
-        let mut tokens = Vec::from_clones(alloc, self.front)?;
-        self.passed.copy_to(&mut tokens)?;
-        Ok(tokens)
-    }
-}
-
-// Puts copies of tokens behind others.
-fn copy_shared(tokens: &mut Vec<Token>, more: &[Token]) -> Result<(), AllocError>
-    ensures { OnOk result (tokens.new.items ≡ tokens.old.items ++ more.now) }
-{
-    for token in more {
-        tokens.push(token.clone()?)?;
-    }
-    Ok(())
-}
-
-// Puts copies of tokens in flight behind others.
-fn copy_made(tokens: &mut Vec<Token>, more: &[Hidden]) -> Result<(), AllocError>
-    ensures { OnOk result (tokens.new.items ≡ tokens.old.items ++ tokens_of more.now) }
-{
-    for hidden in more {
-        tokens.push(hidden.to_token()?)?;
-    }
-    Ok(())
-}
-
-// Puts copies of the tokens of pieces behind others.
-fn copy_pieces(tokens: &mut Vec<Token>, pieces: &[Piece]) -> Result<(), AllocError>
-    ensures { OnOk result (tokens.new.items ≡ tokens.old.items ++ tokens_of (flat_map piece_list pieces.now)) }
-{
-    for piece in pieces {
-        copy_piece(tokens, piece)?;
-    }
-    Ok(())
-}
-
-// Puts copies of a piece's tokens behind others.
-fn copy_piece(tokens: &mut Vec<Token>, piece: &Piece) -> Result<(), AllocError>
-    ensures { OnOk result (tokens.new.items ≡ tokens.old.items ++ tokens_of (piece_list piece.now)) }
-{
-    match piece {
-        Piece::Shared(stretch) => copy_shared(tokens, stretch.tokens()),
-        Piece::Made(more) => copy_made(tokens, more.as_slice()),
     }
 }

@@ -5,6 +5,7 @@ ghost use Rattle.ppmacro.specs.HideSets.{set_at, hiding};
 ghost use Rattle.ppexpand.specs.Turn.{presumed_line, quoted, predefined_kind, predefined_text, predefined_value};
 
 use crate::env::Env;
+use crate::lists::put;
 use itoa::Buffer;
 use ppmacro::{Builtin, Hidden, Set};
 use pptext::{Kind, Place, Spelling, Token};
@@ -26,7 +27,7 @@ fn quoted(alloc: Global, text: &[u8]) -> Result<Vec<u8>, AllocError>
 {
     let mut literal = Vec::from_slice(alloc, b"\"")?;
     literal.extend_from_slice(text)?;
-    literal.push(b'"')?;
+    put(&mut literal, b'"')?;
     Ok(literal)
 }
 

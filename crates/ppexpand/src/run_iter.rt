@@ -4,10 +4,11 @@ ghost use Rattle.std.specs.Iterator.{YieldsFirstBy, item_count};
 ghost use Rattle.ppmacro.specs.Substituting.{tokens_of};
 ghost use Rattle.ppexpand.specs.Pieces.{piece_list, ref_token};
 
+use crate::lists::put;
 use crate::passed::{Piece, Run};
 use ppmacro::Hidden;
 use pptext::{Kind, Place, Token};
-use std::alloc::AllocError;
+use std::alloc::{AllocError, Global};
 use std::marker::Model;
 
 /// A token of a run, borrowed: one as it stands in its file, or one that passed by itself.
@@ -219,5 +220,17 @@ impl<'a> Run<'a> {
                 source: Source::Made(singles),
             },
         }
+    }
+
+    /// A copy of the tokens as one list.
+    pub fn to_vec(&self, alloc: Global) -> Result<Vec<Token>, AllocError>
+        ensures { IfOk result (λ v. v.items ≡ self.now) }
+    {
+        let mut tokens = Vec::new(alloc);
+        let mut left = self.iter();
+        while let Some(token) = left.next() {
+            put(&mut tokens, token.to_token()?)?;
+        }
+        Ok(tokens)
     }
 }

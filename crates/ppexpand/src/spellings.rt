@@ -15,7 +15,7 @@ pub(crate) fn is_open(hidden: &Hidden) -> bool
 }
 
 /// What a token is to the search for the `)` of an invocation (6.10.3p10, p11).
-#[derive(Clone, Copy, Debug, PartialEq, Eq)]
+#[derive(Clone, Copy)]
 pub(crate) enum Mark {
     /// A lone quote.
     Quote,

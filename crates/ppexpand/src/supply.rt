@@ -1,6 +1,7 @@
 // Where the lists of an expansion come from.
 ghost use Rattle.std.specs.Prelude.{◌≡◌, [], IfOk};
 
+use crate::lists::put;
 use ppmacro::Hidden;
 use std::alloc::{AllocError, Global};
 
@@ -47,7 +48,7 @@ impl<'x> Supply<'x> {
     pub(crate) fn keep(&mut self, lists: Vec<Vec<Hidden<'x>>>) -> Result<(), AllocError> {
         for list in lists {
             if self.lists.len() < MOST && list.len() <= LONG {
-                self.lists.push(list)?;
+                put(&mut self.lists, list)?;
             }
         }
         Ok(())

@@ -202,52 +202,71 @@ fn predefined_turn<'t, 'x, 'a: 'x>(
     alloc: Global,
     env: &Env,
     sets: &mut HideSets,
-    head: Hidden<'x>,
+    head: &Hidden<'x>,
     builtin: Builtin,
     list: &mut Cursor<'x>,
 ) -> Result<Next<'t, 'x, 'a>, Memory>
-    requires head { HasSets sets.old head }
+    requires head { HasSets sets.old head.now }
     requires list { AllKnown sets.old list.old }
     ensures is { IfOk result (λ n. turn_in sets.new list.new n
-        ≡ Replaced (predefined_value builtin env.now (hiding sets.old head.entry)
-        (set.insert (hide_of sets.old head.entry) head.entry.token.text) ∷ hidings sets.old list.old)) }
+        ≡ Replaced (predefined_value builtin env.now (hiding sets.old head.now)
+        (set.insert (hide_of sets.old head.now) head.now.token.text) ∷ hidings sets.old list.old)) }
     ensures known { IfOk result (λ n. NextKnown sets.new list.new n) }
     ensures keeps { Keeps sets.old sets.new }
 {
-    let gain = sets.with_own(&head)?;
-    list.push(predefined_value(alloc, builtin, env, &head, gain)?)?;
+    let gain = sets.with_own(head)?;
+    list.push(predefined_value(alloc, builtin, env, head, gain)?)?;
     Ok(Next {
         step: Step::Replaced,
     })
 }
 
-/// Replaces an object-like macro's name. Each token of the replacement gains the names of `base` and that of the macro.
-fn replace_object<'t, 'x, 'a: 'x>(
+/// Replaces an object-like macro's name, or raises fault 19. Each token of the replacement gains the names of `base` and that of the macro.
+fn replace_object<'x, 'a: 'x>(
     alloc: Global,
     sets: &mut HideSets,
     base: Set,
     head: &Hidden<'x>,
     replaced: &Macro<'a>,
     list: &mut Cursor<'x>,
-) -> Result<Next<'t, 'x, 'a>, Memory>
+) -> Result<Result<(), Fault>, Memory>
     requires base { IsKnown sets.old base }
     requires list { AllKnown sets.old list.old }
-    ensures is { IfOk result (λ n. turn_in sets.new list.new n
+    ensures is { IfOk result (λ r. replaced_in sets.new list.new r
         ≡ replaced_by (substituted replaced.now no_arguments
         (set.insert (set_at sets.old base) head.now.token.text) head.now.token.used head.now.token.space)
         (hidings sets.old list.old)) }
-    ensures known { IfOk result (λ n. NextKnown sets.new list.new n) }
+    ensures known { IfOk result (λ r. OnOk r (AllKnown sets.new list.new)) }
     ensures keeps { Keeps sets.old sets.new }
 {
     if let Some(body) = replaced.lone_tokens() {
         replace_by(sets, body, base, head, list)?;
-        return Ok(Next {
-            step: Step::Replaced,
-        });
+        return Ok(Ok(()));
     }
     let chains = replaced.chains(alloc)?;
     let pattern = Pattern::Joined(chains);
-    match replace(alloc, sets, &pattern, &[], &[], base, head, list)? {
+    replace(alloc, sets, &pattern, &[], &[], base, head, list)
+}
+
+/// The turn of an object-like macro's name.
+fn object_turn<'t, 'x, 'a: 'x>(
+    alloc: Global,
+    sets: &mut HideSets,
+    head: &Hidden<'x>,
+    replaced: &Macro<'a>,
+    list: &mut Cursor<'x>,
+) -> Result<Next<'t, 'x, 'a>, Memory>
+    requires head { HasSets sets.old head.now }
+    requires list { AllKnown sets.old list.old }
+    ensures is { IfOk result (λ n. turn_in sets.new list.new n
+        ≡ replaced_by (substituted replaced.now no_arguments
+        (set.insert (hide_of sets.old head.now) head.now.token.text) head.now.token.used head.now.token.space)
+        (hidings sets.old list.old)) }
+    ensures known { IfOk result (λ n. NextKnown sets.new list.new n) }
+    ensures keeps { Keeps sets.old sets.new }
+{
+    let base = sets.settled(head)?;
+    match replace_object(alloc, sets, base, head, replaced, list)? {
         Ok(()) => Ok(Next {
             step: Step::Replaced,
         }),
@@ -255,27 +274,6 @@ fn replace_object<'t, 'x, 'a: 'x>(
             step: Step::Failed(fault),
         }),
     }
-}
-
-/// The turn of an object-like macro's name.
-fn object_turn<'t, 'x, 'a: 'x>(
-    alloc: Global,
-    sets: &mut HideSets,
-    head: Hidden<'x>,
-    replaced: &Macro<'a>,
-    list: &mut Cursor<'x>,
-) -> Result<Next<'t, 'x, 'a>, Memory>
-    requires head { HasSets sets.old head }
-    requires list { AllKnown sets.old list.old }
-    ensures is { IfOk result (λ n. turn_in sets.new list.new n
-        ≡ replaced_by (substituted replaced.now no_arguments
-        (set.insert (hide_of sets.old head.entry) head.entry.token.text) head.entry.token.used head.entry.token.space)
-        (hidings sets.old list.old)) }
-    ensures known { IfOk result (λ n. NextKnown sets.new list.new n) }
-    ensures keeps { Keeps sets.old sets.new }
-{
-    let base = sets.settled(&head)?;
-    replace_object(alloc, sets, base, &head, replaced, list)
 }
 
 /// The turn of an invocation whose `)` is found.
@@ -395,9 +393,9 @@ fn macro_turn<'t, 'x, 'a: 'x>(
 {
     match &replaced.definition().shape {
         Shape::Predefined(builtin) => {
-            return predefined_turn(supply.alloc(), env, sets, head, *builtin, list);
+            predefined_turn(supply.alloc(), env, sets, &head, *builtin, list)
         }
-        Shape::ObjectLike => object_turn(supply.alloc(), sets, head, replaced, list),
+        Shape::ObjectLike => object_turn(supply.alloc(), sets, &head, replaced, list),
         Shape::FunctionLike {
             parameters,
             variadic,

@@ -21,7 +21,7 @@ shown_mark variant.Inner = Inner
 pub returns-in-Close-clause-known : goal.returns-in-Close-clause-known
 returns-in-Close-clause-known c = λ sets known.
     let list : AllKnown sets (c.in-Some.hidden ∷ c.next.new.self) = subst (AllKnown sets) c.in-Some.ensures (c.loop-hidden.invariant.list_known sets known) in (
-      rw c.in_ok-push-in-Close.ensures.items (lists_known-push _ _ (c.loop-hidden.invariant.arguments_known sets known) (c.loop-hidden.invariant.argument_known sets known)),
+      rw c.in_ok-put-in-Close.ensures (lists_known-push _ _ (c.loop-hidden.invariant.arguments_known sets known) (c.loop-hidden.invariant.argument_known sets known)),
       list.each.0,
       record { each = list.each.1 },
     )
@@ -35,13 +35,13 @@ loop-hidden-preserved-in-Comma c =
       same = λ sets.
           (let here = ap (λ hs. resumed (given_in sets front.arguments.items) (hidings sets front.argument.items) (gather front.depth front.commas (hidings sets hs))) c.in-Some.ensures in
           let cut = at_separator front.depth front.commas (hiding sets c.in-Some.hidden) (hidings sets c.next.new.self) is_comma (sym c.separates.ensures ∙ c.if-separates.true) in
-          rw (c.in_ok-push-in-Comma.ensures.items, c.in_ok-argument-in-Comma.ensures, c.fewer-commas.ensures, given-push sets front.arguments.items front.argument)
+          rw (c.in_ok-end_argument-in-Comma.ensures.ended, c.in_ok-end_argument-in-Comma.ensures.begun, c.fewer-commas.ensures, given-push sets front.arguments.items front.argument)
           (resumed-argument (given_in sets front.arguments.items) (hidings sets front.argument.items) _
           ∙ ap (resumed (given_in sets front.arguments.items) (hidings sets front.argument.items)) (sym cut)
           ∙ sym here
           ∙ c.loop-hidden.invariant.same sets));
-      arguments_known = λ sets known. rw c.in_ok-push-in-Comma.ensures.items (lists_known-push _ _ (c.loop-hidden.invariant.arguments_known sets known) (c.loop-hidden.invariant.argument_known sets known));
-      argument_known = λ sets known. rw c.in_ok-argument-in-Comma.ensures (record { each = tt });
+      arguments_known = λ sets known. rw c.in_ok-end_argument-in-Comma.ensures.ended (lists_known-push _ _ (c.loop-hidden.invariant.arguments_known sets known) (c.loop-hidden.invariant.argument_known sets known));
+      argument_known = λ sets known. rw c.in_ok-end_argument-in-Comma.ensures.begun (record { each = tt });
       list_known = λ sets known. record { each = (list sets known).each.1 };
       within = omega (arith, outermost front.depth front.commas (sym c.separates.ensures ∙ c.if-separates.true));
     }
@@ -71,13 +71,13 @@ loop-hidden-preserved c =
     record {
       same = λ sets.
           (let here = ap (λ hs. resumed (given_in sets front.arguments.items) (hidings sets front.argument.items) (gather front.depth front.commas (hidings sets hs))) c.in-Some.ensures in
-          rw (c.in_ok-push.ensures.items, hidings-push sets front.argument.items c.in-Some.hidden)
+          rw (c.in_ok-put.ensures, hidings-push sets front.argument.items c.in-Some.hidden)
           (resumed-token (given_in sets front.arguments.items) (hidings sets front.argument.items) (hiding sets c.in-Some.hidden) _
           ∙ ap (resumed (given_in sets front.arguments.items) (hidings sets front.argument.items)) (sym (step sets))
           ∙ sym here
           ∙ c.loop-hidden.invariant.same sets));
       arguments_known = c.loop-hidden.invariant.arguments_known;
-      argument_known = λ sets known. rw c.in_ok-push.ensures.items (known-push _ _ (c.loop-hidden.invariant.argument_known sets known) (list sets known).each.0);
+      argument_known = λ sets known. rw c.in_ok-put.ensures (known-push _ _ (c.loop-hidden.invariant.argument_known sets known) (list sets known).each.0);
       list_known = λ sets known. record { each = (list sets known).each.1 };
-      within = rw c.in_ok-push.ensures.items (omega (arith, length-append front.argument.items (c.in-Some.hidden ∷ []), within));
+      within = rw c.in_ok-put.ensures (omega (arith, length-append front.argument.items (c.in-Some.hidden ∷ []), within));
     }

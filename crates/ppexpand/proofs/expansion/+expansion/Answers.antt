@@ -1,7 +1,7 @@
 use Rattle.std.proofs.Common.{◌≡◌, ◌∙◌, ◌∷◌, ◌++◌, [], ◌+◌, ◌<◌, drop, length, get_or, Ok, Err, Some, None, true, false, refl, sym, ap, subst, arith, rules}
 use Rattle.std.specs.Option.{option_map}
 use Rattle.std.proofs.lemmas.List.{length-append}
-use Rattle.std.proofs.lemmas.Result.{on_ok_weaker}
+use Rattle.std.proofs.lemmas.Result.{IfOk-weaker, on_ok_weaker}
 use Rattle.ppmacro.specs.HideSets.{hidings, AllKnown}
 use Rattle.ppmacro.specs.Chains.{chains_of}
 use Rattle.ppmacro.specs.Patterns.{listed}
@@ -13,7 +13,7 @@ use Rattle.ppexpand.specs.Turn.{finished, wanted, uses_alone, to_expand}
 use Rattle.ppexpand.specs.Expansion.{ExpandsTo, ExpandsArguments}
 use Rattle.ppexpand.specs.Shown.{finished_in, expanded_in, given_in, held, ExpansionsKnown, ExpandsArgument, deep, Invokes, refuses, finishes}
 use Rattle.ppexpand.proofs.Keeping.{call_of, call_of-keeps, call_known-keeps, given_known-keeps, expanded-keeps, expanded_known-keeps, expanded_known-push, expanded_in-push}
-use Rattle.ppexpand.proofs.ArgumentLemmas.{arguments_first, raised_some, raised_none, argument_expands, argument_raises, known-item, rest-unused, rest-used, rest-end, marked-alone}
+use Rattle.ppexpand.proofs.ArgumentLemmas.{arguments_first, raised_some, raised_none, raised_not, match_weaker, argument_expands, argument_raises, known-item, rest-unused, rest-used, rest-end, marked-alone}
 use Rattle.ppexpand.proofs.Skipping.{plain-expands, next-known, more-known, follows_skip, skip_falls}
 use Rattle.ppexpand.proofs.Follows.{Follows, follows_on, follows_end, advances_falls, call_taken, ArgumentsFollow, arguments_unused, arguments_used, arguments_refused, arguments_end}
 use Rattle.ppexpand.proofs.expansion.+expansion.Goals as goal
@@ -54,12 +54,12 @@ advance-returns-clause-list_known m c = λ goes. c.in_ok-follow.ensures.known (r
 pub follow-returns-in_default-clause-is : goal.follow-returns-in_default-clause-is
 follow-returns-in_default-clause-is m c =
     let raised = rw c.in_default.is at c.in_ok-expanded.ensures.is in
-    rw raised.1 (refuses (raised.2 c.args.list.now))
+    rw raised.1 (refuses {f = raised.0} (raised.2 c.args.list.now))
 
 pub follow-returns-in_default-clause-known : goal.follow-returns-in_default-clause-known
 follow-returns-in_default-clause-known m c =
     let raised = rw c.in_default.is at c.in_ok-expanded.ensures.is in
-    λ none. absurd (let clash : Some raised.0 ≡ None = sym raised.1 ∙ none in cc clash)
+    raised_not c.expand_arguments.new.fault raised.0 raised.1
 
 pub follow-finish-requires-clause-call : goal.follow-finish-requires-clause-call
 follow-finish-requires-clause-call m c = call_known-keeps c.args.call.now c.in_ok-expanded.ensures.keeps c.requires.call_known
@@ -108,39 +108,41 @@ expand_argument-returns-then-all_pass-clause-is m c =
     )
 
 pub expand_argument-expand_list-requires : goal.expand_argument-expand_list-requires
-expand_argument-expand_list-requires m c =
-    let s = c.args.sets.now in
-    let list : c.push_clones.new.self ≡ c.args.argument.now = c.in_ok-push_clones.ensures ∙ search rules in (
-      omega (arith, c.if-level-ge-DEEPEST.false),
-      (omega (arith, c.if-level-ge-DEEPEST.false), (subst (AllKnown s) (sym list) c.requires.known, (c.in_ok-passed.ensures, c.requires.no_fault))),
-    )
-
-pub expand_argument-returns-then-is_some-clause-is : goal.expand_argument-returns-then-is_some-clause-is
-expand_argument-returns-then-is_some-clause-is m c =
-    let s = c.args.sets.now in
-    let raised = raised_some c.expand_list.new.fault (sym c.is_some.ensures ∙ c.if-is_some.true) in
-    let list : hidings s c.push_clones.new.self ≡ hidings s c.args.argument.now = ap (hidings s) (c.in_ok-push_clones.ensures ∙ search rules) in (
-      raised.0,
-      raised.1,
-      subst (λ l. ExpandsArgument c.args.table.now c.args.env.now c.args.level c.args.head.now.token c.args.left.now l c.expand_list.new.left (Err raised.0)) list
-          (argument_raises c.args.table.now c.args.env.now c.args.level c.args.head.now.token c.args.left.now _ _ _ _ raised.0 (omega (arith, c.if-level-ge-DEEPEST.false)) raised.1 c.in_ok-expand_list.ensures.outcome),
-    )
+expand_argument-expand_list-requires m c = (
+  omega (arith, c.if-level-ge-DEEPEST.false),
+  (omega (arith, c.if-level-ge-DEEPEST.false), (subst (AllKnown c.args.sets.now) (sym c.in_ok-list.ensures) c.requires.known, (c.in_ok-passed.ensures, c.requires.no_fault))),
+)
 
 pub expand_argument-returns-clause-is : goal.expand_argument-returns-clause-is
 expand_argument-returns-clause-is m c =
-    let s = c.args.sets.now in
-    let none = raised_none c.expand_list.new.fault (sym c.is_some.ensures ∙ c.if-is_some.false) in
-    let list : hidings s c.push_clones.new.self ≡ hidings s c.args.argument.now = ap (hidings s) (c.in_ok-push_clones.ensures ∙ search rules) in (
+    let t = c.expand_list.new.sets in
+    let fault = c.expand_list.new.fault in
+    let passed = c.expand_list.new.passed in
+    let low : c.args.level < 256 = omega (arith, c.if-level-ge-DEEPEST.false) in
+    let same = ap (hidings c.args.sets.now) c.in_ok-list.ensures in
+    IfOk-weaker c.made.result _ _ (λ r. match_weaker r
+    (λ some.
+    let raised = raised_some fault some in (
+      raised.0,
+      raised.1,
+      subst (λ l. ExpandsArgument c.args.table.now c.args.env.now c.args.level c.args.head.now.token c.args.left.now l c.expand_list.new.left (Err raised.0)) same
+          (argument_raises c.args.table.now c.args.env.now c.args.level c.args.head.now.token c.args.left.now _ _ _ _ raised.0 low raised.1 c.in_ok-expand_list.ensures.outcome),
+    ))
+    (λ e made.
+    let none = raised_none fault made.0 in (
       none,
       (
-        hidings c.expand_list.new.sets c.in_ok-into_vec.field-0.items,
-        refl,
-        subst (λ l. ExpandsArgument c.args.table.now c.args.env.now c.args.level c.args.head.now.token c.args.left.now l c.expand_list.new.left (Ok (hidings c.expand_list.new.sets c.in_ok-into_vec.field-0.items))) list
-            (subst (λ ts. ExpandsArgument c.args.table.now c.args.env.now c.args.level c.args.head.now.token c.args.left.now
-            (hidings s c.push_clones.new.self) c.expand_list.new.left (Ok (hidings c.expand_list.new.sets ts))) (sym c.in_ok-into_vec.ensures)
-            (argument_expands c.args.table.now c.args.env.now c.args.level c.args.head.now.token c.args.left.now _ _ _ _ (omega (arith, c.if-level-ge-DEEPEST.false)) none c.in_ok-expand_list.ensures.outcome)),
+        hidings t passed,
+        ap (option_map (hidings t)) (made.2 c.args.argument.now),
+        subst (λ l. ExpandsArgument c.args.table.now c.args.env.now c.args.level c.args.head.now.token c.args.left.now l c.expand_list.new.left (Ok (hidings t passed))) same
+            (argument_expands c.args.table.now c.args.env.now c.args.level c.args.head.now.token c.args.left.now _ _ _ _ low none c.in_ok-expand_list.ensures.outcome),
       ),
-    )
+    )))
+    c.made.ensures
+
+pub expand_argument-returns-clause-known : goal.expand_argument-returns-clause-known
+expand_argument-returns-clause-known m c =
+    IfOk-weaker c.made.result _ _ (λ r. match_weaker r (λ _. tt) (λ e made. subst (AllKnown c.expand_list.new.sets) (sym made.1) c.in_ok-expand_list.ensures.known)) c.made.ensures
 
 pub expand_arguments-loop-parameter-init : goal.expand_arguments-loop-parameter-init
 expand_arguments-loop-parameter-init m c = record {
@@ -167,11 +169,11 @@ expand_arguments-loop-parameter-preserved-then-not-index m c =
     c.in_ok-used.ensures.len c.in_ok-used.ensures.used c.index.ensures
     ∙ c.if-not-index.true in
     let next = rest-unused s vs cs i c.argument-item.result less is unused in
-    let made = c.in_ok-push_expansion.ensures in
+    let made = c.in_ok-put.ensures in
     let done = c.loop-parameter.expanded.items in
     let behind_it : drop (length done) vs ≡ c.argument-item.result ∷ drop (i + 1) vs =
     subst (λ n. drop n vs ≡ c.argument-item.result ∷ drop (i + 1) vs) (sym c.loop-parameter.invariant.count) (drop-item vs i c.argument-item.result less is) in
-    let shown : expanded_in u vs c.push_expansion.new.expanded.items ≡ expanded_in u vs done ++ None ∷ [] = ap (expanded_in u vs) made ∙ expanded_in-push u vs done Unused c.argument-item.result (drop (i + 1) vs) behind_it in
+    let shown : expanded_in u vs c.put.new.items.items ≡ expanded_in u vs done ++ None ∷ [] = ap (expanded_in u vs) made ∙ expanded_in-push u vs done Unused c.argument-item.result (drop (i + 1) vs) behind_it in
     record {
       low = c.loop-parameter.invariant.low;
       no_fault = c.loop-parameter.invariant.no_fault;
@@ -263,10 +265,10 @@ expand_arguments-loop-parameter-preserved m c =
     subst (λ l. ExpandsArgument c.args.table.now c.args.env.now c.args.level c.args.call.now.head.token c.loop-parameter.left l c.expand_argument.new.left (Ok tokens)) argument made_is.1.2 in
     let here_is : option_map (hidings w) (option_of v.items e) ≡ Some tokens = (λ j. option_map (hidings w) (option_of (sym c.as_slice-tokens.ensures.value j) e)) ∙ made_is.1.1 in
     let tokens_known : AllKnown w (held e) = rw c.in-Some.is at c.in_ok-expansion.ensures.known in
-    let made = c.in_ok-push_expansion-in-Some.ensures in
+    let made = c.in_ok-put-in-Some.ensures in
     let behind_it : drop (length done) vs ≡ v ∷ drop (i + 1) vs = subst (λ n. drop n vs ≡ v ∷ drop (i + 1) vs) (sym c.loop-parameter.invariant.count) (drop-item vs i v less is) in
     let given_known = given_known-keeps vs c.loop-parameter.invariant.keeps c.requires.known.arguments in
-    let shown : expanded_in w vs c.push_expansion-in-Some.new.expanded.items ≡ expanded_in u vs done ++ Some tokens ∷ [] =
+    let shown : expanded_in w vs c.put-in-Some.new.items.items ≡ expanded_in u vs done ++ Some tokens ∷ [] =
     ap (expanded_in w vs) made ∙ expanded_in-push w vs done e v (drop (i + 1) vs) behind_it ∙ (λ j. expanded-keeps vs done keeps given_known c.loop-parameter.invariant.known j ++ here_is j ∷ []) in
     record {
       low = c.loop-parameter.invariant.low;
@@ -309,41 +311,41 @@ expand_list-loop-named-init m c = record {
   follows = λ n out d. rw c.requires.none (n, d);
 }
 
-pub expand_list-advance-requires : goal.expand_list-advance-requires
-expand_list-advance-requires m c =
+pub expand_list-advance-goes-requires : goal.expand_list-advance-goes-requires
+expand_list-advance-goes-requires m c =
     let sets = c.loop-named.sets in
     let skipped = c.in_ok-named.ensures.skipped in
     let list_known = next-known sets _ _ _ _ skipped c.loop-named.invariant.list_known in
     let passed_known = more-known sets _ _ _ _ skipped c.loop-named.invariant.list_known c.loop-named.invariant.passed_known in (
       omega arith,
-      (c.loop-named.invariant.low, (c.in_ok-named.ensures.named, (list_known, (passed_known, c.loop-named.invariant.no_fault)))),
+      (c.loop-named.invariant.low, (c.in_ok-named.ensures.named, (list_known, (passed_known, (c.loop-named.invariant.no_fault, refl))))),
     )
 
 pub expand_list-returns-then-not-branch-clause-outcome : goal.expand_list-returns-then-not-branch-clause-outcome
 expand_list-returns-then-not-branch-clause-outcome m c =
-    let end = rw c.if-not-branch.true at c.in_ok-advance.ensures.on in
+    let end = rw c.if-not-branch.true at c.in_ok-goes.ensures.on in
     let here = follows_skip c.args.table.now c.args.env.now c.args.level c.loop-named.left c.loop-named.sets c.args.left.now (hidings c.args.sets.now c.args.list.now) _ _ _ _ c.in_ok-named.ensures.skipped c.loop-named.invariant.follows in
-    subst (λ ts. ExpandsTo c.args.table.now c.args.env.now c.args.level c.args.left.now (hidings c.args.sets.now c.args.list.now) (record { tokens = ts; fault = c.advance.new.fault; left = c.advance.new.left })) (sym end.1)
-    (follows_end c.args.table.now c.args.env.now c.args.level c.args.left.now (hidings c.args.sets.now c.args.list.now) _ _ _ c.advance.new.fault _ here end.0)
+    subst (λ ts. ExpandsTo c.args.table.now c.args.env.now c.args.level c.args.left.now (hidings c.args.sets.now c.args.list.now) (record { tokens = ts; fault = c.advance-goes.new.fault; left = c.advance-goes.new.left })) (sym end.1)
+    (follows_end c.args.table.now c.args.env.now c.args.level c.args.left.now (hidings c.args.sets.now c.args.list.now) _ _ _ c.advance-goes.new.fault _ here end.0)
 
 pub expand_list-loop-named-preserved : goal.expand_list-loop-named-preserved
 expand_list-loop-named-preserved m c =
-    let taken = rw c.if-not-branch.false at c.in_ok-advance.ensures.on in
+    let taken = rw c.if-not-branch.false at c.in_ok-goes.ensures.on in
     let step = taken.1 in
     let here = follows_skip c.args.table.now c.args.env.now c.args.level c.loop-named.left c.loop-named.sets c.args.left.now (hidings c.args.sets.now c.args.list.now) _ _ _ _ c.in_ok-named.ensures.skipped c.loop-named.invariant.follows in
     record {
       low = c.loop-named.invariant.low;
-      list_known = c.in_ok-advance.ensures.list_known c.if-not-branch.false;
-      passed_known = c.in_ok-advance.ensures.passed_known;
+      list_known = c.in_ok-goes.ensures.list_known c.if-not-branch.false;
+      passed_known = c.in_ok-goes.ensures.passed_known;
       no_fault = taken.0;
-      keeps = keeps-after c.loop-named.invariant.keeps c.in_ok-advance.ensures.keeps;
-      follows = subst (λ ts. Follows c.args.table.now c.args.env.now c.args.level c.args.left.now (hidings c.args.sets.now c.args.list.now) ts c.advance.new.left (hidings c.advance.new.sets c.advance.new.list)) (sym step.1)
+      keeps = keeps-after c.loop-named.invariant.keeps c.in_ok-goes.ensures.keeps;
+      follows = subst (λ ts. Follows c.args.table.now c.args.env.now c.args.level c.args.left.now (hidings c.args.sets.now c.args.list.now) ts c.advance-goes.new.left (hidings c.advance-goes.new.sets c.advance-goes.new.list)) (sym step.1)
           (follows_on c.args.table.now c.args.env.now c.args.level c.args.left.now (hidings c.args.sets.now c.args.list.now) _ _ _ _ _ step.0 here step.2);
     }
 
 pub expand_list-loop-named-smaller : goal.expand_list-loop-named-smaller
 expand_list-loop-named-smaller m c =
-    let step = (rw c.if-not-branch.false at c.in_ok-advance.ensures.on).1 in
+    let step = (rw c.if-not-branch.false at c.in_ok-goes.ensures.on).1 in
     let after = advances_falls c.args.table.now c.args.env.now c.args.level _ _ _ _ step.0 step.2 in
     let skipped = skip_falls c.args.table.now c.args.env.now c.args.level c.loop-named.left c.loop-named.sets _ _ _ _ c.in_ok-named.ensures.skipped in
     omega (arith, after, skipped)
