@@ -234,8 +234,8 @@ fn expand_argument<'x, 'a: 'x>(
     made(supply.alloc(), passed, fault)
 }
 
-/// The expansions of the arguments that stand away from `#` and `##` in this list, which is the macro's, each by its
-/// parameter; or none where one raised a fault, which `fault` becomes. `left` becomes what they leave.
+/// Makes `expanded` the expansions of the arguments that stand away from `#` and `##` in this list, which is the macro's, each by its
+/// parameter; or `fault` becomes the fault that one raised. `left` becomes what they leave.
 #[cycle(expansion)]
 fn expand_arguments<'x, 'a: 'x>(
     supply: &mut Supply<'x>,
@@ -246,37 +246,38 @@ fn expand_arguments<'x, 'a: 'x>(
     sets: &mut HideSets,
     call: &Invocation<'_, 'x, 'a>,
     pattern: &Pattern<'a>,
+    expanded: &mut Vec<Expansion<'x>>,
     fault: &mut Option<Fault>,
-) -> Result<Option<Vec<Expansion<'x>>>, Memory>
+) -> Result<(), Memory>
     requires level { level ≤ 256 }
     requires known { CallKnown sets.old call.now.head call.now.arguments.items call.now.both }
     requires chains { listed pattern.now ≡ chains_of call.now.replaced.now }
+    requires none { expanded.old.items ≡ [] }
     requires no_fault { fault.old ≡ None }
-    ensures is { IfOk result (λ r. MatchOption r
-        (Raises fault.new (λ f. (behind : List Hidden) → ExpandsWanted table.now env.now level
-        (call_in sets.old call.now.head call.now.replaced.now call.now.arguments.items call.now.both behind) left.old left.new (Err f)))
-        (λ v. (fault.new ≡ None) × ((behind : List Hidden) → ExpandsWanted table.now env.now level
+    ensures is { OnOk result (MatchOption fault.new
+        ((behind : List Hidden) → ExpandsWanted table.now env.now level
         (call_in sets.old call.now.head call.now.replaced.now call.now.arguments.items call.now.both behind) left.old left.new
-        (Ok (expanded_in sets.new call.now.arguments.items v.items))))) }
-    ensures known { IfOk result (λ r. IfSome r (λ v. ExpansionsKnown sets.new v.items)) }
+        (Ok (expanded_in sets.new call.now.arguments.items expanded.new.items)))
+        (λ f. (behind : List Hidden) → ExpandsWanted table.now env.now level
+        (call_in sets.old call.now.head call.now.replaced.now call.now.arguments.items call.now.both behind) left.old left.new (Err f))) }
+    ensures known { OnOk result (fault.new ≡ None → ExpansionsKnown sets.new expanded.new.items) }
     ensures keeps { Keeps sets.old sets.new }
 {
     let count = call.arguments.len();
     let used = used_alone(supply.alloc(), count, pattern)?;
-    let mut expanded = Vec::with_capacity(supply.alloc(), count)?;
     for (parameter, argument) in call.arguments.iter().enumerate() {
         if !used[parameter] {
-            put(&mut expanded, Expansion::Unused)?;
+            put(expanded, Expansion::Unused)?;
             continue;
         }
         let head = &call.head;
         let tokens = argument.as_slice();
         match expand_argument(supply, table, env, level, left, sets, head, tokens, fault)? {
-            Some(expansion) => put(&mut expanded, expansion)?,
-            None => return Ok(None),
+            Some(expansion) => put(expanded, expansion)?,
+            None => return Ok(()),
         }
     }
-    Ok(Some(expanded))
+    Ok(())
 }
 
 /// Replaces an invocation before the rest of its list, its arguments expanded first; or `fault` becomes the first fault. `left` becomes what
@@ -304,12 +305,22 @@ fn follow<'x, 'a: 'x>(
     ensures keeps { Keeps sets.old sets.new }
 {
     let pattern = call.replaced.pattern(supply.alloc(), table.hashing())?;
-    let Some(expanded) = expand_arguments(
-        supply, table, env, level, left, sets, call, &pattern, fault,
-    )?
-    else {
+    let mut expanded = Vec::with_capacity(supply.alloc(), call.arguments.len())?;
+    expand_arguments(
+        supply,
+        table,
+        env,
+        level,
+        left,
+        sets,
+        call,
+        &pattern,
+        &mut expanded,
+        fault,
+    )?;
+    if fault.is_some() {
         return Ok(());
-    };
+    }
     finish(
         supply.alloc(),
         sets,

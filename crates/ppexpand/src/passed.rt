@@ -137,9 +137,8 @@ impl<'a> Passed<'a> {
 fn push_all<'a>(tokens: &mut Vec<Hidden<'a>>, more: Vec<Hidden<'a>>) -> Result<(), AllocError>
     ensures { OnOk result (tokens.new.items ≡ tokens.old.items ++ more.entry.items) }
 {
-    for hidden in more {
-        put(tokens, hidden)?;
-    }
+    let mut more = more;
+    tokens.append(&mut more)?;
     Ok(())
 }
 

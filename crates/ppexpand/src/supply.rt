@@ -46,7 +46,8 @@ impl<'x> Supply<'x> {
 
     /// Keeps lists that are done with.
     pub(crate) fn keep(&mut self, lists: Vec<Vec<Hidden<'x>>>) -> Result<(), AllocError> {
-        for list in lists {
+        let mut lists = lists;
+        while let Some(list) = lists.pop() {
             if self.lists.len() < MOST && list.len() <= LONG {
                 put(&mut self.lists, list)?;
             }

@@ -72,7 +72,14 @@ impl<'t, 'x, 'a> Model for Next<'t, 'x, 'a> {
 
     ghost Value = { next.Next };
 
-    ghost view = { λ n. elim n.step [ Done ↦ next.Done | Refused f ↦ next.Refused f | Failed f ↦ next.Failed f | Passes h ↦ next.Passes h | Replaced ↦ next.Replaced | Called c ↦ next.Called c.head c.replaced.now c.arguments.items c.both ] };
+    ghost view = { λ n. elim n.step [
+      | Done ↦ next.Done
+      | Refused f ↦ next.Refused f
+      | Failed f ↦ next.Failed f
+      | Passes h ↦ next.Passes h
+      | Replaced ↦ next.Replaced
+      | Called c ↦ next.Called c.head c.replaced.now c.arguments.items c.both
+    ] };
 }
 
 /// The macro that a token names.

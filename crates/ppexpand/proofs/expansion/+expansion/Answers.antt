@@ -1,4 +1,4 @@
-use Rattle.std.proofs.Common.{◌≡◌, ◌∙◌, ◌∷◌, ◌++◌, [], ◌+◌, ◌<◌, drop, length, get_or, Ok, Err, Some, None, true, false, refl, sym, ap, subst, arith, rules}
+use Rattle.std.proofs.Common.{◌≡◌, ◌∙◌, ◌∷◌, ◌++◌, [], ◌+◌, ◌<◌, drop, length, get_or, Ok, Err, Some, None, true, false, refl, sym, ap, subst, arith}
 use Rattle.std.specs.Option.{option_map}
 use Rattle.std.proofs.lemmas.List.{length-append}
 use Rattle.std.proofs.lemmas.Result.{IfOk-weaker, on_ok_weaker}
@@ -51,24 +51,29 @@ advance-returns-clause-list_known m c = λ goes. c.in_ok-follow.ensures.known (r
 
 -- ---- an invocation
 
-pub follow-returns-in_default-clause-is : goal.follow-returns-in_default-clause-is
-follow-returns-in_default-clause-is m c =
-    let raised = rw c.in_default.is at c.in_ok-expanded.ensures.is in
-    rw raised.1 (refuses {f = raised.0} (raised.2 c.args.list.now))
+pub follow-returns-then-is_some-clause-is : goal.follow-returns-then-is_some-clause-is
+follow-returns-then-is_some-clause-is m c =
+    let raised = raised_some c.expand_arguments.new.fault (sym c.is_some.ensures ∙ c.if-is_some.true) in
+    rw raised.1 (refuses {f = raised.0} ((rw raised.1 at c.in_ok-expand_arguments.ensures.is) c.args.list.now))
 
-pub follow-returns-in_default-clause-known : goal.follow-returns-in_default-clause-known
-follow-returns-in_default-clause-known m c =
-    let raised = rw c.in_default.is at c.in_ok-expanded.ensures.is in
+pub follow-returns-then-is_some-clause-known : goal.follow-returns-then-is_some-clause-known
+follow-returns-then-is_some-clause-known m c =
+    let raised = raised_some c.expand_arguments.new.fault (sym c.is_some.ensures ∙ c.if-is_some.true) in
     raised_not c.expand_arguments.new.fault raised.0 raised.1
 
 pub follow-finish-requires-clause-call : goal.follow-finish-requires-clause-call
-follow-finish-requires-clause-call m c = call_known-keeps c.args.call.now c.in_ok-expanded.ensures.keeps c.requires.call_known
+follow-finish-requires-clause-call m c = call_known-keeps c.args.call.now c.in_ok-expand_arguments.ensures.keeps c.requires.call_known
+
+pub follow-finish-requires-clause-expanded : goal.follow-finish-requires-clause-expanded
+follow-finish-requires-clause-expanded m c =
+    subst (ExpansionsKnown c.expand_arguments.new.sets) (sym c.as_slice.ensures.value)
+    (c.in_ok-expand_arguments.ensures.known (raised_none c.expand_arguments.new.fault (sym c.is_some.ensures ∙ c.if-is_some.false)))
 
 pub follow-finish-requires-clause-list : goal.follow-finish-requires-clause-list
-follow-finish-requires-clause-list m c = known-keeps c.args.list.now c.in_ok-expanded.ensures.keeps c.requires.list_known
+follow-finish-requires-clause-list m c = known-keeps c.args.list.now c.in_ok-expand_arguments.ensures.keeps c.requires.list_known
 
 pub follow-finish-requires-clause-no_fault : goal.follow-finish-requires-clause-no_fault
-follow-finish-requires-clause-no_fault m c = (rw c.in-Some.is at c.in_ok-expanded.ensures.is).0
+follow-finish-requires-clause-no_fault m c = raised_none c.expand_arguments.new.fault (sym c.is_some.ensures ∙ c.if-is_some.false)
 
 pub follow-returns-clause-is : goal.follow-returns-clause-is
 follow-returns-clause-is m c =
@@ -76,10 +81,11 @@ follow-returns-clause-is m c =
     let list = c.args.list.now in
     let u = c.expand_arguments.new.sets in
     let v = c.finish.new.sets in
+    let made = c.expand_arguments.new.expanded.items in
     let call = call_of s c.args.call.now list in
-    let made = rw c.in-Some.is at c.in_ok-expanded.ensures.is in
-    let args : ExpandsArguments c.args.table.now c.args.env.now c.args.level call c.args.left.now (wanted call) c.expand_arguments.new.left (Ok (expanded_in u c.args.call.now.arguments.items c.in-Some.expanded.items)) = made.1 list in
-    let same = call_of-keeps c.args.call.now list c.in_ok-expanded.ensures.keeps c.requires.call_known c.requires.list_known in
+    let none = raised_none c.expand_arguments.new.fault (sym c.is_some.ensures ∙ c.if-is_some.false) in
+    let args : ExpandsArguments c.args.table.now c.args.env.now c.args.level call c.args.left.now (wanted call) c.expand_arguments.new.left (Ok (expanded_in u c.args.call.now.arguments.items made)) = (rw none at c.in_ok-expand_arguments.ensures.is) list in
+    let same = call_of-keeps c.args.call.now list c.in_ok-expand_arguments.ensures.keeps c.requires.call_known c.requires.list_known in
     on_ok_weaker c.finish.result
     (λ e. subst (Invokes c.args.table.now c.args.env.now c.args.level call c.args.left.now c.expand_arguments.new.left)
     (sym (e ∙ (λ i. finished (same i) (expanded_in u c.args.call.now.arguments.items (c.as_slice.ensures.value i)))))
@@ -87,7 +93,7 @@ follow-returns-clause-is m c =
     c.finish.ensures.is
 
 pub follow-returns-clause-keeps : goal.follow-returns-clause-keeps
-follow-returns-clause-keeps m c = keeps-after c.in_ok-expanded.ensures.keeps c.finish.ensures.keeps
+follow-returns-clause-keeps m c = keeps-after c.in_ok-expand_arguments.ensures.keeps c.finish.ensures.keeps
 
 -- ---- an argument
 
@@ -147,11 +153,11 @@ expand_argument-returns-clause-known m c =
 pub expand_arguments-loop-parameter-init : goal.expand_arguments-loop-parameter-init
 expand_arguments-loop-parameter-init m c = record {
   low = c.requires.level;
-  count = ap length c.in_ok-expanded.ensures.items;
+  count = ap length c.requires.none;
   no_fault = c.requires.no_fault;
-  known = rw c.in_ok-expanded.ensures.items (record { each = tt });
+  known = rw c.requires.none (record { each = tt });
   keeps = keeps-all c.args.sets.now;
-  follows = λ behind. rw c.in_ok-expanded.ensures.items (arguments_first c.args.table.now c.args.env.now c.args.level (call_of c.args.sets.now c.args.call.now behind) c.args.left.now);
+  follows = λ behind. rw c.requires.none (arguments_first c.args.table.now c.args.env.now c.args.level (call_of c.args.sets.now c.args.call.now behind) c.args.left.now);
 }
 
 pub expand_arguments-loop-parameter-preserved-then-not-index : goal.expand_arguments-loop-parameter-preserved-then-not-index
@@ -225,17 +231,19 @@ expand_arguments-returns-in-None-clause-is m c =
     ap (hidings u) c.as_slice-tokens.ensures.value ∙ hidings-keeps v.items c.loop-parameter.invariant.keeps (known-item s vs i v less is c.requires.known.arguments) in
     let raised = rw c.in-None.is at c.in_ok-expansion.ensures.is in
     let one : ExpandsArgument c.args.table.now c.args.env.now c.args.level c.args.call.now.head.token c.loop-parameter.left (hidings s v.items) c.expand_argument.new.left (Err raised.0) =
-    subst (λ l. ExpandsArgument c.args.table.now c.args.env.now c.args.level c.args.call.now.head.token c.loop-parameter.left l c.expand_argument.new.left (Err raised.0)) argument raised.2 in (
-      raised.0,
-      raised.1,
-      λ behind.
-          let call = call_of s c.args.call.now behind in
-          let rest = to_expand (i + 1) cs (drop (i + 1) (given_in s vs)) in
-          let here : ArgumentsFollow c.args.table.now c.args.env.now c.args.level call c.args.left.now (wanted call) (expanded_in u vs c.loop-parameter.expanded.items) c.loop-parameter.left (Some (hidings s v.items) ∷ rest) =
-          subst (ArgumentsFollow c.args.table.now c.args.env.now c.args.level call c.args.left.now (wanted call) (expanded_in u vs c.loop-parameter.expanded.items) c.loop-parameter.left) next (c.loop-parameter.invariant.follows behind) in
-          arguments_refused c.args.table.now c.args.env.now c.args.level call c.args.left.now (wanted call)
-          (expanded_in u vs c.loop-parameter.expanded.items) c.loop-parameter.left c.expand_argument.new.left rest (hidings s v.items) raised.0 here one,
-    )
+    subst (λ l. ExpandsArgument c.args.table.now c.args.env.now c.args.level c.args.call.now.head.token c.loop-parameter.left l c.expand_argument.new.left (Err raised.0)) argument raised.2 in
+    rw raised.1 (λ behind.
+    let call = call_of s c.args.call.now behind in
+    let rest = to_expand (i + 1) cs (drop (i + 1) (given_in s vs)) in
+    let here : ArgumentsFollow c.args.table.now c.args.env.now c.args.level call c.args.left.now (wanted call) (expanded_in u vs c.loop-parameter.expanded.items) c.loop-parameter.left (Some (hidings s v.items) ∷ rest) =
+    subst (ArgumentsFollow c.args.table.now c.args.env.now c.args.level call c.args.left.now (wanted call) (expanded_in u vs c.loop-parameter.expanded.items) c.loop-parameter.left) next (c.loop-parameter.invariant.follows behind) in
+    arguments_refused c.args.table.now c.args.env.now c.args.level call c.args.left.now (wanted call)
+    (expanded_in u vs c.loop-parameter.expanded.items) c.loop-parameter.left c.expand_argument.new.left rest (hidings s v.items) raised.0 here one)
+
+pub expand_arguments-returns-in-None-clause-known : goal.expand_arguments-returns-in-None-clause-known
+expand_arguments-returns-in-None-clause-known m c =
+    let raised = rw c.in-None.is at c.in_ok-expansion.ensures.is in
+    raised_not c.expand_argument.new.fault raised.0 raised.1
 
 pub expand_arguments-loop-parameter-preserved : goal.expand_arguments-loop-parameter-preserved
 expand_arguments-loop-parameter-preserved m c =
@@ -291,13 +299,14 @@ expand_arguments-returns-clause-is m c =
     let u = c.loop-parameter.sets in
     let vs = c.args.call.now.arguments.items in
     let cs = chains_of c.args.call.now.replaced.now in
-    let end : to_expand c.loop-parameter.parameter cs (drop c.loop-parameter.parameter (given_in s vs)) ≡ [] = rest-end s vs cs c.loop-parameter.parameter (omega (arith, c.loop-parameter-test.false)) in (
-      c.loop-parameter.invariant.no_fault,
-      λ behind.
-          let call = call_of s c.args.call.now behind in
-          arguments_end c.args.table.now c.args.env.now c.args.level call c.args.left.now (wanted call) (expanded_in u vs c.loop-parameter.expanded.items) c.loop-parameter.left
-          (subst (ArgumentsFollow c.args.table.now c.args.env.now c.args.level call c.args.left.now (wanted call) (expanded_in u vs c.loop-parameter.expanded.items) c.loop-parameter.left) end (c.loop-parameter.invariant.follows behind)),
-    )
+    let end : to_expand c.loop-parameter.parameter cs (drop c.loop-parameter.parameter (given_in s vs)) ≡ [] = rest-end s vs cs c.loop-parameter.parameter (omega (arith, c.loop-parameter-test.false)) in
+    rw c.loop-parameter.invariant.no_fault (λ behind.
+    let call = call_of s c.args.call.now behind in
+    arguments_end c.args.table.now c.args.env.now c.args.level call c.args.left.now (wanted call) (expanded_in u vs c.loop-parameter.expanded.items) c.loop-parameter.left
+    (subst (ArgumentsFollow c.args.table.now c.args.env.now c.args.level call c.args.left.now (wanted call) (expanded_in u vs c.loop-parameter.expanded.items) c.loop-parameter.left) end (c.loop-parameter.invariant.follows behind)))
+
+pub expand_arguments-returns-clause-known : goal.expand_arguments-returns-clause-known
+expand_arguments-returns-clause-known m c = λ none. c.loop-parameter.invariant.known
 
 -- ---- a list
 

@@ -12,7 +12,8 @@ use Rattle.ppexpand.proofs.expansion.take_turn.Goals as goal
 
 pub returns-in-Done-clause-on : goal.returns-in-Done-clause-on
 returns-in-Done-clause-on c =
-    let t : turn_within c.args.table.now c.args.env.now c.args.left.now (hidings c.args.sets.now c.args.list.now) ≡ Done = sym (ap (turn_in c.next_turn.new.sets c.next_turn.new.list) (sym (stepped c.next.inside c.next.view_is c.in-Done.is)) ∙ c.in_ok-next.ensures.is) in
+    let t : turn_within c.args.table.now c.args.env.now c.args.left.now (hidings c.args.sets.now c.args.list.now) ≡ Done =
+    sym (ap (turn_in c.next_turn.new.sets c.next_turn.new.list) (sym (stepped c.next.inside c.next.view_is c.in-Done.is)) ∙ c.in_ok-next.ensures.is) in
     rw (c.requires.no_call, c.requires.no_fault) (λ level. (done t, hidings-keeps _ c.in_ok-next.ensures.keeps c.requires.passed_known))
 
 pub returns-in-Done-clause-passed_known : goal.returns-in-Done-clause-passed_known
