@@ -57,6 +57,7 @@ fn fewer(commas: Option<usize>) -> Option<usize>
 }
 
 /// Ends an argument, which is put behind the others, and begins the next one.
+#[inline]
 fn end_argument<'a>(
     supply: &mut Supply<'a>,
     arguments: &mut Vec<Vec<Hidden<'a>>>,

@@ -116,7 +116,7 @@ impl<'a> Passed<'a> {
     }
 
     /// The tokens as one list.
-    #[inline(never)]
+    #[inline]
     pub(crate) fn into_vec(self, alloc: Global) -> Result<Vec<Hidden<'a>>, AllocError>
         ensures { IfOk result (λ v. v.items ≡ self.entry) }
     {

@@ -226,7 +226,8 @@ impl<'a> Run<'a> {
     pub fn to_vec(&self, alloc: Global) -> Result<Vec<Token>, AllocError>
         ensures { IfOk result (λ v. v.items ≡ self.now) }
     {
-        let mut tokens = Vec::new(alloc);
+        let (front, _, _) = self.parts();
+        let mut tokens = Vec::with_capacity(alloc, front.len())?;
         let mut left = self.iter();
         while let Some(token) = left.next() {
             put(&mut tokens, token.to_token()?)?;
