@@ -84,7 +84,8 @@ follow-returns-clause-is m c =
     let made = c.expand_arguments.new.expanded.items in
     let call = call_of s c.args.call.now list in
     let none = raised_none c.expand_arguments.new.fault (sym c.is_some.ensures ∙ c.if-is_some.false) in
-    let args : ExpandsArguments c.args.table.now c.args.env.now c.args.level call c.args.left.now (wanted call) c.expand_arguments.new.left (Ok (expanded_in u c.args.call.now.arguments.items made)) = (rw none at c.in_ok-expand_arguments.ensures.is) list in
+    let args : ExpandsArguments c.args.table.now c.args.env.now c.args.level call c.args.left.now (wanted call) c.expand_arguments.new.left (Ok (expanded_in u c.args.call.now.arguments.items made)) =
+    (rw none at c.in_ok-expand_arguments.ensures.is) list in
     let same = call_of-keeps c.args.call.now list c.in_ok-expand_arguments.ensures.keeps c.requires.call_known c.requires.list_known in
     on_ok_weaker c.finish.result
     (λ e. subst (Invokes c.args.table.now c.args.env.now c.args.level call c.args.left.now c.expand_arguments.new.left)
