@@ -1,7 +1,7 @@
 -- Texts that are printed one after another.
-use Rattle.std.proofs.Common.{◌≡◌, ℕ, ◌+◌, ◌<◌, Bool, true, false, List, [], ◌∷◌, ◌++◌, length, get_or, take, drop, flat_map, refl, sym, ap, ◌∙◌, subst, append_assoc, append-nil, take-append-drop, Option}
+use Rattle.std.proofs.Common.{◌≡◌, ℕ, ◌+◌, ◌<◌, ◌≤◌, Bool, true, false, List, [], ◌∷◌, ◌++◌, length, get_or, take, drop, flat_map, refl, sym, ap, ◌∙◌, subst, append_assoc, append-nil, take-append-drop, Option}
 use Rattle.std.proofs.lemmas.Bool.{false≢true}
-use Rattle.std.proofs.lemmas.List.{take_more, flat_map_more}
+use Rattle.std.proofs.lemmas.List.{take_all, take_more, flat_map_more}
 use lib.Seq.{take-append_seam}
 use Rattle.std.proofs.KnownBytes.{Appends-nil, Appends-trans}
 use Rattle.std.specs.Io.KnownBytes.{Appends}
@@ -70,6 +70,13 @@ pub puts_turn : {V A : Type 0} {written : V → Option (List ℕ)} {has_failed :
 puts_turn {t = t} whole xs i d x h is more a b =
     let front : take (i + 1) xs ≡ take i xs ++ x ∷ [] = take_more xs i d h ∙ ap (λ y. take i xs ++ y ∷ []) (sym is) in
     puts_as (sym (ap whole front ∙ more (take i xs))) (puts_then a b)
+
+-- a loop's end, behind its last turn
+pub puts_all : {V A : Type 0} {written : V → Option (List ℕ)} {has_failed : V → Bool} {w v : V} {p q : List ℕ}
+    → (whole : List A → List ℕ) (xs : List A) (i : ℕ) → length xs ≤ i
+    → Puts written has_failed w v p q (whole (take i xs))
+    → Puts written has_failed w v p q (whole xs)
+puts_all whole xs i h a = puts_as (ap whole (take_all i xs h)) a
 
 -- nothing waits at the end, and no write has failed: the whole text went out
 pub printed_all : {V : Type 0} {written : V → Option (List ℕ)} {has_failed : V → Bool} {w v : V} {p q text : List ℕ}

@@ -1,6 +1,7 @@
 // How the program ends, and what it says.
 ghost use Rattle.std.specs.Prelude.{◌≡◌};
 ghost use Rattle.ppserve.specs.Ending.{status_of, words_of};
+ghost use Rattle.ppserve.specs.declared.serving.RunFault.TheVariants.{List as Refused};
 
 use crate::serving::RunFault;
 
@@ -22,19 +23,28 @@ pub fn words(fault: &RunFault) -> &'static str
     ensures { result.now ≡ words_of fault.now }
 {
     match fault {
-        RunFault::List(1) => "cppunits: list refused L1",
-        RunFault::List(2) => "cppunits: list refused L2",
-        RunFault::List(3) => "cppunits: list refused L3",
-        RunFault::List(4) => "cppunits: list refused L4",
-        RunFault::List(5) => "cppunits: list refused L5",
-        RunFault::List(6) => "cppunits: list refused L6",
-        RunFault::List(7) => "cppunits: list refused L7",
-        RunFault::List(8) => "cppunits: list refused L8",
-        RunFault::List(9) => "cppunits: list refused L9",
-        RunFault::List(10) => "cppunits: list refused L10",
-        RunFault::List(_) => "cppunits: list refused",
+        RunFault::List(number) => refusal(*number),
         RunFault::Memory => "cppunits: out of memory",
         RunFault::Read => "cppunits: read failed",
         RunFault::Write => "cppunits: write failed",
+    }
+}
+
+/// The same of a list that is refused with this number.
+fn refusal(number: u8) -> &'static str
+    ensures { result.now ≡ words_of (Refused number) }
+{
+    match number {
+        1 => "cppunits: list refused L1",
+        2 => "cppunits: list refused L2",
+        3 => "cppunits: list refused L3",
+        4 => "cppunits: list refused L4",
+        5 => "cppunits: list refused L5",
+        6 => "cppunits: list refused L6",
+        7 => "cppunits: list refused L7",
+        8 => "cppunits: list refused L8",
+        9 => "cppunits: list refused L9",
+        10 => "cppunits: list refused L10",
+        _ => "cppunits: list refused",
     }
 }

@@ -297,9 +297,10 @@ fn put_dep<W: Sink>(page: &mut Page, writer: &mut W, names: &Texts, row: usize)
 fn put_name<W: Sink>(page: &mut Page, writer: &mut W, names: &Texts, row: usize)
     ensures { Puts W.written W.has_failed writer.old writer.new page.old page.new (escaped (name_in names.now row)) }
 {
-    if let Some(name) = names.as_slice().get(row) {
-        put_escaped(page, writer, name.as_bytes());
-    }
+    let Some(name) = names.as_slice().get(row) else {
+        return;
+    };
+    put_escaped(page, writer, name.as_bytes());
 }
 
 fn put_last<W: Sink>(page: &mut Page, writer: &mut W, fault: &Option<Fault>)

@@ -6,7 +6,7 @@ ghost use Rattle.ppserve.specs.declared.serving.RunFault.TheVariants.{List as Li
 ghost use Rattle.ppserve.specs.declared.serving.RunFault.TheVariants.{Read as ReadFailed, Write as WriteFailed};
 ghost use Rattle.ppserve.specs.Serving.{some_fault, Received, Comes, HandsOut, HandsOutFront, Serves, BreaksOff, Refuses, KnownBytesDecide};
 
-use crate::list::{List, ListFault, MOST_INPUT, read_list};
+use crate::list::{Contents, List, ListFault, MOST_INPUT, read_list};
 use crate::output::{Mode, print};
 use crate::page::Page;
 use crate::running::{Crew, empty_shelf, filled_shelf, over_contents, over_disk};
@@ -93,48 +93,50 @@ pub fn serve<T: Threads + Sync, R: Feed, W: Sink>(
         BreaksOff true StandIn mode (R.rest reader.old) (R.rest reader.new) (W.written writer.old) (W.written writer.new) }
     ensures untouched { IfErr result (λ fault. fault ≢ WriteFailed → writer.new ≡ writer.old) }
 {
-    let list = receive(alloc, reader, true, hashing)?;
+    let mut list = receive(alloc, reader, true, hashing)?;
     let crew = Crew {
         workers,
         block,
         mode,
     };
-    hand_out_held(threads, alloc, writer, list, crew, hashing)
+    hand_out_held(threads, alloc, writer, &mut list, crew, hashing)
 }
 
 /// Preprocesses the units of a list that holds its files by so many workers, and writes their output once they are all done. Answers whether some unit has a
-/// fault.
+/// fault. The list's contents are given away.
 fn hand_out_held<T: Threads + Sync, W: Sink>(
     threads: &T,
     alloc: Global,
     writer: &mut W,
-    list: List,
+    list: &mut List,
     crew: Crew,
     hashing: Hashing,
 ) -> Result<bool, RunFault>
     requires writer { W.has_failed writer.old ≡ false }
-    requires runnable { IsRunnable list }
-    requires contents { length list.contents ≡ length list.names }
+    requires runnable { IsRunnable list.old }
+    requires contents { length list.old.contents ≡ length list.old.names }
     requires workers { (1 ≤ crew.workers) × (crew.workers ≤ 64) }
     requires block { (1 ≤ crew.block) × (crew.block ≤ 1024) }
-    ensures ok { IfOk result (λ any. (before after : Option (ListOf ℕ)) → Comes true before after list
+    ensures ok { IfOk result (λ any. (before after : Option (ListOf ℕ)) → Comes true before after list.old
         → Serves true StandIn crew.mode before after (W.written writer.old) (W.written writer.new) any) }
     ensures kinds { IfErr result (λ fault. (fault ≡ OutOfMemory) ⊎ (fault ≡ WriteFailed)) }
     ensures write { IsErrOf result WriteFailed → W.has_failed writer.new ≡ true }
-    ensures broken_off { IsErrOf result WriteFailed → (before after : Option (ListOf ℕ)) → Comes true before after list
+    ensures broken_off { IsErrOf result WriteFailed → (before after : Option (ListOf ℕ)) → Comes true before after list.old
         → BreaksOff true StandIn crew.mode before after (W.written writer.old) (W.written writer.new) }
     ensures untouched { IfErr result (λ fault. fault ≢ WriteFailed → writer.new ≡ writer.old) }
 {
-    let List {
-        setting,
-        names,
-        contents,
+    let contents = mem::replace(&mut list.contents, Contents::new(Vec::new(alloc)));
+    let shelf = filled_shelf(alloc, &list.names, list.setting.profile, contents, hashing)?;
+    let units = list.units.as_slice();
+    let outs = over_contents(threads, alloc, &shelf, &list.setting, units, crew)?;
+    let answer = hand_out(
+        alloc,
+        writer,
+        crew.mode,
+        &list.names,
         units,
-    } = list;
-    let shelf = filled_shelf(alloc, &names, setting.profile, contents, hashing)?;
-    let units = units.as_slice();
-    let outs = over_contents(threads, alloc, &shelf, &setting, units, crew)?;
-    let answer = hand_out(alloc, writer, crew.mode, &names, units, outs.as_slice());
+        outs.as_slice(),
+    );
     // The program ends next: the system takes memory back at once, where token by token it costs a tenth of a run.
     mem::forget(outs);
     mem::forget(shelf);

@@ -1,5 +1,5 @@
 // The judgement of a list's names, sizes and texts.
-ghost use Rattle.std.specs.Prelude.{◌≡◌, ◌≤◌, ℕ, IfOk, IfErr, OnOk, IsErrOf, true, false, [], map, length, nat_le, if◌then◌else◌};
+ghost use Rattle.std.specs.Prelude.{◌≡◌, ◌≤◌, ℕ, Bool, IfOk, IfErr, OnOk, IsErrOf, true, false, [], map, length, nat_le, if◌then◌else◌};
 ghost use Rattle.std.specs.List.{list_all};
 ghost use Rattle.ppshelf.specs.Content.{longest};
 ghost use Rattle.ppshelf.specs.Names as shelf_spec;
@@ -7,7 +7,7 @@ ghost use Rattle.ppunit.specs.Forms as form;
 ghost use Rattle.ppunit.specs.Unit.{command_text};
 ghost use Rattle.ppserve.specs.Listing as spec;
 ghost use Rattle.ppserve.specs.Listing.{RefusedFor, judged, judged_texts, judged_choices, accepted, refused};
-ghost use Rattle.ppserve.specs.declared.list.ListFault.TheVariants.{Bad};
+ghost use Rattle.ppserve.specs.declared.list.ListFault.TheVariants.{Bad, Memory as OutOfMemory};
 
 use crate::list::drafts::{Draft, DraftBudget, DraftFile, DraftSetting, DraftUnit, WrittenBudget};
 use crate::list::{Contents, List, ListFault, Units};
@@ -34,54 +34,80 @@ pub(super) fn judge(
     ensures ok { IfOk result (λ l. judged inline draft ≡ accepted l) }
     ensures bad { (n : ℕ) → IsErrOf result (Bad n) → judged inline draft ≡ refused n }
 {
-    let index = index_files(alloc, draft.files.as_slice(), hashing)?;
-    if !sizes_hold(&draft) {
-        return Err(ListFault::Bad(4));
+    match rows_and_profile(alloc, &draft, hashing) {
+        Ok((index, profile)) => listed(alloc, draft, &index, profile, inline),
+        Err(fault) => Err(fault),
     }
-    if !files_are_known(&index, draft.units.as_slice()) {
-        return Err(ListFault::Bad(5));
-    }
-    judge_texts(alloc, draft, &index, inline)
 }
 
-/// The same of a draft whose names, sizes and units' files hold: its date and time, definitions and folders.
-fn judge_texts(alloc: Global, draft: Draft, index: &Index, inline: bool) -> Result<List, ListFault>
-    requires names { index.now ≡ spec.names_of draft.files }
-    requires fits { spec.commands_fit draft.units ≡ true }
-    ensures ok { IfOk result (λ l. judged_texts inline draft ≡ accepted l) }
-    ensures bad { (n : ℕ) → IsErrOf result (Bad n) → judged_texts inline draft ≡ refused n }
+/// The rows of the files' names, and the profile of a draft that is not refused.
+fn rows_and_profile(
+    alloc: Global,
+    draft: &Draft,
+    hashing: Hashing,
+) -> Result<(Index, Profile), ListFault>
+    ensures names { IfOk result (λ r. r.0 ≡ spec.names_of draft.now.files) }
+    ensures profile { IfOk result (λ r. r.1 ≡ spec.profile_of draft.now.setting) }
+    ensures fits { OnOk result (spec.commands_fit draft.now.units ≡ true) }
+    ensures ok { OnOk result ((inline : Bool) → judged inline draft.now ≡ accepted (spec.listed inline draft.now)) }
+    ensures bad { (n : ℕ) → IsErrOf result (Bad n) → (inline : Bool) → judged inline draft.now ≡ refused n }
+{
+    let index = index_files(alloc, draft.files.as_slice(), hashing)?;
+    match sound_profile(draft, &index) {
+        Ok(profile) => Ok((index, profile)),
+        Err(number) => Err(ListFault::Bad(number)),
+    }
+}
+
+/// The profile of a draft whose names hold, or the number of its refusal.
+fn sound_profile(draft: &Draft, index: &Index) -> Result<Profile, u8>
+    requires names { index.now ≡ spec.names_of draft.now.files }
+    requires hold { spec.names_hold draft.now.files ≡ true }
+    ensures profile { IfOk result (λ p. p ≡ spec.profile_of draft.now.setting) }
+    ensures fits { OnOk result (spec.commands_fit draft.now.units ≡ true) }
+    ensures ok { OnOk result ((inline : Bool) → judged inline draft.now ≡ accepted (spec.listed inline draft.now)) }
+    ensures bad { IfErr result (λ n. (inline : Bool) → judged inline draft.now ≡ refused n) }
+{
+    if !sizes_hold(draft) {
+        return Err(4);
+    }
+    if !files_are_known(index, draft.units.as_slice()) {
+        return Err(5);
+    }
+    profile_behind_texts(draft)
+}
+
+/// The same of a draft whose names, sizes and units' files hold: its date and time, definitions and folders are next.
+fn profile_behind_texts(draft: &Draft) -> Result<Profile, u8>
+    ensures profile { IfOk result (λ p. p ≡ spec.profile_of draft.now.setting) }
+    ensures ok { OnOk result ((inline : Bool) → judged_texts inline draft.now ≡ accepted (spec.listed inline draft.now)) }
+    ensures bad { IfErr result (λ n. (inline : Bool) → judged_texts inline draft.now ≡ refused n) }
 {
     if !times_hold(&draft.setting) {
-        return Err(ListFault::Bad(6));
+        return Err(6);
     }
     if !lines_hold(draft.units.as_slice()) {
-        return Err(ListFault::Bad(7));
+        return Err(7);
     }
-    if !folders_hold(&draft) {
-        return Err(ListFault::Bad(8));
+    if !folders_hold(draft) {
+        return Err(8);
     }
-    judge_choices(alloc, draft, index, inline)
+    chosen_profile(draft)
 }
 
-/// The same of a draft whose texts hold as well: its profile and its budget.
-fn judge_choices(
-    alloc: Global,
-    draft: Draft,
-    index: &Index,
-    inline: bool,
-) -> Result<List, ListFault>
-    requires names { index.now ≡ spec.names_of draft.files }
-    requires fits { spec.commands_fit draft.units ≡ true }
-    ensures ok { IfOk result (λ l. judged_choices inline draft ≡ accepted l) }
-    ensures bad { (n : ℕ) → IsErrOf result (Bad n) → judged_choices inline draft ≡ refused n }
+/// The same of a draft whose texts hold as well: its profile and its budget are left.
+fn chosen_profile(draft: &Draft) -> Result<Profile, u8>
+    ensures profile { IfOk result (λ p. p ≡ spec.profile_of draft.now.setting) }
+    ensures ok { OnOk result ((inline : Bool) → judged_choices inline draft.now ≡ accepted (spec.listed inline draft.now)) }
+    ensures bad { IfErr result (λ n. (inline : Bool) → judged_choices inline draft.now ≡ refused n) }
 {
     let Some(profile) = profile_named(draft.setting.profile.as_str()) else {
-        return Err(ListFault::Bad(9));
+        return Err(9);
     };
     if !is_budget(&draft.setting.budget) {
-        return Err(ListFault::Bad(10));
+        return Err(10);
     }
-    Ok(listed(alloc, draft, index, profile, inline)?)
+    Ok(profile)
 }
 
 /// The rows of the files' names.
@@ -178,11 +204,12 @@ fn listed(
     index: &Index,
     profile: Profile,
     inline: bool,
-) -> Result<List, Memory>
+) -> Result<List, ListFault>
     requires names { index.now ≡ spec.names_of draft.files }
     requires profile { profile ≡ spec.profile_of draft.setting }
     requires fits { spec.commands_fit draft.units ≡ true }
-    ensures { IfOk result (λ l. l ≡ spec.listed inline draft) }
+    ensures ok { IfOk result (λ l. l ≡ spec.listed inline draft) }
+    ensures err { IfErr result (λ fault. fault ≡ OutOfMemory) }
 {
     let Draft {
         setting,

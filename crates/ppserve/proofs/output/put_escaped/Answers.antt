@@ -1,7 +1,7 @@
 use Rattle.std.proofs.Common.{◌≡◌, ℕ, List, [], ◌∷◌, ◌++◌, take, drop, refl, sym, ap, ◌∙◌, take-append-drop, append_assoc, append-nil, length, arith, rules}
 use Rattle.std.proofs.lemmas.Grind.{flat_map-append}
 use Rattle.ppserve.specs.Output.{escaped, escaped_byte}
-use Rattle.ppserve.proofs.Printing.{puts_as, puts_then}
+use Rattle.ppserve.proofs.Printing.{puts_as, puts_none, puts_then}
 use Rattle.ppserve.proofs.output.put_escaped.Goals as goal
 
 -- a front of plain bytes stands for itself
@@ -12,6 +12,9 @@ plain_front rest run others n front back plain =
 none_left : (bytes : List ℕ) → length bytes ≡ 0 → bytes ≡ []
 none_left [] e = refl
 none_left (b ∷ bs) e = absurd (omega (arith, e))
+
+pub loop-rest-init : goal.loop-rest-init
+loop-rest-init g c = record { done = []; whole = refl; out = puts_none }
 
 pub returns-in_default : goal.returns-in_default
 returns-in_default g c =

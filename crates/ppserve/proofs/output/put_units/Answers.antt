@@ -1,7 +1,10 @@
 use Rattle.std.proofs.Common.{◌<◌, length, arith}
 use Rattle.ppserve.specs.Output.{unit_lines}
-use Rattle.ppserve.proofs.Printing.{puts_numbered}
+use Rattle.ppserve.proofs.Printing.{puts_none, puts_numbered}
 use Rattle.ppserve.proofs.output.put_units.Goals as goal
+
+pub loop-index-init : goal.loop-index-init
+loop-index-init g c = puts_none
 
 pub loop-index-preserved : goal.loop-index-preserved
 loop-index-preserved g c =

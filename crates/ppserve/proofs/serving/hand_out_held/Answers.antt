@@ -6,30 +6,30 @@ use Rattle.ppserve.proofs.Giving.{broken_off, came_of, can_run, few_units, gives
 use Rattle.ppserve.proofs.serving.hand_out_held.Goals as goal
 
 pub over_contents-requires-clause-count : goal.over_contents-requires-clause-count
-over_contents-requires-clause-count g c κs within = few_units c.args.list c.as_slice-units.result.now c.requires.runnable c.as_slice-units.ensures
+over_contents-requires-clause-count g c κs within = few_units c.args.list.now c.as_slice-units.result.now c.requires.runnable c.as_slice-units.ensures
 
 pub over_contents-requires-clause-units : goal.over_contents-requires-clause-units
-over_contents-requires-clause-units g c κs within = can_run c.args.list c.in_ok-shelf.shelf.names c.as_slice-units.result.now c.requires.runnable c.in_ok-shelf.ensures.names c.as_slice-units.ensures
+over_contents-requires-clause-units g c κs within = can_run c.args.list.now c.in_ok-shelf.shelf.names c.as_slice-units.result.now c.requires.runnable c.in_ok-shelf.ensures.names c.as_slice-units.ensures
 
 pub hand_out-answer-requires-clause-counts : goal.hand_out-answer-requires-clause-counts
 hand_out-answer-requires-clause-counts g c =
-    let list = c.args.list in
+    let list = c.args.list.now in
     let outs = c.in_ok-outs.outs.items in
-    let gives = gives_all (needed c.args.crew.mode) list c.in_ok-shelf.shelf c.as_slice-units.result.now outs c.in_ok-shelf.ensures.names c.in_ok-shelf.ensures.files c.as_slice-units.ensures c.in_ok-outs.ensures in
+    let gives = gives_all (needed c.args.crew.mode) list c.in_ok-shelf.shelf c.as_slice-units.result.now outs c.in_ok-shelf.ensures.names (c.in_ok-shelf.ensures.files ∙ ap files_of c.replace-contents.ensures.value) c.as_slice-units.ensures c.in_ok-outs.ensures in
     ap length c.as_slice.ensures.value ∙ (one_each (needed c.args.crew.mode) list.names (files_of list.contents) list.setting list.units outs gives ∙ sym (ap length c.as_slice-units.ensures))
 
 pub returns-clause-ok : goal.returns-clause-ok
 returns-clause-ok g c =
-    let list = c.args.list in
+    let list = c.args.list.now in
     let outs = c.in_ok-outs.outs.items in
-    let gives = gives_all (needed c.args.crew.mode) list c.in_ok-shelf.shelf c.as_slice-units.result.now outs c.in_ok-shelf.ensures.names c.in_ok-shelf.ensures.files c.as_slice-units.ensures c.in_ok-outs.ensures in
+    let gives = gives_all (needed c.args.crew.mode) list c.in_ok-shelf.shelf c.as_slice-units.result.now outs c.in_ok-shelf.ensures.names (c.in_ok-shelf.ensures.files ∙ ap files_of c.replace-contents.ensures.value) c.as_slice-units.ensures c.in_ok-outs.ensures in
     if_ok_then c.hand_out-answer.result c.hand_out-answer.ensures.ok (λ any given before after came. served c.args.crew.mode list _ _ _ _ any (came_of c.args.crew.mode list c.as_slice-units.result.now c.as_slice.result.now outs
     c.as_slice-units.ensures c.as_slice.ensures.value came (files_of list.contents) refl gives) given)
 
 pub returns-clause-broken_off : goal.returns-clause-broken_off
 returns-clause-broken_off g c = λ failed before after came.
-    let list = c.args.list in
+    let list = c.args.list.now in
     let outs = c.in_ok-outs.outs.items in
-    let gives = gives_all (needed c.args.crew.mode) list c.in_ok-shelf.shelf c.as_slice-units.result.now outs c.in_ok-shelf.ensures.names c.in_ok-shelf.ensures.files c.as_slice-units.ensures c.in_ok-outs.ensures in
+    let gives = gives_all (needed c.args.crew.mode) list c.in_ok-shelf.shelf c.as_slice-units.result.now outs c.in_ok-shelf.ensures.names (c.in_ok-shelf.ensures.files ∙ ap files_of c.replace-contents.ensures.value) c.as_slice-units.ensures c.in_ok-outs.ensures in
     broken_off c.args.crew.mode list _ _ _ _ (came_of c.args.crew.mode list c.as_slice-units.result.now c.as_slice.result.now outs
     c.as_slice-units.ensures c.as_slice.ensures.value came (files_of list.contents) refl gives) (c.hand_out-answer.ensures.front failed)
