@@ -1,5 +1,5 @@
 -- From what is read of a unit's definitions and what is walked to the unit's value.
-use Rattle.std.proofs.Common.{◌≡◌, ◌↔◌, ℕ, List, [], Option, None, Result, Ok, Err, refl, ap, ◌∙◌, subst}
+use Rattle.std.proofs.Common.{◌≡◌, ◌↔◌, ℕ, List, [], Option, None, Result, Ok, Err, ap, ◌∙◌, subst}
 use Rattle.pptext.specs.declared.tokens.Fault.{Fault}
 use Rattle.pptext.specs.declared.stops.Stop.{Stop}
 use Rattle.pptext.specs.declared.stops.Stop.TheVariants.{Fault as Faulted, Memory as OutOfMemory}
@@ -12,6 +12,7 @@ use Rattle.ppshelf.specs.Files.{Files, Extends}
 use Rattle.ppunit.specs.States.{State, Surroundings, Reached, going, stopped, given}
 use Rattle.ppunit.specs.declared.units.Unit.{Unit as UnitOfList}
 use Rattle.ppunit.specs.declared.units.Setting.{Setting}
+use Rattle.ppunit.specs.declared.units.UnitOut.{UnitOut}
 use Rattle.ppunit.specs.Group.{Opened}
 use Rattle.ppunit.specs.Unit.{IsUnit, beginning, command_file, command_text, unread, processed, Translates, undefined, translated, first_place}
 use Rattle.ppunit.specs.Opening.{Entered}
@@ -85,21 +86,23 @@ pub translated_unit : (around : Files → Surroundings) (files more : Files) (de
     → Translates (around more) defines row s (record { state = u; fault = g })
 translated_unit around files more defines row s t u g over grows opens = translated (over more grows) (opens more (extends_itself more))
 
+-- what a unit gives over the files of its own library is its value
 pub whole_unit : (names : List (List ℕ)) (profile : Profile) (files : Files) (setting : Setting) (unit : UnitOfList) (ours theirs : List (List ℕ))
-    (s : State) (r : Reached)
+    (r : Reached) (out : UnitOut)
     → profile ≡ setting.profile
     → ours ≡ unit.search
     → theirs ≡ setting.search
-    → s ≡ beginning setting
     → Translates (record { names = names; profile = profile; files = files; unit_folders = ours; setting_folders = theirs }) unit.defines.texts
-    unit.file s r
-    → IsUnit names files setting unit (given r)
-whole_unit names profile files setting unit ours theirs s r p e f b is =
-    let Of : Profile → List (List ℕ) → List (List ℕ) → State → Type 0 = λ q o t z.
-    Translates (record { names = names; profile = q; files = files; unit_folders = o; setting_folders = t }) unit.defines.texts unit.file z r in
+    unit.file (beginning setting) r
+    → out ≡ given r
+    → IsUnit names files setting unit out
+whole_unit names profile files setting unit ours theirs r out p e f is gives =
+    let Of : Profile → List (List ℕ) → List (List ℕ) → Type 0 = λ q o t.
+    Translates (record { names = names; profile = q; files = files; unit_folders = o; setting_folders = t }) unit.defines.texts unit.file
+    (beginning setting) r in
     record {
       reached = r;
-      translates = subst (Of setting.profile unit.search setting.search) b
-          (subst (λ z. Of setting.profile unit.search z s) f (subst (λ z. Of setting.profile z theirs s) e (subst (λ z. Of z ours theirs s) p is)));
-      gives = refl;
+      translates = subst (Of setting.profile unit.search) f
+          (subst (λ z. Of setting.profile z theirs) e (subst (λ z. Of z ours theirs) p is));
+      gives = gives;
     }

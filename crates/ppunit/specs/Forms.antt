@@ -19,11 +19,16 @@ two_digits a b = (a - 48) * 10 + (b - 48)
 abbrev pub is_pair : ℕ → ℕ → ℕ → Bool
 is_pair most a b = is_digit a && is_digit b && nat_le (two_digits a b) most
 
+-- a month from July on
+abbrev pub is_late_month : List ℕ → Bool
+is_late_month m =
+    bytes_eq m (codes "Jul") || bytes_eq m (codes "Aug") || bytes_eq m (codes "Sep") || bytes_eq m (codes "Oct")
+    || bytes_eq m (codes "Nov") || bytes_eq m (codes "Dec")
+
 abbrev pub is_month : List ℕ → Bool
 is_month m =
     bytes_eq m (codes "Jan") || bytes_eq m (codes "Feb") || bytes_eq m (codes "Mar") || bytes_eq m (codes "Apr")
-    || bytes_eq m (codes "May") || bytes_eq m (codes "Jun") || bytes_eq m (codes "Jul") || bytes_eq m (codes "Aug")
-    || bytes_eq m (codes "Sep") || bytes_eq m (codes "Oct") || bytes_eq m (codes "Nov") || bytes_eq m (codes "Dec")
+    || bytes_eq m (codes "May") || bytes_eq m (codes "Jun") || is_late_month m
 
 -- a day of a month in two places: 1 to 9 after a space, or 10 to 31
 abbrev pub is_day : ℕ → ℕ → Bool

@@ -6,6 +6,7 @@ pub mod LineControl
 pub mod Including
 pub mod Conditions
 pub mod Directives
+pub mod Replacing
 pub mod Group
 pub mod Counts
 pub mod Commands

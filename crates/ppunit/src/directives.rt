@@ -1,14 +1,15 @@
 // Control lines that open no file (6.10.3 to 6.10.7), and text runs.
-ghost use Rattle.std.specs.Prelude.{◌≡◌, IfOk, OnOk, Some, true};
+ghost use Rattle.std.specs.Prelude.{◌≡◌, IfOk, Some, true};
 ghost use Rattle.std.specs.Result.{result_err};
 ghost use Rattle.pptext.specs.Stops.{IfSettled};
 ghost use Rattle.ppunit.specs.Directives as spec;
 ghost use Rattle.ppunit.specs.Lines as spec_lines;
 ghost use Rattle.pptext.specs.Tree.{sign_place};
-ghost use Rattle.ppmacro.specs.Define.{after_define};
+ghost use Rattle.ppmacro.specs.Define.{after_define, after_undef};
+ghost use Rattle.ppunit.specs.States.{going};
 
 use crate::line_control::renumber;
-use crate::lines::{line_fault, name, operands, sign};
+use crate::lines::{line_fault, name, operands, push_space, sign};
 use crate::states::State;
 use ppexpand::expand;
 use ppmacro::{define, undef};
@@ -44,9 +45,7 @@ fn message(alloc: Global, tokens: &[Token]) -> Result<Vec<u8>, AllocError>
     let mut text = Vec::new(alloc);
     let mut first = true;
     for token in tokens {
-        if token.space && !first {
-            text.push(b' ')?;
-        }
+        push_space(&mut text, token, first)?;
         text.extend_from_slice(token.text.as_bytes())?;
         first = false;
     }
@@ -78,8 +77,8 @@ fn pragma<'x>(
     profile: Profile,
     row: usize,
     line: &'x [Token],
-) -> Result<(), AllocError>
-    ensures { OnOk result (state.new ≡ spec.pragma_passed profile row state.old line.now) }
+) -> Result<(), Stop>
+    ensures { IfSettled result (λ r. record { state = state.new; fault = result_err r } ≡ going (spec.pragma_passed profile row state.old line.now)) }
 {
     let tokens = operands(line);
     state.pass_pragma(sign(line), tokens)?;
@@ -108,6 +107,24 @@ fn define_by<'x>(alloc: Global, state: &mut State<'x>, line: &'x [Token]) -> Res
     }
 }
 
+// An `#undef` line (6.10.3.5).
+fn undef_by<'x>(alloc: Global, state: &mut State<'x>, line: &'x [Token]) -> Result<(), Stop>
+    ensures { IfSettled result (λ r.
+        record { state = state.new; fault = result_err r } ≡ spec.with_macros state.old (after_undef state.old.macros (sign_place line.now) (spec_lines.operands line.now))) }
+{
+    match undef(alloc, &mut state.macros, sign(line), operands(line))? {
+        Ok(()) => Ok(()),
+        Err(fault) => stopped(fault),
+    }
+}
+
+// Fault 8, with the name of a directive that there isn't.
+fn unknown(alloc: Global, line: &[Token]) -> Result<(), Stop>
+    ensures { IfSettled result (λ r. result_err r ≡ Some (spec_lines.named_fault 8 line.now)) }
+{
+    stopped(line_fault(alloc, 8, line, name(line))?)
+}
+
 // What a control line without lone quotes does, whatever its directive.
 #[inline(never)]
 fn control_any<'x>(
@@ -124,15 +141,12 @@ fn control_any<'x>(
         spec.ControlBy profile row (Some directive) state.old (spec_lines.directed directive line.now physical)
         (record { state = state.new; fault = result_err r })) }
 {
-    let at = sign(line);
     match directive {
         Directive::Define => define_by(alloc, state, line),
-        Directive::Undef => undef(alloc, &mut state.macros, at, operands(line))?.map_err(
-            Stop::Fault,
-        ),
+        Directive::Undef => undef_by(alloc, state, line),
         Directive::Line => renumber(alloc, state, line, physical),
-        Directive::Pragma => Ok(pragma(state, profile, row, line)?),
-        Directive::Unknown => Err(Stop::Fault(line_fault(alloc, 8, line, name(line))?)),
+        Directive::Pragma => pragma(state, profile, row, line),
+        Directive::Unknown => unknown(alloc, line),
         _ => Ok(()),
     }
 }

@@ -25,21 +25,16 @@ pub fn is_date(text: &[u8]) -> bool
 fn is_month(text: &[u8]) -> bool
     ensures { result ≡ spec.is_month text.now }
 {
-    matches!(
-        text,
-        b"Jan"
-            | b"Feb"
-            | b"Mar"
-            | b"Apr"
-            | b"May"
-            | b"Jun"
-            | b"Jul"
-            | b"Aug"
-            | b"Sep"
-            | b"Oct"
-            | b"Nov"
-            | b"Dec"
-    )
+    match text {
+        b"Jan" | b"Feb" | b"Mar" | b"Apr" | b"May" | b"Jun" => true,
+        _ => is_late_month(text),
+    }
+}
+
+fn is_late_month(text: &[u8]) -> bool
+    ensures { result ≡ spec.is_late_month text.now }
+{
+    matches!(text, b"Jul" | b"Aug" | b"Sep" | b"Oct" | b"Nov" | b"Dec")
 }
 
 fn is_day(first: u8, second: u8) -> bool

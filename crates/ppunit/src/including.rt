@@ -1,5 +1,5 @@
 // What an `#include` line asks for (6.10.2).
-ghost use Rattle.std.specs.Prelude.{◌≡◌, IfOk, [], true};
+ghost use Rattle.std.specs.Prelude.{◌≡◌, ◌∷◌, IfOk, [], true};
 ghost use Rattle.std.specs.Option.{option_map};
 ghost use Rattle.pptext.specs.Stops.{IfSettled};
 ghost use Rattle.ppunit.specs.Lines.{line_fault};
@@ -8,9 +8,9 @@ ghost use Rattle.ppunit.specs.Directives.{Asks, AsksReplaced};
 ghost use Rattle.ppunit.specs.States.{with_left};
 
 use crate::line_control::is_plain_string;
-use crate::lines::{line_fault, operands};
+use crate::lines::{line_fault, operands, push_space};
+use crate::replacing::replaced;
 use crate::states::State;
-use ppexpand::{Expanded, expand};
 use ppshelf::Form;
 use pptext::{Kind, Spelling, Stop, Token};
 use std::alloc::{AllocError, Global};
@@ -51,6 +51,17 @@ fn asking_for(alloc: Global, form: Form, name: &[u8]) -> Result<Asked, AllocErro
     })
 }
 
+// The form of a header name.
+fn form_of(text: &[u8]) -> Form
+    ensures { result ≡ spec.form_of text.now }
+{
+    if text.first() == Some(&b'"') {
+        Form::Quote
+    } else {
+        Form::Angle
+    }
+}
+
 // What a header name alone asks for.
 fn header_asked(alloc: Global, tokens: &[Token]) -> Result<Option<Asked>, AllocError>
     ensures { IfOk result (λ a. a ≡ spec.header_asked tokens.now) }
@@ -59,12 +70,7 @@ fn header_asked(alloc: Global, tokens: &[Token]) -> Result<Option<Asked>, AllocE
         return Ok(None);
     };
     let text = header.text.as_bytes();
-    let form = if text.first() == Some(&b'"') {
-        Form::Quote
-    } else {
-        Form::Angle
-    };
-    Ok(Some(asking_for(alloc, form, inner(text))?))
+    Ok(Some(asking_for(alloc, form_of(text), inner(text))?))
 }
 
 // The name up to `>`, which is the last token and stands nowhere else.
@@ -73,9 +79,7 @@ fn angle_name(alloc: Global, tokens: &[Token]) -> Result<Option<Vec<u8>>, AllocE
 {
     let mut name = Vec::new(alloc);
     for (index, token) in tokens.iter().enumerate() {
-        if token.space && index > 0 {
-            name.push(b' ')?;
-        }
+        push_space(&mut name, token, index == 0)?;
         if token.is_punct(b">") {
             return Ok(if index + 1 == tokens.len() {
                 Some(name)
@@ -88,23 +92,36 @@ fn angle_name(alloc: Global, tokens: &[Token]) -> Result<Option<Vec<u8>>, AllocE
     Ok(None)
 }
 
+// What a string literal behind replacement asks for, if it is one.
+fn string_asked(alloc: Global, only: &Token) -> Result<Option<Asked>, AllocError>
+    ensures { IfOk result (λ a. a ≡ spec.expanded_asked (only.now ∷ [])) }
+{
+    if !is_plain_string(only) {
+        return Ok(None);
+    }
+    Ok(Some(asking_for(alloc, Form::Quote, inner(only.text.as_bytes()))?))
+}
+
+// What the tokens behind `<` ask for.
+fn angle_asked(alloc: Global, tokens: &[Token]) -> Result<Option<Asked>, AllocError>
+    ensures { IfOk result (λ a. a ≡ spec.angled (spec.angle_name tokens.now)) }
+{
+    let Some(name) = angle_name(alloc, tokens)? else {
+        return Ok(None);
+    };
+    Ok(Some(Asked {
+        form: Form::Angle,
+        name: Spelling::new(name)?,
+    }))
+}
+
 // What the tokens behind replacement ask for.
 fn expanded_asked(alloc: Global, tokens: &[Token]) -> Result<Option<Asked>, AllocError>
     ensures { IfOk result (λ a. a ≡ spec.expanded_asked tokens.now) }
 {
     match tokens {
-        [only] if is_plain_string(only) => {
-            Ok(Some(asking_for(alloc, Form::Quote, inner(only.text.as_bytes()))?))
-        }
-        [first, rest @ ..] if first.is_punct(b"<") && !rest.is_empty() => {
-            let Some(name) = angle_name(alloc, rest)? else {
-                return Ok(None);
-            };
-            Ok(Some(Asked {
-                form: Form::Angle,
-                name: Spelling::new(name)?,
-            }))
-        }
+        [only] => string_asked(alloc, only),
+        [first, rest @ ..] if first.is_punct(b"<") => angle_asked(alloc, rest),
         _ => Ok(None),
     }
 }
@@ -125,23 +142,21 @@ fn is_nowhere(name: &[u8]) -> bool
     name.is_empty() || name[0] == b'/'
 }
 
+// What the tokens behind replacement ask for, or fault 30.
+fn asked_behind(alloc: Global, line: &[Token], tokens: &[Token]) -> Result<Asked, Stop>
+    ensures { IfSettled result (λ r. r ≡ spec.asked_or (line_fault 30 line.now []) (spec.if_somewhere (spec.expanded_asked tokens.now))) }
+{
+    let asked = expanded_asked(alloc, tokens)?;
+    asked_or_fault(alloc, line, asked)
+}
+
 // What an include line that names no header asks for once its macros are replaced.
 fn ask_replaced<'x>(alloc: Global, state: &mut State<'x>, line: &'x [Token]) -> Result<Asked, Stop>
     ensures rest { state.new ≡ with_left state.old state.new.left }
     ensures asks { IfSettled result (λ asked. AsksReplaced state.old line.now state.new.left asked) }
 {
-    let Expanded {
-        tokens,
-        fault,
-        left,
-    } = expand(alloc, &state.macros, &state.env, state.left, operands(line))?;
-    state.left = left;
-    if let Some(fault) = fault {
-        return Err(Stop::Fault(fault));
-    }
-    let tokens = tokens.to_vec(alloc)?;
-    let asked = expanded_asked(alloc, tokens.as_slice())?;
-    asked_or_fault(alloc, line, asked)
+    let tokens = replaced(alloc, state, operands(line))?;
+    asked_behind(alloc, line, tokens.as_slice())
 }
 
 /// What an include line without lone quotes asks for, or its fault: one of replacement, or 30. Only what is left of the budget

@@ -1,16 +1,18 @@
 // `#line` (6.10.4).
-ghost use Rattle.std.specs.Prelude.{◌≡◌, IfOk};
+ghost use Rattle.std.specs.Prelude.{◌≡◌, ◌+◌, ◌-ℤ◌, pos, [], IfOk};
+ghost use Rattle.std.specs.Option.{ok_or};
 ghost use Rattle.std.specs.Result.{result_err};
 ghost use Rattle.pptext.specs.Stops.{IfSettled};
 ghost use Rattle.pptext.specs.declared.sources.Directive.TheVariants.{Line};
 ghost use Rattle.ppunit.specs.LineControl as spec;
-ghost use Rattle.ppunit.specs.Lines.{directed};
+ghost use Rattle.ppunit.specs.Lines.{directed, line_fault};
 ghost use Rattle.ppunit.specs.Directives.{LineGives};
 
 use crate::forms::is_digit;
 use crate::lines::{line_fault, operands};
+use crate::replacing::replaced;
 use crate::states::State;
-use ppexpand::{Env, Expanded, expand};
+use ppexpand::Env;
 use pptext::{Kind, Spelling, Stop, Token};
 use std::alloc::{AllocError, Global};
 use std::marker::Model;
@@ -83,6 +85,24 @@ fn rename(env: &mut Env, name: Option<Spelling>)
     }
 }
 
+// What the tokens behind replacement say, or fault 33.
+fn presumed_or_fault(alloc: Global, line: &[Token], tokens: &[Token]) -> Result<Presumed, Stop>
+    ensures { IfSettled result (λ r. r ≡ ok_or (spec.presumed tokens.now) (line_fault 33 line.now [])) }
+{
+    match presumed_by(tokens)? {
+        Some(presumed) => Ok(presumed),
+        None => Err(Stop::Fault(line_fault(alloc, 33, line, b"")?)),
+    }
+}
+
+// The line behind this physical one gets the number, and the file perhaps a name.
+fn present(env: &mut Env, presumed: Presumed, physical: u32)
+    ensures { env.new ≡ record env.old { name = spec.or_old env.old.name presumed.name; shift = pos presumed.number -ℤ pos (physical + 1) } }
+{
+    env.shift = i64::from(presumed.number) - (i64::from(physical) + 1);
+    rename(env, presumed.name);
+}
+
 /// The line behind the directive's new-line, which stands in this physical line, gets a number, and the file perhaps a
 /// name; or the fault of replacement, or 33.
 pub(crate) fn renumber<'x>(
@@ -93,20 +113,8 @@ pub(crate) fn renumber<'x>(
 ) -> Result<(), Stop>
     ensures { IfSettled result (λ r. LineGives state.old (directed Line line.now physical) (record { state = state.new; fault = result_err r })) }
 {
-    let Expanded {
-        tokens,
-        fault,
-        left,
-    } = expand(alloc, &state.macros, &state.env, state.left, operands(line))?;
-    state.left = left;
-    if let Some(fault) = fault {
-        return Err(Stop::Fault(fault));
-    }
-    let tokens = tokens.to_vec(alloc)?;
-    let Some(presumed) = presumed_by(tokens.as_slice())? else {
-        return Err(Stop::Fault(line_fault(alloc, 33, line, b"")?));
-    };
-    state.env.shift = i64::from(presumed.number) - (i64::from(physical) + 1);
-    rename(&mut state.env, presumed.name);
+    let tokens = replaced(alloc, state, operands(line))?;
+    let presumed = presumed_or_fault(alloc, line, tokens.as_slice())?;
+    present(&mut state.env, presumed, physical);
     Ok(())
 }

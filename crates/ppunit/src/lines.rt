@@ -1,9 +1,10 @@
 // The parts of a directive line (6.10).
-ghost use Rattle.std.specs.Prelude.{◌≡◌, IfOk};
+ghost use Rattle.std.specs.Prelude.{◌≡◌, ◌++◌, IfOk, OnOk};
 ghost use Rattle.std.specs.Option.{option_copied};
 ghost use Rattle.std.specs.Result.{result_err};
 ghost use Rattle.pptext.specs.Stops.{IfSettled};
 ghost use Rattle.pptext.specs.Tree.{sign_place, name_of};
+ghost use Rattle.ppmacro.specs.Substitution.{spelled_space};
 ghost use Rattle.ppunit.specs.Lines as spec;
 ghost use Rattle.ppunit.specs.Quotes as quotes;
 
@@ -42,6 +43,16 @@ pub(crate) fn operands(line: &[Token]) -> &[Token]
         [_, _, rest @ ..] => rest,
         _ => &[],
     }
+}
+
+/// Puts a space, where a token that is not the first has a mark.
+pub(crate) fn push_space(text: &mut Vec<u8>, token: &Token, first: bool) -> Result<(), AllocError>
+    ensures { OnOk result (text.new.items ≡ text.old.items ++ spelled_space first token.now) }
+{
+    if token.space && !first {
+        text.push(b' ')?;
+    }
+    Ok(())
 }
 
 /// A fault at the line's `#`.

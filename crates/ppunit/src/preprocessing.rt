@@ -1,16 +1,18 @@
 // A whole unit: its definitions, and then its file.
-ghost use Rattle.std.specs.Prelude.{◌≡◌, ◌<◌, IfOk, All, length};
+ghost use Rattle.std.specs.Prelude.{◌≡◌, ◌<◌, IfOk, Ok, Option, All, length};
 ghost use Rattle.std.specs.Result.{result_err};
 ghost use Rattle.pptext.specs.Stops.{IfSettled};
+ghost use Rattle.pptext.specs.declared.tokens.Fault.{Fault};
 ghost use Rattle.ppshelf.specs.Files.{Files, Extends};
-ghost use Rattle.ppunit.specs.States.{surroundings_of, given};
+ghost use Rattle.ppunit.specs.States.{Reached, surroundings_of, given};
 ghost use Rattle.ppunit.specs.Group.{Opened};
-ghost use Rattle.ppunit.specs.Unit.{IsUnit, IsUnitOf, Translates, first_place};
+ghost use Rattle.ppunit.specs.Unit.{IsUnit, IsUnitOf, Translates, beginning, first_place};
 ghost use Rattle.ppunit.specs.Capped.{IsWithin, IsCappedOver};
 ghost use Rattle.ppunit.specs.Walk.{DefinesOver};
 
 use crate::definitions::{COMMAND_FILE, Definitions};
 use crate::laws::{budget_caps_units, stays_within};
+use crate::lists::{Items, Rows};
 use crate::opening::{Around, OpenFile, open};
 use crate::states::State;
 use crate::units::{Setting, Unit, UnitOut};
@@ -96,9 +98,47 @@ fn translate<'x, 'a: 'x, D: Disk>(
     process(around, pass, state, row)
 }
 
-// The answer of a unit that ends in this state, with this fault or none.
-fn answer<'x>(state: State<'x>, fault: Option<Fault>) -> UnitOut<'x>
-    ensures { result ≡ given (record { state = state.entry; fault = fault }) }
+// The first fault of a unit, if it has one.
+fn first_fault<'x, 'a: 'x, D: Disk>(
+    around: &Around<'a, '_, D>,
+    pass: &mut Pass<'a, D>,
+    state: &mut State<'x>,
+    unit: &'x Unit,
+) -> Result<Option<Fault>, Memory>
+    requires shelf { pass.old.shelf ≡ around.now.shelf }
+    requires row { unit.now.file < length around.now.shelf.names }
+    requires profile { unit.now.defines.profile ≡ around.now.shelf.profile }
+    ensures shelf { pass.new.shelf ≡ around.now.shelf }
+    ensures grows { Extends pass.new.files pass.old.files }
+    ensures translated { IfOk result (λ fault.
+        Translates (surroundings_of around.now pass.new.files) unit.now.defines.texts unit.now.file state.old
+        (record { state = state.new; fault = fault })) }
+{
+    let translated = translate(around, pass, state, &unit.defines, unit.file);
+    Ok(settled(translated)?.err())
+}
+
+// The answer of these items and dependencies, with the fault that the unit ended with or none; or want of memory.
+fn answer_of<'x>(
+    items: Items<'x>,
+    deps: Rows,
+    ended: Result<Option<Fault>, Memory>,
+) -> Result<UnitOut<'x>, Memory>
+    ensures { IfOk result (λ out.
+        (fault : Option Fault) × (ended ≡ Ok fault) × (out ≡ record { items = items.entry; deps = deps; fault = fault })) }
+{
+    let fault = ended?;
+    Ok(UnitOut {
+        items: items.fitted(),
+        deps,
+        fault,
+    })
+}
+
+// The answer of a unit that ends in this state.
+fn answer<'x>(state: State<'x>, ended: Result<Option<Fault>, Memory>) -> Result<UnitOut<'x>, Memory>
+    ensures { IfOk result (λ out.
+        (fault : Option Fault) × (ended ≡ Ok fault) × (out ≡ given (record { state = state.entry; fault = fault }))) }
 {
     let State {
         macros: _,
@@ -108,8 +148,29 @@ fn answer<'x>(state: State<'x>, fault: Option<Fault>) -> UnitOut<'x>
         deps,
         env: _,
     } = state;
-    let items = items.fitted();
-    UnitOut { items, deps, fault }
+    answer_of(items, deps, ended)
+}
+
+// What a unit gives over the files around it.
+fn give<'x, 'a: 'x, D: Disk>(
+    around: &Around<'a, '_, D>,
+    pass: &mut Pass<'a, D>,
+    setting: &Setting,
+    unit: &'x Unit,
+) -> Result<UnitOut<'x>, Memory>
+    requires shelf { pass.old.shelf ≡ around.now.shelf }
+    requires row { unit.now.file < length around.now.shelf.names }
+    requires profile { unit.now.defines.profile ≡ around.now.shelf.profile }
+    ensures shelf { pass.new.shelf ≡ around.now.shelf }
+    ensures grows { Extends pass.new.files pass.old.files }
+    ensures gives { IfOk result (λ out.
+        (reached : Reached)
+        × Translates (surroundings_of around.now pass.new.files) unit.now.defines.texts unit.now.file (beginning setting.now) reached
+        × (out ≡ given reached)) }
+{
+    let mut state = State::new(around.alloc, setting, around.shelf().hashing())?;
+    let ended = first_fault(around, pass, &mut state, unit);
+    answer(state, ended)
 }
 
 /// Translation phases 1 to 4 of a unit: its definitions, and then its file with all that it includes (5.1.1.2, 6.10).
@@ -144,8 +205,5 @@ pub fn preprocess<'x, 'a: 'x, D: Disk>(
     shelf.lawful();
     stays_within();
     budget_caps_units();
-    let mut state = State::new(alloc, setting, shelf.hashing())?;
-    let translated = translate(&around, pass, &mut state, &unit.defines, unit.file);
-    let fault = settled(translated)?.err();
-    Ok(answer(state, fault))
+    give(&around, pass, setting, unit)
 }

@@ -56,12 +56,7 @@ impl<'x> State<'x> {
     ) -> Result<State<'x>, Memory>
         ensures { IfOk result (λ s. s ≡ beginning setting.now) }
     {
-        let env = Env {
-            name: Spelling::empty(),
-            shift: 0,
-            date: spelled(alloc, setting.date.as_str())?,
-            time: spelled(alloc, setting.time.as_str())?,
-        };
+        let env = first_env(alloc, setting)?;
         Ok(State {
             macros: Table::with_hasher(alloc, hashing)?,
             items: Items::new(alloc),
@@ -106,6 +101,18 @@ impl<'x> State<'x> {
     {
         self.once.join(row)
     }
+}
+
+// What the predefined names stand for before any file.
+fn first_env(alloc: Global, setting: &Setting) -> Result<Env, AllocError>
+    ensures { IfOk result (λ e. e ≡ (beginning setting.now).env) }
+{
+    Ok(Env {
+        name: Spelling::empty(),
+        shift: 0,
+        date: spelled(alloc, setting.date.as_str())?,
+        time: spelled(alloc, setting.time.as_str())?,
+    })
 }
 
 // A text as a spelling.
