@@ -1,5 +1,6 @@
 -- The message of `#error` and the name of an include line, token by token: `first` says that none stands before.
-use Rattle.std.proofs.Common.{◌≡◌, ◌∙◌, refl, ap, ℕ, Bool, true, false, not, ◌&&◌, if◌then◌else◌, List, [], ◌∷◌, ◌++◌, flat_map, Option, None, codes}
+use Rattle.std.proofs.Common.{◌≡◌, ◌∙◌, refl, sym, ap, ℕ, suc, ◌+◌, ◌<◌, ◌==◌, Bool, true, false, not, ◌&&◌, if◌then◌else◌, List, [], ◌∷◌, ◌++◌, length, get_or, drop, flat_map, Option, None, Some, codes, arith, add-one, append_assoc, drop-cons}
+use Rattle.std.proofs.lemmas.Bool.Decides.{nat_tests}
 use Rattle.pptext.specs.declared.tokens.Token.{Token}
 use Rattle.pptext.specs.Tokens.{is_punct}
 use Rattle.ppmacro.specs.Substitution.{spelled_space}
@@ -55,3 +56,19 @@ named_behind (t ∷ ts) =
 pub named_angle : (ts : List Token) → named true ts ≡ angle_name ts
 named_angle [] = refl
 named_angle (t ∷ ts) = ap (from t ts (named false ts)) (unmarked t.space) ∙ ap (λ more. from t ts more []) (named_behind ts)
+
+prefixed_twice : (a b c : List ℕ) (more : Option (List ℕ)) → prefixed ((a ++ b) ++ c) more ≡ prefixed a (prefixed (b ++ c) more)
+prefixed_twice a b c None = refl
+prefixed_twice a b c (Some more) = ap Some (simp append_assoc)
+
+-- one token more, which is no `>`
+pub named_more : (ts : List Token) (i : ℕ) (t : Token) (name longer : List ℕ)
+    → i < length ts
+    → t ≡ get_or ts i t
+    → is_punct (codes ">") t ≡ false
+    → longer ≡ (name ++ spelled_space (i == 0) t) ++ t.text
+    → prefixed longer (named (i + 1 == 0) (drop (i + 1) ts)) ≡ prefixed name (named (i == 0) (drop i ts))
+named_more ts i t name longer h is other more =
+    let here : drop i ts ≡ t ∷ drop (suc i) ts = drop-cons ts i t h ∙ ap (λ (z : Token). z ∷ drop (suc i) ts) (sym is) in
+    let later : (i + 1 == 0) ≡ false = grind (arith, nat_tests) in
+    rw (later, add-one, more, here, other) (prefixed_twice name (spelled_space (i == 0) t) t.text (named false (drop (suc i) ts)))
