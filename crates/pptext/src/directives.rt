@@ -5,7 +5,7 @@ ghost use Rattle.pptext.specs.Lines.{directive_names, later_names, named_in, dir
 ghost use Rattle.pptext.specs.Tree.{opens_section, has_condition, ends_group, role_by, TextLine, ControlLine, Opens, Elses, Closes};
 
 use crate::sources::{Directive, Profile};
-use crate::tokens::Token;
+use crate::tokens::{Token, is_spelled};
 
 impl Directive {
     /// Whether an if-section opens with its line: `#if`, `#ifdef`, `#ifndef` (6.10.1).
@@ -66,40 +66,40 @@ pub(crate) fn role_of(directive: Option<Directive>) -> Role
 fn plain_directive(name: &[u8]) -> Directive
     ensures { result ≡ named_in directive_names name.now }
 {
-    if name == b"if".as_slice() {
+    if is_spelled(name, b"if") {
         return Directive::If;
     }
-    if name == b"ifdef".as_slice() {
+    if is_spelled(name, b"ifdef") {
         return Directive::Ifdef;
     }
-    if name == b"ifndef".as_slice() {
+    if is_spelled(name, b"ifndef") {
         return Directive::Ifndef;
     }
-    if name == b"elif".as_slice() {
+    if is_spelled(name, b"elif") {
         return Directive::Elif;
     }
-    if name == b"else".as_slice() {
+    if is_spelled(name, b"else") {
         return Directive::Else;
     }
-    if name == b"endif".as_slice() {
+    if is_spelled(name, b"endif") {
         return Directive::Endif;
     }
-    if name == b"include".as_slice() {
+    if is_spelled(name, b"include") {
         return Directive::Include;
     }
-    if name == b"define".as_slice() {
+    if is_spelled(name, b"define") {
         return Directive::Define;
     }
-    if name == b"undef".as_slice() {
+    if is_spelled(name, b"undef") {
         return Directive::Undef;
     }
-    if name == b"line".as_slice() {
+    if is_spelled(name, b"line") {
         return Directive::Line;
     }
-    if name == b"error".as_slice() {
+    if is_spelled(name, b"error") {
         return Directive::Error;
     }
-    if name == b"pragma".as_slice() {
+    if is_spelled(name, b"pragma") {
         return Directive::Pragma;
     }
     Directive::Unknown
@@ -109,10 +109,10 @@ fn plain_directive(name: &[u8]) -> Directive
 fn later_directive(name: &[u8]) -> Directive
     ensures { result ≡ named_in later_names name.now }
 {
-    if name == b"elifdef".as_slice() {
+    if is_spelled(name, b"elifdef") {
         return Directive::Elifdef;
     }
-    if name == b"elifndef".as_slice() {
+    if is_spelled(name, b"elifndef") {
         return Directive::Elifndef;
     }
     Directive::Unknown
@@ -133,7 +133,7 @@ fn directive_named(profile: Profile, name: &[u8]) -> Directive
 pub(crate) fn is_hash(text: &[u8]) -> bool
     ensures { result ≡ (bytes_eq text.now (codes "#") || bytes_eq text.now (codes "%:")) }
 {
-    text == b"#".as_slice() || text == b"%:".as_slice()
+    is_spelled(text, b"#") || is_spelled(text, b"%:")
 }
 
 /// The directive of a line's tokens.

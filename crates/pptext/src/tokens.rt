@@ -1,5 +1,6 @@
 // Places, preprocessing tokens and faults.
 ghost use Rattle.std.specs.Prelude.{◌≡◌, ◌<◌, ◌≤◌, List, ℕ, IfOk, IfSome, IfNone, OnOk, length, take, [], ◌++◌, Some, None};
+ghost use Rattle.std.specs.Str.{bytes_eq};
 ghost use Rattle.pptext.specs.Tokens.{is_identifier, is_name, is_punct, is_lone_quote, fault};
 
 use crate::sequences::Sequence;
@@ -81,6 +82,15 @@ fn short(bytes: &[u8]) -> Spelling
     }
 }
 
+/// A spelling of a copy of these bytes with more behind.
+fn joined(alloc: Global, bytes: &[u8], more: &[u8]) -> Result<Spelling, AllocError>
+    ensures { IfOk result (λ s. s ≡ bytes.now ++ more.now) }
+{
+    let mut text = Vec::from_slice(alloc, bytes)?;
+    text.extend_from_slice(more)?;
+    Spelling::new(text)
+}
+
 impl Spelling {
     /// A spelling of no bytes.
     pub fn empty() -> Spelling
@@ -150,9 +160,7 @@ impl Spelling {
             bytes.extend_from_slice(more)?;
             return Ok(());
         }
-        let mut text = Vec::from_slice(alloc, self.as_bytes())?;
-        text.extend_from_slice(more)?;
-        *self = Spelling::new(text)?;
+        *self = joined(alloc, self.as_bytes(), more)?;
         Ok(())
     }
 
@@ -186,13 +194,12 @@ impl Clone for Spelling {
             Bytes::Short(len, room) => Ok(Self {
                 bytes: Bytes::Short(*len, *room),
             }),
-            Bytes::Long(bytes) => Spelling::new((**bytes).clone()?),
+            Bytes::Long(bytes) => Spelling::from_slice(*bytes.allocator(), bytes.as_slice()),
         }
     }
 }
 
 impl PartialEq for Spelling {
-    ghost use Rattle.std.specs.Str.{bytes_eq};
     ghost use Rattle.std.specs.Cmp as Cmp;
     ghost use Rattle.std.specs.Cmp.Lexicographic.{nat_list_eq_equiv};
 
@@ -211,14 +218,36 @@ impl Eq for Spelling {
     ghost laws = { nat_list_eq_equiv };
 }
 
+/// Whether the bytes are these.
+#[inline]
+pub(crate) fn is_spelled(bytes: &[u8], text: &[u8]) -> bool
+    ensures { result ≡ bytes_eq bytes.now text.now }
+{
+    bytes == text
+}
+
 /// A preprocessing token.
-#[derive(Clone, PartialEq, Eq, Drop, Debug)]
+#[derive(PartialEq, Eq, Drop, Debug)]
 pub struct Token {
     pub text: Spelling,
     pub at: Place,
     pub used: Place,
     pub kind: Kind,
     pub space: bool,
+}
+
+impl Clone for Token {
+    ghost is_clone = { λ a b. b ≡ a };
+
+    fn clone(&self) -> Result<Token, AllocError> {
+        Ok(Token {
+            text: self.text.clone()?,
+            at: self.at,
+            used: self.used,
+            kind: self.kind,
+            space: self.space,
+        })
+    }
 }
 
 impl Token {
@@ -248,16 +277,28 @@ impl Token {
         ensures { result ≡ is_lone_quote self.now }
     {
         matches!(self.kind, Kind::Other)
-            && (self.text.as_bytes() == b"'".as_slice() || self.text.as_bytes() == b"\"".as_slice())
+            && (is_spelled(self.text.as_bytes(), b"'") || is_spelled(self.text.as_bytes(), b"\""))
     }
 }
 
 /// A fault of a file or a unit, by its number.
-#[derive(Clone, PartialEq, Eq, Drop, Debug)]
+#[derive(PartialEq, Eq, Drop, Debug)]
 pub struct Fault {
     pub number: u8,
     pub at: Place,
     pub text: Spelling,
+}
+
+impl Clone for Fault {
+    ghost is_clone = { λ a b. b ≡ a };
+
+    fn clone(&self) -> Result<Fault, AllocError> {
+        Ok(Fault {
+            number: self.number,
+            at: self.at,
+            text: self.text.clone()?,
+        })
+    }
 }
 
 impl Fault {
