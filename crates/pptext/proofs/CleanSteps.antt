@@ -70,6 +70,12 @@ third_same s e (c ∷ cs) = by (is_return_at (c ∷ cs)) refl
         rw (dropped c cs h, lf_head cs (supply s e) r.room r.kept, r.lf, r.cr) refl
     by false h = rw (kept c cs h) refl
 
+lf_no_mark : (n : ℕ) → n ≡ 10 → n ≡ 63 → ⊥
+lf_no_mark n e q = omega arith
+
+cr_no_mark : (n : ℕ) → n ≡ 13 → n ≡ 63 → ⊥
+cr_no_mark n e q = omega arith
+
 -- A trigraph begins where it begins in the file.
 pub trigraph_kept : (s : Bool) (e : Place) (c : Char) (cs : List Char) → trigraph_at (c ∷ (without_returns cs ++ supply s e)) ≡ trigraph_at (c ∷ cs)
 trigraph_kept true e c [] = refl
@@ -81,8 +87,8 @@ trigraph_kept s e c (a ∷ cs) = by (is_return_at (a ∷ cs)) refl
         let r = return_is a cs h in
         let lf = lf_head cs (supply s e) r.room r.kept ∙ r.lf in
         ap (λ z. trigraph_at (c ∷ (z ++ supply s e))) (dropped a cs h)
-        ∙ no_second c (without_returns cs ++ supply s e) (λ q. cc)
-        ∙ sym (no_second c (a ∷ cs) (λ q. cc))
+        ∙ no_second c (without_returns cs ++ supply s e) (lf_no_mark (head_code (without_returns cs ++ supply s e)) lf)
+        ∙ sym (no_second c (a ∷ cs) (cr_no_mark a.code r.cr))
     by false h =
         ap (λ z. trigraph_at (c ∷ (z ++ supply s e))) (kept a cs h)
         ∙ third c a (without_returns cs ++ supply s e)

@@ -9,6 +9,10 @@ use Rattle.pptext.proofs.cleaning.copy_into.Goals as goal
 stretch_codes : (raw codes : List ℕ) (start n : ℕ) → codes ++ take (start + n - start) (drop start raw) ≡ codes ++ take n (drop start raw)
 stretch_codes raw codes start n = ap (λ k. codes ++ take k (drop start raw)) (omega arith)
 
+-- behind a break less is left
+nearer : (start ahead len end : ℕ) → start + ahead < end → 0 < len → end - (start + ahead + len) < end - start
+nearer start ahead len end lt some = omega arith
+
 pub overflow_add-start : goal.overflow_add-start
 overflow_add-start c =
     let raw = c.args.raw.now in
@@ -28,6 +32,26 @@ overflow_add-start-in-Removed c =
     let is : step_of (open_end raw) (drop at raw) ≡ Removed c.in-Removed.len = ap (λ s. step_of s (drop at raw)) (sym c.requires.supplied) ∙ sym (simp take_rest at c.in-Removed.ensures) in
     let here : at < length raw = omega (arith, ahead.0) in
     omega (arith, (removed_at 0 raw at c.in-Removed.len here is).fits, c.requires.small)
+
+pub loop-ahead-smaller-in-Code : goal.loop-ahead-smaller-in-Code
+loop-ahead-smaller-in-Code c =
+    let raw = c.args.raw.now in
+    let at = c.loop-ahead.start + c.in-Some.ahead in
+    let ahead = simp take_rest at c.in-Some.ensures in
+    let l = length-drop c.loop-ahead.start raw in
+    let is : step_of (open_end raw) (drop at raw) ≡ Code c.in-Code.code c.in-Code.len = ap (λ s. step_of s (drop at raw)) (sym c.requires.supplied) ∙ sym (simp take_rest at c.in-Code.ensures) in
+    let here : at < length raw = omega (arith, ahead.0) in
+    nearer c.loop-ahead.start c.in-Some.ahead c.in-Code.len (length raw) here (code_at 0 raw at c.in-Code.code c.in-Code.len here is).some
+
+pub loop-ahead-smaller : goal.loop-ahead-smaller
+loop-ahead-smaller c =
+    let raw = c.args.raw.now in
+    let at = c.loop-ahead.start + c.in-Some.ahead in
+    let ahead = simp take_rest at c.in-Some.ensures in
+    let l = length-drop c.loop-ahead.start raw in
+    let is : step_of (open_end raw) (drop at raw) ≡ Removed c.in-Removed.len = ap (λ s. step_of s (drop at raw)) (sym c.requires.supplied) ∙ sym (simp take_rest at c.in-Removed.ensures) in
+    let here : at < length raw = omega (arith, ahead.0) in
+    nearer c.loop-ahead.start c.in-Some.ahead c.in-Removed.len (length raw) here (removed_at 0 raw at c.in-Removed.len here is).some
 
 pub loop-ahead-preserved-in-Code : goal.loop-ahead-preserved-in-Code
 loop-ahead-preserved-in-Code c =

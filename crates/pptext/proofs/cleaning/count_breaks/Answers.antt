@@ -1,10 +1,10 @@
-use Rattle.std.proofs.Common.{◌≡◌, ◌+◌, length, drop, sym, ap, ◌∙◌, subst}
+use Rattle.std.proofs.Common.{◌≡◌, ℕ, ◌+◌, ◌-◌, ◌<◌, length, drop, sym, ap, ◌∙◌, subst, arith, length-drop}
 use Rattle.std.proofs.lemmas.List.{take_rest}
 use Rattle.pptext.specs.Breaks.{Stretch}
 use Rattle.pptext.specs.declared.characters.steps.Step as code
 use Rattle.pptext.specs.declared.characters.steps.Step.TheVariants as variant
 use Rattle.pptext.specs.Steps.{Step, Code, Removed, open_end, step_of}
-use Rattle.pptext.proofs.Copies.{Counted, counted_all, counted_code, counted_last, counted_removed}
+use Rattle.pptext.proofs.Copies.{Counted, code_at, counted_all, counted_code, counted_last, counted_removed, removed_at}
 use Rattle.pptext.proofs.cleaning.count_breaks.Goals as goal
 use Rattle.pptext.proofs.cleaning.count_breaks.Goals.{in-Code, in-Removed-2}
 
@@ -12,6 +12,24 @@ use Rattle.pptext.proofs.cleaning.count_breaks.Goals.{in-Code, in-Removed-2}
 abbrev meant : code.Step → Step
 meant (variant.Code code n) = Code code n
 meant (variant.Removed n) = Removed n
+
+-- behind a break less is left
+nearer : (start ahead len end : ℕ) → start + ahead < end → 0 < len → end - (start + ahead + len) < end - start
+nearer start ahead len end lt some = omega arith
+
+pub loop-ahead-smaller : goal.loop-ahead-smaller
+loop-ahead-smaller c =
+    let raw = c.args.raw.now in
+    let start = c.loop-ahead.start in
+    let n = c.in-Some.ahead in
+    let ahead = simp take_rest at c.in-Some.ensures in
+    let l = length-drop start raw in
+    let here : start + n < length raw = omega (arith, ahead.0) in
+    let step : step_of (open_end raw) (drop (start + n) raw) ≡ meant c.next_step.result = ap (λ s. step_of s (drop (start + n) raw)) (sym c.requires) ∙ sym (simp take_rest at c.next_step.ensures) in
+    elim c.match-next_step.branch [
+      | in-Code w ↦ rw w.start-is (nearer start n w.in-Code.len (length raw) here (code_at 0 raw (start + n) w.in-Code.field-0 w.in-Code.len here (step ∙ ap meant w.in-Code.is)).some)
+      | in-Removed-2 w ↦ rw w.start-is (nearer start n w.in-Removed.len (length raw) here (removed_at 0 raw (start + n) w.in-Removed.len here (step ∙ ap meant w.in-Removed.is)).some)
+    ]
 
 pub returns-in-Removed : goal.returns-in-Removed
 returns-in-Removed c =
