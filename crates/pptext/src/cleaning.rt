@@ -1,9 +1,9 @@
 // A file's bytes as the text behind phases 1 and 2.
-ghost use Rattle.std.specs.Prelude.{◌≡◌, ◌<◌, ◌≤◌, ℕ, [], None, length, IfOk, OnOk, MatchOption, MatchResult};
+ghost use Rattle.std.specs.Prelude.{◌≡◌, ◌<◌, ◌≤◌, length, IfOk, MatchOption, MatchResult};
 ghost use Rattle.pptext.specs.Clean.{longest};
 ghost use Rattle.pptext.specs.Breaks.{Stretch};
 ghost use Rattle.pptext.specs.Steps.{open_end};
-ghost use Rattle.pptext.specs.Texts.{Cleans, EndsAt, HasBreaks, Whole, end_from};
+ghost use Rattle.pptext.specs.Texts.{Cleans, EndsAt, HasBreaks, Whole};
 
 use crate::characters::places::place_behind;
 use crate::characters::steps::{Step, first_special, has_open_end, next_step, unmarked};
@@ -64,24 +64,6 @@ fn copy_cleaned(
 {
     let mut codes = Vec::with_capacity(alloc, raw.len() + 1)?;
     let mut breaks = Vec::with_capacity(alloc, count)?;
-    copy_into(raw, supplied, &mut codes, &mut breaks)?;
-    Ok(Cleaned { codes, breaks })
-}
-
-/// Copies into these empty lists what phases 1 and 2 make of a file, and its table of breaks.
-fn copy_into(
-    raw: &[u8],
-    supplied: bool,
-    codes: &mut Vec<u8>,
-    breaks: &mut Vec<u32>,
-) -> Result<(), AllocError>
-    requires small { length raw.now ≤ longest }
-    requires supplied { supplied ≡ open_end raw.now }
-    requires ends { (file : ℕ) → end_from file raw.now 0 ≡ None }
-    requires no_codes { codes.old.items ≡ [] }
-    requires no_breaks { breaks.old.items ≡ [] }
-    ensures { OnOk result (Whole raw.now codes.new.items breaks.new.items) }
-{
     let mut start = 0;
     while let Some(ahead) = first_break(&raw[start..], supplied) {
         let at = start + ahead;
@@ -99,7 +81,7 @@ fn copy_into(
     if supplied {
         codes.push(b'\n')?;
     }
-    Ok(())
+    Ok(Cleaned { codes, breaks })
 }
 
 /// The text of a file's bytes behind phases 1 and 2 (5.1.1.2), or the place of the backslash, where the

@@ -82,15 +82,6 @@ fn short(bytes: &[u8]) -> Spelling
     }
 }
 
-/// A spelling of a copy of these bytes with more behind.
-fn joined(alloc: Global, bytes: &[u8], more: &[u8]) -> Result<Spelling, AllocError>
-    ensures { IfOk result (λ s. s ≡ bytes.now ++ more.now) }
-{
-    let mut text = Vec::from_slice(alloc, bytes)?;
-    text.extend_from_slice(more)?;
-    Spelling::new(text)
-}
-
 impl Spelling {
     /// A spelling of no bytes.
     pub fn empty() -> Spelling
@@ -160,7 +151,9 @@ impl Spelling {
             bytes.extend_from_slice(more)?;
             return Ok(());
         }
-        *self = joined(alloc, self.as_bytes(), more)?;
+        let mut text = Vec::from_slice(alloc, self.as_bytes())?;
+        text.extend_from_slice(more)?;
+        *self = Spelling::new(text)?;
         Ok(())
     }
 

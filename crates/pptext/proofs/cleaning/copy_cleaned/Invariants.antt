@@ -1,6 +1,6 @@
 use Rattle.std.proofs.Common.{◌-◌, length}
 use Rattle.pptext.proofs.Copies.{Copies}
-use Rattle.pptext.proofs.cleaning.copy_into.Given as goal
+use Rattle.pptext.proofs.cleaning.copy_cleaned.Given as goal
 
 abbrev pub invariant-loop-ahead : goal.invariant-loop-ahead
 invariant-loop-ahead l = Copies l.raw l.start l.codes.items l.breaks.items

@@ -1,9 +1,10 @@
-use Rattle.std.proofs.Common.{◌≡◌, ℕ, List, [], ◌∷◌, ◌+◌, ◌-◌, ◌<◌, Bool, ◌++◌, length, drop, take, sym, ap, subst, ◌∙◌, arith, length-drop}
+use Rattle.std.proofs.Common.{◌≡◌, ℕ, List, [], ◌∷◌, ◌+◌, ◌-◌, ◌<◌, ◌++◌, length, drop, take, sym, ap, subst, ◌∙◌, arith, length-drop}
 use Rattle.std.proofs.lemmas.List.{take_rest}
-use Rattle.pptext.specs.Breaks.{IsTable, Stretch}
+use Rattle.pptext.specs.Breaks.{Stretch}
 use Rattle.pptext.specs.Steps.{Code, Removed, open_end, step_of}
-use Rattle.pptext.proofs.Copies.{Copied, Copies, code_at, copies_all, copies_code, copies_removed, removed_at, whole_closed, whole_open}
-use Rattle.pptext.proofs.cleaning.copy_into.Goals as goal
+use Rattle.pptext.proofs.Copies.{code_at, copies_all, copies_code, copies_removed, removed_at, whole_closed, whole_open}
+use Rattle.pptext.proofs.cleaning.copy_cleaned.Goals as goal
+use Rattle.pptext.proofs.cleaning.copy_cleaned.Goals.{then-supplied+in_ok-push-2, else-supplied}
 
 -- the codes copied from a stretch
 stretch_codes : (raw codes : List ℕ) (start n : ℕ) → codes ++ take (start + n - start) (drop start raw) ≡ codes ++ take n (drop start raw)
@@ -73,27 +74,17 @@ loop-ahead-preserved c =
     let stretch : Stretch (open_end raw) (drop start raw) n = subst (λ s. Stretch s (drop start raw) n) c.requires.supplied ahead.1 in
     let is : step_of (open_end raw) (drop (start + n) raw) ≡ Removed c.in-Removed.len = ap (λ s. step_of s (drop (start + n) raw)) (sym c.requires.supplied) ∙ sym (simp take_rest at c.in-Removed.ensures) in
     let codes = c.in_ok-extend_from_slice.ensures.items ∙ stretch_codes raw c.loop-ahead.codes.items start n in
-    rw (codes, c.in_ok-push.ensures.items) (copies_removed raw start n c.in-Removed.len c.loop-ahead.codes.items c.loop-ahead.breaks.items c.loop-ahead.invariant (c.requires.ends 0) ahead.0 stretch is)
+    rw (codes, c.in_ok-push.ensures.items) (copies_removed raw start n c.in-Removed.len c.loop-ahead.codes.items c.loop-ahead.breaks.items c.loop-ahead.invariant (c.requires.breaks.ends 0) ahead.0 stretch is)
 
--- what is copied in front of the end
-all_copied : (raw codes breaks : List ℕ) (start : ℕ) (supplied : Bool) → supplied ≡ open_end raw → Copies raw start codes breaks → Stretch supplied (drop start raw) (length (drop start raw))
-    → Copied raw (length raw) (codes ++ drop start raw) × IsTable (open_end raw) raw breaks
-all_copied raw codes breaks start supplied end copies last = copies_all raw start codes breaks copies (subst (λ s. Stretch s (drop start raw) (length (drop start raw))) end last)
-
-pub returns-in_ok-push-2 : goal.returns-in_ok-push-2
-returns-in_ok-push-2 c =
+pub returns : goal.returns
+returns c =
     let raw = c.args.raw.now in
-    let codes = c.loop-ahead.codes.items in
+    let start = c.loop-ahead.start in
     let breaks = c.loop-ahead.breaks.items in
-    let all = all_copied raw codes breaks c.loop-ahead.start c.args.supplied c.requires.supplied c.loop-ahead.invariant (simp take_rest at c.in_default.ensures) in
+    let last : Stretch (open_end raw) (drop start raw) (length (drop start raw)) = subst (λ s. Stretch s (drop start raw) (length (drop start raw))) c.requires.supplied (simp take_rest at c.in_default.ensures) in
+    let all = copies_all raw start c.loop-ahead.codes.items breaks c.loop-ahead.invariant last in
     let same = simp take_rest at c.in_ok-extend_from_slice-2.ensures.items in
-    rw (c.in_ok-push-2.ensures.items, same) (whole_open raw (codes ++ drop c.loop-ahead.start raw) breaks all.0 all.1 (sym c.requires.supplied ∙ c.if-supplied.true))
-
-pub returns-else-supplied : goal.returns-else-supplied
-returns-else-supplied c =
-    let raw = c.args.raw.now in
-    let codes = c.loop-ahead.codes.items in
-    let breaks = c.loop-ahead.breaks.items in
-    let all = all_copied raw codes breaks c.loop-ahead.start c.args.supplied c.requires.supplied c.loop-ahead.invariant (simp take_rest at c.in_default.ensures) in
-    let same = simp take_rest at c.in_ok-extend_from_slice-2.ensures.items in
-    rw same (whole_closed raw (codes ++ drop c.loop-ahead.start raw) breaks all.0 all.1 (sym c.requires.supplied ∙ c.if-supplied.false))
+    elim c.if-supplied.branch [
+      | then-supplied+in_ok-push-2 w ↦ rw (w.codes-is, w.in_ok-push-2.ensures.items, same) (whole_open raw (c.loop-ahead.codes.items ++ drop start raw) breaks all.0 all.1 (sym c.requires.supplied ∙ w.if-supplied.true))
+      | else-supplied w ↦ rw (w.codes-is, same) (whole_closed raw (c.loop-ahead.codes.items ++ drop start raw) breaks all.0 all.1 (sym c.requires.supplied ∙ w.if-supplied.false))
+    ]
