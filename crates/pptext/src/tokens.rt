@@ -230,7 +230,7 @@ pub struct Token {
 }
 
 impl Clone for Token {
-    ghost is_clone = { λ a b. b ≡ a };
+    ghost is_clone = { λ a b. (b.text ≡ a.text) × (b.at ≡ a.at) × (b.used ≡ a.used) × (b.kind ≡ a.kind) × (b.space ≡ a.space) };
 
     fn clone(&self) -> Result<Token, AllocError> {
         Ok(Token {
@@ -283,7 +283,7 @@ pub struct Fault {
 }
 
 impl Clone for Fault {
-    ghost is_clone = { λ a b. b ≡ a };
+    ghost is_clone = { λ a b. (b.number ≡ a.number) × (b.at ≡ a.at) × (b.text ≡ a.text) };
 
     fn clone(&self) -> Result<Fault, AllocError> {
         Ok(Fault {
