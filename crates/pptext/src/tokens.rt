@@ -220,27 +220,13 @@ pub(crate) fn is_spelled(bytes: &[u8], text: &[u8]) -> bool
 }
 
 /// A preprocessing token.
-#[derive(PartialEq, Eq, Drop, Debug)]
+#[derive(Clone, PartialEq, Eq, Drop, Debug)]
 pub struct Token {
     pub text: Spelling,
     pub at: Place,
     pub used: Place,
     pub kind: Kind,
     pub space: bool,
-}
-
-impl Clone for Token {
-    ghost is_clone = { λ a b. (b.text ≡ a.text) × (b.at ≡ a.at) × (b.used ≡ a.used) × (b.kind ≡ a.kind) × (b.space ≡ a.space) };
-
-    fn clone(&self) -> Result<Token, AllocError> {
-        Ok(Token {
-            text: self.text.clone()?,
-            at: self.at,
-            used: self.used,
-            kind: self.kind,
-            space: self.space,
-        })
-    }
 }
 
 impl Token {
@@ -275,23 +261,11 @@ impl Token {
 }
 
 /// A fault of a file or a unit, by its number.
-#[derive(PartialEq, Eq, Drop, Debug)]
+#[derive(Clone, PartialEq, Eq, Drop, Debug)]
 pub struct Fault {
     pub number: u8,
     pub at: Place,
     pub text: Spelling,
-}
-
-impl Clone for Fault {
-    ghost is_clone = { λ a b. (b.number ≡ a.number) × (b.at ≡ a.at) × (b.text ≡ a.text) };
-
-    fn clone(&self) -> Result<Fault, AllocError> {
-        Ok(Fault {
-            number: self.number,
-            at: self.at,
-            text: self.text.clone()?,
-        })
-    }
 }
 
 impl Fault {
