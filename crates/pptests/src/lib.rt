@@ -1,4 +1,4 @@
-//! Tests of the libraries by their public calls: what no clause says of them, and vectors from outside.
+//! Tests of text, macros, expansion, conditions and units by the libraries' public calls: what no clause says of them, and vectors from outside.
 //!
 //! They stand in a crate of their own, since a crate with tests is proved twice.
 #![tactic(auto)]
@@ -11,8 +11,6 @@ mod defining;
 mod expanding;
 #[cfg(test)]
 mod macros;
-#[cfg(test)]
-mod shelf;
 #[cfg(test)]
 mod showing;
 #[cfg(test)]

@@ -3,15 +3,23 @@ ghost use Rattle.std.specs.Prelude.{◌≤◌, length};
 ghost use Rattle.ppshelf.specs.Files.{most_rows};
 
 use super::{named, texts};
-use crate::defining::drawn;
 use ppshelf::{MOST_ROWS, MemoryDisk, Shelf, ShelfFault, is_folder, is_name};
 use pptext::{Hashing, Memory, Profile};
 use std::alloc::{AllocError, Global};
+use std::hash::RandomState;
 use std::process::Abort;
 use std::test::Fail;
 
 /// The most bytes that a name of a file has.
 const LONGEST_NAME: usize = 1_024;
+
+/// How a key of its own hashes names.
+fn drawn(rt: &HostRuntime) -> Result<Hashing, Fail> {
+    match RandomState::new(rt) {
+        Ok(key) => Ok(Hashing::keyed(key)),
+        Err(_) => Err(Fail::new("no key was drawn")),
+    }
+}
 
 /// Texts, whether each is a name in normal form, and whether it is a folder's.
 const NAMES: &[(&str, bool, bool)] = &[

@@ -1,5 +1,5 @@
 use Rattle.std.proofs.Common.{◌≡◌}
-use Rattle.pptests.proofs.shelf.looking.all_open.Given as goal
+use Rattle.ppshelftests.proofs.shelf.looking.all_open.Given as goal
 
 abbrev pub invariant-loop-row : goal.invariant-loop-row
 invariant-loop-row l = l.pass.shelf ≡ l.shelf

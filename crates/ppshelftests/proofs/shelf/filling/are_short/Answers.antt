@@ -3,7 +3,7 @@ use borrow.Author.Count.{below_more}
 use Rattle.ppshelf.specs.Content.{longest}
 use Rattle.ppshelf.specs.Files.{bytes_at}
 use Rattle.ppshelf.proofs.Filling.{bytes_here}
-use Rattle.pptests.proofs.shelf.filling.are_short.Goals as goal
+use Rattle.ppshelftests.proofs.shelf.filling.are_short.Goals as goal
 
 pub loop-bytes-preserved : goal.loop-bytes-preserved
 loop-bytes-preserved c =

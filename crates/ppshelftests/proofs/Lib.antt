@@ -1,0 +1,1 @@
+-- The proofs of the tests stand in a folder for each part of the sources.
