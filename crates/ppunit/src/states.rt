@@ -56,15 +56,23 @@ impl<'x> State<'x> {
     ) -> Result<State<'x>, Memory>
         ensures { IfOk result (λ s. s ≡ beginning setting.now) }
     {
+        let macros = Table::with_hasher(alloc, hashing)?;
         let env = first_env(alloc, setting)?;
-        Ok(State {
-            macros: Table::with_hasher(alloc, hashing)?,
+        Ok(State::untouched(alloc, macros, setting.budget, env))
+    }
+
+    // Nothing was passed on, and no file was opened.
+    fn untouched(alloc: Global, macros: Table<'x>, left: Option<u64>, env: Env) -> State<'x>
+        ensures { result ≡ record { macros = macros.entry; items = []; deps = []; once = []; left = left; env = env } }
+    {
+        State {
+            macros,
             items: Items::new(alloc),
             deps: Rows::new(alloc),
             once: Rows::new(alloc),
-            left: setting.budget,
+            left,
             env,
-        })
+        }
     }
 
     /// Passes a pragma on.
@@ -107,11 +115,13 @@ impl<'x> State<'x> {
 fn first_env(alloc: Global, setting: &Setting) -> Result<Env, AllocError>
     ensures { IfOk result (λ e. e ≡ (beginning setting.now).env) }
 {
+    let date = spelled(alloc, setting.date.as_str())?;
+    let time = spelled(alloc, setting.time.as_str())?;
     Ok(Env {
         name: Spelling::empty(),
         shift: 0,
-        date: spelled(alloc, setting.date.as_str())?,
-        time: spelled(alloc, setting.time.as_str())?,
+        date,
+        time,
     })
 }
 
