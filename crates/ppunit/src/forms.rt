@@ -47,7 +47,12 @@ fn is_day(first: u8, second: u8) -> bool
 fn is_digits(text: &[u8]) -> bool
     ensures { result ≡ list_all spec.is_digit text.now }
 {
-    text.iter().all(|byte| is_digit(*byte))
+    for byte in text {
+        if !is_digit(*byte) {
+            return false;
+        }
+    }
+    true
 }
 
 /// Whether a byte is a digit.
@@ -80,7 +85,12 @@ pub fn is_time(text: &[u8]) -> bool
 pub fn is_one_line(text: &[u8]) -> bool
     ensures { result ≡ spec.is_one_line text.now }
 {
-    text.iter().all(|byte| is_in_line(*byte))
+    for byte in text {
+        if !is_in_line(*byte) {
+            return false;
+        }
+    }
+    true
 }
 
 fn is_in_line(byte: u8) -> bool

@@ -73,7 +73,10 @@ fn presumed_by(tokens: &[Token]) -> Result<Option<Presumed>, AllocError>
         [number, name] if is_plain_string(name) => (number, Some(name.text.clone()?)),
         _ => return Ok(None),
     };
-    Ok(line_number(number).map(|number| Presumed { number, name }))
+    let Some(number) = line_number(number) else {
+        return Ok(None);
+    };
+    Ok(Some(Presumed { number, name }))
 }
 
 // The file gets a new name, if there is one.
