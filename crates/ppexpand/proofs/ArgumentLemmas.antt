@@ -1,5 +1,5 @@
 -- How the arguments of an invocation are expanded one after the other.
-use Rattle.std.proofs.Common.{MatchOption, ◌≡◌, ℕ, zero, suc, ◌+◌, ◌<◌, ◌≤◌, Bool, true, false, ◌||◌, List, [], ◌∷◌, map, drop, Option, Some, None, Ok, Err, Vec}
+use Rattle.std.proofs.Common.{MatchOption, IfSome, ◌≡◌, ℕ, zero, suc, ◌+◌, ◌<◌, ◌≤◌, Bool, true, false, ◌||◌, List, [], ◌∷◌, map, drop, Option, Some, None, Ok, Err, Vec}
 use Rattle.std.proofs.Common.{Global, is_some, true≢false, refl, sym, ap, ◌∙◌, subst, get_or, length, add-one, arith}
 use Rattle.std.proofs.lemmas.List.{get_or_default}
 use Rattle.pptext.specs.declared.tokens.Token.{Token}
@@ -8,7 +8,9 @@ use Rattle.ppmacro.specs.Names.{Macros}
 use Rattle.ppmacro.specs.Numbered.{Numbered}
 use Rattle.ppmacro.specs.HideSets.{Hiding, hidings, AllKnown}
 use Rattle.ppmacro.specs.Chains.{chains_of}
-use Rattle.ppmacro.specs.Substituting.{ListsKnown}
+use Rattle.ppmacro.specs.Substituting.{ListsKnown, option_of}
+use Rattle.std.specs.Option.{option_map}
+use Rattle.ppmacro.specs.declared.flying.Expansion.{Expansion}
 use Rattle.ppmacro.specs.declared.flying.Hidden.{Hidden}
 use Rattle.ppmacro.specs.declared.macros.Chain.{Chain}
 use Rattle.ppmacro.proofs.WalkLemmas.{drop-item}
@@ -18,7 +20,7 @@ use Rattle.ppmacro.specs.declared.patterns.Entry.{Entry}
 use Rattle.std.specs.List.{list_any}
 use Rattle.ppexpand.specs.Turn.{Call, is_alone, uses_alone, to_expand, wanted}
 use Rattle.ppexpand.specs.Expansion.{Expands, ExpandsTo}
-use Rattle.ppexpand.specs.Shown.{given_in, ExpandsArgument, expands, raises}
+use Rattle.ppexpand.specs.Shown.{given_in, held, Raises, HasExpanded, ExpandsArgument, expands, raises}
 use Rattle.ppexpand.proofs.Follows.{ArgumentsFollow, arguments_start}
 
 pub arguments_first : (macros : Macros) (env : Env) (level : ℕ) (call : Call) (left : Option ℕ) → ArgumentsFollow macros env level call left (wanted call) [] left (to_expand 0 (chains_of call.macro) call.arguments)
@@ -44,11 +46,6 @@ raised_none (Some f) h = absurd (true≢false h)
 pub raised_not : {X : Type 0} (o : Option Fault) (f : Fault) → o ≡ Some f → o ≡ None → X
 raised_not o f some none = absurd (let clash : Some f ≡ None = sym some ∙ none in cc clash)
 
--- what follows from each of two cases
-pub match_weaker : {A N M : Type 0} {P Q : A → Type 0} (o : Option A) → (N → M) → ((a : A) → P a → Q a) → MatchOption o N P → MatchOption o M Q
-match_weaker None n p h = n h
-match_weaker (Some a) n p h = p a h
-
 -- an argument's expansion, or its fault
 module _ (macros : Macros) (env : Env) (level : ℕ) (head : Token) (left after : Option ℕ) (list tokens : List Hiding) (o : Option Fault) where
   at_level : (p : Option Fault) → o ≡ p → (one : ExpandsTo macros env (level + 1) left list (record { tokens = tokens; fault = o; left = after }))
@@ -62,6 +59,33 @@ module _ (macros : Macros) (env : Env) (level : ℕ) (head : Token) (left after 
 
   pub argument_raises : (f : Fault) → level < 256 → o ≡ Some f → ExpandsTo macros env (level + 1) left list (record { tokens = tokens; fault = o; left = after }) → ExpandsArgument macros env level head left list after (Err f)
   argument_raises f low e one = raises low (at_level (Some f) e one)
+
+-- what the list of an argument, which was copied, came to is what the argument is expanded to
+module _ (macros : Macros) (env : Env) (level : ℕ) (head : Token) (left after : Option ℕ) (s t : Numbered) (given copied passed : List Hidden) (fault : Option Fault) where
+  -- what is known of the tokens that were made of what passed
+  abbrev IsMade : Expansion → Type 0
+  IsMade e = (is_some fault ≡ false) × (held e ≡ passed) × ((as' : List Hidden) → option_of as' e ≡ Some passed)
+
+  pub argument_outcome : level < 256 → copied ≡ given → ExpandsTo macros env (level + 1) left (hidings s copied) (record { tokens = hidings t passed; fault = fault; left = after })
+      → (r : Option Expansion)
+      → MatchOption r (is_some fault ≡ true) IsMade
+      → MatchOption r (Raises fault (λ f. ExpandsArgument macros env level head left (hidings s given) after (Err f)))
+      (λ e. (fault ≡ None) × HasExpanded macros env level head left after s t given e)
+  argument_outcome low same one None some =
+      let raised = raised_some fault some in
+      let same_list : hidings s copied ≡ hidings s given = ap (hidings s) same in
+      let out : ExpandsArgument macros env level head left (hidings s copied) after (Err raised.0) = argument_raises macros env level head left after (hidings s copied) (hidings t passed) fault raised.0 low raised.1 one in
+      (raised.0, raised.1, subst (λ l. ExpandsArgument macros env level head left l after (Err raised.0)) same_list out)
+  argument_outcome low same one (Some e) made =
+      let none = raised_none fault made.0 in
+      let same_list : hidings s copied ≡ hidings s given = ap (hidings s) same in
+      let out : ExpandsArgument macros env level head left (hidings s copied) after (Ok (hidings t passed)) = argument_expands macros env level head left after (hidings s copied) (hidings t passed) fault low none one in
+      let tokens : option_map (hidings t) (option_of given e) ≡ Some (hidings t passed) = ap (option_map (hidings t)) (made.2 given) in
+      (none, (hidings t passed, tokens, subst (λ l. ExpandsArgument macros env level head left l after (Ok (hidings t passed))) same_list out))
+
+  pub argument_known : AllKnown t passed → (r : Option Expansion) → MatchOption r (is_some fault ≡ true) IsMade → IfSome r (λ e. AllKnown t (held e))
+  argument_known known None some = tt
+  argument_known known (Some e) made = subst (AllKnown t) (sym made.1) known
 
 -- ---- the argument of a parameter
 

@@ -13,7 +13,7 @@ use Rattle.ppexpand.specs.Turn.{finished, wanted, uses_alone, to_expand}
 use Rattle.ppexpand.specs.Expansion.{ExpandsTo, ExpandsArguments}
 use Rattle.ppexpand.specs.Shown.{finished_in, expanded_in, given_in, held, ExpansionsKnown, ExpandsArgument, deep, Invokes, refuses, finishes}
 use Rattle.ppexpand.proofs.Keeping.{call_of, call_of-keeps, call_known-keeps, given_known-keeps, expanded-keeps, expanded_known-keeps, expanded_known-push, expanded_in-push}
-use Rattle.ppexpand.proofs.ArgumentLemmas.{arguments_first, raised_some, raised_none, raised_not, match_weaker, argument_expands, argument_raises, known-item, rest-unused, rest-used, rest-end, marked-alone}
+use Rattle.ppexpand.proofs.ArgumentLemmas.{arguments_first, raised_some, raised_none, raised_not, argument_expands, argument_outcome, argument_known, known-item, rest-unused, rest-used, rest-end, marked-alone}
 use Rattle.ppexpand.proofs.Skipping.{plain-expands, next-known, more-known, follows_skip, skip_falls}
 use Rattle.ppexpand.proofs.Follows.{Follows, follows_on, follows_end, advances_falls, call_taken, ArgumentsFollow, arguments_unused, arguments_used, arguments_refused, arguments_end}
 use Rattle.ppexpand.proofs.expansion.+expansion.Goals as goal
@@ -122,34 +122,17 @@ expand_argument-expand_list-requires m c = (
 
 pub expand_argument-returns-clause-is : goal.expand_argument-returns-clause-is
 expand_argument-returns-clause-is m c =
-    let t = c.expand_list.new.sets in
-    let fault = c.expand_list.new.fault in
-    let passed = c.expand_list.new.passed in
-    let low : c.args.level < 256 = omega (arith, c.if-level-ge-DEEPEST.false) in
-    let same = ap (hidings c.args.sets.now) c.in_ok-list.ensures in
-    IfOk-weaker c.made.result _ _ (λ r. match_weaker r
-    (λ some.
-    let raised = raised_some fault some in (
-      raised.0,
-      raised.1,
-      subst (λ l. ExpandsArgument c.args.table.now c.args.env.now c.args.level c.args.head.now.token c.args.left.now l c.expand_list.new.left (Err raised.0)) same
-          (argument_raises c.args.table.now c.args.env.now c.args.level c.args.head.now.token c.args.left.now _ _ _ _ raised.0 low raised.1 c.in_ok-expand_list.ensures.outcome),
-    ))
-    (λ e made.
-    let none = raised_none fault made.0 in (
-      none,
-      (
-        hidings t passed,
-        ap (option_map (hidings t)) (made.2 c.args.argument.now),
-        subst (λ l. ExpandsArgument c.args.table.now c.args.env.now c.args.level c.args.head.now.token c.args.left.now l c.expand_list.new.left (Ok (hidings t passed))) same
-            (argument_expands c.args.table.now c.args.env.now c.args.level c.args.head.now.token c.args.left.now _ _ _ _ low none c.in_ok-expand_list.ensures.outcome),
-      ),
-    )))
+    IfOk-weaker c.made.result _ _
+    (argument_outcome c.args.table.now c.args.env.now c.args.level c.args.head.now.token c.args.left.now c.expand_list.new.left c.args.sets.now c.expand_list.new.sets
+    c.args.argument.now c.in_ok-list.list c.expand_list.new.passed c.expand_list.new.fault (omega (arith, c.if-level-ge-DEEPEST.false)) c.in_ok-list.ensures c.in_ok-expand_list.ensures.outcome)
     c.made.ensures
 
 pub expand_argument-returns-clause-known : goal.expand_argument-returns-clause-known
 expand_argument-returns-clause-known m c =
-    IfOk-weaker c.made.result _ _ (λ r. match_weaker r (λ _. tt) (λ e made. subst (AllKnown c.expand_list.new.sets) (sym made.1) c.in_ok-expand_list.ensures.known)) c.made.ensures
+    IfOk-weaker c.made.result _ _
+    (argument_known c.args.table.now c.args.env.now c.args.level c.args.head.now.token c.args.left.now c.expand_list.new.left c.args.sets.now c.expand_list.new.sets
+    c.args.argument.now c.in_ok-list.list c.expand_list.new.passed c.expand_list.new.fault c.in_ok-expand_list.ensures.known)
+    c.made.ensures
 
 pub expand_arguments-loop-parameter-init : goal.expand_arguments-loop-parameter-init
 expand_arguments-loop-parameter-init m c = record {
