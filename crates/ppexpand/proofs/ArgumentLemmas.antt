@@ -1,16 +1,17 @@
 -- How the arguments of an invocation are expanded one after the other.
-use Rattle.std.proofs.Common.{MatchOption, IfSome, ◌≡◌, ℕ, zero, suc, ◌+◌, ◌<◌, ◌≤◌, Bool, true, false, ◌||◌, List, [], ◌∷◌, map, drop, Option, Some, None, Ok, Err, Vec}
+use Rattle.std.proofs.Common.{MatchOption, IfSome, ◌≡◌, ℕ, zero, suc, ◌+◌, ◌<◌, ◌≤◌, Bool, true, false, ◌||◌, List, [], ◌∷◌, ◌++◌, map, drop, Option, Some, None, Ok, Err, Vec}
 use Rattle.std.proofs.Common.{Global, is_some, true≢false, refl, sym, ap, ◌∙◌, subst, get_or, length, add-one, arith}
 use Rattle.std.proofs.lemmas.List.{get_or_default}
 use Rattle.pptext.specs.declared.tokens.Token.{Token}
 use Rattle.pptext.specs.declared.tokens.Fault.{Fault}
 use Rattle.ppmacro.specs.Names.{Macros}
 use Rattle.ppmacro.specs.Numbered.{Numbered}
-use Rattle.ppmacro.specs.HideSets.{Hiding, hidings, AllKnown}
+use Rattle.ppmacro.specs.HideSets.{Hiding, hidings, AllKnown, Keeps}
 use Rattle.ppmacro.specs.Chains.{chains_of}
 use Rattle.ppmacro.specs.Substituting.{ListsKnown, option_of}
 use Rattle.std.specs.Option.{option_map}
 use Rattle.ppmacro.specs.declared.flying.Expansion.{Expansion}
+use Rattle.ppmacro.specs.declared.flying.Expansion.TheVariants.{Unused}
 use Rattle.ppmacro.specs.declared.flying.Hidden.{Hidden}
 use Rattle.ppmacro.specs.declared.macros.Chain.{Chain}
 use Rattle.ppmacro.proofs.WalkLemmas.{drop-item}
@@ -19,9 +20,10 @@ use Rattle.ppmacro.specs.Patterns.{entry_chain}
 use Rattle.ppmacro.specs.declared.patterns.Entry.{Entry}
 use Rattle.std.specs.List.{list_any}
 use Rattle.ppexpand.specs.Turn.{Call, is_alone, uses_alone, to_expand, wanted}
-use Rattle.ppexpand.specs.Expansion.{Expands, ExpandsTo}
-use Rattle.ppexpand.specs.Shown.{given_in, held, Raises, HasExpanded, ExpandsArgument, expands, raises}
-use Rattle.ppexpand.proofs.Follows.{ArgumentsFollow, arguments_start}
+use Rattle.ppexpand.specs.Expansion.{Expands, ExpandsTo, ExpandsArguments}
+use Rattle.ppexpand.specs.Shown.{given_in, expanded_in, ExpansionsKnown, held, Raises, HasExpanded, ExpandsArgument, expands, raises}
+use Rattle.ppexpand.proofs.Follows.{ArgumentsFollow, arguments_start, arguments_unused, arguments_used, arguments_refused, arguments_end}
+use Rattle.ppexpand.proofs.Keeping.{expanded-keeps, expanded_in-push}
 
 pub arguments_first : (macros : Macros) (env : Env) (level : ℕ) (call : Call) (left : Option ℕ) → ArgumentsFollow macros env level call left (wanted call) [] left (to_expand 0 (chains_of call.macro) call.arguments)
 unfolding wanted
@@ -133,6 +135,61 @@ rest-used s vs cs i v h e u =
 
 pub rest-end : (s : Numbered) (vs : List (Vec Hidden Global)) (cs : List Chain) (i : ℕ) → length vs ≤ i → to_expand i cs (drop i (given_in s vs)) ≡ []
 rest-end s vs cs i h = ap (to_expand i cs) (given-end s vs i h)
+
+-- the next argument of a call, which is put behind what the others are expanded to, and what is left then
+module _ (macros : Macros) (env : Env) (level : ℕ) (first left between : Option ℕ) (s u w : Numbered) (vs : List (Vec Hidden Global)) (cs : List Chain) (i : ℕ) (v : Vec Hidden Global)
+    (done items : List Expansion) (call : Call) (all : List (Option (List Hiding))) where
+  abbrev Here : Type 0
+  Here = ArgumentsFollow macros env level call first all (expanded_in u vs done) left (to_expand i cs (drop i (given_in s vs)))
+
+  abbrev Behind : List (Option (List Hiding))
+  Behind = to_expand (i + 1) cs (drop (i + 1) (given_in s vs))
+
+  is_behind : i < length vs → v ≡ get_or vs i v → length done ≡ i → drop (length done) vs ≡ v ∷ drop (i + 1) vs
+  is_behind less is count = subst (λ n. drop n vs ≡ v ∷ drop (i + 1) vs) (sym count) (drop-item vs i v less is)
+
+  pub follows_unused : i < length vs → v ≡ get_or vs i v → length done ≡ i → uses_alone i cs ≡ false → items ≡ done ++ Unused ∷ [] → Here
+      → ArgumentsFollow macros env level call first all (expanded_in u vs items) left Behind
+  follows_unused less is count unused made here =
+      let shown : expanded_in u vs items ≡ expanded_in u vs done ++ None ∷ [] = ap (expanded_in u vs) made ∙ expanded_in-push u vs done Unused v (drop (i + 1) vs) (is_behind less is count) in
+      let next : ArgumentsFollow macros env level call first all (expanded_in u vs done) left (None ∷ Behind) =
+      subst (ArgumentsFollow macros env level call first all (expanded_in u vs done) left) (rest-unused s vs cs i v less is unused) here in
+      subst (λ xs. ArgumentsFollow macros env level call first all xs left Behind) (sym shown)
+      (arguments_unused macros env level call first all (expanded_in u vs done) left Behind next)
+
+  is_next : i < length vs → v ≡ get_or vs i v → uses_alone i cs ≡ true → Here
+      → ArgumentsFollow macros env level call first all (expanded_in u vs done) left (Some (hidings s v.items) ∷ Behind)
+  is_next less is is_used here = subst (ArgumentsFollow macros env level call first all (expanded_in u vs done) left) (rest-used s vs cs i v less is is_used) here
+
+  pub follows_used : (e : Expansion) (tokens : List Hiding) → i < length vs → v ≡ get_or vs i v → length done ≡ i → uses_alone i cs ≡ true → items ≡ done ++ e ∷ []
+      → Keeps u w
+      → ListsKnown u vs
+      → ExpansionsKnown u done
+      → option_map (hidings w) (option_of v.items e) ≡ Some tokens
+      → ExpandsArgument macros env level call.head.token left (hidings s v.items) between (Ok tokens)
+      → Here
+      → ArgumentsFollow macros env level call first all (expanded_in w vs items) between Behind
+  follows_used e tokens less is count is_used made keeps known done_known here_is one here =
+      let same : expanded_in w vs done ≡ expanded_in u vs done = expanded-keeps vs done keeps known done_known in
+      let shown : expanded_in w vs items ≡ expanded_in u vs done ++ Some tokens ∷ [] =
+      ap (expanded_in w vs) made ∙ expanded_in-push w vs done e v (drop (i + 1) vs) (is_behind less is count) ∙ (λ j. same j ++ here_is j ∷ []) in
+      subst (λ xs. ArgumentsFollow macros env level call first all xs between Behind) (sym shown)
+      (arguments_used macros env level call first all (expanded_in u vs done) left between Behind (hidings s v.items) tokens (is_next less is is_used here) one)
+
+  pub follows_refused : (f : Fault) → i < length vs → v ≡ get_or vs i v → uses_alone i cs ≡ true
+      → ExpandsArgument macros env level call.head.token left (hidings s v.items) between (Err f)
+      → Here
+      → ExpandsArguments macros env level call first all between (Err f)
+  follows_refused f less is is_used one here =
+      arguments_refused macros env level call first all (expanded_in u vs done) left between Behind (hidings s v.items) f (is_next less is is_used here) one
+
+pub follows_all : (macros : Macros) (env : Env) (level : ℕ) (first left : Option ℕ) (s u : Numbered) (vs : List (Vec Hidden Global)) (cs : List Chain) (i : ℕ) (done : List Expansion) (call : Call)
+    (all : List (Option (List Hiding)))
+    → length vs ≤ i
+    → ArgumentsFollow macros env level call first all (expanded_in u vs done) left (to_expand i cs (drop i (given_in s vs)))
+    → ExpandsArguments macros env level call first all left (Ok (expanded_in u vs done))
+follows_all macros env level first left s u vs cs i done call all end here = arguments_end macros env level call first all (expanded_in u vs done) left
+    (subst (ArgumentsFollow macros env level call first all (expanded_in u vs done) left) (rest-end s vs cs i end) here)
 
 -- what is marked of a parameter is whether it is used alone
 pub marked-alone : (used : List Bool) (count i : ℕ) (cs : List Chain) (mark : Bool) → i < count → length used ≡ count

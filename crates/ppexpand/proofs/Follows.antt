@@ -8,7 +8,7 @@ use Rattle.ppmacro.specs.declared.flying.Hidden.{Hidden}
 use Rattle.ppexpand.specs.declared.env.Env.{Env}
 use Rattle.ppexpand.specs.Turn.{Call, Turn, Failed, Replaced, Called, less_one, wanted}
 use Rattle.ppexpand.specs.Expansion.{Outcome, ExpandedArguments, with_expanded, turn_within, Expands, ExpandsTo, ExpandsArguments, argument_refused, call_failed, call_replaced, none, unused, too_deep, used, used_refused}
-use Rattle.ppexpand.specs.Shown.{finished_in, Advances, EndsWith, HasTaken, Invokes, refuses, finishes, ExpandsArgument, expands, raises, deep}
+use Rattle.ppexpand.specs.Shown.{finished_in, Advances, EndsWith, HasAdvanced, HasEnded, HasTaken, Invokes, refuses, finishes, ExpandsArgument, expands, raises, deep}
 use Rattle.ppexpand.proofs.Total.{total}
 use Rattle.ppexpand.proofs.Unique.{same_outcome}
 
@@ -47,6 +47,27 @@ module _ (macros : Macros) (env : Env) (level : ℕ) where
   follows_end first start passed left list fault after so_far d =
       let whole = so_far 0 _ d in
       (whole.0, rw (append-nil passed) at whole.1)
+
+  -- a turn was taken, with which the list goes on or ends
+  pub more_follows : (first : Option ℕ) (start passed : List Hiding) (left : Option ℕ) (list : List Hiding) (after : Option ℕ) (next more : List Hiding)
+      → Follows first start passed left list
+      → HasAdvanced macros env level left list passed after next more
+      → Follows first start more after next
+  more_follows first start passed left list after next more so_far step =
+      subst (λ ts. Follows first start ts after next) (sym step.1) (follows_on first start passed left list after next step.0 so_far step.2)
+
+  pub more_falls : (left : Option ℕ) (list passed : List Hiding) (after : Option ℕ) (next more : List Hiding)
+      → HasAdvanced macros env level left list passed after next more
+      → turns_left after next < turns_left left list
+  more_falls left list passed after next more step = advances_falls left list after next step.0 step.2
+
+  pub end_follows : (first : Option ℕ) (start passed : List Hiding) (left : Option ℕ) (list : List Hiding) (fault : Option Fault) (after : Option ℕ) (more : List Hiding)
+      → Follows first start passed left list
+      → HasEnded macros env level left list passed fault after more
+      → ExpandsTo macros env level first start (record { tokens = more; fault = fault; left = after })
+  end_follows first start passed left list fault after more so_far end =
+      subst (λ ts. ExpandsTo macros env level first start (record { tokens = ts; fault = fault; left = after })) (sym end.1)
+      (follows_end first start passed left list fault after so_far end.0)
 
 -- ---- the turn of a call
 

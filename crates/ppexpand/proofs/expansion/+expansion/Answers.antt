@@ -13,9 +13,9 @@ use Rattle.ppexpand.specs.Turn.{finished, wanted, uses_alone, to_expand}
 use Rattle.ppexpand.specs.Expansion.{ExpandsTo, ExpandsArguments}
 use Rattle.ppexpand.specs.Shown.{finished_in, expanded_in, given_in, held, ExpansionsKnown, ExpandsArgument, deep, Invokes, refuses, finishes}
 use Rattle.ppexpand.proofs.Keeping.{call_of, call_of-keeps, call_known-keeps, given_known-keeps, expanded-keeps, expanded_known-keeps, expanded_known-push, expanded_in-push}
-use Rattle.ppexpand.proofs.ArgumentLemmas.{arguments_first, raised_some, raised_none, raised_not, argument_expands, argument_outcome, argument_known, known-item, rest-unused, rest-used, rest-end, marked-alone}
+use Rattle.ppexpand.proofs.ArgumentLemmas.{arguments_first, raised_some, raised_none, raised_not, argument_expands, argument_outcome, argument_known, known-item, follows_unused, follows_used, follows_refused, follows_all, marked-alone}
 use Rattle.ppexpand.proofs.Skipping.{plain-expands, next-known, more-known, follows_skip, skip_falls}
-use Rattle.ppexpand.proofs.Follows.{Follows, follows_on, follows_end, advances_falls, call_taken, ArgumentsFollow, arguments_unused, arguments_used, arguments_refused, arguments_end}
+use Rattle.ppexpand.proofs.Follows.{more_follows, more_falls, end_follows, call_taken}
 use Rattle.ppexpand.proofs.expansion.+expansion.Goals as goal
 
 -- ---- one turn
@@ -151,48 +151,39 @@ expand_arguments-loop-parameter-preserved-then-not-index m c =
     let i = c.loop-parameter.parameter in
     let vs = c.args.call.now.arguments.items in
     let cs = chains_of c.args.call.now.replaced.now in
+    let v = c.argument-item.result in
+    let done = c.loop-parameter.expanded.items in
     let less : i < length vs = subst (λ xs. i < length xs) c.deref-argument-items.ensures.value c.loop-parameter-test.true in
-    let is : c.argument-item.result ≡ get_or vs i c.argument-item.result = c.argument-item.is ∙ ap (λ xs. get_or xs i c.argument-item.result) c.deref-argument-items.ensures.value in
+    let is : v ≡ get_or vs i v = c.argument-item.is ∙ ap (λ xs. get_or xs i v) c.deref-argument-items.ensures.value in
     let unused : uses_alone i cs ≡ false = ap (uses_alone i) (sym c.requires.chains)
     ∙ marked-alone c.in_ok-used.used.items c.len-count.result i (listed c.args.pattern.now) c.index.result.now
     (subst (λ n. i < n) (c.deref-argument-items.ensures.len ∙ sym c.len-count.ensures) c.loop-parameter-test.true)
     c.in_ok-used.ensures.len c.in_ok-used.ensures.used c.index.ensures
     ∙ c.if-not-index.true in
-    let next = rest-unused s vs cs i c.argument-item.result less is unused in
     let made = c.in_ok-put.ensures in
-    let done = c.loop-parameter.expanded.items in
-    let behind_it : drop (length done) vs ≡ c.argument-item.result ∷ drop (i + 1) vs =
-    subst (λ n. drop n vs ≡ c.argument-item.result ∷ drop (i + 1) vs) (sym c.loop-parameter.invariant.count) (drop-item vs i c.argument-item.result less is) in
-    let shown : expanded_in u vs c.put.new.items.items ≡ expanded_in u vs done ++ None ∷ [] = ap (expanded_in u vs) made ∙ expanded_in-push u vs done Unused c.argument-item.result (drop (i + 1) vs) behind_it in
     record {
       low = c.loop-parameter.invariant.low;
       no_fault = c.loop-parameter.invariant.no_fault;
-      known = subst (ExpansionsKnown u) (sym made) (expanded_known-push c.loop-parameter.expanded.items Unused c.loop-parameter.invariant.known (record { each = tt }));
+      known = subst (ExpansionsKnown u) (sym made) (expanded_known-push done Unused c.loop-parameter.invariant.known (record { each = tt }));
       count = ap length made ∙ length-append done (Unused ∷ []) ∙ ap (λ n. n + 1) c.loop-parameter.invariant.count;
       keeps = c.loop-parameter.invariant.keeps;
       follows = λ behind.
           (let call = call_of s c.args.call.now behind in
-          let rest = to_expand (i + 1) cs (drop (i + 1) (given_in s vs)) in
-          let here : ArgumentsFollow c.args.table.now c.args.env.now c.args.level call c.args.left.now (wanted call) (expanded_in u vs c.loop-parameter.expanded.items) c.loop-parameter.left (None ∷ rest) =
-          subst (ArgumentsFollow c.args.table.now c.args.env.now c.args.level call c.args.left.now (wanted call) (expanded_in u vs c.loop-parameter.expanded.items) c.loop-parameter.left) next (c.loop-parameter.invariant.follows behind) in
-          subst (λ xs. ArgumentsFollow c.args.table.now c.args.env.now c.args.level call c.args.left.now (wanted call) xs c.loop-parameter.left rest) (sym shown)
-          (arguments_unused c.args.table.now c.args.env.now c.args.level call c.args.left.now (wanted call) (expanded_in u vs c.loop-parameter.expanded.items) c.loop-parameter.left rest here));
+          follows_unused c.args.table.now c.args.env.now c.args.level c.args.left.now c.loop-parameter.left c.loop-parameter.left s u u vs cs i v done c.put.new.items.items call (wanted call)
+          less is c.loop-parameter.invariant.count unused made (c.loop-parameter.invariant.follows behind));
     }
 
 pub expand_arguments-expand_argument-requires : goal.expand_arguments-expand_argument-requires
 expand_arguments-expand_argument-requires m c =
-    let less : c.loop-parameter.parameter < length c.args.call.now.arguments.items = subst (λ xs. c.loop-parameter.parameter < length xs) c.deref-argument-items.ensures.value c.loop-parameter-test.true in
-    let is : c.argument-item.result ≡ get_or c.args.call.now.arguments.items c.loop-parameter.parameter c.argument-item.result =
-    c.argument-item.is ∙ ap (λ xs. get_or xs c.loop-parameter.parameter c.argument-item.result) c.deref-argument-items.ensures.value in
-    let known = given_known-keeps c.args.call.now.arguments.items c.loop-parameter.invariant.keeps c.requires.known.arguments in (
+    let u = c.loop-parameter.sets in
+    let i = c.loop-parameter.parameter in
+    let vs = c.args.call.now.arguments.items in
+    let v = c.argument-item.result in
+    let less : i < length vs = subst (λ xs. i < length xs) c.deref-argument-items.ensures.value c.loop-parameter-test.true in
+    let is : v ≡ get_or vs i v = c.argument-item.is ∙ ap (λ xs. get_or xs i v) c.deref-argument-items.ensures.value in
+    let known = given_known-keeps vs c.loop-parameter.invariant.keeps c.requires.known.arguments in (
       omega arith,
-      (
-        c.loop-parameter.invariant.low,
-        (
-          subst (AllKnown c.loop-parameter.sets) (sym c.as_slice-tokens.ensures.value) (known-item c.loop-parameter.sets c.args.call.now.arguments.items c.loop-parameter.parameter c.argument-item.result less is known),
-          c.loop-parameter.invariant.no_fault,
-        ),
-      ),
+      (c.loop-parameter.invariant.low, (subst (AllKnown u) (sym c.as_slice-tokens.ensures.value) (known-item u vs i v less is known), c.loop-parameter.invariant.no_fault)),
     )
 
 pub expand_arguments-returns-in-None-clause-is : goal.expand_arguments-returns-in-None-clause-is
@@ -203,14 +194,14 @@ expand_arguments-returns-in-None-clause-is m c =
     let vs = c.args.call.now.arguments.items in
     let cs = chains_of c.args.call.now.replaced.now in
     let v = c.argument-item.result in
+    let done = c.loop-parameter.expanded.items in
     let less : i < length vs = subst (λ xs. i < length xs) c.deref-argument-items.ensures.value c.loop-parameter-test.true in
-    let is : c.argument-item.result ≡ get_or vs i c.argument-item.result = c.argument-item.is ∙ ap (λ xs. get_or xs i c.argument-item.result) c.deref-argument-items.ensures.value in
+    let is : v ≡ get_or vs i v = c.argument-item.is ∙ ap (λ xs. get_or xs i v) c.deref-argument-items.ensures.value in
     let is_used : uses_alone i cs ≡ true = ap (uses_alone i) (sym c.requires.chains)
     ∙ marked-alone c.in_ok-used.used.items c.len-count.result i (listed c.args.pattern.now) c.index.result.now
     (subst (λ n. i < n) (c.deref-argument-items.ensures.len ∙ sym c.len-count.ensures) c.loop-parameter-test.true)
     c.in_ok-used.ensures.len c.in_ok-used.ensures.used c.index.ensures
     ∙ c.if-not-index.false in
-    let next = rest-used s vs cs i v less is is_used in
     let argument : hidings u c.as_slice-tokens.result.now ≡ hidings s v.items =
     ap (hidings u) c.as_slice-tokens.ensures.value ∙ hidings-keeps v.items c.loop-parameter.invariant.keeps (known-item s vs i v less is c.requires.known.arguments) in
     let raised = rw c.in-None.is at c.in_ok-expansion.ensures.is in
@@ -218,11 +209,8 @@ expand_arguments-returns-in-None-clause-is m c =
     subst (λ l. ExpandsArgument c.args.table.now c.args.env.now c.args.level c.args.call.now.head.token c.loop-parameter.left l c.expand_argument.new.left (Err raised.0)) argument raised.2 in
     rw raised.1 (λ behind.
     let call = call_of s c.args.call.now behind in
-    let rest = to_expand (i + 1) cs (drop (i + 1) (given_in s vs)) in
-    let here : ArgumentsFollow c.args.table.now c.args.env.now c.args.level call c.args.left.now (wanted call) (expanded_in u vs c.loop-parameter.expanded.items) c.loop-parameter.left (Some (hidings s v.items) ∷ rest) =
-    subst (ArgumentsFollow c.args.table.now c.args.env.now c.args.level call c.args.left.now (wanted call) (expanded_in u vs c.loop-parameter.expanded.items) c.loop-parameter.left) next (c.loop-parameter.invariant.follows behind) in
-    arguments_refused c.args.table.now c.args.env.now c.args.level call c.args.left.now (wanted call)
-    (expanded_in u vs c.loop-parameter.expanded.items) c.loop-parameter.left c.expand_argument.new.left rest (hidings s v.items) raised.0 here one)
+    follows_refused c.args.table.now c.args.env.now c.args.level c.args.left.now c.loop-parameter.left c.expand_argument.new.left s u u vs cs i v done done call (wanted call)
+    raised.0 less is is_used one (c.loop-parameter.invariant.follows behind))
 
 pub expand_arguments-returns-in-None-clause-known : goal.expand_arguments-returns-in-None-clause-known
 expand_arguments-returns-in-None-clause-known m c =
@@ -241,13 +229,12 @@ expand_arguments-loop-parameter-preserved m c =
     let done = c.loop-parameter.expanded.items in
     let keeps = c.in_ok-expansion.ensures.keeps in
     let less : i < length vs = subst (λ xs. i < length xs) c.deref-argument-items.ensures.value c.loop-parameter-test.true in
-    let is : c.argument-item.result ≡ get_or vs i c.argument-item.result = c.argument-item.is ∙ ap (λ xs. get_or xs i c.argument-item.result) c.deref-argument-items.ensures.value in
+    let is : v ≡ get_or vs i v = c.argument-item.is ∙ ap (λ xs. get_or xs i v) c.deref-argument-items.ensures.value in
     let is_used : uses_alone i cs ≡ true = ap (uses_alone i) (sym c.requires.chains)
     ∙ marked-alone c.in_ok-used.used.items c.len-count.result i (listed c.args.pattern.now) c.index.result.now
     (subst (λ n. i < n) (c.deref-argument-items.ensures.len ∙ sym c.len-count.ensures) c.loop-parameter-test.true)
     c.in_ok-used.ensures.len c.in_ok-used.ensures.used c.index.ensures
     ∙ c.if-not-index.false in
-    let next = rest-used s vs cs i v less is is_used in
     let argument : hidings u c.as_slice-tokens.result.now ≡ hidings s v.items =
     ap (hidings u) c.as_slice-tokens.ensures.value ∙ hidings-keeps v.items c.loop-parameter.invariant.keeps (known-item s vs i v less is c.requires.known.arguments) in
     let made_is = rw c.in-Some.is at c.in_ok-expansion.ensures.is in
@@ -255,13 +242,11 @@ expand_arguments-loop-parameter-preserved m c =
     let tokens = made_is.1.0 in
     let one : ExpandsArgument c.args.table.now c.args.env.now c.args.level c.args.call.now.head.token c.loop-parameter.left (hidings s v.items) c.expand_argument.new.left (Ok tokens) =
     subst (λ l. ExpandsArgument c.args.table.now c.args.env.now c.args.level c.args.call.now.head.token c.loop-parameter.left l c.expand_argument.new.left (Ok tokens)) argument made_is.1.2 in
-    let here_is : option_map (hidings w) (option_of v.items e) ≡ Some tokens = (λ j. option_map (hidings w) (option_of (sym c.as_slice-tokens.ensures.value j) e)) ∙ made_is.1.1 in
+    let here_is : option_map (hidings w) (option_of v.items e) ≡ Some tokens =
+    subst (λ g. option_map (hidings w) (option_of g e) ≡ Some tokens) c.as_slice-tokens.ensures.value made_is.1.1 in
     let tokens_known : AllKnown w (held e) = rw c.in-Some.is at c.in_ok-expansion.ensures.known in
     let made = c.in_ok-put-in-Some.ensures in
-    let behind_it : drop (length done) vs ≡ v ∷ drop (i + 1) vs = subst (λ n. drop n vs ≡ v ∷ drop (i + 1) vs) (sym c.loop-parameter.invariant.count) (drop-item vs i v less is) in
     let given_known = given_known-keeps vs c.loop-parameter.invariant.keeps c.requires.known.arguments in
-    let shown : expanded_in w vs c.put-in-Some.new.items.items ≡ expanded_in u vs done ++ Some tokens ∷ [] =
-    ap (expanded_in w vs) made ∙ expanded_in-push w vs done e v (drop (i + 1) vs) behind_it ∙ (λ j. expanded-keeps vs done keeps given_known c.loop-parameter.invariant.known j ++ here_is j ∷ []) in
     record {
       low = c.loop-parameter.invariant.low;
       no_fault = made_is.0;
@@ -270,11 +255,8 @@ expand_arguments-loop-parameter-preserved m c =
       keeps = keeps-after c.loop-parameter.invariant.keeps keeps;
       follows = λ behind.
           (let call = call_of s c.args.call.now behind in
-          let rest = to_expand (i + 1) cs (drop (i + 1) (given_in s vs)) in
-          let here : ArgumentsFollow c.args.table.now c.args.env.now c.args.level call c.args.left.now (wanted call) (expanded_in u vs done) c.loop-parameter.left (Some (hidings s v.items) ∷ rest) =
-          subst (ArgumentsFollow c.args.table.now c.args.env.now c.args.level call c.args.left.now (wanted call) (expanded_in u vs done) c.loop-parameter.left) next (c.loop-parameter.invariant.follows behind) in
-          subst (λ xs. ArgumentsFollow c.args.table.now c.args.env.now c.args.level call c.args.left.now (wanted call) xs c.expand_argument.new.left rest) (sym shown)
-          (arguments_used c.args.table.now c.args.env.now c.args.level call c.args.left.now (wanted call) (expanded_in u vs done) c.loop-parameter.left c.expand_argument.new.left rest (hidings s v.items) tokens here one));
+          follows_used c.args.table.now c.args.env.now c.args.level c.args.left.now c.loop-parameter.left c.expand_argument.new.left s u w vs cs i v done c.put-in-Some.new.items.items call (wanted call)
+          e tokens less is c.loop-parameter.invariant.count is_used made keeps given_known c.loop-parameter.invariant.known here_is one (c.loop-parameter.invariant.follows behind));
     }
 
 pub expand_arguments-returns-clause-is : goal.expand_arguments-returns-clause-is
@@ -282,12 +264,11 @@ expand_arguments-returns-clause-is m c =
     let s = c.args.sets.now in
     let u = c.loop-parameter.sets in
     let vs = c.args.call.now.arguments.items in
-    let cs = chains_of c.args.call.now.replaced.now in
-    let end : to_expand c.loop-parameter.parameter cs (drop c.loop-parameter.parameter (given_in s vs)) ≡ [] = rest-end s vs cs c.loop-parameter.parameter (omega (arith, c.loop-parameter-test.false)) in
+    let done = c.loop-parameter.expanded.items in
     rw c.loop-parameter.invariant.no_fault (λ behind.
     let call = call_of s c.args.call.now behind in
-    arguments_end c.args.table.now c.args.env.now c.args.level call c.args.left.now (wanted call) (expanded_in u vs c.loop-parameter.expanded.items) c.loop-parameter.left
-    (subst (ArgumentsFollow c.args.table.now c.args.env.now c.args.level call c.args.left.now (wanted call) (expanded_in u vs c.loop-parameter.expanded.items) c.loop-parameter.left) end (c.loop-parameter.invariant.follows behind)))
+    follows_all c.args.table.now c.args.env.now c.args.level c.args.left.now c.loop-parameter.left s u vs (chains_of c.args.call.now.replaced.now)
+    c.loop-parameter.parameter done call (wanted call) (omega (arith, c.loop-parameter-test.false)) (c.loop-parameter.invariant.follows behind))
 
 pub expand_arguments-returns-clause-known : goal.expand_arguments-returns-clause-known
 expand_arguments-returns-clause-known m c = λ none. c.loop-parameter.invariant.known
@@ -316,29 +297,38 @@ expand_list-advance-goes-requires m c =
 
 pub expand_list-returns-then-not-branch-clause-outcome : goal.expand_list-returns-then-not-branch-clause-outcome
 expand_list-returns-then-not-branch-clause-outcome m c =
-    let end = rw c.if-not-branch.true at c.in_ok-goes.ensures.on in
-    let here = follows_skip c.args.table.now c.args.env.now c.args.level c.loop-named.left c.loop-named.sets c.args.left.now (hidings c.args.sets.now c.args.list.now) _ _ _ _ c.in_ok-named.ensures.skipped c.loop-named.invariant.follows in
-    subst (λ ts. ExpandsTo c.args.table.now c.args.env.now c.args.level c.args.left.now (hidings c.args.sets.now c.args.list.now) (record { tokens = ts; fault = c.advance-goes.new.fault; left = c.advance-goes.new.left })) (sym end.1)
-    (follows_end c.args.table.now c.args.env.now c.args.level c.args.left.now (hidings c.args.sets.now c.args.list.now) _ _ _ c.advance-goes.new.fault _ here end.0)
+    let sets = c.loop-named.sets in
+    let start = hidings c.args.sets.now c.args.list.now in
+    let list = c.skip.new.list in
+    let passed = c.skip.new.passed in
+    let here = follows_skip c.args.table.now c.args.env.now c.args.level c.loop-named.left sets c.args.left.now start c.loop-named.list c.loop-named.passed list passed c.in_ok-named.ensures.skipped c.loop-named.invariant.follows in
+    end_follows c.args.table.now c.args.env.now c.args.level c.args.left.now start (hidings sets passed) c.loop-named.left (hidings sets list) c.advance-goes.new.fault c.advance-goes.new.left
+    (hidings c.advance-goes.new.sets c.advance-goes.new.passed) here (rw c.if-not-branch.true at c.in_ok-goes.ensures.on)
 
 pub expand_list-loop-named-preserved : goal.expand_list-loop-named-preserved
 expand_list-loop-named-preserved m c =
+    let sets = c.loop-named.sets in
+    let start = hidings c.args.sets.now c.args.list.now in
+    let list = c.skip.new.list in
+    let passed = c.skip.new.passed in
     let taken = rw c.if-not-branch.false at c.in_ok-goes.ensures.on in
-    let step = taken.1 in
-    let here = follows_skip c.args.table.now c.args.env.now c.args.level c.loop-named.left c.loop-named.sets c.args.left.now (hidings c.args.sets.now c.args.list.now) _ _ _ _ c.in_ok-named.ensures.skipped c.loop-named.invariant.follows in
+    let here = follows_skip c.args.table.now c.args.env.now c.args.level c.loop-named.left sets c.args.left.now start c.loop-named.list c.loop-named.passed list passed c.in_ok-named.ensures.skipped c.loop-named.invariant.follows in
     record {
       low = c.loop-named.invariant.low;
       list_known = c.in_ok-goes.ensures.list_known c.if-not-branch.false;
       passed_known = c.in_ok-goes.ensures.passed_known;
       no_fault = taken.0;
       keeps = keeps-after c.loop-named.invariant.keeps c.in_ok-goes.ensures.keeps;
-      follows = subst (λ ts. Follows c.args.table.now c.args.env.now c.args.level c.args.left.now (hidings c.args.sets.now c.args.list.now) ts c.advance-goes.new.left (hidings c.advance-goes.new.sets c.advance-goes.new.list)) (sym step.1)
-          (follows_on c.args.table.now c.args.env.now c.args.level c.args.left.now (hidings c.args.sets.now c.args.list.now) _ _ _ _ _ step.0 here step.2);
+      follows = more_follows c.args.table.now c.args.env.now c.args.level c.args.left.now start (hidings sets passed) c.loop-named.left (hidings sets list) c.advance-goes.new.left
+          (hidings c.advance-goes.new.sets c.advance-goes.new.list) (hidings c.advance-goes.new.sets c.advance-goes.new.passed) here taken.1;
     }
 
 pub expand_list-loop-named-smaller : goal.expand_list-loop-named-smaller
 expand_list-loop-named-smaller m c =
-    let step = (rw c.if-not-branch.false at c.in_ok-goes.ensures.on).1 in
-    let after = advances_falls c.args.table.now c.args.env.now c.args.level _ _ _ _ step.0 step.2 in
-    let skipped = skip_falls c.args.table.now c.args.env.now c.args.level c.loop-named.left c.loop-named.sets _ _ _ _ c.in_ok-named.ensures.skipped in
+    let sets = c.loop-named.sets in
+    let list = c.skip.new.list in
+    let passed = c.skip.new.passed in
+    let after = more_falls c.args.table.now c.args.env.now c.args.level c.loop-named.left (hidings sets list) (hidings sets passed) c.advance-goes.new.left
+    (hidings c.advance-goes.new.sets c.advance-goes.new.list) (hidings c.advance-goes.new.sets c.advance-goes.new.passed) (rw c.if-not-branch.false at c.in_ok-goes.ensures.on).1 in
+    let skipped = skip_falls c.args.table.now c.args.env.now c.args.level c.loop-named.left sets c.loop-named.list c.loop-named.passed list passed c.in_ok-named.ensures.skipped in
     omega (arith, after, skipped)
