@@ -88,13 +88,16 @@ fn all_pass(table: &Table, tokens: &[Hidden]) -> bool
     true
 }
 
-/// Raises fault 21 at a macro's name.
+/// Raises fault 21 at a macro's name: an argument has no expansion.
 #[inline(never)]
-fn raise_depth(head: &Hidden, fault: &mut Option<Fault>) -> Result<(), AllocError>
-    ensures { OnOk result (fault.new ≡ Some (fault_at 21 head.now.token.used head.now.token.text)) }
+fn raise_depth<'x>(
+    head: &Hidden,
+    fault: &mut Option<Fault>,
+) -> Result<Option<Expansion<'x>>, Memory>
+    ensures { IfOk result (λ r. (r ≡ None) × (fault.new ≡ Some (fault_at 21 head.now.token.used head.now.token.text))) }
 {
     *fault = Some(at_use(21, head)?);
-    Ok(())
+    Ok(None)
 }
 
 /// Keeps the room of an invocation's arguments, which are done with.
@@ -210,8 +213,7 @@ fn expand_argument<'x, 'a: 'x>(
     ensures keeps { Keeps sets.old sets.new }
 {
     if level >= DEEPEST {
-        raise_depth(head, fault)?;
-        return Ok(None);
+        return raise_depth(head, fault);
     }
     // Most arguments name no macro, and are what they are expanded to.
     if all_pass(table, argument) {

@@ -17,6 +17,8 @@ ghost use Rattle.ppexpand.specs.Expansion.{turn_within};
 ghost use Rattle.ppexpand.specs.Lists.{next_macro};
 ghost use Rattle.ppexpand.specs.Shown.{expanded_in, fitting_in, FittingKnown, ExpansionsKnown, call_in, CallKnown, turn_in, NextKnown, replaced_in};
 ghost use Rattle.ppexpand.specs.Shown.{finished_in};
+ghost use Rattle.ppexpand.specs.Next as next;
+ghost use Rattle.pptext.specs.Tokens.{fault as fault_at};
 
 use crate::arguments::{Gathered, fit, gather, separators};
 use crate::cursor::Cursor;
@@ -283,6 +285,15 @@ fn object_turn<'t, 'x, 'a: 'x>(
     }
 }
 
+/// The turn of a macro's name whose replacement fails with this fault, at the place where the name is used.
+fn failed_at<'t, 'x, 'a>(number: u8, head: &Hidden) -> Result<Next<'t, 'x, 'a>, Memory>
+    ensures { IfOk result (λ n. n ≡ next.Failed (fault_at number head.now.token.used head.now.token.text)) }
+{
+    Ok(Next {
+        step: Step::Failed(at_use(number, head)?),
+    })
+}
+
 /// The turn of an invocation whose `)` is found.
 fn called<'t, 'x, 'a: 'x>(
     sets: &mut HideSets,
@@ -304,9 +315,7 @@ fn called<'t, 'x, 'a: 'x>(
 {
     let _behind = list;
     let Some(arguments) = arguments else {
-        return Ok(Next {
-            step: Step::Failed(at_use(18, &head)?),
-        });
+        return failed_at(18, &head);
     };
     let both = sets.common(&head, close)?;
     Ok(Next {
@@ -316,6 +325,15 @@ fn called<'t, 'x, 'a: 'x>(
             arguments,
             both,
         }),
+    })
+}
+
+/// The turn of an invocation in which a lone quote stands.
+fn failed_quote<'t, 'x, 'a>(quote: &Hidden) -> Result<Next<'t, 'x, 'a>, Memory>
+    ensures { IfOk result (λ n. n ≡ next.Failed (fault_at 7 quote.now.token.at quote.now.token.text)) }
+{
+    Ok(Next {
+        step: Step::Failed(lone_quote(quote)?),
     })
 }
 
@@ -342,12 +360,8 @@ fn invoked<'t, 'x, 'a: 'x>(
             let fitting = fit(supply.alloc(), arguments, names, variadic);
             called(sets, head, replaced, fitting, &close, list)
         }
-        Gathered::Quoted(quote) => Ok(Next {
-            step: Step::Failed(lone_quote(&quote)?),
-        }),
-        Gathered::Unclosed => Ok(Next {
-            step: Step::Failed(at_use(17, &head)?),
-        }),
+        Gathered::Quoted(quote) => failed_quote(&quote),
+        Gathered::Unclosed => failed_at(17, &head),
     }
 }
 
@@ -418,7 +432,7 @@ fn spent_turn<'t, 'x, 'a: 'x>(
     head: Hidden<'x>,
     replaced: &Macro<'a>,
     list: &mut Cursor<'x>,
-) -> Result<Next<'t, 'x, 'a>, AllocError>
+) -> Result<Next<'t, 'x, 'a>, Memory>
     ensures is { IfOk result (λ n.
         (sets : Numbered) (env : Env) → turn_in sets list.new n
         ≡ within (Some 0) (hiding sets head.entry ∷ hidings sets list.old)
@@ -446,6 +460,15 @@ fn spent_turn<'t, 'x, 'a: 'x>(
     })
 }
 
+/// The turn of a lone quote.
+fn refused_quote<'t, 'x, 'a>(quote: &Hidden) -> Result<Next<'t, 'x, 'a>, Memory>
+    ensures { IfOk result (λ n. n ≡ next.Refused (fault_at 7 quote.now.token.at quote.now.token.text)) }
+{
+    Ok(Next {
+        step: Step::Refused(lone_quote(quote)?),
+    })
+}
+
 /// Takes the next token of a list, which names the macro `named`, and what belongs to its invocation; a replacement is put before
 /// the rest. Where nothing is left of the budget, a name that is to be replaced is refused.
 pub(crate) fn next_turn<'t, 'x, 'a: 'x>(
@@ -468,9 +491,7 @@ pub(crate) fn next_turn<'t, 'x, 'a: 'x>(
         return Ok(Next { step: Step::Done });
     };
     if is_quote(&head) {
-        return Ok(Next {
-            step: Step::Refused(lone_quote(&head)?),
-        });
+        return refused_quote(&head);
     }
     let Some(replaced) = named else {
         return Ok(Next {
@@ -483,7 +504,7 @@ pub(crate) fn next_turn<'t, 'x, 'a: 'x>(
         });
     }
     if is_spent(left) {
-        return Ok(spent_turn(head, replaced, list)?);
+        return spent_turn(head, replaced, list);
     }
     macro_turn(supply, env, sets, head, replaced, list)
 }

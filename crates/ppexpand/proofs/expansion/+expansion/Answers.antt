@@ -1,4 +1,4 @@
-use Rattle.std.proofs.Common.{◌≡◌, ◌∙◌, ◌∷◌, ◌++◌, [], ◌+◌, ◌<◌, drop, length, get_or, Ok, Err, Some, None, true, false, refl, sym, ap, subst, arith}
+use Rattle.std.proofs.Common.{◌≡◌, ◌∙◌, ◌∷◌, [], ◌+◌, ◌<◌, length, get_or, Ok, Err, Some, None, true, false, refl, sym, ap, subst, arith}
 use Rattle.std.specs.Option.{option_map}
 use Rattle.std.proofs.lemmas.List.{length-append}
 use Rattle.std.proofs.lemmas.Result.{IfOk-weaker, on_ok_weaker}
@@ -7,12 +7,11 @@ use Rattle.ppmacro.specs.Chains.{chains_of}
 use Rattle.ppmacro.specs.Patterns.{listed}
 use Rattle.ppmacro.specs.Substituting.{option_of}
 use Rattle.ppmacro.specs.declared.flying.Expansion.TheVariants.{Unused}
-use Rattle.ppmacro.proofs.WalkLemmas.{drop-item}
 use Rattle.ppmacro.proofs.KeepLemmas.{hidings-keeps, known-keeps, keeps-all, keeps-after}
-use Rattle.ppexpand.specs.Turn.{finished, wanted, uses_alone, to_expand}
-use Rattle.ppexpand.specs.Expansion.{ExpandsTo, ExpandsArguments}
-use Rattle.ppexpand.specs.Shown.{finished_in, expanded_in, given_in, held, ExpansionsKnown, ExpandsArgument, deep, Invokes, refuses, finishes}
-use Rattle.ppexpand.proofs.Keeping.{call_of, call_of-keeps, call_known-keeps, given_known-keeps, expanded-keeps, expanded_known-keeps, expanded_known-push, expanded_in-push}
+use Rattle.ppexpand.specs.Turn.{finished, wanted, uses_alone}
+use Rattle.ppexpand.specs.Expansion.{ExpandsArguments}
+use Rattle.ppexpand.specs.Shown.{finished_in, expanded_in, held, ExpansionsKnown, ExpandsArgument, deep, Invokes, refuses, finishes}
+use Rattle.ppexpand.proofs.Keeping.{call_of, call_of-keeps, call_known-keeps, given_known-keeps, expanded_known-keeps, expanded_known-push}
 use Rattle.ppexpand.proofs.ArgumentLemmas.{arguments_first, raised_some, raised_none, raised_not, argument_expands, argument_outcome, argument_known, known-item, follows_unused, follows_used, follows_refused, follows_all, marked-alone}
 use Rattle.ppexpand.proofs.Skipping.{plain-expands, next-known, more-known, follows_skip, skip_falls}
 use Rattle.ppexpand.proofs.Follows.{more_follows, more_falls, end_follows, call_taken}
@@ -99,7 +98,11 @@ follow-returns-clause-keeps m c = keeps-after c.in_ok-expand_arguments.ensures.k
 -- ---- an argument
 
 pub expand_argument-returns-then-level-ge-DEEPEST-clause-is : goal.expand_argument-returns-then-level-ge-DEEPEST-clause-is
-expand_argument-returns-then-level-ge-DEEPEST-clause-is m c = (_, c.in_ok-raise_depth.ensures, deep (omega (arith, c.if-level-ge-DEEPEST.true)))
+expand_argument-returns-then-level-ge-DEEPEST-clause-is m c =
+    IfOk-weaker c.raise_depth.result _ _ (λ r raised. rw raised.0 (_, raised.1, deep (omega (arith, c.if-level-ge-DEEPEST.true)))) c.raise_depth.ensures
+
+pub expand_argument-returns-then-level-ge-DEEPEST-clause-known : goal.expand_argument-returns-then-level-ge-DEEPEST-clause-known
+expand_argument-returns-then-level-ge-DEEPEST-clause-known m c = IfOk-weaker c.raise_depth.result _ _ (λ r raised. rw raised.0 tt) c.raise_depth.ensures
 
 pub expand_argument-returns-then-all_pass-clause-is : goal.expand_argument-returns-then-all_pass-clause-is
 expand_argument-returns-then-all_pass-clause-is m c =

@@ -1,11 +1,21 @@
 use Rattle.std.proofs.Common.{◌≡◌, ◌∙◌, sym, ap, subst}
+use Rattle.std.proofs.lemmas.Result.{IfOk-weaker}
 use Rattle.std.specs.FinSet as set
 use Rattle.ppmacro.specs.HideSets.{set_at, hide_of, hiding, hidings}
 use Rattle.ppmacro.proofs.KeepLemmas.{known-sets, known-keeps}
 use Rattle.ppexpand.specs.Turn.{Called, called, gain_of}
-use Rattle.ppexpand.specs.Shown.{fitting_in, FittingKnown}
+use Rattle.ppexpand.specs.Shown.{fitting_in, FittingKnown, turn_in, NextKnown}
 use Rattle.ppexpand.proofs.Keeping.{call_made, given_known-keeps}
 use Rattle.ppexpand.proofs.turn.called.Goals as goal
+
+pub returns-in_default-clause-is : goal.returns-in_default-clause-is
+returns-in_default-clause-is c =
+    let s = c.args.sets.now in
+    let whole = ap (λ a. called (hiding s c.args.head) c.args.replaced.now (fitting_in s a) (hiding s c.args.close.now) (hidings s c.args.list.now)) (sym c.in_default.is) in
+    IfOk-weaker c.failed_at.result _ _ (λ n is. ap (turn_in s c.args.list.now) is ∙ whole) c.failed_at.ensures
+
+pub returns-in_default-clause-known : goal.returns-in_default-clause-known
+returns-in_default-clause-known c = IfOk-weaker c.failed_at.result _ _ (λ n is. subst (NextKnown c.args.sets.now c.args.list.now) (sym is) tt) c.failed_at.ensures
 
 pub returns-clause-is : goal.returns-clause-is
 returns-clause-is c =

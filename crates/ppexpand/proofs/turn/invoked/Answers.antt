@@ -1,3 +1,9 @@
+use Rattle.std.proofs.Common.{◌≡◌, ◌∙◌, sym, ap, subst}
+use Rattle.std.proofs.lemmas.Result.{IfOk-weaker}
+use Rattle.ppmacro.specs.HideSets.{hiding, hidings}
+use Rattle.ppexpand.specs.Arguments.{Quoted, Unclosed, gather, separators}
+use Rattle.ppexpand.specs.Turn.{invoked}
+use Rattle.ppexpand.specs.Shown.{turn_in, NextKnown}
 use Rattle.ppexpand.proofs.turn.invoked.Goals as goal
 
 pub called-requires-clause-arguments : goal.called-requires-clause-arguments
@@ -10,3 +16,25 @@ called-requires-clause-close c = (rw c.in-Closed.is at (c.in_ok-arguments.ensure
 
 pub called-requires-clause-list : goal.called-requires-clause-list
 called-requires-clause-list c = (rw c.in-Closed.is at (c.in_ok-arguments.ensures.known c.args.sets.now c.requires.list)).2
+
+pub returns-in-Quoted-clause-is : goal.returns-in-Quoted-clause-is
+returns-in-Quoted-clause-is c =
+    let s = c.args.sets.now in
+    let found : Quoted (hiding s c.in-Quoted.quote) ≡ gather 0 (separators c.args.names.now c.args.variadic) (hidings s c.args.list.now) =
+    rw c.in-Quoted.is at (c.in_ok-arguments.ensures.is s) ∙ ap (λ n. gather 0 n (hidings s c.args.list.now)) c.separators.ensures in
+    let whole = ap (invoked (hiding s c.args.head) c.args.replaced.now c.args.names.now c.args.variadic) found in
+    IfOk-weaker c.failed_quote.result _ _ (λ n is. ap (turn_in s c.gather.new.list) is ∙ whole) c.failed_quote.ensures
+
+pub returns-in-Quoted-clause-known : goal.returns-in-Quoted-clause-known
+returns-in-Quoted-clause-known c = IfOk-weaker c.failed_quote.result _ _ (λ n is. subst (NextKnown c.args.sets.now c.gather.new.list) (sym is) tt) c.failed_quote.ensures
+
+pub returns-clause-is : goal.returns-clause-is
+returns-clause-is c =
+    let s = c.args.sets.now in
+    let found : Unclosed ≡ gather 0 (separators c.args.names.now c.args.variadic) (hidings s c.args.list.now) =
+    rw c.in-Unclosed.is at (c.in_ok-arguments.ensures.is s) ∙ ap (λ n. gather 0 n (hidings s c.args.list.now)) c.separators.ensures in
+    let whole = ap (invoked (hiding s c.args.head) c.args.replaced.now c.args.names.now c.args.variadic) found in
+    IfOk-weaker c.failed_at.result _ _ (λ n is. ap (turn_in s c.gather.new.list) is ∙ whole) c.failed_at.ensures
+
+pub returns-clause-known : goal.returns-clause-known
+returns-clause-known c = IfOk-weaker c.failed_at.result _ _ (λ n is. subst (NextKnown c.args.sets.now c.gather.new.list) (sym is) tt) c.failed_at.ensures

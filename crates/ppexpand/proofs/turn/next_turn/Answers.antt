@@ -1,9 +1,10 @@
 use Rattle.std.proofs.Common.{◌≡◌, ◌∙◌, ℕ, true, false, List, [], ◌∷◌, Option, Some, None, IfOk, sym, ap, subst}
+use Rattle.std.proofs.lemmas.Result.{IfOk-weaker}
 use Rattle.std.specs.FinSet as set
 use Rattle.std.specs.Option.{option_copied}
 use Rattle.pptext.specs.Tokens.{is_lone_quote}
 use Rattle.ppmacro.specs.Names.{Macros}
-use Rattle.ppmacro.specs.HideSets.{hide_of, Hiding, hiding, hidings}
+use Rattle.ppmacro.specs.HideSets.{hide_of, Hiding, hiding, hidings, AllKnown}
 use Rattle.ppmacro.specs.Substituting.{tokens_of}
 use Rattle.ppmacro.specs.declared.flying.Hidden.{Hidden}
 use Rattle.ppmacro.specs.declared.macros.Definition.{Definition}
@@ -11,7 +12,7 @@ use Rattle.ppexpand.specs.declared.env.Env.{Env}
 use Rattle.ppexpand.specs.Turn.{Refused, named_turn, macro_turn, macro_of, turn, within, quote_fault}
 use Rattle.ppexpand.specs.Expansion.{turn_within}
 use Rattle.ppexpand.specs.Lists.{next_macro}
-use Rattle.ppexpand.specs.Shown.{turn_in}
+use Rattle.ppexpand.specs.Shown.{turn_in, NextKnown}
 use Rattle.ppexpand.proofs.TurnLemmas.{turn-quote, turn-hidden, turn-named, turn-unnamed, done-within, refused-within, passes-within, free-within, nothing_left}
 use Rattle.ppexpand.proofs.turn.next_turn.Goals as goal
 
@@ -36,9 +37,13 @@ returns-then-is_quote-clause-is c =
     let t = hiding s c.in-Some.head in
     let rest = hidings s c.next.new.self in
     let quote : is_lone_quote c.in-Some.head.token ≡ true = sym c.is_quote.ensures ∙ c.if-is_quote.true in
-    ap Refused c.in_ok-lone_quote.ensures
-    ∙ sym (ap (within c.args.left (t ∷ rest)) (turn-quote c.args.table.now c.args.env.now t rest quote) ∙ refused-within c.args.left (t ∷ rest) (quote_fault t))
-    ∙ ap (λ l. turn_within c.args.table.now c.args.env.now c.args.left (hidings s l)) (sym c.in-Some.ensures)
+    let whole : Refused (quote_fault t) ≡ turn_within c.args.table.now c.args.env.now c.args.left (hidings s c.args.list.now) =
+    sym (ap (within c.args.left (t ∷ rest)) (turn-quote c.args.table.now c.args.env.now t rest quote) ∙ refused-within c.args.left (t ∷ rest) (quote_fault t))
+    ∙ ap (λ l. turn_within c.args.table.now c.args.env.now c.args.left (hidings s l)) (sym c.in-Some.ensures) in
+    IfOk-weaker c.refused_quote.result _ _ (λ n is. ap (turn_in s c.next.new.self) is ∙ whole) c.refused_quote.ensures
+
+pub returns-then-is_quote-clause-known : goal.returns-then-is_quote-clause-known
+returns-then-is_quote-clause-known c = IfOk-weaker c.refused_quote.result _ _ (λ n is. subst (NextKnown c.args.sets.now c.next.new.self) (sym is) tt) c.refused_quote.ensures
 
 pub returns-then-hides-clause-is : goal.returns-then-hides-clause-is
 returns-then-hides-clause-is c =
@@ -69,9 +74,15 @@ returns-then-is_spent-clause-is c =
     let quote = sym c.is_quote.ensures ∙ c.if-is_quote.false in
     let hidden = sym c.hides.ensures ∙ c.if-hides.false in
     let macro = named_next c.args.table.now _ _ c.args.list.now c.in-Some.ensures c.requires.named ∙ ap option_copied c.in-Some-named.is in
-    c.in_ok-spent_turn.ensures.is s c.args.env.now
-    ∙ sym (named c.args.table.now c.args.env.now (Some 0) t rest _ quote hidden macro)
-    ∙ (λ i. turn_within c.args.table.now c.args.env.now (sym none i) (hidings s (sym c.in-Some.ensures i)))
+    let whole = sym (named c.args.table.now c.args.env.now (Some 0) t rest _ quote hidden macro)
+    ∙ (λ i. turn_within c.args.table.now c.args.env.now (sym none i) (hidings s (sym c.in-Some.ensures i))) in
+    IfOk-weaker c.spent_turn.result _ _ (λ n is. is s c.args.env.now ∙ whole) c.spent_turn.ensures.is
+
+pub returns-then-is_spent-clause-known : goal.returns-then-is_spent-clause-known
+returns-then-is_spent-clause-known c =
+    let s = c.args.sets.now in
+    let known : AllKnown s (c.in-Some.head ∷ c.next.new.self) = subst (AllKnown s) c.in-Some.ensures c.requires.known in
+    IfOk-weaker c.spent_turn.result _ _ (λ n all. all s known.each.0 (record { each = known.each.1 })) c.spent_turn.ensures.known
 
 pub returns-clause-is : goal.returns-clause-is
 returns-clause-is c =
