@@ -1,13 +1,14 @@
 // The list that is being expanded.
-ghost use Rattle.std.specs.Prelude.{◌≡◌, ◌∷◌, [], ◌++◌, true, Some, MatchOption, IfOk, OnOk};
+ghost use Rattle.std.specs.Prelude.{◌≡◌, ◌∷◌, [], ◌++◌, map, true, Some, MatchOption, IfOk, OnOk};
 ghost use Rattle.std.specs.Option.{option_copied};
 ghost use Rattle.ppmacro.specs.Substituting.{tokens_of};
-ghost use Rattle.ppexpand.specs.Lists.{marked, is_plain, next_macro, ArePlain};
+ghost use Rattle.ppexpand.specs.Lists.{marked, with_set, is_plain, next_macro, ArePlain};
 
 use crate::lists::put;
 use crate::stretch::Stretch;
 use crate::turn::macro_at;
 use ppmacro::{Hidden, Macro, Set, Table};
+use pptext::Token;
 use std::alloc::{AllocError, Global};
 use std::marker::Model;
 
@@ -45,13 +46,13 @@ pub(crate) enum Ahead<'t, 'x, 'a> {
 }
 
 impl<'a> Cursor<'a> {
-    /// These tokens of a file.
-    pub(crate) fn over(alloc: Global, below: Stretch<'a>) -> Cursor<'a>
-        ensures { result ≡ below.entry }
+    /// These tokens of a file, each with this hide set.
+    pub(crate) fn over(alloc: Global, tokens: &'a [Token], hide: Set) -> Cursor<'a>
+        ensures { result ≡ map (with_set hide) tokens.now }
     {
         Cursor {
             behind: Vec::new(alloc),
-            below,
+            below: Stretch::new(tokens, hide),
             pending: false,
         }
     }

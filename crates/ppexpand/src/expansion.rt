@@ -23,7 +23,7 @@ use crate::lists::put;
 use crate::passed::{Passed, Run};
 use crate::spellings::at_use;
 use crate::spending::less_one;
-use crate::stretch::{Stretch, is_plain, split_plain};
+use crate::stretch::{is_plain, split_plain};
 use crate::supply::Supply;
 use crate::turn::{Invocation, Step, finish, next_turn};
 use ppmacro::{Expansion, Hidden, HideSets, Macro, Pattern, Table};
@@ -440,7 +440,7 @@ fn expand_tokens<'x, 'a: 'x>(
 {
     let mut sets = HideSets::with_hasher(alloc, table.hashing())?;
     let mut supply = Supply::new(alloc);
-    let mut list = Cursor::over(alloc, Stretch::new(tokens, sets.empty()));
+    let mut list = Cursor::over(alloc, tokens, sets.empty());
     expand_list(
         &mut supply,
         table,
