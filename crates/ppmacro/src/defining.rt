@@ -352,8 +352,9 @@ fn undefined<'a>(
     if !name.is_identifier() {
         return Ok(Err(Fault::new(alloc, 9, at, b"undef")?));
     }
-    if table.is_reserved(name.text.as_bytes()) {
-        return Ok(Err(Fault::new(alloc, 10, at, name.text.as_bytes())?));
+    let spelling = name.text.as_bytes();
+    if table.is_reserved(spelling) {
+        return Ok(Err(Fault::new(alloc, 10, at, spelling)?));
     }
     Ok(Ok(Text::of(name)))
 }

@@ -1,9 +1,17 @@
-use Rattle.std.proofs.Common.{◌∙◌, sym, length, ◌≤◌, arith}
+use Rattle.std.proofs.Common.{◌≡◌, ◌∙◌, ◌+◌, sym, ap, subst, length, drop, ◌∷◌, Some, None, Option, ◌≤◌, arith}
 use Rattle.std.proofs.lemmas.List.{at_drop_all}
-use Rattle.ppmacro.specs.Chains.{items_behind}
-use Rattle.ppmacro.specs.Items.{resumed}
+use Rattle.std.specs.Option.{option_map}
+use Rattle.ppmacro.specs.declared.chains.Item as code
+use Rattle.ppmacro.specs.declared.chains.Item.TheVariants as variant
+use Rattle.ppmacro.specs.Chains.{Item, Operates, Joins, items_behind}
+use Rattle.ppmacro.specs.Items.{led_by, resumed}
 use Rattle.ppmacro.proofs.ChainLemmas.{resumed-end}
+use Rattle.ppmacro.proofs.WalkLemmas.{drop-item}
 use Rattle.ppmacro.proofs.chains.chains_in.Goals as goal
+
+-- what a part means
+abbrev meant : code.Item → Item
+meant = elim [ variant.Operates mark operand ↦ Operates mark operand | variant.Joins ↦ Joins ]
 
 pub returns : goal.returns
 returns c =
@@ -13,4 +21,29 @@ returns c =
     c.new.ensures
     ∙ sym (resumed-end c.loop-token.joined c.loop-token.chains.items)
     ∙ sym (at_drop_all (λ ts. resumed c.loop-token.joined c.loop-token.chains.items (items_behind shape c.loop-token.hash ts)) body c.loop-token.token-index at_end)
+    ∙ c.loop-token.invariant
+
+pub loop-token-preserved : goal.loop-token-preserved
+loop-token-preserved c =
+    let shape = c.args.shape.now in
+    let i = c.loop-token.token-index in
+    let body = c.args.body.now in
+    let token = c.token-item.result in
+    let rest = drop (i + 1) body in
+    let items = resumed c.loop-token.joined c.loop-token.chains.items in
+    let P : Option code.Item → Type 0 = λ r. items_behind shape c.loop-token.hash (token ∷ rest) ≡ led_by shape token (option_map meant r) rest in
+    c.in_ok-joined.ensures (items_behind shape None rest)
+    ∙ ap items (sym (subst P c.in-Some.is (c.next_item.ensures rest)) ∙ ap (items_behind shape c.loop-token.hash) (sym (drop-item body i token c.loop-token-test.true c.token-item.is)))
+    ∙ c.loop-token.invariant
+
+pub loop-token-preserved-in_default : goal.loop-token-preserved-in_default
+loop-token-preserved-in_default c =
+    let shape = c.args.shape.now in
+    let i = c.loop-token.token-index in
+    let body = c.args.body.now in
+    let token = c.token-item.result in
+    let rest = drop (i + 1) body in
+    let items = resumed c.loop-token.joined c.loop-token.chains.items in
+    let P : Option code.Item → Type 0 = λ r. items_behind shape c.loop-token.hash (token ∷ rest) ≡ led_by shape token (option_map meant r) rest in
+    ap items (sym (subst P c.in_default.is (c.next_item.ensures rest)) ∙ ap (items_behind shape c.loop-token.hash) (sym (drop-item body i token c.loop-token-test.true c.token-item.is)))
     ∙ c.loop-token.invariant
