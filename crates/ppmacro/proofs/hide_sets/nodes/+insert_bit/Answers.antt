@@ -1,8 +1,8 @@
 use Rattle.std.proofs.Common.{◌<◌, ◌∙◌, ◌-◌, ◌/◌, ◌%◌, ◌^◌, ◌*◌, ◌+◌, arith, length, subst, sym}
 use Rattle.std.specs.Int.RustNames.{bit_or}
 use Rattle.std.proofs.lemmas.Nat.{one_shl, or_lt, mod_below}
-use Rattle.ppmacro.specs.Nodes.{word, word_with}
-use Rattle.ppmacro.proofs.Tries.{insert-here, insert-left, insert-right, member-inserted, pos-of, within-at, bounded-on, bounded-insert, half-below}
+use Rattle.ppmacro.specs.Nodes.{word, word_with, IsBounded}
+use Rattle.ppmacro.proofs.Tries.{insert-here, insert-left, insert-right, member-inserted, pos-of, within-at, bounded-on, bounded-insert, half-below, keeps-on, length-keeps}
 use Rattle.ppmacro.proofs.hide_sets.nodes.+insert_bit.Goals as goal
 
 pub number_for-requires-clause-within : goal.number_for-requires-clause-within
@@ -69,3 +69,56 @@ returns-in_ok-even-clause-bounded t c = λ limit l b.
     (c.in_ok-right.ensures.bounded limit (half-below c.args.index c.args.bit limit l) b) c.in_ok-even.ensures.fresh
     (bounded-insert limit (c.args.index * 64 + c.args.bit) old new c.args.set c.in_ok-even.even l b c.requires.known
     (member-inserted old new c.args.set c.in_ok-even.even c.args.index c.args.bit c.requires.bit (returns-in_ok-even-clause-set t c)))
+
+-- what is left as it is, and what is refused
+
+pub number_for-requires-then-rest-eq0-clause-within : goal.number_for-requires-then-rest-eq0-clause-within
+number_for-requires-then-rest-eq0-clause-within t c =
+    let old = c.args.nodes.now.keys in
+    let w = within-at old c.args.set c.requires.pool c.requires.known in
+    let is = sym (c.node.view_is ∙ c.read-node.ensures) in
+    record {
+      here = subst (λ s. s.here < 2 ^ 64) is w.here;
+      left = c.in_ok-left.ensures.known;
+      right = length-keeps old c.insert_bit.new.nodes.keys c.node.inside.right c.in_ok-left.ensures.keeps (subst (λ s. s.right < length old) is w.right);
+    }
+
+pub number_for-requires-else-rest-eq0-clause-within : goal.number_for-requires-else-rest-eq0-clause-within
+number_for-requires-else-rest-eq0-clause-within t c =
+    let old = c.args.nodes.now.keys in
+    let w = within-at old c.args.set c.requires.pool c.requires.known in
+    let is = sym (c.node.view_is ∙ c.read-node.ensures) in
+    record {
+      here = subst (λ s. s.here < 2 ^ 64) is w.here;
+      left = length-keeps old c.insert_bit-else-rest-eq0.new.nodes.keys c.node.inside.left c.in_ok-right.ensures.keeps (subst (λ s. s.left < length old) is w.left);
+      right = c.in_ok-right.ensures.known;
+    }
+
+pub returns-in_ok-odd-clause-keeps : goal.returns-in_ok-odd-clause-keeps
+returns-in_ok-odd-clause-keeps t c = keeps-on _ _ _ c.in_ok-left.ensures.keeps c.in_ok-odd.ensures.keeps
+
+pub returns-in_ok-even-clause-keeps : goal.returns-in_ok-even-clause-keeps
+returns-in_ok-even-clause-keeps t c = keeps-on _ _ _ c.in_ok-right.ensures.keeps c.in_ok-even.ensures.keeps
+
+pub returns-in_err-odd-clause-keeps : goal.returns-in_err-odd-clause-keeps
+returns-in_err-odd-clause-keeps t c = keeps-on _ _ _ c.in_ok-left.ensures.keeps c.number_for-then-rest-eq0.ensures.keeps
+
+pub returns-in_err-even-clause-keeps : goal.returns-in_err-even-clause-keeps
+returns-in_err-even-clause-keeps t c = keeps-on _ _ _ c.in_ok-right.ensures.keeps c.number_for-else-rest-eq0.ensures.keeps
+
+pub returns-in_err-left-clause-bounded : goal.returns-in_err-left-clause-bounded
+returns-in_err-left-clause-bounded t c = λ limit l b. c.insert_bit.ensures.bounded limit (half-below c.args.index c.args.bit limit l) b
+
+pub returns-in_err-right-clause-bounded : goal.returns-in_err-right-clause-bounded
+returns-in_err-right-clause-bounded t c = λ limit l b. c.insert_bit-else-rest-eq0.ensures.bounded limit (half-below c.args.index c.args.bit limit l) b
+
+pub returns-in_err-odd-clause-bounded : goal.returns-in_err-odd-clause-bounded
+returns-in_err-odd-clause-bounded t c = λ limit l b.
+    subst (IsBounded limit) (sym c.in_err-odd.ensures.err) (c.in_ok-left.ensures.bounded limit (half-below c.args.index c.args.bit limit l) b)
+
+pub returns-in_err-even-clause-bounded : goal.returns-in_err-even-clause-bounded
+returns-in_err-even-clause-bounded t c = λ limit l b.
+    subst (IsBounded limit) (sym c.in_err-even.ensures.err) (c.in_ok-right.ensures.bounded limit (half-below c.args.index c.args.bit limit l) b)
+
+pub returns-in_err-whole-clause-bounded : goal.returns-in_err-whole-clause-bounded
+returns-in_err-whole-clause-bounded t c = λ limit l b. subst (IsBounded limit) (sym c.in_err-whole.ensures.err) b

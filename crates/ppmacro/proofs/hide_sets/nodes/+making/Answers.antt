@@ -1,7 +1,7 @@
-use Rattle.std.proofs.Common.{◌∙◌, sym}
-use Rattle.ppmacro.specs.Nodes.{word}
+use Rattle.std.proofs.Common.{◌∙◌, sym, subst}
+use Rattle.ppmacro.specs.Nodes.{word, IsBounded}
 use Rattle.ppmacro.specs.Operations.{joined_word}
-use Rattle.ppmacro.proofs.Tries.{join-set, member-joined, bounded-on, bounded-join}
+use Rattle.ppmacro.proofs.Tries.{join-set, member-joined, bounded-on, bounded-join, keeps-on, length-keeps}
 use Rattle.ppmacro.proofs.Remembering.{settled-is}
 use Rattle.ppmacro.proofs.hide_sets.nodes.+making.Goals as goal
 
@@ -39,3 +39,30 @@ make_node-returns-clause-bounded t c = λ limit b.
     (c.in_ok-right.ensures.bounded limit (c.in_ok-left.ensures.bounded limit b)) c.in_ok-both.ensures.fresh
     (bounded-join c.args.operation limit start new c.args.one c.args.two c.in_ok-both.both b c.requires.one c.requires.two
     (member-joined c.args.operation start new c.args.one c.args.two c.in_ok-both.both (make_node-returns-clause-set t c)))
+
+-- what is left as it is, and what is refused
+
+pub make_node-number_beside-requires-clause-one : goal.make_node-number_beside-requires-clause-one
+make_node-number_beside-requires-clause-one t c =
+    length-keeps _ _ c.args.one c.in_ok-right.ensures.keeps (length-keeps _ _ c.args.one c.in_ok-left.ensures.keeps c.requires.one)
+
+pub make_node-number_beside-requires-clause-two : goal.make_node-number_beside-requires-clause-two
+make_node-number_beside-requires-clause-two t c =
+    length-keeps _ _ c.args.two c.in_ok-right.ensures.keeps (length-keeps _ _ c.args.two c.in_ok-left.ensures.keeps c.requires.two)
+
+pub make_node-returns-clause-keeps : goal.make_node-returns-clause-keeps
+make_node-returns-clause-keeps t c = keeps-on _ _ _ (keeps-on _ _ _ c.in_ok-left.ensures.keeps c.in_ok-right.ensures.keeps) c.in_ok-both.ensures.keeps
+
+pub make_node-returns-in_err-right-clause-keeps : goal.make_node-returns-in_err-right-clause-keeps
+make_node-returns-in_err-right-clause-keeps t c = keeps-on _ _ _ c.in_ok-left.ensures.keeps c.make-2.ensures.keeps
+
+pub make_node-returns-in_err-both-clause-keeps : goal.make_node-returns-in_err-both-clause-keeps
+make_node-returns-in_err-both-clause-keeps t c =
+    keeps-on _ _ _ (keeps-on _ _ _ c.in_ok-left.ensures.keeps c.in_ok-right.ensures.keeps) c.number_beside.ensures.keeps
+
+pub make_node-returns-in_err-right-clause-bounded : goal.make_node-returns-in_err-right-clause-bounded
+make_node-returns-in_err-right-clause-bounded t c = λ limit b. c.make-2.ensures.bounded limit (c.in_ok-left.ensures.bounded limit b)
+
+pub make_node-returns-in_err-both-clause-bounded : goal.make_node-returns-in_err-both-clause-bounded
+make_node-returns-in_err-both-clause-bounded t c = λ limit b.
+    subst (IsBounded limit) (sym c.in_err-both.ensures.err) (c.in_ok-right.ensures.bounded limit (c.in_ok-left.ensures.bounded limit b))
