@@ -13,24 +13,52 @@ esac
 cd "$(dirname "$0")/.." || exit 1
 passed=0
 failed=0
+begun=0
 kept=$(mktemp -d) || exit 1
-trap 'rm -rf "$kept"' EXIT
+trap 'kill $(jobs -p) 2> /dev/null; rm -rf "$kept"' EXIT
 : > "$kept/missed"
 
-# Runs a command, says how long it took, and adds the counts of its last line; one that fails and counts no failure counts as one.
+# Adds the counts of the last line of what a command said; one that ends badly and counts no failure counts as one.
+add() {
+    counts=$(tail -n 1 "$1" | sed -n 's/^\([0-9][0-9]*\) passed, \([0-9][0-9]*\) failed$/\1 \2/p')
+    status=$2
+    set -- ${counts:-0 0} "$1"
+    if [ "$2" -eq 0 ] && { [ -z "$counts" ] || [ "$status" -ne 0 ]; }; then
+        set -- "$1" 1 "$3"
+    fi
+    passed=$((passed + $1))
+    failed=$((failed + $2))
+    grep '^missed: ' "$3" >> "$kept/missed"
+}
+
+# Runs a command, shows what it says, and says how long it took.
 count() {
     printf '== %s\n' "$*"
     began=$(date +%s)
     { "$@" 2>&1; echo $? > "$kept/status"; } | tee "$kept/log"
     printf 'took %s seconds\n' $(($(date +%s) - began))
-    counts=$(tail -n 1 "$kept/log" | sed -n 's/^\([0-9][0-9]*\) passed, \([0-9][0-9]*\) failed$/\1 \2/p')
-    set -- ${counts:-0 0}
-    if [ "$2" -eq 0 ] && { [ -z "$counts" ] || [ "$(cat "$kept/status")" -ne 0 ]; }; then
-        set -- "$1" 1
-    fi
-    passed=$((passed + $1))
-    failed=$((failed + $2))
-    grep '^missed: ' "$kept/log" >> "$kept/missed"
+    add "$kept/log" "$(cat "$kept/status")"
+}
+
+# Begins a command that runs beside the others that were begun.
+begin() {
+    begun=$((begun + 1))
+    {
+        began=$(date +%s)
+        printf '== %s\n' "$*" > "$kept/$begun"
+        "$@" > "$kept/$begun.log" 2>&1
+        echo $? > "$kept/$begun.status"
+        printf 'took %s seconds\n' $(($(date +%s) - began)) > "$kept/$begun.took"
+    } &
+}
+
+# Waits for all that were begun, and shows what each said.
+finish() {
+    wait
+    for number in $(seq "$begun"); do
+        cat "$kept/$number" "$kept/$number.log" "$kept/$number.took"
+        add "$kept/$number.log" "$(cat "$kept/$number.status")"
+    done
 }
 
 # Whether a program is there; otherwise notes what is missed without it.
@@ -48,16 +76,17 @@ else
 fi
 export CPPUNITS
 if has python3 python3 "the tests of the scripts and documents"; then
-    count python3 tests/list_tests.py
-    count python3 tests/scripts_tests.py
-    count python3 tests/docs_examples.py
-    count python3 tests/truncated.py
-    count python3 tests/hostile_limits.py -k test_a_name -k test_a_content_of_a_folder -k Text. -k Options.
-    count python3 tests/hostile_stack.py -k Stack.
-    count python3 tests/hostile_devices.py
+    begin python3 tests/list_tests.py
+    begin python3 tests/scripts_tests.py
+    begin python3 tests/docs_examples.py
+    begin python3 tests/truncated.py
+    begin python3 tests/hostile_limits.py -k test_a_name -k test_a_content_of_a_folder -k Text. -k Options.
+    begin python3 tests/hostile_stack.py -k Stack.
+    begin python3 tests/hostile_devices.py
     if has cc gcc "the runs with refused memory"; then
-        count python3 tests/refused_memory.py "$CPPUNITS"
+        begin python3 tests/refused_memory.py "$CPPUNITS"
     fi
+    finish
 fi
 cat "$kept/missed"
 printf '%d passed, %d failed\n' "$passed" "$failed"
