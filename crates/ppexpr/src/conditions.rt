@@ -1,7 +1,7 @@
 // Whether the group behind `#if` or `#elif` is taken (6.10.1).
-ghost use Rattle.std.specs.Prelude.{◌≡◌, IfOk};
+ghost use Rattle.std.specs.Prelude.{◌≡◌, IfOk, Ok};
 ghost use Rattle.std.specs.List.{list_any};
-ghost use Rattle.pptext.specs.Stops.{IfSettled};
+ghost use Rattle.pptext.specs.Stops.{IfSettled, settled};
 ghost use Rattle.ppexpr.specs.Asking.{is_defined};
 ghost use Rattle.ppexpr.specs.Conditions.{failure_fault, taken, Evaluates, Judges, Decides, IsCondition};
 
@@ -88,7 +88,17 @@ fn decide_run(alloc: Global, at: Place, run: &Run) -> Result<bool, Stop>
     decide(alloc, at, tokens.as_slice())
 }
 
-// The same for tokens in which macros may be replaced, and what is left of the budget.
+// The answer beside what is left of the budget.
+fn beside(
+    decided: Result<bool, Stop>,
+    left: Option<u64>,
+) -> Result<(Result<bool, Fault>, Option<u64>), Memory>
+    ensures { IfOk result (λ r. (Ok r.0 ≡ settled decided) × (r.1 ≡ left)) }
+{
+    Ok((settled(decided)?, left))
+}
+
+// The condition of tokens in which macros may be replaced, and what is left of the budget.
 fn evaluate_replaced(
     alloc: Global,
     table: &Table,
@@ -102,16 +112,15 @@ fn evaluate_replaced(
     let Some(asked) = asked(alloc, table, tokens)? else {
         return Ok((Err(Fault::bare(22, at)), left));
     };
-    let asked = asked.as_slice();
     let Expanded {
         tokens,
         fault,
         left,
-    } = expand(alloc, table, env, left, asked)?;
-    if let Some(fault) = fault {
-        return Ok((Err(fault), left));
+    } = expand(alloc, table, env, left, asked.as_slice())?;
+    match fault {
+        Some(fault) => Ok((Err(fault), left)),
+        None => beside(decide_run(alloc, at, &tokens), left),
     }
-    Ok((settled(decide_run(alloc, at, &tokens))?, left))
 }
 
 /// Whether the group behind `#if` or `#elif` is taken (6.10.1), or the one fault: 22 of a use of `defined` that is ill
@@ -138,7 +147,7 @@ pub fn evaluate(
     }
     // In most others nothing is replaced.
     match direct_symbols(alloc, table, tokens)? {
-        Some(symbols) => Ok((settled(judge(alloc, at, symbols.as_slice()))?, left)),
+        Some(symbols) => beside(judge(alloc, at, symbols.as_slice()), left),
         None => evaluate_replaced(alloc, table, env, left, at, tokens),
     }
 }

@@ -58,8 +58,9 @@ fn is_unsigned_suffix(text: &[u8]) -> bool
     ensures { result ≡ is_one_of unsigned_suffixes text.now }
 {
     match text {
-        b"u" | b"ul" | b"uL" | b"ull" | b"uLL" | b"lu" | b"Lu" | b"llu" | b"LLu" => true,
-        b"U" | b"Ul" | b"UL" | b"Ull" | b"ULL" | b"lU" | b"LU" | b"llU" | b"LLU" => true,
+        [b'u' | b'U', rest @ ..] => is_plain_suffix(rest),
+        [b'l' | b'L', b'u' | b'U'] => true,
+        [b'l', b'l', b'u' | b'U'] | [b'L', b'L', b'u' | b'U'] => true,
         _ => false,
     }
 }

@@ -1,4 +1,5 @@
-use Rattle.std.proofs.Common.{refl}
+use Rattle.std.proofs.Common.{refl, sym}
+use Rattle.std.proofs.lemmas.Result.{IfOk-weaker}
 use Rattle.ppexpr.specs.Conditions.{ill_formed, not_replaced, replaced}
 use Rattle.pptext.proofs.Stopping.{settled-at_ok}
 use Rattle.ppexpr.proofs.conditions.evaluate_replaced.Goals as goal
@@ -11,10 +12,10 @@ returns-in_default c =
 pub returns-in-Some-fault : goal.returns-in-Some-fault
 returns-in-Some-fault c =
     let asks = rw c.in-Some.is at c.in_ok-asked.ensures in
-    not_replaced asks (rw c.as_slice-asked.ensures.value at c.in_ok-tokens.ensures) refl c.in-Some-fault.is
+    not_replaced asks (rw c.as_slice.ensures.value at c.in_ok-tokens.ensures) refl c.in-Some-fault.is
 
 pub returns : goal.returns
 returns c =
     let asks = rw c.in-Some.is at c.in_ok-asked.ensures in
-    let decided = settled-at_ok c.decide_run.result _ _ c.in_ok-settled.ensures c.decide_run.ensures in
-    replaced asks (rw c.as_slice-asked.ensures.value at c.in_ok-tokens.ensures) refl c.in_default-fault.is decided
+    let expands = rw c.as_slice.ensures.value at c.in_ok-tokens.ensures in
+    IfOk-weaker c.beside.result _ _ (λ r h. replaced asks expands (sym h.1) c.in-None.is (settled-at_ok c.decide_run.result _ _ h.0 c.decide_run.ensures)) c.beside.ensures
