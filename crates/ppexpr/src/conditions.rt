@@ -112,14 +112,15 @@ fn evaluate_replaced(
     let Some(asked) = asked(alloc, table, tokens)? else {
         return Ok((Err(Fault::bare(22, at)), left));
     };
+    let asked = asked.as_slice();
     let Expanded {
         tokens,
         fault,
-        left,
-    } = expand(alloc, table, env, left, asked.as_slice())?;
+        left: after,
+    } = expand(alloc, table, env, left, asked)?;
     match fault {
-        Some(fault) => Ok((Err(fault), left)),
-        None => beside(decide_run(alloc, at, &tokens), left),
+        Some(fault) => Ok((Err(fault), after)),
+        None => beside(decide_run(alloc, at, &tokens), after),
     }
 }
 

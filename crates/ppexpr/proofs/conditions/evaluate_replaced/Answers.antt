@@ -12,10 +12,10 @@ returns-in_default c =
 pub returns-in-Some-fault : goal.returns-in-Some-fault
 returns-in-Some-fault c =
     let asks = rw c.in-Some.is at c.in_ok-asked.ensures in
-    not_replaced asks (rw c.as_slice.ensures.value at c.in_ok-tokens.ensures) refl c.in-Some-fault.is
+    not_replaced asks (rw c.as_slice-asked.ensures.value at c.in_ok-tokens.ensures) refl c.in-Some-fault.is
 
 pub returns : goal.returns
 returns c =
     let asks = rw c.in-Some.is at c.in_ok-asked.ensures in
-    let expands = rw c.as_slice.ensures.value at c.in_ok-tokens.ensures in
+    let expands = rw c.as_slice-asked.ensures.value at c.in_ok-tokens.ensures in
     IfOk-weaker c.beside.result _ _ (λ r h. replaced asks expands (sym h.1) c.in-None.is (settled-at_ok c.decide_run.result _ _ h.0 c.decide_run.ensures)) c.beside.ensures
