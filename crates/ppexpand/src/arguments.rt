@@ -88,8 +88,8 @@ pub(crate) fn gather<'a>(
       | Gathered.Unclosed ↦ Unit {0}
     ]) }
 {
-    let mut arguments: Vec<Vec<Hidden<'a>>> = Vec::new(supply.alloc());
     let mut argument = supply.list(USUAL)?;
+    let mut arguments: Vec<Vec<Hidden<'a>>> = Vec::new(supply.alloc());
     let mut depth: usize = 0;
     let mut commas = commas;
     while let Some(hidden) = list.next() {
@@ -100,6 +100,8 @@ pub(crate) fn gather<'a>(
                 return Ok(Gathered::Closed(arguments, hidden));
             }
             Mark::Comma if separates(depth, commas) => {
+                // It is no argument's, and is done with before what can fail.
+                drop(hidden);
                 end_argument(supply, &mut arguments, &mut argument)?;
                 commas = fewer(commas);
                 continue;
