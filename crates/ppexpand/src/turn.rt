@@ -439,24 +439,21 @@ fn spent_turn<'t, 'x, 'a: 'x>(
         (macro_turn env (hiding sets head.entry) (hidings sets list.old) replaced.now replaced.now.shape)) }
     ensures known { IfOk result (λ n. (sets : Numbered) → HasSets sets head.entry → AllKnown sets list.old → NextKnown sets list.new n) }
 {
-    if !matches!(replaced.definition().shape, Shape::FunctionLike { .. }) {
-        return Ok(Next {
-            step: Step::Refused(over_budget(&head)),
-        });
+    if matches!(replaced.definition().shape, Shape::FunctionLike { .. }) {
+        let Some(behind) = list.next() else {
+            return Ok(Next {
+                step: Step::Passes(head),
+            });
+        };
+        if !is_open(&behind) {
+            list.push(behind)?;
+            return Ok(Next {
+                step: Step::Passes(head),
+            });
+        }
     }
-    let Some(behind) = list.next() else {
-        return Ok(Next {
-            step: Step::Passes(head),
-        });
-    };
-    if is_open(&behind) {
-        return Ok(Next {
-            step: Step::Refused(over_budget(&head)),
-        });
-    }
-    list.push(behind)?;
     Ok(Next {
-        step: Step::Passes(head),
+        step: Step::Refused(over_budget(&head)),
     })
 }
 
