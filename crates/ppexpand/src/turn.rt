@@ -387,13 +387,15 @@ fn function_turn<'t, 'x, 'a: 'x>(
             step: Step::Passes(head),
         });
     };
-    if is_open(&next) {
-        return invoked(supply, sets, head, replaced, names, variadic, list);
+    if !is_open(&next) {
+        list.push(next)?;
+        return Ok(Next {
+            step: Step::Passes(head),
+        });
     }
-    list.push(next)?;
-    Ok(Next {
-        step: Step::Passes(head),
-    })
+    // The `(` is done with before there is a turn.
+    drop(next);
+    invoked(supply, sets, head, replaced, names, variadic, list)
 }
 
 /// The turn of a macro's name.
