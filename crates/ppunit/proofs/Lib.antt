@@ -94,3 +94,5 @@ pub mod StandardLines
 pub mod Standard
 -- By the standard's rules a unit gives the same whatever its budget is: what is left in a state is never read, and stays.
 pub mod AnyBudget
+-- The directives of the control lines that open no file and do not refuse.
+pub mod ControlKinds

@@ -7,6 +7,7 @@ use Rattle.ppunit.specs.States.{surroundings_of}
 use Rattle.ppunit.specs.Lines.{directed}
 use Rattle.ppunit.specs.Group.{Controls}
 use Rattle.ppunit.proofs.Leading.{other_control}
+use Rattle.ppunit.proofs.ControlKinds.{other_is_control}
 use Rattle.ppunit.proofs.Preprocessed.{on_settled}
 use Rattle.ppunit.proofs.walking.do_line.Goals as goal
 
@@ -44,3 +45,15 @@ returns-clause-control g c more grows =
     let line = directed c.args.directive c.args.line.now c.args.physical in
     other_control (surroundings_of c.args.around.now more) c.args.depth c.args.row c.profile-profile.result c.args.state.now c.control.new.state
     c.args.directive line None c.profile-profile.ensures refl alone c.in_ok-control.ensures
+
+pub include-requires-clause-shelf : goal.include-requires-clause-shelf
+include-requires-clause-shelf g c = c.requires.shelf
+
+pub include-requires-clause-quotes : goal.include-requires-clause-quotes
+include-requires-clause-quotes g c = sym c.in_ok-refuse_lone_quote.ensures
+
+pub control-requires : goal.control-requires
+control-requires g c =
+    let not_error : c.args.directive ≢ Error = λ is. search rules in
+    let not_include : c.args.directive ≢ Include = λ is. search rules in
+    other_is_control c.args.directive c.requires.opens c.requires.ends not_error not_include

@@ -3,6 +3,7 @@ use Rattle.pptext.proofs.Stopping.{stopped}
 use Rattle.ppunit.specs.States.{surroundings_of}
 use Rattle.ppunit.proofs.SectionEnds.{end_advances}
 use Rattle.ppunit.proofs.Leading.{steps_line, steps_control, stops_control}
+use Rattle.ppunit.proofs.Options.{none_of}
 use Rattle.ppunit.proofs.walking.step.Goals as goal
 
 pub returns-in_err-do_run-clause-step : goal.returns-in_err-do_run-clause-step
@@ -54,3 +55,36 @@ returns-clause-step g c =
     (rw (← c.file.view_is) at c.requires.index) (sym c.line.ensures.directive ∙ c.in-Some.is) (sym c.opens_section.ensures ∙ c.if-opens_section.false)
     (sym c.ends_group.ensures ∙ c.if-ends_group.false) c.tokens_at-tokens.ensures.tokens c.line-2.ensures.number c.in_ok-entered.entered
     c.in_ok-entered.ensures.control)
+
+pub line-requires : goal.line-requires
+line-requires g c = rw (← c.file.view_is) at c.requires.index
+
+pub line-requires-2 : goal.line-requires-2
+line-requires-2 g c = rw (← c.file.view_is) at c.requires.index
+
+pub tokens_at-tokens-requires : goal.tokens_at-tokens-requires
+tokens_at-tokens-requires g c = rw (← c.file.view_is) at c.requires.index
+
+pub section_end-requires : goal.section_end-requires
+section_end-requires g c = rw (← c.file.view_is) at c.requires.index
+
+pub do_run-requires-clause-index : goal.do_run-requires-clause-index
+do_run-requires-clause-index g c = rw (← c.file.view_is) at c.requires.index
+
+pub enter_section-requires-clause-index : goal.enter_section-requires-clause-index
+enter_section-requires-clause-index g c = rw (← c.file.view_is) at c.requires.index
+
+pub do_run-requires-clause-text : goal.do_run-requires-clause-text
+do_run-requires-clause-text g c = sym c.line.ensures.directive ∙ none_of c.line.result.now.directive c.in_default.not-Some
+
+pub enter_section-requires-clause-line : goal.enter_section-requires-clause-line
+enter_section-requires-clause-line g c = sym c.line.ensures.directive ∙ c.in-Some.is
+
+pub enter_section-requires-clause-opens : goal.enter_section-requires-clause-opens
+enter_section-requires-clause-opens g c = sym c.opens_section.ensures ∙ c.if-opens_section.true
+
+pub do_line-requires-clause-opens : goal.do_line-requires-clause-opens
+do_line-requires-clause-opens g c = sym c.opens_section.ensures ∙ c.if-opens_section.false
+
+pub do_line-requires-clause-ends : goal.do_line-requires-clause-ends
+do_line-requires-clause-ends g c = sym c.ends_group.ensures ∙ c.if-ends_group.false
