@@ -93,3 +93,36 @@ returns-in-Err-clause-walk g c =
     (stack_stops (surroundings_of c.args.around.now) c.loop-file.pass.files c.step.new.pass.files c.args.first.row c.args.first.lines
     c.args.state.now c.loop-file.state c.step.new.state fault c.loop-file.waiting c.loop-file.file c.loop-file.invariant.walked
     c.step.ensures.grows steps))
+
+pub depth-requires : goal.depth-requires
+depth-requires g c = c.loop-file.invariant.depth
+
+pub step-requires-clause-shelf : goal.step-requires-clause-shelf
+step-requires-clause-shelf g c = c.loop-file.invariant.shelf
+
+pub step-requires-clause-rows : goal.step-requires-clause-rows
+step-requires-clause-rows g c = c.requires.rows
+
+pub step-requires-clause-depth : goal.step-requires-clause-depth
+step-requires-clause-depth g c = omega (arith, c.depth.ensures, c.loop-file.invariant.depth)
+
+pub step-requires-clause-index : goal.step-requires-clause-index
+step-requires-clause-index g c = subst (λ (z : OpenFile). z.index < length z.lines) c.file.view_is (omega (arith, c.count.ensures, c.if-file-count.true))
+
+pub returns-in-Err-clause-shelf : goal.returns-in-Err-clause-shelf
+returns-in-Err-clause-shelf g c = c.step.ensures.shelf
+
+pub returns-in-Err-clause-grows : goal.returns-in-Err-clause-grows
+returns-in-Err-clause-grows g c = extends_trans c.step.new.pass.files c.loop-file.pass.files c.args.pass.now.files c.step.ensures.grows c.loop-file.invariant.grows
+
+pub returns-in_err-file-in-Ok-clause-shelf : goal.returns-in_err-file-in-Ok-clause-shelf
+returns-in_err-file-in-Ok-clause-shelf g c = c.step.ensures.shelf
+
+pub returns-in_err-file-in-Ok-clause-grows : goal.returns-in_err-file-in-Ok-clause-grows
+returns-in_err-file-in-Ok-clause-grows g c = extends_trans c.step.new.pass.files c.loop-file.pass.files c.args.pass.now.files c.step.ensures.grows c.loop-file.invariant.grows
+
+pub returns-in_default-clause-shelf : goal.returns-in_default-clause-shelf
+returns-in_default-clause-shelf g c = c.loop-file.invariant.shelf
+
+pub returns-in_default-clause-grows : goal.returns-in_default-clause-grows
+returns-in_default-clause-grows g c = c.loop-file.invariant.grows
