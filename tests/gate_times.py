@@ -10,7 +10,9 @@ already, from when it is called on.  What `rt ci` has kept is not done again, an
 Printed is, of each crate, by the clock from the start when its proof and that of its tests ended, in minutes; processor seconds of the proof,
 of the tests, of the check that the edits begin with, of all edits, and how many these were; the most memory that one check took, in GB; and
 of all crates the N dearest edits (10 by default), since an edit whose refusal takes the prover long can mostly be told in a form
-that takes less.
+that takes less.  So that runs on several machines can be compared, it says what share of their time the processors were busy, what share a
+virtual machine's host gave to others, and the processor seconds of a loop of 10,000,000 additions, a twentieth of which is done twice a minute:
+the least of five times before the gate, and the median and the most while it runs.
 
 status: that of the command
 """
@@ -18,6 +20,7 @@ import argparse
 import glob
 import os
 import re
+import statistics
 import subprocess
 import sys
 import time
@@ -27,6 +30,8 @@ TOP = os.path.dirname(os.path.dirname(os.path.abspath(__file__)))
 TICK = os.sysconf("SC_CLK_TCK")
 PAGE = os.sysconf("SC_PAGE_SIZE")
 KINDS = ("proof", "tests", "seed", "edit")
+ADDITIONS = 10_000_000
+PART = 20
 
 
 @dataclass
@@ -78,10 +83,33 @@ def look(process, turns):
     return Check(words[words.index("--crate-name") + 1], *kind, (int(fields[11]) + int(fields[12])) / TICK, memory, time.time())
 
 
-def watch(goes_on):
-    """The checks that are seen while the gate goes on."""
-    seen, turns = {}, {}
+def processor_times():
+    """The ticks that all processors were busy, idle, and given to others, since the machine started."""
+    with open("/proc/stat") as file:
+        user, nice, system, idle, waits, interrupts, more, stolen = (int(word) for word in file.readline().split()[1:9])
+    return user + nice + system + interrupts + more, idle + waits, stolen
+
+
+def additions(count):
+    """The processor seconds that a loop of so many additions takes."""
+    start, total = time.process_time(), 0
+    for number in range(count):
+        total += number
+    return time.process_time() - start
+
+
+def loop_seconds():
+    """The processor seconds of the whole loop, by a part of it."""
+    return additions(ADDITIONS // PART) * PART
+
+
+def watch(goes_on, loops):
+    """The checks that are seen while the gate goes on.  How long the loop takes meanwhile is put behind `loops`."""
+    seen, turns, due = {}, {}, time.time() + 30
     while goes_on():
+        if time.time() > due:
+            loops.append(loop_seconds())
+            due += 30
         for process in filter(str.isdigit, os.listdir("/proc")):
             try:
                 check = look(process, turns)
@@ -120,6 +148,15 @@ def report(top, checks, start, dearest):
         print("%6.0f s  %s/%s" % (check.seconds, check.crate, names[check.number] if check.number < len(names) else check.number))
 
 
+def report_machine(before, first, loops):
+    """How busy the processors were since those ticks, and how fast they were."""
+    busy, idle, stolen = (now - then for now, then in zip(processor_times(), before))
+    whole = max(busy + idle + stolen, 1)
+    print("%d processors, busy for %.0f %% of their time, given to others for %.0f %%" % (os.cpu_count(), 100 * busy / whole, 100 * stolen / whole))
+    print("a loop of %s additions: %.2f s before, then %.2f s and at most %.2f s" % (
+        format(ADDITIONS, ","), first, statistics.median(loops or [first]), max(loops or [first])))
+
+
 def runs_in(top):
     """Whether an `rt` runs in this folder."""
     for process in filter(str.isdigit, os.listdir("/proc")):
@@ -138,15 +175,17 @@ def main():
     parser.add_argument("--dearest", metavar="N", type=int, default=10)
     parser.add_argument("command", nargs="*", metavar="COMMAND")
     asked = parser.parse_args()
+    first, before, loops = min(loop_seconds() for _ in range(5)), processor_times(), []
     start, top, status = time.time(), asked.watch or TOP, 0
     if asked.watch:
-        checks = watch(lambda: runs_in(top))
+        checks = watch(lambda: runs_in(top), loops)
     else:
         gate = subprocess.Popen(asked.command or ["sh", "tests/all.sh"], cwd=TOP)
-        checks = watch(lambda: gate.poll() is None)
+        checks = watch(lambda: gate.poll() is None, loops)
         status = gate.returncode
     if checks:
         report(top, checks, start, asked.dearest)
+        report_machine(before, first, loops)
     return status
 
 
