@@ -30,6 +30,7 @@ TOP = os.path.dirname(os.path.dirname(os.path.abspath(__file__)))
 TICK = os.sysconf("SC_CLK_TCK")
 PAGE = os.sysconf("SC_PAGE_SIZE")
 KINDS = ("proof", "tests", "seed", "edit")
+# The loop that tells how fast a processor is, and the part of it that is done each time.
 ADDITIONS = 10_000_000
 PART = 20
 
@@ -58,9 +59,14 @@ def kind_of(words, process, turns):
     """
     if words[1] == "build":
         return ("tests" if "--test" in words else "proof"), 0
-    over = words[words.index("--incremental") + 1] if "--incremental" in words else ""
+    if words[1] != "check":
+        return None
+    if "--incremental" not in words:
+        # the only edit of a crate, or one that is tried once more, from nothing
+        return "edit", 0
+    over = words[words.index("--incremental") + 1]
     found = re.search(r"/rt-edits-[^/]*(?:/(seed|\d+))?$", over)
-    if words[1] != "check" or not found:
+    if not found:
         return None
     if found[1]:
         return ("seed", 0) if found[1] == "seed" else ("edit", int(found[1]))
@@ -153,7 +159,7 @@ def report_machine(before, first, loops):
     busy, idle, stolen = (now - then for now, then in zip(processor_times(), before))
     whole = max(busy + idle + stolen, 1)
     print("%d processors, busy for %.0f %% of their time, given to others for %.0f %%" % (os.cpu_count(), 100 * busy / whole, 100 * stolen / whole))
-    print("a loop of %s additions: %.2f s before, then %.2f s and at most %.2f s" % (
+    print("a loop of %s additions: %.2f s before; meanwhile %.2f s (the median), and %.2f s at most" % (
         format(ADDITIONS, ","), first, statistics.median(loops or [first]), max(loops or [first])))
 
 
