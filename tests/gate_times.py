@@ -12,12 +12,14 @@ of the tests, of the check that the edits begin with, of all edits, and how many
 of all crates the N dearest edits (10 by default), since an edit whose refusal takes the prover long can mostly be told in a form
 that takes less.  So that runs on several machines can be compared, it says what share of their time the processors were busy, what share a
 virtual machine's host gave to others, and the processor seconds of a loop of 10,000,000 additions, a twentieth of which is done twice a minute:
-the least of five times before the gate, and the median and the most while it runs.
+the least of twenty times before the gate, each time on all processors at once, and the median and the most while it runs.  A loop that takes longer
+meanwhile tells that others use the processors as well: the last line is what the gate had taken at the speed before.
 
 status: that of the command
 """
 import argparse
 import glob
+import multiprocessing
 import os
 import re
 import statistics
@@ -109,6 +111,12 @@ def loop_seconds():
     return additions(ADDITIONS // PART) * PART
 
 
+def loop_seconds_on_all():
+    """The same on all processors at once: what the loop takes where nothing else uses them, or little."""
+    with multiprocessing.Pool(os.cpu_count()) as pool:
+        return min(statistics.mean(pool.starmap(loop_seconds, [()] * os.cpu_count(), 1)) for _ in range(20))
+
+
 def watch(goes_on, loops):
     """The checks that are seen while the gate goes on.  How long the loop takes meanwhile is put behind `loops`."""
     seen, turns, due = {}, {}, time.time() + 30
@@ -154,13 +162,15 @@ def report(top, checks, start, dearest):
         print("%6.0f s  %s/%s" % (check.seconds, check.crate, names[check.number] if check.number < len(names) else check.number))
 
 
-def report_machine(before, first, loops):
-    """How busy the processors were since those ticks, and how fast they were."""
+def report_machine(start, before, first, loops):
+    """How busy the processors were since then and those ticks, how fast they were, and what that comes to at the speed before."""
     busy, idle, stolen = (now - then for now, then in zip(processor_times(), before))
     whole = max(busy + idle + stolen, 1)
     print("%d processors, busy for %.0f %% of their time, given to others for %.0f %%" % (os.cpu_count(), 100 * busy / whole, 100 * stolen / whole))
     print("a loop of %s additions: %.2f s before; meanwhile %.2f s (the median), and %.2f s at most" % (
         format(ADDITIONS, ","), first, statistics.median(loops or [first]), max(loops or [first])))
+    speed = statistics.mean(first / loop for loop in loops or [first])
+    print("%.0f %% of the speed before; at that, %.1f minutes by the clock" % (100 * speed, speed * (time.time() - start) / 60))
 
 
 def runs_in(top):
@@ -181,7 +191,7 @@ def main():
     parser.add_argument("--dearest", metavar="N", type=int, default=10)
     parser.add_argument("command", nargs="*", metavar="COMMAND")
     asked = parser.parse_args()
-    first, before, loops = min(loop_seconds() for _ in range(5)), processor_times(), []
+    first, before, loops = loop_seconds_on_all(), processor_times(), []
     start, top, status = time.time(), asked.watch or TOP, 0
     if asked.watch:
         checks = watch(lambda: runs_in(top), loops)
@@ -191,7 +201,7 @@ def main():
         status = gate.returncode
     if checks:
         report(top, checks, start, asked.dearest)
-        report_machine(before, first, loops)
+        report_machine(start, before, first, loops)
     return status
 
 
