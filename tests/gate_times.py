@@ -13,7 +13,8 @@ of all crates the N dearest edits (10 by default), since an edit whose refusal t
 that takes less.  So that runs on several machines can be compared, it says what share of their time the processors were busy, what share a
 virtual machine's host gave to others, and the processor seconds of a loop of 10,000,000 additions, a twentieth of which is done twice a minute:
 the least of twenty times before the gate, each time on all processors at once, and the median and the most while it runs.  A loop that takes longer
-meanwhile tells that others use the processors as well: the last line is what the gate had taken at the speed before.
+meanwhile tells that others use the processors as well: the last line is what the gate
+would have taken at the speed before.
 
 status: that of the command
 """
@@ -112,7 +113,7 @@ def loop_seconds():
 
 
 def loop_seconds_on_all():
-    """The same on all processors at once: what the loop takes where nothing else uses them, or little."""
+    """The same on all processors at once, their mean, the least of twenty: nearly what the loop takes where nothing else uses them."""
     with multiprocessing.Pool(os.cpu_count()) as pool:
         return min(statistics.mean(pool.starmap(loop_seconds, [()] * os.cpu_count(), 1)) for _ in range(20))
 
@@ -163,7 +164,7 @@ def report(top, checks, start, dearest):
 
 
 def report_machine(start, before, first, loops):
-    """How busy the processors were since then and those ticks, how fast they were, and what that comes to at the speed before."""
+    """How busy the processors were since then and those ticks, how fast they were, and what the gate would have taken at the speed before."""
     busy, idle, stolen = (now - then for now, then in zip(processor_times(), before))
     whole = max(busy + idle + stolen, 1)
     print("%d processors, busy for %.0f %% of their time, given to others for %.0f %%" % (os.cpu_count(), 100 * busy / whole, 100 * stolen / whole))
