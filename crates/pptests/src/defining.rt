@@ -70,13 +70,3 @@ pub(crate) fn drawn(rt: &HostRuntime) -> Result<Hashing, Fail> {
         Err(_) => Err(Fail::new("no key was drawn")),
     }
 }
-
-/// Definitions of `a0` to `a64`, each but the first of two of the one before it, and an invocation of the last.
-pub(crate) fn doubling(alloc: Global) -> Result<String, AllocError> {
-    let mut text = String::from_str(alloc, "#define a0 0\n")?;
-    for i in 0..64 {
-        text.push_str(format!(in alloc; "#define a{} a{i} a{i}\n", i + 1)?.as_str())?;
-    }
-    text.push_str("a64\n")?;
-    Ok(text)
-}

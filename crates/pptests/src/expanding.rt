@@ -1,8 +1,5 @@
-// Macro replacement on the standard's examples. What a list is expanded to is compared as a text.
-mod budgets;
-mod examples;
-mod runs;
-
+// Macro replacement: places, marks, the parts of a run, and what is left of a budget. What a list is expanded to is compared as a text; the
+// standard's examples and the faults are in tests/row_tests.py, by what the program prints.
 use crate::defining::{directed, env, source_of};
 use crate::showing::{assert_shown, push_fault, push_fields, push_token};
 use ppexpand::{Expanded, Piece, Run, TokenRef, expand};
@@ -15,9 +12,7 @@ use std::test::Fail;
 /// What is shown of the tokens that passed.
 #[derive(Clone, Copy)]
 enum Shown {
-    /// The spellings, each behind a blank.
-    Spellings,
-    /// The same, one by one.
+    /// The spellings one by one, each behind a blank.
     Singles,
     /// The spellings by the parts of the run.
     Parts,
@@ -101,7 +96,6 @@ fn push_run(
     shown: Shown,
 ) -> Result<(), AllocError> {
     match shown {
-        Shown::Spellings => push_spellings(text, b' ', run.to_vec(alloc)?.as_slice()),
         Shown::Singles => push_singles(text, run),
         Shown::Parts => push_parts(text, run),
         Shown::Places => push_places(alloc, text, run.to_vec(alloc)?.as_slice()),
@@ -179,20 +173,31 @@ fn told(
     Ok(text)
 }
 
-/// What is shown of what the lines behind the last directive of a file are expanded to, where lines are shifted by so much and so
-/// much is left.
+/// What is shown of what tokens are expanded to by these macros, where lines are shifted by so much and so much is left.
+fn expanded_by(
+    rt: &impl Abort,
+    alloc: Global,
+    table: &Table,
+    (shift, left): (i64, Option<u64>),
+    tokens: &[Token],
+    shown: Shown,
+) -> Result<Vec<u8>, Memory> {
+    let env = env(alloc, shift)?;
+    let expanded = expand(alloc, table, &env, left, tokens)?;
+    Ok(told(rt, alloc, &expanded, tokens.len(), shown)?)
+}
+
+/// The same of the lines behind the last directive of a file.
 fn expanded_in(
     rt: &impl Abort,
     alloc: Global,
-    (shift, left): (i64, Option<u64>),
+    with: (i64, Option<u64>),
     source: &Source,
     shown: Shown,
 ) -> Result<Vec<u8>, Memory> {
     let mut table = Table::new(alloc)?;
     let tokens = directed(rt, alloc, &mut table, source)?;
-    let env = env(alloc, shift)?;
-    let expanded = expand(alloc, &table, &env, left, tokens)?;
-    Ok(told(rt, alloc, &expanded, tokens.len(), shown)?)
+    expanded_by(rt, alloc, &table, with, tokens, shown)
 }
 
 /// The same of a text.
@@ -207,46 +212,126 @@ fn expanded(
     Ok(expanded_in(rt, alloc, with, &source, shown)?)
 }
 
-/// The spellings of tokens, and how an expansion that gives them is to end.
-fn given_and_end(alloc: Global, tokens: &[Token], end: &str) -> Result<Vec<u8>, AllocError> {
-    let mut text = Vec::new(alloc);
-    push_spellings(&mut text, b' ', tokens)?;
-    text.extend_from_slice(b" | ")?;
-    text.extend_from_slice(end.as_bytes())?;
-    Ok(text)
-}
+/// A text, by how much lines are shifted, what is left of a budget, and what is shown.
+type Case = (&'static str, i64, Option<u64>, &'static str);
 
-/// The same of the tokens of a text.
-fn wanted_of(rt: &impl Abort, alloc: Global, given: &str, end: &str) -> Result<Vec<u8>, Fail> {
-    let source = source_of(rt, alloc, given.as_bytes())?;
-    Ok(given_and_end(alloc, source.tokens(), end)?)
-}
+/// The tokens with their marks and places.
+const PLACED: &[Case] = &[
+    (
+        "#define f(a) a*g\n#define g(a) f(a)\nf(2)(9)",
+        0,
+        None,
+        "n+ 2 1:3:3 1:3:1, p- * 1:1:15 1:3:1, n- 9 1:3:6 1:3:1, p- * 1:1:15 1:3:1, i- g 1:1:16 1:3:1,  | ok",
+    ),
+    (
+        "#define L __LINE__\n\nL",
+        0,
+        None,
+        "n+ 3 1:1:11 1:3:1,  | ok",
+    ),
+    (
+        "#define L __LINE__\n\nL",
+        -2,
+        None,
+        "n+ 1 1:1:11 1:3:1,  | ok",
+    ),
+];
 
-/// That a text, where so much is left, gives the tokens of another and ends so: `ok`, or a fault, and what it leaves.
-fn assert_gives(
+/// The mark of what vanished is kept.
+const VANISHED: &[Case] = &[
+    (
+        "#define E\n\n[ E]-",
+        0,
+        None,
+        "p+ [ 1:3:1 1:3:1, p+ ] 1:3:4 1:3:4, p- - 1:3:5 1:3:5,  | ok",
+    ),
+    (
+        "#define E F\n#define F\n[ E]-",
+        0,
+        None,
+        "p+ [ 1:3:1 1:3:1, p+ ] 1:3:4 1:3:4, p- - 1:3:5 1:3:5,  | ok",
+    ),
+];
+
+/// The parts of a run: `.` before a token that passed in a stretch of the file, and `!` before one that passed by itself.
+const PASSED: &[Case] = &[
+    (
+        "#define X 1 + 2\na b X c d e f g h i j k l m n o X",
+        0,
+        None,
+        ".a.b!1!+!2.c.d.e.f.g.h.i.j.k.l.m.n.o!1!+!2 | ok",
+    ),
+    ("#define X 1 + 2\nX c X", 0, None, "!1!+!2!c!1!+!2 | ok"),
+];
+
+/// Tokens one by one.
+const YIELDED: &[Case] = &[
+    (
+        "#define X 1 + 2\n#define J(a,b) a##b\na b X c X J(d,e)",
+        0,
+        None,
+        " a b 1 + 2 c 1 + 2 de | ok",
+    ),
+    (
+        "#define X 1\nX a b c d e f g h i",
+        0,
+        None,
+        " 1 a b c d e f g h i | ok",
+    ),
+    ("#define X 1 + 2\nX c", 0, None, " 1 + 2 c | ok"),
+    ("#define X 1\na b", 0, None, " a b | ok"),
+    ("#define X\nX", 0, None, " | ok"),
+];
+
+/// What names no macro passes unchanged.
+const UNCHANGED: &[Case] = &[
+    ("#define X 1\na b c", 0, None, "unchanged | ok"),
+    ("#define X 1\n", 0, None, "unchanged | ok"),
+    ("#define X 1\na b X", 0, None, "changed | ok"),
+];
+
+/// What is left of a budget, at the end and at a fault.
+const LEFT: &[Case] = &[
+    (
+        "#define f(a) a*g\n#define g(a) f(a)\nf(2)(9)",
+        0,
+        Some(5),
+        " 2 * 9 * g | ok leaves 2",
+    ),
+    (
+        "#define f(a) a*g\n#define g(a) f(a)\nf(2)(9)",
+        0,
+        Some(2),
+        " 2 * | 35 1:3:1  leaves 0",
+    ),
+    ("#define f(a) a\nf(1", 0, Some(3), " | 17 1:2:1 f leaves 2"),
+];
+
+/// That this is shown of what texts are expanded to.
+fn assert_all_shown(
     rt: &impl Abort,
     alloc: Global,
-    left: Option<u64>,
-    text: &[u8],
-    (given, end): (&str, &str),
+    shown: Shown,
+    cases: &[Case],
 ) -> Result<(), Fail> {
-    let found = expanded(rt, alloc, (0, left), text, Shown::Spellings)?;
-    let wanted = wanted_of(rt, alloc, given, end)?;
-    assert!(rt;
-        found.as_slice() == wanted.as_slice(),
-        "{:?} for {given} | {end}",
-        found.as_slice()
-    );
+    for &(text, shift, left, wanted) in cases {
+        let found = expanded(rt, alloc, (shift, left), text.as_bytes(), shown)?;
+        assert_shown(rt, found.as_slice(), wanted);
+    }
     Ok(())
 }
 
-/// A text, a budget, the text whose tokens the first one gives, and how it ends: `ok`, or a fault, and what it leaves.
-type Case = (&'static str, Option<u64>, &'static str, &'static str);
-
-/// That texts give the tokens of others, and end so.
-fn assert_all_give(rt: &impl Abort, alloc: Global, cases: &[Case]) -> Result<(), Fail> {
-    for &(text, budget, given, end) in cases {
-        assert_gives(rt, alloc, budget, text.as_bytes(), (given, end))?;
+#[test]
+fn keeps_places_marks_parts_and_budgets(rt: HostRuntime) -> Result<(), Fail> {
+    for (shown, cases) in [
+        (Shown::Places, PLACED),
+        (Shown::Places, VANISHED),
+        (Shown::Parts, PASSED),
+        (Shown::Singles, YIELDED),
+        (Shown::Unchanged, UNCHANGED),
+        (Shown::Singles, LEFT),
+    ] {
+        assert_all_shown(&rt, rt.alloc(), shown, cases)?;
     }
     Ok(())
 }

@@ -1,13 +1,10 @@
-// Phase 4 of whole units over small files.
+// Phase 4 of whole units over small files. More of them are in tests/row_tests.py, by what the program prints.
 ghost use Rattle.std.specs.Prelude.{◌≡◌, length};
 ghost use Rattle.ppunit.specs.Unit.{IsUnitOf};
 
 mod again;
-mod budgets;
-mod files;
 mod forms;
 mod judging;
-mod lines;
 
 use crate::showing::{push_fault, push_place};
 use ppshelf::{File, MOST_ROWS, MemoryDisk, Pass, Shelf};
@@ -258,31 +255,23 @@ fn units_of(alloc: Global, profile: Profile, cases: &[Case]) -> Result<Vec<Unit>
     Ok(units)
 }
 
-/// What units give over a shelf of these files, within a budget for each.
+/// What units give over a shelf of these files.
 fn given_over(
     alloc: Global,
     shelf: &Shelf<MemoryDisk>,
-    budget: Option<u64>,
     files: Files,
     units: &[Unit],
 ) -> Result<Vec<u8>, Fail> {
     let disk = disk_of(alloc, files)?;
-    let mut setting = setting_of(alloc, shelf.profile(), "Feb  9 2024", "08:05:03")?;
-    setting.budget = budget;
+    let setting = setting_of(alloc, Profile::C11, "Feb  9 2024", "08:05:03")?;
     all_given(alloc, shelf, &disk, &setting, units)
 }
 
 /// What the units of these cases give.
-fn given_within(
-    alloc: Global,
-    profile: Profile,
-    budget: Option<u64>,
-    files: Files,
-    cases: &[Case],
-) -> Result<Vec<u8>, Fail> {
-    let shelf = shelf_of(alloc, profile, files)?;
-    let units = units_of(alloc, profile, cases)?;
-    given_over(alloc, &shelf, budget, files, units.as_slice())
+fn given_of(alloc: Global, files: Files, cases: &[Case]) -> Result<Vec<u8>, Fail> {
+    let shelf = shelf_of(alloc, Profile::C11, files)?;
+    let units = units_of(alloc, Profile::C11, cases)?;
+    given_over(alloc, &shelf, files, units.as_slice())
 }
 
 /// What the units of these cases are to give, each on a line.
@@ -295,17 +284,10 @@ fn wanted_of(alloc: Global, cases: &[Case]) -> Result<Vec<u8>, AllocError> {
     Ok(text)
 }
 
-/// That units of these files, one after the other over one pass, give texts in a profile, each within a budget.
-fn assert_units_within(
-    rt: &impl Abort,
-    alloc: Global,
-    profile: Profile,
-    budget: Option<u64>,
-    files: Files,
-    cases: &[Case],
-) -> Result<(), Fail> {
+/// That units of these files, one after the other over one pass, give texts.
+fn assert_units(rt: &impl Abort, alloc: Global, files: Files, cases: &[Case]) -> Result<(), Fail> {
     let wanted = wanted_of(alloc, cases)?;
-    let found = given_within(alloc, profile, budget, files, cases)?;
+    let found = given_of(alloc, files, cases)?;
     assert!(rt;
         found.as_slice() == wanted.as_slice(),
         "{:?} for {:?}",
@@ -313,35 +295,4 @@ fn assert_units_within(
         wanted.as_slice()
     );
     Ok(())
-}
-
-/// The same without a budget.
-fn assert_units(
-    rt: &impl Abort,
-    alloc: Global,
-    profile: Profile,
-    files: Files,
-    cases: &[Case],
-) -> Result<(), Fail> {
-    assert_units_within(rt, alloc, profile, None, files, cases)
-}
-
-/// That a unit of the one file `a.c` gives a text in a profile, for each of these contents.
-fn assert_contents(
-    rt: &impl Abort,
-    alloc: Global,
-    profile: Profile,
-    cases: &[(&str, &str)],
-) -> Result<(), Fail> {
-    for (text, wanted) in cases {
-        assert_units(rt, alloc, profile, &[("a.c", text)], &[(0, &[], wanted)])?;
-    }
-    Ok(())
-}
-
-/// A text that stands so many times, and an end.
-fn repeated(alloc: Global, text: &str, times: usize, end: &str) -> Result<String, AllocError> {
-    let mut all = text.repeat(alloc, times)?;
-    all.push_str(end)?;
-    Ok(all)
 }

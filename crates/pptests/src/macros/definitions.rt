@@ -272,15 +272,21 @@ const PREDEFINED: &[(&str, &str)] = &[
     ("__STDC", "none"),
 ];
 
-/// Asserts what a new table has of the names, where they are hashed so. How it says that it hashes them.
-fn hashed(rt: &impl Abort, alloc: Global, hashing: Hashing) -> Result<Hashing, Memory> {
-    let table = Table::with_hasher(alloc, hashing)?;
+/// Asserts what a new table has of the names.
+fn assert_predefined(rt: &impl Abort, alloc: Global, table: &Table) -> Result<(), Memory> {
     for &(name, definition) in PREDEFINED {
         assert!(rt;
-            shown(alloc, &table, name)?.as_slice() == definition.as_bytes(),
+            shown(alloc, table, name)?.as_slice() == definition.as_bytes(),
             "{name}"
         );
     }
+    Ok(())
+}
+
+/// The same where names are hashed so. How the table says that it hashes them.
+fn hashed(rt: &impl Abort, alloc: Global, hashing: Hashing) -> Result<Hashing, Memory> {
+    let table = Table::with_hasher(alloc, hashing)?;
+    assert_predefined(rt, alloc, &table)?;
     Ok(table.hashing())
 }
 

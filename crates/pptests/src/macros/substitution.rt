@@ -231,20 +231,32 @@ fn told(
     Ok(text)
 }
 
-/// The same of an invocation. The macro's name hides `b`.
+/// The same of an invocation, over these hide sets. The macro's name hides `b`.
+fn told_over(
+    rt: &impl Abort,
+    alloc: Global,
+    sets: &mut HideSets,
+    of: (&Table, &Macro),
+    texts: &[Source],
+    (by, hides, space): With,
+) -> Result<Vec<u8>, Memory> {
+    let names: &[u8] = if hides { b"g" } else { b"" };
+    let hide = set_of(rt, sets, names)?;
+    let base = set_of(rt, sets, b"b")?;
+    let answer = replaced(rt, alloc, sets, of, texts, by, (hide, base, space))?;
+    Ok(told(rt, alloc, sets, &answer, hides)?)
+}
+
+/// The same over hide sets of its own.
 fn told_of(
     rt: &impl Abort,
     alloc: Global,
     of: (&Table, &Macro),
     texts: &[Source],
-    (by, hides, space): With,
+    with: With,
 ) -> Result<Vec<u8>, Memory> {
     let mut sets = HideSets::new(alloc)?;
-    let names: &[u8] = if hides { b"g" } else { b"" };
-    let hide = set_of(rt, &mut sets, names)?;
-    let base = set_of(rt, &mut sets, b"b")?;
-    let answer = replaced(rt, alloc, &mut sets, of, texts, by, (hide, base, space))?;
-    Ok(told(rt, alloc, &sets, &answer, hides)?)
+    told_over(rt, alloc, &mut sets, of, texts, with)
 }
 
 /// The same of the macro that a line defines.

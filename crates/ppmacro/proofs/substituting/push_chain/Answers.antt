@@ -1,4 +1,4 @@
-use Rattle.std.proofs.Common.{◌≡◌, ◌∙◌, sym, ap, subst, Bool, List, [], ◌∷◌, ◌++◌, append_assoc}
+use Rattle.std.proofs.Common.{◌≡◌, ◌∙◌, sym, ap, subst, Bool, List, [], ◌∷◌, ◌++◌, append_assoc, rules}
 use Rattle.std.proofs.lemmas.List.{map-append}
 use Rattle.ppmacro.specs.Numbered.{Numbered}
 use Rattle.ppmacro.specs.HideSets.{hiding, hidings, HasSets, AllKnown}
@@ -43,3 +43,6 @@ returns-clause-known c = λ s known more.
     let whole : c.push_all.new.tokens.items ≡ (front ++ marked c.args.pending first ∷ []) ++ others =
     c.in_ok-push_all.ensures ∙ ap (λ hs. hs ++ others) (c.in_ok-push_one.ensures ∙ (λ i. c.in_ok-reserve.ensures.items i ++ c.in_ok-marked_copy.ensures i ∷ [])) in
     subst (AllKnown s) (sym whole) (known-behind s front c.args.pending first others known (subst (AllKnown s) c.in-Some.ensures.cases.0 more))
+
+pub returns-clause-pending : goal.returns-clause-pending
+returns-clause-pending c = search rules

@@ -1,4 +1,4 @@
-use Rattle.std.proofs.Common.{◌≡◌, arith}
+use Rattle.std.proofs.Common.{◌≡◌, arith, rules}
 use Rattle.pptext.proofs.LongestOf.{char_longest, str_longest}
 use Rattle.pptext.proofs.tokenizing.literal_at.Goals as goal
 
@@ -15,3 +15,6 @@ returns-clause-none c =
     let char_const : c.char_const_len-char_const.result ≡ 0 = omega arith in
     let string : c.str_len-string.result ≡ 0 = omega arith in
     (c.char_const_len-char_const.ensures.part.0 char_const, c.str_len-string.ensures.part.0 string)
+
+pub returns-then-not-may_open_literal-clause-none : goal.returns-then-not-may_open_literal-clause-none
+returns-then-not-may_open_literal-clause-none c = search rules

@@ -1,3 +1,4 @@
+use Rattle.std.proofs.lemmas.Grind.{common_steps}
 use Rattle.std.proofs.Common.{◌≡◌, ◌+◌, ◌*◌, true, get_or, subst, sym, ap, ◌∙◌, arith}
 use Rattle.pptext.specs.Spellings.{is_digit}
 use Rattle.ppunit.proofs.Digits.{Reads, reads_digit, reads_on}
@@ -15,3 +16,6 @@ loop-byte-preserved c =
           (reads_digit digits i c.loop-byte.number c.loop-byte-test.true digit w.if-number-le-LAST_LINE.true c.loop-byte.invariant)
       | else-number-le-LAST_LINE w ↦ subst (Reads digits (i + 1)) (sym w.number-is) (reads_on digits i c.loop-byte.number c.loop-byte-test.true digit (omega (arith, w.if-number-le-LAST_LINE.false)) c.loop-byte.invariant)
     ]
+
+pub returns : goal.returns
+returns c = grind (arith, common_steps)

@@ -1,3 +1,4 @@
+use Rattle.std.proofs.lemmas.Grind.{common_steps}
 use Rattle.std.proofs.Common.{◌∙◌, ◌-◌, ◌<◌, ◌≤◌, suc, length, true, vec_len, ap, sym, arith}
 use Rattle.ppexpand.proofs.Marks.{marked-top, with_mark}
 use Rattle.ppexpand.specs.Lists.{marked}
@@ -12,3 +13,6 @@ returns-in-Some c =
     marked-top v.items (vec_len v - 1) c.mark.new.self c.in-Some.last.now (marked c.self.inside.pending c.self.inside.below) low last (c.mark.ensures ∙ ap with_mark c.in-Some.ensures.item.1)
     ∙ ap (marked true) c.self.view_is
     ∙ ap (λ b. marked b c.args.self.now) (sym c.if-not-pending.false)
+
+pub returns : goal.returns
+returns c = grind (arith, common_steps)

@@ -1,4 +1,4 @@
-use Rattle.std.proofs.Common.{◌≡◌, ℕ, ◌+◌, ◌%◌, ◌^◌, ap, sym, ◌∙◌, arith, List, [], subst, if◌then◌else◌, Bool}
+use Rattle.std.proofs.Common.{◌≡◌, ℕ, ◌+◌, ◌%◌, ◌^◌, ap, sym, ◌∙◌, arith, List, [], subst, if◌then◌else◌, Bool, rules}
 use mathlib.Core.Option.{none}
 use Rattle.atomic_table.specs.Table.{Me, Allows, step}
 use Rattle.pppool.specs.declared.hand.Hand.{Hand}
@@ -16,3 +16,6 @@ fetch_add-found-requires c =
     let P : Me ℕ Hand → Type 0 = λ m. Allows (Dealt t.key) t.table_id.slots s.id m 0 (λ n. (n + 1) % 2 ^ 64) (Claims (step t.table_id.slots 0 1 0 none) m) in
     let me : (s.me.0, []) ≡ s.me = ap (λ (l : List _). (s.me.0, l)) (sym inv.0) in
     (desk, omega (arith, c.self.invariant.1), subst P me (claims t.key t.table_id.slots s.id s.me.0 inv.1 unmarked))
+
+pub returns-then-found-self-clause-some : goal.returns-then-found-self-clause-some
+returns-then-found-self-clause-some c = search rules

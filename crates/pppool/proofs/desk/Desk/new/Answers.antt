@@ -1,4 +1,4 @@
-use Rattle.std.proofs.Common.{◌≡◌, ◌-◌, ap, sym, arith, [], subst, refl}
+use Rattle.std.proofs.Common.{◌≡◌, ◌-◌, ap, sym, arith, [], subst, refl, rules}
 use Rattle.atomic_table.specs.Table.{Splits}
 use Rattle.pppool.specs.declared.hand.Hand.{Hand}
 use Rattle.pppool.specs.Desk.{hand, Dealt, plan_of}
@@ -12,3 +12,6 @@ split_seat-seat-requires c =
     let me : hand [] 0 (c.args.seats - c.loop.counter) (plan_of c.args.blocks c.args.seats) ≡ c.loop.first.me.0 = ap (λ m. m.0) (sym k.1) in
     let P : Hand → Type 0 = λ v. Splits (Dealt t.key) c.loop.first.id v (hand v.claims v.marks (v.seats - 1) v.plan) (hand [] 0 1 v.plan) in
     (k.0, omega (arith, c.in_ok-table.ensures.0), subst P me (splits t.key c.loop.first.id (hand [] 0 (c.args.seats - c.loop.counter) (plan_of c.args.blocks c.args.seats)) (omega arith) refl refl))
+
+pub returns-clause-count : goal.returns-clause-count
+returns-clause-count c = search rules

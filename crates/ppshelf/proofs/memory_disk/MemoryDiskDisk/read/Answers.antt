@@ -1,5 +1,5 @@
 use Rattle.ppshelf.proofs.Finding.{found, skipped}
-use Rattle.std.proofs.Common.{arith, ◌∙◌, ap, sym, subst, List}
+use Rattle.std.proofs.Common.{arith, ◌∙◌, ap, sym, subst, List, rules}
 use Rattle.std.proofs.lemmas.Bool.{false≢true}
 use Rattle.ppshelf.specs.Content.{readable}
 use Rattle.ppshelf.specs.OnDisk.{IsFile}
@@ -16,3 +16,6 @@ returns-then-has_name-clause-bytes c =
 pub loop-file-preserved : goal.loop-file-preserved
 loop-file-preserved c x later =
     c.loop-file.invariant x (skipped c.deref-file-items.result.now c.loop-file.file-index c.file-item.result c.args.name.now x (omega arith) c.file-item.is (λ e. false≢true (sym c.if-has_name.false ∙ c.has_name.ensures.1 e)) later)
+
+pub returns-clause-bytes : goal.returns-clause-bytes
+returns-clause-bytes c = search rules

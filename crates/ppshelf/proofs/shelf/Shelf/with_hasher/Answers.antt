@@ -1,4 +1,4 @@
-use Rattle.std.proofs.Common.{◌≡◌, ◌≤◌, List, ℕ, map, length, ap, arith, ◌∙◌}
+use Rattle.std.proofs.Common.{◌≡◌, ◌≤◌, List, ℕ, map, length, ap, arith, ◌∙◌, rules}
 use Rattle.std.specs.String.{string_bytes}
 use Rattle.std.proofs.lemmas.List.{length-map}
 use Rattle.ppshelf.specs.Files.{most_rows}
@@ -11,3 +11,6 @@ invariant_of-result g c =
     let is : c.in_ok-index.index ≡ names = c.in_ok-index.ensures.all ∙ ap (map string_bytes) c.as_slice.ensures.value in
     let small : length names ≤ most_rows = let l = length-map c.args.names.items string_bytes in let m = c.args.names.small in let r = c.requires in omega arith in
     empty_shelf _ c.in_ok-index.index names c.in-Ok.rows.items _ is c.in-Ok.ensures.names c.in-Ok.ensures.empty small c.in_ok-index.ensures.form
+
+pub returns-clause-profile : goal.returns-clause-profile
+returns-clause-profile g c = search rules

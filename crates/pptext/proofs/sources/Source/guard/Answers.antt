@@ -1,4 +1,4 @@
-use Rattle.std.proofs.Common.{◌≡◌, ℕ, ◌<◌, List, length, sym, ap, ◌∙◌, subst, MatchOption, Option, None, Some}
+use Rattle.std.proofs.Common.{◌≡◌, ℕ, ◌<◌, List, length, sym, ap, ◌∙◌, subst, MatchOption, Option, None, Some, rules}
 use Rattle.std.specs.Prelude.{slice_index_or}
 use Rattle.pptext.specs.declared.tokens.Token.{Token}
 use Rattle.pptext.specs.Lines.{LogicalLine}
@@ -28,3 +28,6 @@ returns-in-None-clause-none c = known_none _ c.args.self.now c.self.inside.token
 pub returns-in-Some-clause-some : goal.returns-in-Some-clause-some
 returns-in-Some-clause-some c =
     known_some _ c.args.self.now c.self.inside.tokens.items c.self.inside.guard c.in-Some.i c.index.result.now c.as_bytes.result.now c.self.invariant.2 c.in-Some.is c.self.view_is c.index.ensures c.as_bytes.ensures
+
+pub returns-in-Some-clause-none : goal.returns-in-Some-clause-none
+returns-in-Some-clause-none c = search rules
