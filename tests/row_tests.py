@@ -321,7 +321,7 @@ class Conditions(unittest.TestCase):
     def test_groups_are_taken_and_left(self):
         self.judged([("", expression, True) for expression in TAKEN.splitlines()])
         self.judged([("", expression, False) for expression in LEFT.splitlines()])
-        self.judged([*((definitions, expression, True) for definitions, expression in ASKED), ("", "'\xe9' + 1 == 0xc3a9 + 1", "25 1 '\xc3\xa9'")])
+        self.judged([(definitions, expression, True) for definitions, expression in ASKED])
 
     def test_values(self):
         self.judged([("", text, value != 0) for text, value in GROUPED.items()])
@@ -329,6 +329,8 @@ class Conditions(unittest.TestCase):
 
     def test_faults(self):
         self.judged(REFUSED)
+        # two bytes, since a text of a list is UTF-8
+        self.judged([("", "'\xe9'", "25 1 '\xc3\xa9'")])
         self.judged([("", text, "23 1") for text in UNGROUPED.splitlines()])
 
     def test_depth_and_length(self):
