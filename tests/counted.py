@@ -5,6 +5,7 @@ The program is the first argument, or the environment variable CPPUNITS, or crat
 and the missing program is named with the Debian package that has it.
 """
 import os
+import re
 import shutil
 import subprocess
 import sys
@@ -16,6 +17,7 @@ BUILT = os.path.join(TOP, "crates", "cppunits", "out", "cppunits")
 PACKAGES = {"gcc": "gcc", "clang": "clang", "cmake": "cmake", "meson": "meson", "ninja": "ninja-build", "make": "make",
             "bear": "bear", "parallel": "parallel", "man": "man-db", "groff": "groff-base", "mandoc": "mandoc"}
 LIST = {"date": "Feb  9 2024", "time": "08:05:03"}
+PRINTED = re.compile(rb"%([0-9A-F]{2})")
 
 
 def program():
@@ -47,6 +49,11 @@ def script(name, *words, **more):
 
 def cppunits(*words, **more):
     return run([program(), *words], **more)
+
+
+def spelled(text):
+    """A printed spelling as it stands in its file."""
+    return PRINTED.sub(lambda found: bytes([int(found[1], 16)]), text).decode("latin-1")
 
 
 class Results(unittest.TextTestResult):

@@ -11,15 +11,8 @@ import re
 import tempfile
 import unittest
 
-from counted import LIST, cppunits, main
+from counted import LIST, cppunits, main, spelled
 from truncated import EXAMPLES
-
-PRINTED = re.compile(rb"%([0-9A-F]{2})")
-
-
-def spelled(text):
-    """A spelling as it stands in its file."""
-    return PRINTED.sub(lambda found: bytes([int(found[1], 16)]), text).decode("latin-1")
 
 
 def told(lines):

@@ -1,9 +1,7 @@
 // Files by translation phases 1 to 3 and their groups. What a file is read into is compared as a text.
-mod cleaning;
 mod cutting;
 mod directives;
 mod hashing;
-mod passes;
 mod reading;
 mod tokens;
 
