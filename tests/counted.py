@@ -4,6 +4,7 @@ The program is the first argument, or the environment variable CPPUNITS, or crat
 `rt run` leave behind.  A test that needs a program which isn't there is missed: it counts as neither passed nor failed,
 and the missing program is named with the Debian package that has it.
 """
+import json
 import os
 import re
 import shutil
@@ -49,6 +50,14 @@ def script(name, *words, **more):
 
 def cppunits(*words, **more):
     return run([program(), *words], **more)
+
+
+def dumped(files, units, *words, **more):
+    """The lines that are printed of each unit of a list, which is to be taken."""
+    done = cppunits(*words, "dump", input=json.dumps(dict(LIST, files=files, units=units, **more)).encode())
+    if done.returncode not in (0, 1) or done.stderr:
+        raise AssertionError("status %d: %s" % (done.returncode, done.stderr.decode()))
+    return [unit.splitlines() for unit in re.split(rb"^unit .*\n", done.stdout, flags=re.MULTILINE)[1:]]
 
 
 def spelled(text):

@@ -7,12 +7,11 @@ Phase 1 leaves out a byte order mark and each return in front of a new-line, sup
 deletes each splice, and wants that the file ends in none (5.1.1.2p1, p2).  Each character keeps the line and the column of its first byte.
 """
 import itertools
-import json
 import re
 import unittest
 from dataclasses import dataclass, replace
 
-from counted import LIST, cppunits, main, spelled
+from counted import dumped, main, spelled
 
 MARK = "\ufeff".encode()
 TRIGRAPHS = dict(zip("=(/)'<!>-", "#[\\]^{|}~"))
@@ -55,6 +54,7 @@ def terminated(chars):
 
 
 def without_trigraphs(chars):
+    """With the character in place of each trigraph, where that begins."""
     replaced, at = [], 0
     while at < len(chars):
         is_one = stands(chars, at, "??") and at + 2 < len(chars) and chars[at + 2].code in TRIGRAPHS
@@ -98,18 +98,14 @@ def behind(token, chars):
 
 
 def printed(texts):
-    """What is printed of each of these, as a unit's only file: its tokens with their places, or the place of its fault 2."""
+    """What is printed of each of these, as a unit's only file, told."""
     names = ["%d.c" % number for number in range(len(texts))]
     files = [{"name": name, "text": text.decode()} for name, text in zip(names, texts)]
-    data = json.dumps(dict(LIST, files=files, units=[{"file": name} for name in names])).encode()
-    done = cppunits("dump", input=data)
-    if done.returncode not in (0, 1):
-        raise AssertionError("status %d: %s" % (done.returncode, done.stderr.decode()))
-    units = re.split(rb"^unit .*\n", done.stdout, flags=re.MULTILINE)[1:]
-    return [told(unit.splitlines()) for unit in units]
+    return [told(lines) for lines in dumped(files, [{"file": name} for name in names])]
 
 
 def told(lines):
+    """A unit's tokens with their places, or the place of its fault 2."""
     fault = re.match(rb"fault 2 \d+:(\d+:\d+)", lines[-1])
     if fault:
         return fault[1].decode()
@@ -153,6 +149,11 @@ TEXTS = [
 ]
 
 
+def short_texts(codes):
+    """All texts of at most five of these characters."""
+    return [bytes(text) for length in range(6) for text in itertools.product(codes, repeat=length)]
+
+
 class Phases(unittest.TestCase):
     def agree(self, texts):
         for data, read in zip(texts, printed(texts), strict=True):
@@ -166,8 +167,7 @@ class Phases(unittest.TestCase):
                 self.assertEqual(blanks(rest), len(rest))
 
     def test_short_texts(self):
-        """All texts of at most five of these seven characters."""
-        self.agree([bytes(text) for length in range(6) for text in itertools.product(b"@?/(\\\r\n", repeat=length)])
+        self.agree(short_texts(b"@?/(\\\r\n"))
 
     def test_texts(self):
         self.agree(TEXTS)
@@ -179,6 +179,16 @@ class Phases(unittest.TestCase):
         for data, read in zip(texts, printed(texts), strict=True):
             with self.subTest(data=data):
                 self.assertEqual(read, [(cleaned(data)[-2].place, "@")])
+
+    def test_numbers_of_lines(self):
+        """The line behind that in which the new-line of a `#line` stands has the number that it says (6.10.4p3)."""
+        texts = [b"#line 100 //" + text + b"\n\n__LINE__" for text in short_texts(b"?/\\\r\n")]
+        for data, read in zip(texts, printed(texts), strict=True):
+            with self.subTest(data=data):
+                chars = cleaned(data)
+                end = next(char for char in chars if char.code == "\n")
+                name = chars[-len("__LINE__\n")]
+                self.assertEqual(read[-1], (name.place, str(100 + name.line - end.line - 1)))
 
 
 if __name__ == "__main__":

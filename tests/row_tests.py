@@ -5,13 +5,12 @@
 
 Values of conditions are gcc 12's by its `#if`; the examples of 6.10.3.5 give what the standard says.  The other rows are this project's own.
 """
-import json
 import os
 import re
 import tempfile
 import unittest
 
-from counted import LIST, cppunits, main, spelled
+from counted import dumped, main, spelled
 from truncated import EXAMPLES
 
 
@@ -44,12 +43,7 @@ def given(files, units, root=None, **more):
             with open(os.path.join(root, name), "w", encoding="utf-8") as file:
                 file.write(text)
         names.append({"name": "gone.h"})
-    data = json.dumps(dict(LIST, files=names, units=units, **more)).encode()
-    done = cppunits(*(["--root", root] if root else []), "dump", input=data)
-    if done.returncode not in (0, 1) or done.stderr:
-        raise AssertionError("status %d: %s" % (done.returncode, done.stderr.decode()))
-    printed = re.split(rb"^unit .*\n", done.stdout, flags=re.MULTILINE)[1:]
-    return [told(unit.splitlines()) for unit in printed]
+    return [told(lines) for lines in dumped(names, units, *(["--root", root] if root else []), **more)]
 
 
 def each_given(texts, **more):
