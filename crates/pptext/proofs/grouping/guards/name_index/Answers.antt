@@ -109,7 +109,8 @@ returns-after-is_not_defined-clause-none c =
     let defined = is_not_defined d.result n.result f.result in
     let enclosed = are_parentheses c.left-item.result c.right-item.result in
     let test : c.if-is_not_defined.named ≡ (defined && enclosed) = elim c.if-is_not_defined.branch [
-      | then-is_not_defined w ↦ both defined enclosed c.if-is_not_defined.named c.is_not_defined-in-len7.result w.are_parentheses-named.result c.is_not_defined-in-len7.ensures w.if-is_not_defined.true w.are_parentheses-named.ensures w.named-is
+      | then-is_not_defined w ↦ both defined enclosed c.if-is_not_defined.named c.is_not_defined-in-len7.result w.are_parentheses-named.result
+          c.is_not_defined-in-len7.ensures w.if-is_not_defined.true w.are_parentheses-named.ensures w.named-is
       | else-is_not_defined w ↦ neither defined enclosed c.if-is_not_defined.named c.is_not_defined-in-len7.result c.is_not_defined-in-len7.ensures w.if-is_not_defined.false w.named-is
     ] in
     let name = of_seven c.args.line.now d.result n.result f.result c.left-item.result x.result c.right-item.result (omega arith) d.is n.is f.is c.left-item.is x.is c.right-item.is in
@@ -124,7 +125,8 @@ returns-after-is_not_defined-clause-some c =
     let defined = is_not_defined d.result n.result f.result in
     let enclosed = are_parentheses c.left-item.result c.right-item.result in
     let test : c.if-is_not_defined.named ≡ (defined && enclosed) = elim c.if-is_not_defined.branch [
-      | then-is_not_defined w ↦ both defined enclosed c.if-is_not_defined.named c.is_not_defined-in-len7.result w.are_parentheses-named.result c.is_not_defined-in-len7.ensures w.if-is_not_defined.true w.are_parentheses-named.ensures w.named-is
+      | then-is_not_defined w ↦ both defined enclosed c.if-is_not_defined.named c.is_not_defined-in-len7.result w.are_parentheses-named.result
+          c.is_not_defined-in-len7.ensures w.if-is_not_defined.true w.are_parentheses-named.ensures w.named-is
       | else-is_not_defined w ↦ neither defined enclosed c.if-is_not_defined.named c.is_not_defined-in-len7.result c.is_not_defined-in-len7.ensures w.if-is_not_defined.false w.named-is
     ] in
     let name = of_seven c.args.line.now d.result n.result f.result c.left-item.result x.result c.right-item.result (omega arith) d.is n.is f.is c.left-item.is x.is c.right-item.is in
