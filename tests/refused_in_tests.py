@@ -4,12 +4,13 @@
     tests/refused_in_tests.py [--each-up-to N] NAME..
 
 For each NAME the tests are crates/NAME/out/NAME_tests, which `rt test` leaves behind.  Each test runs with its 1st, 2nd,
-3rd .. request refused, and with all refused from that one on, until a run meets no refusal; behind the Nth, fewer and fewer
-requests are refused.  N is by default 200, since threads that aren't made make some tests slow; and 20 in those of ppserve
-(`serving::` in ppruntests), which take long texts.  As many tests run side by side as there are processors.  A test that looks at what a
+3rd .. request refused, and with all refused from that one on, until a run meets no refusal.  A test that looks at what a
 refused call left, and calls again, passes where the second call gets what it asks for; in another the want of memory is the
 test's own error.  Whatever else fails is a problem, and so is a test with `after_want_of_memory` or
-`where_memory_is_refused` in its name that passes over no refused request: it is there to call again.
+`where_memory_is_refused` in its name that passes over no refused request: it is there to call again.  Of those each request is
+refused; of the others fewer and fewer behind the Nth, where N is by default 200, since threads that aren't made make some tests
+slow, and 20 in those of ppserve (`serving::` in ppruntests), which take long texts.  As many tests run side by side as there are
+processors.
 """
 import argparse
 import os
@@ -31,12 +32,20 @@ def tests_of(program):
 
 
 def some_runs(command, malloc, on, each_up_to):
-    """The runs with a request refused, each with the request's number, up to the first that meets no refusal."""
+    """The runs with a request refused, each with the request's number, up to the first that meets no refusal. Behind the one `each_up_to`, if
+    there is such a bound, fewer and fewer."""
     call, met = 1, True
     while met:
         done, met = run(command, malloc, call, on=on)
         yield call, done, met
-        call += 1 + call // each_up_to
+        call += 1 + (call // each_up_to if each_up_to else 0)
+
+
+def bound_of(test, given):
+    """Up to which request each is refused, if there is a bound."""
+    if CALLS_AGAIN.search(test):
+        return None
+    return given or (20 if test.startswith(LONG_TEXTS) else 200)
 
 
 def judged(name, test, malloc, each_up_to):
@@ -61,7 +70,7 @@ def judged(name, test, malloc, each_up_to):
 def cases(names, malloc, each_up_to):
     tests = [(name, test) for name in names for test in tests_of(os.path.join(HERE, "..", "crates", name, "out", name + "_tests"))]
     with ThreadPoolExecutor(os.cpu_count()) as pool:
-        yield from pool.map(lambda one: judged(*one, malloc, each_up_to or (20 if one[1].startswith(LONG_TEXTS) else 200)), tests)
+        yield from pool.map(lambda one: judged(*one, malloc, bound_of(one[1], each_up_to)), tests)
 
 
 def main():

@@ -3,6 +3,7 @@
 mod definitions;
 mod hide_sets;
 mod keys;
+mod parts;
 mod substitution;
 mod two_sets;
 

@@ -1,6 +1,6 @@
 // What is read of lists.
 use super::spelled;
-use ppserve::{List, ListFault, read_list};
+use ppserve::{Contents, List, ListFault, read_list};
 use pptext::Hashing;
 use ppunit::Unit;
 use std::alloc::{AllocError, Global};
@@ -123,5 +123,20 @@ fn reads_lists(rt: HostRuntime) -> Result<(), Fail> {
     for &case in READ {
         assert_read(&rt, rt.alloc(), case)?;
     }
+    Ok(())
+}
+
+/// Whether these are the contents of one file, `x`.
+fn are_x(contents: &[Vec<u8>]) -> bool {
+    matches!(contents, [text] if text.as_slice() == b"x".as_slice())
+}
+
+#[test]
+fn contents_are_given_back(rt: HostRuntime) -> Result<(), Fail> {
+    let mut texts = Vec::new(rt.alloc());
+    texts.push(Vec::from_slice(rt.alloc(), b"x")?)?;
+    let contents = Contents::new(texts);
+    assert!(rt; are_x(contents.as_slice()));
+    assert!(rt; are_x(contents.into_vec().as_slice()));
     Ok(())
 }

@@ -3,7 +3,7 @@ ghost use Rattle.std.specs.Prelude.{◌≤◌, length};
 ghost use Rattle.ppshelf.specs.Files.{most_rows};
 
 use super::{named, texts};
-use ppshelf::{MOST_ROWS, MemoryDisk, Shelf, ShelfFault, is_folder, is_name};
+use ppshelf::{Index, MOST_ROWS, MemoryDisk, Shelf, ShelfFault, is_folder, is_name};
 use pptext::{Hashing, Memory, Profile};
 use std::alloc::{AllocError, Global};
 use std::hash::RandomState;
@@ -47,6 +47,30 @@ fn names_have_one_form(rt: HostRuntime) {
         let found = (is_name(name.as_bytes()), is_folder(name.as_bytes()));
         assert!(rt; found == (of_file, of_folder), "{name}");
     }
+}
+
+/// Names that are put into an index, and whether each was new.
+const PUT: &[(&str, bool)] = &[("a", true), ("inc/b.h", true), ("a", false)];
+
+/// Names, and the row of each.
+const NUMBERED: &[(&str, Option<usize>)] = &[("a", Some(0)), ("inc/b.h", Some(1)), ("b", None)];
+
+/// Puts names into an index.
+fn put_all(rt: &impl Abort, index: &mut Index) -> Result<(), Memory> {
+    for &(name, is_new) in PUT {
+        assert!(rt; index.push(name.as_bytes())? == is_new, "{name}");
+    }
+    Ok(())
+}
+
+#[test]
+fn an_index_numbers_each_name_once(rt: HostRuntime) -> Result<(), Fail> {
+    let mut index = Index::new(rt.alloc(), drawn(&rt)?);
+    put_all(&rt, &mut index)?;
+    for &(name, row) in NUMBERED {
+        assert!(&rt; index.row_of(name.as_bytes()) == row, "{name}");
+    }
+    Ok(())
 }
 
 #[test]

@@ -20,7 +20,7 @@ use std::test::Fail;
 type Replaced<'x> = Result<(Vec<Hidden<'x>>, bool), Fault>;
 
 /// Where the macro's name stands in an invocation.
-const USED: Place = Place {
+pub(super) const USED: Place = Place {
     file: 3,
     line: 40,
     col: 5,
@@ -139,6 +139,8 @@ fn replaced_by_pattern<'x, 'a: 'x>(
 #[derive(Clone, Copy)]
 enum By {
     Chains,
+    /// Chains that were made with parameters hashed as the table's names are.
+    HashedChains,
     Pattern,
 }
 
@@ -158,6 +160,10 @@ fn replaced<'x, 'a: 'x>(
     match by {
         By::Chains => {
             let chains = named.chains(alloc)?;
+            replaced_by(rt, alloc, sets, chains.as_slice(), texts, with)
+        }
+        By::HashedChains => {
+            let chains = named.chains_with_hasher(alloc, table.hashing())?;
             replaced_by(rt, alloc, sets, chains.as_slice(), texts, with)
         }
         By::Pattern => {
@@ -478,7 +484,7 @@ const PATTERNS: &[Case] = &[
 
 #[test]
 fn replaces_by_the_replacement_list(rt: HostRuntime) -> Result<(), Fail> {
-    for by in [By::Chains, By::Pattern] {
+    for by in [By::Chains, By::HashedChains, By::Pattern] {
         for cases in [REPLACED, MARKED, REFUSED, PATTERNS] {
             for &(line, texts, space, wanted) in cases {
                 let with = (by, false, space);
@@ -560,7 +566,7 @@ fn makes_chains_where_tokens_are_made(rt: HostRuntime) -> Result<(), Fail> {
 }
 
 /// Asserts that a token is shown as this text, and that these of the names `a`, `b` and `c` hide it.
-fn assert_made(
+pub(super) fn assert_made(
     rt: &impl Abort,
     alloc: Global,
     sets: &HideSets,

@@ -2,8 +2,8 @@
 use super::{Case, Files, assert_units};
 use std::test::Fail;
 
-/// A file that includes a guarded header twice, and the header; one token; and an invocation that goes on behind the replacement
-/// of another (6.10.3.4).
+/// A file that includes a guarded header twice, and the header; one token; an invocation that goes on behind the replacement
+/// of another (6.10.3.4); a file that isn't there; and headers that are looked for beside a file, in the folder `inc`, and in vain.
 const READ: Files = &[
     ("a.c", "#include \"h.h\"\n#include \"h.h\"\n"),
     ("h.h", "#ifndef H\n#define H\nint a;\n#endif\n"),
@@ -13,6 +13,12 @@ const READ: Files = &[
         "#define f(a) a*g\n#define g(a) f(a)\n#pragma p\nf(2)(9)\n",
     ),
     ("d.c", "a\n#include \"gone.h\"\n"),
+    (
+        "src/a.c",
+        "#include \"x.h\"\n#include <x.h>\n#include \"../inc/x.h\"\n#include <y.h>\n",
+    ),
+    ("src/x.h", "1"),
+    ("inc/x.h", "2"),
 ];
 
 /// What units of the files give, of which the second defines the guard.
@@ -22,7 +28,8 @@ const GIVEN: &[Case] = &[
     (2, &[], "a | 2 | ok"),
     (3, &[], "pragma@3:3:1[ p ] 2 * 9 * g | 3 | ok"),
     (4, &["X 'a"], "| | 7 65535:1:11 '"),
-    (4, &[], "a | 4 5 | 6 4:2:1 gone.h"),
+    (4, &[], "a | 4 8 | 6 4:2:1 gone.h"),
+    (5, &[], "1 2 2 | 5 6 7 | 31 5:4:1 y.h"),
 ];
 
 #[test]

@@ -1,4 +1,5 @@
 // The forms of dates, times and definitions.
+use super::text_of;
 use ppunit::{fits_command, is_date, is_one_line, is_time};
 use std::alloc::{AllocError, Global};
 
@@ -65,5 +66,13 @@ fn judges_the_size_of_definitions(rt: HostRuntime) -> Result<(), AllocError> {
     for (len, good) in &[(16_777_195, true), (16_777_196, false)] {
         assert!(rt; fits(rt.alloc(), *len)? == *good, "at {len}");
     }
+    Ok(())
+}
+
+#[test]
+fn gives_a_text_back(rt: HostRuntime) -> Result<(), AllocError> {
+    let text = text_of(rt.alloc(), "Feb  9 2024")?;
+    assert!(rt; text.as_str() == "Feb  9 2024");
+    assert!(rt; text.into_string().as_str() == "Feb  9 2024");
     Ok(())
 }

@@ -1,0 +1,103 @@
+// What macro replacement is made of: tokens that are made, tokens of a replacement list, and spellings within a literal.
+use super::substitution::{USED, assert_made};
+use super::{HASH, macro_of, push_spelled, set_of, table_of};
+use crate::defining::source_of;
+use crate::showing::{assert_shown, push_token};
+use ppmacro::{Body, Chain, Hidden, HideSets, Operand, push_escaped};
+use pptext::{Kind, Memory, Source, Spelling, Token};
+use std::alloc::{AllocError, Global};
+use std::process::Abort;
+use std::test::Fail;
+
+/// The name `x` where the `#` of a line stands.
+fn name_at_hash(alloc: Global) -> Result<Token, AllocError> {
+    Ok(Token {
+        kind: Kind::Ident,
+        text: Spelling::from_slice(alloc, b"x")?,
+        space: false,
+        at: HASH,
+        used: HASH,
+    })
+}
+
+/// The same as a token that was made, given a mark and used elsewhere, which `a` hides.
+fn made_and_turned<'a>(
+    rt: &impl Abort,
+    alloc: Global,
+    sets: &mut HideSets,
+) -> Result<Hidden<'a>, Memory> {
+    let hide = set_of(rt, sets, b"a")?;
+    let mut hidden = Hidden::made(alloc, name_at_hash(alloc)?, sets.empty())?;
+    hidden.mark(true);
+    hidden.turn(USED, hide);
+    Ok(hidden)
+}
+
+#[test]
+fn marks_and_turns_what_was_made(rt: HostRuntime) -> Result<(), Fail> {
+    let mut sets = HideSets::new(rt.alloc())?;
+    let made = made_and_turned(&rt, rt.alloc(), &mut sets)?;
+    assert!(&rt; made.spelling()?.as_bytes() == b"x".as_slice());
+    let wanted = ("i+ x 1:1:1 3:40:5, ", b"a".as_slice());
+    Ok(assert_made(&rt, rt.alloc(), &sets, &made, wanted)?)
+}
+
+/// Puts tokens of a file behind a text, each as it stands in flight.
+fn push_words(
+    alloc: Global,
+    text: &mut Vec<u8>,
+    sets: &HideSets,
+    body: &Body,
+) -> Result<(), AllocError> {
+    for token in body.as_slice() {
+        push_token(alloc, text, Hidden::new(token, sets.empty()).word())?;
+    }
+    Ok(())
+}
+
+#[test]
+fn tokens_in_flight_are_those_of_the_file(rt: HostRuntime) -> Result<(), Fail> {
+    let source = source_of(&rt, rt.alloc(), b"a +1")?;
+    let sets = HideSets::new(rt.alloc())?;
+    let mut text = Vec::new(rt.alloc());
+    push_words(rt.alloc(), &mut text, &sets, &Body::new(source.tokens()))?;
+    let wanted = "i+ a 1:1:1 1:1:1, p+ + 1:1:3 1:1:3, n- 1 1:1:4 1:1:4, ";
+    assert_shown(&rt, text.as_slice(), wanted);
+    Ok(())
+}
+
+/// Puts the tokens of the replacement list behind a text that are operands of a chain.
+fn push_leaves(text: &mut Vec<u8>, chain: &Chain) -> Result<(), AllocError> {
+    for operand in chain.operands.as_slice() {
+        if let Operand::Tok(leaf) = operand {
+            push_spelled(text, leaf.token())?;
+        }
+    }
+    Ok(())
+}
+
+/// The same of all chains of the macro that a line defines.
+fn leaves_in(rt: &impl Abort, alloc: Global, line: &Source) -> Result<Vec<u8>, Fail> {
+    let table = table_of(rt, alloc, line)?;
+    let named = macro_of(&table, line.tokens()).ok_or("no macro")?;
+    let mut text = Vec::new(alloc);
+    for chain in named.chains(alloc)?.as_slice() {
+        push_leaves(&mut text, chain)?;
+    }
+    Ok(text)
+}
+
+#[test]
+fn keeps_the_tokens_of_a_replacement_list(rt: HostRuntime) -> Result<(), Fail> {
+    let line = source_of(&rt, rt.alloc(), b"#define f(a) x a##y #a ## z")?;
+    assert_shown(&rt, leaves_in(&rt, rt.alloc(), &line)?.as_slice(), " xy z");
+    Ok(())
+}
+
+#[test]
+fn escapes_quotes_and_backslashes(rt: HostRuntime) -> Result<(), AllocError> {
+    let mut text = Vec::new(rt.alloc());
+    push_escaped(&mut text, b"'\"' \"a\\n\"")?;
+    assert_shown(&rt, text.as_slice(), "'\\\"' \\\"a\\\\n\\\"");
+    Ok(())
+}
