@@ -4,7 +4,7 @@
     tests/phase_tests.py [PROGRAM] [-k NAME]
 
 Phase 1 leaves out a byte order mark and each return in front of a new-line, supplies the last new-line and replaces trigraphs (5.2.1.1); phase 2
-deletes each splice, and wants that the file ends in none (5.1.1.2p1, p2).  Each character keeps the line and the column of its first byte.
+deletes each splice, and wants that the file ends in none (5.1.1.2p1, phases 1 and 2).  Each character keeps the line and the column of its first byte.
 """
 import itertools
 import re

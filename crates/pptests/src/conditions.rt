@@ -31,8 +31,7 @@ fn condition_by(
     left: Option<u64>,
     tokens: &[Token],
 ) -> Result<Condition, Memory> {
-    let env = env(alloc, 0)?;
-    evaluate(alloc, table, &env, left, HASH, tokens)
+    evaluate(alloc, table, &env(0), left, HASH, tokens)
 }
 
 /// The condition of the tokens behind a file's definitions.

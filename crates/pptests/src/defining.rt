@@ -4,7 +4,7 @@ use ppmacro::{Table, define, undef};
 use pptext::{
     Directive, Fault, Hashing, LONGEST, Memory, Profile, Source, Spelling, Token, read_source,
 };
-use std::alloc::{AllocError, Global};
+use std::alloc::Global;
 use std::hash::RandomState;
 use std::process::Abort;
 use std::test::Fail;
@@ -20,14 +20,14 @@ pub(crate) fn tokens_at(source: &Source, start: usize, end: usize) -> &[Token] {
     source.tokens().get(start..end).unwrap_or(&[])
 }
 
-/// The predefined values in a file `a.c` where each token's line is the file's own and so much.
-pub(crate) fn env(alloc: Global, shift: i64) -> Result<Env, AllocError> {
-    Ok(Env {
-        name: Spelling::from_slice(alloc, b"\"a.c\"")?,
+/// What is predefined where each token's line is the file's own and so much. No text here asks for the file's name, the date and the time.
+pub(crate) fn env(shift: i64) -> Env {
+    Env {
+        name: Spelling::empty(),
         shift,
-        date: Spelling::from_slice(alloc, b"Jul  4 1976")?,
-        time: Spelling::from_slice(alloc, b"12:34:56")?,
-    })
+        date: Spelling::empty(),
+        time: Spelling::empty(),
+    }
 }
 
 /// What a line of `#define` or `#undef` makes of a table.

@@ -182,8 +182,7 @@ fn expanded_by(
     tokens: &[Token],
     shown: Shown,
 ) -> Result<Vec<u8>, Memory> {
-    let env = env(alloc, shift)?;
-    let expanded = expand(alloc, table, &env, left, tokens)?;
+    let expanded = expand(alloc, table, &env(shift), left, tokens)?;
     Ok(told(rt, alloc, &expanded, tokens.len(), shown)?)
 }
 
