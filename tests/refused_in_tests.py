@@ -6,9 +6,8 @@
 For each NAME the tests are crates/NAME/out/NAME_tests, which `rt test` leaves behind.  Each test runs with its 1st, 2nd,
 3rd .. request refused, and with all refused from that one on, until a run meets no refusal.  A test that looks at what a
 refused call left, and calls again, passes where the second call gets what it asks for; in another the want of memory is the
-test's own error.  Whatever else fails is a problem, and so is a test with `after_want_of_memory` or
-`where_memory_is_refused` in its name that passes over no refused request: it is there to call again.  Of those each request is
-refused; of the others fewer and fewer behind the Nth, where N is by default 200, since threads that aren't made make some tests
+test's own error.  Whatever else fails is a problem, and so is a test that is there to call again (`CALLS_AGAIN` below) and passes
+over no refused request.  Of those each request is refused; of the others fewer and fewer behind the Nth, where N is by default 200, since threads that aren't made make some tests
 slow, and 20 in those of ppserve (`serving::` in ppruntests), which take long texts.  As many tests run side by side as there are
 processors.
 """
@@ -22,7 +21,8 @@ from concurrent.futures import ThreadPoolExecutor
 from refusals import HERE, KINDS, refused, refusing_malloc, run, tally
 
 LONG_TEXTS = "serving::"
-CALLS_AGAIN = re.compile(r"after_want_of_memory|where_memory_is_refused")
+CALLS_AGAIN = re.compile(
+    r"after_want_of_memory|where_memory_is_refused|defines_compares_and_refuses|replaces_by_the_replacement_list|hides_and_places_what_it_gives")
 WANT_OF_MEMORY = re.compile(rb"[Ee]rror: (Memory|AllocError|AllocFailed|Kind\(OutOfMemory\))")
 
 

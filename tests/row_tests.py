@@ -5,12 +5,14 @@
 
 Values of conditions are gcc 12's by its `#if`; the examples of 6.10.3.5 give what the standard says.  The other rows are this project's own.
 """
+import json
 import os
 import re
+import resource
 import tempfile
 import unittest
 
-from counted import dumped, main, spelled
+from counted import LIST, cppunits, dumped, main, spelled
 from truncated import EXAMPLES
 
 
@@ -257,6 +259,7 @@ REFUSED = [
     ("", "1 << 63", "28 1 <<"),
     ("", "1/0 + (1 << 64)", "26 1 /"),
     ("", "(1 << 64) + 1/0", "28 1 <<"),
+    ("", "1/0 1", "23 1"),
     ("", "1/0 ? 1 : 2", "26 1 /"),
     ("", "1/0 && 0", "26 1 /"),
     ("", "1 ? 1/0 : 2", "26 1 /"),
@@ -324,6 +327,8 @@ class Conditions(unittest.TestCase):
         for count, wanted in ((256, True), (257, "29 1")):
             self.judged([("", start * count + "1" + end * count, wanted) for start, end in NESTED])
         self.judged([("", text, "29 1") for text in TOO_DEEP])
+        # the tokens come first, and the depth is that of what they are replaced by
+        self.judged([("", "1x " + "(" * 257, "24 1 1x"), ("#define P %s\n" % ("(" * 257), "P 1", "29 1")])
         self.judged([("", text, True) for text in LONG])
 
 
@@ -442,6 +447,16 @@ class Replacement(unittest.TestCase):
         wanted = "0 " * 471 + "| 0 | 35 0:66:1"
         self.assertEqual(each_given([DOUBLING], budget=1000), [wanted])
 
+    def test_these_take_little_time_and_memory(self):
+        def bounded():
+            resource.setrlimit(resource.RLIMIT_CPU, (1, 1))
+            resource.setrlimit(resource.RLIMIT_AS, (32 << 20, 32 << 20))
+
+        data = json.dumps(dict(LIST, files=[{"name": "a.c", "text": DOUBLING}], units=[{"file": "a.c"}], budget=1000))
+        done = cppunits("--workers", "1", "dump", input=data.encode(), preexec_fn=bounded)
+        self.assertEqual((done.returncode, done.stderr), (1, b""))
+        self.assertIn(b"\nfault 35 0:66:1 \n", done.stdout)
+
 
 # Files of one text each, and what a unit of it gives.
 TEXTS = [
@@ -458,6 +473,8 @@ TEXTS = [
     # items of every kind in a row
     ("#define X 1 + 2\n#define J(a,b) a##b\na b X c\n#pragma p q\nJ(d,e) X\n#pragma\nf\n",
      "a b 1 + 2 c pragma@0:4:1[ p q ] de 1 + 2 pragma@0:6:1[ ] f | 0 | ok"),
+    # the mark of what vanished at an argument's end goes with it, and one in front or within stays with what follows
+    ("#define E\n#define S(x) #x\n#define T(x) S(x)\nT(y E) T(E y) T(y E z)\n", '"y" "y" "y z" | 0 | ok'),
     # one group of a section is taken
     ("#ifdef A\n1\n#else\n2\n#endif\n#ifndef A\n3\n#endif\n", "2 3 | 0 | ok"),
     # an `#elif` behind a taken group is not looked at, nor one in a skipped group
@@ -507,6 +524,13 @@ INCLUDING = [
         (2, ["X 'a"], "| | 7 65535:1:11 '"),
         (1, [], "int a ; | 1 | ok"),
     ]),
+    # of a macro-made name the spaces count, but for one behind `<`
+    ("c11", [
+        ("a.c", "#define H < h.h >\n#include H\n#define J < d / j.h>\n#include J\n"),
+        ("inc/h.h ", "1\n"),
+        ("inc/h.h", "2\n"),
+        ("inc/d / j.h", "3\n"),
+    ], [(0, [], "1 3 | 0 1 3 | ok")]),
     # where headers are looked for, and what becomes of a file that isn't there
     ("c11", [
         ("src/a.c", "#include \"x.h\"\n#include <x.h>\n#include \"../inc/x.h\"\n#include <y.h>\n"),
