@@ -145,6 +145,19 @@ class Options(Limits):
             self.assertEqual((done.returncode, done.stderr), (0, b""), option)
             self.assertRegex(done.stdout, said)
 
+    def test_help_of_each_command(self):
+        for command in ("dump",), ("deps",), ():
+            done = cppunits(*command, "--help")
+            self.assertEqual((done.returncode, done.stderr), (0, b""), command)
+            for said in b"standard input", b"standard output", b"Status: ":
+                self.assertIn(said, done.stdout, command)
+
+    def test_no_command_and_misplaced_options(self):
+        for words in (), ("--workers", "2"), ("dump", "--workers", "2"), ("dump", "deps"), ("undump",), ("--jobs", "2", "dump"):
+            done = cppunits(*words, input=EMPTY)
+            self.assertEqual((done.returncode, done.stdout), (2, b""), words)
+            self.assertIn(b"Usage: ", done.stderr, words)
+
 
 if __name__ == "__main__":
     main()
