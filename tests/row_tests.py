@@ -455,7 +455,7 @@ class Replacement(unittest.TestCase):
         data = json.dumps(dict(LIST, files=[{"name": "a.c", "text": DOUBLING}], units=[{"file": "a.c"}], budget=1000))
         done = cppunits("--workers", "1", "dump", input=data.encode(), preexec_fn=bounded)
         self.assertEqual((done.returncode, done.stderr), (1, b""))
-        self.assertIn(b"\nfault 35 0:66:1 \n", done.stdout)
+        self.assertTrue(done.stdout.endswith(b"\ndep 0 a.c\nfault 35 0:66:1\n"))
 
 
 # Files of one text each, and what a unit of it gives.
