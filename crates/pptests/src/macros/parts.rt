@@ -81,7 +81,7 @@ fn leaves_in(rt: &impl Abort, alloc: Global, line: &Source) -> Result<Vec<u8>, F
     let table = table_of(rt, alloc, line)?;
     let named = macro_of(&table, line.tokens()).ok_or("no macro")?;
     let mut text = Vec::new(alloc);
-    for chain in named.chains(alloc)?.as_slice() {
+    for chain in named.chains_with_hasher(alloc, table.hashing())?.as_slice() {
         push_leaves(&mut text, chain)?;
     }
     Ok(text)

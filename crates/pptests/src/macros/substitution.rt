@@ -139,8 +139,6 @@ fn replaced_by_pattern<'x, 'a: 'x>(
 #[derive(Clone, Copy)]
 enum By {
     Chains,
-    /// Chains that were made with parameters hashed as the table's names are.
-    HashedChains,
     Pattern,
 }
 
@@ -160,10 +158,6 @@ fn replaced<'x, 'a: 'x>(
     match by {
         By::Chains => {
             let chains = named.chains(alloc)?;
-            replaced_by(rt, alloc, sets, chains.as_slice(), texts, with)
-        }
-        By::HashedChains => {
-            let chains = named.chains_with_hasher(alloc, table.hashing())?;
             replaced_by(rt, alloc, sets, chains.as_slice(), texts, with)
         }
         By::Pattern => {
@@ -484,7 +478,7 @@ const PATTERNS: &[Case] = &[
 
 #[test]
 fn replaces_by_the_replacement_list(rt: HostRuntime) -> Result<(), Fail> {
-    for by in [By::Chains, By::HashedChains, By::Pattern] {
+    for by in [By::Chains, By::Pattern] {
         for cases in [REPLACED, MARKED, REFUSED, PATTERNS] {
             for &(line, texts, space, wanted) in cases {
                 let with = (by, false, space);
