@@ -74,9 +74,10 @@ def chain_in_argument(uses):
     return lines("#define f(x) x", "#define a0 x", ("#define a%d a%d" % (i + 1, i) for i in range(399)), "f(" + "a399 " * uses + ")")
 
 
-def argument_through(tokens, macros):
+def argument_through(tokens, macros, times=1):
+    """An argument of so many tokens, which is handed on from macro to macro, and that so often."""
     chain = ("#define f%d(x) f%d(x)" % (i + 1, i) for i in range(macros - 1))
-    return lines("#define f0(x) x", chain, "f%d(%s)" % (macros - 1, "x " * tokens))
+    return lines("#define f0(x) x", chain, ["f%d(%s)" % (macros - 1, "x " * tokens)] * times)
 
 
 def undefined_in_order(count):
@@ -174,7 +175,7 @@ SHAPES = [
     Shape("d(d(..)) 20 deep", (2**18, 2**19, 2**20), doubled_within),
     Shape("budget of d64", (2**17, 2**18, 2**19), listed=within_budget, status=1, quick=1),
     Shape("chain of 400 in an argument", (400, 800, 1_600), chain_in_argument),
-    Shape("argument through 80 macros", (40_000, 80_000, 160_000), lambda size: argument_through(size, 80), quick=1),
+    Shape("argument through 80 macros", (5_000, 10_000, 20_000), lambda size: argument_through(size, 80, 16), quick=1),
     Shape("1,000 tokens through macros", (4_000, 8_000, 16_000), lambda size: argument_through(1_000, size), quick=1),
     Shape("#undef in order", (60_000, 120_000, 240_000), undefined_in_order),
     Shape("arguments", (100_000, 200_000, 400_000), arguments),
