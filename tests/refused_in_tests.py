@@ -7,9 +7,9 @@ For each NAME the tests are crates/NAME/out/NAME_tests, which `rt test` leaves b
 3rd .. request refused, and with all refused from that one on, until a run meets no refusal.  A test that looks at what a
 refused call left, and calls again, passes where the second call gets what it asks for; in another the want of memory is the
 test's own error.  Whatever else fails is a problem, and so is a test that is there to call again (`CALLS_AGAIN` below) and passes
-over no refused request.  Of those each request is refused; of the others fewer and fewer behind the Nth, where N is by default 200, since threads that aren't made make some tests
-slow, and 20 in those of ppserve (`serving::` in ppruntests), which take long texts.  As many tests run side by side as there are
-processors.
+over no refused request.  Of those each request is refused; of the others fewer and fewer behind the Nth, where N is by default
+200, since threads that aren't made make some tests slow, and 20 in those of ppserve (`serving::` in ppruntests), which take long
+texts.  As many tests run side by side as there are processors.
 """
 import argparse
 import os
@@ -21,8 +21,11 @@ from concurrent.futures import ThreadPoolExecutor
 from refusals import HERE, KINDS, refused, refusing_malloc, run, tally
 
 LONG_TEXTS = "serving::"
-CALLS_AGAIN = re.compile(
-    r"after_want_of_memory|where_memory_is_refused|defines_compares_and_refuses|replaces_by_the_replacement_list|hides_and_places_what_it_gives")
+# what stands in the names of tests that are there to call again
+CALLS_AGAIN = (
+    "after_want_of_memory", "where_memory_is_refused", "defines_compares_and_refuses", "replaces_by_the_replacement_list",
+    "hides_and_places_what_it_gives",
+)
 WANT_OF_MEMORY = re.compile(rb"[Ee]rror: (Memory|AllocError|AllocFailed|Kind\(OutOfMemory\))")
 
 
@@ -41,9 +44,13 @@ def some_runs(command, malloc, on, each_up_to):
         call += 1 + (call // each_up_to if each_up_to else 0)
 
 
+def calls_again(test):
+    return any(words in test for words in CALLS_AGAIN)
+
+
 def bound_of(test, given):
     """Up to which request each is refused, if there is a bound."""
-    if CALLS_AGAIN.search(test):
+    if calls_again(test):
         return None
     return given or (20 if test.startswith(LONG_TEXTS) else 200)
 
@@ -61,7 +68,7 @@ def judged(name, test, malloc, each_up_to):
                 problems.append("%s: %r" % (refused(call, on), words[:200]))
             refusals += met
             went_on += met and passed
-        if not on and not went_on and CALLS_AGAIN.search(test):
+        if not on and not went_on and calls_again(test):
             problems.append("no call that is made again got what it asks for")
         told.append("  %d requests refused, %s, %d of them met by a call that is tested" % (refusals, how, went_on))
     return "\n".join(told), problems

@@ -1,7 +1,7 @@
 // Looks that are made again where they are refused memory.
 ghost use Rattle.std.specs.Prelude.{◌≡◌};
 
-use super::{are_bytes, assert_new, assert_rows, bytes_of};
+use super::{assert_new, assert_rows, assert_shown};
 use ppshelf::{File, MOST_ROWS, MemoryDisk, Pass, Shelf};
 use pptext::{Memory, Profile};
 use std::alloc::{AllocError, Global};
@@ -58,23 +58,7 @@ fn wanted_of(alloc: Global) -> Result<Vec<(usize, Option<&'static str>)>, AllocE
     Ok(rows)
 }
 
-// What a pass is shown of a row. Where memory is refused, the pass looks again.
-fn bytes_again<'a>(
-    shelf: &'a Shelf<MemoryDisk>,
-    pass: &mut Pass<'a, MemoryDisk>,
-    disk: &MemoryDisk,
-    row: usize,
-) -> Result<Option<&'a [u8]>, Memory>
-    requires { pass.old.shelf ≡ shelf.now }
-    ensures { pass.new.shelf ≡ shelf.now }
-{
-    let Ok(bytes) = bytes_of(shelf, pass, row, disk) else {
-        return bytes_of(shelf, pass, row, disk);
-    };
-    Ok(bytes)
-}
-
-// That a pass is shown this text of a row, at the second look if not at the first.
+// That a pass is shown this text of a row. Where memory is refused, the pass looks again.
 fn assert_shown_again<'a>(
     rt: &impl Abort,
     shelf: &'a Shelf<MemoryDisk>,
@@ -86,25 +70,9 @@ fn assert_shown_again<'a>(
     requires { pass.old.shelf ≡ shelf.now }
     ensures { pass.new.shelf ≡ shelf.now }
 {
-    let found = bytes_again(shelf, pass, disk, row)?;
-    assert!(rt; are_bytes(found, wanted), "{row}");
-    Ok(())
-}
-
-// That it is shown these texts of rows so.
-fn assert_rows_again<'a>(
-    rt: &impl Abort,
-    shelf: &'a Shelf<MemoryDisk>,
-    pass: &mut Pass<'a, MemoryDisk>,
-    disk: &MemoryDisk,
-    rows: &[(usize, Option<&str>)],
-) -> Result<(), Memory>
-    requires { pass.old.shelf ≡ shelf.now }
-    ensures { pass.new.shelf ≡ shelf.now }
-{
-    for case in rows {
-        assert_shown_again(rt, shelf, pass, disk, case.0, case.1)?;
-    }
+    let Ok(()) = assert_shown(rt, shelf, pass, disk, row, wanted) else {
+        return assert_shown(rt, shelf, pass, disk, row, wanted);
+    };
     Ok(())
 }
 
@@ -116,7 +84,9 @@ fn assert_looks_again(
     rows: &[(usize, Option<&str>)],
 ) -> Result<(), Memory> {
     let mut pass = shelf.pass()?;
-    assert_rows_again(rt, shelf, &mut pass, disk, rows)?;
+    for &(row, text) in rows {
+        assert_shown_again(rt, shelf, &mut pass, disk, row, text)?;
+    }
     assert_rows(rt, shelf, &mut pass, disk, rows)?;
     assert_new(rt, shelf, disk, rows)
 }
