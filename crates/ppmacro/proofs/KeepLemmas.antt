@@ -3,6 +3,7 @@ use Rattle.std.proofs.Common.{◌≡◌, ℕ, List, [], ◌∷◌, ◌++◌, Opt
 use Rattle.std.proofs.lemmas.List.{get_or_append_left}
 use Rattle.std.specs.FinSet as set
 use Rattle.ppmacro.specs.Numbered.{Numbered}
+use Rattle.ppmacro.specs.Pairs.{Answered, KeepsPairs}
 use Rattle.ppmacro.specs.HideSets.{set_at, IsKnown, names_in, hide_of, hiding, hidings, HasSets, AllKnown, Keeps}
 use Rattle.ppmacro.specs.declared.flying.Hidden.{Hidden}
 
@@ -41,11 +42,23 @@ known-keeps (h ∷ hs) k known =
     let rest = known-keeps hs k (record { each = known.each.1 }) in
     record { each = (known-sets h k known.each.0, rest.each) }
 
+-- the same pairs, and pairs that others are put behind twice
+pub pairs-are : {ps qs : Answered} → ps ≡ qs → KeepsPairs ps qs
+pairs-are {ps} e = record { more = []; is = sym e ∙ sym (append-nil ps) }
+
+pairs-after : {a b c : Answered} → KeepsPairs a b → KeepsPairs b c → KeepsPairs a c
+pairs-after h k = record { more = h.more ++ k.more; is = k.is ∙ ap (λ ps. ps ++ k.more) h.is ∙ append_assoc _ h.more k.more }
+
 pub keeps-all : (s : Numbered) → Keeps s s
-keeps-all s = record { more = []; is = sym (append-nil s.sets) }
+keeps-all s = record { more = []; is = sym (append-nil s.sets); unions = pairs-are refl; meets = pairs-are refl }
 
 pub keeps-after : {a b c : Numbered} → Keeps a b → Keeps b c → Keeps a c
-keeps-after h k = record { more = h.more ++ k.more; is = k.is ∙ ap (λ s. s ++ k.more) h.is ∙ append_assoc _ h.more k.more }
+keeps-after h k = record {
+  more = h.more ++ k.more;
+  is = k.is ∙ ap (λ s. s ++ k.more) h.is ∙ append_assoc _ h.more k.more;
+  unions = pairs-after h.unions k.unions;
+  meets = pairs-after h.meets k.meets;
+}
 
 pub known-append : {s : Numbered} (gs hs : List Hidden) → AllKnown s gs → AllKnown s hs → AllKnown s (gs ++ hs)
 known-append [] hs g h = h

@@ -8,11 +8,12 @@ use Rattle.ppmacro.specs.Nodes as nodes
 use Rattle.ppmacro.specs.Nodes.{Node, IsPool, member, IsBounded}
 use Rattle.ppmacro.specs.Members.{same_name, hide_set, hide_sets, counted}
 use Rattle.ppmacro.specs.Operations.{Operation, Union, Meet, joined}
-use Rattle.ppmacro.specs.Pairs.{Answered}
+use Rattle.ppmacro.specs.Pairs.{Answered, KeepsPairs}
 use Rattle.ppmacro.specs.Numbered.{Numbered}
 use Rattle.ppmacro.specs.HideSets.{set_at, IsKnown, Keeps}
 use Rattle.ppmacro.specs.Remembered.{AreAnswers, AreKept}
 use Rattle.ppmacro.proofs.Hiding.{IsNamed, made_of, set-at, known-at, at-known, sets-keep, past-by, made-is, lawful-names, sets-named, bounded-more, insert-is, set-named, hide-none}
+use Rattle.ppmacro.proofs.KeepLemmas.{pairs-are}
 use Rattle.ppmacro.proofs.Remembering.{answers-keep}
 use Rattle.ppmacro.proofs.Tries.{member-none}
 
@@ -47,11 +48,18 @@ seen s = record { sets = hide_sets s.names s.nodes.keys; unions = s.unions; meet
 pub node-asked : (s : Inside) {v : Numbered} {n m : ℕ} → seen s ≡ v → n ≡ m → IsKnown v m → n < length s.nodes.keys
 node-asked s {v = v} is same k = node-known s.names s.nodes.keys v _ _ (ap (λ v. v.sets) is) same k
 
-pub keeps-seen : (s : Inside) (new : List Node) {v : Numbered} {us ms : Answered} → seen s ≡ v → IsPool s.nodes.keys → nodes.Keeps s.nodes.keys new
+pub keeps-seen : (s : Inside) (new : List Node) {v : Numbered} {us ms : Answered}
+    → seen s ≡ v
+    → IsPool s.nodes.keys
+    → nodes.Keeps s.nodes.keys new
+    → KeepsPairs s.unions us
+    → KeepsPairs s.meets ms
     → Keeps v (record { sets = hide_sets s.names new; unions = us; meets = ms })
-keeps-seen s new is p k = record {
+keeps-seen s new {us = us} {ms = ms} is p k unions meets = record {
   more = counted (hide_set s.names new) (past-by 0 s.nodes.keys) k.more;
   is = sets-keep s.names s.nodes.keys new p k ∙ ap (λ v. v.sets ++ counted (hide_set s.names new) (past-by 0 s.nodes.keys) k.more) is;
+  unions = subst (λ ps. KeepsPairs ps us) (ap (λ v. v.unions) is) unions;
+  meets = subst (λ ps. KeepsPairs ps ms) (ap (λ v. v.meets) is) meets;
 }
 
 -- what two sets are made into
@@ -92,14 +100,17 @@ kept-made Meet s {new = new} k p keeps bounded answers =
 
 pub keeps-named : (names more after : List Name) (old new : List Node) (us ms : Answered) (v w : Numbered)
     → after ≡ names ++ more
-    → hide_sets names old ≡ v.sets
-    → hide_sets after new ≡ w.sets
+    → record { sets = hide_sets names old; unions = us; meets = ms } ≡ v
+    → record { sets = hide_sets after new; unions = us; meets = ms } ≡ w
     → AreKept names old us ms
     → nodes.Keeps old new
     → Keeps v w
 keeps-named names more after old new us ms v w grown is now p k = record {
   more = counted (hide_set after new) (past-by 0 old) k.more;
-  is = sym now ∙ sets-keep after old new p.pool k ∙ ap (λ ss. ss ++ counted (hide_set after new) (past-by 0 old) k.more) ((λ i. hide_sets (grown i) old) ∙ sets-named names more old p.bounded ∙ is);
+  is = sym (ap (λ w. w.sets) now) ∙ sets-keep after old new p.pool k
+      ∙ ap (λ ss. ss ++ counted (hide_set after new) (past-by 0 old) k.more) ((λ i. hide_sets (grown i) old) ∙ sets-named names more old p.bounded ∙ ap (λ v. v.sets) is);
+  unions = pairs-are (sym (ap (λ v. v.unions) is) ∙ ap (λ w. w.unions) now);
+  meets = pairs-are (sym (ap (λ v. v.meets) is) ∙ ap (λ w. w.meets) now);
 }
 
 pub kept-named : (names more after : List Name) (old new : List Node) (us ms : Answered) (n : ℕ)

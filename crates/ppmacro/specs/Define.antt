@@ -131,7 +131,7 @@ abbrev pub is_predefined : Option Definition → Bool
 is_predefined None = false
 is_predefined (Some d) = is_predefined_shape d.shape
 
--- names that are not defined or undefined by a directive (6.10.8p4)
+-- names that are not defined or undefined by a directive (6.10.8p2)
 abbrev pub is_reserved : Macros → Name → Bool
 is_reserved macros name = is_predefined (table.get macros name) || (bytes_eq name (codes "defined") || bytes_eq name (codes "__VA_ARGS__"))
 

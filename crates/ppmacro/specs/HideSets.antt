@@ -5,6 +5,7 @@ use Rattle.std.specs.List.{AllByRecursion}
 use Rattle.pptext.specs.declared.tokens.Token.{Token}
 use Rattle.ppmacro.specs.Names.{HideSet}
 use Rattle.ppmacro.specs.Numbered.{Numbered}
+use Rattle.ppmacro.specs.Pairs.{KeepsPairs}
 use Rattle.ppmacro.specs.declared.flying.Hidden.{Hidden}
 
 -- the empty set alone
@@ -19,10 +20,12 @@ set_at sets n = slice_index_or sets.sets n set.empty
 abbrev pub IsKnown : Numbered → ℕ → Type 0
 IsKnown sets n = n < length sets.sets
 
--- every set that was there is there, with its number
+-- every set that was there is there, with its number, and every pair, with its answer
 pub record Keeps (old new : Numbered) : Type 0 where
   pub more : List HideSet
   pub is : new.sets ≡ old.sets ++ more
+  pub unions : KeepsPairs old.unions new.unions
+  pub meets : KeepsPairs old.meets new.meets
 
 -- a token with the names that it is not replaced by
 pub record Hiding : Type 0 where

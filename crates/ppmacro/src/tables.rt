@@ -57,7 +57,7 @@ fn is_predefined(found: Option<&Macro>) -> bool
     }
 }
 
-/// Whether it is a name that no macro may have (6.10.8p4, 6.10.3p5).
+/// Whether it is a name that no macro may have (6.10.8p2, 6.10.3p5).
 pub(crate) fn is_barred(name: &[u8]) -> bool
     ensures { result ≡ is_barred name.now }
 {
@@ -161,7 +161,7 @@ impl<'a> Table<'a> {
         }
     }
 
-    /// Whether the name is none that a directive may define or take out (6.10.8p4).
+    /// Whether the name is none that a directive may define or take out (6.10.8p2).
     pub(crate) fn is_reserved(&self, name: &[u8]) -> bool
         ensures { result ≡ is_reserved self.now name.now }
     {

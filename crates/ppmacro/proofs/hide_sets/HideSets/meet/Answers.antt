@@ -1,4 +1,6 @@
+use Rattle.std.proofs.Common.{refl}
 use Rattle.ppmacro.specs.Operations.{Meet}
+use Rattle.ppmacro.proofs.KeepLemmas.{pairs-are}
 use Rattle.ppmacro.proofs.Viewed.{node-asked, keeps-seen, made-seen, kept-made}
 use Rattle.ppmacro.proofs.Hiding.{known-at}
 use Rattle.ppmacro.proofs.hide_sets.HideSets.meet.Goals as goal
@@ -16,10 +18,11 @@ pub invariant_of-self-2 : goal.invariant_of-self-2
 invariant_of-self-2 c = kept-made Meet c.self.inside c.self.invariant c.join.ensures.pool c.join.ensures.keeps c.join.ensures.bounded c.join.ensures.answers
 
 pub returns-in_err-number-clause-keeps : goal.returns-in_err-number-clause-keeps
-returns-in_err-number-clause-keeps c = keeps-seen c.self.inside c.join.new.nodes.keys c.self.view_is c.self.invariant.pool c.in_err-number.ensures.keeps
+returns-in_err-number-clause-keeps c =
+    keeps-seen c.self.inside c.join.new.nodes.keys c.self.view_is c.self.invariant.pool c.in_err-number.ensures.keeps (pairs-are refl) c.join.ensures.pairs
 
 pub returns-clause-keeps : goal.returns-clause-keeps
-returns-clause-keeps c = keeps-seen c.self.inside c.join.new.nodes.keys c.self.view_is c.self.invariant.pool c.in_ok-number.ensures.keeps
+returns-clause-keeps c = keeps-seen c.self.inside c.join.new.nodes.keys c.self.view_is c.self.invariant.pool c.in_ok-number.ensures.keeps (pairs-are refl) c.join.ensures.pairs
 
 pub returns-clause-known : goal.returns-clause-known
 returns-clause-known c = known-at c.self.inside.names c.join.new.nodes.keys c.in_ok-number.number c.in_ok-number.ensures.known

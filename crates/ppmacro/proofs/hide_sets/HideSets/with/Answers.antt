@@ -19,12 +19,12 @@ invariant_of-self-2 c = kept-named c.self.inside.names c.in_ok-named.ensures.kee
 pub returns-in_err-number-clause-keeps : goal.returns-in_err-number-clause-keeps
 returns-in_err-number-clause-keeps c =
     keeps-named c.self.inside.names c.in_ok-named.ensures.keeps.0 c.number_for.new.self c.self.inside.nodes.keys c.insert.new.nodes.keys c.self.inside.unions
-    c.self.inside.meets c.args.self.now _ c.in_ok-named.ensures.keeps.1 (ap (λ s. s.sets) c.self.view_is) refl c.self.invariant c.insert.ensures.keeps
+    c.self.inside.meets c.args.self.now _ c.in_ok-named.ensures.keeps.1 c.self.view_is refl c.self.invariant c.insert.ensures.keeps
 
 pub returns-clause-keeps : goal.returns-clause-keeps
 returns-clause-keeps c =
     keeps-named c.self.inside.names c.in_ok-named.ensures.keeps.0 c.number_for.new.self c.self.inside.nodes.keys c.insert.new.nodes.keys c.self.inside.unions
-    c.self.inside.meets c.args.self.now _ c.in_ok-named.ensures.keeps.1 (ap (λ s. s.sets) c.self.view_is) refl c.self.invariant c.insert.ensures.keeps
+    c.self.inside.meets c.args.self.now _ c.in_ok-named.ensures.keeps.1 c.self.view_is refl c.self.invariant c.insert.ensures.keeps
 
 pub returns-clause-known : goal.returns-clause-known
 returns-clause-known c = known-at c.number_for.new.self c.insert.new.nodes.keys c.in_ok-number.number c.in_ok-number.ensures.known
