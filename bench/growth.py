@@ -56,10 +56,16 @@ FORM = "%-29s %10s %8s %6s %8s %6s  %12s %6s %8s %6s"
 class Cost:
     seconds: float
     memory: int
-    status: int
+    statuses: set
 
     def least(self, other):
-        return Cost(min(self.seconds, other.seconds), min(self.memory, other.memory), min(self.status, other.status))
+        """The least time and memory of both, and how each of them ended."""
+        return Cost(min(self.seconds, other.seconds), min(self.memory, other.memory), self.statuses | other.statuses)
+
+    @property
+    def signal(self):
+        """The name of a signal that stopped a run, or None."""
+        return next((signal.Signals(-status).name for status in self.statuses if status < 0), None)
 
 
 @dataclass
@@ -81,7 +87,7 @@ def run(command, path):
         child = subprocess.Popen(command, stdin=source, stdout=subprocess.DEVNULL, stderr=subprocess.DEVNULL, preexec_fn=bounded)
         _, status, usage = os.wait4(child.pid, 0)
         child.returncode = os.waitstatus_to_exitcode(status)
-    return Cost(usage.ru_utime + usage.ru_stime, usage.ru_maxrss * 1024, child.returncode)
+    return Cost(usage.ru_utime + usage.ru_stime, usage.ru_maxrss * 1024, {child.returncode})
 
 
 def best(command, path, runs):
@@ -116,7 +122,7 @@ def one_round(command, paths, runs):
     costs = []
     for path in paths:
         costs.append(best(command, path, runs))
-        if costs[-1].status < 0:
+        if costs[-1].signal:
             break
     return costs
 
@@ -125,7 +131,7 @@ def measured(command, paths, runs, falls_short):
     """The least costs of the sizes over rounds, up to a size that is stopped; the rounds end where nothing falls short."""
     costs = one_round(command, paths, runs)
     for _ in range(MOST_ROUNDS - 1):
-        if costs[-1].status < 0 or not falls_short(costs):
+        if costs[-1].signal or not falls_short(costs):
             break
         costs = [cost.least(other) for cost, other in zip(costs, one_round(command, paths, runs))]
     return costs
@@ -139,10 +145,10 @@ def cells(costs):
 
 def shortfalls(shape, sizes, costs):
     for size, cost in zip(sizes, costs):
-        if cost.status < 0:
-            yield "stopped at %d, by %s" % (size, signal.Signals(-cost.status).name)
-        elif cost.status != shape.status:
-            yield "status %d in place of %d at %d" % (cost.status, shape.status, size)
+        if cost.signal:
+            yield "stopped at %d, by %s" % (size, cost.signal)
+        elif cost.statuses != {shape.status}:
+            yield "status %s in place of %d at %d" % (" and ".join(map(str, sorted(cost.statuses))), shape.status, size)
     for size, (time, memory) in zip(sizes[1:], factors(costs)):
         if time.times > MOST_GROWTH:
             yield "%.2f times the time at %d, twice the size before" % (time.times, size)
@@ -168,7 +174,7 @@ def compared(program, shape, sizes, runs):
         other = [NOTHING] * len(sizes)
         if shape.text:
             found = [run(GCC, path + ".c") for path in paths]
-            other = [cell if cost.status in (0, 1) else NOTHING for cost, cell in zip(found, cells(found))]
+            other = [cell if cost.statuses <= {0, 1} else NOTHING for cost, cell in zip(found, cells(found))]
     for size, cell, gcc in zip(sizes, cells(own), other):
         print(FORM % (shape.name, "{:,}".format(size), *cell, *gcc), flush=True)
     return ["%s: %s" % (shape.name, problem) for problem in shortfalls(shape, sizes, own)]

@@ -73,11 +73,17 @@ def run(main):
 
 @contextlib.contextmanager
 def written(path):
-    """A binary file that stands under its name once all is written; `-` is standard output."""
+    """A binary file that stands under its name, or that to which it leads, once all is written; `-` is standard output."""
     if path == "-":
         yield sys.stdout.buffer
         return
-    folder = os.path.dirname(path) or "."
+    if os.path.exists(path) and not os.path.isfile(path):
+        # a device or a pipe stays what it is, and is written to
+        with open(path, "wb") as file:
+            yield file
+        return
+    path = os.path.realpath(path)
+    folder = os.path.dirname(path)
     os.makedirs(folder, exist_ok=True)
     number, beside = tempfile.mkstemp(prefix=".", suffix=".part", dir=folder)
     try:
@@ -149,8 +155,8 @@ class Unit:
     @property
     def source(self):
         """The name of the file that is compiled, also where the unit's file was made for it."""
-        name = self.name
-        return name.split(b"/", 2)[2] if name.startswith(GENERATED.encode() + b"/") else name
+        made = re.fullmatch(GENERATED.encode() + rb"/\d+/(.+)", self.name, re.DOTALL)
+        return made[1] if made else self.name
 
     @property
     def fault(self):

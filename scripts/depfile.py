@@ -26,11 +26,10 @@ def escaped(name):
     return name.replace(b"$", b"$$").replace(b"#", b"\\#").replace(b" ", b"\\ ").replace(b":", b"\\:")
 
 
-def rule(target, names, phony):
-    """The rule's text; with `phony` a rule of its own for each header, so that make goes on where one is gone."""
-    words = [escaped(name) for name in names]
-    text = escaped(target) + b":" + b"".join(b" \\\n  " + word for word in words) + b"\n"
-    return text + b"".join(word + b":\n" for word in words[1:] if phony)
+def rule(target, names, headers):
+    """The rule's text, and a rule of its own for each of the headers, so that make goes on where one is gone."""
+    text = escaped(target) + b":" + b"".join(b" \\\n  " + escaped(name) for name in names) + b"\n"
+    return text + b"".join(escaped(name) + b":\n" for name in headers)
 
 
 def object_of(name):
@@ -71,7 +70,8 @@ def main():
             status = PARTLY
         if unit.fault is None or asked.partial:
             names = [prefix + name for name in unit.dependencies() if not name.startswith(made)]
-            text = rule(target_of(unit, targets), names, asked.phony)
+            headers = [name for name in names if name != prefix + unit.source] if asked.phony else []
+            text = rule(target_of(unit, targets), names, headers)
             with written(os.path.join(asked.into, own)) as file:
                 file.write(text)
     return status

@@ -51,7 +51,7 @@ class Command:
         self.file = at(self.directory, entry["file"])
         self.said, self.output = said, entry.get("output")
         self.folders = {kind: [] for kind in FOLDERS.values()}
-        self.definitions, self.includes = {}, []
+        self.definitions, self.named, self.includes = {}, set(), []
         self.language = SUFFIXES.get(os.path.splitext(self.file)[1], "other")
         for option, word in self.options(self.words_of(entry)):
             self.take(option, word)
@@ -102,7 +102,7 @@ class Command:
         elif option == "-D":
             self.define(word)
         elif option == "-U":
-            self.definitions.pop(word, None)
+            self.forget(word)
             if word in PREDEFINED:
                 self.said.add("%s: -U%s: this name stays defined" % (self.file, word))
         elif option == "-include":
@@ -115,15 +115,20 @@ class Command:
     def define(self, word):
         """As gcc does: the first `=` becomes a space, without one ` 1` stands behind; a line end ends it."""
         word = re.split("[\r\n]", word, maxsplit=1)[0]
-        name = re.match(r"[^\s(=]*", word)[0]
+        name = defined_name(word)
         if name in NEVER:
             self.said.add("%s: -D%s: this name may not be defined" % (self.file, word))
             return
         if not is_text(word):
             self.said.add("%s: -D%s: no UTF-8 text" % (self.file, word))
             return
-        self.definitions.pop(name, None)
+        self.forget(name)
         self.definitions[name] = (word.replace("=", " ", 1) if "=" in word else word + " 1").rstrip(" ")
+
+    def forget(self, name):
+        """What was said of a name before, also for all units, counts no more."""
+        self.definitions.pop(name, None)
+        self.named.add(name)
 
     def search(self, system):
         """The folders for names in quotes, in their order, and how many of them are for such names alone."""
@@ -138,6 +143,11 @@ def split_response(text):
     words = shlex.shlex(text, posix=True, punctuation_chars=False)
     words.whitespace_split, words.commenters, words.escapedquotes = True, "", "\"'"
     return list(words)
+
+
+def defined_name(text):
+    """The name that a definition is for, as a command or `#define` has it."""
+    return re.match(r"[^\s(=]*", text)[0]
 
 
 def at(directory, word):
@@ -345,8 +355,13 @@ class Builder:
         first = [name for name in first if name is not None]
         folders = [self.folder(folder) for folder in command.search(self.system)[0]]
         return {"file": self.made_of(file, tuple(first), command) if first else file,
-                "define": self.asked.define + list(command.definitions.values()),
+                "define": self.defined(command),
                 "search": [folder for folder in folders if folder is not None]}
+
+    def defined(self, command):
+        """A command's definitions, and before them those for all units, but for names of which the command says more."""
+        given = {defined_name(text): text for text in self.asked.define}
+        return [text for name, text in given.items() if name not in command.named] + list(command.definitions.values())
 
     def folder(self, path):
         name = self.below(path)

@@ -16,7 +16,9 @@ passed=0
 failed=0
 begun=0
 kept=$(mktemp -d) || exit 1
-trap 'kill $(jobs -p) 2> /dev/null; rm -rf "$kept"' EXIT
+pids=
+trap 'kill $pids 2> /dev/null; rm -rf "$kept"' EXIT
+trap 'exit 1' HUP INT TERM
 : > "$kept/missed"
 
 # Adds the counts of the last line of what a command said; one that ends badly and counts no failure counts as one.
@@ -51,6 +53,7 @@ begin() {
         echo $? > "$kept/$begun.status"
         printf 'took %s seconds\n' $(($(date +%s) - began)) > "$kept/$begun.took"
     } &
+    pids="$pids $!"
 }
 
 # Waits for all that were begun, and shows what each said.

@@ -30,7 +30,7 @@ def texts(crate):
 
 
 def public(crate):
-    """How a library's public functions are called, but for its laws."""
+    """Patterns of the calls of a library's public functions, but for its laws."""
     with open(os.path.join(TOP, "crates", crate, "src", "lib.rt")) as file:
         exported = set(re.findall(r"\w+", " ".join(EXPORT.findall(file.read()))))
     for text in texts(crate):
@@ -39,8 +39,8 @@ def public(crate):
             if item["name"] is None:
                 owner = TYPE.match(item["impl"].strip())[1]
             elif (owner if item["space"] else item["name"]) in exported and (item["first"] or item["law"] is None):
-                before = "" if not item["space"] else "." if item["first"].strip().endswith("self") else owner + "::"
-                yield before + item["name"] + "("
+                method = r"\." if item["first"].strip().endswith("self") else r"\b%s::" % owner
+                yield (method if item["space"] else r"(?<![\w.])") + item["name"] + r"\("
 
 
 def called():
@@ -57,7 +57,7 @@ class Called(unittest.TestCase):
             with self.subTest(crate):
                 calls = list(public(crate))
                 self.assertTrue(calls)
-                self.assertEqual([call for call in calls if call not in tests], [])
+                self.assertEqual([call for call in calls if not re.search(call, tests)], [])
 
 
 if __name__ == "__main__":

@@ -10,13 +10,14 @@ import re
 import shutil
 import subprocess
 import sys
+import tempfile
 import unittest
 
 HERE = os.path.dirname(os.path.abspath(__file__))
 TOP = os.path.dirname(HERE)
 BUILT = os.path.join(TOP, "crates", "cppunits", "out", "cppunits")
 PACKAGES = {"gcc": "gcc", "clang": "clang", "cmake": "cmake", "meson": "meson", "ninja": "ninja-build", "make": "make",
-            "bear": "bear", "parallel": "parallel", "man": "man-db", "groff": "groff-base", "mandoc": "mandoc"}
+            "bear": "bear", "parallel": "parallel", "groff": "groff-base", "mandoc": "mandoc"}
 LIST = {"date": "Feb  9 2024", "time": "08:05:03"}
 PRINTED = re.compile(rb"%([0-9A-F]{2})")
 
@@ -52,6 +53,15 @@ def cppunits(*words, **more):
     return run([program(), *words], **more)
 
 
+def write(folder, files):
+    """Files under a folder, by their names and texts or bytes."""
+    for name, text in files.items():
+        path = os.path.join(folder, name)
+        os.makedirs(os.path.dirname(path), exist_ok=True)
+        with open(path, "wb") as file:
+            file.write(text if isinstance(text, bytes) else text.encode())
+
+
 def dumped(files, units, *words, **more):
     """The lines that are printed of each unit of a list, which is to be taken."""
     done = cppunits(*words, "dump", input=json.dumps(dict(LIST, files=files, units=units, **more)).encode())
@@ -63,6 +73,18 @@ def dumped(files, units, *words, **more):
 def spelled(text):
     """A printed spelling as it stands in its file."""
     return PRINTED.sub(lambda found: bytes([int(found[1], 16)]), text).decode("latin-1")
+
+
+class Folder(unittest.TestCase):
+    """Tests in a folder of their own."""
+
+    def setUp(self):
+        folder = tempfile.TemporaryDirectory()
+        self.addCleanup(folder.cleanup)
+        self.top = os.path.realpath(folder.name)
+
+    def path(self, name):
+        return os.path.join(self.top, name)
 
 
 class Results(unittest.TextTestResult):

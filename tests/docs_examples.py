@@ -228,7 +228,8 @@ class Documents(unittest.TestCase):
 for compiler in VERSIONS:
     setattr(Documents, "test_words_of_" + compiler, compiler_test(compiler))
 for document in documents():
-    setattr(Documents, "test_" + re.sub(r"\W", "_", document), document_test(document))
+    if any(claim.re is not COMPILER for claim, _, _ in examples(text_of(document))):
+        setattr(Documents, "test_" + re.sub(r"\W", "_", document), document_test(document))
 
 
 if __name__ == "__main__":

@@ -1,7 +1,7 @@
 #!/usr/bin/env python3
 """Writes docs/EDITS.md: for each must-fail edit, which clause of which function refuses it, as the gate's log says.
 
-    rt ci | tee LOG; tests/edits_table.py LOG > NEW; mv NEW docs/EDITS.md
+    rt ci | tee LOG; tests/edits_table.py LOG > NEW && mv NEW docs/EDITS.md
 
 Edits that the log doesn't name, since it is of some crates alone or of a gate that was stopped, keep the sentence that docs/EDITS.md
 has; one that has none is left out, and counted.

@@ -18,7 +18,6 @@ import unittest
 
 from counted import LIST, cppunits, main, program
 
-DUMP = [program(), "dump"]
 MOST_SECONDS = 10
 # where the other end is slow, on a machine that has other things to do
 MOST_SECONDS_OF_SLOW_ENDS = 120

@@ -10,10 +10,9 @@ import json
 import os
 import re
 import shlex
-import tempfile
 import unittest
 
-from counted import LIST, cppunits, main, missed, script, well
+from counted import LIST, Folder, cppunits, main, missed, script, well, write
 
 PROJECT = {
     "app/main.c": """#include "low.h"
@@ -68,14 +67,6 @@ made.h: cfg/made.h.in
 UNITS = ["app/main.c", "app/more.c", "lib/low.c"]
 
 
-def write(folder, files):
-    for name, text in files.items():
-        path = os.path.join(folder, name)
-        os.makedirs(os.path.dirname(path), exist_ok=True)
-        with open(path, "wb") as file:
-            file.write(text if isinstance(text, bytes) else text.encode())
-
-
 def dependencies(printed):
     """The sets of names by unit, of what `cppunits deps` printed."""
     found = {}
@@ -101,13 +92,11 @@ def by_gcc(commands, root):
     return found
 
 
-class Folder(unittest.TestCase):
-    """Tests in a folder of their own."""
+class Lists(Folder):
+    """Lists of commands over files below a root."""
 
     def setUp(self):
-        folder = tempfile.TemporaryDirectory()
-        self.addCleanup(folder.cleanup)
-        self.top = os.path.realpath(folder.name)
+        super().setUp()
         self.root = os.path.join(self.top, "demo")
 
     def listed(self, path, *words, status=0, **more):
@@ -117,7 +106,7 @@ class Folder(unittest.TestCase):
         return json.loads(done.stdout), done.stderr.decode().splitlines()
 
 
-class Builds(Folder):
+class Builds(Lists):
     def setUp(self):
         super().setUp()
         missed("gcc")
@@ -179,7 +168,7 @@ class Builds(Folder):
         self.assertEqual(cppunits("--root", self.top, "deps", input=json.dumps(listed).encode()).returncode, 0)
 
 
-class Commands(Folder):
+class Commands(Lists):
     """Commands by hand."""
 
     def unit(self, command, files=(), words=(), **more):
@@ -197,6 +186,12 @@ class Commands(Folder):
         command = r"""cc -DA -DB=2 -D C='x y' '-DF(a,b)=a=b' -DE= -DG=1 -UG -DH=1 -DH=2 -UNEVER "-DT=\"q r\"" -DA=last -c a.c"""
         unit, _, said = self.unit(command)
         self.assertEqual(unit["define"], ["B 2", "C x y", "F(a,b) a=b", "E", "H 2", 'T "q r"', "A last"])
+        self.assertEqual(said, [])
+
+    def test_a_command_counts_for_more_than_what_is_defined_for_all(self):
+        words = ["--define", "A 7", "--define", "B 7", "--define", "C 7", "--define", "F(a) 7", "--define", "G", "--define", "G 8"]
+        unit, _, said = self.unit("cc -DA=1 -DB=2 -UB '-DF(x)=x' -c a.c", words=words)
+        self.assertEqual(unit["define"], ["C 7", "G 8", "A 1", "F(x) x"])
         self.assertEqual(said, [])
 
     def test_words_that_can_not_be_expressed(self):
@@ -338,7 +333,7 @@ class Budgets(unittest.TestCase):
         # three files are opened for a.c, X is replaced twice, and f, g and f once each
         for budget in range(10):
             found = parts(self.printed(str(budget)).stdout)
-            for whole, one, count in zip(wholes, found, (8, 1)):
+            for whole, one, count in zip(wholes, found, (8, 1), strict=True):
                 with self.subTest(budget=budget, unit=one[0]):
                     for lines, front in zip(whole[1:3], one[1:3]):
                         self.assertEqual(lines[:len(front)], front)

@@ -7,9 +7,9 @@ PROGRAM is by default crates/cppunits/out/cppunits, which `rt ci` and `rt run` l
 program runs, with one worker and with more, over the list and over a folder, with its 1st, 2nd, 3rd .. request refused,
 and with all refused from that one on, until a run meets no refusal, which must give the answer.  Each run before must end
 with status 4, nothing on standard output and `cppunits: out of memory` on standard error, or with the answer: where a
-thread isn't made, where a block isn't fitted to what it holds, and where less room does.  It is told how many do; of a
-row with one worker at most its blocks that are fitted may, and as many as of a run without a list.  The proofs can't
-refuse memory to the built program.
+thread isn't made, where a block isn't fitted to what it holds, and where less room does.  Printed is how many do; in a
+row with one worker at most as many may as it has blocks that are fitted, and as many more as do in a run without a list.
+The proofs can't refuse memory to the built program.
 
 status:
   0  each run ended so

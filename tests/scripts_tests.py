@@ -7,13 +7,13 @@ import json
 import os
 import shlex
 import shutil
+import stat
 import subprocess
 import sys
-import tempfile
 import unittest
 import xml.etree.ElementTree
 
-from counted import LIST, TOP, cppunits, main, missed, program, run, script, well
+from counted import LIST, TOP, Folder, cppunits, main, missed, program, run, script, well, write
 
 SCRIPTS = ("list_from_build.py", "depfile.py", "text.py", "shards.py")
 
@@ -21,14 +21,6 @@ SCRIPTS = ("list_from_build.py", "depfile.py", "text.py", "shards.py")
 def listed(files, units=None):
     rows = [{"name": name, "text": text} for name, text in files.items()]
     return json.dumps(dict(LIST, files=rows, units=units or [{"file": rows[0]["name"]}])).encode()
-
-
-def write(folder, files):
-    for name, text in files.items():
-        path = os.path.join(folder, name)
-        os.makedirs(os.path.dirname(path), exist_ok=True)
-        with open(path, "wb") as file:
-            file.write(text if isinstance(text, bytes) else text.encode())
 
 
 def read(*parts):
@@ -40,16 +32,6 @@ def tokens(dump):
     """Kind and spelling of each token line."""
     lines = [line.split(b" ", 3)[3] for line in dump.split(b"\n") if line.startswith((b"tok ", b"ptok "))]
     return [(line[:1], line[3:]) for line in lines]
-
-
-class Folder(unittest.TestCase):
-    def setUp(self):
-        folder = tempfile.TemporaryDirectory()
-        self.addCleanup(folder.cleanup)
-        self.top = os.path.realpath(folder.name)
-
-    def path(self, name):
-        return os.path.join(self.top, name)
 
 
 class All(Folder):
@@ -77,6 +59,21 @@ class All(Folder):
         done = script("shards.py", "join", "--output", "joined", "whole", "cut", cwd=self.top)
         self.assertEqual((done.returncode, read(self.top, "joined")), (3, b"as it was"))
         self.assertEqual(sorted(os.listdir(self.top)), ["cut", "joined", "whole"])
+
+    def test_what_is_no_file_is_written_to(self):
+        dump = cppunits("dump", input=listed({"a.c": "x\n"})).stdout
+        write(self.top, {"kept": "old\n"})
+        os.symlink("kept", self.path("link"))
+        for name, found in ("link", b"kept"), ("new", None):
+            self.assertEqual(script("shards.py", "join", "--output", name, "-", input=dump, cwd=self.top).returncode, 0)
+            self.assertEqual(os.readlink(os.fsencode(self.path(name))) if found else None, found)
+            self.assertEqual(read(self.top, name), dump)
+        self.assertEqual(read(self.top, "kept"), dump)
+        os.mkfifo(self.path("pipe"))
+        with subprocess.Popen(["cat", "pipe"], cwd=self.top, stdout=subprocess.PIPE) as reader:
+            self.assertEqual(script("shards.py", "join", "--output", "pipe", "-", input=dump, cwd=self.top).returncode, 0)
+            self.assertEqual(reader.stdout.read(), dump)
+        self.assertTrue(stat.S_ISFIFO(os.stat(self.path("pipe")).st_mode))
 
     def test_a_write_that_fails(self):
         if not os.path.exists("/dev/full"):
@@ -145,9 +142,19 @@ class Dependencies(Folder):
         self.assertEqual(read(self.top, "a.c.d"), b"a.o: \\\n  a.c\n")
 
     def test_a_file_that_was_made_for_a_unit(self):
-        files = {"cppunits-generated/0/src/a.c": '#include "../../../src/a.c"\n', "src/a.c": ""}
-        script("depfile.py", input=cppunits("deps", input=listed(files)).stdout, cwd=self.top)
-        self.assertEqual(read(self.top, "src/a.c.d"), b"src/a.o: \\\n  src/a.c\n")
+        files = {"cppunits-generated/0/src/a.c": '#include "../../../first.h"\n#include "../../../src/a.c"\n', "src/a.c": "", "first.h": ""}
+        deps = cppunits("deps", input=listed(files)).stdout
+        script("depfile.py", input=deps, cwd=self.top)
+        rule = b"src/a.o: \\\n  first.h \\\n  src/a.c\n"
+        self.assertEqual(read(self.top, "src/a.c.d"), rule)
+        # headers alone have a rule of their own, also one that stands before the source
+        script("depfile.py", "--phony", input=deps, cwd=self.top)
+        self.assertEqual(read(self.top, "src/a.c.d"), rule + b"first.h:\n")
+
+    def test_a_name_like_that_of_a_made_file(self):
+        deps = cppunits("deps", input=listed({"cppunits-generated/x.c": ""})).stdout
+        self.assertEqual(script("depfile.py", input=deps, cwd=self.top).returncode, 0)
+        self.assertEqual(os.listdir(self.path("cppunits-generated")), ["x.c.d"])
 
     def test_names_that_no_rule_can_hold(self):
         for name in ("a*.c", "a|.c", "a\\ b.c", "a\\"):

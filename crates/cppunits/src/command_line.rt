@@ -51,7 +51,8 @@ const ABOUT_DEPS: &str = "Prints each unit's dependencies and its first fault";
 const MORE: &str = "\
 The list comes from standard input: a JSON object with `date`, `time`, `files` and `units`. What is printed goes to standard output, once
 all units are done. docs/FORMAT.md of the sources has the form of both, docs/FAULTS.md what each number of a fault or a refusal means.
-Status: 0 no unit has a fault, 1 some unit has one, 2 usage, 3 the list is refused, 4 out of memory, 5 a read or write failed.";
+Status: 0 no unit has a fault, 1 some unit has one, 2 usage, 3 the list is refused, 4 out of memory, 5 a read or write
+failed, or the system gives no random bytes.";
 
 /// Judges the program's words, and prints what there is to say of them.
 pub fn ask<R: Env + AllocGlobal + Print + Eprint>(rt: &R) -> Asked

@@ -4,7 +4,7 @@
 mod command_line;
 mod room;
 
-use command_line::{Asked, Options};
+use command_line::Asked;
 use ppserve::{ReaderFeed, RunFault, WriterSink, serve, serve_from, status, words};
 use ppshelf::FolderDisk;
 use pptext::Hashing;
@@ -33,30 +33,22 @@ fn main(rt: HostRuntime) -> ExitCode {
     if reserve(rt.alloc()).is_err() {
         return ended(&rt, &Err(RunFault::Memory));
     }
-    let Options {
-        mode,
-        workers,
-        block,
-        root,
-    } = match command_line::ask(&rt) {
+    let options = match command_line::ask(&rt) {
         Asked::Run(options) => options,
         Asked::Stop(status) => return ExitCode::from(status),
     };
-    let (alloc, mut reader, mut writer) = (
-        rt.alloc(),
-        ReaderFeed::new(rt.stdin()),
-        WriterSink::new(rt.stdout()),
-    );
-    let outcome = match (hashing(&rt), &root) {
+    let mut reader = ReaderFeed::new(rt.stdin());
+    let mut writer = WriterSink::new(rt.stdout());
+    let outcome = match (hashing(&rt), &options.root) {
         (Err(fault), _) => Err(fault),
         (Ok(hashing), None) => serve(
             &rt,
-            alloc,
+            rt.alloc(),
             &mut reader,
             &mut writer,
-            mode,
-            workers,
-            block,
+            options.mode,
+            options.workers,
+            options.block,
             hashing,
         ),
         (Ok(hashing), Some(folder)) => {
@@ -64,13 +56,13 @@ fn main(rt: HostRuntime) -> ExitCode {
             let disk = FolderDisk { files, folder };
             serve_from(
                 &rt,
-                alloc,
+                rt.alloc(),
                 &mut reader,
                 &mut writer,
                 &disk,
-                mode,
-                workers,
-                block,
+                options.mode,
+                options.workers,
+                options.block,
                 hashing,
             )
         }

@@ -16,7 +16,7 @@ use Rattle.ppexpand.specs.Arguments.{is_open, Closed, Quoted, Unclosed, gather, 
 use Rattle.ppexpand.specs.Turn.{predefined_value, Call, followed_by, fault_at_use, quote_fault, gain_of, no_arguments, macro_of, wanted}
 use Rattle.ppexpand.specs.Expansion.{ExpandedArguments, with_expanded}
 
--- a token names this macro, and is not among the names that it is not replaced by (6.10.3, paragraph 9; 6.10.3.4, paragraph 2)
+-- a token names this macro, and its hide set hasn't the name (6.10.3, paragraph 9; 6.10.3.4, paragraph 2)
 pub record NamesMacro (macros : Macros) (t : Hiding) (d : Definition) : Type 0 where
   pub no_quote : is_lone_quote t.token ≡ false
   pub not_hidden : set.contains t.hide t.token.text ≡ false
@@ -128,7 +128,7 @@ mutual
         → StandardExpands macros env level (followed_by call.behind m) tokens fault
         → StandardExpands macros env level list tokens fault
 
-  -- The arguments of an invocation in a list at this level, each expanded as if it were all of a file, one level deeper (6.10.3.1), in order,
+  -- The arguments of an invocation in a list at this level, each expanded as if it were the rest of the file, one level deeper (6.10.3.1), in order,
   -- up to the first fault; level 256 is the deepest.
   pub data StandardExpandsArguments (macros : Macros) (env : Env) : ℕ → Call → List (Option (List Hiding)) → ExpandedArguments → Type 0 where
     none : {level : ℕ} {call : Call} → StandardExpandsArguments macros env level call [] (Ok [])

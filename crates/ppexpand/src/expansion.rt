@@ -418,7 +418,7 @@ fn expand_list<'x, 'a: 'x>(
 pub struct Expanded<'a> {
     pub tokens: Run<'a>,
     pub fault: Option<Fault>,
-    /// How many more replacements may be made; without a budget nothing.
+    /// How many more replacements and openings of files may be made; `None` where there is no budget.
     pub left: Option<u64>,
 }
 

@@ -163,8 +163,8 @@ fn push_piece<'a>(tokens: &mut Vec<Hidden<'a>>, piece: Piece<'a>) -> Result<(), 
     }
 }
 
-/// What a list of tokens is expanded to, which contracts see as a list: the tokens of the file that pass before the first that is
-/// replaced, and what passed behind them.
+/// What a list of tokens is expanded to, which contracts see as a list: the tokens of the file in front of the first that names a macro or is
+/// a lone quote, and what passed behind them.
 #[derive(Drop)]
 pub struct Run<'a> {
     front: &'a [Token],
@@ -198,7 +198,8 @@ impl<'a> Run<'a> {
         (self.front, pieces.as_slice(), singles.as_slice())
     }
 
-    /// The tokens as they stand in the file, where nothing was replaced.
+    /// The tokens as they stand in the file, where nothing passed behind those in front of the first that names a macro or is a lone quote.
+    /// It doesn't tell whether a name was replaced: it may have been by nothing.
     pub fn unchanged(&self) -> Option<&'a [Token]>
         ensures { IfSome result (λ tokens. tokens.now ≡ self.now) }
     {

@@ -59,7 +59,7 @@ impl<'r, 'a> TokenRef<'r, 'a> {
         }
     }
 
-    /// Whether white space stands before it.
+    /// Its space mark: whether white space or a line's beginning stands before it.
     pub fn space(&self) -> bool
         ensures { result ≡ (ref_token self.now).space }
     {

@@ -9,8 +9,8 @@ pub fn is_spent(left: Option<u64>) -> bool
     matches!(left, Some(0))
 }
 
-/// What is left of a budget of replacements and openings of files once one more is made; nothing, where nothing was left. Takes
-/// no memory.
+/// What is left of a budget of replacements and openings of files once one more is made: 0 where 0 was left, and `None` where there is no
+/// budget. Takes no memory.
 pub fn less_one(left: Option<u64>) -> Option<u64>
     ensures { result ≡ less_one left }
 {

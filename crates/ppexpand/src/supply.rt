@@ -11,8 +11,8 @@ const MOST: usize = 64;
 // The room of longer lists is given back.
 const LONG: usize = 64;
 
-/// The allocator, and lists that are done with: the arguments of the next invocations are put there. Most invocations that come to much are
-/// many small ones, whose arguments would cost more to allocate than to gather.
+/// The allocator, and lists that are done with: the arguments of the next invocations are put there. Where invocations take long, they are
+/// mostly many small ones, whose arguments would cost more to allocate than to gather.
 #[derive(Drop)]
 pub(crate) struct Supply<'x> {
     alloc: Global,

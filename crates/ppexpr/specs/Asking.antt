@@ -29,7 +29,7 @@ operand (x ∷ rest) = if is_identifier x then Some (record { name = x; rest = r
 abbrev pub answer : Macros → Token → Token → Token
 answer macros d x = record d { kind = Number; text = if is_some (table.get macros x.text) then codes "1" else codes "0" }
 
--- each use of `defined` becomes a number, from the left; another use becomes nothing
+-- each use of `defined` becomes a number, from the left, and every other token stays; where a use has no name there is no such list
 pub data Asks (macros : Macros) : List Token → List Token → Type 0 where
   nothing : Asks macros [] []
   other : {t : Token} {ts us : List Token} → is_defined t ≡ false → Asks macros ts us → Asks macros (t ∷ ts) (t ∷ us)

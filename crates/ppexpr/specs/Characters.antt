@@ -28,11 +28,12 @@ is_octal_escape s = nat_le (length s) 3 && are_digits 8 s
 abbrev pub is_hexadecimal_escape : List ℕ → Bool
 is_hexadecimal_escape s = starts_with nat_eq s (codes "x") && are_digits 16 (drop 1 s)
 
--- what stands behind the backslash, by the first rule that fits
+-- one byte behind the backslash
 abbrev pub other_escape : List ℕ → Option ℕ
 other_escape (c ∷ []) = simple_escape c
 other_escape _ = None
 
+-- what stands behind the backslash, by the first rule that fits
 abbrev pub escape : List ℕ → Option ℕ
 escape s =
     if is_octal_escape s then Some (number 8 s) else (

@@ -1,4 +1,4 @@
--- How deep an expression may be nested.
+-- Which expressions are too nested: by the depth of parentheses, the number of conditional operators, or signs side by side.
 use Rattle.std.specs.Prelude.{ℕ, ◌+◌, ◌<◌, ◌≤◌, ◌⊎◌, Bool, true, false, List, take, count_by}
 use Rattle.std.specs.List.{suffix_len}
 use Rattle.ppexpr.specs.Operators.{Plus, Minus, Tilde, Bang}

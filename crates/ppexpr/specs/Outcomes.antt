@@ -8,7 +8,7 @@ pub data Value : Type 0 where
   Unsigned : ℕ → Value
 
 -- why there is no value, and the operator where that comes up: a divisor is 0; a signed result is out of range; a shift's amount is out of range, or
--- a signed left shift loses bits
+-- a signed value that is negative, or gets too large, is shifted to the left
 pub data Failure : Type 0 where
   ZeroDivisor : Operator → Failure
   Overflow : Operator → Failure

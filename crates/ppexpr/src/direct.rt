@@ -46,7 +46,8 @@ fn first_symbol<'x>(
     Some((Symbol::constant(value), behind))
 }
 
-/// The symbols that tokens stand for as they are; None where a macro is replaced or a fault is to be told.
+/// The symbols that tokens stand for as they are. None where a macro's name stands outside `defined`, a use of `defined` has no name, a constant
+/// has no value, or a token is of a kind that no expression has.
 pub(crate) fn direct_symbols(
     alloc: Global,
     table: &Table,

@@ -68,7 +68,7 @@ fn nests_signs(symbols: &[Symbol]) -> bool
     false
 }
 
-/// Whether an expression is nested over 256 levels deep, by parentheses, conditional operators or signs.
+/// Whether an expression has parentheses over 256 deep, more than 256 conditional operators, or more than 256 signs side by side.
 pub(crate) fn is_too_nested(symbols: &[Symbol]) -> bool
     ensures { IsTrue result ↔ IsTooNested symbols.now }
 {

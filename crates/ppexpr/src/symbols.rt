@@ -140,7 +140,7 @@ pub(crate) enum FailureKind {
     ZeroDivisor(Operator),
     /// 27: a signed result is out of range.
     Overflow(Operator),
-    /// 28: a shift's amount is out of range, or a signed left shift loses bits.
+    /// 28: a shift's amount is out of range, or a signed value that is negative, or gets too large, is shifted to the left (6.5.7p3, p4).
     Shift(Operator),
 }
 

@@ -1,4 +1,4 @@
-// Operators on values (6.5.3.3 to 6.5.12).
+// Operators on values (6.5.3.3, 6.5.5 to 6.5.14).
 ghost use Rattle.std.specs.Prelude.{◌≡◌, ℤ, pos, FitsSigned, ◌+ℤ◌, ◌-ℤ◌, ◌*ℤ◌, ◌<◌, int_lt, int_le, int_div, int_rem, bit_and, bit_or};
 ghost use Rattle.std.specs.Prelude.{bit_xor, not, MatchOption, Ok, false};
 ghost use Rattle.std.specs.Int.{w64, int_bit_and, int_bit_or, int_bit_xor};
@@ -101,7 +101,7 @@ fn converted(left: Value, right: Value) -> Operands
     Operands::BothUnsigned(left.as_unsigned(), right.as_unsigned())
 }
 
-// 6.5.5p3
+// 6.5.5p4
 fn product(left: Value, right: Value) -> Result<Value, Failure>
     ensures { result ≡ arithmetic Star (λ a b. a *ℤ b) (converted left right) }
 {

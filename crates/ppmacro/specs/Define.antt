@@ -80,7 +80,7 @@ abbrev pub is_empty : List Token → Bool
 is_empty [] = true
 is_empty (t ∷ ts) = false
 
--- `##` first, last or beside another (6.10.3.3p1); `bare`: no operand stands directly before
+-- `##` first or last (6.10.3.3p1), or beside another, where it has no operand (6.10.3.3p3); `bare`: no operand stands directly before
 abbrev pub misplaces_paste : Bool → List Token → Bool
 misplaces_paste bare [] = false
 misplaces_paste bare (t ∷ ts) = if is_paste t then bare || (is_empty ts || misplaces_paste true ts) else misplaces_paste false ts
@@ -131,7 +131,7 @@ abbrev pub is_predefined : Option Definition → Bool
 is_predefined None = false
 is_predefined (Some d) = is_predefined_shape d.shape
 
--- names that are not defined or undefined by a directive (6.10.8p2)
+-- names that no directive may define or take out (6.10.8p2, 6.10.3p5)
 abbrev pub is_reserved : Macros → Name → Bool
 is_reserved macros name = is_predefined (table.get macros name) || (bytes_eq name (codes "defined") || bytes_eq name (codes "__VA_ARGS__"))
 

@@ -85,6 +85,6 @@ pub data AreChains (shape : Shape) : List Token → List Chain → Type 0 where
       → AreChains shape rest cs
       → AreChains shape (ts ++ rest) (record { mark = mark; operands = os } ∷ cs)
 
--- `##` and `#` stand where they may (6.10.3.2p1, 6.10.3.3p1)
+-- `##` and `#` stand where they may (6.10.3.2p1, 6.10.3.3p1, p3)
 abbrev pub places_operators : Definition → Bool
 places_operators d = not (misplaces_paste true d.body) && not (is_function_like d.shape && misplaces_hash d.shape d.body)

@@ -4,7 +4,7 @@ use Rattle.std.specs.FinMap as table
 use Rattle.std.specs.Hash.FoldHasher.{read_u32}
 use Rattle.ppmacro.specs.Names.{Name, Macros}
 
--- of a name of less than four bytes
+-- of a name of fewer than four bytes
 unfoldable pub short_mark : Name → ℕ
 short_mark name = slice_index_or name 0 0 * 125 + slice_index_or name (length name - 1) 0 * 2 + length name
 

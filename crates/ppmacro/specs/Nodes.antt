@@ -3,7 +3,7 @@
 use Rattle.std.specs.Prelude.{◌≡◌, ℕ, zero, suc, ◌<◌, ◌/◌, ◌%◌, ◌^◌, Bool, true, nat_eq, List, [], ◌∷◌, ◌++◌, length, slice_index_or, if◌then◌else◌}
 use Rattle.std.specs.Int.{bit_at}
 
--- a set of numbers: its word 0, the number of the set of those words that are its words 2w + 1, and of those that are its words 2w + 2
+-- a set of numbers: word 0 is `here`, word 2w + 1 the word w of the set with the number `left`, word 2w + 2 that of the set with the number `right`
 pub record Node : Type 0 where
   pub here : ℕ
   pub left : ℕ

@@ -317,8 +317,18 @@ fn plain<'a>(table: &Table, line: &'a [Token]) -> Option<Named<'a>>
     }
 }
 
-/// Defines a macro. `at` is the place of `#`, `line` what stands behind `define`; an agreeing definition
-/// takes the place of the one before. The faults are 9 to 16; with one, and with `Memory`, the table stays as it was.
+/// Defines a macro (6.10.3). `at` is the place of `#`, `line` what stands behind `define`; an agreeing definition takes the place of the
+/// one before (6.10.3p2). A fault stands at `at`, and its text is the macro's name, at 9 `define`. The first of these is told:
+/// 9, no identifier stands first;
+/// 10, the name is reserved (6.10.8p2, 6.10.3p5);
+/// 12, neither white space nor `(` follows the name (6.10.3p3);
+/// 11, the parameter list is ill formed or has a name twice (6.10.3p6, p10);
+/// 15, `__VA_ARGS__` is a parameter, or stands in the list of a macro without `...` (6.10.3p5);
+/// 13, `##` stands first, last or beside another (6.10.3.3p1, p3);
+/// 14, `#` without a parameter behind it in a function-like macro (6.10.3.2p1);
+/// 16, the name has another definition (6.10.3p2).
+///
+/// With a fault, and with `Memory` where memory ran out, the table stays as it was.
 #[inline(never)]
 pub fn define<'a>(
     alloc: Global,
@@ -359,8 +369,10 @@ fn undefined<'a>(
     Ok(Ok(Text::of(name)))
 }
 
-/// Takes a macro out, if there is one of this name. `at` is the place of `#`, `line` what stands behind
-/// `undef`. The faults are 9 and 10; with one, and with `Memory`, the table stays as it was.
+/// Takes a macro out, if there is one of this name (6.10.3.5p2). `at` is the place of `#`, `line` what stands behind `undef`. Fault 9 at
+/// `at`, with the text `undef`, where that isn't one identifier; fault 10, with the name, where it is reserved (6.10.8p2, 6.10.3p5).
+///
+/// With a fault, and with `Memory` where memory ran out, the table stays as it was.
 pub fn undef<'a>(
     alloc: Global,
     table: &mut Table<'a>,

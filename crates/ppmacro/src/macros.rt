@@ -195,7 +195,8 @@ impl<'a> Macro<'a> {
         Some(body)
     }
 
-    /// The chains of its replacement list. Parameters are hashed without a key: see `chains_with_hasher`.
+    /// The chains of its replacement list. Parameters are hashed by a key that everybody knows: see
+    /// `chains_with_hasher`.
     pub fn chains(&self, alloc: Global) -> Result<Chains<'a>, AllocError>
         ensures { IfOk result (λ c. c ≡ chains_of self.now) }
     {

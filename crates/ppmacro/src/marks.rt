@@ -10,7 +10,7 @@ use std::marker::Model;
 const MARKS: usize = 32_768;
 
 // The four bytes from here on, the lowest first.
-fn word(bytes: &[u8], at: usize) -> u64
+fn half_word(bytes: &[u8], at: usize) -> u64
     requires { at + 4 ≤ length bytes.now }
     ensures value { result ≡ read_u32 bytes.now at }
     ensures bound { result < 4_294_967_296 }
@@ -29,13 +29,13 @@ pub(crate) fn mark_of(name: &[u8]) -> usize
         return short_mark(name);
     }
     let rest = length - 4;
-    let sum = word(name, rest / 2) * 506_952_113
-        + word(name, rest) * 625_341_585
+    let sum = half_word(name, rest / 2) * 506_952_113
+        + half_word(name, rest) * 625_341_585
         + (length % 64) as u64 * 461_845_907;
     (sum / 16_777_216 % 32_768) as usize
 }
 
-// The same of a name of less than four bytes.
+// The same of a name of fewer than four bytes.
 #[tactic(auto, unfolding(crate::specs::Marks::short_mark))]
 fn short_mark(name: &[u8]) -> usize
     requires { length name.now < 4 }

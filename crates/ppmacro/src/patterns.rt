@@ -101,7 +101,7 @@ fn entries_in<'a>(
     entries_of(alloc, &shape, body)
 }
 
-/// A definition's replacement list. Its parameters are hashed so. What it needs of the stack isn't to stand in each level of arguments that asks for it.
+/// A definition's replacement list. Its parameters are hashed so. Not inlined, so that no level of arguments has its frame on the stack.
 #[inline(never)]
 pub(crate) fn pattern_of<'a>(
     alloc: Global,

@@ -202,9 +202,10 @@ fn substituted_by<'x, 'a: 'x>(
     Ok((tokens, pending))
 }
 
-/// What an invocation is replaced by, and the space mark that waits for the token behind it; or the first of the
-/// faults 19 and 20. `chains` are the macro's, `given` the arguments, `expanded` the expansions of those that stand away from `#` and
-/// `##`; the names of `base` and `name` are what each token gains, `used` is the place of the macro's name, `space` its mark.
+/// What an invocation is replaced by (6.10.3.1 to 6.10.3.3), and the space mark that waits for the token behind it; or the first of the
+/// faults 19, with both spellings as its text, and 20, each at `used`. `chains` are the macro's, `given` the arguments, `expanded` the
+/// expansions of those that stand away from `#` and `##`; the names of `base` and `name` are what each token gains, `used` is the place of
+/// the macro's name, `space` its mark.
 pub fn substitute<'x, 'a: 'x>(
     alloc: Global,
     chains: &[Chain<'a>],

@@ -65,14 +65,15 @@ pub(crate) fn is_barred(name: &[u8]) -> bool
 }
 
 impl<'a> Table<'a> {
-    /// The predefined names alone (6.10.8.1). Names are hashed without a key: see `with_hasher`.
+    /// The predefined names alone (6.10.8.1). Names are hashed by a key that everybody knows: see
+    /// `with_hasher`.
     pub fn new(alloc: Global) -> Result<Table<'a>, Memory>
         ensures { IfOk result (λ t. t ≡ predefined) }
     {
         Table::with_hasher(alloc, Hashing::fixed())
     }
 
-    /// The same, with names that are hashed so. By a key, names that strangers choose cost no more than others.
+    /// The same, with names that are hashed so. By a key that nobody knows beforehand, names that strangers choose cost no more than others.
     pub fn with_hasher(alloc: Global, hashing: Hashing) -> Result<Table<'a>, Memory>
         ensures { IfOk result (λ t. t ≡ predefined) }
     {
@@ -161,7 +162,7 @@ impl<'a> Table<'a> {
         }
     }
 
-    /// Whether the name is none that a directive may define or take out (6.10.8p2).
+    /// Whether no directive may define the name or take it out (6.10.8p2, 6.10.3p5).
     pub(crate) fn is_reserved(&self, name: &[u8]) -> bool
         ensures { result ≡ is_reserved self.now name.now }
     {

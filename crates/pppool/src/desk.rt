@@ -10,7 +10,7 @@ use pptext::Memory;
 use std::alloc::Global;
 use std::marker::Model;
 
-/// Blocks, numbered from 0, each of which is claimed once, by any number of threads. The next block is one word in memory; a claim
+/// Blocks, numbered from 0, that the threads in 1 to 64 seats claim, each block at most once. The next block is one word in memory; a claim
 /// is one addition to it.
 #[derive(Drop)]
 pub struct Desk {

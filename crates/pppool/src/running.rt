@@ -28,7 +28,7 @@ use std::thread::Threads;
 /// openings than that, and its answer is a beginning of what it gives without one, over what the pass knows or more files, and the
 /// whole of it exactly where the budget suffices.
 ///
-/// Fails only for want of memory, and then the pass knows what it knew.
+/// Fails only for want of memory, and then the pass knows at least what it knew.
 pub fn run<'a, R: Threads + Sync, D: Disk + Send + Sync, G: Gate + Sync>(
     threads: &R,
     alloc: Global,
@@ -77,7 +77,7 @@ pub fn run<'a, R: Threads + Sync, D: Disk + Send + Sync, G: Gate + Sync>(
 /// Preprocesses the units of a list as `run` does, and keeps so much of each unit's value: what isn't kept is let go as soon as the unit is
 /// done.
 ///
-/// Fails only for want of memory, and then the pass knows what it knew.
+/// Fails only for want of memory, and then the pass knows at least what it knew.
 pub fn run_keeping<'a, R: Threads + Sync, D: Disk + Send + Sync, G: Gate + Sync>(
     threads: &R,
     alloc: Global,
@@ -124,6 +124,7 @@ pub fn run_keeping<'a, R: Threads + Sync, D: Disk + Send + Sync, G: Gate + Sync>
     pass.lawful();
     shelf.lawful();
     let (seats, slots) = gathered?;
+    // Each seat is handed in and was told that no block is left, so this holds always; no contract says that of it.
     if desk.close(seats) {
         all_of(alloc, slots)
     } else {

@@ -5,7 +5,8 @@ ghost use Rattle.ppserve.specs.declared.serving.RunFault.TheVariants.{List as Re
 
 use crate::serving::RunFault;
 
-/// The program's status.
+/// The program's status: 0 where no unit has a fault, 1 where one has, 3 for a list that is refused, 4 for want of memory, 5 for a reader or a
+/// writer that failed.
 pub fn status(outcome: &Result<bool, RunFault>) -> u8
     ensures { result ≡ status_of outcome.now }
 {

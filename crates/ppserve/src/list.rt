@@ -106,13 +106,14 @@ impl<T: Drop> From<AllocFailed<T>> for ListFault {
 /// The most bytes of a list.
 pub(crate) const MOST_INPUT: usize = 268_435_456;
 
-/// The list that bytes hold. Where `inline` is false its files have names alone, and it holds no contents. Names are hashed so.
+/// The list that bytes hold. Where `inline` is false its files have names alone, and it holds no contents. Names are hashed by
+/// `hashing`.
 ///
 /// # Errors
 ///
-/// `Bad` with the least number that applies: 1 for bytes that are too many or no JSON value, 2 for a member
+/// `Bad` with the least number that applies: 1 for more than 268,435,456 bytes or no JSON value, 2 for a member
 /// that is missing, unknown or of another shape, 3 for a name that is out of normal form or stands twice, 4 for more
-/// than 65,535 files or units, or a content or a unit's definitions that are too long, 5 for a unit's file that isn't
+/// than 65,535 files or units, or a content or a unit's definitions of more than 16,777,216 bytes, 5 for a unit's file that isn't
 /// among the names, 6 for the date or the time, 7 for a definition of more than one line, 8 for a text to be searched
 /// that is no folder, 9 for another profile than `c11` and `later`, 10 for a budget that is no whole number from 0 to 4,294,967,295; and
 /// `Memory`.

@@ -32,7 +32,8 @@ pub enum Mode {
     Deps,
 }
 
-/// The output: for each unit a line for its name, one for each item and each dependency, and one for how it ended.
+/// The output: for each unit a line for its name, one for each token, each pragma and each token of a pragma, one for each dependency, and one for
+/// how it ended. Fails only for want of memory.
 pub fn dump(alloc: Global, list: &List, outs: &[UnitOut]) -> Result<Vec<u8>, Memory>
     requires { length outs.now ≡ length list.now.units }
     ensures { IfOk result (λ text. text.items ≡ output_text Dump list.now outs.now) }
@@ -40,7 +41,7 @@ pub fn dump(alloc: Global, list: &List, outs: &[UnitOut]) -> Result<Vec<u8>, Mem
     printed(alloc, Mode::Dump, list, outs)
 }
 
-/// The output without the items: for each unit a line for its name, one for each dependency, and one for how it ended.
+/// The output without the items: for each unit a line for its name, one for each dependency, and one for how it ended. Fails only for want of memory.
 pub fn deps(alloc: Global, list: &List, outs: &[UnitOut]) -> Result<Vec<u8>, Memory>
     requires { length outs.now ≡ length list.now.units }
     ensures { IfOk result (λ text. text.items ≡ output_text Deps list.now outs.now) }

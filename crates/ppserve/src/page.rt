@@ -61,7 +61,7 @@ impl Page {
         write_out(writer, bytes);
     }
 
-    /// Sends the page out where it has no room for the beginning of a token's line.
+    /// Sends the page out where it has no room for the beginning of a token's line, a short spelling and the line's end.
     #[inline(always)]
     pub(crate) fn make_room<W: Sink>(&mut self, writer: &mut W)
         ensures out { Puts W.written W.has_failed writer.old writer.new self.old self.new [] }

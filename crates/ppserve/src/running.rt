@@ -107,7 +107,8 @@ pub(crate) fn filled_shelf(
     Ok(shelf)
 }
 
-/// What is needed of what units give over exactly the files of a shelf, in their order: what they give over those that they open, and so over all.
+/// Of each unit, in list order, what is needed of its value over exactly the files of a full shelf. A run tells it over the files that units opened;
+/// over all files it is the same.
 pub(crate) fn over_contents<'a, R: Threads + Sync>(
     threads: &R,
     alloc: Global,

@@ -67,9 +67,15 @@ impl From<ListFault> for RunFault {
 
 const CHUNK: usize = 65_536;
 
-/// Reads a list that holds its files, preprocesses its units by so many workers, each of which takes at most so many units at a time, and
-/// writes their output once they are all done. Answers whether some unit has a fault. Where the list has a budget, what a unit gives is what it
-/// gives within it: a beginning of what it gives without, and the whole exactly where the budget suffices.
+/// Reads a list that holds its files, runs its units through translation phases 1 to 4 (5.1.1.2) by so many workers, each of which takes at most
+/// `block` units at a time, and writes their output once they are all done. Answers whether some unit has a fault. Where the list has a budget, what
+/// a unit gives is what it gives within it: a beginning of what it gives without, and the whole exactly where the budget suffices. Names are hashed by
+/// `hashing`. The memory of files and answers isn't given back: the caller is to end next.
+///
+/// # Errors
+///
+/// `List` with the least number of a refusal that applies, `Read` where the reader fails, and `Memory`: nothing was written. `Write` where the
+/// writer fails: a beginning of the output was written.
 pub fn serve<T: Threads + Sync, R: Feed, W: Sink>(
     threads: &T,
     alloc: Global,
@@ -144,7 +150,7 @@ fn hand_out_held<T: Threads + Sync, W: Sink>(
 }
 
 /// Reads a list of names, and does with it what `serve` does; workers read a file from the disk when it is asked for, and the content that
-/// is kept first is the file's for all units.
+/// is kept first is the file's for all units. Errors, and what isn't given back, are those of `serve`.
 pub fn serve_from<T: Threads + Sync, R: Feed, W: Sink, D: Disk + Send + Sync>(
     threads: &T,
     alloc: Global,

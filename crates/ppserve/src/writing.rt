@@ -1,4 +1,5 @@
-// Text that is put behind the first bytes of a slice. Each function gives where the text ends.
+// Text that is put behind the first bytes of a slice, by functions that give where it ends; and how many bytes of a short spelling stand for
+// themselves.
 ghost use Rattle.std.specs.Prelude.{◌≡◌, ◌+◌, ◌/◌, ◌%◌, ◌<◌, ◌≤◌, ◌∷◌, ◌++◌, [], decimal, length, take};
 ghost use Rattle.ppserve.specs.Lines.{PlainBetween, first_set};
 

@@ -12,7 +12,7 @@ use std::rt::Files;
 
 /// The files under a folder: that of a name has the path of the folder, `/` and the name.
 ///
-/// They may change at any time, so nothing is claimed of what a read answers.
+/// Plain files are read, also through links; all else is unreadable. They may change at any time, so nothing is claimed of what a read answers.
 pub struct FolderDisk<'a, R: Files> {
     pub files: &'a R,
     pub folder: &'a str,
@@ -43,8 +43,8 @@ impl<R: Files> Disk for FolderDisk<'_, R> {
     }
 }
 
-// Opens a plain file, to which a link may lead, and nothing else: to open a named pipe waits until somebody writes to it. With it comes how
-// long it is just now, or what it may have if it is longer.
+// Opens a plain file, or the one to which a link leads, and nothing else: opening a named pipe would wait until somebody writes to it. With it
+// comes its length just now, in bytes, which counts as `LONGEST` where it is more.
 fn open_plain<R: Files>(files: &R, path: &str) -> Result<(R::File, usize), ReadFault>
     ensures { IfOk result (λ r. r.1 ≤ longest) }
 {
@@ -68,8 +68,8 @@ fn path_under(alloc: Global, folder: &str, name: &str) -> Result<String, AllocEr
     Ok(path)
 }
 
-// Reads a file, but no more than one byte above the longest content. It has room for so many bytes from the start, and for one more, by which a
-// read sees the end.
+// Reads a file up to one byte above `LONGEST`, which shows that it is too long. There is room for `len` bytes from the start, and for one more,
+// by which a read sees the end.
 fn read_start<F: Read + Drop>(alloc: Global, file: F, len: usize) -> Result<Vec<u8>, ReadFault>
     requires { len ≤ longest }
     ensures { IfOk result (λ bytes. IfSome (F.remaining file) (λ all. bytes.items ≡ take (suc longest) all)) }

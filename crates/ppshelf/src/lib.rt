@@ -1,4 +1,4 @@
-//! The source files of a list, each read once and shared by every unit and thread without a lock, and the search for included files.
+//! The source files of a list, each with one content for every unit and thread, without a lock, and the search for included files.
 #![tactic(auto)]
 
 mod disk;

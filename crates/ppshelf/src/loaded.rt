@@ -20,7 +20,7 @@ pub(crate) struct Parsed {
     lines: Result<Source, Fault>,
 }
 
-/// What is known of one row: the bytes of its file with what phases 1 to 3 make of them, or that it cannot be read.
+/// What is known of one row: the bytes of its file with what phases 1 to 3 make of them, or that it cannot be read or has more than `LONGEST` bytes.
 pub struct Loaded<D: Disk> {
     row: usize,
     name: String,
@@ -150,7 +150,7 @@ impl<D: Disk> Loaded<D> {
         })
     }
 
-    /// The file's bytes, or `None` where it cannot be read.
+    /// The file's bytes, or `None` where it cannot be read or is too long.
     pub fn bytes(&self) -> Option<&[u8]>
         ensures { self.now.content ≡ content_of (option_copied result) }
     {
@@ -160,7 +160,7 @@ impl<D: Disk> Loaded<D> {
         }
     }
 
-    /// The file's lines or its first fault, or `None` where it cannot be read.
+    /// The file's lines or its first fault, or `None` where it cannot be read or is too long.
     pub fn lines(&self) -> Option<Result<&Source, &Fault>>
         ensures { MatchOption result (self.now.content ≡ unreadable) (λ r. MatchResult r
             (λ s. IsRead self.now.profile self.now.row self.now.content (Ok s.now))

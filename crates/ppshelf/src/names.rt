@@ -45,7 +45,8 @@ fn is_segment(segment: &[u8]) -> bool
     !segment.is_empty() && segment != b".".as_slice() && segment != b"..".as_slice()
 }
 
-/// Whether each segment of the text has a first byte that is no `.`. Joined by `/`, such texts are in normal form.
+/// Whether each segment of the text has a first byte that is no `.`. Texts of such segments spell the way that they lead: none drops out, and none
+/// leads up.
 pub(crate) fn is_plain(text: &[u8]) -> bool
     ensures { result ≡ list_all spec.is_plain_segment (spec.segments text.now) }
 {

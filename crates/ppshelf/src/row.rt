@@ -13,7 +13,7 @@ use std::alloc::Global;
 use std::marker::Model;
 use std::mem;
 
-/// One row: its name, what `fill` read, and the cell in which looks keep a content.
+/// One row: its name, what a fill put there, and the cell in which looks keep a content.
 pub(crate) struct Row<D: Disk> {
     name: String,
     base: Option<Loaded<D>>,

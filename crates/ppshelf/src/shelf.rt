@@ -20,7 +20,8 @@ use std::marker::Model;
 /// The most rows of a shelf.
 pub const MOST_ROWS: usize = 65_535;
 
-/// Files by row. Each row is read once, by `fill` or by the first look, and all are read by one profile.
+/// Files by row, from 0, all read by one profile. A row has one content for all callers: what a fill put there, or else what the first
+/// look kept. Looks at the same time may each read the disk; one of these readings is kept.
 ///
 /// Contracts see the names of its rows, the files that `fill` put there, its profile, and which shelf it is: no two shelves
 /// with a row are equal.
@@ -56,7 +57,7 @@ impl<D: Disk> Drop for Shelf<D> {
 /// Why no shelf was made.
 #[derive(Clone, Copy, PartialEq, Eq, Debug, Drop)]
 pub enum ShelfFault {
-    /// The first name that is out of form or stands before.
+    /// The row, from 0, of the first name that isn't in normal form or that an earlier row has.
     Name(usize),
     /// Memory ran out.
     Memory,
@@ -94,7 +95,7 @@ pub enum LookFault {
 
 impl<D: Disk> Shelf<D> {
     /// Rows with these names, at most `MOST_ROWS`, in order, to be read by this profile. None is filled. Names are hashed
-    /// without a key: see `with_hasher`.
+    /// by a key that everybody knows: see `with_hasher`.
     ///
     /// Fails at the first name that is not in normal form or that stands before.
     pub fn new(alloc: Global, names: Vec<String>, profile: Profile) -> Result<Shelf<D>, ShelfFault>
@@ -108,8 +109,8 @@ impl<D: Disk> Shelf<D> {
         Shelf::with_hasher(alloc, names, profile, Hashing::fixed())
     }
 
-    /// The same, with names that are hashed so: those of its rows, and those of the macros of a unit over its files. By a key,
-    /// names that strangers choose cost no more than others.
+    /// The same, with names that are hashed so: those of its rows, and those of the macros of a unit over its files. By a key
+    /// that nobody knows beforehand, names that strangers choose cost no more than others.
     pub fn with_hasher(
         alloc: Global,
         names: Vec<String>,
@@ -194,8 +195,8 @@ impl<D: Disk> Shelf<D> {
         Ok(())
     }
 
-    /// Moves a content to each row that no earlier fill read, and reads its lines; the others' are let go. Where memory runs
-    /// out, the rows that were read stay.
+    /// Moves contents, one for each row, each of at most `LONGEST` bytes and one that a disk of this type may answer, to the rows that no
+    /// earlier fill read, and reads their lines; those for other rows are dropped. Where memory runs out, the rows that were read stay.
     pub fn fill_with(&mut self, contents: Vec<Vec<u8>>) -> Result<(), Memory>
         requires count { length contents.items ≡ length self.old.names }
         requires lawful { (row : ℕ) → row < length self.old.names

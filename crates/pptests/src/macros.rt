@@ -86,7 +86,7 @@ fn is_hidden_by(rt: &impl Abort, sets: &HideSets, hidden: &Hidden, name: &[u8]) 
     }
 }
 
-/// Puts a token's spelling behind a text, and a space before it where it has a mark.
+/// Puts a token's spelling behind a text, and a space before it where it has a space mark.
 fn push_spelled(text: &mut Vec<u8>, token: &Token) -> Result<(), AllocError> {
     if token.space {
         text.push(b' ')?;

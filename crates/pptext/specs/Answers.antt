@@ -11,6 +11,7 @@ abbrev pub Fails : SourceFault → (Result (List LogicalLine) Fault → Type 0) 
 Fails (Bad f) Reads = Reads (Err f)
 Fails Memory Reads = Unit {0}
 
+-- where memory sufficed, this is so of the lines or the fault
 abbrev pub Answers : Result Source SourceFault → (Result (List LogicalLine) Fault → Type 0) → Type 0
 Answers (Ok s) Reads = Reads (Ok s)
 Answers (Err e) Reads = Fails e Reads

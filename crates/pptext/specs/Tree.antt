@@ -106,7 +106,7 @@ pub record Tree (lines : List LogicalLine) (parts : Parts) : Type 0 where
   pub whole : part_lines parts ≡ lines
   pub each : AreParts parts
 
--- the open if-sections, the innermost first: the line that opened it, and whether its `#else` has come
+-- an open if-section: the line that opened it, and whether its `#else` has come
 abbrev pub Open : Type 0
 Open = LogicalLine × Bool
 

@@ -50,7 +50,7 @@ fn count_breaks(raw: &[u8], supplied: bool) -> Result<usize, usize>
     Ok(count)
 }
 
-/// What phases 1 and 2 make of a file with so many breaks, in just the room that it needs.
+/// What phases 1 and 2 make of a file with so many breaks. The room for all of it is asked for at once.
 fn copy_cleaned(
     alloc: Global,
     raw: &[u8],

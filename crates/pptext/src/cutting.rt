@@ -223,7 +223,7 @@ fn push_token(
     }
 }
 
-/// Puts the token that the first n bytes of the text spell behind the others, as seldom: a long one, or one near the end.
+/// The same for the few tokens that are long or stand near the end of the text.
 #[inline(never)]
 fn push_long_token(
     alloc: Global,
@@ -274,9 +274,7 @@ pub(crate) fn cut_lines(
     requires no_lines { lines.old.items ≡ [] }
     ensures { IfOk result (CutsInto profile text.now tokens.new.items lines.new.items) }
 {
-    let mut at = 0;
-    let mut start = 0;
-    let mut space = true;
+    let (mut at, mut start, mut space) = (0, 0, true);
     // Behind the last new-line and comment: from there on no line ends before this piece.
     let mut line = 0;
     let codes = text.codes();
@@ -302,9 +300,7 @@ pub(crate) fn cut_lines(
                 space = true;
                 line = at;
             }
-            Front::Unclosed => {
-                return Ok(Err(places.place(at, line)));
-            }
+            Front::Unclosed => return Ok(Err(places.place(at, line))),
             Front::Token(kind, n) => {
                 let place = places.place(at, line);
                 push_token(alloc, &codes[at..], tokens, n, kind, space, place)?;

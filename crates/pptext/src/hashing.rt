@@ -84,7 +84,7 @@ fn word(bytes: &[u8], at: usize) -> u64
     half_word(bytes, at) | half_word(bytes, at + 4) << 32
 }
 
-// Less than eight bytes as one word, by reads that may overlap.
+// Fewer than eight bytes as one word, by reads that may overlap.
 fn short_word(bytes: &[u8]) -> u64
     ensures { result ≡ read_short bytes.now }
 {

@@ -56,7 +56,8 @@ pub enum Directive {
     Unknown,
 }
 
-/// A logical line of a file, which a new-line outside a comment ends (5.1.1.2).
+/// A line of a file behind translation phase 3: a new-line outside a comment ends it (5.1.1.2), so that a comment may join several logical
+/// source lines.
 #[derive(Clone, Copy, PartialEq, Eq, Debug)]
 pub struct Line {
     /// The index of its first token among the file's tokens, from 0; where it has none, that of the next one.
@@ -104,10 +105,10 @@ pub enum SourceFault {
     /// The file's first fault: its number, place and text.
     ///
     /// - 2: the last line ends in a backslash (5.1.1.2). The text is empty.
-    /// - 1: a comment is not closed (6.4.9). The text is empty.
-    /// - 3: a branch, as `#elif` and `#else` are, or `#endif` outside an if-section (6.10.1).
-    /// - 4: a branch behind the `#else` of its if-section (6.10.1).
-    /// - 5: an if-section has no `#endif` (6.10.1), told of the innermost one that is open.
+    /// - 1: a comment is not closed (5.1.1.2, 6.4.9). The text is empty.
+    /// - 3: a branch, as `#elif` and `#else` are, or `#endif` outside an if-section (6.10p1).
+    /// - 4: a branch behind the `#else` of its if-section (6.10p1).
+    /// - 5: an if-section has no `#endif` (6.10p1), told of the innermost one that is open.
     ///
     /// At 3, 4 and 5 the place is that of the line's `#`, and the text is the directive's name; at 5 those of the opening line.
     Bad(Fault),

@@ -46,7 +46,7 @@ pub enum Kind {
     Other,
 }
 
-/// The bytes of a spelling: so many of the first here, or all of them on the heap.
+/// The bytes of a spelling: the first so many of the room in the value, or all of them on the heap.
 #[derive(Drop, Debug)]
 enum Bytes {
     Short(u8, [u8; SHORT]),
@@ -222,10 +222,14 @@ pub(crate) fn is_spelled(bytes: &[u8], text: &[u8]) -> bool
 /// A preprocessing token.
 #[derive(Clone, PartialEq, Eq, Drop, Debug)]
 pub struct Token {
+    /// Its spelling.
     pub text: Spelling,
+    /// Where it is spelled.
     pub at: Place,
+    /// Where it is used: of a token that came of a replacement, the place of the macro's name.
     pub used: Place,
     pub kind: Kind,
+    /// Its space mark: whether white space or a line's beginning stands before it.
     pub space: bool,
 }
 
@@ -264,7 +268,9 @@ impl Token {
 #[derive(Clone, PartialEq, Eq, Drop, Debug)]
 pub struct Fault {
     pub number: u8,
+    /// Where it is told.
     pub at: Place,
+    /// A name or a spelling that it is about, or a message; may be empty.
     pub text: Spelling,
 }
 

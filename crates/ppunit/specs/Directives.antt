@@ -36,7 +36,7 @@ with_macros s (Err f) = stopped s f
 
 -- ---- `#error` (6.10.5)
 
--- the tokens, with one space where a token but the first has a mark
+-- the tokens, with one space where a token but the first has a space mark
 abbrev pub message : List Token → List ℕ
 message [] = []
 message (t ∷ ts) = t.text ++ flat_map spaced ts
@@ -55,7 +55,7 @@ pub record LineGives (s : State) (line : LogicalLine) (reached : Reached) : Type
 
 -- ---- `#include` (6.10.2)
 
--- a header name stands alone, or the operands are replaced
+-- where no header name stands behind `include`: what its operands ask for once they are replaced, and what that leaves of the budget
 pub record AsksReplaced (s : State) (line : List Token) (after : Option ℕ) (asked : Result Asked Fault) : Type 0 where
   pub expanded : Expanded
   pub expands : IsExpansion s.macros s.env s.left (operands line) expanded

@@ -52,7 +52,7 @@ abbrev pub angle_rest : List Token → Option (List ℕ)
 angle_rest [] = None
 angle_rest (t ∷ ts) = if is_punct (codes ">") t then ended (space_before t) ts else prefixed (spaced t) (angle_rest ts)
 
--- the name up to `>`, with one space where a token but the first has a mark
+-- the name up to `>`, with one space where a token but the first has a space mark
 abbrev pub angle_name : List Token → Option (List ℕ)
 angle_name [] = None
 angle_name (t ∷ ts) = if is_punct (codes ">") t then ended [] ts else prefixed t.text (angle_rest ts)

@@ -23,7 +23,7 @@ line_fault number line text = fault number (sign_place line) text
 abbrev pub named_fault : ℕ → List Token → Fault
 named_fault number line = line_fault number line (name_of line)
 
--- one space where a token has a mark
+-- one space where a token has a space mark
 abbrev pub space_before : Token → List ℕ
 space_before t = if t.space then 32 ∷ [] else []
 

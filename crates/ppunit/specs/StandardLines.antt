@@ -40,7 +40,7 @@ StandardDecides s line taken = StandardDecidesUnless (lone_quote line.tokens) li
 
 -- ---- text runs (6.10.3)
 
--- what the run expands to passes on, up to its first fault
+-- a text run passes on what it expands to, up to its first fault
 pub record StandardRunGives (s : State) (tokens : List Token) (r : Reached) : Type 0 where
   pub expanded : List Token
   pub fault : Option Fault
@@ -62,7 +62,7 @@ StandardControlBy profile row d s line reached = ControlBy profile row d s line 
 
 -- ---- `#include` (6.10.2)
 
--- a header name stands alone, or the operands are replaced
+-- where no header name stands behind `include`: what its operands ask for once they are replaced
 pub record StandardAsksReplaced (s : State) (line : List Token) (asked : Result Asked Fault) : Type 0 where
   pub expanded : List Token
   pub fault : Option Fault

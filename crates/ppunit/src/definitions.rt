@@ -42,7 +42,7 @@ impl fmt::Debug for Definitions {
 
 impl Definitions {
     /// These definitions, each the text behind `#define `, with the file that holds a line for each read once, by this
-    /// profile.
+    /// profile. It has at most `LONGEST` bytes: see `fits_command`.
     pub fn read(alloc: Global, texts: Texts, profile: Profile) -> Result<Definitions, Memory>
         requires { length (command_text texts) ≤ longest }
         ensures { IfOk result (λ d. d ≡ record { texts = texts; profile = profile }) }

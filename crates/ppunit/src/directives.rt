@@ -37,7 +37,7 @@ pub(crate) fn run_text<'x>(
     }
 }
 
-// The message of `#error` (6.10.5): the tokens, with one space where a token but the first has a mark.
+// The message of `#error` (6.10.5): the tokens, with one space where a token but the first has a space mark.
 #[tactic(auto, using(crate::proofs::Messages::told_message))]
 fn message(alloc: Global, tokens: &[Token]) -> Result<Vec<u8>, AllocError>
     ensures { IfOk result (λ m. m.items ≡ spec.message tokens.now) }

@@ -81,7 +81,8 @@ pub fn is_time(text: &[u8]) -> bool
         && is_pair(60, text[6], text[7])
 }
 
-/// Whether the text holds no carriage return and no line feed, so that a definition of it is one line.
+/// Whether the text holds no carriage return and no line feed, so that its definition is one physical line; a `\` at its end joins that to the next
+/// one (5.1.1.2p1, phase 2).
 pub fn is_one_line(text: &[u8]) -> bool
     ensures { result ≡ spec.is_one_line text.now }
 {

@@ -18,8 +18,9 @@ pub(crate) fn is_left_out(state: &State, source: &Source) -> bool
     }
 }
 
-/// A law: a file that is one section under a guard (6.10.1) changes nothing but the dependencies where the guard is a
-/// macro's name; opening it has this outcome and no other.
+/// A law: opening a file that is one section under a guard (6.10.1), where the guard is a macro's name, the file isn't too deep and
+/// something is left of the budget, changes nothing but the dependencies and, by one, what is left. Where no name of a file stands
+/// twice, it has no other outcome.
 pub fn guard_changes_nothing()
     ensures leaves_out { GuardsLeaveOut }
     ensures only { GuardsOnlyLeaveOut }

@@ -7,7 +7,7 @@ use ppexpr::one_condition;
 use ppshelf::one_row;
 use pptext::{one_reading, one_tree};
 
-/// A law: over the same files, a unit gives one thing, and makes so many replacements and openings and no other number.
+/// A law: over the same files, each name once, a unit gives one thing, and makes so many replacements and openings and no other number.
 pub fn one_value()
     ensures { HasOneValue }
 {
@@ -28,8 +28,8 @@ pub fn stays_within()
     ensures { StaysWithin }
 {}
 
-/// A law: with a budget a unit gives a beginning of what it gives without one, and the whole exactly where the budget suffices;
-/// otherwise it ends in fault 35.
+/// A law: where each name stands once, with a budget a unit gives a beginning of what it gives without one, and the whole exactly where
+/// the budget suffices; otherwise it ends in fault 35.
 pub fn budget_caps_units()
     ensures { BudgetCaps }
 {
@@ -43,8 +43,8 @@ pub fn only_budgets_refuse()
     ensures { OnlyBudgetsRefuse }
 {}
 
-/// A law: with a larger budget a unit gives no less: what it gives with the smaller one is a beginning, and all of it unless it ends in
-/// fault 35.
+/// A law: over the same files, each name once, a unit gives no less with a larger budget, or with none: what it gives with the smaller one is a
+/// beginning, and all of it unless it ends in fault 35.
 pub fn larger_budgets_give_no_less()
     ensures { LargerBudgetsGiveNoLess }
 {

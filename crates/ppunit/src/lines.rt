@@ -45,7 +45,7 @@ pub(crate) fn operands(line: &[Token]) -> &[Token]
     }
 }
 
-/// Puts a space, where a token that is not the first has a mark.
+/// Puts a space where a token that isn't the first has a space mark.
 pub(crate) fn push_space(text: &mut Vec<u8>, token: &Token, first: bool) -> Result<(), AllocError>
     ensures { OnOk result (text.new.items ≡ text.old.items ++ spelled_space first token.now) }
 {

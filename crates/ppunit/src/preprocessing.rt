@@ -177,7 +177,7 @@ fn give<'x, 'a: 'x, D: Disk>(
 ///
 /// The unit's value is that over the files that the pass knows afterwards. With a budget the unit makes no more replacements and
 /// openings than that, and its value is a beginning of the one without: the whole of it exactly where the budget suffices, and
-/// otherwise with fault 35. Fails only for want of memory, and then the pass knows what it knew.
+/// otherwise with fault 35. Fails only for want of memory, and then the pass knows at least what it knew.
 pub fn preprocess<'x, 'a: 'x, D: Disk>(
     alloc: Global,
     shelf: &'a Shelf<D>,

@@ -3,7 +3,8 @@ use crate::definitions::Definitions;
 use crate::lists::{Items, Rows, Text, Texts};
 use pptext::{Fault, Place, Profile, Token, Tokens};
 
-/// What preprocessing passes on to translation phase 5 (5.1.1.2): a token, or a pragma with its tokens.
+/// What preprocessing passes on to translation phase 5 (5.1.1.2): a token, or a pragma, with the place of its `#` and the tokens behind `pragma`
+/// (6.10.6).
 #[derive(Drop, Debug)]
 pub enum Item {
     Token(Token),

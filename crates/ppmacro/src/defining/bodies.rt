@@ -1,4 +1,4 @@
-// What a replacement list is refused for (6.10.3p5, 6.10.3.2p1, 6.10.3.3p1).
+// What a replacement list is refused for (6.10.3p5, 6.10.3.2p1, 6.10.3.3p1, p3).
 ghost use Rattle.std.specs.Prelude.{◌≡◌, IfOk, codes, true};
 ghost use Rattle.std.specs.List.{list_any};
 ghost use Rattle.pptext.specs.Tokens.{is_name};

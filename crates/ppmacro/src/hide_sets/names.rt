@@ -82,8 +82,8 @@ impl Hash for HiddenName<'_> {
     }
 }
 
-/// Names by their numbers, which count from 0, each once. At each of a few marks stands the number that was asked for last by a name
-/// with it, since the same names are asked for again and again, and a hash of a name costs more than to compare it.
+/// Names by their numbers, which count from 0, each once. At each of a few marks stands the number that `number_for` gave last to
+/// a name with it, since the same names are asked for again and again, and a hash of a name costs more than to compare it.
 #[derive(Drop)]
 pub(crate) struct NameNumbers {
     names: IndexSet<HiddenName<'static>, Hashing>,

@@ -19,7 +19,8 @@ const WORD: usize = 64;
 /// How many nodes may be numbered; more are refused as want of memory is.
 const MOST: usize = 0xFFFF_FFFF;
 
-/// A set of numbers: its word 0, and by their nodes the words w that are its words 2w + 1, and those that are its words 2w + 2.
+/// A set of numbers. Its word 0 is `here`; its word 2w + 1 is the word w of the set with the number `left`, its word 2w + 2 the word w of the
+/// set with the number `right`.
 #[derive(Clone, Copy, Debug, PartialEq, Eq, Hash)]
 pub(crate) struct Node {
     here: u64,

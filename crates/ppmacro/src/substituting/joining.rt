@@ -34,7 +34,7 @@ fn push_joined<'a>(
     push_all(tokens, more)
 }
 
-// Whether these bytes carry on the last token, whose kind is that of its spelling for sure.
+// Whether these bytes carry on the last token, where its kind is that of its spelling (`whole`).
 fn is_carried_on(last: &Hidden, whole: bool, more: &[u8]) -> bool
     ensures whole { IsTrue result → IsTrue whole }
     ensures more { IsTrue result → CarriesOn last.now.token.kind last.now.token.text more.now }

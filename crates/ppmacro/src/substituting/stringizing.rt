@@ -45,7 +45,7 @@ fn push_spelled(text: &mut Vec<u8>, token: &Hidden) -> Result<(), AllocError>
     text.extend_from_slice(token.text())
 }
 
-// Puts a token's spelling behind a text, with a space before it where it has a mark and is not the first.
+// Puts a token's spelling behind a text, with a space before it where it has a space mark and isn't the first.
 fn push_marked(text: &mut Vec<u8>, first: bool, token: &Hidden) -> Result<(), AllocError>
     ensures { OnOk result (text.new.items ≡ text.old.items ++ (spelled_space first token.now.token ++ spelled_in_string token.now.token)) }
 {

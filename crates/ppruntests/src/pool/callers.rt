@@ -4,8 +4,8 @@ ghost use Rattle.pptext.specs.declared.sources.Profile.TheVariants.{C11};
 ghost use Rattle.ppunit.specs.Unit.{IsUnitOf};
 
 use super::lists::{push_unit, setting_of, shelf_of, units_of};
-use super::runs::{OVER_ONE_HEADER, changing, is_of_one_header};
-use super::stage::{Meeting, Stage};
+use super::runs::OVER_ONE_HEADER;
+use super::stage::{Change, Stage};
 use ppshelf::{Pass, Shelf};
 use pptext::Memory;
 use ppunit::{Setting, Unit, preprocess};
@@ -133,7 +133,12 @@ fn by_four<'a, R: Threads + Sync>(
     Ok(together(shelf, one?, two?))
 }
 
-// That four threads find the same of two units, which both give what the third file reads.
+// Whether two units give one content of the header, whichever, and each one of its own.
+fn is_of_three_files(text: &[u8]) -> bool {
+    text.len() == 32 && text[0] == text[16] && text[2] != text[18]
+}
+
+// That four threads find the same of two units, over a disk that answers each read with another text.
 fn assert_found<R: Threads + Sync + Abort>(
     rt: &R,
     alloc: Global,
@@ -144,9 +149,10 @@ fn assert_found<R: Threads + Sync + Abort>(
     requires profile { shelf.now.profile ≡ setting.now.profile }
     requires rows { All (IsUnitOf (length shelf.now.names) setting.now.profile) units.now }
 {
-    let disk = changing(Meeting::Nowhere);
+    let mut disk = Stage::new(OVER_ONE_HEADER.scene);
+    disk.change = Change::EachRead;
     let (_pass, text, same) = by_four(rt, alloc, shelf, &disk, setting, units)?;
-    assert!(rt; same && is_of_one_header(text.as_slice()));
+    assert!(rt; same && is_of_three_files(text.as_slice()));
     Ok(())
 }
 

@@ -5,7 +5,7 @@ ghost use Rattle.ppshelf.specs.Files.{most_rows};
 ghost use Rattle.ppunit.specs.Unit.{IsUnitOf};
 
 use super::lists::{setting_of, shelf_of, told, units_of};
-use super::stage::{Meeting, Scene, Stage};
+use super::stage::{Change, Meeting, Scene, Stage};
 use pppool::{Keep, run, run_keeping};
 use ppshelf::{Pass, ReadFault, Shelf};
 use pptext::Memory;
@@ -257,24 +257,13 @@ pub(crate) const OVER_ONE_HEADER: Case = Case {
     told: "1 | 0 2 | ok; 1 | 1 2 | ok; ",
 };
 
-/// A disk for them that reads the third file in another way each time.
-pub(crate) fn changing(meeting: Meeting) -> Stage {
-    let mut disk = Stage::new(OVER_ONE_HEADER.scene);
-    disk.is_changing = true;
-    disk.meeting = meeting;
-    disk
-}
-
-/// Whether both units give one content of the header, whichever.
-pub(crate) fn is_of_one_header(text: &[u8]) -> bool {
-    text.len() == 28 && text[0] == text[14]
-}
-
 #[test]
 fn workers_find_one_content(rt: HostRuntime) -> Result<(), Fail> {
-    let disk = changing(Meeting::AtUnits(1));
+    let mut disk = Stage::new(OVER_ONE_HEADER.scene);
+    (disk.change, disk.meeting) = (Change::Header, Meeting::AtUnits(1));
     let text = given(&rt, rt.alloc(), &OVER_ONE_HEADER, &disk, TWO)?;
-    assert!(rt; is_of_one_header(text.as_slice()));
+    // Both units give one content of the header, whichever.
+    assert!(rt; text.len() == 28 && text[0] == text[14]);
     Ok(())
 }
 

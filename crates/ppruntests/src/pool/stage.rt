@@ -18,12 +18,22 @@ pub(crate) enum Meeting {
     AtReads,
 }
 
+/// What a disk answers in another way from read to read.
+#[derive(Clone, Copy)]
+pub(crate) enum Change {
+    Nothing,
+    /// `h.h` is `1` at its first read, `2` at the next, and so on.
+    Header,
+    /// Each file ends with a line more: `a` at the first read of any, `b` at the next, and so on.
+    EachRead,
+}
+
 /// The files of a stage.
 #[derive(Clone, Copy)]
 pub(crate) enum Scene {
     /// Six files of one number, and no seventh.
     Seven,
-    /// Two files that include a third one, which changes.
+    /// Two files that include a third one, which is empty but for what changes.
     OneHeader,
     /// A file that includes a guarded header twice.
     Guarded,
@@ -56,7 +66,11 @@ const SEVEN: &[(&str, &str)] = &[
     ("u5.c", "5\n"),
 ];
 
-const ONE_HEADER: &[(&str, &str)] = &[("a.c", "#include \"h.h\"\n"), ("b.c", "#include \"h.h\"\n")];
+const ONE_HEADER: &[(&str, &str)] = &[
+    ("a.c", "#include \"h.h\"\n"),
+    ("b.c", "#include \"h.h\"\n"),
+    ("h.h", ""),
+];
 
 const GUARDED: &[(&str, &str)] = &[
     ("a.c", "#include \"h.h\"\n#include \"h.h\"\n"),
@@ -83,8 +97,7 @@ pub(crate) struct Stage {
     pub failing: u64,
     pub fault: ReadFault,
     pub reads: AtomicU64,
-    /// Whether `h.h` is `1` at its first read, `2` at the next, and so on.
-    pub is_changing: bool,
+    pub change: Change,
     pub headers: AtomicU64,
     pub meeting: Meeting,
     pub came: AtomicU64,
@@ -99,7 +112,7 @@ impl Stage {
             failing: 0,
             fault: ReadFault::Unreadable,
             reads: AtomicU64::new(0),
-            is_changing: false,
+            change: Change::Nothing,
             headers: AtomicU64::new(0),
             meeting: Meeting::Nowhere,
             came: AtomicU64::new(0),
@@ -147,16 +160,21 @@ impl Disk for Stage {
     ghost gives_may = { λ disk name c h. tt };
 
     fn read(&self, alloc: Global, name: &str) -> Result<Vec<u8>, ReadFault> {
-        if self.reads.fetch_add(1, SeqCst).saturating_add(1) == self.failing {
+        let before = self.reads.fetch_add(1, SeqCst);
+        if before.saturating_add(1) == self.failing {
             return Err(self.fault);
         }
         if matches!(self.meeting, Meeting::AtReads) && (name == "u0.c" || name == "u1.c") {
             self.wait();
         }
-        if self.is_changing && name == "h.h" {
-            return numbered(alloc, self.headers.fetch_add(1, SeqCst).saturating_add(1));
+        match self.change {
+            Change::Header if name == "h.h" => numbered(
+                alloc,
+                self.headers.fetch_add(1, SeqCst).saturating_add(1),
+            ),
+            Change::EachRead => lettered(self.text_of(alloc, name)?, before),
+            Change::Nothing | Change::Header => self.text_of(alloc, name),
         }
-        self.text_of(alloc, name)
     }
 }
 
@@ -166,6 +184,15 @@ fn numbered(alloc: Global, number: u64) -> Result<Vec<u8>, ReadFault> {
         return Err(ReadFault::Memory);
     };
     Ok(text.into_bytes())
+}
+
+// A text with a letter on a line more, by how many reads came before.
+fn lettered(mut text: Vec<u8>, before: u64) -> Result<Vec<u8>, ReadFault> {
+    let letter = b'a'.saturating_add((before % 26) as u8);
+    let Ok(()) = text.extend_from_slice(&[letter, b'\n']) else {
+        return Err(ReadFault::Memory);
+    };
+    Ok(text)
 }
 
 fn copied(alloc: Global, text: &str) -> Result<Vec<u8>, ReadFault> {

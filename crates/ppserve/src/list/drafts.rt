@@ -268,9 +268,7 @@ fn plain_content(alloc: Global, value: &Value) -> Result<Sequence<u8>, ListFault
     ensures ok { IfOk result (λ c. as_str (view value.now) ≡ Some c) }
     ensures err { IfErr result (RefusedFor 2 (as_str (view value.now) ≡ None)) }
 {
-    let Some(text) = value.as_str() else {
-        return Err(ListFault::Bad(2));
-    };
+    let text = text_of(value)?;
     Ok(Sequence::new(Vec::from_slice(alloc, text.as_bytes())?))
 }
 
@@ -278,9 +276,7 @@ fn hex_content(alloc: Global, value: &Value) -> Result<Sequence<u8>, ListFault>
     ensures ok { IfOk result (λ c. option_and_then shape.hex_bytes (as_str (view value.now)) ≡ Some c) }
     ensures err { IfErr result (RefusedFor 2 (option_and_then shape.hex_bytes (as_str (view value.now)) ≡ None)) }
 {
-    let Some(text) = value.as_str() else {
-        return Err(ListFault::Bad(2));
-    };
+    let text = text_of(value)?;
     Ok(Sequence::new(hex_bytes(alloc, text.as_bytes())?))
 }
 
@@ -362,9 +358,7 @@ fn texts_from(alloc: Global, items: &[Value]) -> Result<Vec<String>, ListFault>
 {
     let mut texts = Vec::new(alloc);
     for item in items {
-        let Some(text) = item.as_str() else {
-            return Err(ListFault::Bad(2));
-        };
+        let text = text_of(item)?;
         texts.push(String::from_str(alloc, text)?)?;
     }
     Ok(texts)

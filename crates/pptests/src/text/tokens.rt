@@ -1,5 +1,5 @@
 // Tokens, spellings and faults: what they are made of and give back.
-use pptext::{Fault, Kind, Place, Spelling, Token, Tokens};
+use pptext::{Fault, Kind, Place, Spelling, Stop, Token, Tokens, settled};
 use std::alloc::{AllocError, Global};
 use std::process::Abort;
 use std::test::Fail;
@@ -97,6 +97,22 @@ fn makes_faults(rt: HostRuntime) -> Result<(), Fail> {
     assert!(rt; is_fault(&Fault::bare(8, AT), b""));
     assert!(rt; is_fault(&Fault::new(rt.alloc(), 8, AT, b"ab")?, b"ab"));
     assert!(rt; is_fault(&fault_of_token(rt.alloc())?, b"ab"));
+    Ok(())
+}
+
+/// Whether a value, a fault and want of memory are told as public calls tell them, the fault as part of the answer.
+fn are_settled() -> bool {
+    let value = matches!(settled(Ok(7)), Ok(Ok(7)));
+    let fault = match settled::<u8>(Err(Stop::Fault(Fault::bare(8, AT)))) {
+        Ok(Err(fault)) => is_fault(&fault, b""),
+        Ok(Ok(_)) | Err(_) => false,
+    };
+    value && fault && settled::<u8>(Err(Stop::Memory)).is_err()
+}
+
+#[test]
+fn settles_outcomes(rt: HostRuntime) -> Result<(), Fail> {
+    assert!(rt; are_settled());
     Ok(())
 }
 

@@ -65,7 +65,7 @@ fn has_newline(bytes: &[u8]) -> bool
     false
 }
 
-/// The same where a line ends among the bytes, as seldom: then a comment of many lines may be among them.
+/// The same where a line ends among the bytes, which is seldom: a comment of many lines may be among them.
 #[inline(never)]
 fn move_behind_lines(place: &mut Place, bytes: &[u8])
     requires line { place.old.line + length bytes.now < 2 ^ 32 }

@@ -31,7 +31,7 @@ impl Model for Section {
     ghost inverse = { λ s. record { opening = s.0; last = s.1 } };
 }
 
-/// Takes the line of this directive at this index in, or answers its fault: 3 outside a section, 4 behind `#else` (6.10.1). The innermost section stands last.
+/// Takes the line of this directive at this index in, or answers its fault: 3 outside a section, 4 behind `#else` (6.10p1). The innermost section stands last.
 fn take_line(
     open_sections: &mut Vec<Section>,
     at: usize,

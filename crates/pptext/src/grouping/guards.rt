@@ -4,24 +4,13 @@ ghost use Rattle.std.specs.Str.{bytes_eq};
 ghost use Rattle.pptext.specs.declared.sources.Line.{Line};
 ghost use Rattle.pptext.specs.declared.tokens.Token.{Token};
 ghost use Rattle.pptext.specs.Sources.{lines_from};
-ghost use Rattle.pptext.specs.Tokens.{is_identifier_kind};
 ghost use Rattle.pptext.specs.Guard.{are_parentheses, guard_name, ident_if, is_not_defined};
 ghost use Rattle.pptext.specs.Tree.{Opens, Closes};
 ghost use Rattle.pptext.specs.Grouping.{AreLines, line_role, ClosedAtOnce, FlatGuard};
 
 use crate::directives::{Role, role_of};
 use crate::sources::Line;
-use crate::tokens::{Kind, Token};
-
-/// Whether an identifier.
-fn is_ident(kind: Kind) -> bool
-    ensures { result ≡ is_identifier_kind kind }
-{
-    match kind {
-        Kind::Ident => true,
-        _ => false,
-    }
-}
+use crate::tokens::Token;
 
 /// Whether the token is spelled so.
 fn is_named(token: &Token, text: &[u8]) -> bool
@@ -49,7 +38,7 @@ fn ident_if(test: bool, token: &Token, index: usize) -> Option<usize>
     ensures none { IfNone result (ident_if test token.now ≡ None) }
     ensures some { IfSome result (λ i. (i ≡ index) × (ident_if test token.now ≡ Some token.now.text)) }
 {
-    if test && is_ident(token.kind) {
+    if test && token.is_identifier() {
         return Some(index);
     }
     None

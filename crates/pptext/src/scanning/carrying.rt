@@ -64,9 +64,9 @@ fn ends_in_exponent(text: &[u8]) -> bool
     is_exponent(text[text.len() - 1]) && !ends_in_universal(text)
 }
 
-/// Whether these bytes carry on a text of this kind: more letters, digits and universal character names an identifier (6.4.2); these
-/// and periods and signed exponents a number (6.4.8), also a sign behind its last letter. Then both together are one token of that
-/// kind. It looks at the last bytes of the text alone, however long it is.
+/// Whether these bytes carry on a text of this kind: more nondigits and digits an identifier (6.4.2); these, periods and signed exponents a
+/// number (6.4.8), a sign also where the text ends with an exponent's letter. If the text is one token of that kind, so are both together.
+/// It looks at the last bytes of the text alone, however long it is.
 pub fn carries_on(kind: Kind, text: &[u8], more: &[u8]) -> bool
     ensures { IsTrue result ↔ CarriesOn kind text.now more.now }
 {

@@ -1,5 +1,5 @@
 use Rattle.std.specs.Hash.FoldHasher.{read_u32}
-use Rattle.ppmacro.proofs.marks.word.Goals as goal
+use Rattle.ppmacro.proofs.marks.half_word.Goals as goal
 
 pub returns-clause-value : goal.returns-clause-value
 unfolding read_u32
