@@ -475,7 +475,8 @@ def options():
     asked.add_argument("--system", metavar="DIR", action="append", default=[],
                        help="a folder that each unit searches behind its own, before -idirafter (may be repeated)")
     asked.add_argument("--define", metavar="TEXT", action="append", default=[],
-                       help="a definition for each unit, as it stands behind #define (may be repeated)")
+                       help="a definition, as it stands behind #define, for each unit whose command neither defines nor"
+                            " undefines the name (may be repeated)")
     asked.add_argument("--date", metavar="TEXT", help="as 'Feb  9 2024' (default: SOURCE_DATE_EPOCH, or today)")
     asked.add_argument("--time", metavar="TEXT", help="as 08:05:03 (default: SOURCE_DATE_EPOCH, or now)")
     asked.add_argument("--budget", metavar="N", type=budget,
