@@ -8,7 +8,7 @@ use Rattle.ppmacro.specs.declared.flying.Hidden.{Hidden}
 use Rattle.ppexpand.specs.declared.env.Env.{Env}
 use Rattle.ppexpand.specs.Turn.{Call, Turn, Failed, Replaced, Called, less_one, wanted}
 use Rattle.ppexpand.specs.Expansion.{Outcome, ExpandedArguments, with_expanded, turn_within, Expands, ExpandsTo, ExpandsArguments, argument_refused, call_failed, call_replaced, none, unused, too_deep, used, used_refused}
-use Rattle.ppexpand.specs.Shown.{finished_in, Advances, EndsWith, HasAdvanced, HasEnded, HasTaken, Invokes, refuses, finishes, ExpandsArgument, expands, raises, deep}
+use Rattle.ppexpand.specs.Shown.{finished_in, Advances, EndsWith, HasAdvanced, HasEnded, HasTaken, ComesTo, refuses, finishes, ExpandsArgument, expands, raises, deep}
 use Rattle.ppexpand.proofs.Total.{total}
 use Rattle.ppexpand.proofs.Unique.{same_outcome}
 
@@ -72,18 +72,18 @@ module _ (macros : Macros) (env : Env) (level : ℕ) where
 -- ---- the turn of a call
 
 module _ (macros : Macros) (env : Env) (level : ℕ) (left : Option ℕ) (list : List Hiding) (call : Call) (found : turn_within macros env left list ≡ Called call) where
-  call_ends : {after : Option ℕ} {t : Turn} → Invokes macros env level call (less_one left) after t → (f : Fault) → t ≡ Failed f → EndsWith macros env level left list (Some f) after
+  call_ends : {after : Option ℕ} {t : Turn} → ComesTo macros env level call (less_one left) after t → (f : Fault) → t ≡ Failed f → EndsWith macros env level left list (Some f) after
   call_ends {after} (refuses args) f e =
       argument_refused found (subst (λ g. ExpandsArguments macros env level call (less_one left) (wanted call) after (Err g)) (let same : _ ≡ f = cc e in same) args)
   call_ends (finishes args) f e = call_failed found args e
 
-  call_goes_on : {after : Option ℕ} {t : Turn} → Invokes macros env level call (less_one left) after t → (next : List Hiding) → t ≡ Replaced next → Advances macros env level left list after next []
+  call_goes_on : {after : Option ℕ} {t : Turn} → ComesTo macros env level call (less_one left) after t → (next : List Hiding) → t ≡ Replaced next → Advances macros env level left list after next []
   call_goes_on (refuses args) next e = absurd (cc e)
   call_goes_on (finishes args) next e = record { turn = λ n out d. call_replaced found args e d }
 
   -- what it comes to is what the turn comes to
   pub call_taken : (s : Numbered) (hs : List Hidden) (passed more : List Hiding) (raised : Option Fault) (after : Option ℕ) (goes : Bool) → is_some raised ≡ not goes → more ≡ passed
-      → Invokes macros env level call (less_one left) after (finished_in s hs raised)
+      → ComesTo macros env level call (less_one left) after (finished_in s hs raised)
       → HasTaken macros env level left list passed goes raised after (hidings s hs) more
   call_taken s hs passed more None after true e same h = (refl, ([], same ∙ sym (append-nil passed), call_goes_on h (hidings s hs) refl))
   call_taken s hs passed more None after false e same h = absurd (true≢false (sym e))

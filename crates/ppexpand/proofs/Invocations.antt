@@ -2,30 +2,30 @@
 use Rattle.std.proofs.Common.{◌≡◌, ◌↔◌, ℕ, zero, suc, ◌<◌, Bool, true, false, not, List, [], ◌∷◌, ◌++◌, length, Option, refl, sym, ap, ◌∙◌, subst, true≢false, arith, append_assoc, length-append}
 use Rattle.std.proofs.lemmas.Bool.{not-true}
 use Rattle.ppmacro.specs.HideSets.{Hiding}
-use Rattle.ppexpand.specs.Arguments.{mark_of, Gathered, Closed, Quoted, Unclosed, with_token, with_argument, separates, fewer, gather, Mark, Quote, Open, Close, Comma, Inner}
+use Rattle.ppexpand.specs.Arguments.{argument_role, Gathered, Closed, Quoted, Unclosed, with_token, with_argument, separates, fewer, gather, ArgumentRole, Quote, Open, Close, Comma, Inner}
 use Rattle.ppexpand.specs.Laws.{Nested, nothing, inner, comma, pair, Separated, last, more, IsInvocation}
 
 -- ---- one token
 
-pub at_quote : (d : ℕ) (c : Option ℕ) (t : Hiding) (ts : List Hiding) → mark_of t.token ≡ Quote → gather d c (t ∷ ts) ≡ Quoted t
+pub at_quote : (d : ℕ) (c : Option ℕ) (t : Hiding) (ts : List Hiding) → argument_role t.token ≡ Quote → gather d c (t ∷ ts) ≡ Quoted t
 at_quote d c t ts e = rw (gather, e) refl
 
-pub at_inner : (d : ℕ) (c : Option ℕ) (t : Hiding) (ts : List Hiding) → mark_of t.token ≡ Inner → gather d c (t ∷ ts) ≡ with_token t (gather d c ts)
+pub at_inner : (d : ℕ) (c : Option ℕ) (t : Hiding) (ts : List Hiding) → argument_role t.token ≡ Inner → gather d c (t ∷ ts) ≡ with_token t (gather d c ts)
 at_inner d c t ts e = rw (gather, e) refl
 
-pub at_open : (d : ℕ) (c : Option ℕ) (t : Hiding) (ts : List Hiding) → mark_of t.token ≡ Open → gather d c (t ∷ ts) ≡ with_token t (gather (suc d) c ts)
+pub at_open : (d : ℕ) (c : Option ℕ) (t : Hiding) (ts : List Hiding) → argument_role t.token ≡ Open → gather d c (t ∷ ts) ≡ with_token t (gather (suc d) c ts)
 at_open d c t ts e = rw (gather, e) refl
 
-pub at_close : (d : ℕ) (c : Option ℕ) (t : Hiding) (ts : List Hiding) → mark_of t.token ≡ Close → gather (suc d) c (t ∷ ts) ≡ with_token t (gather d c ts)
+pub at_close : (d : ℕ) (c : Option ℕ) (t : Hiding) (ts : List Hiding) → argument_role t.token ≡ Close → gather (suc d) c (t ∷ ts) ≡ with_token t (gather d c ts)
 at_close d c t ts e = rw (gather, e) refl
 
-pub at_end : (c : Option ℕ) (t : Hiding) (ts : List Hiding) → mark_of t.token ≡ Close → gather zero c (t ∷ ts) ≡ Closed ([] ∷ []) t ts
+pub at_end : (c : Option ℕ) (t : Hiding) (ts : List Hiding) → argument_role t.token ≡ Close → gather zero c (t ∷ ts) ≡ Closed ([] ∷ []) t ts
 at_end c t ts e = rw (gather, e) refl
 
-pub at_separator : (d : ℕ) (c : Option ℕ) (t : Hiding) (ts : List Hiding) → mark_of t.token ≡ Comma → separates d c ≡ true → gather d c (t ∷ ts) ≡ with_argument (gather d (fewer c) ts)
+pub at_separator : (d : ℕ) (c : Option ℕ) (t : Hiding) (ts : List Hiding) → argument_role t.token ≡ Comma → separates d c ≡ true → gather d c (t ∷ ts) ≡ with_argument (gather d (fewer c) ts)
 at_separator d c t ts e s = rw (gather, e, s) refl
 
-pub at_comma : (d : ℕ) (c : Option ℕ) (t : Hiding) (ts : List Hiding) → mark_of t.token ≡ Comma → separates d c ≡ false → gather d c (t ∷ ts) ≡ with_token t (gather d c ts)
+pub at_comma : (d : ℕ) (c : Option ℕ) (t : Hiding) (ts : List Hiding) → argument_role t.token ≡ Comma → separates d c ≡ false → gather d c (t ∷ ts) ≡ with_token t (gather d c ts)
 at_comma d c t ts e s = rw (gather, e, s) refl
 
 -- ---- what is laid out is found
@@ -56,7 +56,7 @@ passed_over (pair o inside close ts is_open within is_close n) d c uncut ys =
 found : {c : Option ℕ} {inside : List Hiding} {as' : List (List Hiding)}
     → Separated c inside as'
     → (close : Hiding) (behind : List Hiding)
-    → mark_of close.token ≡ Close
+    → argument_role close.token ≡ Close
     → gather 0 c (inside ++ close ∷ behind) ≡ Closed as' close behind
 found {c = c} (last {a = a} n) close behind is_close =
     passed_over n 0 c (not-true (separates 0 c)) (close ∷ behind) ∙ ap (with_tokens a) (at_end c close behind is_close) ∙ with_tokens-closed a [] close behind
@@ -89,7 +89,7 @@ record Matched (d : ℕ) (c : Option ℕ) (list : List Hiding) : Type 0 where
   rest : List Hiding
   laid_out : list ≡ inside ++ mate ∷ rest
   nested : Nested true inside
-  mates : mark_of mate.token ≡ Close
+  mates : argument_role mate.token ≡ Close
   on : IsClosed (gather d c rest)
 
 pub shorter : (list inside : List Hiding) (t : Hiding) (rest : List Hiding) → list ≡ inside ++ t ∷ rest → length rest < length list
@@ -106,7 +106,7 @@ before : {d : ℕ} {c : Option ℕ} {ts : List Hiding} (t : Hiding) → ((xs : L
 before t wraps m = record { inside = t ∷ m.inside; mate = m.mate; rest = m.rest; laid_out = ap (λ xs. t ∷ xs) m.laid_out; nested = wraps m.inside m.nested; mates = m.mates; on = m.on }
 
 -- parentheses in a pair before what is matched
-wrapped : {d : ℕ} {c : Option ℕ} (t : Hiding) (ts : List Hiding) → mark_of t.token ≡ Open → (m : Matched (suc d) c ts) → Matched d c m.rest → Matched d c (t ∷ ts)
+wrapped : {d : ℕ} {c : Option ℕ} (t : Hiding) (ts : List Hiding) → argument_role t.token ≡ Open → (m : Matched (suc d) c ts) → Matched d c m.rest → Matched d c (t ∷ ts)
 wrapped t ts e m n = record {
   inside = t ∷ (m.inside ++ m.mate ∷ n.inside);
   mate = n.mate;
@@ -121,7 +121,7 @@ wrapped t ts e m n = record {
 abbrev Matches : ℕ → Type 0
 Matches n = (d : ℕ) (c : Option ℕ) (list : List Hiding) → length list < n → IsClosed (gather (suc d) c list) → Matched d c list
 
-matched_by : (d : ℕ) (c : Option ℕ) (t : Hiding) (ts : List Hiding) → Matches (suc (length ts)) → IsClosed (gather (suc d) c (t ∷ ts)) → (m : Mark) → mark_of t.token ≡ m → Matched d c (t ∷ ts)
+matched_by : (d : ℕ) (c : Option ℕ) (t : Hiding) (ts : List Hiding) → Matches (suc (length ts)) → IsClosed (gather (suc d) c (t ∷ ts)) → (m : ArgumentRole) → argument_role t.token ≡ m → Matched d c (t ∷ ts)
 matched_by d c t ts on closed Quote e = absurd (subst IsClosed (at_quote (suc d) c t ts e) closed)
 matched_by d c t ts on closed Open e =
     let m : Matched (suc d) c ts = on (suc d) c ts (omega arith) (closed-token t _ (subst IsClosed (at_open (suc d) c t ts e) closed)) in
@@ -134,7 +134,7 @@ matched_by d c t ts on closed Inner e = before t (λ xs n. inner e n) (on d c ts
 matched : (n : ℕ) → Matches n
 matched zero d c list short closed = absurd (omega arith)
 matched (suc n) d c [] short closed = absurd closed
-matched (suc n) d c (t ∷ ts) short closed = matched_by d c t ts (λ d' c' list short'. matched n d' c' list (omega arith)) closed (mark_of t.token) refl
+matched (suc n) d c (t ∷ ts) short closed = matched_by d c t ts (λ d' c' list short'. matched n d' c' list (omega arith)) closed (argument_role t.token) refl
 
 -- tokens before the first argument belong to it
 in_first : {c : Option ℕ} {inside : List Hiding} {as' : List (List Hiding)} (front : List Hiding)
@@ -168,7 +168,7 @@ laid_behind {c = c} front alone before m =
 abbrev LaidOutBelow : ℕ → Type 0
 LaidOutBelow n = (c : Option ℕ) (list : List Hiding) → length list < n → IsClosed (gather 0 c list) → LaidOut c list
 
-laid_at_separator : (c : Option ℕ) (t : Hiding) (ts : List Hiding) → LaidOutBelow (suc (length ts)) → IsClosed (gather 0 c (t ∷ ts)) → mark_of t.token ≡ Comma → separates 0 c ≡ true → LaidOut c (t ∷ ts)
+laid_at_separator : (c : Option ℕ) (t : Hiding) (ts : List Hiding) → LaidOutBelow (suc (length ts)) → IsClosed (gather 0 c (t ∷ ts)) → argument_role t.token ≡ Comma → separates 0 c ≡ true → LaidOut c (t ∷ ts)
 laid_at_separator c t ts on closed e cut =
     let m : LaidOut (fewer c) ts = on (fewer c) ts (omega arith) (closed-argument _ (subst IsClosed (at_separator 0 c t ts e cut) closed)) in
     record {
@@ -178,12 +178,12 @@ laid_at_separator c t ts on closed e cut =
       is = record { inside = t ∷ m.is.inside; laid_out = ap (λ xs. t ∷ xs) m.is.laid_out; closes = m.is.closes; separated = more [] t m.is.inside cut nothing e m.is.separated };
     }
 
-laid_at_comma : (c : Option ℕ) (t : Hiding) (ts : List Hiding) → LaidOutBelow (suc (length ts)) → IsClosed (gather 0 c (t ∷ ts)) → mark_of t.token ≡ Comma → separates 0 c ≡ false → LaidOut c (t ∷ ts)
+laid_at_comma : (c : Option ℕ) (t : Hiding) (ts : List Hiding) → LaidOutBelow (suc (length ts)) → IsClosed (gather 0 c (t ∷ ts)) → argument_role t.token ≡ Comma → separates 0 c ≡ false → LaidOut c (t ∷ ts)
 laid_at_comma c t ts on closed e uncut =
     laid_behind (t ∷ []) (λ xs n. subst (λ b. Nested b (t ∷ xs)) (sym (ap not uncut)) (comma e (subst (λ b. Nested b xs) (ap not uncut) n))) (λ cut. absurd (true≢false (sym cut ∙ uncut)))
     (on c ts (omega arith) (closed-token t _ (subst IsClosed (at_comma 0 c t ts e uncut) closed)))
 
-laid_by : (c : Option ℕ) (t : Hiding) (ts : List Hiding) → LaidOutBelow (suc (length ts)) → IsClosed (gather 0 c (t ∷ ts)) → (m : Mark) → mark_of t.token ≡ m → LaidOut c (t ∷ ts)
+laid_by : (c : Option ℕ) (t : Hiding) (ts : List Hiding) → LaidOutBelow (suc (length ts)) → IsClosed (gather 0 c (t ∷ ts)) → (m : ArgumentRole) → argument_role t.token ≡ m → LaidOut c (t ∷ ts)
 laid_by c t ts on closed Quote e = absurd (subst IsClosed (at_quote 0 c t ts e) closed)
 laid_by c t ts on closed Open e =
     let m : Matched 0 c ts = matched (suc (length ts)) 0 c ts (omega arith) (closed-token t _ (subst IsClosed (at_open 0 c t ts e) closed)) in
@@ -199,7 +199,7 @@ laid_by c t ts on closed Inner e = laid_behind (t ∷ []) (λ xs n. inner e n) (
 laid : (n : ℕ) → LaidOutBelow n
 laid zero c list short closed = absurd (omega arith)
 laid (suc n) c [] short closed = absurd closed
-laid (suc n) c (t ∷ ts) short closed = laid_by c t ts (λ c' list short'. laid n c' list (omega arith)) closed (mark_of t.token) refl
+laid (suc n) c (t ∷ ts) short closed = laid_by c t ts (λ c' list short'. laid n c' list (omega arith)) closed (argument_role t.token) refl
 
 pub finds : (c : Option ℕ) (list : List Hiding) (as' : List (List Hiding)) (close : Hiding) (behind : List Hiding) → (gather 0 c list ≡ Closed as' close behind) ↔ IsInvocation c list as' close behind
 finds c list as' close behind = (there, here)

@@ -20,7 +20,7 @@ use Rattle.ppmacro.specs.declared.macros.Shape.{Shape}
 use Rattle.ppmacro.specs.declared.macros.Shape.TheVariants.{Predefined, ObjectLike, FunctionLike}
 use Rattle.ppmacro.specs.Chains.{chains_of}
 use Rattle.ppmacro.specs.Substitution.{Arguments, Marked, substituted, after_ok, chains_tokens, gained}
-use Rattle.ppexpand.specs.Arguments.{Gathered, Closed, Quoted, Unclosed, mark_of, gather, separators, fitted, separates, fewer, with_token, with_argument, is_open, Quote, Open, Close, Comma, Inner}
+use Rattle.ppexpand.specs.Arguments.{Gathered, Closed, Quoted, Unclosed, argument_role, gather, separators, fitted, separates, fewer, with_token, with_argument, is_open, Quote, Open, Close, Comma, Inner}
 use Rattle.ppexpand.specs.declared.env.Env.{Env}
 use Rattle.ppexpand.specs.Turn.{Call, Turn, Done, Refused, Passes, Failed, Replaced, Called, turn, over, within, finished, mark_next, followed_by, replaced_by, gain_of, quote_fault, called, invoked, function_turn, macro_turn, named_turn}
 use Rattle.ppexpand.specs.Turn.{macro_of}
@@ -97,7 +97,7 @@ stands_argument t list Unclosed h = tt
 pub gathered_stands : (list : List Hiding) (depth : ℕ) (commas : Option ℕ) → Stands list (gather depth commas list)
 gathered_stands [] depth commas = tt
 gathered_stands (t ∷ ts) depth commas =
-    elim (mark_of t.token) as (λ m. Stands (t ∷ ts) (elim m as (λ _. Gathered) [
+    elim (argument_role t.token) as (λ m. Stands (t ∷ ts) (elim m as (λ _. Gathered) [
       | Quote ↦ Quoted t
       | Open ↦ with_token t (gather (suc depth) commas ts)
       | Close ↦ elim depth as (λ _. Gathered) [ zero ↦ Closed ([] ∷ []) t ts | suc d ↦ with_token t (gather d commas ts) ]

@@ -1,7 +1,7 @@
 -- Where no arguments are found: a lone quote stands first, or no `)` matches.
 use Rattle.std.proofs.Common.{◌≡◌, ◌↔◌, ℕ, zero, suc, ◌<◌, Bool, true, false, List, [], ◌∷◌, ◌++◌, length, Option, refl, sym, ap, ◌∙◌, subst, arith, append_assoc, append-nil}
 use Rattle.ppmacro.specs.HideSets.{Hiding}
-use Rattle.ppexpand.specs.Arguments.{mark_of, Gathered, Closed, Quoted, Unclosed, with_token, with_argument, separates, fewer, gather, Mark, Quote, Open, Close, Comma, Inner}
+use Rattle.ppexpand.specs.Arguments.{argument_role, Gathered, Closed, Quoted, Unclosed, with_token, with_argument, separates, fewer, gather, ArgumentRole, Quote, Open, Close, Comma, Inner}
 use Rattle.ppexpand.specs.Laws.{Nested, nothing, inner, comma, pair, NeverClosed, paired, deeper, IsQuoted}
 use Rattle.ppexpand.proofs.Invocations.{at_quote, at_inner, at_open, at_close, at_end, at_separator, at_comma, IsClosed, shorter}
 
@@ -12,7 +12,7 @@ record IsKept (P : Gathered → Type 0) : Type 0 where
   by_argument : (g : Gathered) → P g → P (with_argument g)
 
 -- a comma, whether it separates or not
-at_any_comma : {P : Gathered → Type 0} → IsKept P → (d : ℕ) (c : Option ℕ) (t : Hiding) (ts : List Hiding) → mark_of t.token ≡ Comma → ((c' : Option ℕ) → P (gather d c' ts)) → P (gather d c (t ∷ ts))
+at_any_comma : {P : Gathered → Type 0} → IsKept P → (d : ℕ) (c : Option ℕ) (t : Hiding) (ts : List Hiding) → argument_role t.token ≡ Comma → ((c' : Option ℕ) → P (gather d c' ts)) → P (gather d c (t ∷ ts))
 at_any_comma {P = P} k d c t ts e h = elim (separates d c) as (λ b. separates d c ≡ b → P (gather d c (t ∷ ts))) [
   | true ↦ λ cut. subst P (sym (at_separator d c t ts e cut)) (k.by_argument _ (h (fewer c)))
   | false ↦ λ uncut. subst P (sym (at_comma d c t ts e uncut)) (k.by_token t _ (h c))
@@ -57,8 +57,8 @@ kept_closed = record { by_token = token_closed; by_argument = argument_closed }
 -- ---- each list has one of three layouts
 
 data Layout : List Hiding → Type 0 where
-  ends : (inside : List Hiding) (close : Hiding) (behind : List Hiding) → Nested true inside → mark_of close.token ≡ Close → Layout (inside ++ close ∷ behind)
-  stops : (front : List Hiding) (q : Hiding) (behind : List Hiding) → NeverClosed front → mark_of q.token ≡ Quote → Layout (front ++ q ∷ behind)
+  ends : (inside : List Hiding) (close : Hiding) (behind : List Hiding) → Nested true inside → argument_role close.token ≡ Close → Layout (inside ++ close ∷ behind)
+  stops : (front : List Hiding) (q : Hiding) (behind : List Hiding) → NeverClosed front → argument_role q.token ≡ Quote → Layout (front ++ q ∷ behind)
   goes_on : (list : List Hiding) → NeverClosed list → Layout list
 
 abbrev Wraps : List Hiding → Type 0
@@ -77,7 +77,7 @@ layout_behind front wraps (goes_on list n) = goes_on (front ++ list) (never_behi
 abbrev LayoutsBelow : ℕ → Type 0
 LayoutsBelow n = (list : List Hiding) → length list < n → Layout list
 
-layout_at_open : (t : Hiding) {ts : List Hiding} → mark_of t.token ≡ Open → LayoutsBelow (suc (length ts)) → Layout ts → Layout (t ∷ ts)
+layout_at_open : (t : Hiding) {ts : List Hiding} → argument_role t.token ≡ Open → LayoutsBelow (suc (length ts)) → Layout ts → Layout (t ∷ ts)
 layout_at_open t e on (ends inside close behind n e') =
     let wraps : Wraps (t ∷ (inside ++ close ∷ [])) = λ xs m. subst (λ ys. Nested true (t ∷ ys)) (sym (append_assoc inside (close ∷ []) xs)) (pair t inside close xs e n e' m) in
     let less : length behind < length (inside ++ close ∷ behind) = shorter (inside ++ close ∷ behind) inside close behind refl in
@@ -85,7 +85,7 @@ layout_at_open t e on (ends inside close behind n e') =
 layout_at_open t e on (stops f q behind n e') = stops (t ∷ f) q behind (deeper [] t f nothing e n) e'
 layout_at_open t e on (goes_on list n) = goes_on (t ∷ list) (deeper [] t list nothing e n)
 
-layout_by : (t : Hiding) (ts : List Hiding) → LayoutsBelow (suc (length ts)) → (m : Mark) → mark_of t.token ≡ m → Layout (t ∷ ts)
+layout_by : (t : Hiding) (ts : List Hiding) → LayoutsBelow (suc (length ts)) → (m : ArgumentRole) → argument_role t.token ≡ m → Layout (t ∷ ts)
 layout_by t ts on Quote e = stops [] t ts (paired nothing) e
 layout_by t ts on Open e = layout_at_open t e on (on ts (omega arith))
 layout_by t ts on Close e = ends [] t ts nothing e
@@ -95,14 +95,14 @@ layout_by t ts on Inner e = layout_behind (t ∷ []) (λ xs n. inner e n) (on ts
 layout : (n : ℕ) → LayoutsBelow n
 layout zero list short = absurd (omega arith)
 layout (suc n) [] short = goes_on [] (paired nothing)
-layout (suc n) (t ∷ ts) short = layout_by t ts (λ list short'. layout n list (omega arith)) (mark_of t.token) refl
+layout (suc n) (t ∷ ts) short = layout_by t ts (λ list short'. layout n list (omega arith)) (argument_role t.token) refl
 
 -- ---- both ways
 
-when_ended : (c : Option ℕ) (inside : List Hiding) (close : Hiding) (behind : List Hiding) → Nested true inside → mark_of close.token ≡ Close → IsClosed (gather 0 c (inside ++ close ∷ behind))
+when_ended : (c : Option ℕ) (inside : List Hiding) (close : Hiding) (behind : List Hiding) → Nested true inside → argument_role close.token ≡ Close → IsClosed (gather 0 c (inside ++ close ∷ behind))
 when_ended c inside close behind n e = passed kept_closed n 0 (close ∷ behind) (λ c'. subst IsClosed (sym (at_end c' close behind e)) tt) c
 
-when_stopped : (c : Option ℕ) (front : List Hiding) (q : Hiding) (behind : List Hiding) → NeverClosed front → mark_of q.token ≡ Quote → gather 0 c (front ++ q ∷ behind) ≡ Quoted q
+when_stopped : (c : Option ℕ) (front : List Hiding) (q : Hiding) (behind : List Hiding) → NeverClosed front → argument_role q.token ≡ Quote → gather 0 c (front ++ q ∷ behind) ≡ Quoted q
 when_stopped c front q behind n e = never (kept_quote q) n 0 (q ∷ behind) (λ d c'. at_quote d c' q behind e) c
 
 when_going_on : (c : Option ℕ) (list : List Hiding) → NeverClosed list → gather 0 c list ≡ Unclosed

@@ -9,15 +9,15 @@ abbrev pub is_open : Token → Bool
 is_open t = is_punct (codes "(") t
 
 -- what a token is to the search for the matching `)`: a lone quote, a parenthesis, a comma, or any other
-pub data Mark : Type 0 where
-  Quote : Mark
-  Open : Mark
-  Close : Mark
-  Comma : Mark
-  Inner : Mark
+pub data ArgumentRole : Type 0 where
+  Quote : ArgumentRole
+  Open : ArgumentRole
+  Close : ArgumentRole
+  Comma : ArgumentRole
+  Inner : ArgumentRole
 
-abbrev pub mark_of : Token → Mark
-mark_of t =
+abbrev pub argument_role : Token → ArgumentRole
+argument_role t =
     if is_lone_quote t then Quote else (
     if is_open t then Open else (
     if is_punct (codes ")") t then Close else (
@@ -56,7 +56,7 @@ fewer (Some n) = Some (n - 1)
 -- the list behind `(`, inside so many more parentheses
 abbrev pub gather : ℕ → Option ℕ → List Hiding → Gathered
 gather depth commas [] = Unclosed
-gather depth commas (t ∷ ts) = elim (mark_of t.token) [
+gather depth commas (t ∷ ts) = elim (argument_role t.token) [
   | Quote ↦ Quoted t
   | Open ↦ with_token t (gather (suc depth) commas ts)
   | Close ↦ elim depth [ zero ↦ Closed ([] ∷ []) t ts | suc d ↦ with_token t (gather d commas ts) ]

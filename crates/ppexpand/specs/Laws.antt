@@ -10,7 +10,7 @@ use Rattle.ppmacro.specs.Chains.{is_function_like}
 use Rattle.ppmacro.specs.declared.macros.Definition.{Definition}
 use Rattle.ppexpand.specs.declared.env.Env.{Env}
 use Rattle.ppexpand.specs.declared.expansion.Expanded.{Expanded}
-use Rattle.ppexpand.specs.Arguments.{mark_of, separates, fewer, Quote, Open, Close, Comma, Inner}
+use Rattle.ppexpand.specs.Arguments.{argument_role, separates, fewer, Quote, Open, Close, Comma, Inner}
 use Rattle.ppexpand.specs.Turn.{Call, Passes, Replaced, Called, less_one, macro_of, wanted, finished}
 use Rattle.ppexpand.specs.Expansion.{Outcome, turn_within, ExpandsTo, ExpandsArguments, IsExpansion}
 
@@ -106,17 +106,17 @@ is_settled macros t = not (is_lone_quote t.token) && (set.contains t.hide t.toke
 pub data Nested : Bool → List Hiding → Type 0 where
   nothing : {commas : Bool} → Nested commas []
   inner : {commas : Bool} {t : Hiding} {ts : List Hiding}
-      → mark_of t.token ≡ Inner
+      → argument_role t.token ≡ Inner
       → Nested commas ts
       → Nested commas (t ∷ ts)
   comma : {t : Hiding} {ts : List Hiding}
-      → mark_of t.token ≡ Comma
+      → argument_role t.token ≡ Comma
       → Nested true ts
       → Nested true (t ∷ ts)
   pair : {commas : Bool} (open' : Hiding) (inside : List Hiding) (close : Hiding) (ts : List Hiding)
-      → mark_of open'.token ≡ Open
+      → argument_role open'.token ≡ Open
       → Nested true inside
-      → mark_of close.token ≡ Close
+      → argument_role close.token ≡ Close
       → Nested commas ts
       → Nested commas (open' ∷ (inside ++ close ∷ ts))
 
@@ -128,7 +128,7 @@ pub data Separated : Option ℕ → List Hiding → List (List Hiding) → Type 
   more : {commas : Option ℕ} {as' : List (List Hiding)} (a : List Hiding) (t : Hiding) (rest : List Hiding)
       → separates 0 commas ≡ true
       → Nested false a
-      → mark_of t.token ≡ Comma
+      → argument_role t.token ≡ Comma
       → Separated (fewer commas) rest as'
       → Separated commas (a ++ t ∷ rest) (a ∷ as')
 
@@ -137,7 +137,7 @@ pub record IsInvocation (commas : Option ℕ) (list : List Hiding) (arguments : 
     (behind : List Hiding) : Type 0 where
   pub inside : List Hiding
   pub laid_out : list ≡ inside ++ close ∷ behind
-  pub closes : mark_of close.token ≡ Close
+  pub closes : argument_role close.token ≡ Close
   pub separated : Separated commas inside arguments
 
 -- tokens that no `)` ends: each `)` is in a pair, a `(` may be without its `)`, and there is no lone quote
@@ -145,7 +145,7 @@ pub data NeverClosed : List Hiding → Type 0 where
   paired : {ts : List Hiding} → Nested true ts → NeverClosed ts
   deeper : (ts : List Hiding) (open' : Hiding) (inside : List Hiding)
       → Nested true ts
-      → mark_of open'.token ≡ Open
+      → argument_role open'.token ≡ Open
       → NeverClosed inside
       → NeverClosed (ts ++ open' ∷ inside)
 
@@ -155,4 +155,4 @@ pub record IsQuoted (list : List Hiding) (quote : Hiding) : Type 0 where
   pub behind : List Hiding
   pub laid_out : list ≡ front ++ quote ∷ behind
   pub before : NeverClosed front
-  pub lone : mark_of quote.token ≡ Quote
+  pub lone : argument_role quote.token ≡ Quote

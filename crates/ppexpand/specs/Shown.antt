@@ -125,13 +125,13 @@ abbrev pub ExpandsWanted : Macros → Env → ℕ → Call → Option ℕ → Op
 ExpandsWanted macros env level call left after r = ExpandsArguments macros env level call left (wanted call) after r
 
 -- a call at this level, where so much is left, comes to this turn: its arguments are expanded, and then it is replaced
-pub data Invokes (macros : Macros) (env : Env) (level : ℕ) (call : Call) (left : Option ℕ) : Option ℕ → Turn → Type 0 where
+pub data ComesTo (macros : Macros) (env : Env) (level : ℕ) (call : Call) (left : Option ℕ) : Option ℕ → Turn → Type 0 where
   refuses : {after : Option ℕ} {f : Fault}
       → ExpandsWanted macros env level call left after (Err f)
-      → Invokes macros env level call left after (Failed f)
+      → ComesTo macros env level call left after (Failed f)
   finishes : {after : Option ℕ} {expanded : List (Option (List Hiding))}
       → ExpandsWanted macros env level call left after (Ok expanded)
-      → Invokes macros env level call left after (finished call expanded)
+      → ComesTo macros env level call left after (finished call expanded)
 
 -- one turn led from the first list to the second, and these tokens passed
 pub record Advances (macros : Macros) (env : Env) (level : ℕ) (left : Option ℕ) (list : List Hiding) (after : Option ℕ)

@@ -8,7 +8,7 @@ ghost use Rattle.ppexpand.specs.Shown.{given_in, fitting_in, FittingKnown, is_ba
 
 use crate::cursor::Cursor;
 use crate::lists::put;
-use crate::spellings::{Mark, mark_of};
+use crate::spellings::{ArgumentRole, argument_role};
 use crate::supply::Supply;
 use ppmacro::Hidden;
 use pptext::Spelling;
@@ -93,23 +93,23 @@ pub(crate) fn gather<'a>(
     let mut depth: usize = 0;
     let mut commas = commas;
     while let Some(hidden) = list.next() {
-        match mark_of(&hidden) {
-            Mark::Quote => return Ok(Gathered::Quoted(hidden)),
-            Mark::Close if depth == 0 => {
+        match argument_role(&hidden) {
+            ArgumentRole::Quote => return Ok(Gathered::Quoted(hidden)),
+            ArgumentRole::Close if depth == 0 => {
                 put(&mut arguments, argument)?;
                 return Ok(Gathered::Closed(arguments, hidden));
             }
-            Mark::Comma if separates(depth, commas) => {
+            ArgumentRole::Comma if separates(depth, commas) => {
                 // It is no argument's, and is done with before what can fail.
                 drop(hidden);
                 end_argument(supply, &mut arguments, &mut argument)?;
                 commas = fewer(commas);
                 continue;
             }
-            Mark::Open => depth += 1,
-            Mark::Close => depth -= 1,
-            Mark::Comma => {}
-            Mark::Inner => {}
+            ArgumentRole::Open => depth += 1,
+            ArgumentRole::Close => depth -= 1,
+            ArgumentRole::Comma => {}
+            ArgumentRole::Inner => {}
         }
         put(&mut argument, hidden)?;
     }

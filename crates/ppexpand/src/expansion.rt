@@ -14,7 +14,7 @@ ghost use Rattle.ppexpand.specs.Lists.{ArePlain, is_plain, next_macro};
 ghost use Rattle.std.specs.List.{AllByRecursion};
 ghost use Rattle.ppexpand.specs.Skipping.{HasSkipped};
 ghost use Rattle.ppexpand.specs.Shown.{expanded_in, ExpansionsKnown, call_in, CallKnown, finished_in, Raises, held, ExpandsArgument, HasExpanded};
-ghost use Rattle.ppexpand.specs.Shown.{ExpandsWanted, Invokes, HasTaken, HasCalled};
+ghost use Rattle.ppexpand.specs.Shown.{ExpandsWanted, ComesTo, HasTaken, HasCalled};
 
 use crate::alone::used_alone;
 use crate::cursor::{Ahead, Cursor};
@@ -300,7 +300,7 @@ fn follow<'x, 'a: 'x>(
     requires call_known { CallKnown sets.old call.now.head call.now.arguments.items call.now.both }
     requires list_known { AllKnown sets.old list.old }
     requires no_fault { fault.old ≡ None }
-    ensures is { OnOk result (Invokes table.now env.now level
+    ensures is { OnOk result (ComesTo table.now env.now level
         (call_in sets.old call.now.head call.now.replaced.now call.now.arguments.items call.now.both list.old) left.old left.new
         (finished_in sets.new list.new fault.new)) }
     ensures known { OnOk result (fault.new ≡ None → AllKnown sets.new list.new) }

@@ -1,7 +1,7 @@
 // What a token is to macro replacement.
 ghost use Rattle.std.specs.Prelude.{◌≡◌, IfOk, []};
 ghost use Rattle.pptext.specs.Tokens.{is_lone_quote, fault};
-ghost use Rattle.ppexpand.specs.Arguments.{is_open, mark_of, Quote, Open, Close, Comma, Inner};
+ghost use Rattle.ppexpand.specs.Arguments.{is_open, argument_role, Quote, Open, Close, Comma, Inner};
 
 use ppmacro::Hidden;
 use pptext::{Fault, Kind};
@@ -16,7 +16,7 @@ pub(crate) fn is_open(hidden: &Hidden) -> bool
 
 /// What a token is to the search for the `)` of an invocation (6.10.3p10, p11).
 #[derive(Clone, Copy)]
-pub(crate) enum Mark {
+pub(crate) enum ArgumentRole {
     /// A lone quote.
     Quote,
     Open,
@@ -27,25 +27,25 @@ pub(crate) enum Mark {
 }
 
 /// What a token is to that search.
-pub(crate) fn mark_of(hidden: &Hidden) -> Mark
-    ensures { (elim result [ Mark.Quote ↦ Quote | Mark.Open ↦ Open | Mark.Close ↦ Close | Mark.Comma ↦ Comma | Mark.Inner ↦ Inner ]) ≡ mark_of hidden.now.token }
+pub(crate) fn argument_role(hidden: &Hidden) -> ArgumentRole
+    ensures { (elim result [ ArgumentRole.Quote ↦ Quote | ArgumentRole.Open ↦ Open | ArgumentRole.Close ↦ Close | ArgumentRole.Comma ↦ Comma | ArgumentRole.Inner ↦ Inner ]) ≡ argument_role hidden.now.token }
 {
     let token = hidden.word();
     let Kind::Punct = token.kind else {
         return if token.is_lone_quote() {
-            Mark::Quote
+            ArgumentRole::Quote
         } else {
-            Mark::Inner
+            ArgumentRole::Inner
         };
     };
     let [byte] = token.text.as_bytes() else {
-        return Mark::Inner;
+        return ArgumentRole::Inner;
     };
     match *byte {
-        b'(' => Mark::Open,
-        b')' => Mark::Close,
-        b',' => Mark::Comma,
-        _ => Mark::Inner,
+        b'(' => ArgumentRole::Open,
+        b')' => ArgumentRole::Close,
+        b',' => ArgumentRole::Comma,
+        _ => ArgumentRole::Inner,
     }
 }
 

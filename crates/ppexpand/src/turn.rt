@@ -150,6 +150,7 @@ fn gained_token<'a>(
     ensures is { hiding sets.now result ≡ gained (set_at sets.now gain) used (with_mark mark (plain token.now)) }
     ensures known { HasSets sets.now result }
 {
+    // The contract alone speaks of them.
     let _numbered = sets;
     let mut hidden = Hidden::new(token, gain);
     hidden.mark(mark);
@@ -313,6 +314,7 @@ fn called<'t, 'x, 'a: 'x>(
     ensures known { IfOk result (λ n. NextKnown sets.new list.now n) }
     ensures keeps { Keeps sets.old sets.new }
 {
+    // The contract alone speaks of it.
     let _behind = list;
     let Some(arguments) = arguments else {
         return failed_at(18, &head);
@@ -485,6 +487,7 @@ pub(crate) fn next_turn<'t, 'x, 'a: 'x>(
     ensures known { IfOk result (λ n. NextKnown sets.new list.new n) }
     ensures keeps { Keeps sets.old sets.new }
 {
+    // The contract alone speaks of it.
     let _macros = table;
     let Some(head) = list.next() else {
         return Ok(Next { step: Step::Done });

@@ -9,7 +9,12 @@ use Rattle.pptext.specs.Tokens.{is_identifier, is_name}
 use Rattle.ppmacro.specs.Names.{Name, Macros}
 use Rattle.ppmacro.specs.Spellings.{is_paste}
 use Rattle.ppmacro.specs.Define.{misplaces_paste, read_definition, fitting, judged}
-use Rattle.ppmacro.specs.Plain.{object_like, is_barred, is_special, is_plain}
+use Rattle.ppmacro.specs.Plain.{is_barred, is_special, is_plain}
+use Rattle.ppmacro.specs.declared.macros.Shape.TheVariants.{ObjectLike}
+use Rattle.ppmacro.specs.declared.macros.Definition.{Definition}
+
+abbrev pub object_like : List Token → Definition
+object_like body = record { shape = ObjectLike; body = body }
 
 no-names : (ts : List Token) → list_any is_special ts ≡ false → list_any (is_name (codes "__VA_ARGS__")) ts ≡ false
 no-names [] e = refl

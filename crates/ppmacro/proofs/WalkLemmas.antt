@@ -15,6 +15,11 @@ use Rattle.ppmacro.specs.declared.flying.Expansion.{Expansion}
 use Rattle.ppmacro.specs.declared.macros.Chain.{Chain}
 use Rattle.ppmacro.proofs.KeepLemmas.{set-keeps, hiding-keeps, hidings-keeps, known-keeps}
 
+-- these before what comes of the rest
+abbrev pub behind : {A : Type 0} → List A → Result (List A) Fault → Result (List A) Fault
+behind xs (Ok ys) = Ok (xs ++ ys)
+behind xs (Err f) = Err f
+
 pub drop-item : {X : Type 0} (xs : List X) (i : ℕ) (x : X) → i < length xs → x ≡ get_or xs i x → drop i xs ≡ x ∷ drop (i + 1) xs
 drop-item xs i x h e = drop_more xs i x h ∙ ap (λ y. y ∷ drop (i + 1) xs) (sym e)
 

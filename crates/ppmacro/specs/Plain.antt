@@ -6,11 +6,6 @@ use Rattle.pptext.specs.declared.tokens.Token.{Token}
 use Rattle.pptext.specs.Tokens.{is_name}
 use Rattle.ppmacro.specs.Names.{Name}
 use Rattle.ppmacro.specs.Spellings.{is_paste}
-use Rattle.ppmacro.specs.declared.macros.Shape.TheVariants.{ObjectLike}
-use Rattle.ppmacro.specs.declared.macros.Definition.{Definition}
-
-abbrev pub object_like : List Token → Definition
-object_like body = record { shape = ObjectLike; body = body }
 
 -- names that no macro may have
 abbrev pub is_barred : Name → Bool

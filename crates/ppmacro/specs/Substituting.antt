@@ -56,11 +56,6 @@ pub record ArgumentsKnown (sets : Numbered) (given : List (Vec Hidden Global)) (
 abbrev pub arguments_in : Numbered → List (Vec Hidden Global) → List Expansion → Arguments
 arguments_in sets given expanded = record { given = map (hidings sets) (lists_of given); expanded = map (λ o. option_map (hidings sets) o) (options_of given expanded) }
 
--- these before what comes of the rest
-abbrev pub behind : {A : Type 0} → List A → Result (List A) Fault → Result (List A) Fault
-behind xs (Ok ys) = Ok (xs ++ ys)
-behind xs (Err f) = Err f
-
 abbrev pub marked_in : Numbered → Result (Vec Hidden Global × Bool) Fault → Result Marked Fault
 marked_in sets (Ok m) = Ok (record { tokens = hidings sets m.0.items; pending = m.1 })
 marked_in sets (Err f) = Err f

@@ -83,6 +83,7 @@ impl HideSets {
         ensures set { set_at self.now result ≡ set.empty }
         ensures known { IsKnown self.now result }
     {
+        // The contract alone speaks of them.
         let _nodes = &self.nodes;
         Set { number: 0 }
     }
@@ -116,7 +117,7 @@ impl HideSets {
         }
     }
 
-    /// A set with one name more. Where memory is refused, every set is what it was.
+    /// A set with one name more. Fails only for want of memory, which more sets than can be numbered count as; then every set is what it was.
     pub fn with(&mut self, hide: Set, name: &[u8]) -> Result<Set, Memory>
         requires { IsKnown self.old hide }
         ensures set { IfOk result (λ s. set_at self.new s ≡ set.insert (set_at self.old hide) name.now) }
@@ -130,7 +131,7 @@ impl HideSets {
         Ok(Set { number })
     }
 
-    /// The names of either set. A second call at the same two sets gives the same answer, takes no memory and succeeds.
+    /// The names of either set. A second call at the same two sets gives the same answer, takes no memory and succeeds. Fails as `with` does.
     pub fn union(&mut self, left: Set, right: Set) -> Result<Set, Memory>
         requires left { IsKnown self.old left }
         requires right { IsKnown self.old right }
@@ -150,7 +151,7 @@ impl HideSets {
         Ok(Set { number })
     }
 
-    /// The names of both sets. A second call at the same two sets gives the same answer, takes no memory and succeeds.
+    /// The names of both sets. A second call at the same two sets gives the same answer, takes no memory and succeeds. Fails as `with` does.
     pub fn meet(&mut self, left: Set, right: Set) -> Result<Set, Memory>
         requires left { IsKnown self.old left }
         requires right { IsKnown self.old right }

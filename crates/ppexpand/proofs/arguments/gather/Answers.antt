@@ -1,17 +1,17 @@
 use Rattle.std.proofs.Common.{◌≡◌, suc, ◌≤◌, [], ◌∷◌, length, sym, ap, ◌∙◌, subst, arith, length-append}
 use Rattle.ppmacro.specs.Numbered.{Numbered}
 use Rattle.ppmacro.specs.HideSets.{hiding, hidings, AllKnown}
-use Rattle.ppexpand.specs.Arguments.{gather, with_token, mark_of, Mark, Quote, Open, Close, Comma, Inner}
+use Rattle.ppexpand.specs.Arguments.{gather, with_token, argument_role, ArgumentRole, Quote, Open, Close, Comma, Inner}
 use Rattle.ppexpand.specs.Shown.{given_in}
-use Rattle.ppexpand.specs.declared.spellings.Mark as code
-use Rattle.ppexpand.specs.declared.spellings.Mark.TheVariants as variant
+use Rattle.ppexpand.specs.declared.spellings.ArgumentRole as code
+use Rattle.ppexpand.specs.declared.spellings.ArgumentRole.TheVariants as variant
 use Rattle.ppexpand.proofs.Invocations.{at_inner, at_open, at_close, at_separator, at_comma}
 use Rattle.ppexpand.proofs.Gathering.{resumed, resumed-token, resumed-argument, outermost, hidings-push, given-push, known-push, lists_known-push}
 use Rattle.ppexpand.proofs.arguments.gather.Goals as goal
 use Rattle.ppexpand.proofs.arguments.gather.Goals.{in-Close-2, in-Comma+else-separates, in-Open, in-Inner}
 
 -- which mark of the definitions a mark of the code is
-abbrev shown_mark : code.Mark → Mark
+abbrev shown_mark : code.ArgumentRole → ArgumentRole
 shown_mark variant.Quote = Quote
 shown_mark variant.Open = Open
 shown_mark variant.Close = Close
@@ -29,7 +29,7 @@ returns-in-Close-clause-known c = λ sets known.
 pub loop-hidden-preserved-in-Comma : goal.loop-hidden-preserved-in-Comma
 loop-hidden-preserved-in-Comma c =
     let front = c.loop-hidden in
-    let is_comma : mark_of c.in-Some.hidden.token ≡ Comma = sym c.mark_of.ensures ∙ ap shown_mark c.in-Comma.is in
+    let is_comma : argument_role c.in-Some.hidden.token ≡ Comma = sym c.argument_role.ensures ∙ ap shown_mark c.in-Comma.is in
     let list : (sets : Numbered) → AllKnown sets c.args.list.now → AllKnown sets (c.in-Some.hidden ∷ c.next.new.self) = λ sets known. subst (AllKnown sets) c.in-Some.ensures (c.loop-hidden.invariant.list_known sets known) in
     record {
       same = λ sets.
@@ -49,20 +49,20 @@ loop-hidden-preserved-in-Comma c =
 pub loop-hidden-preserved : goal.loop-hidden-preserved
 loop-hidden-preserved c =
     let front = c.loop-hidden in
-    let mark : mark_of c.in-Some.hidden.token ≡ shown_mark c.mark_of.result = sym c.mark_of.ensures in
+    let mark : argument_role c.in-Some.hidden.token ≡ shown_mark c.argument_role.result = sym c.argument_role.ensures in
     let list : (sets : Numbered) → AllKnown sets c.args.list.now → AllKnown sets (c.in-Some.hidden ∷ c.next.new.self) = λ sets known. subst (AllKnown sets) c.in-Some.ensures (c.loop-hidden.invariant.list_known sets known) in
     let step : (sets : Numbered)
     → gather front.depth front.commas (hiding sets c.in-Some.hidden ∷ hidings sets c.next.new.self)
-    ≡ with_token (hiding sets c.in-Some.hidden) (gather c.match-mark_of.depth front.commas (hidings sets c.next.new.self)) = λ sets.
-    elim c.match-mark_of.branch [
-      | in-Close-2 w ↦ (let deeper : front.depth ≡ suc c.match-mark_of.depth = omega (arith, w.depth-is, w.if-depth-eq0.false) in
-          rw deeper (at_close c.match-mark_of.depth front.commas (hiding sets c.in-Some.hidden) (hidings sets c.next.new.self) (mark ∙ ap shown_mark w.in-Close.is)))
+    ≡ with_token (hiding sets c.in-Some.hidden) (gather c.match-argument_role.depth front.commas (hidings sets c.next.new.self)) = λ sets.
+    elim c.match-argument_role.branch [
+      | in-Close-2 w ↦ (let deeper : front.depth ≡ suc c.match-argument_role.depth = omega (arith, w.depth-is, w.if-depth-eq0.false) in
+          rw deeper (at_close c.match-argument_role.depth front.commas (hiding sets c.in-Some.hidden) (hidings sets c.next.new.self) (mark ∙ ap shown_mark w.in-Close.is)))
       | in-Comma+else-separates w ↦ rw w.depth-is (at_comma front.depth front.commas (hiding sets c.in-Some.hidden) (hidings sets c.next.new.self) (mark ∙ ap shown_mark w.in-Comma.is) (sym w.separates.ensures ∙ w.if-separates.false))
-      | in-Open w ↦ (let deeper : c.match-mark_of.depth ≡ suc front.depth = omega (arith, w.depth-is) in
+      | in-Open w ↦ (let deeper : c.match-argument_role.depth ≡ suc front.depth = omega (arith, w.depth-is) in
           rw deeper (at_open front.depth front.commas (hiding sets c.in-Some.hidden) (hidings sets c.next.new.self) (mark ∙ ap shown_mark w.in-Open.is)))
       | in-Inner w ↦ rw w.depth-is (at_inner front.depth front.commas (hiding sets c.in-Some.hidden) (hidings sets c.next.new.self) (mark ∙ ap shown_mark w.in-Inner.is))
     ] in
-    let within : c.match-mark_of.depth ≤ suc (length front.argument.items) = elim c.match-mark_of.branch [
+    let within : c.match-argument_role.depth ≤ suc (length front.argument.items) = elim c.match-argument_role.branch [
       | in-Close-2 w ↦ omega (arith, w.depth-is, front.invariant.within)
       | in-Comma+else-separates w ↦ omega (arith, w.depth-is, front.invariant.within)
       | in-Open w ↦ omega (arith, w.depth-is, front.invariant.within)

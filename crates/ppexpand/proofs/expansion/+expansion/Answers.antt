@@ -10,7 +10,7 @@ use Rattle.ppmacro.specs.declared.flying.Expansion.TheVariants.{Unused}
 use Rattle.ppmacro.proofs.KeepLemmas.{hidings-keeps, known-keeps, keeps-all, keeps-after}
 use Rattle.ppexpand.specs.Turn.{finished, wanted, uses_alone}
 use Rattle.ppexpand.specs.Expansion.{ExpandsArguments}
-use Rattle.ppexpand.specs.Shown.{finished_in, expanded_in, held, ExpansionsKnown, ExpandsArgument, deep, Invokes, refuses, finishes}
+use Rattle.ppexpand.specs.Shown.{finished_in, expanded_in, held, ExpansionsKnown, ExpandsArgument, deep, ComesTo, refuses, finishes}
 use Rattle.ppexpand.proofs.Keeping.{call_of, call_of-keeps, call_known-keeps, given_known-keeps, expanded_known-keeps, expanded_known-push}
 use Rattle.ppexpand.proofs.ArgumentLemmas.{arguments_first, raised_some, raised_none, raised_not, argument_expands, argument_outcome, argument_known, known-item, follows_unused, follows_used, follows_refused, follows_all, marked-alone}
 use Rattle.ppexpand.proofs.Skipping.{plain-expands, next-known, more-known, follows_skip, skip_falls}
@@ -36,8 +36,8 @@ advance-returns-clause-on m c =
     let t = c.follow.new.sets in
     let called = rw c.in-Some.is at c.in_ok-goes.ensures.on in
     let call = call_of s c.in-Some.found c.take_turn.new.list in
-    let invokes : Invokes c.args.table.now c.args.env.now c.args.level call _ c.follow.new.left (finished_in t c.follow.new.list c.follow.new.fault) =
-    subst (λ l. Invokes c.args.table.now c.args.env.now c.args.level call l c.follow.new.left (finished_in t c.follow.new.list c.follow.new.fault)) called.2 c.in_ok-follow.ensures.is in
+    let invokes : ComesTo c.args.table.now c.args.env.now c.args.level call _ c.follow.new.left (finished_in t c.follow.new.list c.follow.new.fault) =
+    subst (λ l. ComesTo c.args.table.now c.args.env.now c.args.level call l c.follow.new.left (finished_in t c.follow.new.list c.follow.new.fault)) called.2 c.in_ok-follow.ensures.is in
     call_taken c.args.table.now c.args.env.now c.args.level c.args.left.now (hidings c.args.sets.now c.args.list.now) call called.0 t c.follow.new.list _ _ c.follow.new.fault c.follow.new.left _ c.is_none.ensures
     (hidings-keeps _ c.in_ok-follow.ensures.keeps c.in_ok-goes.ensures.passed_known ∙ called.3)
     invokes
@@ -87,7 +87,7 @@ follow-returns-clause-is m c =
     (rw none at c.in_ok-expand_arguments.ensures.is) list in
     let same = call_of-keeps c.args.call.now list c.in_ok-expand_arguments.ensures.keeps c.requires.call_known c.requires.list_known in
     on_ok_weaker c.finish.result
-    (λ e. subst (Invokes c.args.table.now c.args.env.now c.args.level call c.args.left.now c.expand_arguments.new.left)
+    (λ e. subst (ComesTo c.args.table.now c.args.env.now c.args.level call c.args.left.now c.expand_arguments.new.left)
     (sym (e ∙ (λ i. finished (same i) (expanded_in u c.args.call.now.arguments.items (c.as_slice.ensures.value i)))))
     (finishes args))
     c.finish.ensures.is

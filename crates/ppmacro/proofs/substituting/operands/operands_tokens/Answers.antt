@@ -3,10 +3,10 @@ use Rattle.pptext.specs.declared.tokens.Fault.{Fault}
 use Rattle.ppmacro.specs.Numbered.{Numbered}
 use Rattle.ppmacro.specs.HideSets.{Hiding, hidings, AllKnown}
 use Rattle.ppmacro.specs.Substitution.{after_ok, operand_tokens, operands_tokens}
-use Rattle.ppmacro.specs.Substituting.{lists_of, behind, arguments_in, ListsKnown}
+use Rattle.ppmacro.specs.Substituting.{lists_of, arguments_in, ListsKnown}
 use Rattle.ppmacro.specs.declared.flying.Hidden.{Hidden}
 use Rattle.pptext.proofs.Stopping.{stops}
-use Rattle.ppmacro.proofs.WalkLemmas.{drop-item}
+use Rattle.ppmacro.proofs.WalkLemmas.{behind, drop-item}
 use Rattle.ppmacro.proofs.substituting.operands.operands_tokens.Goals as goal
 
 lists-more : (s : Numbered) (vs : List (Vec Hidden Global)) (v : Vec Hidden Global) → map (hidings s) (lists_of (vs ++ v ∷ [])) ≡ map (hidings s) (lists_of vs) ++ hidings s v.items ∷ []
