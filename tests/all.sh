@@ -68,18 +68,25 @@ finish() {
 # Whether a program is there; otherwise notes what is missed without it.
 has() {
     command -v "$1" > /dev/null && return
-    printf 'missed: %s: %s is missing (Debian package %s)\n' "$3" "$1" "$2" >> "$kept/missed"
+    package=$(sed -n "s/^$1 //p" tests/packages.txt)
+    printf 'missed: %s: %s is missing (Debian package %s)\n' "$2" "$1" "$package" >> "$kept/missed"
     return 1
 }
 
 if [ $# -gt 0 ]; then
     CPPUNITS=$1
 else
+    # One check for each processor, 4 at most.  rt would run fewer, since it reckons with 9 GB for each; they take 1 to 4.
+    if [ -z "${RT_JOBS:-}" ]; then
+        RT_JOBS=$(nproc)
+        [ "$RT_JOBS" -le 4 ] || RT_JOBS=4
+        export RT_JOBS
+    fi
     count rt ci
     CPPUNITS=crates/cppunits/out/cppunits
 fi
 export CPPUNITS
-if has python3 python3 "the tests of the scripts and documents"; then
+if has python3 "the tests of the scripts and documents"; then
     begin python3 tests/called_tests.py
     begin python3 tests/row_tests.py
     begin python3 tests/phase_tests.py
@@ -90,7 +97,7 @@ if has python3 python3 "the tests of the scripts and documents"; then
     begin python3 tests/hostile_limits.py -k test_a_name -k test_a_content_of_a_folder -k Text. -k Options.
     begin python3 tests/hostile_stack.py -k Stack.
     begin python3 tests/hostile_devices.py
-    if has cc gcc "the runs with refused memory"; then
+    if has cc "the runs with refused memory"; then
         begin python3 tests/refused_memory.py "$CPPUNITS"
     fi
     finish

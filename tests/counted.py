@@ -16,8 +16,9 @@ import unittest
 HERE = os.path.dirname(os.path.abspath(__file__))
 TOP = os.path.dirname(HERE)
 BUILT = os.path.join(TOP, "crates", "cppunits", "out", "cppunits")
-PACKAGES = {"gcc": "gcc", "clang": "clang", "cmake": "cmake", "meson": "meson", "ninja": "ninja-build", "make": "make",
-            "bear": "bear", "parallel": "parallel", "groff": "groff-base", "mandoc": "mandoc"}
+with open(os.path.join(HERE, "packages.txt")) as lines:
+    # a program that tests use, and the Debian package that has it
+    PACKAGES = dict(line.split() for line in lines)
 LIST = {"date": "Feb  9 2024", "time": "08:05:03"}
 PRINTED = re.compile(rb"%([0-9A-F]{2})")
 
