@@ -40,5 +40,3 @@ pub mod Types
 pub mod GuardConditions
 -- Conditions within a budget beside conditions within a larger one or without one.
 pub mod Capped
--- Conditions without a budget are the standard's.
-pub mod Standard

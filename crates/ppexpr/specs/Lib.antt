@@ -15,4 +15,3 @@ pub mod Nesting
 pub mod Direct
 pub mod Conditions
 pub mod Definitions
-pub mod Standard

@@ -1,5 +1,5 @@
 // Laws of the definitions: functions that do nothing, whose contracts are the laws.
-ghost use Rattle.std.specs.Prelude.{◌≡◌, ◌↔◌, ℕ, List, Option, None, Ok};
+ghost use Rattle.std.specs.Prelude.{◌≡◌, ℕ, List, Option, None, Ok};
 ghost use Rattle.pptext.specs.declared.tokens.Place.{Place};
 ghost use Rattle.pptext.specs.declared.tokens.Token.{Token};
 ghost use Rattle.ppmacro.specs.Names.{Macros};
@@ -10,7 +10,6 @@ ghost use Rattle.ppexpr.specs.Outcomes.{Value};
 ghost use Rattle.ppexpr.specs.Values.{has_unsigned_type, outcome_of};
 ghost use Rattle.ppexpr.specs.Grammar.{Parses};
 ghost use Rattle.ppexpr.specs.Conditions.{Condition, IsCondition};
-ghost use Rattle.ppexpr.specs.Standard.{IsStandardCondition};
 
 /// An expression has at most one tree (6.5).
 pub fn one_tree()
@@ -36,8 +35,9 @@ pub fn some_condition()
         → (c : Condition) × (after : Option ℕ) × IsCondition macros env at tokens left c after }
 {}
 
-/// Without a budget a condition is what it is by the standard's rules, which know no budget (6.10.1), and there is none behind it.
+/// Without a budget there is none after a condition either.
 pub fn without_a_budget()
     ensures { (macros : Macros) (env : Env) (at : Place) (tokens : List Token) (c : Condition) (after : Option ℕ)
-        → IsCondition macros env at tokens None c after ↔ ((after ≡ None) × IsStandardCondition macros env at tokens c) }
+        → IsCondition macros env at tokens None c after
+        → after ≡ None }
 {}

@@ -88,11 +88,5 @@ pub mod Capped
 pub mod RefusingLines
 -- Without a budget no unit ends in fault 35.
 pub mod Refusing
--- Lines without a budget do what the standard's do.
-pub mod StandardLines
--- Units without a budget are the standard's.
-pub mod Standard
--- By the standard's rules a unit gives the same whatever its budget is: what is left in a state is never read, and stays.
-pub mod AnyBudget
 -- The directives of the control lines that open no file and do not refuse.
 pub mod ControlKinds

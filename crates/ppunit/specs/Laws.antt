@@ -1,12 +1,11 @@
 -- Laws of units.
-use Rattle.std.specs.Prelude.{◌≡◌, ◌↔◌, ℕ, List, Option, None}
+use Rattle.std.specs.Prelude.{◌≡◌, ℕ, List}
 use Rattle.ppshelf.specs.Names.{AreNames}
 use Rattle.ppshelf.specs.Files.{Files, Extends}
 use Rattle.ppunit.specs.declared.units.Unit.{Unit as UnitOfList}
 use Rattle.ppunit.specs.declared.units.Setting.{Setting}
 use Rattle.ppunit.specs.declared.units.UnitOut.{UnitOut}
 use Rattle.ppunit.specs.Unit.{IsUnit, count}
-use Rattle.ppunit.specs.Standard.{IsStandardUnit}
 
 -- over the same files a unit gives one thing, and has one count
 abbrev pub HasOneValue : Type 0
@@ -23,17 +22,3 @@ Grows =
     → Extends more files
     → (p : IsUnit names files setting unit out)
     → (q : IsUnit names more setting unit out) × (count q ≡ count p)
-
--- without a budget a unit gives what it gives by the standard's rules, which know none
-abbrev pub WithoutABudget : Type 0
-WithoutABudget =
-    (names : List (List ℕ)) (files : Files) (setting : Setting) (unit : UnitOfList) (out : UnitOut)
-    → setting.budget ≡ None
-    → (IsUnit names files setting unit out ↔ IsStandardUnit names files setting unit out)
-
--- by the standard's rules a unit gives the same whatever its budget is
-abbrev pub KnowsNoBudget : Type 0
-KnowsNoBudget =
-    (names : List (List ℕ)) (files : Files) (setting : Setting) (unit : UnitOfList) (out : UnitOut) (budget : Option ℕ)
-    → IsStandardUnit names files setting unit out
-    → IsStandardUnit names files (record setting { budget = budget }) unit out

@@ -11,8 +11,6 @@ pub mod Group
 pub mod Counts
 pub mod Commands
 pub mod Unit
-pub mod StandardLines
-pub mod Standard
 pub mod Units
 pub mod Laws
 pub mod Capped

@@ -1,5 +1,5 @@
 // Laws of units: functions that do nothing, whose contracts are the laws. They call what they rest on.
-ghost use Rattle.ppunit.specs.Laws.{HasOneValue, Grows, WithoutABudget, KnowsNoBudget};
+ghost use Rattle.ppunit.specs.Laws.{HasOneValue, Grows};
 ghost use Rattle.ppunit.specs.Capped.{StaysWithin, BudgetCaps, LargerBudgetsGiveNoLess, OnlyBudgetsRefuse};
 
 use ppexpand::one_expansion;
@@ -50,10 +50,3 @@ pub fn larger_budgets_give_no_less()
 {
     one_value();
 }
-
-/// A law: without a budget a unit gives what it gives by the standard's own rules (5.1.1.2, 6.10); and these know no budget, so that by them
-/// a unit gives the same whatever its budget is.
-pub fn without_a_budget()
-    ensures rules { WithoutABudget }
-    ensures any_budget { KnowsNoBudget }
-{}

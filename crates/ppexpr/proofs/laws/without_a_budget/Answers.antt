@@ -1,5 +1,5 @@
-use Rattle.ppexpr.proofs.Standard.{standard}
+use Rattle.ppexpr.proofs.Capped.{condition_leaves_none}
 use Rattle.ppexpr.proofs.laws.without_a_budget.Goals as goal
 
 pub returns : goal.returns
-returns c = standard
+returns c = λ macros env at tokens answer after d. condition_leaves_none d
