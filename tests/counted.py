@@ -16,7 +16,7 @@ import unittest
 HERE = os.path.dirname(os.path.abspath(__file__))
 TOP = os.path.dirname(HERE)
 BUILT = os.path.join(TOP, "crates", "cppunits", "out", "cppunits")
-PACKAGES = {"gcc": "gcc", "clang": "clang", "cmake": "cmake", "meson": "meson", "ninja": "ninja-build", "make": "make",
+PACKAGES = {"cc": "gcc", "gcc": "gcc", "clang": "clang", "cmake": "cmake", "meson": "meson", "ninja": "ninja-build", "make": "make",
             "bear": "bear", "parallel": "parallel", "groff": "groff-base", "mandoc": "mandoc"}
 LIST = {"date": "Feb  9 2024", "time": "08:05:03"}
 PRINTED = re.compile(rb"%([0-9A-F]{2})")
