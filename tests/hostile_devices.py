@@ -4,19 +4,22 @@
     tests/hostile_devices.py [PROGRAM] [-k NAME]
 
 Inputs that are closed, a directory, without data yet or slow; outputs that are closed, full, without room yet, slow or left by
-their reader; standard error closed or full; and, in a folder, files that are none.  A stream that fails is status 5, with
-nothing printed or a beginning of the answer; no run may hang or end by a signal.
+their reader, of a run and of `--help`; standard error closed or full; and, in a folder, files that are none, and reads for
+which the system has no memory or no file descriptor.  A stream that fails is status 5, with nothing printed or a beginning of
+the answer; what the system hasn't got is status 4, with nothing printed; no run may hang or end by a signal.
 """
 import errno
 import json
 import os
+import resource
 import subprocess
 import tempfile
 import threading
 import time
 import unittest
 
-from counted import LIST, cppunits, main, program
+from counted import LIST, Folder, cppunits, main, missed, program, write
+from refusals import refusing_files, runs
 
 MOST_SECONDS = 10
 # where the other end is slow, on a machine that has other things to do
@@ -25,12 +28,17 @@ MOST_SECONDS_OF_SLOW_ENDS = 120
 TEXT = "word " * 20_000
 LONG = json.dumps(dict(LIST, files=[{"name": "a.c", "text": TEXT}], units=[{"file": "a.c"}])).encode()
 READ_FAILED, WRITE_FAILED = (5, b"", b"cppunits: read failed\n"), (5, b"cppunits: write failed\n")
+OUT_OF_MEMORY = (4, b"", b"cppunits: out of memory\n")
 EMPTY = b'{"date":"Feb  9 2024","time":"08:05:03","files":[],"units":[]}'
+# errors that say nothing about a file, and some of those that do
+SHORTAGES = errno.ENOMEM, errno.ENFILE, errno.EMFILE
+OTHERS = errno.EACCES, errno.EIO, errno.EISDIR, errno.ELOOP, errno.ENAMETOOLONG, errno.ENOENT, errno.ENOTDIR
 
 
-def shell(redirected, data=LONG):
+def shell(redirected, data=LONG, words="dump"):
     """The status and standard error of a run whose streams a shell redirects."""
-    done = subprocess.run(["sh", "-c", '"$0" dump ' + redirected, program()], input=data, capture_output=True, timeout=MOST_SECONDS)
+    command = '"$0" %s %s' % (words, redirected)
+    done = subprocess.run(["sh", "-c", command, program()], input=data, capture_output=True, timeout=MOST_SECONDS)
     return done.returncode, done.stderr
 
 
@@ -164,6 +172,22 @@ class Outputs(Streams):
         self.is_whole_or(None, (child.wait(MOST_SECONDS), b"".join(pieces), words))
 
 
+    def test_help_and_version(self):
+        """What they print is the whole answer, so a write that fails is told."""
+        full = ["> /dev/full"] if os.path.exists("/dev/full") else []
+        for words in "--help", "--version", "dump --help":
+            self.assertEqual(shell("", b"", words), (0, b""), words)
+            for redirected in [">&-", *full]:
+                self.assertEqual(shell(redirected, b"", words), WRITE_FAILED, (words, redirected))
+
+    def test_help_left_by_its_reader(self):
+        takes, gives = os.pipe()
+        os.close(takes)
+        with os.fdopen(gives, "wb") as output:
+            done = subprocess.run([program(), "--help"], stdout=output, stderr=subprocess.PIPE, timeout=MOST_SECONDS)
+        self.assertEqual((done.returncode, done.stderr), WRITE_FAILED)
+
+
 class Errors(Streams):
     def test_closed_and_full(self):
         for redirected in "2>&-", "2> /dev/full":
@@ -223,6 +247,89 @@ class Files(unittest.TestCase):
             self.is_unreadable("plain")
         else:
             raise unittest.SkipTest("this user may read every file")
+
+
+class Shortages(Folder):
+    """Runs for which the system has no memory or no file descriptor: status 4 and nothing printed, or the answer."""
+
+    def setUp(self):
+        super().setUp()
+        self.units = ["u%d.c" % number for number in range(64)]
+        self.files = {name: '#include "h.h"\n#include "i.h"\n%s\n' % name for name in self.units}
+        self.files.update({"h.h": "#ifndef H\n#define H\nint h;\n#endif\n", "i.h": "int i;\n"})
+        write(self.top, self.files)
+
+    def list_of(self, units):
+        files = [{"name": name} for name in [*units, "h.h", "i.h"]]
+        return json.dumps(dict(LIST, files=files, units=[{"file": name} for name in units])).encode()
+
+    def command(self, workers):
+        return [program(), "--workers", str(workers), "--block", "1", "--root", self.top, "dump"]
+
+    def outcome(self, units, workers=1, **more):
+        done = subprocess.run(self.command(workers), input=self.list_of(units), capture_output=True, timeout=MOST_SECONDS, **more)
+        return done.returncode, done.stdout, done.stderr
+
+    def limited(self, descriptors, workers):
+        """What comes of a run of all units with a limit of descriptors."""
+        limits = descriptors, descriptors
+        return self.outcome(self.units, workers, preexec_fn=lambda: resource.setrlimit(resource.RLIMIT_NOFILE, limits))
+
+    def test_few_descriptors(self):
+        """More workers than files that may be open at once."""
+        answer = self.outcome(self.units)
+        self.assertEqual((answer[0], answer[2]), (0, b""))
+        for limit in 4, 5, 6, 8, 16:
+            for _ in range(8):
+                self.assertIn(self.limited(limit, 64), (answer, OUT_OF_MEMORY), limit)
+
+    def test_enough_descriptors(self):
+        """A file at a time for each worker, and the three streams."""
+        answer = self.outcome(self.units)
+        for _ in range(8):
+            self.assertEqual(self.limited(8 + 3, 8), answer)
+
+    def test_no_descriptor(self):
+        """A limit of 3, set once the program reads its list: no file can be opened."""
+        for workers in 1, 64:
+            child = subprocess.Popen(self.command(workers), stdin=subprocess.PIPE, stdout=subprocess.PIPE, stderr=subprocess.PIPE)
+            self.addCleanup(child.wait)
+            self.addCleanup(child.kill)
+            # more white space than a pipe holds, so that the program has begun to read it
+            child.stdin.write(b" " * 2_000_000)
+            child.stdin.flush()
+            resource.prlimit(child.pid, resource.RLIMIT_NOFILE, (3, 3))
+            output, words = child.communicate(self.list_of(self.units), MOST_SECONDS)
+            self.assertEqual((child.returncode, output, words), OUT_OF_MEMORY, workers)
+
+    def refused_in_turn(self, error, workers, units):
+        """What comes of each run with one call on a file refused, by this error."""
+        with refusing_files() as files:
+            for _, done, met in runs(self.command(workers), files, self.list_of(units), error=error):
+                if met:
+                    yield done.returncode, done.stdout, done.stderr
+
+    def test_each_call_refused(self):
+        missed("cc")
+        for error in SHORTAGES:
+            for workers in 1, 4:
+                found = list(self.refused_in_turn(error, workers, self.units[:4]))
+                # at least a look, an opening and a read of six files
+                self.assertGreaterEqual(len(found), 18)
+                self.assertEqual(set(found), {OUT_OF_MEMORY}, (errno.errorcode[error], workers))
+
+    def test_each_call_fails(self):
+        """Any other error is that of a file that isn't there."""
+        missed("cc")
+        units = self.units[:1]
+        wanted = set()
+        for name in [*units, "h.h", "i.h"]:
+            os.rename(self.path(name), self.path("away"))
+            wanted.add(self.outcome(units))
+            os.rename(self.path("away"), self.path(name))
+        self.assertEqual([status for status, *_ in wanted], [1, 1, 1])
+        for error in OTHERS:
+            self.assertEqual(set(self.refused_in_turn(error, 1, units)), wanted, errno.errorcode[error])
 
 
 if __name__ == "__main__":

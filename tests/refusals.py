@@ -1,4 +1,4 @@
-"""Runs of a program with one request for memory refused, or all from one on, for refused_memory.py and refused_in_tests.py."""
+"""Runs of a program with one of its requests refused, or all from one on, for refused_memory.py, refused_in_tests.py and hostile_devices.py."""
 import contextlib
 import os
 import subprocess
@@ -15,20 +15,32 @@ def refused(call, on):
 
 
 @contextlib.contextmanager
-def refusing_malloc():
-    """The path of the built refuse_malloc.c, for as long as it is used."""
+def built(source):
+    """The path of this C file of the folder, built as a library to preload, for as long as it is used."""
     with tempfile.TemporaryDirectory() as folder:
-        library = os.path.join(folder, "refuse_malloc.so")
-        subprocess.run(["cc", "-O2", "-shared", "-fPIC", "-o", library, os.path.join(HERE, "refuse_malloc.c")], check=True)
+        library = os.path.join(folder, "refusing.so")
+        subprocess.run(["cc", "-O2", "-shared", "-fPIC", "-o", library, os.path.join(HERE, source)], check=True)
         yield library
 
 
-def run(command, malloc, call, data=None, on=False):
-    """The run in which this request is refused, and with `on` all behind it, and whether it met the refusal."""
+def refusing_malloc():
+    """The path of the built refuse_malloc.c, for as long as it is used."""
+    return built("refuse_malloc.c")
+
+
+def refusing_files():
+    """The path of the built refuse_files.c, for as long as it is used."""
+    return built("refuse_files.c")
+
+
+def run(command, library, call, data=None, on=False, error=None):
+    """The run in which this request is refused, with this error number, and with `on` all behind it, and whether it met the refusal."""
     told, tells = os.pipe()
-    environment = dict(os.environ, LD_PRELOAD=malloc, REFUSED_CALL=str(call), REFUSAL_FD=str(tells))
+    environment = dict(os.environ, LD_PRELOAD=library, REFUSED_CALL=str(call), REFUSAL_FD=str(tells))
     if on:
         environment["REFUSED_ON"] = "1"
+    if error is not None:
+        environment["REFUSED_ERROR"] = str(error)
     try:
         done = subprocess.run(command, input=data, capture_output=True, env=environment, pass_fds=(tells,), timeout=60)
     finally:
@@ -38,10 +50,10 @@ def run(command, malloc, call, data=None, on=False):
     return done, met
 
 
-def runs(command, malloc, data=None, on=False):
+def runs(command, library, data=None, on=False, error=None):
     """The runs with the 1st, 2nd, 3rd .. request refused, each with its number, up to the first that meets no refusal."""
     for call in range(1, MOST_RUNS):
-        done, met = run(command, malloc, call, data, on)
+        done, met = run(command, library, call, data, on, error)
         yield call, done, met
         if not met:
             return

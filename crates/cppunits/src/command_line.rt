@@ -4,7 +4,7 @@ ghost use Rattle.cppunits.specs.Asking.{InRange, IfRun};
 
 use clap::error::ErrorKind;
 use clap::{Arg, ArgMatches, Command, Error};
-use ppserve::{Mode, RunFault, words};
+use ppserve::{Mode, RunFault};
 use std::alloc::{AllocError, Global};
 use std::rt::Env;
 use std::{env, io};
@@ -27,7 +27,7 @@ pub struct Options {
 pub enum Asked {
     /// A run.
     Run(Options),
-    /// No run: its help was printed, or why it can't be followed, and the program ends with this status.
+    /// No run: the help or the version was printed, or why the words can't be followed, and the program ends with this status.
     Stop(u8),
 }
 
@@ -36,8 +36,6 @@ const MOST_WORKERS: usize = 64;
 const MOST_BLOCK: usize = 1024;
 
 const USAGE: u8 = 2;
-
-const MEMORY: u8 = 4;
 
 const VERSION: &str = "0.1.0";
 
@@ -51,23 +49,33 @@ const ABOUT_DEPS: &str = "Prints each unit's dependencies and its first fault";
 const MORE: &str = "\
 The list comes from standard input: a JSON object with `date`, `time`, `files` and `units`. What is printed goes to standard output, once
 all units are done. docs/FORMAT.md of the sources has the form of both, docs/FAULTS.md what each number of a fault or a refusal means.
-Status: 0 no unit has a fault, 1 some unit has one, 2 usage, 3 the list is refused, 4 out of memory, 5 a read or write
-failed, or the system gives no random bytes.";
+Status: 0 no unit has a fault, 1 some unit has one, 2 usage, 3 the list is refused, 4 out of memory or of file descriptors,
+5 a read or write failed, or the system gives no random bytes.";
 
-/// Judges the program's words, and prints what there is to say of them.
-pub fn ask<R: Env + AllocGlobal + Print + Eprint>(rt: &R) -> Asked
-    ensures { IfRun result InRange }
+/// Judges the program's words, and prints what there is to say of them. Fails where memory runs out, or where the help or
+/// the version can't be written.
+pub fn ask<R: Env + AllocGlobal + Print + Eprint>(rt: &R) -> Result<Asked, RunFault>
+    ensures { IfOk result (λ asked. IfRun asked InRange) }
 {
-    let error = match parse(rt) {
-        Ok(options) => return Asked::Run(options),
-        Err(error) => error,
-    };
-    if error.kind() == ErrorKind::OutOfMemory {
-        let _ = eprintln!(rt; "{}", words(&RunFault::Memory));
-        return Asked::Stop(MEMORY);
+    match parse(rt) {
+        Ok(options) => Ok(Asked::Run(options)),
+        Err(error) => Ok(Asked::Stop(stop_status(rt, &error)?)),
     }
-    let _ = error.print(rt);
-    Asked::Stop(if error.exit_code() == 0 { 0 } else { USAGE })
+}
+
+// Prints the help, the version or the mistake that the words come to. The program's status.
+fn stop_status<R: Print + Eprint>(rt: &R, error: &Error) -> Result<u8, RunFault> {
+    if error.kind() == ErrorKind::OutOfMemory {
+        return Err(RunFault::Memory);
+    }
+    let printed = error.print(rt);
+    if error.use_stderr() {
+        return Ok(USAGE);
+    }
+    match printed {
+        Ok(()) => Ok(0),
+        Err(_) => Err(RunFault::Write),
+    }
 }
 
 fn parse<R: Env + AllocGlobal>(rt: &R) -> Result<Options, Error>

@@ -34,8 +34,9 @@ fn main(rt: HostRuntime) -> ExitCode {
         return ended(&rt, &Err(RunFault::Memory));
     }
     let options = match command_line::ask(&rt) {
-        Asked::Run(options) => options,
-        Asked::Stop(status) => return ExitCode::from(status),
+        Ok(Asked::Run(options)) => options,
+        Ok(Asked::Stop(status)) => return ExitCode::from(status),
+        Err(fault) => return ended(&rt, &Err(fault)),
     };
     let mut reader = ReaderFeed::new(rt.stdin());
     let mut writer = WriterSink::new(rt.stdout());

@@ -10,7 +10,7 @@ use std::alloc::Global;
 pub enum ReadFault {
     /// No file of this name can be read.
     Unreadable,
-    /// Memory ran out. It says nothing about the file.
+    /// Memory ran out, or what else a read takes of the system, as file descriptors. It says nothing about the file.
     Memory,
 }
 

@@ -1,14 +1,16 @@
 // Real files.
-ghost use Rattle.std.specs.Prelude.{◌≡◌, ◌≤◌, ◌++◌, ◌∷◌, suc, take, IfOk, IfSome};
+ghost use Rattle.std.specs.Prelude.{◌≡◌, ◌≤◌, ◌↔◌, ◌++◌, ◌∷◌, suc, take, IfOk, IfSome};
 ghost use Rattle.std.specs.String.{string_bytes};
 ghost use Rattle.ppshelf.specs.Content.{longest};
+ghost use Rattle.ppshelf.specs.Faults.{IsShortage};
+ghost use Rattle.ppshelf.specs.declared.disk.ReadFault.TheVariants.{Memory};
 
 use crate::disk::{Disk, ReadFault};
 use pptext::LONGEST;
 use std::alloc::{AllocError, Global};
-use std::fs;
 use std::io::{ErrorKind, Read};
 use std::rt::Files;
+use std::{fs, io};
 
 /// The files under a folder: that of a name has the path of the folder, `/` and the name.
 ///
@@ -51,11 +53,11 @@ fn open_plain<R: Files>(files: &R, path: &str) -> Result<(R::File, usize), ReadF
     let len = match fs::metadata(files, path) {
         Ok(found) if found.is_file() => found.len().min(LONGEST as u64) as usize,
         Ok(_) => return Err(ReadFault::Unreadable),
-        Err(error) => return Err(fault_of(error.kind())),
+        Err(error) => return Err(fault_of(&error)),
     };
     match fs::open(files, path) {
         Ok(file) => Ok((file, len)),
-        Err(error) => Err(fault_of(error.kind())),
+        Err(error) => Err(fault_of(&error)),
     }
 }
 
@@ -79,14 +81,21 @@ fn read_start<F: Read + Drop>(alloc: Global, file: F, len: usize) -> Result<Vec<
     };
     match file.take(LONGEST as u64 + 1).read_to_end(&mut bytes) {
         Ok(_) => Ok(bytes),
-        Err(error) => Err(fault_of(error.kind())),
+        Err(error) => Err(fault_of(&error)),
     }
 }
 
-// Want of memory says nothing about the file.
-fn fault_of(kind: ErrorKind) -> ReadFault {
-    if kind == ErrorKind::OutOfMemory {
-        return ReadFault::Memory;
+// Linux's numbers of two errors for which there is no `ErrorKind`: no file descriptor is left in the whole system, or in this process.
+const ENFILE: i32 = 23;
+
+const EMFILE: i32 = 24;
+
+// What the system has none of just now, memory or a file descriptor, says nothing about the file.
+fn fault_of(error: &io::Error) -> ReadFault
+    ensures { (result ≡ Memory) ↔ IsShortage error.now }
+{
+    match (error.kind(), error.raw_os_error()) {
+        (ErrorKind::OutOfMemory, _) | (_, Some(ENFILE | EMFILE)) => ReadFault::Memory,
+        _ => ReadFault::Unreadable,
     }
-    ReadFault::Unreadable
 }
