@@ -2,9 +2,10 @@
 # The gate: `rt ci`, and then whether the crates' tests call each public function, and, over the program that it leaves behind, rows of
 # conditions, macro replacement, files and budgets, files beside plain passes of phases 1 and 2, the tests of the scripts, the examples of
 # the README and of docs/, cut texts and lists, the limits that take no seconds (names, contents of a folder, includes, conditions,
-# arguments, `#line`, options), all depths at once in a small stack, streams and files that fail, and the runs with refused memory.  The
-# last line is `N passed, N failed` over all of it; before it stands which tests were missed, with the program that is missing and the
-# Debian package that has it.  What takes longer is in tests/hostile.sh.
+# arguments, `#line`, options, units, files, contents of a list, definitions), which lists are refused and what is printed of the others, all
+# depths at once in a small stack, streams and files that fail, and the runs with refused memory.  The last line is `N passed, N failed` over
+# all of it; before it stands which tests were missed, with the program that is missing and the Debian package that has it.  What takes
+# longer is in tests/hostile.sh.
 #
 #     tests/all.sh [PROGRAM]     with a PROGRAM, no `rt ci`: the other tests, over this one
 case ${1:-/} in
@@ -93,8 +94,9 @@ if has python3 "the tests of the scripts and documents"; then
     begin python3 tests/list_tests.py
     begin python3 tests/scripts_tests.py
     begin python3 tests/docs_examples.py
+    begin python3 tests/serving_tests.py
     begin python3 tests/truncated.py
-    begin python3 tests/hostile_limits.py -k test_a_name -k test_a_content_of_a_folder -k Text. -k Options.
+    begin python3 tests/hostile_limits.py -k test_a_name -k test_units -k test_files -k test_a_content -k test_definitions -k Text. -k Options.
     begin python3 tests/hostile_stack.py -k Stack.
     begin python3 tests/hostile_devices.py
     if has cc "the runs with refused memory"; then

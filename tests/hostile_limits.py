@@ -76,27 +76,34 @@ class Input(Limits):
 
     def test_files(self):
         files = [{"name": "f%d" % i, "text": ""} for i in range(COUNT + 1)]
-        last = [{"file": "f%d" % (COUNT - 1)}]
-        self.answers(listed(files[:-1], last), 0, b"unit 0 f65534\ndep 65534 f65534\nok\n")
-        self.refused(listed(files, last), 4)
+        units = [{"file": "f0"}, {"file": "f%d" % (COUNT - 1)}, {"file": "f%d" % COUNT}]
+        self.answers(listed(files[:-1], units[:-1]), 0, b"unit 0 f0\ndep 0 f0\nok\nunit 1 f65534\ndep 65534 f65534\nok\n")
+        self.refused(listed(files[:-1], units), 5)
+        self.refused(listed(files, units), 4)
 
     def test_a_content_of_the_list(self):
         self.answers(one_text(" " * CONTENT), 0, ANSWER)
         self.refused(one_text(" " * (CONTENT + 1)), 4)
 
     def test_a_content_of_a_folder(self):
+        """A file of a terabyte, nearly all of it a hole, is left once it is known to be too long."""
         names = listed([{"name": "a.c"}], [{"file": "a.c"}])
+        unreadable = b"unit 0 a.c\ndep 0 a.c\nfault 6 0:1:1 a.c\n"
         with tempfile.TemporaryDirectory() as folder:
-            for more, status, output in (0, 0, ANSWER), (1, 1, b"unit 0 a.c\ndep 0 a.c\nfault 6 0:1:1 a.c\n"):
+            for size, status, output in (CONTENT, 0, ANSWER), (CONTENT + 1, 1, unreadable), (2**40, 1, unreadable):
                 with open(os.path.join(folder, "a.c"), "wb") as file:
-                    file.write(b" " * (CONTENT + more))
+                    file.write(b" " * min(size, CONTENT + 1))
+                    file.truncate(size)
                 self.answers(names, status, output, "--root", folder)
 
     def test_definitions(self):
-        """With `#define ` before it and a new-line behind it."""
-        line = "X " + "1" * (CONTENT - len("#define X \n"))
-        self.answers(one_text("#ifdef X\n1\n#endif\n", define=[line]), 0, b"unit 0 a.c\ntok 0:2:1 0:2:1 n+ 1\ndep 0 a.c\nok\n")
-        self.refused(one_text("", define=[line + "1"]), 4)
+        """Together, each with `#define ` before it and a new-line after it."""
+        for others in [], ["A B"]:
+            rest = "".join("#define %s\n" % line for line in ["X ", *others])
+            line = "X " + "1" * (CONTENT - len(rest))
+            output = b"unit 0 a.c\ntok 0:2:1 0:2:1 n+ 1\ndep 0 a.c\nok\n"
+            self.answers(one_text("#ifdef X\n1\n#endif\n", define=[line, *others]), 0, output)
+            self.refused(one_text("", define=[line + "1", *others]), 4)
 
 
 class Text(Limits):

@@ -3,12 +3,10 @@ ghost use Rattle.std.specs.Vec.{vec_len};
 ghost use Rattle.ppshelf.specs.Files.{most_rows};
 
 mod again;
-mod disks;
 mod filling;
 mod looking;
 mod naming;
 mod reading;
-mod searching;
 
 use ppshelf::{Disk, File, Loaded, MemoryDisk, Pass, ReadFault, Shelf};
 use pptext::{Directive, Line, Memory, Profile};

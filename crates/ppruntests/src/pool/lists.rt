@@ -81,19 +81,13 @@ pub(crate) fn units_of(
     Ok(units)
 }
 
-// A token, with a space behind it.
-fn push_token(text: &mut Vec<u8>, item: &Item) -> Result<(), AllocError> {
-    let Item::Token(token) = item else {
-        return Ok(());
-    };
-    text.extend_from_slice(token.text.as_bytes())?;
-    text.push(b' ')?;
-    Ok(())
-}
-
+// A unit's tokens, each with a space after it.
 fn push_tokens(alloc: Global, text: &mut Vec<u8>, out: &UnitOut) -> Result<(), AllocError> {
     for item in &out.items.to_vec(alloc)? {
-        push_token(text, item)?;
+        if let Item::Token(token) = item {
+            text.extend_from_slice(token.text.as_bytes())?;
+            text.push(b' ')?;
+        }
     }
     text.extend_from_slice(b"| ")
 }

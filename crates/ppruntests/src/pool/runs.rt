@@ -155,13 +155,9 @@ fn assert_gives<R: Threads + Sync + Abort>(
     crew: Crew,
 ) -> Result<(), Fail> {
     let text = given(rt, alloc, case, disk, crew)?;
-    assert_shown(rt, text.as_slice(), case.told);
-    Ok(())
-}
-
-// That what was found is the text that was wanted.
-fn assert_shown(rt: &impl Abort, found: &[u8], wanted: &str) {
+    let (found, wanted) = (text.as_slice(), case.told);
     assert!(rt; found == wanted.as_bytes(), "{found:?} for {wanted}");
+    Ok(())
 }
 
 /// A unit for each of seven files, the last of which can't be read.

@@ -1,20 +1,36 @@
-// The output of a unit whose answer is known.
-use super::spelled;
-use ppserve::{List, ListFault, deps, dump, read_list};
-use pptext::{Fault, Hashing, Place, Spelling};
+// What is read of a list, and the output of a unit whose answer is known.
+use ppserve::{Contents, List, ListFault, deps, dump, read_list};
+use pptext::{Fault, Hashing, Place, Profile, Spelling};
 use ppunit::{Items, Rows, UnitOut};
 use std::alloc::{AllocError, Global};
 use std::process::Abort;
 use std::test::Fail;
 
 const UNIT_OF_TWO: &str =
-    r#"{$when,"files":[{"name":"a b.h"},{"name":"c.c"}],"units":[{"file":"c.c"}]}"#;
+    r#"{~"date":"Feb  9 2024","time":"08:05:03","files":[{"name":"a b.h"},{"name":"c.c"}],"units":[{"file":"c.c"}]}"#;
 
 const PRINTED: &str = "unit 0 c.c\ndep 1 c.c\ndep 0 a b.h\nfault 9 1:20:300 a%25\n";
 
-fn list_of_unit(alloc: Global) -> Result<List, ListFault> {
-    let text = spelled(alloc, UNIT_OF_TWO, "")?;
+/// What stands for the tilde, and what it says: the budget, and the profile, by which the unit's definitions are read, too.
+const MEMBERS: &[(&str, Option<u64>, Profile)] = &[
+    ("", None, Profile::C11),
+    (
+        r#""budget":4294967295,"profile":"later","#,
+        Some(4_294_967_295),
+        Profile::Later,
+    ),
+];
+
+fn list_of_unit(alloc: Global, members: &str) -> Result<List, ListFault> {
+    let text = UNIT_OF_TWO.replace(alloc, "~", members)?;
     read_list(alloc, text.as_bytes(), false, Hashing::fixed())
+}
+
+/// Whether a list of one unit has this budget and this profile.
+fn has_setting(list: &List, budget: Option<u64>, profile: Profile) -> bool {
+    list.setting.budget == budget
+        && list.setting.profile == profile
+        && matches!(list.units.as_slice(), [unit] if unit.defines.profile() == profile)
 }
 
 /// The second row and the first.
@@ -61,7 +77,26 @@ fn assert_printed(rt: &impl Abort, alloc: Global, list: &List, out: UnitOut) -> 
 }
 
 #[test]
-fn dumps_a_unit(rt: HostRuntime) -> Result<(), Fail> {
-    let list = list_of_unit(rt.alloc())?;
-    assert_printed(&rt, rt.alloc(), &list, out_of(rt.alloc())?)
+fn reads_a_list_and_prints_its_unit(rt: HostRuntime) -> Result<(), Fail> {
+    for &(members, budget, profile) in MEMBERS {
+        let list = list_of_unit(rt.alloc(), members)?;
+        assert!(&rt; has_setting(&list, budget, profile), "{members}");
+        assert_printed(&rt, rt.alloc(), &list, out_of(rt.alloc())?)?;
+    }
+    Ok(())
+}
+
+/// Whether these are the contents of one file, `x`.
+fn are_x(contents: &[Vec<u8>]) -> bool {
+    matches!(contents, [text] if text.as_slice() == b"x".as_slice())
+}
+
+#[test]
+fn contents_are_given_back(rt: HostRuntime) -> Result<(), Fail> {
+    let mut texts = Vec::new(rt.alloc());
+    texts.push(Vec::from_slice(rt.alloc(), b"x")?)?;
+    let contents = Contents::new(texts);
+    assert!(rt; are_x(contents.as_slice()));
+    assert!(rt; are_x(contents.into_vec().as_slice()));
+    Ok(())
 }

@@ -1,8 +1,10 @@
 // Streams that fail, that take little at a time, and those of the system.
-use super::devices::Limits;
-use super::{BY_FOUR, How, assert_ended, assert_prints, run_list};
-use ppserve::{Mode, ReaderFeed, RunFault, WriterSink, serve, status};
+use super::devices::{Limits, UNLIMITED};
+use super::{assert_ended, assert_sends, run_list};
+use ppserve::{Mode, ReaderFeed, RunFault, WriterSink, serve_from, status};
+use ppshelf::{File, MemoryDisk};
 use pptext::{Hashing, Memory};
+use std::alloc::{AllocError, Global};
 use std::process::Abort;
 use std::test::Fail;
 use std::thread::Threads;
@@ -15,19 +17,17 @@ const EXAMPLE_OUTPUT: &str =
 
 #[test]
 fn writes_nothing_after_a_failed_read(rt: HostRuntime) -> Result<(), Fail> {
-    let how = How {
-        reader: Limits {
-            most: 30,
-            fails_at: 2,
-        },
-        ..BY_FOUR
+    let reading = Limits {
+        most: 30,
+        fails_at: 2,
     };
-    let run = run_list(&rt, EXAMPLE, &how);
+    let run = run_list(&rt, EXAMPLE, reading, UNLIMITED);
     assert_ended(&rt, &run, b"", (5, "cppunits: read failed"))
 }
 
 /// A list with a file of two names, each on a line of its own, that two units preprocess.
-const NAMES: &str = r#"{$when,"files":[{"name":"a.c","text":"~\n~"}],"units":[$unit,$unit]}"#;
+const NAMES: &str =
+    r#"{"date":"Feb  9 2024","time":"08:05:03","files":[{"name":"a.c","text":"~\n~"}],"units":[{"file":"a.c"},{"file":"a.c"}]}"#;
 
 const NAMES_OUTPUT: &str = concat!(
     "unit 0 a.c\ntok 0:1:1 0:1:1 i+ ~\ntok 0:2:1 0:2:1 i+ ~\ndep 0 a.c\nok\n",
@@ -35,7 +35,8 @@ const NAMES_OUTPUT: &str = concat!(
 );
 
 /// A list with a file of one name.
-const NAME: &str = r#"{$when,"files":[{"name":"a.c","text":"~"}],"units":[$unit]}"#;
+const NAME: &str =
+    r#"{"date":"Feb  9 2024","time":"08:05:03","files":[{"name":"a.c","text":"~"}],"units":[{"file":"a.c"}]}"#;
 
 const NAME_OUTPUT: &str = "unit 0 a.c\ntok 0:1:1 0:1:1 i+ ~\ndep 0 a.c\nok\n";
 
@@ -64,27 +65,41 @@ const SENT: &[(&str, &str, usize, (usize, usize), usize)] = &[
 #[test]
 fn breaks_off_at_each_write(rt: HostRuntime) -> Result<(), Fail> {
     for &(list, whole, times, (most, fails_at), len) in SENT {
-        let writer = Limits { most, fails_at };
-        let how = How { writer, ..BY_FOUR };
+        let writing = Limits { most, fails_at };
         let name = "n".repeat(rt.alloc(), times)?;
-        assert_prints(&rt, (list, whole), name.as_str(), &how, len)?;
+        assert_sends(&rt, (list, whole), name.as_str(), writing, len)?;
     }
     Ok(())
 }
 
-/// What four workers make of the example, from the system's reader to the system's writer.
+/// The example with the name of its file alone, and a disk that has the file.
+const NAMED: &str =
+    r#"{"date":"Feb  9 2024","time":"08:05:03","files":[{"name":"a.c"}],"units":[{"file":"a.c"}]}"#;
+
+fn disk_of(alloc: Global) -> Result<MemoryDisk, AllocError> {
+    let mut files = Vec::new(alloc);
+    files.push(File {
+        name: String::from_str(alloc, "a.c")?,
+        bytes: Vec::from_slice(alloc, b"a+b/**/c\n")?,
+    })?;
+    Ok(MemoryDisk { files })
+}
+
+/// What four workers make of it, from the system's reader to the system's writer.
 fn run_between<R: Threads + AllocGlobal + Sync>(
     rt: &R,
+    disk: &MemoryDisk,
     bytes: &mut Vec<u8>,
 ) -> Result<bool, RunFault> {
-    let mut reader = ReaderFeed::new(EXAMPLE.as_bytes());
+    let mut reader = ReaderFeed::new(NAMED.as_bytes());
     let mut writer = WriterSink::new(bytes);
     let (alloc, hashing) = (rt.alloc(), Hashing::fixed());
-    serve(
+    serve_from(
         rt,
         alloc,
         &mut reader,
         &mut writer,
+        disk,
         Mode::Dump,
         4,
         8,
@@ -93,9 +108,10 @@ fn run_between<R: Threads + AllocGlobal + Sync>(
 }
 
 #[test]
-fn serves_over_a_reader_and_a_writer(rt: HostRuntime) -> Result<(), Fail> {
+fn serves_from_a_disk_over_a_reader_and_a_writer(rt: HostRuntime) -> Result<(), Fail> {
+    let disk = disk_of(rt.alloc())?;
     let mut bytes = Vec::new(rt.alloc());
-    let outcome = run_between(&rt, &mut bytes);
+    let outcome = run_between(&rt, &disk, &mut bytes);
     assert!(&rt; EXAMPLE_OUTPUT.as_bytes().starts_with(bytes.as_slice()));
     if matches!(outcome, Err(RunFault::Memory) | Err(RunFault::Write)) {
         return Err(Fail::from(Memory));

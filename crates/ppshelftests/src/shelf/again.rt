@@ -1,61 +1,46 @@
 // Looks that are made again where they are refused memory.
 ghost use Rattle.std.specs.Prelude.{◌≡◌};
 
-use super::{assert_new, assert_rows, assert_shown};
-use ppshelf::{File, MOST_ROWS, MemoryDisk, Pass, Shelf};
-use pptext::{Memory, Profile};
+use super::{assert_new, assert_rows, assert_shown, named};
+use ppshelf::{File, MemoryDisk, Pass, Shelf};
+use pptext::Memory;
 use std::alloc::{AllocError, Global};
 use std::process::Abort;
 use std::test::Fail;
 
-/// Files of one token, of an invocation that reaches behind what it is replaced by, of a guarded header twice, the header, and headers that
-/// are looked for in folders.
-const FILES: &[(&str, &str)] = &[
-    ("one.c", "x\n"),
-    ("call.c", "#define f(a) a*g\n#define g(a) f(a)\nf(2)(9)\n"),
-    ("twice.c", "#include \"h.h\"\n#include \"h.h\"\n"),
-    ("h.h", "#ifndef H\n#define H\nint a;\n#endif\n"),
-    (
-        "src/a.c",
-        "#include \"x.h\"\n#include <x.h>\n#include \"../inc/x.h\"\n#include <y.h>\n",
-    ),
-    ("src/x.h", "1"),
-    ("inc/x.h", "2"),
+/// The shelf's names.
+const NAMES: &[&str] = &[
+    "one.c", "call.c", "twice.c", "h.h", "src/a.c", "src/x.h", "inc/x.h", "inc/y.h",
 ];
 
-/// The shelf's last name, which no file has.
-const GONE: &str = "inc/y.h";
+/// Their texts by their rows: one token, an invocation that reaches behind what it is replaced by, a guarded header twice, the header, and headers
+/// that are looked for in folders. No file has the last name.
+const ROWS: &[(usize, Option<&str>)] = &[
+    (0, Some("x\n")),
+    (1, Some("#define f(a) a*g\n#define g(a) f(a)\nf(2)(9)\n")),
+    (2, Some("#include \"h.h\"\n#include \"h.h\"\n")),
+    (3, Some("#ifndef H\n#define H\nint a;\n#endif\n")),
+    (
+        4,
+        Some("#include \"x.h\"\n#include <x.h>\n#include \"../inc/x.h\"\n#include <y.h>\n"),
+    ),
+    (5, Some("1")),
+    (6, Some("2")),
+    (7, None),
+];
 
 // The disk of these files.
 fn disk_of(alloc: Global) -> Result<MemoryDisk, AllocError> {
     let mut files = Vec::new(alloc);
-    for (name, text) in FILES {
-        files.push(File {
-            name: String::from_str(alloc, name)?,
-            bytes: Vec::from_slice(alloc, text.as_bytes())?,
-        })?;
+    for (name, &(_row, text)) in NAMES.iter().zip(ROWS) {
+        if let Some(text) = text {
+            files.push(File {
+                name: String::from_str(alloc, name)?,
+                bytes: Vec::from_slice(alloc, text.as_bytes())?,
+            })?;
+        }
     }
     Ok(MemoryDisk { files })
-}
-
-// Their names and the last one.
-fn names_of(alloc: Global) -> Result<Vec<String>, AllocError> {
-    let mut names = Vec::new(alloc);
-    for (name, _text) in FILES {
-        names.push(String::from_str(alloc, name)?)?;
-    }
-    names.push(String::from_str(alloc, GONE)?)?;
-    Ok(names)
-}
-
-// What a pass is to be shown of the rows from the first on.
-fn wanted_of(alloc: Global) -> Result<Vec<(usize, Option<&'static str>)>, AllocError> {
-    let mut rows = Vec::new(alloc);
-    for (row, (_name, text)) in FILES.iter().enumerate() {
-        rows.push((row, Some(*text)))?;
-    }
-    rows.push((FILES.len(), None))?;
-    Ok(rows)
 }
 
 // That a pass is shown this text of a row. Where memory is refused, the pass looks again.
@@ -93,11 +78,7 @@ fn assert_looks_again(
 
 #[test]
 fn a_look_is_made_again_after_want_of_memory(rt: HostRuntime) -> Result<(), Fail> {
-    let (disk, names) = (disk_of(rt.alloc())?, names_of(rt.alloc())?);
-    let rows = wanted_of(rt.alloc())?;
-    if names.len() > MOST_ROWS {
-        return Err(Fail::new("too many files"));
-    }
-    let shelf = Shelf::new(rt.alloc(), names, Profile::C11)?;
-    Ok(assert_looks_again(&rt, &shelf, &disk, rows.as_slice())?)
+    let disk = disk_of(rt.alloc())?;
+    let shelf = named(rt.alloc(), NAMES)?;
+    Ok(assert_looks_again(&rt, &shelf, &disk, ROWS)?)
 }

@@ -1,5 +1,5 @@
 // How a file is read: with its fault, and by the shelf's profile.
-use super::{assert_lines, disk_of, named, texts};
+use super::{assert_lines, assert_new, disk_of, named, texts};
 use ppshelf::{MemoryDisk, Shelf};
 use pptext::{Directive, Profile};
 use std::alloc::Global;
@@ -10,9 +10,11 @@ use std::test::Fail;
 #[test]
 fn a_file_is_kept_with_its_fault(rt: HostRuntime) -> Result<(), Fail> {
     let disk = disk_of(rt.alloc(), b"x /*".as_slice())?;
-    let shelf = named(rt.alloc(), &["a", "b"])?;
+    let mut shelf = named(rt.alloc(), &["a", "b"])?;
     assert_lines(&rt, &shelf, &disk, 0, Some(Err(1)))?;
-    Ok(assert_lines(&rt, &shelf, &disk, 1, None)?)
+    assert_lines(&rt, &shelf, &disk, 1, None)?;
+    shelf.fill(&disk)?;
+    Ok(assert_new(&rt, &shelf, &disk, &[(0, Some("x /*")), (1, None)])?)
 }
 
 // That a shelf of this profile finds this directive by a look, and by a fill.
