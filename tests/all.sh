@@ -1,6 +1,6 @@
 #!/bin/sh
 # The gate: `rt ci`, and then whether the crates' tests call each public function, and, over the program that it leaves behind, rows of
-# conditions, macro replacement, files and budgets, files beside plain passes of phases 1 and 2, the tests of the scripts, the examples of
+# conditions, macro replacement, files, budgets and tokens, files beside plain passes of phases 1 and 2, the tests of the scripts, the examples of
 # the README and of docs/, cut texts and lists, the limits that take no seconds (names, contents of a folder, includes, conditions,
 # arguments, `#line`, options, units, files, contents of a list, definitions), which lists are refused and what is printed of the others, all
 # depths at once in a small stack, streams and files that fail, and the runs with refused memory.  The last line is `N passed, N failed` over
@@ -90,6 +90,7 @@ export CPPUNITS
 if has python3 "the tests of the scripts and documents"; then
     begin python3 tests/called_tests.py
     begin python3 tests/row_tests.py
+    begin python3 tests/token_tests.py
     begin python3 tests/phase_tests.py
     begin python3 tests/list_tests.py
     begin python3 tests/scripts_tests.py

@@ -1,5 +1,5 @@
 #!/usr/bin/env python3
-"""Rows of conditions, macro replacement, files and budgets, by what the program prints of them.
+"""Rows of conditions, macro replacement, files, budgets, dates, times and definitions, by what the program prints of them.
 
     tests/row_tests.py [PROGRAM] [-k NAME]
 
@@ -287,6 +287,32 @@ ASKED = [
 NESTED = [("(", ")"), ("!", ""), ("0?0:", ""), ("- ", ""), ("1 ? (", ") : 0")]
 # No expressions, and nested too deeply: the depth comes first, also where a sign has two operands.
 TOO_DEEP = ["1 " + "?" * 257, "1 " + "(" * 257, "1 " + "- " * 257 + "1", "1 " + "~ " * 257]
+# Macros, and conditions after them whose group is taken, with how many names are replaced: those of an argument too; `defined` and a name that is
+# no macro's are none.
+COUNTED = "#define ONE 1\n#define SAME(x) x\n#define UNUSED(x) 1\n"
+COUNTS = [
+    ("1", 0), ("!x && defined ONE", 0), ("ONE", 1), ("SAME(1)", 1), ("UNUSED(ONE)", 1), ("ONE + ONE == 2", 2), ("SAME(ONE) && __STDC__", 3),
+    ("SAME(SAME(ONE))", 3), ("0 || ONE", 1),
+]
+# Conditions after the same macros, how many replacements are left for them, and their faults.
+SHORT = [
+    # what was replaced before is counted, and nothing where a `defined` is ill-formed
+    ("ONE 1x", 1, "24 0:4:1 1x"),
+    ("ONE 1x", 0, "35 0:4:5"),
+    ("ONE + SAME(", 2, "17 0:4:11 SAME"),
+    ("ONE + SAME(", 1, "35 0:4:11"),
+    ("ONE defined", 0, "22 0:4:1"),
+    # a budget is used up at the name that isn't replaced
+    ("ONE", 0, "35 0:4:5"),
+    ("SAME(1)", 0, "35 0:4:5"),
+    ("SAME(", 0, "35 0:4:5"),
+    ("1 + ONE", 0, "35 0:4:9"),
+    ("ONE + ONE", 1, "35 0:4:11"),
+    ("SAME(ONE)", 1, "35 0:4:10"),
+    ("1x ONE", 0, "35 0:4:8"),
+    ("defined ONE ? ONE : ONE", 1, "35 0:4:25"),
+    ("0 && ONE", 0, "35 0:4:10"),
+]
 # Expressions that are taken, however long.
 LONG = ["(1) + " * 300 + "1", "1 + " * 100000 + "0 == 100000", "1+" * 99999 + "1 == 100000", "(" * 256 + "!" * 256 + "1" + ")" * 256 + " == 1"]
 
@@ -319,6 +345,21 @@ class Conditions(unittest.TestCase):
         # two bytes, since a text of a list is UTF-8
         self.judged([("", "'\xe9'", "25 1 '\xc3\xa9'")])
         self.judged([("", text, "23 1") for text in UNGROUPED.splitlines()])
+
+    def test_a_byte_that_is_no_text(self):
+        file = {"name": "a.c", "hex": b"#if '\xe9' == 233\nyes\n#endif\n".hex()}
+        self.assertEqual([told(lines) for lines in dumped([file], [{"file": "a.c"}])], ["yes | 0 | ok"])
+
+    def test_what_is_left_of_a_budget(self):
+        for expression, count in COUNTS:
+            for more in (0, 1, 1000):
+                # one of the budget goes to the file, and the next name but these is not replaced
+                text = "%s#if %s\n%sONE\n#endif\n" % (COUNTED, expression, "ONE " * more)
+                wanted = "1 " * more + "| 0 | 35 0:5:%d" % (4 * more + 1)
+                self.assertEqual(each_given([text], budget=1 + count + more), [wanted], (expression, more))
+        for expression, left, fault in SHORT:
+            text = "%s#if %s\n#endif\n" % (COUNTED, expression)
+            self.assertEqual(each_given([text], budget=1 + left), ["| 0 | " + fault], (expression, left))
 
     def test_depth_and_length(self):
         for count, wanted in ((256, True), (257, "29 1")):
@@ -370,6 +411,10 @@ REPLACED = [
     ("#define s(a) #a a\nb s(s(\\))", "b", "20 2:5 \"\\\""),
     ("#define s(a) #a - ## a\nb s(\\)", "b", "20 2:3 \"\\\""),
     ("#define c(a) x ## + a\nb c(1)", "b", "19 2:3 x+"),
+    # names that hide a token of an argument, and those that it gains beside them
+    ("#define a a f\n#define f(x) x (2)\nf(a)", "a f (2)", "ok"),
+    ("#define a a c\n#define c(y) <y a>\n#define f(x) x (2)\nf(a)", "a <2 a c>", "ok"),
+    ("#define a a f g\n#define f(x) x (2)\n#define g(x) f(x) (3)\ng(a)", "a f g (2) (3)", "ok"),
     # predefined names
     ("__DATE__ __TIME__ __STDC_VERSION__ __FILE__ __STDC__ __STDC_HOSTED__", "\"Feb  9 2024\" \"08:05:03\" 201112L \"a.c\" 1 1", "ok"),
     # the line where the argument stands, and that of the invocation
@@ -405,6 +450,9 @@ SPENDING = [
     ("#define X 1\n#define f(a,b) #a b##0\nf(X,X) X", 2, "\"X\" X0 1", "ok"),
     ("#define X 1\n#define f(a,b) #a b##0\nf(X,X) X", 1, "\"X\" X0", "35 3:8"),
 ]
+# Names with whether each is predefined.
+PREDEFINED = {"__FILE__": True, "__LINE__": True, "__DATE__": True, "__TIME__": True, "__STDC__": True, "__STDC_HOSTED__": True,
+              "__STDC_VERSION__": True, "defined": False, "__VA_ARGS__": False, "__STDC": False}
 # How many invocations stand around a text, what they give, and how they end.
 LEVELS = [(256, "1", "1", "ok"), (256, "s(1)", '"1"', "ok"), (257, "1", "", "21 3:513 f"), (256, "f()", "", "21 3:513 f")]
 # Each macro but the first is two of the one before it.
@@ -430,6 +478,10 @@ class Replacement(unittest.TestCase):
         for row in REPLACED:
             self.gives(*row)
 
+    def test_names_that_are_predefined(self):
+        texts = ["#ifdef %s\n1\n#endif\n" % name for name in PREDEFINED]
+        self.assertEqual(each_given(texts), ["1 | 0 | ok" if known else "| 0 | ok" for known in PREDEFINED.values()])
+
     def test_levels_of_arguments(self):
         for count, text, like, end in LEVELS:
             self.gives("#define s(a) #a\n#define f(a) a\n" + "f(" * count + text + ")" * count, like, end)
@@ -453,6 +505,38 @@ class Replacement(unittest.TestCase):
         done = cppunits("--workers", "1", "dump", input=data.encode(), preexec_fn=bounded)
         self.assertEqual((done.returncode, done.stderr), (1, b""))
         self.assertTrue(done.stdout.endswith(b"\ndep 0 a.c\nfault 35 0:66:1\n"))
+
+
+# Dates and times, and whether they have their form.
+DATES = {"Jan  1 0000": True, "May 10 2024": True, "Oct 31 9999": True, "Feb 31 2023": True, "Feb 09 2024": False, "Feb  0 2024": False,
+         "Feb 32 2024": False, "feb  9 2024": False, "Feb  9 202x": False, "Feb  9 20240": False}
+TIMES = {"00:00:00": True, "19:09:60": True, "23:59:59": True, "24:00:00": False, "08:60:03": False, "08:05:61": False, "8:05:03": False,
+         "08.05.03": False}
+# Definitions that a list may have or not, and what a unit then gives.
+DEFINITIONS = [(["F(x) x \\ \v\f"], "1 \\ | 0 | ok"), ([""], "| | 9 65535:1:1 define"), (["F(x) 1\n"], 7), (["F(x)\r1"], 7),
+               # with `#define ` before each and a new-line after it, together as long as a file may be
+               (["F(x) x", "x" * 16777192], "1 | 0 | ok"), (["F(x) x", "x" * 16777193], 4)]
+
+
+class Forms(unittest.TestCase):
+    def told(self, text, **more):
+        """What a unit of a text gives, or the number by which its list is refused."""
+        files, unit = [{"name": "a.c", "text": text}], {"file": "a.c", "define": more.pop("define", [])}
+        done = cppunits("dump", input=json.dumps({**LIST, "files": files, "units": [unit], **more}).encode())
+        if done.returncode == 3:
+            self.assertEqual(done.stdout, b"")
+            return int(done.stderr.removeprefix(b"cppunits: list refused L"))
+        return told(done.stdout.splitlines()[1:])
+
+    def test_dates_and_times(self):
+        for name, rows in ("date", DATES), ("time", TIMES):
+            for text, is_good in rows.items():
+                wanted = '"%s" | 0 | ok' % text if is_good else 6
+                self.assertEqual(self.told("__%s__\n" % name.upper(), **{name: text}), wanted)
+
+    def test_definitions(self):
+        for lines, wanted in DEFINITIONS:
+            self.assertEqual(self.told("F(1)\n", define=lines), wanted, [line[:20] for line in lines])
 
 
 # Files of one text each, and what a unit of it gives.

@@ -1,5 +1,4 @@
 // Files by translation phases 1 to 3 and their groups. What a file is read into is compared as a text.
-mod cutting;
 mod directives;
 mod hashing;
 mod reading;

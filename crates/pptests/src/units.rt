@@ -3,10 +3,9 @@ ghost use Rattle.std.specs.Prelude.{◌≡◌, length};
 ghost use Rattle.ppunit.specs.Unit.{IsUnitOf};
 
 mod again;
-mod forms;
 mod judging;
 
-use crate::showing::{push_fault, push_place};
+use crate::showing::{assert_shown, push_fault, push_place};
 use ppshelf::{File, MOST_ROWS, MemoryDisk, Pass, Shelf};
 use pptext::{Fault, Memory, Profile, Token};
 use ppunit::{
@@ -20,19 +19,13 @@ use std::test::Fail;
 /// The shelf's last file, which is on no disk.
 const GONE: &str = "gone.h";
 
-/// The names of these files, and `GONE`.
-fn names_of(alloc: Global, files: Files) -> Result<Vec<String>, AllocError> {
+/// The shelf of these files and `GONE`.
+fn shelf_of(alloc: Global, profile: Profile, files: Files) -> Result<Shelf<MemoryDisk>, Fail> {
     let mut names = Vec::new(alloc);
     for (name, _text) in files {
         names.push(String::from_str(alloc, name)?)?;
     }
     names.push(String::from_str(alloc, GONE)?)?;
-    Ok(names)
-}
-
-/// The shelf of these files and `GONE`.
-fn shelf_of(alloc: Global, profile: Profile, files: Files) -> Result<Shelf<MemoryDisk>, Fail> {
-    let names = names_of(alloc, files)?;
     if names.len() > MOST_ROWS {
         return Err(Fail::new("too many files"));
     }
@@ -98,13 +91,6 @@ fn push_token(text: &mut Vec<u8>, token: &Token) -> Result<(), AllocError> {
     Ok(())
 }
 
-fn push_tokens(text: &mut Vec<u8>, tokens: &[Token]) -> Result<(), AllocError> {
-    for token in tokens {
-        push_token(text, token)?;
-    }
-    Ok(())
-}
-
 fn push_item(alloc: Global, text: &mut Vec<u8>, item: &Item) -> Result<(), AllocError> {
     match item {
         Item::Token(token) => push_token(text, token),
@@ -112,7 +98,9 @@ fn push_item(alloc: Global, text: &mut Vec<u8>, item: &Item) -> Result<(), Alloc
             text.extend_from_slice(b"pragma@")?;
             push_place(alloc, text, *at)?;
             text.extend_from_slice(b"[ ")?;
-            push_tokens(text, tokens.as_slice())?;
+            for token in tokens.as_slice() {
+                push_token(text, token)?;
+            }
             text.extend_from_slice(b"] ")
         }
     }
@@ -123,15 +111,6 @@ fn spelled(alloc: Global, items: &Items) -> Result<Vec<u8>, AllocError> {
     let mut text = Vec::new(alloc);
     for item in items.iter() {
         push_item(alloc, &mut text, &item.to_item(alloc)?)?;
-    }
-    Ok(text)
-}
-
-/// The text of items, from their list.
-fn listed(alloc: Global, items: &Items) -> Result<Vec<u8>, AllocError> {
-    let mut text = Vec::new(alloc);
-    for item in &items.to_vec(alloc)? {
-        push_item(alloc, &mut text, item)?;
     }
     Ok(text)
 }
@@ -156,7 +135,10 @@ fn push_end(
 
 /// What a unit gave, as a text: its items, which one by one are those of the list, and its end.
 fn told(alloc: Global, out: &UnitOut) -> Result<Vec<u8>, Fail> {
-    let mut text = listed(alloc, &out.items)?;
+    let mut text = Vec::new(alloc);
+    for item in &out.items.to_vec(alloc)? {
+        push_item(alloc, &mut text, item)?;
+    }
     if spelled(alloc, &out.items)?.as_slice() != text.as_slice() {
         return Err(Fail::new("other items one by one"));
     }
@@ -206,38 +188,22 @@ fn given<'a>(
     told(alloc, &out)
 }
 
-/// Puts what a unit gives behind a text, and a new-line.
-fn push_given<'a>(
-    alloc: Global,
-    text: &mut Vec<u8>,
-    shelf: &'a Shelf<MemoryDisk>,
-    pass: &mut Pass<'a, MemoryDisk>,
-    disk: &'a MemoryDisk,
-    setting: &'a Setting,
-    unit: &'a Unit,
-) -> Result<(), Fail>
-    requires { pass.old.shelf ≡ shelf.now }
-    ensures { pass.new.shelf ≡ shelf.now }
-{
-    let given = given(alloc, shelf, pass, disk, setting, unit)?;
-    text.extend_from_slice(given.as_slice())?;
-    Ok(text.push(b'\n')?)
-}
-
-/// What units give, one after the other over one pass, each on a line.
-fn all_given<'a>(
+/// That units give texts, one after the other over one pass.
+fn assert_given<'a>(
+    rt: &impl Abort,
     alloc: Global,
     shelf: &'a Shelf<MemoryDisk>,
     disk: &'a MemoryDisk,
     setting: &'a Setting,
     units: &'a [Unit],
-) -> Result<Vec<u8>, Fail> {
+    cases: &[Case],
+) -> Result<(), Fail> {
     let mut pass = shelf.pass()?;
-    let mut text = Vec::new(alloc);
-    for unit in units {
-        push_given(alloc, &mut text, shelf, &mut pass, disk, setting, unit)?;
+    for (unit, (_file, _defines, wanted)) in units.iter().zip(cases) {
+        let found = given(alloc, shelf, &mut pass, disk, setting, unit)?;
+        assert_shown(rt, found.as_slice(), wanted);
     }
-    Ok(text)
+    Ok(())
 }
 
 /// Names and texts of files.
@@ -255,44 +221,11 @@ fn units_of(alloc: Global, profile: Profile, cases: &[Case]) -> Result<Vec<Unit>
     Ok(units)
 }
 
-/// What units give over a shelf of these files.
-fn given_over(
-    alloc: Global,
-    shelf: &Shelf<MemoryDisk>,
-    files: Files,
-    units: &[Unit],
-) -> Result<Vec<u8>, Fail> {
-    let disk = disk_of(alloc, files)?;
-    let setting = setting_of(alloc, Profile::C11, "Feb  9 2024", "08:05:03")?;
-    all_given(alloc, shelf, &disk, &setting, units)
-}
-
-/// What the units of these cases give.
-fn given_of(alloc: Global, files: Files, cases: &[Case]) -> Result<Vec<u8>, Fail> {
-    let shelf = shelf_of(alloc, Profile::C11, files)?;
-    let units = units_of(alloc, Profile::C11, cases)?;
-    given_over(alloc, &shelf, files, units.as_slice())
-}
-
-/// What the units of these cases are to give, each on a line.
-fn wanted_of(alloc: Global, cases: &[Case]) -> Result<Vec<u8>, AllocError> {
-    let mut text = Vec::new(alloc);
-    for (_file, _defines, wanted) in cases {
-        text.extend_from_slice(wanted.as_bytes())?;
-        text.push(b'\n')?;
-    }
-    Ok(text)
-}
-
 /// That units of these files, one after the other over one pass, give texts.
 fn assert_units(rt: &impl Abort, alloc: Global, files: Files, cases: &[Case]) -> Result<(), Fail> {
-    let wanted = wanted_of(alloc, cases)?;
-    let found = given_of(alloc, files, cases)?;
-    assert!(rt;
-        found.as_slice() == wanted.as_slice(),
-        "{:?} for {:?}",
-        found.as_slice(),
-        wanted.as_slice()
-    );
-    Ok(())
+    let shelf = shelf_of(alloc, Profile::C11, files)?;
+    let disk = disk_of(alloc, files)?;
+    let setting = setting_of(alloc, Profile::C11, "Feb  9 2024", "08:05:03")?;
+    let units = units_of(alloc, Profile::C11, cases)?;
+    assert_given(rt, alloc, &shelf, &disk, &setting, units.as_slice(), cases)
 }

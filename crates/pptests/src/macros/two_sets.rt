@@ -30,61 +30,41 @@ enum Asked {
     Common,
 }
 
-/// The set that is asked for.
+/// The set that is asked for of a token with the sets of `a` and of `b`. Its own name is among those of the sets where this is wanted.
 fn asked_of(
     rt: &impl Abort,
     sets: &mut HideSets,
     token: &Token,
-    one: Set,
-    two: Set,
+    is_hidden: bool,
     asked: Asked,
 ) -> Result<Set, Memory> {
-    assert!(rt; sets.knows(one) && sets.knows(two));
-    let hidden = hidden_by_both(sets, token, one, two);
+    let (a, b) = (set_of(rt, sets, b"a")?, set_of(rt, sets, b"b")?);
+    assert!(rt; sets.knows(a) && sets.knows(b));
+    let hidden = hidden_by_both(sets, token, a, b);
+    assert!(rt; sets.hides(&hidden) == is_hidden);
     match asked {
         Asked::Settled => sets.settled(&hidden),
         Asked::WithOwn => sets.with_own(&hidden),
-        Asked::Common => sets.common(&hidden, &Hidden::new(token, two)),
+        Asked::Common => sets.common(&hidden, &Hidden::new(token, b)),
     }
-}
-
-/// Asserts that the set of these names is asked for of a token with the sets of `a` and of `b`.
-fn assert_asked(
-    rt: &impl Abort,
-    sets: &mut HideSets,
-    token: &Token,
-    asked: Asked,
-    wanted: &[u8],
-) -> Result<(), Memory> {
-    let (a, b) = (set_of(rt, sets, b"a")?, set_of(rt, sets, b"b")?);
-    let set = asked_of(rt, sets, token, a, b, asked)?;
-    assert_names(rt, sets, set, wanted);
-    Ok(())
-}
-
-/// Whether a token's own name is among those of the sets of `a` and of `b`.
-fn is_hidden(rt: &impl Abort, sets: &mut HideSets, token: &Token) -> Result<bool, Memory> {
-    let (a, b) = (set_of(rt, sets, b"a")?, set_of(rt, sets, b"b")?);
-    assert!(rt; sets.knows(a) && sets.knows(b));
-    Ok(sets.hides(&hidden_by_both(sets, token, a, b)))
-}
-
-/// Asserts what is asked of each of the tokens `c`, `a` and `b`: whether the two sets hide it, and the names of the sets.
-fn assert_of_tokens(rt: &impl Abort, sets: &mut HideSets, tokens: &[Token]) -> Result<(), Memory> {
-    let asked: [(bool, &[u8]); 3] = [(false, b"abc"), (true, b"ab"), (true, b"ab")];
-    for (token, (is_hidden_by_either, with_own)) in tokens.iter().zip(asked) {
-        assert!(rt; is_hidden(rt, sets, token)? == is_hidden_by_either);
-        assert_asked(rt, sets, token, Asked::Settled, b"ab")?;
-        assert_asked(rt, sets, token, Asked::WithOwn, with_own)?;
-        assert_asked(rt, sets, token, Asked::Common, b"b")?;
-    }
-    Ok(())
 }
 
 #[test]
 fn hides_by_either_of_two_sets(rt: HostRuntime) -> Result<(), Fail> {
-    let tokens = source_of(&rt, rt.alloc(), b"c a b")?;
+    let source = source_of(&rt, rt.alloc(), b"c a b")?;
     let mut sets = HideSets::new(rt.alloc())?;
-    assert!(&rt; tokens.tokens().len() == 3);
-    Ok(assert_of_tokens(&rt, &mut sets, tokens.tokens())?)
+    assert!(rt; source.tokens().len() == 3);
+    for token in source.tokens() {
+        let is_hidden = !token.is_name(b"c");
+        let with_own: &[u8] = if is_hidden { b"ab" } else { b"abc" };
+        for (asked, names) in [
+            (Asked::Settled, b"ab".as_slice()),
+            (Asked::WithOwn, with_own),
+            (Asked::Common, b"b".as_slice()),
+        ] {
+            let set = asked_of(&rt, &mut sets, token, is_hidden, asked)?;
+            assert_names(&rt, &sets, set, names);
+        }
+    }
+    Ok(())
 }

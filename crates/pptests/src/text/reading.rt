@@ -1,7 +1,8 @@
-// What files are read into: tokens, lines, branches, guards, the first fault; what one token is, and what carries one on.
+// What files are read into: lines, branches, guards, the first fault; what one token is, and what carries one on. Rows of tokens are in
+// tests/token_tests.py, by what the program prints.
 use super::{FILE, read};
-use crate::showing::{assert_shown, push_fault, push_token};
-use pptext::{Fault, Kind, Line, Memory, Profile, Source, Token, carries_on, read_lines, relex};
+use crate::showing::{assert_shown, push_fault};
+use pptext::{Fault, Kind, Line, Profile, Source, carries_on, read_lines, relex};
 use std::alloc::{AllocError, Global};
 use std::process::Abort;
 use std::test::Fail;
@@ -9,10 +10,6 @@ use std::test::Fail;
 /// What is shown of a file.
 #[derive(Clone, Copy)]
 enum Shown {
-    /// Its tokens.
-    Tokens,
-    /// The spellings of its header names.
-    Headers,
     /// Its lines, as `0-3 1 Ifndef 3, `: the tokens, the number, the directive and the next branch line.
     Lines,
     /// The lines' directives and next branch lines.
@@ -21,39 +18,8 @@ enum Shown {
     Guard,
 }
 
-/// Puts tokens behind a text.
-fn push_tokens(alloc: Global, text: &mut Vec<u8>, tokens: &[Token]) -> Result<(), AllocError> {
-    for token in tokens {
-        push_token(alloc, text, token)?;
-    }
-    Ok(())
-}
-
-/// Puts the header names among tokens behind a text.
-fn push_headers(text: &mut Vec<u8>, tokens: &[Token]) -> Result<(), AllocError> {
-    for token in tokens {
-        if token.kind == Kind::Header {
-            text.extend_from_slice(token.text.as_bytes())?;
-        }
-    }
-    Ok(())
-}
-
-/// Puts a line's directive and next branch line behind a text, as `Ifdef 3, `, with a `-` for what isn't there.
-fn push_link(alloc: Global, text: &mut Vec<u8>, line: &Line) -> Result<(), AllocError> {
-    match line.directive {
-        Some(directive) => {
-            text.extend_from_slice(format!(in alloc; "{directive:?} ")?.as_bytes())?
-        }
-        None => text.extend_from_slice(b"- ")?,
-    }
-    match line.next_branch {
-        Some(next) => text.extend_from_slice(format!(in alloc; "{next}, ")?.as_bytes()),
-        None => text.extend_from_slice(b"-, "),
-    }
-}
-
-/// Puts a line behind a text, and in front of it its tokens and its number, where these are asked for.
+/// Puts a line behind a text, as `0-3 1 Ifdef 3, ` or, where its tokens and number aren't asked for, as `Ifdef 3, `, with a `-` for
+/// what isn't there.
 fn push_line(
     alloc: Global,
     text: &mut Vec<u8>,
@@ -64,7 +30,16 @@ fn push_line(
         let span = format!(in alloc; "{}-{} {} ", line.start, line.end, line.number)?;
         text.extend_from_slice(span.as_bytes())?;
     }
-    push_link(alloc, text, line)
+    match line.directive {
+        Some(directive) => {
+            text.extend_from_slice(format!(in alloc; "{directive:?} ")?.as_bytes())?
+        }
+        None => text.extend_from_slice(b"- ")?,
+    }
+    match line.next_branch {
+        Some(next) => text.extend_from_slice(format!(in alloc; "{next}, ")?.as_bytes()),
+        None => text.extend_from_slice(b"-, "),
+    }
 }
 
 /// Puts lines behind a text.
@@ -88,8 +63,6 @@ fn push_source(
     shown: Shown,
 ) -> Result<(), AllocError> {
     match shown {
-        Shown::Tokens => push_tokens(alloc, text, source.tokens()),
-        Shown::Headers => push_headers(text, source.tokens()),
         Shown::Lines => push_lines(alloc, text, source.lines(), true),
         Shown::Links => push_lines(alloc, text, source.lines(), false),
         Shown::Guard => text.extend_from_slice(source.guard().unwrap_or(b"none")),
@@ -124,24 +97,6 @@ fn assert_files(
     }
     Ok(())
 }
-
-const TOKENS: &[(Profile, &str, &str)] = &[(
-    Profile::C11,
-    "a+b/**/c",
-    "i+ a 7:1:1 7:1:1, p- + 7:1:2 7:1:2, i- b 7:1:3 7:1:3, i+ c 7:1:8 7:1:8, ",
-)];
-
-/// Header names, and what is none.
-const HEADERS: &[(Profile, &str, &str)] = &[
-    (Profile::C11, "%:include<a b>c", "<a b>"),
-    (Profile::C11, "%:include\"a\\\"b\"", "\"a\\\""),
-    (Profile::C11, "%:include<a\"b>", "<a\"b>"),
-    (Profile::C11, "%:include<>", ""),
-    (Profile::C11, "%:include<a\n>", ""),
-    (Profile::C11, "%:include\"a", ""),
-    (Profile::C11, "%:include x<a>", ""),
-    (Profile::C11, "%:include include<a>", ""),
-];
 
 const LINES: &[(Profile, &str, &str)] = &[
     (
@@ -233,8 +188,6 @@ const GUARDS: &[(Profile, &str, &str)] = &[
 #[test]
 fn reads_files(rt: HostRuntime) -> Result<(), Fail> {
     for (shown, cases) in [
-        (Shown::Tokens, TOKENS),
-        (Shown::Headers, HEADERS),
         (Shown::Lines, LINES),
         (Shown::Links, LINKS),
         (Shown::Guard, GUARDS),
@@ -244,50 +197,89 @@ fn reads_files(rt: HostRuntime) -> Result<(), Fail> {
     Ok(())
 }
 
-/// What is kept of a file: its lines, or its fault.
-fn kept_of(alloc: Global, profile: Profile) -> Result<Vec<u8>, Memory> {
-    let answer = read_lines(alloc, b"#elifdef X\n", FILE, profile)?;
-    Ok(shown_of(alloc, &answer, Shown::Lines)?)
-}
-
 #[test]
 fn keeps_lines_and_faults(rt: HostRuntime) -> Result<(), Fail> {
     for (profile, wanted) in [
         (Profile::Later, "3 7:1:1 elifdef"),
         (Profile::C11, "0-3 1 Unknown -, "),
     ] {
-        let found = kept_of(rt.alloc(), profile)?;
+        let answer = read_lines(rt.alloc(), b"#elifdef X\n", FILE, profile)?;
+        let found = shown_of(rt.alloc(), &answer, Shown::Lines)?;
         assert_shown(&rt, found.as_slice(), wanted);
     }
     Ok(())
 }
 
-/// Texts, and the kind of the one token that each is.
-const LEXED: &[(&str, Option<Kind>)] = &[
-    ("", None),
-    ("x1", Some(Kind::Ident)),
-    ("1e+x", Some(Kind::Number)),
-    ("L'\\''", Some(Kind::CharConst)),
-    ("u8\"/*\"", Some(Kind::Str)),
-    ("%:%:", Some(Kind::Punct)),
-    ("@", Some(Kind::Other)),
-    ("'", None),
-    ("\"", None),
-    ("''", None),
-    ("'a\\\n'", None),
-    ("-+", None),
-    (" x", None),
-    ("x ", None),
-    ("\n", None),
-    ("/**/", None),
-    ("//", None),
-    ("<x>", None),
+/// Texts, and the kind and the length of the longest front of each that is one token; where the text isn't to be one, its whole length. A
+/// quote alone is none by itself (6.4p3). tests/token_tests.py has most of these texts by what the program prints.
+const LEXED: &[(&[u8], Option<Kind>, usize)] = &[
+    (b"", None, 0),
+    (b"x1", Some(Kind::Ident), 2),
+    (b"1e+x", Some(Kind::Number), 4),
+    (b"L'\\''", Some(Kind::CharConst), 5),
+    (b"u8\"/*\"", Some(Kind::Str), 6),
+    (b"%:%:", Some(Kind::Punct), 4),
+    (b"@", Some(Kind::Other), 1),
+    (b"'", None, 1),
+    (b"\"", None, 1),
+    (b"''", None, 2),
+    (b"'a\\\n'", None, 5),
+    (b"-+", None, 2),
+    (b" x", None, 2),
+    (b"x ", None, 2),
+    (b"\n", None, 1),
+    (b"/**/", None, 4),
+    (b"//", None, 2),
+    (b"<x>", None, 3),
+    (b".5e+3.x,", Some(Kind::Number), 7),
+    (b"0x1p-3 ", Some(Kind::Number), 6),
+    (b"1..2-3", Some(Kind::Number), 4),
+    (b"1e+e+-", Some(Kind::Number), 5),
+    (b"1\\u00e9z'", Some(Kind::Number), 8),
+    (b"a$\x80\xff_9Z-", Some(Kind::Ident), 7),
+    (b"\\u00e9\\U0001F600x1+", Some(Kind::Ident), 18),
+    (b"a\\u00e", Some(Kind::Ident), 1),
+    (b"\\u12", Some(Kind::Other), 1),
+    (b"u8\"a\\\"b\"c", Some(Kind::Str), 8),
+    (b"u8'a'", Some(Kind::Ident), 2),
+    (b"u'a'", Some(Kind::CharConst), 4),
+    (b"U\"\"", Some(Kind::Str), 3),
+    (b"L'x'", Some(Kind::CharConst), 4),
+    (b"'\\''x", Some(Kind::CharConst), 4),
+    (b"'\"'", Some(Kind::CharConst), 3),
+    (b"\"'\"", Some(Kind::Str), 3),
+    (b"''", None, 1),
+    (b"'a", None, 1),
+    (b"'a\n'", None, 1),
+    (b"\"abc", None, 1),
+    (b"L'", Some(Kind::Ident), 1),
+    (b"%:%:x", Some(Kind::Punct), 4),
+    (b"%:%", Some(Kind::Punct), 2),
+    (b"....", Some(Kind::Punct), 3),
+    (b"..", Some(Kind::Punct), 1),
+    (b"<<=", Some(Kind::Punct), 3),
+    (b"->", Some(Kind::Punct), 2),
+    (b"<a b>", Some(Kind::Punct), 1),
+    (b"@", Some(Kind::Other), 1),
+    (b"`", Some(Kind::Other), 1),
+    (b"\\", Some(Kind::Other), 1),
+    (b"\x00", Some(Kind::Other), 1),
 ];
+
+/// Whether so many bytes of a text are one token of this kind, or none, and no more of them are one.
+fn is_longest(text: &[u8], kind: Option<Kind>, len: usize) -> bool {
+    for longer in len..text.len() {
+        if relex(&text[..=longer]).is_some() {
+            return false;
+        }
+    }
+    len <= text.len() && relex(&text[..len]) == kind
+}
 
 #[test]
 fn relexes_one_token(rt: HostRuntime) {
-    for (text, kind) in LEXED {
-        assert!(rt; relex(text.as_bytes()) == *kind, "{text}");
+    for (text, kind, len) in LEXED {
+        assert!(rt; is_longest(text, *kind, *len), "{text:?}");
     }
 }
 

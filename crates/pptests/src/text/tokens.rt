@@ -1,7 +1,6 @@
 // Tokens, spellings and faults: what they are made of and give back.
 use pptext::{Fault, Kind, Place, Spelling, Stop, Token, Tokens, settled};
 use std::alloc::{AllocError, Global};
-use std::process::Abort;
 use std::test::Fail;
 
 const AT: Place = Place {
@@ -21,37 +20,8 @@ fn word(alloc: Global, kind: Kind, text: &[u8]) -> Result<Token, AllocError> {
     })
 }
 
-/// A list of the token `ab`.
-fn list(alloc: Global) -> Result<Tokens, AllocError> {
-    let mut tokens = Vec::new(alloc);
-    tokens.push(word(alloc, Kind::Ident, b"ab")?)?;
-    Ok(Tokens::new(tokens))
-}
-
-/// Whether these tokens are `ab` alone.
-fn are_ab(tokens: &[Token]) -> bool {
-    matches!(tokens, [token] if token.at == AT && token.is_name(b"ab"))
-}
-
-#[test]
-fn gives_back_what_it_was_made_of(rt: HostRuntime) -> Result<(), Fail> {
-    let tokens = list(rt.alloc())?;
-    assert!(rt; are_ab(tokens.as_slice()));
-    assert!(rt; are_ab(tokens.into_vec().as_slice()));
-    Ok(())
-}
-
-/// What is asked of a token: whether it is an identifier, the name and the punctuator of a spelling, a lone quote.
-fn answers(token: &Token, asked: &[u8]) -> [bool; 4] {
-    [
-        token.is_identifier(),
-        token.is_name(asked),
-        token.is_punct(asked),
-        token.is_lone_quote(),
-    ]
-}
-
-/// Tokens by kind and spelling, a spelling that is asked for, and the answers.
+/// Tokens by kind and spelling, a spelling that is asked for, and whether it is an identifier, the name and the punctuator that are
+/// spelled so, a lone quote.
 const ASKED: &[(Kind, &str, &str, [bool; 4])] = &[
     (
         Kind::Ident,
@@ -77,7 +47,13 @@ const ASKED: &[(Kind, &str, &str, [bool; 4])] = &[
 fn tells_what_tokens_are(rt: HostRuntime) -> Result<(), Fail> {
     for (kind, text, asked, wanted) in ASKED {
         let token = word(rt.alloc(), *kind, text.as_bytes())?;
-        assert!(rt; answers(&token, asked.as_bytes()) == *wanted, "{text}");
+        let answers = [
+            token.is_identifier(),
+            token.is_name(asked.as_bytes()),
+            token.is_punct(asked.as_bytes()),
+            token.is_lone_quote(),
+        ];
+        assert!(rt; answers == *wanted, "{text}");
     }
     Ok(())
 }
@@ -87,42 +63,23 @@ fn is_fault(fault: &Fault, text: &[u8]) -> bool {
     fault.number == 8 && fault.at == AT && fault.text.as_bytes() == text
 }
 
-/// The fault of the token `ab`.
-fn fault_of_token(alloc: Global) -> Result<Fault, AllocError> {
-    Fault::of_token(8, AT, &word(alloc, Kind::Ident, b"ab")?)
-}
-
 #[test]
-fn makes_faults(rt: HostRuntime) -> Result<(), Fail> {
-    assert!(rt; is_fault(&Fault::bare(8, AT), b""));
-    assert!(rt; is_fault(&Fault::new(rt.alloc(), 8, AT, b"ab")?, b"ab"));
-    assert!(rt; is_fault(&fault_of_token(rt.alloc())?, b"ab"));
-    Ok(())
-}
-
-/// Whether a value, a fault and want of memory are told as public calls tell them, the fault as part of the answer.
-fn are_settled() -> bool {
-    let value = matches!(settled(Ok(7)), Ok(Ok(7)));
-    let fault = match settled::<u8>(Err(Stop::Fault(Fault::bare(8, AT)))) {
-        Ok(Err(fault)) => is_fault(&fault, b""),
-        Ok(Ok(_)) | Err(_) => false,
+fn makes_lists_faults_and_outcomes(rt: HostRuntime) -> Result<(), Fail> {
+    let mut tokens = Vec::new(rt.alloc());
+    tokens.push(word(rt.alloc(), Kind::Ident, b"ab")?)?;
+    let list = Tokens::new(tokens);
+    assert!(rt; matches!(list.as_slice(), [token] if token.is_name(b"ab")));
+    let tokens = list.into_vec();
+    let [token] = tokens.as_slice() else {
+        return Err(Fail::new("other tokens"));
     };
-    value && fault && settled::<u8>(Err(Stop::Memory)).is_err()
-}
-
-#[test]
-fn settles_outcomes(rt: HostRuntime) -> Result<(), Fail> {
-    assert!(rt; are_settled());
+    assert!(rt; is_fault(&Fault::of_token(8, AT, token)?, b"ab"));
+    assert!(rt; is_fault(&Fault::new(rt.alloc(), 8, AT, b"ab")?, b"ab"));
+    let bare = Err(Stop::Fault(Fault::bare(8, AT)));
+    assert!(rt; matches!(&settled::<u8>(bare), Ok(Err(fault)) if is_fault(fault, b"")));
+    assert!(rt; matches!(settled(Ok(7)), Ok(Ok(7))));
+    assert!(rt; settled::<u8>(Err(Stop::Memory)).is_err());
     Ok(())
-}
-
-/// An empty spelling that is extended by each of these bytes.
-fn extended(alloc: Global, bytes: &[u8]) -> Result<Spelling, AllocError> {
-    let mut spelling = Spelling::empty();
-    for byte in bytes {
-        spelling.extend(alloc, &[*byte])?;
-    }
-    Ok(spelling)
 }
 
 /// Whether a spelling of these bytes stands in the value itself, as the first of its room.
@@ -133,23 +90,20 @@ fn stands_in_place(spelling: &Spelling, bytes: &[u8]) -> bool {
     }
 }
 
-/// That each way to make a spelling of bytes gives one of them. Up to 14 stand in the value itself, and are the first of its room;
-/// more have a block of their own.
-fn assert_keeps(rt: &impl Abort, alloc: Global, bytes: &[u8]) -> Result<(), AllocError> {
-    let spelling = Spelling::from_slice(alloc, bytes)?;
-    assert!(rt; spelling.as_bytes() == bytes);
-    assert!(rt; stands_in_place(&spelling, bytes) == (bytes.len() <= 14));
-    assert!(rt; spelling.clone()? == spelling);
-    assert!(rt; extended(alloc, bytes)? == spelling);
-    assert!(rt; Spelling::new(Vec::from_slice(alloc, bytes)?)? == spelling);
-    Ok(())
-}
-
+// Each way to make a spelling of bytes gives one of them. Up to 14 stand in the value itself, and are the first of its room; more have a
+// block of their own.
 #[test]
 fn keeps_short_and_long_spellings(rt: HostRuntime) -> Result<(), Fail> {
     for len in [0, 1, 2, 13, 14, 15, 26] {
-        let bytes = b"abcdefghijklmnopqrstuvwxyz";
-        assert_keeps(&rt, rt.alloc(), &bytes[..len.min(26)])?;
+        let bytes = &b"abcdefghijklmnopqrstuvwxyz"[..len.min(26)];
+        let spelling = Spelling::new(Vec::from_slice(rt.alloc(), bytes)?)?;
+        assert!(rt; spelling.as_bytes() == bytes && spelling.clone()? == spelling);
+        assert!(rt; stands_in_place(&spelling, bytes) == (len <= 14));
+        let mut extended = Spelling::empty();
+        for byte in bytes {
+            extended.extend(rt.alloc(), &[*byte])?;
+        }
+        assert!(rt; extended == spelling && Spelling::from_slice(rt.alloc(), bytes)? == spelling);
     }
     Ok(())
 }

@@ -1,13 +1,12 @@
-// Which settings and units are good.
+// Which settings and units are good. More dates, times and definitions are in tests/row_tests.py, by what the program prints.
 use super::{setting_of, shelf_of, unit_of};
 use ppshelf::{MemoryDisk, Shelf};
 use pptext::Profile;
-use ppunit::{setting_ok, unit_ok};
-use std::alloc::{AllocError, Global};
-use std::process::Abort;
+use ppunit::{is_date, is_one_line, is_time, setting_ok, unit_ok};
+use std::alloc::Global;
 use std::test::Fail;
 
-/// Whether a unit of the file in this row is good over a shelf, and has the profile and the definitions that it was made of.
+/// Whether a unit of the file in this row is good over a shelf, where it has the profile that it was made of.
 fn is_good_unit(
     alloc: Global,
     shelf: &Shelf<MemoryDisk>,
@@ -20,42 +19,6 @@ fn is_good_unit(
         return Err(Fail::new("another profile"));
     }
     Ok(unit_ok(shelf, &unit))
-}
-
-/// That a unit's definitions are those that it was made of.
-fn assert_defines(rt: &impl Abort, alloc: Global) -> Result<(), Fail> {
-    let unit = unit_of(alloc, Profile::C11, 0, &["A", "B 1"])?;
-    assert!(rt;
-        matches!(unit.defines.texts().as_slice(), [a, b] if a.as_str() == "A" && b.as_str() == "B 1")
-    );
-    Ok(())
-}
-
-/// That settings with these dates and times are good or not.
-fn assert_settings(
-    rt: &impl Abort,
-    alloc: Global,
-    cases: &[(&str, &str, bool)],
-) -> Result<(), AllocError> {
-    for (date, time, good) in cases {
-        let setting = setting_of(alloc, Profile::C11, date, time)?;
-        assert!(rt; setting_ok(&setting) == *good, "{date} {time}");
-    }
-    Ok(())
-}
-
-/// That units of these profiles, files and definitions are good or not over a shelf.
-fn assert_judged(
-    rt: &impl Abort,
-    alloc: Global,
-    shelf: &Shelf<MemoryDisk>,
-    cases: &[(Profile, usize, &str, bool)],
-) -> Result<(), Fail> {
-    for (profile, file, define, good) in cases {
-        let found = is_good_unit(alloc, shelf, *profile, *file, define)?;
-        assert!(rt; found == *good, "{profile:?} {file} {define}");
-    }
-    Ok(())
 }
 
 /// Dates, times, and whether a setting of them is good.
@@ -75,12 +38,27 @@ const UNITS: &[(Profile, usize, &str, bool)] = &[
 
 #[test]
 fn judges_settings(rt: HostRuntime) -> Result<(), Fail> {
-    assert_settings(&rt, rt.alloc(), SETTINGS)?;
-    assert_defines(&rt, rt.alloc())
+    for (date, time, good) in SETTINGS {
+        let setting = setting_of(rt.alloc(), Profile::C11, date, time)?;
+        assert!(rt; setting_ok(&setting) == *good, "{date} {time}");
+        assert!(rt; setting.date.as_str() == *date && setting.time.into_string().as_str() == *time);
+    }
+    assert!(rt; is_date(b"Feb  9 2024") && !is_date(b"Feb 09 2024"));
+    assert!(rt; is_time(b"08:05:03") && !is_time(b"24:00:00"));
+    assert!(rt; is_one_line(b"A 1") && !is_one_line(b"A 1\n"));
+    Ok(())
 }
 
 #[test]
 fn judges_units(rt: HostRuntime) -> Result<(), Fail> {
     let shelf = shelf_of(rt.alloc(), Profile::C11, &[("a.c", "")])?;
-    assert_judged(&rt, rt.alloc(), &shelf, UNITS)
+    for (profile, file, define, good) in UNITS {
+        let found = is_good_unit(rt.alloc(), &shelf, *profile, *file, define)?;
+        assert!(rt; found == *good, "{profile:?} {file} {define}");
+    }
+    let unit = unit_of(rt.alloc(), Profile::C11, 0, &["A", "B 1"])?;
+    assert!(rt;
+        matches!(unit.defines.texts().as_slice(), [a, b] if a.as_str() == "A" && b.as_str() == "B 1")
+    );
+    Ok(())
 }

@@ -1,5 +1,5 @@
 use Rattle.std.proofs.Common.{◌≡◌}
-use Rattle.pptests.proofs.units.all_given.Given as goal
+use Rattle.pptests.proofs.units.assert_given.Given as goal
 
 abbrev pub invariant-loop-unit : goal.invariant-loop-unit
 invariant-loop-unit l = l.pass.shelf ≡ l.shelf
