@@ -14,15 +14,18 @@ import sys
 TOP = os.path.dirname(os.path.dirname(os.path.abspath(__file__)))
 HEAD = """# Must-fail edits
 
-Each edit of `crates/*/must-fail` turns the meaning of one function, and the gate wants the prover to refuse it. This says of each
-which clause does: the first goal that can't be shown once the edit is made, by the function in which it arises. A goal's name says
-where (`returns-then-is_spent`: where the function returns because `is_spent` holds; `loop-.._preserved`: the invariant behind a
-turn; `..-requires`: what a call wants) and, last, the clause of the contract. `tests/edits_table.py` writes this page from the
-log of the gate. An edit that isn't here is tried by the gate like the others.
+Each edit in `crates/*/must-fail` turns the meaning of one public call, as its name says, and the
+prover must refuse it. There is one for each wrong program that a contract is to exclude, one for each
+public call of the libraries that decides something, and some for rules that are easily broken. An edit
+counts if its meaning is refused, and not only its form: the code as it stands is a right body of the
+same form if the edit changes a value or a condition alone. For others a right body of the same form was
+tried once, and is proved; it stands in a line `# right:` in the place of `new:`.
 
-An edit counts where its meaning is refused, and not only its form. Where one changes a value or a condition alone, the code as it stands is the right
-body of that form. Where one adds a statement or a branch, a right body of the same form was tried once, and is proved: most say it in a line `# right:`,
-which `rt` doesn't read, in the place of `new:`. In some it answers want of memory, which shows only that the proof bears the form.
+*Call* is the public call, from the line `# covers:`. *Refused by* is the first goal that can't be
+shown, with the function in which it arises. A goal's name says where (`returns-then-is_spent`: where the
+function returns because `is_spent` holds; `loop-.._preserved`: the invariant after a turn;
+`..-requires`: what a call wants) and, last, the clause of the contract. `tests/edits_table.py` writes
+this page from the log of the full check.
 """
 LINE = re.compile(r"must-fail (\w+)/([\w-]+)\.edit: refused, as it must be(.*)")
 GOAL = re.compile(r"(?:note: |\./)?((?:src|specs|proofs)/[\w+/-]+\.(?:rt|antt)):(\d+):\d+: (.*)")
@@ -62,12 +65,19 @@ def known():
     with open(page) as text:
         for line in text:
             head = re.match(r"## (\w+) \(", line)
-            row = re.match(r"\| `([\w-]+)` \| (.*) \|$", line)
+            row = re.match(r"\| `([\w-]+)` \| .* \| (.*) \|$", line)
             if head:
                 crate = head.group(1)
             elif row:
                 found[crate, row.group(1)] = row.group(2)
     return found
+
+
+def covered(edit):
+    """The public calls that an edit says it covers."""
+    with open(edit) as text:
+        named = [line.split(":", 1)[1] for line in text if line.startswith("# covers:")]
+    return ", ".join("`%s`" % call.strip() for call in ",".join(named).split(",") if call.strip())
 
 
 def main():
@@ -80,12 +90,12 @@ def main():
     print(HEAD)
     for folder in sorted(glob.glob(os.path.join(TOP, "crates", "*", "must-fail"))):
         crate = os.path.basename(os.path.dirname(folder))
-        names = sorted(os.path.basename(edit)[:-len(".edit")] for edit in glob.glob(os.path.join(folder, "*.edit")))
-        told = [(name, found[crate, name]) for name in names if (crate, name) in found]
-        print("## %s (%d of %d)\n" % (crate, len(told), len(names)))
+        edits = sorted((os.path.basename(edit)[:-len(".edit")], edit) for edit in glob.glob(os.path.join(folder, "*.edit")))
+        told = [(name, covered(edit), found[crate, name]) for name, edit in edits if (crate, name) in found]
+        print("## %s (%d of %d)\n" % (crate, len(told), len(edits)))
         if told:
-            print("| Edit | Refused by |\n|---|---|")
-            print("\n".join("| `%s` | %s |" % row for row in told) + "\n")
+            print("| Edit | Call | Refused by |\n|---|---|---|")
+            print("\n".join("| `%s` | %s | %s |" % row for row in told) + "\n")
 
 
 if __name__ == "__main__":
