@@ -86,7 +86,7 @@ fn nondigit_len(text: &[u8]) -> usize
     universal_len(text)
 }
 
-// For each byte whether it is a nondigit or a digit.
+// For each byte whether it is a nondigit or a digit. Saves 5 % of the instructions of `deps` on SQLite.
 static IDENT_BYTES: [u8; 256] = *b"\
     00000000000000000000000000000000\
     00001000000000001111111111000000\
