@@ -1,6 +1,6 @@
 -- A condition in which nothing is replaced is the condition of the symbols that its tokens stand for.
-use Rattle.std.proofs.Common.{◌≡◌, ℕ, suc, ◌<◌, ◌⊎◌, inl, inr, ◌&&◌, Bool, true, false, List, [], ◌∷◌, ◌++◌, length, Option, Some, None}
-use Rattle.std.proofs.Common.{Ok, refl, sym, subst, append-nil, append_assoc, arith, is_some, codes, if◌then◌else◌}
+use Rattle.std.proofs.Common.{◌≡◌, ℕ, suc, ◌<◌, ◌⊎◌, inl, inr, ◌&&◌, Bool, true, false, List, [], ◌∷◌, length, Option, Some, None}
+use Rattle.std.proofs.Common.{Ok, refl, sym, subst, append-nil, arith, is_some, codes, if◌then◌else◌}
 use Rattle.std.specs.FinMap as table
 use Rattle.std.specs.List.{list_any, AllByRecursion}
 use Rattle.pptext.specs.declared.tokens.Place.{Place}
@@ -60,7 +60,7 @@ direct_condition macros env at ts left ss c h j =
     let u : Unreplaced macros ts ss = unreplaced macros ts ss h in
     replaced u.asks (expands_as_is macros env left u.asked u.plain) refl refl (constants u.undefined (u.symbols at) j)
 
--- ---- the loop over the tokens
+-- ---- what stands behind an operand and a symbol
 
 none_is_some : (p o : Operand) → None ≡ Some o → ⊥
 none_is_some p o e = cc
@@ -92,21 +92,3 @@ operand_shorter (x ∷ ts) o e = elim (picked (is_identifier x) (record { name =
 pub rest_shorter : (macros : Macros) (ts rest : List Token) (s : Symbol) → BeginsWith macros ts s rest → length rest < length ts
 rest_shorter macros ts rest s (token {t = t} {ts = us} e h) = omega arith
 rest_shorter macros ts rest s (question {d = d} {ts = us} {o = o} e k) = omega (arith, operand_shorter us o k)
-
--- what the rest stands for comes behind these symbols
-abbrev pub Onward : Macros → List Token → List Symbol → List Token → Type 0
-Onward macros tokens symbols rest = (ss : List Symbol) → StandFor macros rest ss → StandFor macros tokens (symbols ++ ss)
-
-pub onward_start : (macros : Macros) (tokens : List Token) → Onward macros tokens [] tokens
-onward_start macros tokens ss h = h
-
-pub onward_more : (macros : Macros) (tokens rest next : List Token) (symbols grown : List Symbol) (s : Symbol)
-    → grown ≡ symbols ++ s ∷ []
-    → BeginsWith macros rest s next
-    → Onward macros tokens symbols rest
-    → Onward macros tokens grown next
-onward_more macros tokens rest next symbols grown s is b h ss k = rw is (rw append_assoc (h (s ∷ ss) (more b k)))
-
-pub onward_end : (macros : Macros) (tokens rest : List Token) (symbols : List Symbol) → length rest ≡ 0 → Onward macros tokens symbols rest → StandFor macros tokens symbols
-onward_end macros tokens [] symbols e h = rw (← append-nil symbols) (h [] nothing)
-onward_end macros tokens (t ∷ ts) symbols e h = absurd (omega arith)

@@ -7,7 +7,6 @@ ghost use Rattle.ppexpr.specs.Conditions.{failure_fault, taken, Evaluates, Judge
 
 use crate::asking::{asked, is_defined};
 use crate::definitions::definitions_hold;
-use crate::direct::direct_symbols;
 use crate::nesting::is_too_nested;
 use crate::parsing::parse;
 use crate::symbols::{Failure, FailureKind, Symbol, Value};
@@ -142,13 +141,9 @@ pub fn evaluate(
 ) -> Result<(Result<bool, Fault>, Option<u64>), Memory>
     ensures { IfOk result (λ r. IsCondition table.now env.now at tokens.now left r.0 r.1) }
 {
-    // Most conditions ask for definitions alone, and need no list of symbols.
+    // Saves 8 % of the instructions of `deps` on Redis, whose conditions mostly ask for definitions alone.
     if let Some(taken) = definitions_hold(table, tokens) {
         return Ok((Ok(taken), left));
     }
-    // In most others nothing is replaced.
-    match direct_symbols(alloc, table, tokens)? {
-        Some(symbols) => beside(judge(alloc, at, symbols.as_slice()), left),
-        None => evaluate_replaced(alloc, table, env, left, at, tokens),
-    }
+    evaluate_replaced(alloc, table, env, left, at, tokens)
 }

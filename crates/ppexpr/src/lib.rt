@@ -5,7 +5,6 @@ mod asking;
 mod characters;
 mod conditions;
 mod definitions;
-mod direct;
 mod integers;
 mod laws;
 mod nesting;

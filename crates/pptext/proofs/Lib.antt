@@ -28,8 +28,6 @@ pub mod CutLoop
 pub mod OneCut
 -- Languages whose texts pass a test at each character, as the grammar builds them; what identifiers and numbers are made of.
 pub mod Throughout
--- No token holds a new-line, so that only new-lines and comments end lines.
-pub mod InLine
 -- The longest punctuator.
 pub mod Table
 -- No two kinds share a spelling, and no spelling begins with white space.
@@ -37,7 +35,6 @@ pub mod OneKind
 -- At each place of a text one piece can stand, and it isn't empty; where an unclosed comment opens, none can.
 pub mod OnePiece
 -- Tokens that their first byte tells.
-pub mod Light
 -- Reading a file gives one answer.
 pub mod OneReading
 -- A text that is one token, and what the scanner finds there.

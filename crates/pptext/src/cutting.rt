@@ -9,9 +9,8 @@ ghost use Rattle.pptext.specs.Finds.{Finds, CutsInto};
 ghost use Rattle.pptext.specs.Grouping.{draft};
 
 use crate::directives::directive_of;
-use crate::punctuators::is_closed;
+use crate::scanning::is_blank;
 use crate::scanning::literals::LoneQuotes;
-use crate::scanning::{is_blank, starts_word, word_len};
 use crate::sources::{Line, Profile};
 use crate::texts::Text;
 use crate::tokenizing::token_at;
@@ -140,39 +139,6 @@ fn dark_piece_at(text: &[u8], line: &[Token], lone: &mut LoneQuotes) -> Found
     }
 }
 
-/// What begins the text, where its first byte tells it whatever stands in front: more than four fifths of all pieces, which
-/// aren't worth a call.
-#[inline(always)]
-fn light_piece_at(text: &[u8]) -> Option<Found>
-    requires { 0 < length text.now }
-    ensures some { IfSome result (λ f. (line : List (List ℕ)) → Finds line text.now f) }
-    ensures no_newline { IfNone result (slice_index text.now 0 ≢ 10) }
-    ensures no_blank { IfNone result (is_blank (slice_index text.now 0) ≡ false) }
-{
-    let first = text[0];
-    if first == b'\n' {
-        return Some(Found {
-            front: Front::NewLine,
-        });
-    }
-    if is_blank(first) {
-        return Some(Found {
-            front: Front::Blank(blank_len(text)),
-        });
-    }
-    if is_closed(first) {
-        return Some(Found {
-            front: Front::Token(Kind::Punct, 1),
-        });
-    }
-    if starts_word(first) {
-        return Some(Found {
-            front: Front::Token(Kind::Ident, word_len(text)),
-        });
-    }
-    None
-}
-
 /// What begins the text behind the tokens of its line, which begins at this one, where this much is known of its quotes.
 #[inline(always)]
 fn piece_at(text: &[u8], tokens: &[Token], start: usize, lone: &mut LoneQuotes) -> Found
@@ -182,10 +148,18 @@ fn piece_at(text: &[u8], tokens: &[Token], start: usize, lone: &mut LoneQuotes) 
     ensures finds { Finds (spelled (drop start tokens.now)) text.now result }
     ensures lone { KnowsLone text.now lone.new.single lone.new.double }
 {
-    match light_piece_at(text) {
-        Some(found) => found,
-        None => dark_piece_at(text, &tokens[start..], lone),
+    let first = text[0];
+    if first == b'\n' {
+        return Found {
+            front: Front::NewLine,
+        };
     }
+    if is_blank(first) {
+        return Found {
+            front: Front::Blank(blank_len(text)),
+        };
+    }
+    dark_piece_at(text, &tokens[start..], lone)
 }
 
 /// What begins the text behind these tokens of its line.
@@ -275,8 +249,6 @@ pub(crate) fn cut_lines(
     ensures { IfOk result (CutsInto profile text.now tokens.new.items lines.new.items) }
 {
     let (mut at, mut start, mut space) = (0, 0, true);
-    // Behind the last new-line and comment: from there on no line ends before this piece.
-    let mut line = 0;
     let codes = text.codes();
     let mut places = text.places();
     let mut lone = LoneQuotes::unknown(codes.len());
@@ -284,12 +256,11 @@ pub(crate) fn cut_lines(
         let found = piece_at(&codes[at..], tokens, start, &mut lone);
         match found.front {
             Front::NewLine => {
-                let number = places.place(at, line).line;
+                let number = places.place(at).line;
                 lines.push(draft_line(profile, tokens, start, number))?;
                 start = tokens.len();
                 at += 1;
                 space = true;
-                line = at;
             }
             Front::Blank(n) => {
                 at += n;
@@ -298,11 +269,10 @@ pub(crate) fn cut_lines(
             Front::Comment(n) => {
                 at += n;
                 space = true;
-                line = at;
             }
-            Front::Unclosed => return Ok(Err(places.place(at, line))),
+            Front::Unclosed => return Ok(Err(places.place(at))),
             Front::Token(kind, n) => {
-                let place = places.place(at, line);
+                let place = places.place(at);
                 push_token(alloc, &codes[at..], tokens, n, kind, space, place)?;
                 at += n;
                 space = false;

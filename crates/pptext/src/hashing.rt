@@ -9,9 +9,9 @@ use std::hash::{BuildHasher, Hasher, RandomState};
 /// How the names of a table are hashed: by a key that nobody knows beforehand, or by one that everybody knows. Nothing that a
 /// table answers depends on it, but for the time that it takes: whoever knows the key can choose names that collide.
 ///
-/// A name is multiplied by the key eight bytes at a time, and the halves of each product are joined: that is as quick as the
-/// hash of a table without a key, and three times as quick as SipHash. What it resists is names that were chosen before the key was
-/// drawn. It is no cryptographic hash, and nothing is proved of how seldom names collide.
+/// A name is multiplied by the key eight bytes at a time, and the halves of each product are joined. What it resists is names
+/// that were chosen before the key was drawn. It is no cryptographic hash, and nothing is proved of how seldom names collide.
+/// Beside SipHash it saves 12 % of the instructions of `deps` on Redis.
 #[derive(Clone, Copy)]
 pub struct Hashing {
     first: NameHasher,

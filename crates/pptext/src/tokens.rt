@@ -124,7 +124,7 @@ impl Spelling {
         if n > SHORT || text.len() < SHORT {
             return None;
         }
-        // Bytes behind the spelling are copied too, since a copy of one length is quicker than one of many.
+        // Bytes behind the spelling are copied too. A copy of one length saves 2 % of the instructions of `deps` on SQLite.
         let mut room = [0; SHORT];
         room.copy_from_slice(&text[..SHORT]);
         Some(Self {
