@@ -1,13 +1,14 @@
 -- A cursor over a file's bytes, which stands in front of one character after another.
 use Rattle.std.proofs.Common.{◌≡◌, ℕ, suc, ◌+◌, ◌-◌, ◌<◌, ◌≤◌, Bool, true, false, List, [], ◌∷◌, length, take, drop, get_or, sym, ap, ◌∙◌, arith, None, length-drop, add-zero, zero-add, refl, subst}
-use Rattle.std.proofs.lemmas.List.{drop-drop, get_or-drop, take_all, length-take-le}
+use Rattle.std.proofs.lemmas.List.{drop-drop, drop-map, get_or-drop, get_or-take, take_all, length-take-le}
 use Rattle.pptext.specs.declared.tokens.Place.{Place}
 use Rattle.pptext.specs.declared.characters.Char.{Char}
 use Rattle.pptext.specs.declared.texts.Cursor.TheInside.{Inside}
-use Rattle.pptext.specs.Clean.{splices}
+use Rattle.pptext.specs.Clean.{codes_of, place, splices}
 use Rattle.pptext.specs.Breaks.{IsTable, Stretch, behind_break, step_len}
 use Rattle.pptext.specs.Steps.{Code, Removed, open_end, step_of, place_behind}
-use Rattle.pptext.specs.Texts.{Cursor, supply, start, end_from, text_from, Stands}
+use Rattle.pptext.specs.Texts.{InLine, Cursor, supply, start, end_from, text_from, Stands}
+use Rattle.pptext.proofs.PlaceLines.{no_line_passed}
 use Rattle.pptext.proofs.Offsets.{behind_append, behind_bounds, take_add}
 use Rattle.pptext.proofs.Breaks.{behind_at, own_less, stretch_rest, table_next}
 use Rattle.pptext.proofs.Copies.{code_at, removed_at, removed_inside, at_end, own_at, own_from}
@@ -197,6 +198,59 @@ arrives file raw breaks c after to stands forward near is =
     let some : after.plain ≡ c.plain - (to - c.passed) = ap (λ (x : Cursor). x.plain) is in
     let passed : after.passed ≡ c.passed + (to - c.passed) = ap (λ (x : Cursor). x.passed) is in
     in_front file raw breaks to after (subst (Stands file raw breaks) (sym is) s.1) (omega arith) (omega arith)
+
+code_of_head : (cs : List Char) (n : ℕ) (x : Char) (xs : List Char) → drop n cs ≡ x ∷ xs → get_or (codes_of cs) n 0 ≡ x.code
+code_of_head cs n x xs e =
+    sym (get_or-drop n (codes_of cs) 0 0 ∙ ap (λ k. get_or (codes_of cs) k 0) (add-zero n))
+    ∙ ap (λ (z : List ℕ). get_or z 0 0) (drop-map (λ (c : Char). c.code) n cs ∙ ap codes_of e)
+
+-- and it is the byte that stands there
+code_at_plain : (file : ℕ) (raw breaks : List ℕ) (c : Cursor) → Stands file raw breaks c → 0 < c.plain → get_or (codes_of (text_from file raw 0)) c.passed 0 ≡ get_or raw c.offset 0
+code_at_plain file raw breaks c s some =
+    let one = own_at raw c.offset (c.plain - 1) (own_less (open_end raw) (drop c.offset raw) (suc (c.plain - 1)) c.plain (omega arith) s.stretch.front) in
+    let r = code_at file raw c.offset (get_or raw c.offset 0) 1 one.room one.step in
+    code_of_head (text_from file raw 0) c.passed _ _ (s.rest ∙ r.text)
+
+-- the bytes that a cursor passes are no new-lines where those characters aren't
+bytes_in_line : (file : ℕ) (raw breaks : List ℕ) (c : Cursor) (line to k : ℕ)
+    → Stands file raw breaks c
+    → to - c.passed < c.plain
+    → line ≤ c.passed
+    → InLine (codes_of (text_from file raw 0)) line to
+    → k < to - c.passed
+    → get_or (take (to - c.passed) (drop c.offset raw)) k 0 ≡ 10 → ⊥
+bytes_in_line file raw breaks c line to k s near behind in_line lt e =
+    let there = pass_plain file raw breaks c k s (omega arith) in
+    let code = code_at_plain file raw breaks (record { passed = c.passed + k; offset = c.offset + k; plain = c.plain - k; next = c.next; at = place_behind c.at (take k (drop c.offset raw)) }) there.1 (omega arith) in
+    in_line (c.passed + k) (omega arith) (omega arith)
+    (code ∙ sym (get_or-drop c.offset raw k 0) ∙ sym (get_or-take (to - c.passed) (drop c.offset raw) k 0 lt) ∙ e)
+
+-- a cursor that is moved so, where no line ends among those bytes
+pub arrives_along : (file : ℕ) (raw breaks : List ℕ) (c after : Cursor) (to line : ℕ)
+    → Stands file raw breaks c
+    → c.passed ≤ to
+    → to - c.passed < c.plain
+    → line ≤ c.passed
+    → InLine (codes_of (text_from file raw 0)) line to
+    → after ≡ record {
+      passed = c.passed + (to - c.passed);
+      offset = c.offset + (to - c.passed);
+      plain = c.plain - (to - c.passed);
+      next = c.next;
+      at = place c.at.file c.at.line (c.at.col + (to - c.passed));
+    }
+    → InFront file raw breaks to after
+arrives_along file raw breaks c after to line s forward near behind in_line is =
+    let n = to - c.passed in
+    let bytes = take n (drop c.offset raw) in
+    let room = (pass_plain file raw breaks c n s (omega arith)).0 in
+    let l = length-drop c.offset raw in
+    let long : length bytes ≡ n = length-take-le n (drop c.offset raw) (omega arith) in
+    let moved : place_behind c.at bytes ≡ place c.at.file c.at.line (c.at.col + n) =
+    no_line_passed bytes c.at (λ k lt. bytes_in_line file raw breaks c line to k s near behind in_line (omega (arith, long)))
+    ∙ ap (λ m. place c.at.file c.at.line (c.at.col + m)) long in
+    arrives file raw breaks c after to s forward near
+    (is ∙ ap (λ (p : Place). record { passed = c.passed + n; offset = c.offset + n; plain = c.plain - n; next = c.next; at = p }) (sym moved))
 
 -- At the end stands the supplied new-line.
 abbrev end_text : ℕ → List ℕ → Bool → List Char

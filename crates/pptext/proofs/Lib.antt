@@ -28,6 +28,8 @@ pub mod CutLoop
 pub mod OneCut
 -- Languages whose texts pass a test at each character, as the grammar builds them; what identifiers and numbers are made of.
 pub mod Throughout
+-- No token holds a new-line, so that only new-lines and comments end lines.
+pub mod InLine
 -- The longest punctuator.
 pub mod Table
 -- No two kinds share a spelling, and no spelling begins with white space.

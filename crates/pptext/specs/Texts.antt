@@ -1,10 +1,14 @@
 -- A cleaned text that is read from the front. Only the contracts of private functions, and the view of a type's private fields, cite this.
-use Rattle.std.specs.Prelude.{◌≡◌, ◌≤◌, ◌<◌, ◌+◌, ℕ, List, [], ◌∷◌, ◌++◌, Bool, Option, None, Some, Result, length, take, drop, if◌then◌else◌}
+use Rattle.std.specs.Prelude.{◌≡◌, ◌≢◌, ◌≤◌, ◌<◌, ◌+◌, ℕ, List, [], ◌∷◌, ◌++◌, Bool, Option, None, Some, Result, length, take, drop, slice_index, if◌then◌else◌}
 use Rattle.pptext.specs.declared.tokens.Place.{Place}
 use Rattle.pptext.specs.declared.characters.Char.{Char}
 use Rattle.pptext.specs.Clean.{cleaned, place, placed, newline, without_returns, trigraphs, splices, splice_at_end, codes_of}
 use Rattle.pptext.specs.Breaks.{IsTable, Stretch, behind_break}
 use Rattle.pptext.specs.Steps.{open_end, place_behind}
+
+-- no line ends from the character `line` on up to this one
+abbrev pub InLine : List ℕ → ℕ → ℕ → Type 0
+InLine codes line at = (k : ℕ) → line ≤ k → k < at → slice_index codes k ≢ 10
 
 -- its characters, and how far their places have been asked for
 pub record Reading : Type 0 where

@@ -249,6 +249,8 @@ pub(crate) fn cut_lines(
     ensures { IfOk result (CutsInto profile text.now tokens.new.items lines.new.items) }
 {
     let (mut at, mut start, mut space) = (0, 0, true);
+    // Behind the last new-line and comment: from there on no line ends before this piece.
+    let mut line = 0;
     let codes = text.codes();
     let mut places = text.places();
     let mut lone = LoneQuotes::unknown(codes.len());
@@ -256,11 +258,12 @@ pub(crate) fn cut_lines(
         let found = piece_at(&codes[at..], tokens, start, &mut lone);
         match found.front {
             Front::NewLine => {
-                let number = places.place(at).line;
+                let number = places.place(at, line).line;
                 lines.push(draft_line(profile, tokens, start, number))?;
                 start = tokens.len();
                 at += 1;
                 space = true;
+                line = at;
             }
             Front::Blank(n) => {
                 at += n;
@@ -269,10 +272,11 @@ pub(crate) fn cut_lines(
             Front::Comment(n) => {
                 at += n;
                 space = true;
+                line = at;
             }
-            Front::Unclosed => return Ok(Err(places.place(at))),
+            Front::Unclosed => return Ok(Err(places.place(at, line))),
             Front::Token(kind, n) => {
-                let place = places.place(at);
+                let place = places.place(at, line);
                 push_token(alloc, &codes[at..], tokens, n, kind, space, place)?;
                 at += n;
                 space = false;

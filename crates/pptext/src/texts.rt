@@ -1,8 +1,8 @@
 // A cleaned text: its characters, and where each was spelled.
 ghost use Rattle.std.specs.Prelude.{◌≡◌, ◌+◌, ◌-◌, ◌<◌, ◌≤◌, ◌^◌, [], MatchOption, length, slice_index_or, take, drop};
-ghost use Rattle.pptext.specs.Clean.{longest, codes_of};
+ghost use Rattle.pptext.specs.Clean.{longest, codes_of, place};
 ghost use Rattle.pptext.specs.Steps.{place_behind};
-ghost use Rattle.pptext.specs.Texts.{Stands, Whole, text_from};
+ghost use Rattle.pptext.specs.Texts.{InLine, Stands, Whole, text_from};
 ghost use Rattle.pptext.specs.declared.characters.Char.{Char};
 
 use crate::characters::places::{move_behind, place_behind};
@@ -85,13 +85,31 @@ impl Cursor {
         }
     }
 
-    /// Brings the cursor in front of this character. Saves 5 % of the instructions of `deps` on SQLite beside `walk` alone.
+    /// Passes so many of the bytes in front of the next break, among which no line ends.
     #[inline(always)]
-    fn seek(&mut self, raw: &[u8], breaks: &[u32], to: usize)
+    fn pass_along(&mut self, len: usize)
+        requires offset { self.old.offset + len ≤ longest }
+        requires plain { len ≤ self.old.plain }
+        requires counts { self.old.passed + len < 2 ^ 64 }
+        requires col { self.old.at.col ≤ self.old.offset + 1 }
+        ensures { self.new ≡ record { passed = self.old.passed + len; offset = self.old.offset + len; plain = self.old.plain - len; next = self.old.next; at = place self.old.at.file self.old.at.line (self.old.at.col + len) } }
+    {
+        self.at.col += len as u32;
+        self.passed += len;
+        self.offset += len;
+        self.plain -= len;
+    }
+
+    /// Brings the cursor in front of this character, where no line ends from the character `line` on up to it. After that
+    /// character no bytes are searched for the ends of lines. Both ways beside `walk` save 7 % of the instructions of `deps` on
+    /// SQLite, and an eighth of its mispredicted branches.
+    #[inline(always)]
+    fn seek(&mut self, raw: &[u8], breaks: &[u32], to: usize, line: usize)
         requires small { length raw.now ≤ longest }
         requires stands { Stands self.old.at.file raw.now breaks.now self.old }
         requires forward { self.old.passed ≤ to }
         requires within { to < length (text_from self.old.at.file raw.now 0) }
+        requires line { InLine (codes_of (text_from self.old.at.file raw.now 0)) line to }
         ensures stands { Stands self.old.at.file raw.now breaks.now self.new }
         ensures passed { self.new.passed ≡ to }
         ensures file { self.new.at.file ≡ self.old.at.file }
@@ -100,6 +118,10 @@ impl Cursor {
         let ahead = to - self.passed;
         if ahead >= self.plain {
             self.walk(raw, breaks, to);
+            return;
+        }
+        if line <= self.passed {
+            self.pass_along(ahead);
             return;
         }
         self.pass(raw, ahead);
@@ -271,17 +293,19 @@ impl<'a> Model for Places<'a> {
 }
 
 impl<'a> Places<'a> {
-    /// The place of a character, which stands no further in front than the one asked for before.
+    /// The place of a character, which stands no further in front than the one asked for before. No line ends from the character
+    /// `line` on up to it.
     #[inline(always)]
-    pub(crate) fn place(&mut self, at: usize) -> Place
+    pub(crate) fn place(&mut self, at: usize, line: usize) -> Place
         requires within { at < length self.old.chars }
         requires forward { self.old.passed ≤ at }
+        requires line { InLine (codes_of self.old.chars) line at }
         ensures place { (d : Char) → result ≡ (slice_index_or self.old.chars at d).at }
         ensures after { self.new ≡ record { chars = self.old.chars; passed = at } }
     {
         let raw = self.raw;
         let breaks = self.breaks;
-        self.cursor.seek(raw, breaks, at);
+        self.cursor.seek(raw, breaks, at, line);
         self.cursor.at
     }
 }

@@ -9,6 +9,8 @@ use Rattle.pptext.specs.Lone.{KnowsLone}
 use Rattle.pptext.proofs.LoneQuotes.{knows_later, knows_nothing}
 use Rattle.pptext.proofs.CutLoop.{state_start, skip_blanks, skip_comment, end_line, add_token, cut_all, left_unclosed, codes_length, head_of_drop, head_of_take, token_is}
 use Rattle.pptext.proofs.Told.{found_here}
+use Rattle.pptext.proofs.InLine.{line_start, line_over_blanks, line_over_token}
+use Rattle.pptext.specs.Tokens.{spelled}
 use Rattle.pptext.specs.Lines.{token_of}
 use Rattle.pptext.specs.Texts.{Reading}
 use Rattle.pptext.proofs.cutting.cut_lines.Goals as goal
@@ -20,6 +22,7 @@ pub loop-at-init : goal.loop-at-init
 loop-at-init c = record {
   same = ap (λ (r : Reading). r.chars) c.places-places.ensures;
   passed = omega (arith, ap (λ (r : Reading). r.passed) c.places-places.ensures);
+  in_line = line_start (codes_of c.args.text.now) 0;
   state = rw (c.requires.no_tokens, c.requires.no_lines) (state_start c.args.profile c.args.text.now);
   lone = rw c.unknown-lone.ensures (knows_nothing (codes_of c.args.text.now) (length c.codes-codes.result.now) (ap length c.codes-codes.ensures));
 }
@@ -40,6 +43,7 @@ loop-at-preserved-in-NewLine c =
     record {
       same = ap (λ (r : Reading). r.chars) c.place-number.ensures.after ∙ c.loop-at.invariant.same;
       passed = omega (arith, ap (λ (r : Reading). r.passed) c.place-number.ensures.after);
+      in_line = line_start (codes_of chars) (c.loop-at.at + 1);
       state = rw (c.in_ok-push-in-NewLine.ensures.items, c.draft_line.ensures, c.deref-in-NewLine.ensures.value)
           (end_line c.args.profile chars c.loop-at.at c.loop-at.start c.len-start.result c.loop-at.space c.loop-at.tokens.items c.loop-at.lines.items
           c.place-number.result.line c.loop-at.invariant.state (c.len-start.ensures ∙ c.loop-at.tokens.ok.0) number (omega arith) found.2);
@@ -57,6 +61,7 @@ loop-at-preserved-in-Blank c =
     record {
       same = c.loop-at.invariant.same;
       passed = omega (arith, c.loop-at.invariant.passed);
+      in_line = line_over_blanks (codes_of chars) c.loop-at.line c.loop-at.at c.in-Blank.n c.loop-at.invariant.in_line found.2;
       state = skip_blanks c.args.profile chars c.in-Blank.n c.loop-at.at c.loop-at.start c.loop-at.space c.loop-at.tokens.items c.loop-at.lines.items
           c.loop-at.invariant.state found.1 (omega (arith, found.0, c.loop-at.invariant.state.within)) (λ k lt. simp get_or-drop at (found.2 k lt));
       lone = knows_later (codes_of chars) c.loop-at.at c.in-Blank.n c.piece_at-found.new.lone.single c.piece_at-found.new.lone.double known;
@@ -71,6 +76,7 @@ loop-at-preserved-in-Comment c =
     record {
       same = c.loop-at.invariant.same;
       passed = omega (arith, c.loop-at.invariant.passed);
+      in_line = line_start (codes_of chars) (c.loop-at.at + c.in-Comment.n);
       state = skip_comment c.args.profile chars c.loop-at.at c.loop-at.start c.in-Comment.n c.loop-at.space c.loop-at.tokens.items c.loop-at.lines.items c.loop-at.invariant.state found.0 found.2;
       lone = knows_later (codes_of chars) c.loop-at.at c.in-Comment.n c.piece_at-found.new.lone.single c.piece_at-found.new.lone.double known;
     }
@@ -90,6 +96,7 @@ loop-at-preserved c =
     record {
       same = ap (λ (r : Reading). r.chars) c.place-place.ensures.after ∙ c.loop-at.invariant.same;
       passed = omega (arith, ap (λ (r : Reading). r.passed) c.place-place.ensures.after);
+      in_line = line_over_token (codes_of chars) (spelled (drop c.loop-at.start c.loop-at.tokens.items)) c.loop-at.line c.loop-at.at c.in-Token.n c.in-Token.kind c.loop-at.invariant.in_line found.0 found.2;
       state = rw tokens
           (add_token c.args.profile chars c.loop-at.at c.loop-at.start c.in-Token.n c.loop-at.space c.loop-at.tokens.items c.loop-at.lines.items c.in-Token.kind
           (token_of c.in-Token.kind c.loop-at.space (take c.in-Token.n (drop c.loop-at.at chars))) c.loop-at.invariant.state refl found.0 found.2);

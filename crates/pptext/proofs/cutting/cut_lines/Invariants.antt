@@ -1,6 +1,7 @@
 use Rattle.std.proofs.Common.{◌≡◌, ◌-◌, ◌≤◌, length, drop}
 use Rattle.pptext.specs.Clean.{codes_of}
 use Rattle.pptext.specs.Lone.{KnowsLone}
+use Rattle.pptext.specs.Texts.{InLine}
 use Rattle.pptext.proofs.CutLoop.{State}
 use Rattle.pptext.proofs.cutting.cut_lines.Given as goal
 
@@ -8,6 +9,7 @@ abbrev pub invariant-loop-at : goal.invariant-loop-at
 invariant-loop-at l = record {
   same : l.places.chars ≡ l.text;
   passed : l.places.passed ≤ l.at;
+  in_line : InLine (codes_of l.text) l.line l.at;
   state : State l.profile l.text l.at l.start l.space l.tokens.items l.lines.items;
   lone : KnowsLone (drop l.at (codes_of l.text)) l.lone.single l.lone.double;
 }
