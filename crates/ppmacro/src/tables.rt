@@ -2,9 +2,8 @@
 ghost use Rattle.std.specs.Prelude.{◌≡◌, IfOk, OnOk, OnErr};
 ghost use Rattle.std.specs.Option.{option_copied};
 ghost use Rattle.std.specs.FinMap as table;
-ghost use Rattle.ppmacro.specs.Define.{is_predefined, is_reserved};
+ghost use Rattle.ppmacro.specs.Define.{is_barred, is_predefined, is_reserved};
 ghost use Rattle.ppmacro.specs.Predefined.{predefined_as, predefined};
-ghost use Rattle.ppmacro.specs.Plain.{is_barred};
 
 use crate::borrowed::Body;
 use crate::keys::Key;
