@@ -11,8 +11,7 @@ const MOST: usize = 64;
 // The room of longer lists is given back.
 const LONG: usize = 64;
 
-/// The allocator, and lists that are done with: the arguments of the next invocations are put there. Where invocations take long, they are
-/// mostly many small ones, whose arguments would cost more to allocate than to gather.
+/// The allocator, and lists that are done with: the arguments of the next invocations are put there.
 #[derive(Drop)]
 pub(crate) struct Supply<'x> {
     alloc: Global,
@@ -37,6 +36,7 @@ impl<'x> Supply<'x> {
     pub(crate) fn list(&mut self, room: usize) -> Result<Vec<Hidden<'x>>, AllocError>
         ensures { IfOk result (λ list. list.items ≡ []) }
     {
+        // Saves 7 % of the instructions of Boost.Preprocessor's `seq.c`.
         if let Some(mut list) = self.lists.pop() {
             list.clear();
             return Ok(list);

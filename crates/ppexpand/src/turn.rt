@@ -249,6 +249,7 @@ fn replace_object<'x, 'a: 'x>(
     ensures known { IfOk result (λ r. OnOk r (AllKnown sets.new list.new)) }
     ensures keeps { Keeps sets.old sets.new }
 {
+    // Saves 5 % of the instructions of `deps` on Redis.
     if let Some(body) = replaced.lone_tokens() {
         replace_by(sets, body, base, head, list)?;
         return Ok(Ok(()));

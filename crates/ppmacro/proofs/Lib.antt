@@ -42,7 +42,5 @@ pub mod Layouts
 pub mod Chained
 -- Chains of a token alone, as they are where no `##` stands.
 pub mod Lonely
--- A definition in which nothing may be refused enters.
-pub mod Plainly
 -- Chains of an entry alone, as they are where neither `#` nor `##` stands.
 pub mod Patterned

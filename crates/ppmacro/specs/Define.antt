@@ -131,9 +131,13 @@ abbrev pub is_predefined : Option Definition → Bool
 is_predefined None = false
 is_predefined (Some d) = is_predefined_shape d.shape
 
+-- names that no macro may have
+abbrev pub is_barred : Name → Bool
+is_barred name = bytes_eq name (codes "defined") || bytes_eq name (codes "__VA_ARGS__")
+
 -- names that no directive may define or take out (6.10.8p2, 6.10.3p5)
 abbrev pub is_reserved : Macros → Name → Bool
-is_reserved macros name = is_predefined (table.get macros name) || (bytes_eq name (codes "defined") || bytes_eq name (codes "__VA_ARGS__"))
+is_reserved macros name = is_predefined (table.get macros name) || is_barred name
 
 abbrev pub refusal_of : Macros → Name → Definition → Option Refusal
 refusal_of macros name d =

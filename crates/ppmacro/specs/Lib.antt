@@ -15,7 +15,6 @@ pub mod HideSets
 pub mod Define
 pub mod Headings
 pub mod Predefined
-pub mod Plain
 pub mod Lexing
 pub mod Substitution
 pub mod Substituting

@@ -1,22 +1,20 @@
 // `#define` and `#undef` (6.10.3, 6.10.3.5).
-ghost use Rattle.std.specs.Prelude.{◌≡◌, IfOk, ◌∷◌, IfSome, OnOk, OnErr, Ok};
+ghost use Rattle.std.specs.Prelude.{◌≡◌, IfOk, OnOk, OnErr};
 ghost use Rattle.std.specs.FinMap as finite_map;
 ghost use Rattle.ppmacro.specs.declared.macros.Shape.TheVariants.{ObjectLike};
 ghost use Rattle.ppmacro.specs.Define.{parameter_list, read_definition, function_like, is_variadic, refusal_of, fitting, number_of, under_name, judged, after_define, undefined, after_undef, Leaves};
-ghost use Rattle.ppmacro.specs.Plain.{is_plain};
-ghost use Rattle.pptext.specs.declared.tokens.Place.{Place};
 
 mod agreement;
 mod bodies;
 mod headings;
 
 use self::agreement::clashes;
-use self::bodies::{has_special, misplaces_hash, misplaces_paste, says_variable_arguments};
+use self::bodies::{misplaces_hash, misplaces_paste, says_variable_arguments};
 use self::headings::{has_variable_arguments, read_heading, repeats};
 use crate::borrowed::{Body, Text};
 use crate::chains::is_function_like;
 use crate::macros::{Definition, Macro, Shape};
-use crate::tables::{Table, is_barred};
+use crate::tables::Table;
 use pptext::{Fault, Hashing, Memory, Place, Token};
 use std::alloc::{AllocError, Global};
 use std::marker::Model;
@@ -261,62 +259,6 @@ fn enter<'a>(table: &mut Table<'a>, named: Named<'a>) -> Result<(), AllocError>
     table.insert(name.bytes(), Macro::new(definition))
 }
 
-// Defines the macro of a line, whatever its form.
-#[inline(never)]
-fn define_any<'a>(
-    alloc: Global,
-    table: &mut Table<'a>,
-    at: Place,
-    line: &'a [Token],
-) -> Result<Result<(), Fault>, Memory>
-    ensures defined { IfOk result (λ r. Leaves table.old table.new r (after_define table.old at line.now)) }
-    ensures memory { OnErr result (table.new ≡ table.old) }
-{
-    match judged(alloc, table, at, line)? {
-        Ok(named) => {
-            enter(table, named)?;
-            Ok(Ok(()))
-        }
-        Err(fault) => Ok(Err(fault)),
-    }
-}
-
-// Whether a replacement list stands behind the macro's name, and nothing in it may be refused.
-fn is_plain(line: &[Token]) -> bool
-    ensures { result ≡ is_plain line.now }
-{
-    let Some(first) = line.first() else {
-        return true;
-    };
-    first.space && !has_special(line)
-}
-
-// The macro of this name without parameters, where no macro has the name and nothing may be refused.
-fn plain_named<'a>(table: &Table, name: &'a Token, rest: &'a [Token]) -> Option<Named<'a>>
-    ensures { IfSome result (λ named. (at : Place) → judged table.now at (name.now ∷ rest.now) ≡ Ok named) }
-{
-    if !name.is_identifier() || !is_plain(rest) || is_barred(name.text.as_bytes()) {
-        return None;
-    }
-    match table.get(name.text.as_bytes()) {
-        Some(_) => None,
-        None => Some(Named {
-            name: Text::of(name),
-            definition: object_like(rest),
-        }),
-    }
-}
-
-// The macro that a line defines, where it's one as most are.
-fn plain<'a>(table: &Table, line: &'a [Token]) -> Option<Named<'a>>
-    ensures { IfSome result (λ named. (at : Place) → judged table.now at line.now ≡ Ok named) }
-{
-    match line.first() {
-        Some(name) => plain_named(table, name, &line[1..]),
-        None => None,
-    }
-}
-
 /// Defines a macro (6.10.3). `at` is the place of `#`, `line` what stands behind `define`; an agreeing definition takes the place of the
 /// one before (6.10.3p2). A fault stands at `at`, and its text is the macro's name, at 9 `define`. The first of these is told:
 /// 9, no identifier stands first;
@@ -339,12 +281,13 @@ pub fn define<'a>(
     ensures defined { IfOk result (λ r. Leaves table.old table.new r (after_define table.old at line.now)) }
     ensures memory { OnErr result (table.new ≡ table.old) }
 {
-    // Most lines give a new name to a macro without parameters.
-    let Some(named) = plain(table, line) else {
-        return define_any(alloc, table, at, line);
-    };
-    enter(table, named)?;
-    Ok(Ok(()))
+    match judged(alloc, table, at, line)? {
+        Ok(named) => {
+            enter(table, named)?;
+            Ok(Ok(()))
+        }
+        Err(fault) => Ok(Err(fault)),
+    }
 }
 
 // The name that a line behind `undef` takes out, or the fault.

@@ -18,9 +18,9 @@ fn half_word(bytes: &[u8], at: usize) -> u64
     u32::from_le_bytes([bytes[at], bytes[at + 1], bytes[at + 2], bytes[at + 3]]) as u64
 }
 
-/// The mark of a name, which few others share.
+// The mark of a name, which few others share.
 #[tactic(auto, unfolding(crate::specs::Marks::mark_of))]
-pub(crate) fn mark_of(name: &[u8]) -> usize
+fn mark_of(name: &[u8]) -> usize
     ensures value { result ≡ mark_of name.now }
     ensures bound { result < 32_768 }
 {

@@ -113,5 +113,6 @@ pub(crate) fn pattern_of<'a>(
     if has_operator(definition.body.as_slice()) {
         return Ok(Pattern::Joined(chains_of(alloc, definition, hashing)?));
     }
+    // Saves 8 % of the instructions of Boost.Preprocessor's `seq.c`.
     Ok(Pattern::Alone(entries_in(alloc, definition, hashing)?))
 }

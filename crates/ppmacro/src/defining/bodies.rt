@@ -3,7 +3,6 @@ ghost use Rattle.std.specs.Prelude.{◌≡◌, IfOk, codes, true};
 ghost use Rattle.std.specs.List.{list_any};
 ghost use Rattle.pptext.specs.Tokens.{is_name};
 ghost use Rattle.ppmacro.specs.Define.{misplaces_paste, begins_with_parameter, misplaces_hash};
-ghost use Rattle.ppmacro.specs.Plain.{is_special};
 
 use crate::chains::{Parameters, parameter_of};
 use crate::macros::Shape;
@@ -16,20 +15,6 @@ pub(crate) fn says_variable_arguments(body: &[Token]) -> bool
     ensures { result ≡ list_any (is_name (codes "__VA_ARGS__")) body.now }
 {
     body.iter().any(|t| t.is_name(b"__VA_ARGS__"))
-}
-
-// Whether it is a token that a replacement list may be refused for.
-fn is_special(token: &Token) -> bool
-    ensures { result ≡ is_special token.now }
-{
-    token.is_name(b"__VA_ARGS__") || is_paste(token)
-}
-
-/// Whether one of these tokens may be refused.
-pub(crate) fn has_special(body: &[Token]) -> bool
-    ensures { result ≡ list_any is_special body.now }
-{
-    body.iter().any(|t| is_special(t))
 }
 
 /// Whether `##` stands first, last or beside another.

@@ -1,18 +1,14 @@
 // Names of hide sets by number.
-ghost use Rattle.std.specs.Prelude.{◌≡◌, ◌<◌, ◌++◌, List, ℕ, true, false, IfOk, IfSome, IfNone, OnErr, length, slice_index_or, []};
+ghost use Rattle.std.specs.Prelude.{◌≡◌, ◌<◌, ◌++◌, List, ℕ, false, IfOk, IfSome, IfNone, OnErr, length, slice_index_or, []};
 ghost use Rattle.std.specs.List.{AllByRecursion, IsDistinct};
 ghost use Rattle.ppmacro.specs.Members.{same_name};
 
 use crate::keys::Key;
-use crate::marks::mark_of;
 use indexmap::IndexSet;
 use pptext::Hashing;
 use std::alloc::{AllocError, Global};
 use std::hash::{Hash, Hasher};
 use std::marker::Model;
-
-// The numbers that were asked for last stand at so many marks.
-const LAST: usize = 16;
 
 /// The bytes of a name that is kept, or of one that is looked for.
 #[derive(Drop)]
@@ -82,12 +78,10 @@ impl Hash for HiddenName<'_> {
     }
 }
 
-/// Names by their numbers, which count from 0, each once. At each of a few marks stands the number that `number_for` gave last to
-/// a name with it, since the same names are asked for again and again, and a hash of a name costs more than to compare it.
+/// Names by their numbers, which count from 0, each once.
 #[derive(Drop)]
 pub(crate) struct NameNumbers {
     names: IndexSet<HiddenName<'static>, Hashing>,
-    last: [usize; LAST],
 }
 
 impl Model for NameNumbers {
@@ -112,22 +106,11 @@ impl NameNumbers {
     {
         NameNumbers {
             names: IndexSet::with_hasher(alloc, hashing),
-            last: [0; LAST],
         }
     }
 
-    // Whether this is the name with this number.
-    fn is_at(&self, number: usize, name: &[u8]) -> bool
-        ensures { result ≡ true → (number < length self.now) × (slice_index_or self.now number [] ≡ name.now) }
-    {
-        match self.names.as_slice().get(number) {
-            Some(found) => found.key() == Key { bytes: name },
-            None => false,
-        }
-    }
-
-    // The number of a name, by its hash.
-    fn find(&self, name: &[u8]) -> Option<usize>
+    /// The number of a name.
+    pub(crate) fn number_of(&self, name: &[u8]) -> Option<usize>
         ensures found { IfSome result (λ n. (n < length self.now) × (slice_index_or self.now n [] ≡ name.now)) }
         ensures none { IfNone result (AllByRecursion (λ y. same_name name.now y ≡ false) self.now) }
         ensures distinct { IsDistinct same_name self.now }
@@ -138,19 +121,6 @@ impl NameNumbers {
         self.names.get_index_of(&sought)
     }
 
-    /// The number of a name.
-    pub(crate) fn number_of(&self, name: &[u8]) -> Option<usize>
-        ensures found { IfSome result (λ n. (n < length self.now) × (slice_index_or self.now n [] ≡ name.now)) }
-        ensures none { IfNone result (AllByRecursion (λ y. same_name name.now y ≡ false) self.now) }
-        ensures distinct { IsDistinct same_name self.now }
-    {
-        let probable = self.last[mark_of(name) % LAST];
-        if self.is_at(probable, name) {
-            return Some(probable);
-        }
-        self.find(name)
-    }
-
     /// The number of a name, which joins the others unless it is among them.
     pub(crate) fn number_for(&mut self, alloc: Global, name: &[u8]) -> Result<usize, AllocError>
         ensures found { IfOk result (λ n. (n < length self.new) × (slice_index_or self.new n [] ≡ name.now)) }
@@ -159,7 +129,6 @@ impl NameNumbers {
         ensures err { OnErr result (self.new ≡ self.old) }
     {
         if let Some(number) = self.number_of(name) {
-            self.last[mark_of(name) % LAST] = number;
             return Ok(number);
         }
         let text = Vec::from_clones(alloc, name)?;
@@ -169,7 +138,6 @@ impl NameNumbers {
         let Ok((number, _)) = self.names.insert_full(kept) else {
             return Err(AllocError);
         };
-        self.last[mark_of(name) % LAST] = number;
         Ok(number)
     }
 }

@@ -3,7 +3,7 @@ use Rattle.std.specs.Option.{IfSome, IfNone}
 use Rattle.std.specs.List.{AllByRecursion}
 use Rattle.ppmacro.specs.Members.{same_name}
 use Rattle.ppmacro.proofs.Naming.{Found, found-at, if-found, if-none}
-use Rattle.ppmacro.proofs.hide_sets.names.NameNumbers.find.Goals as goal
+use Rattle.ppmacro.proofs.hide_sets.names.NameNumbers.number_of.Goals as goal
 
 pub returns-clause-found : goal.returns-clause-found
 returns-clause-found c =
