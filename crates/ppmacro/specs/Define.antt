@@ -175,6 +175,11 @@ judged macros at (t ∷ ts) =
     if is_reserved macros t.text then Err (fault 10 at t.text) else
     under_name at t.text (fitting macros t.text (read_definition ts))) else Err (fault 9 at (codes "define"))
 
+-- a fault that a private function's answer gives by its number and its text
+abbrev pub faulted : {A : Type 0} → Place → Result A (ℕ × Name) → Result A Fault
+faulted at (Ok x) = Ok x
+faulted at (Err r) = Err (fault r.0 at r.1)
+
 abbrev pub entered : Macros → Result Named Fault → Result Macros Fault
 entered macros (Ok n) = Ok (table.insert macros n.name n.definition)
 entered macros (Err f) = Err f

@@ -2,7 +2,9 @@
 ghost use Rattle.std.specs.Prelude.{◌≡◌, IfOk, OnOk, OnErr};
 ghost use Rattle.std.specs.FinMap as finite_map;
 ghost use Rattle.ppmacro.specs.declared.macros.Shape.TheVariants.{ObjectLike};
-ghost use Rattle.ppmacro.specs.Define.{parameter_list, read_definition, function_like, is_variadic, refusal_of, fitting, number_of, under_name, judged, after_define, undefined, after_undef, Leaves};
+ghost use Rattle.pptext.specs.Tokens.{fault};
+ghost use Rattle.pptext.specs.declared.tokens.Place.{Place};
+ghost use Rattle.ppmacro.specs.Define.{parameter_list, read_definition, function_like, is_variadic, refusal_of, fitting, number_of, faulted, under_name, judged, after_define, undefined, after_undef, Leaves};
 
 mod agreement;
 mod bodies;
@@ -65,6 +67,30 @@ impl Refusal {
             Wrong::VariableArguments => 15,
             Wrong::Redefinition => 16,
         }
+    }
+}
+
+/// A fault that isn't made yet: its number, and its text, which the program or the file holds.
+#[derive(Drop)]
+struct Refused<'a> {
+    number: u8,
+    text: &'a [u8],
+}
+
+impl<'a> Model for Refused<'a> {
+    ghost use Rattle.std.specs.Prelude.{ℕ, List};
+
+    ghost Value = { ℕ × List ℕ };
+
+    ghost view = { λ r. (r.number, r.text.now) };
+}
+
+impl<'a> Refused<'a> {
+    // The fault at this place.
+    fn fault_at(&self, alloc: Global, at: Place) -> Result<Fault, AllocError>
+        ensures { IfOk result (λ f. f ≡ fault self.now.0 at self.now.1) }
+    {
+        Fault::new(alloc, self.number, at, self.text)
     }
 }
 
@@ -212,19 +238,20 @@ fn fitting<'a>(
 
 // The definition with the macro's name, or the fault.
 fn under_name<'a>(
-    alloc: Global,
-    at: Place,
     name: &'a Token,
     fitting: Result<Definition<'a>, Refusal>,
-) -> Result<Result<Named<'a>, Fault>, AllocError>
-    ensures { IfOk result (λ r. r ≡ under_name at name.now.text fitting.entry) }
+) -> Result<Named<'a>, Refused<'a>>
+    ensures { (at : Place) → faulted at result ≡ under_name at name.now.text fitting.entry }
 {
     match fitting {
-        Ok(definition) => Ok(Ok(Named {
+        Ok(definition) => Ok(Named {
             name: Text::of(name),
             definition,
-        })),
-        Err(refusal) => Ok(Err(Fault::new(alloc, refusal.number(), at, name.text.as_bytes())?)),
+        }),
+        Err(refusal) => Err(Refused {
+            number: refusal.number(),
+            text: name.text.as_bytes(),
+        }),
     }
 }
 
@@ -232,22 +259,30 @@ fn under_name<'a>(
 fn judged<'a>(
     alloc: Global,
     table: &Table,
-    at: Place,
     line: &'a [Token],
-) -> Result<Result<Named<'a>, Fault>, AllocError>
-    ensures { IfOk result (λ r. r ≡ judged table.now at line.now) }
+) -> Result<Result<Named<'a>, Refused<'a>>, AllocError>
+    ensures { (at : Place) → IfOk result (λ r. faulted at r ≡ judged table.now at line.now) }
 {
     let Some(name) = line.first() else {
-        return Ok(Err(Fault::new(alloc, 9, at, b"define")?));
+        return Ok(Err(Refused {
+            number: 9,
+            text: b"define",
+        }));
     };
     if !name.is_identifier() {
-        return Ok(Err(Fault::new(alloc, 9, at, b"define")?));
+        return Ok(Err(Refused {
+            number: 9,
+            text: b"define",
+        }));
     }
     if table.is_reserved(name.text.as_bytes()) {
-        return Ok(Err(Fault::new(alloc, 10, at, name.text.as_bytes())?));
+        return Ok(Err(Refused {
+            number: 10,
+            text: name.text.as_bytes(),
+        }));
     }
     let fitting = fitting(alloc, table, name.text.as_bytes(), &line[1..])?;
-    under_name(alloc, at, name, fitting)
+    Ok(under_name(name, fitting))
 }
 
 // Puts a definition into the table.
@@ -281,35 +316,38 @@ pub fn define<'a>(
     ensures defined { IfOk result (λ r. Leaves table.old table.new r (after_define table.old at line.now)) }
     ensures memory { OnErr result (table.new ≡ table.old) }
 {
-    match judged(alloc, table, at, line)? {
+    match judged(alloc, table, line)? {
         Ok(named) => {
             enter(table, named)?;
             Ok(Ok(()))
         }
-        Err(fault) => Ok(Err(fault)),
+        Err(refused) => Ok(Err(refused.fault_at(alloc, at)?)),
     }
 }
 
 // The name that a line behind `undef` takes out, or the fault.
-fn undefined<'a>(
-    alloc: Global,
-    table: &Table,
-    at: Place,
-    line: &'a [Token],
-) -> Result<Result<Text<'a>, Fault>, AllocError>
-    ensures { IfOk result (λ r. r ≡ undefined table.now at line.now) }
+fn undefined<'a>(table: &Table, line: &'a [Token]) -> Result<Text<'a>, Refused<'a>>
+    ensures { (at : Place) → faulted at result ≡ undefined table.now at line.now }
 {
     let [name] = line else {
-        return Ok(Err(Fault::new(alloc, 9, at, b"undef")?));
+        return Err(Refused {
+            number: 9,
+            text: b"undef",
+        });
     };
     if !name.is_identifier() {
-        return Ok(Err(Fault::new(alloc, 9, at, b"undef")?));
+        return Err(Refused {
+            number: 9,
+            text: b"undef",
+        });
     }
-    let spelling = name.text.as_bytes();
-    if table.is_reserved(spelling) {
-        return Ok(Err(Fault::new(alloc, 10, at, spelling)?));
+    if table.is_reserved(name.text.as_bytes()) {
+        return Err(Refused {
+            number: 10,
+            text: name.text.as_bytes(),
+        });
     }
-    Ok(Ok(Text::of(name)))
+    Ok(Text::of(name))
 }
 
 /// Takes a macro out, if there is one of this name (6.10.3.5p2). `at` is the place of `#`, `line` what stands behind `undef`. Fault 9 at
@@ -325,11 +363,11 @@ pub fn undef<'a>(
     ensures undefined { IfOk result (λ r. Leaves table.old table.new r (after_undef table.old at line.now)) }
     ensures memory { OnErr result (table.new ≡ table.old) }
 {
-    match undefined(alloc, table, at, line)? {
+    match undefined(table, line) {
         Ok(name) => {
             table.remove(name.bytes());
             Ok(Ok(()))
         }
-        Err(fault) => Ok(Err(fault)),
+        Err(refused) => Ok(Err(refused.fault_at(alloc, at)?)),
     }
 }

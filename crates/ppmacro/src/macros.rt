@@ -110,9 +110,7 @@ impl<'a> Operands<'a> {
         match &mut self.held {
             Held::Joined(operands) => operands.push(operand)?,
             Held::Lone(first) => {
-                let mut operands = Vec::with_capacity(alloc, 2)?;
-                operands.push(mem::take(first))?;
-                operands.push(operand)?;
+                let operands = Vec::from_array(alloc, [mem::take(first), operand])?;
                 self.held = Held::Joined(operands);
             }
         }

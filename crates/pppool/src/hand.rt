@@ -2,7 +2,7 @@
 use std::collections::LinkedList;
 
 /// How many blocks and seats a desk has.
-#[derive(Clone, Copy, Debug, PartialEq, Eq, Drop)]
+#[derive(Clone, Copy, PartialEq, Eq, Drop)]
 pub struct Plan {
     pub blocks: u64,
     pub seats: u64,

@@ -21,7 +21,7 @@ const MOST: usize = 0xFFFF_FFFF;
 
 /// A set of numbers. Its word 0 is `here`; its word 2w + 1 is the word w of the set with the number `left`, its word 2w + 2 the word w of the
 /// set with the number `right`.
-#[derive(Clone, Copy, Debug, PartialEq, Eq, Hash)]
+#[derive(Clone, Copy, PartialEq, Eq, Hash)]
 pub(crate) struct Node {
     here: u64,
     left: u32,
@@ -39,14 +39,14 @@ impl Model for Node {
 }
 
 /// Whether a union or a meet is made.
-#[derive(Clone, Copy, Debug)]
+#[derive(Clone, Copy)]
 pub(crate) enum OperationKind {
     Union,
     Meet,
 }
 
 /// What two sets are made into.
-#[derive(Clone, Copy, Debug)]
+#[derive(Clone, Copy)]
 pub(crate) struct Operation {
     pub(crate) kind: OperationKind,
 }
