@@ -7,8 +7,9 @@ use Rattle.pptext.specs.declared.tokens.Fault.{Fault}
 use Rattle.ppmacro.specs.Names.{Macros}
 use Rattle.ppmacro.specs.HideSets.{Hiding}
 use Rattle.ppexpand.specs.declared.env.Env.{Env}
-use Rattle.ppexpand.specs.Turn.{Call, Turn, Done, Refused, Passes, Failed, Replaced, Called, turn, within, over, less_one, wanted, fault_at_use}
-use Rattle.ppexpand.specs.Expansion.{Outcome, ExpandedArguments, turn_within, Expands, done, refused, passes, failed, replaced, argument_refused, call_failed, call_replaced, ExpandsArguments, none, unused, too_deep, used, used_refused}
+use Rattle.ppexpand.specs.Turn.{Call, Turn, Done, Refused, Passes, Failed, Replaced, Called, turn, wanted, fault_at_use, ExpandedArguments}
+use Rattle.ppexpand.specs.Budget.{within, over, less_one}
+use Rattle.ppexpand.specs.Expansion.{Outcome, turn_within, Expands, done, refused, passes, failed, replaced, argument_refused, call_failed, call_replaced, ExpandsArguments, none, unused, too_deep, used, used_refused}
 use Rattle.ppexpand.specs.Expansion.{count, count_arguments, IsExpansion, count_expansion}
 use Rattle.ppexpand.specs.Laws.{plus, IsBeginning, IsOver, IsCapped}
 use Rattle.ppexpand.proofs.Unique.{same_outcome}

@@ -6,8 +6,9 @@ use Rattle.ppmacro.specs.Numbered.{Numbered}
 use Rattle.ppmacro.specs.HideSets.{Hiding, hidings}
 use Rattle.ppmacro.specs.declared.flying.Hidden.{Hidden}
 use Rattle.ppexpand.specs.declared.env.Env.{Env}
-use Rattle.ppexpand.specs.Turn.{Call, Turn, Failed, Replaced, Called, less_one, wanted}
-use Rattle.ppexpand.specs.Expansion.{Outcome, ExpandedArguments, with_expanded, turn_within, Expands, ExpandsTo, ExpandsArguments, argument_refused, call_failed, call_replaced, none, unused, too_deep, used, used_refused}
+use Rattle.ppexpand.specs.Turn.{Call, Turn, Failed, Replaced, Called, wanted, ExpandedArguments, with_expanded}
+use Rattle.ppexpand.specs.Budget.{less_one}
+use Rattle.ppexpand.specs.Expansion.{Outcome, turn_within, Expands, ExpandsTo, ExpandsArguments, argument_refused, call_failed, call_replaced, none, unused, too_deep, used, used_refused}
 use Rattle.ppexpand.specs.Shown.{finished_in, Advances, EndsWith, HasAdvanced, HasEnded, HasTaken, ComesTo, refuses, finishes, ExpandsArgument, expands, raises, deep}
 use Rattle.ppexpand.proofs.Total.{total}
 use Rattle.ppexpand.proofs.Unique.{same_outcome}

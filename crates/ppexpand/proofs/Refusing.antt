@@ -21,8 +21,9 @@ use Rattle.ppmacro.specs.Substitution.{chains_tokens, substituted}
 use Rattle.ppexpand.specs.declared.env.Env.{Env}
 use Rattle.ppexpand.specs.declared.expansion.Expanded.{Expanded}
 use Rattle.ppexpand.specs.Arguments.{is_open, Gathered, Closed, Quoted, Unclosed, gather, separators, fitted}
-use Rattle.ppexpand.specs.Turn.{Call, Turn, Refused, Passes, Failed, replaced_by, quote_fault, called, invoked, function_turn, no_arguments, macro_turn, named_turn, macro_of, turn, less_one, finished}
-use Rattle.ppexpand.specs.Expansion.{Outcome, ExpandedArguments, with_expanded, turn_within, Expands, done, refused, passes, failed, replaced, argument_refused, call_failed, call_replaced, ExpandsArguments, none, unused, too_deep}
+use Rattle.ppexpand.specs.Turn.{Call, Turn, Refused, Passes, Failed, replaced_by, quote_fault, called, invoked, function_turn, no_arguments, macro_turn, named_turn, macro_of, turn, finished, ExpandedArguments, with_expanded}
+use Rattle.ppexpand.specs.Budget.{less_one}
+use Rattle.ppexpand.specs.Expansion.{Outcome, turn_within, Expands, done, refused, passes, failed, replaced, argument_refused, call_failed, call_replaced, ExpandsArguments, none, unused, too_deep}
 use Rattle.ppexpand.specs.Expansion.{used as was_used, used_refused, count, count_arguments, ExpandsTo, IsExpansion}
 use Rattle.ppexpand.proofs.Budget.{plus-none, spends, spends_arguments}
 

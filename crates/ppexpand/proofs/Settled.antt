@@ -15,7 +15,8 @@ use Rattle.ppmacro.specs.declared.macros.Shape.{Shape}
 use Rattle.ppmacro.specs.declared.macros.Shape.TheVariants.{Predefined, ObjectLike, FunctionLike}
 use Rattle.ppexpand.specs.declared.env.Env.{Env}
 use Rattle.ppexpand.specs.Arguments.{is_open, Gathered, Closed, Quoted, Unclosed, gather, separators, fitted}
-use Rattle.ppexpand.specs.Turn.{Turn, Done, Refused, Passes, Failed, Replaced, Called, over, within, turn, macro_of, quote_fault, named_turn, macro_turn, function_turn, invoked, called, replaced_by}
+use Rattle.ppexpand.specs.Turn.{Turn, Done, Refused, Passes, Failed, Replaced, Called, turn, macro_of, quote_fault, named_turn, macro_turn, function_turn, invoked, called, replaced_by}
+use Rattle.ppexpand.specs.Budget.{over, within}
 use Rattle.ppexpand.specs.Expansion.{Outcome, Expands, done, refused, passes, failed, replaced, argument_refused, call_failed, call_replaced}
 use Rattle.ppexpand.specs.Laws.{is_settled, is_always_replaced}
 

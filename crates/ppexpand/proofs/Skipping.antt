@@ -14,7 +14,8 @@ use Rattle.ppmacro.specs.Substituting.{tokens_of}
 use Rattle.ppmacro.proofs.KeepLemmas.{known-front, known-behind, known-append}
 use Rattle.ppmacro.specs.declared.flying.Hidden.{Hidden}
 use Rattle.ppexpand.specs.declared.env.Env.{Env}
-use Rattle.ppexpand.specs.Turn.{Passes, macro_of, turn, within}
+use Rattle.ppexpand.specs.Turn.{Passes, macro_of, turn}
+use Rattle.ppexpand.specs.Budget.{within}
 use Rattle.ppexpand.specs.Expansion.{Outcome, turn_within, Expands, ExpandsTo, IsExpansion, passes, done, ended}
 use Rattle.ppexpand.specs.declared.expansion.Expanded.{Expanded}
 use Rattle.ppexpand.specs.Lists.{with_set, is_plain, ArePlain}

@@ -15,8 +15,9 @@ use Rattle.ppexpand.specs.declared.env.Env.{Env}
 use Rattle.ppexpand.specs.declared.expansion.Expanded.{Expanded}
 use Rattle.ppexpand.specs.Arguments.{is_open, Gathered, Closed, Quoted, Unclosed, gather, separators, fitted}
 use Rattle.ppexpand.specs.Turn.{predefined_value, Call, Turn, Done, Refused, Passes, Failed, Replaced, Called, followed_by, replaced_by, fault_at_use, quote_fault, gain_of, called, invoked, function_turn, macro_turn, named_turn, macro_of}
-use Rattle.ppexpand.specs.Turn.{turn, less_one, wanted, finished}
-use Rattle.ppexpand.specs.Expansion.{Outcome, ExpandedArguments, turn_within, Expands, ExpandsTo, ExpandsArguments, IsExpansion}
+use Rattle.ppexpand.specs.Turn.{turn, wanted, finished, ExpandedArguments}
+use Rattle.ppexpand.specs.Budget.{less_one}
+use Rattle.ppexpand.specs.Expansion.{Outcome, turn_within, Expands, ExpandsTo, ExpandsArguments, IsExpansion}
 use Rattle.ppexpand.specs.Expansion as within
 use Rattle.ppexpand.specs.Standard.{NamesMacro, Opens, Invokes, opens_next, object_result, invocation_result, StandardExpands, StandardExpandsArguments, IsStandardExpansion}
 use Rattle.ppexpand.proofs.TurnLemmas.{turn-quote, turn-hidden, turn-named, turn-unnamed}
@@ -208,7 +209,7 @@ module _ (macros : Macros) (env : Env) where
   by_rule list {x = x} is e = subst (Means list) (subst (λ l. turn_within macros env l list ≡ x) is e) (means list)
 
   mutual
-    pub standard : {level turns : ℕ} {left : Option ℕ} {list : List Hiding} {out : Outcome} → left ≡ None → Expands macros env level left turns list out → StandardExpands macros env level list out.tokens out.fault
+    standard : {level turns : ℕ} {left : Option ℕ} {list : List Hiding} {out : Outcome} → left ≡ None → Expands macros env level left turns list out → StandardExpands macros env level list out.tokens out.fault
     standard {list = list} is (within.done e) = at_done (by_rule list is e)
     standard {list = list} is (within.refused e) = at_refused (by_rule list is e)
     standard {list = list} is (within.passes e more) = at_passes (by_rule list is e) (standard is more)
@@ -245,7 +246,7 @@ module _ (macros : Macros) (env : Env) where
   failing m = (0, within.failed (meant m))
 
   mutual
-    pub unbudgeted : {level : ℕ} {list tokens : List Hiding} {fault : Option Fault} → StandardExpands macros env level list tokens fault → Unbudgeted level list tokens fault
+    unbudgeted : {level : ℕ} {list tokens : List Hiding} {fault : Option Fault} → StandardExpands macros env level list tokens fault → Unbudgeted level list tokens fault
     unbudgeted StandardExpands.nothing_left = (0, within.done (meant Means.nothing_left))
     unbudgeted (StandardExpands.lone_quote q) = (0, within.refused (meant (Means.lone_quote q)))
     unbudgeted (StandardExpands.no_macro q n more) = passing (Means.no_macro q n) (unbudgeted more)
@@ -279,16 +280,15 @@ module _ (macros : Macros) (env : Env) where
     λ s. subst (ExpandsTo macros env level None list) (λ i. record { tokens = out.tokens; fault = out.fault; left = (sym s.0) i }) (unbudgeted s.1),
   )
 
-  pub tokens_standard : {left : Option ℕ} {tokens : List Token} {e : Expanded} → left ≡ None → IsExpansion macros env left tokens e → IsStandardExpansion macros env tokens e.tokens e.fault
-  tokens_standard {tokens = tokens} is x =
-      record { passed = x.outcome.tokens; expands = subst (λ f. StandardExpands macros env 0 _ x.outcome.tokens f) (sym x.ended) (standard is x.expands.1); is = x.passed }
+  tokens_left : {tokens : List Token} {e : Expanded} → IsExpansion macros env None tokens e → e.left ≡ None
+  tokens_left x = x.left_over ∙ left_none macros env refl x.expands.1
 
-  pub tokens_unbudgeted : {left : Option ℕ} {tokens : List Token} {e : Expanded} → left ≡ None → e.left ≡ None → IsStandardExpansion macros env tokens e.tokens e.fault → IsExpansion macros env left tokens e
-  tokens_unbudgeted {tokens = tokens} {e = e} is none s =
-      subst (λ l. IsExpansion macros env l tokens e) (sym is) (record { outcome = record { tokens = s.passed; fault = e.fault; left = None }; expands = unbudgeted s.expands; passed = s.is; ended = refl; left_over = none })
+  tokens_standard : {tokens : List Token} {e : Expanded} → IsExpansion macros env None tokens e → IsStandardExpansion macros env tokens e.tokens e.fault
+  tokens_standard x =
+      record { passed = x.outcome.tokens; expands = subst (λ f. StandardExpands macros env 0 _ x.outcome.tokens f) (sym x.ended) (standard refl x.expands.1); is = x.passed }
 
-  pub tokens_left : {left : Option ℕ} {tokens : List Token} {e : Expanded} → left ≡ None → IsExpansion macros env left tokens e → e.left ≡ None
-  tokens_left is x = x.left_over ∙ left_none macros env is x.expands.1
+  tokens_unbudgeted : {tokens : List Token} {e : Expanded} → e.left ≡ None → IsStandardExpansion macros env tokens e.tokens e.fault → IsExpansion macros env None tokens e
+  tokens_unbudgeted {e = e} none s = record { outcome = record { tokens = s.passed; fault = e.fault; left = None }; expands = unbudgeted s.expands; passed = s.is; ended = refl; left_over = none }
 
   pub expansion_standard : (tokens : List Token) (e : Expanded) → IsExpansion macros env None tokens e ↔ ((e.left ≡ None) × IsStandardExpansion macros env tokens e.tokens e.fault)
-  expansion_standard tokens e = (λ x. (tokens_left refl x, tokens_standard refl x), λ s. tokens_unbudgeted refl s.0 s.1)
+  expansion_standard tokens e = (λ x. (tokens_left x, tokens_standard x), λ s. tokens_unbudgeted s.0 s.1)

@@ -22,7 +22,8 @@ use Rattle.ppmacro.specs.Chains.{chains_of}
 use Rattle.ppmacro.specs.Substitution.{Arguments, Marked, substituted, after_ok, chains_tokens, gained}
 use Rattle.ppexpand.specs.Arguments.{Gathered, Closed, Quoted, Unclosed, argument_role, gather, separators, fitted, separates, fewer, with_token, with_argument, is_open, Quote, Open, Close, Comma, Inner}
 use Rattle.ppexpand.specs.declared.env.Env.{Env}
-use Rattle.ppexpand.specs.Turn.{Call, Turn, Done, Refused, Passes, Failed, Replaced, Called, turn, over, within, finished, mark_next, followed_by, replaced_by, gain_of, quote_fault, called, invoked, function_turn, macro_turn, named_turn}
+use Rattle.ppexpand.specs.Turn.{Call, Turn, Done, Refused, Passes, Failed, Replaced, Called, turn, finished, mark_next, followed_by, replaced_by, gain_of, quote_fault, called, invoked, function_turn, macro_turn, named_turn}
+use Rattle.ppexpand.specs.Budget.{over, within}
 use Rattle.ppexpand.specs.Turn.{macro_of}
 use Rattle.ppexpand.specs.Expansion.{turn_within}
 use Rattle.ppexpand.proofs.Termination.{Each, Among, Step, object, function}

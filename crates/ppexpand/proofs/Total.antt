@@ -10,8 +10,9 @@ use Rattle.ppmacro.specs.Names.{HideSet, Macros}
 use Rattle.ppmacro.specs.HideSets.{Hiding}
 use Rattle.ppmacro.specs.Members.{same_name}
 use Rattle.ppexpand.specs.declared.env.Env.{Env}
-use Rattle.ppexpand.specs.Turn.{Call, Turn, Done, Refused, Passes, Failed, Replaced, Called, less_one, wanted, finished, fault_at_use}
-use Rattle.ppexpand.specs.Expansion.{Outcome, ExpandedArguments, with_expanded, turn_within, Expands, done, refused, passes, failed, replaced, argument_refused, call_failed, call_replaced, ExpandsArguments, none, unused, too_deep, used}
+use Rattle.ppexpand.specs.Turn.{Call, Turn, Done, Refused, Passes, Failed, Replaced, Called, wanted, finished, fault_at_use, ExpandedArguments, with_expanded}
+use Rattle.ppexpand.specs.Budget.{less_one}
+use Rattle.ppexpand.specs.Expansion.{Outcome, turn_within, Expands, done, refused, passes, failed, replaced, argument_refused, call_failed, call_replaced, ExpandsArguments, none, unused, too_deep, used}
 use Rattle.ppexpand.specs.Expansion.{used_refused}
 use Rattle.ppexpand.proofs.Termination as ending
 use Rattle.ppexpand.proofs.Steps as steps

@@ -10,7 +10,8 @@ use Rattle.ppexpand.specs.declared.turn.Step.{Step}
 use Rattle.ppexpand.specs.declared.turn.Next.TheInside.{Inside}
 use Rattle.ppexpand.specs.declared.turn.Next.TheView.{view}
 use Rattle.ppexpand.specs.Next.{Next}
-use Rattle.ppexpand.specs.Turn.{Done, Refused, Passes, quote_fault, named_turn, Turn, macro_of, turn, within, is_spent}
+use Rattle.ppexpand.specs.Turn.{Done, Refused, Passes, quote_fault, named_turn, Turn, macro_of, turn}
+use Rattle.ppexpand.specs.Budget.{within, is_spent}
 
 pub turn-quote : (macros : Macros) (env : Env) (t : Hiding) (rest : List Hiding) → is_lone_quote t.token ≡ true → turn macros env (t ∷ rest) ≡ Refused (quote_fault t)
 unfolding turn

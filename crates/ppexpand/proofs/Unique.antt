@@ -4,8 +4,9 @@ use Rattle.pptext.specs.declared.tokens.Fault.{Fault}
 use Rattle.ppmacro.specs.Names.{Macros}
 use Rattle.ppmacro.specs.HideSets.{Hiding}
 use Rattle.ppexpand.specs.declared.env.Env.{Env}
-use Rattle.ppexpand.specs.Turn.{Call, Done, Refused, Passes, Failed, Replaced, Called, less_one, wanted, finished, fault_at_use}
-use Rattle.ppexpand.specs.Expansion.{Outcome, ExpandedArguments, with_expanded, turn_within, Expands, done, refused, passes, failed, replaced, argument_refused, call_failed, call_replaced, ExpandsArguments, none, unused, too_deep, used}
+use Rattle.ppexpand.specs.Turn.{Call, Done, Refused, Passes, Failed, Replaced, Called, wanted, finished, fault_at_use, ExpandedArguments, with_expanded}
+use Rattle.ppexpand.specs.Budget.{less_one}
+use Rattle.ppexpand.specs.Expansion.{Outcome, turn_within, Expands, done, refused, passes, failed, replaced, argument_refused, call_failed, call_replaced, ExpandsArguments, none, unused, too_deep, used}
 use Rattle.ppexpand.specs.Expansion.{used_refused}
 
 module _ (macros : Macros) (env : Env) where

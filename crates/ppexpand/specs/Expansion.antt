@@ -1,5 +1,5 @@
 -- The expansion of a list (6.10.3.4), within a budget of replacements or without one.
-use Rattle.std.specs.Prelude.{◌≡◌, ℕ, suc, ◌+◌, ◌<◌, ◌≤◌, List, [], ◌∷◌, map, Option, Some, None, Result, Ok, Err}
+use Rattle.std.specs.Prelude.{◌≡◌, ℕ, suc, ◌+◌, ◌<◌, ◌≤◌, List, [], ◌∷◌, map, Option, Some, None, Ok, Err}
 use Rattle.pptext.specs.declared.tokens.Token.{Token}
 use Rattle.pptext.specs.declared.tokens.Fault.{Fault}
 use Rattle.ppmacro.specs.Names.{Macros}
@@ -7,21 +7,15 @@ use Rattle.ppmacro.specs.HideSets.{Hiding}
 use Rattle.ppmacro.specs.Substitution.{plain}
 use Rattle.ppexpand.specs.declared.env.Env.{Env}
 use Rattle.ppexpand.specs.declared.expansion.Expanded.{Expanded}
-use Rattle.ppexpand.specs.Turn.{Call, Turn, Done, Refused, Passes, Failed, Replaced, Called, turn, within, less_one, wanted, finished, fault_at_use}
+use Rattle.ppexpand.specs.Turn.{Call, Turn, Done, Refused, Passes, Failed, Replaced, Called, turn, wanted, finished, fault_at_use}
+use Rattle.ppexpand.specs.Turn.{ExpandedArguments, with_expanded}
+use Rattle.ppexpand.specs.Budget.{within, less_one}
 
 -- the tokens that passed, the fault that ended it, if one did, and what is left of the budget
 pub record Outcome : Type 0 where
   pub tokens : List Hiding
   pub fault : Option Fault
   pub left : Option ℕ
-
--- the expansions of arguments, with one place for each parameter
-abbrev pub ExpandedArguments : Type 0
-ExpandedArguments = Result (List (Option (List Hiding))) Fault
-
-abbrev pub with_expanded : Option (List Hiding) → ExpandedArguments → ExpandedArguments
-with_expanded a (Ok as') = Ok (a ∷ as')
-with_expanded a (Err f) = Err f
 
 -- the list ends here, with this fault or none
 abbrev pub ended : Option ℕ → Option Fault → Outcome

@@ -11,7 +11,8 @@ use Rattle.ppmacro.specs.declared.macros.Definition.{Definition}
 use Rattle.ppexpand.specs.declared.env.Env.{Env}
 use Rattle.ppexpand.specs.declared.expansion.Expanded.{Expanded}
 use Rattle.ppexpand.specs.Arguments.{argument_role, separates, fewer, Quote, Open, Close, Comma, Inner}
-use Rattle.ppexpand.specs.Turn.{Call, Passes, Replaced, Called, less_one, macro_of, wanted, finished}
+use Rattle.ppexpand.specs.Turn.{Call, Passes, Replaced, Called, macro_of, wanted, finished}
+use Rattle.ppexpand.specs.Budget.{less_one}
 use Rattle.ppexpand.specs.Expansion.{Outcome, turn_within, ExpandsTo, ExpandsArguments, IsExpansion}
 
 -- ---- exactly one, and an end

@@ -1,5 +1,6 @@
 pub mod Arguments
 pub mod Turn
+pub mod Budget
 pub mod Expansion
 pub mod Standard
 pub mod Next

@@ -17,9 +17,10 @@ use Rattle.ppmacro.specs.declared.flying.Hidden.{Hidden}
 use Rattle.ppmacro.specs.declared.flying.Expansion.{Expansion}
 use Rattle.ppmacro.specs.declared.flying.Expansion.TheVariants.{Unused, AsGiven, Made}
 use Rattle.ppexpand.specs.declared.env.Env.{Env}
-use Rattle.ppexpand.specs.Turn.{Call, Turn, Done, Refused, Passes, Failed, Replaced, Called, less_one, wanted, finished}
+use Rattle.ppexpand.specs.Turn.{Call, Turn, Done, Refused, Passes, Failed, Replaced, Called, wanted, finished, ExpandedArguments}
+use Rattle.ppexpand.specs.Budget.{less_one}
 use Rattle.ppexpand.specs.Next as next
-use Rattle.ppexpand.specs.Expansion.{Outcome, ExpandedArguments, turn_within, Expands, ExpandsArguments}
+use Rattle.ppexpand.specs.Expansion.{Outcome, turn_within, Expands, ExpandsArguments}
 
 -- ---- arguments
 

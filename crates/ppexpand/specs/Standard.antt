@@ -14,7 +14,7 @@ use Rattle.ppmacro.specs.declared.macros.Shape.TheVariants.{Predefined, ObjectLi
 use Rattle.ppexpand.specs.declared.env.Env.{Env}
 use Rattle.ppexpand.specs.Arguments.{is_open, Closed, Quoted, Unclosed, gather, separators, fitted}
 use Rattle.ppexpand.specs.Turn.{predefined_value, Call, followed_by, fault_at_use, quote_fault, gain_of, no_arguments, macro_of, wanted}
-use Rattle.ppexpand.specs.Expansion.{ExpandedArguments, with_expanded}
+use Rattle.ppexpand.specs.Turn.{ExpandedArguments, with_expanded}
 
 -- a token names this macro, and its hide set hasn't the name (6.10.3, paragraph 9; 6.10.3.4, paragraph 2)
 pub record NamesMacro (macros : Macros) (t : Hiding) (d : Definition) : Type 0 where

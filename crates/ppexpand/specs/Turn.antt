@@ -1,6 +1,6 @@
 -- What the head of a list calls for: the rules of macro replacement (6.10.3, 6.10.3.1, 6.10.3.4), by cases on whole
 -- lists whose tokens carry hide sets.
-use Rattle.std.specs.Prelude.{ℕ, zero, suc, ℤ, pos, ◌+ℤ◌, nat_abs, decimal, Bool, true, false, List, [], ◌∷◌, ◌++◌, Option, Some, None, Result, Ok}
+use Rattle.std.specs.Prelude.{ℕ, suc, ℤ, pos, ◌+ℤ◌, nat_abs, decimal, Bool, true, false, List, [], ◌∷◌, ◌++◌, Option, Some, None, Result, Ok}
 use Rattle.std.specs.Prelude.{Err, codes, ◌==◌, if◌then◌else◌}
 use Rattle.std.specs.List.{list_any}
 use Rattle.std.specs.FinSet as set
@@ -142,31 +142,6 @@ turn macros env (t ∷ rest) =
     if is_lone_quote t.token then Refused (quote_fault t) else (
     if set.contains t.hide t.token.text then Passes t rest else named_turn env t rest (macro_of macros t.token))
 
--- ---- turns within a budget
-
--- nothing is left of a budget
-abbrev pub is_spent : Option ℕ → Bool
-is_spent (Some zero) = true
-is_spent left = false
-
--- nothing is left for a replacement
-abbrev pub over : List Hiding → Turn
-over [] = Done
-over (t ∷ rest) = Refused (fault 35 t.token.used [])
-
--- where so much is left of a budget, or there is none: with nothing left, no macro's name is replaced
-abbrev pub within : Option ℕ → List Hiding → Turn → Turn
-within (Some zero) list (Failed f) = over list
-within (Some zero) list (Replaced next) = over list
-within (Some zero) list (Called call) = over list
-within left list other = other
-
--- what is left once one is spent
-abbrev pub less_one : Option ℕ → Option ℕ
-less_one None = None
-less_one (Some zero) = Some zero
-less_one (Some (suc n)) = Some n
-
 -- ---- the arguments that are expanded (6.10.3.1)
 
 abbrev pub is_alone : ℕ → List Operand → Bool
@@ -184,6 +159,15 @@ to_expand i cs (a ∷ as') = (if uses_alone i cs then Some a else None) ∷ to_e
 
 unfoldable pub wanted : Call → List (Option (List Hiding))
 wanted call = to_expand 0 (chains_of call.macro) call.arguments
+
+-- their expansions, with one place for each parameter, or the first fault
+abbrev pub ExpandedArguments : Type 0
+ExpandedArguments = Result (List (Option (List Hiding))) Fault
+
+-- the expansion of an argument before those of the arguments after it
+abbrev pub with_expanded : Option (List Hiding) → ExpandedArguments → ExpandedArguments
+with_expanded a (Ok as') = Ok (a ∷ as')
+with_expanded a (Err f) = Err f
 
 -- the turn once they are expanded
 unfoldable pub finished : Call → List (Option (List Hiding)) → Turn

@@ -1,6 +1,6 @@
 // What is left of a budget; where there is no budget, nothing is counted.
 ghost use Rattle.std.specs.Prelude.{◌≡◌};
-ghost use Rattle.ppexpand.specs.Turn.{is_spent, less_one};
+ghost use Rattle.ppexpand.specs.Budget.{is_spent, less_one};
 
 /// Whether there is a budget, and nothing is left of it. Takes no memory.
 pub fn is_spent(left: Option<u64>) -> bool

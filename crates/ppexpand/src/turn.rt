@@ -12,7 +12,8 @@ ghost use Rattle.ppmacro.specs.Substitution.{Arguments, plain, with_mark, gained
 ghost use Rattle.ppexpand.specs.Arguments.{gather, separators};
 ghost use Rattle.ppexpand.specs.declared.env.Env.{Env};
 ghost use Rattle.ppexpand.specs.Turn.{Replaced, macro_of, replaced_by, no_arguments, predefined_value, called, invoked, function_turn, macro_turn};
-ghost use Rattle.ppexpand.specs.Turn.{within, finished};
+ghost use Rattle.ppexpand.specs.Turn.{finished};
+ghost use Rattle.ppexpand.specs.Budget.{within};
 ghost use Rattle.ppexpand.specs.Expansion.{turn_within};
 ghost use Rattle.ppexpand.specs.Lists.{next_macro};
 ghost use Rattle.ppexpand.specs.Shown.{expanded_in, fitting_in, FittingKnown, ExpansionsKnown, call_in, CallKnown, turn_in, NextKnown, replaced_in};

@@ -9,7 +9,7 @@ use Rattle.pptext.specs.Lines.{LogicalLine}
 use Rattle.pptext.specs.Tree.{sign_place}
 use Rattle.ppmacro.specs.Names.{Macros}
 use Rattle.ppexpand.specs.Expansion.{count_expansion}
-use Rattle.ppexpand.specs.Turn.{is_spent}
+use Rattle.ppexpand.specs.Budget.{is_spent}
 use Rattle.ppexpand.proofs.Budget.{Covers, larger, covers_rest, expansion_enough}
 use Rattle.ppexpr.proofs.Capped.{condition_enough}
 use Rattle.ppunit.specs.States.{State, Reached, going, passed, reading_once, with_left}

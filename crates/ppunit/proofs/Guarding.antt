@@ -9,7 +9,8 @@ use Rattle.pptext.specs.Lines.{LogicalLine}
 use Rattle.pptext.specs.Tree.{Parts, Done, Run, Control, Section, End, Branch, part_lines, AreParts}
 use Rattle.pptext.specs.Guard.{IsBlankLine, AreBlank, GuardedParts, GuardedBy}
 use Rattle.pptext.proofs.Trees.{at_most_one}
-use Rattle.ppexpand.specs.Turn.{turn, is_spent}
+use Rattle.ppexpand.specs.Turn.{turn}
+use Rattle.ppexpand.specs.Budget.{is_spent}
 use Rattle.ppexpand.specs.Expansion.{ended, done, turn_within, count_expansion}
 use Rattle.ppshelf.specs.Content.{Content, unreadable, readable, IsRead}
 use Rattle.ppshelf.specs.Files.{file_at}

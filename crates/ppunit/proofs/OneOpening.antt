@@ -6,7 +6,7 @@ use Rattle.pptext.specs.Lines.{LogicalLine}
 use Rattle.pptext.specs.Sources.{Reads}
 use Rattle.pptext.specs.Tree.{Parts, Tree}
 use Rattle.pptext.specs.Tokens.{fault}
-use Rattle.ppexpand.specs.Turn.{is_spent}
+use Rattle.ppexpand.specs.Budget.{is_spent}
 use Rattle.ppshelf.specs.Content.{unreadable, readable}
 use Rattle.ppshelf.specs.Files.{file_at}
 use Rattle.ppshelf.specs.Names.{name_in}

@@ -8,7 +8,7 @@ use Rattle.pptext.specs.Sources.{IsSource}
 use Rattle.pptext.specs.Tree.{Parts, Tree, group_fault}
 use Rattle.pptext.proofs.Trees.{a_tree}
 use Rattle.ppexpand.specs.declared.env.Env.{Env}
-use Rattle.ppexpand.specs.Turn.{is_spent}
+use Rattle.ppexpand.specs.Budget.{is_spent}
 use Rattle.ppshelf.specs.Content.{unreadable, readable}
 use Rattle.ppshelf.specs.Names.{name_in}
 use Rattle.ppshelf.specs.Files.{Files, Extends}

@@ -4,7 +4,7 @@ use Rattle.pptext.specs.declared.tokens.Place.{Place}
 use Rattle.pptext.specs.declared.tokens.Fault.{Fault}
 use Rattle.pptext.specs.Lines.{LogicalLine}
 use Rattle.pptext.specs.Tree.{Parts, Branches}
-use Rattle.ppexpand.specs.Turn.{less_one, is_spent}
+use Rattle.ppexpand.specs.Budget.{less_one, is_spent}
 use Rattle.ppunit.specs.States.{State, Surroundings, Reached}
 use Rattle.ppunit.specs.Lines.{run_tokens}
 use Rattle.ppunit.specs.Group.{Group, Branched, Controls, Includes, Opened}

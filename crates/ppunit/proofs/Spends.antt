@@ -9,7 +9,7 @@ use Rattle.pptext.specs.declared.sources.Profile.{Profile}
 use Rattle.pptext.specs.Lines.{LogicalLine}
 use Rattle.pptext.specs.Tree.{Parts, Branches}
 use Rattle.ppmacro.specs.Names.{Macros}
-use Rattle.ppexpand.specs.Turn.{less_one, is_spent}
+use Rattle.ppexpand.specs.Budget.{less_one, is_spent}
 use Rattle.ppexpand.specs.Expansion.{count_expansion}
 use Rattle.ppexpand.specs.Laws.{plus}
 use Rattle.ppexpand.proofs.Budget.{plus-plus, plus-nothing, expansion_spends}

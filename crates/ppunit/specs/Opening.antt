@@ -5,7 +5,7 @@ use Rattle.pptext.specs.declared.tokens.Fault.{Fault}
 use Rattle.pptext.specs.Lines.{LogicalLine}
 use Rattle.pptext.specs.Tokens.{fault}
 use Rattle.ppexpand.specs.declared.env.Env.{Env}
-use Rattle.ppexpand.specs.Turn.{is_spent}
+use Rattle.ppexpand.specs.Budget.{is_spent}
 use Rattle.ppshelf.specs.Content.{Content, unreadable, IsRead}
 use Rattle.ppshelf.specs.Files.{Files, Stock, file_at}
 use Rattle.ppshelf.specs.Names.{name_in}

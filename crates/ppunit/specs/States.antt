@@ -5,7 +5,7 @@ use Rattle.pptext.specs.declared.sources.Profile.{Profile}
 use Rattle.ppmacro.specs.Substitution.{escaped}
 use Rattle.ppmacro.specs.Names.{Macros}
 use Rattle.ppexpand.specs.declared.env.Env.{Env}
-use Rattle.ppexpand.specs.Turn.{less_one}
+use Rattle.ppexpand.specs.Budget.{less_one}
 use Rattle.ppshelf.specs.Files.{Files, Stock}
 use Rattle.ppshelf.specs.Names.{name_in}
 use Rattle.ppunit.specs.Dependencies.{among}

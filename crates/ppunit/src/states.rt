@@ -1,6 +1,6 @@
 // Where phase 4 stands in a unit.
 ghost use Rattle.std.specs.Prelude.{◌≡◌, IfOk, OnOk, [], ◌∷◌};
-ghost use Rattle.ppexpand.specs.Turn.{is_spent};
+ghost use Rattle.ppexpand.specs.Budget.{is_spent};
 ghost use Rattle.ppunit.specs.States.{passed, depending, reading_once, paying, literal};
 ghost use Rattle.ppunit.specs.Unit.{beginning};
 ghost use Rattle.ppunit.specs.declared.units.Item.TheVariants as item;

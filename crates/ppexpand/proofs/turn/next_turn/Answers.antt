@@ -9,7 +9,8 @@ use Rattle.ppmacro.specs.Substituting.{tokens_of}
 use Rattle.ppmacro.specs.declared.flying.Hidden.{Hidden}
 use Rattle.ppmacro.specs.declared.macros.Definition.{Definition}
 use Rattle.ppexpand.specs.declared.env.Env.{Env}
-use Rattle.ppexpand.specs.Turn.{Refused, named_turn, macro_turn, macro_of, turn, within, quote_fault}
+use Rattle.ppexpand.specs.Turn.{Refused, named_turn, macro_turn, macro_of, turn, quote_fault}
+use Rattle.ppexpand.specs.Budget.{within}
 use Rattle.ppexpand.specs.Expansion.{turn_within}
 use Rattle.ppexpand.specs.Lists.{next_macro}
 use Rattle.ppexpand.specs.Shown.{turn_in, NextKnown}
