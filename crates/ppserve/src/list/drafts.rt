@@ -15,7 +15,7 @@ use std::alloc::Global;
 use std::marker::Model;
 
 /// A file of a list as it stands.
-#[derive(Drop, Debug)]
+#[derive(Drop)]
 pub(super) struct DraftFile {
     pub(super) name: Text,
     pub(super) content: Sequence<u8>,
@@ -30,7 +30,7 @@ impl Model for DraftFile {
 }
 
 /// A unit of a list as it stands, with the name of its file.
-#[derive(Drop, Debug)]
+#[derive(Drop)]
 pub(super) struct DraftUnit {
     pub(super) file: Text,
     pub(super) defines: Texts,
@@ -46,7 +46,7 @@ impl Model for DraftUnit {
 }
 
 /// How a list's budget is written.
-#[derive(Drop, Debug)]
+#[derive(Drop)]
 pub(super) enum WrittenBudget {
     /// The list has none.
     Missing,
@@ -57,7 +57,7 @@ pub(super) enum WrittenBudget {
 }
 
 /// A list's budget as it stands.
-#[derive(Drop, Debug)]
+#[derive(Drop)]
 pub(super) struct DraftBudget {
     pub(super) written: WrittenBudget,
 }
@@ -72,7 +72,7 @@ impl Model for DraftBudget {
 }
 
 /// What all units share as it stands, with the text of the profile.
-#[derive(Drop, Debug)]
+#[derive(Drop)]
 pub(super) struct DraftSetting {
     pub(super) profile: Text,
     pub(super) budget: DraftBudget,
@@ -96,7 +96,7 @@ impl Model for DraftSetting {
 }
 
 /// A list as it stands.
-#[derive(Drop, Debug)]
+#[derive(Drop)]
 pub(super) struct Draft {
     pub(super) setting: DraftSetting,
     pub(super) files: Sequence<DraftFile>,
