@@ -67,7 +67,7 @@ opened s ls last first rest used =
     ap (λ ts. join ts (hidings s (first ∷ rest)) used) (map-append (hiding s) ls (last ∷ []))
     ∙ join-last (hidings s ls) (hiding s last) (hiding s first) (hidings s rest) used
 
-pub split-first : (xs : List Hidden) (x : Hidden) → Some x ≡ slice_get xs 0 → xs ≡ x ∷ drop 1 xs
+pub split-first : {A : Type 0} (xs : List A) (x : A) → Some x ≡ slice_get xs 0 → xs ≡ x ∷ drop 1 xs
 split-first [] x h = absurd (cc h)
 split-first (y ∷ xs) x h = λ i. (cc_first (sym h) i) ∷ xs
   where

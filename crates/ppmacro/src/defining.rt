@@ -54,22 +54,6 @@ impl Model for Refusal {
     ] };
 }
 
-impl Refusal {
-    // The fault's number.
-    fn number(&self) -> u8
-        ensures { result ≡ number_of self.now }
-    {
-        match self.wrong {
-            Wrong::ParameterList => 11,
-            Wrong::Spacing => 12,
-            Wrong::Pasting => 13,
-            Wrong::Stringizing => 14,
-            Wrong::VariableArguments => 15,
-            Wrong::Redefinition => 16,
-        }
-    }
-}
-
 /// A fault that isn't made yet: its number, and its text, which the program or the file holds.
 #[derive(Drop)]
 struct Refused<'a> {
@@ -91,6 +75,26 @@ impl<'a> Refused<'a> {
         ensures { IfOk result (λ f. f ≡ fault self.now.0 at self.now.1) }
     {
         Fault::new(alloc, self.number, at, self.text)
+    }
+}
+
+impl Refusal {
+    // The fault of the macro of this name.
+    fn of<'a>(&self, name: &'a Token) -> Refused<'a>
+        ensures { result ≡ (number_of self.now, name.now.text) }
+    {
+        let number = match self.wrong {
+            Wrong::ParameterList => 11,
+            Wrong::Spacing => 12,
+            Wrong::Pasting => 13,
+            Wrong::Stringizing => 14,
+            Wrong::VariableArguments => 15,
+            Wrong::Redefinition => 16,
+        };
+        Refused {
+            number,
+            text: name.text.as_bytes(),
+        }
     }
 }
 
@@ -217,41 +221,25 @@ fn is_variadic(shape: &Shape) -> bool
     }
 }
 
-// The definition behind an allowed name.
+// The macro that is defined behind an allowed name, or the fault.
 fn fitting<'a>(
     alloc: Global,
     table: &Table,
-    name: &[u8],
+    name: &'a Token,
     line: &'a [Token],
-) -> Result<Result<Definition<'a>, Refusal>, AllocError>
-    ensures { IfOk result (λ r. r ≡ fitting table.now name.now (read_definition line.now)) }
+) -> Result<Result<Named<'a>, Refused<'a>>, AllocError>
+    ensures { (at : Place) → IfOk result (λ r. faulted at r ≡ under_name at name.now.text (fitting table.now name.now.text (read_definition line.now))) }
 {
     let definition = match read_definition(alloc, line, table.hashing())? {
         Ok(definition) => definition,
-        Err(refusal) => return Ok(Err(refusal)),
+        Err(refusal) => return Ok(Err(refusal.of(name))),
     };
-    match refusal_of(alloc, table, name, &definition)? {
-        Some(refusal) => Ok(Err(refusal)),
-        None => Ok(Ok(definition)),
-    }
-}
-
-// The definition with the macro's name, or the fault.
-fn under_name<'a>(
-    name: &'a Token,
-    fitting: Result<Definition<'a>, Refusal>,
-) -> Result<Named<'a>, Refused<'a>>
-    ensures { (at : Place) → faulted at result ≡ under_name at name.now.text fitting.entry }
-{
-    match fitting {
-        Ok(definition) => Ok(Named {
+    match refusal_of(alloc, table, name.text.as_bytes(), &definition)? {
+        Some(refusal) => Ok(Err(refusal.of(name))),
+        None => Ok(Ok(Named {
             name: Text::of(name),
             definition,
-        }),
-        Err(refusal) => Err(Refused {
-            number: refusal.number(),
-            text: name.text.as_bytes(),
-        }),
+        })),
     }
 }
 
@@ -281,8 +269,7 @@ fn judged<'a>(
             text: name.text.as_bytes(),
         }));
     }
-    let fitting = fitting(alloc, table, name.text.as_bytes(), &line[1..])?;
-    Ok(under_name(name, fitting))
+    fitting(alloc, table, name, &line[1..])
 }
 
 // Puts a definition into the table.
