@@ -1,5 +1,5 @@
 // A list as it stands in JSON, before its names and times are judged.
-ghost use Rattle.std.specs.Prelude.{◌≡◌, Some, None, IfOk, IfErr, codes, map, option_and_then, ◌<◌, IfSome, string_bytes};
+ghost use Rattle.std.specs.Prelude.{◌≡◌, Some, None, IfOk, IfErr, codes, map, option_and_then, ◌<◌, IfSome};
 ghost use Rattle.serde_json.specs.Find.{as_str};
 ghost use Rattle.serde_json.specs.View.{view, members_view, items_view};
 ghost use Rattle.ppserve.specs.Listing.{RefusedFor};
@@ -213,18 +213,22 @@ fn files_of(alloc: Global, value: &Value, inline: bool) -> Result<Sequence<Draft
     let Some(items) = array.as_array() else {
         return Err(ListFault::Bad(2));
     };
-    Ok(Sequence::new(files_from(alloc, items.as_slice(), inline)?))
+    files_from(alloc, items.as_slice(), inline)
 }
 
-fn files_from(alloc: Global, items: &[Value], inline: bool) -> Result<Vec<DraftFile>, ListFault>
-    ensures ok { IfOk result (λ fs. drafting.each_item (drafting.draft_file inline) (items_view items.now) ≡ Some fs.items) }
+fn files_from(
+    alloc: Global,
+    items: &[Value],
+    inline: bool,
+) -> Result<Sequence<DraftFile>, ListFault>
+    ensures ok { IfOk result (λ fs. drafting.each_item (drafting.draft_file inline) (items_view items.now) ≡ Some fs) }
     ensures err { IfErr result (RefusedFor 2 (drafting.each_item (drafting.draft_file inline) (items_view items.now) ≡ None)) }
 {
     let mut files = Vec::new(alloc);
     for item in items {
         files.push(file_from(alloc, item, inline)?)?;
     }
-    Ok(files)
+    Ok(Sequence::new(files))
 }
 
 fn file_from(alloc: Global, value: &Value, inline: bool) -> Result<DraftFile, ListFault>
@@ -277,7 +281,7 @@ fn hex_content(alloc: Global, value: &Value) -> Result<Sequence<u8>, ListFault>
     ensures err { IfErr result (RefusedFor 2 (option_and_then shape.hex_bytes (as_str (view value.now)) ≡ None)) }
 {
     let text = text_of(value)?;
-    Ok(Sequence::new(hex_bytes(alloc, text.as_bytes())?))
+    hex_bytes(alloc, text.as_bytes())
 }
 
 fn units_of(alloc: Global, value: &Value) -> Result<Sequence<DraftUnit>, ListFault>
@@ -290,18 +294,18 @@ fn units_of(alloc: Global, value: &Value) -> Result<Sequence<DraftUnit>, ListFau
     let Some(items) = array.as_array() else {
         return Err(ListFault::Bad(2));
     };
-    Ok(Sequence::new(units_from(alloc, items.as_slice())?))
+    units_from(alloc, items.as_slice())
 }
 
-fn units_from(alloc: Global, items: &[Value]) -> Result<Vec<DraftUnit>, ListFault>
-    ensures ok { IfOk result (λ us. drafting.each_item drafting.draft_unit (items_view items.now) ≡ Some us.items) }
+fn units_from(alloc: Global, items: &[Value]) -> Result<Sequence<DraftUnit>, ListFault>
+    ensures ok { IfOk result (λ us. drafting.each_item drafting.draft_unit (items_view items.now) ≡ Some us) }
     ensures err { IfErr result (RefusedFor 2 (drafting.each_item drafting.draft_unit (items_view items.now) ≡ None)) }
 {
     let mut units = Vec::new(alloc);
     for item in items {
         units.push(unit_from(alloc, item)?)?;
     }
-    Ok(units)
+    Ok(Sequence::new(units))
 }
 
 fn unit_from(alloc: Global, value: &Value) -> Result<DraftUnit, ListFault>
@@ -349,11 +353,11 @@ fn texts_of(alloc: Global, array: &Value) -> Result<Texts, ListFault>
     let Some(items) = array.as_array() else {
         return Err(ListFault::Bad(2));
     };
-    Ok(Texts::new(texts_from(alloc, items.as_slice())?))
+    texts_from(alloc, items.as_slice())
 }
 
-fn texts_from(alloc: Global, items: &[Value]) -> Result<Vec<String>, ListFault>
-    ensures ok { IfOk result (λ ts. drafting.each_item as_str (items_view items.now) ≡ Some (map string_bytes ts.items)) }
+fn texts_from(alloc: Global, items: &[Value]) -> Result<Texts, ListFault>
+    ensures ok { IfOk result (λ ts. drafting.each_item as_str (items_view items.now) ≡ Some ts) }
     ensures err { IfErr result (RefusedFor 2 (drafting.each_item as_str (items_view items.now) ≡ None)) }
 {
     let mut texts = Vec::new(alloc);
@@ -361,7 +365,7 @@ fn texts_from(alloc: Global, items: &[Value]) -> Result<Vec<String>, ListFault>
         let text = text_of(item)?;
         texts.push(String::from_str(alloc, text)?)?;
     }
-    Ok(texts)
+    Ok(Texts::new(texts))
 }
 
 /// Whether the value is an object with no other members than these.
@@ -387,8 +391,8 @@ fn is_among(text: &str, names: &[&str]) -> bool
 }
 
 /// The bytes that pairs of hexadecimal digits spell.
-fn hex_bytes(alloc: Global, text: &[u8]) -> Result<Vec<u8>, ListFault>
-    ensures ok { IfOk result (λ bytes. shape.hex_bytes text.now ≡ Some bytes.items) }
+fn hex_bytes(alloc: Global, text: &[u8]) -> Result<Sequence<u8>, ListFault>
+    ensures ok { IfOk result (λ bytes. shape.hex_bytes text.now ≡ Some bytes) }
     ensures err { IfErr result (RefusedFor 2 (shape.hex_bytes text.now ≡ None)) }
 {
     let mut bytes = Vec::with_capacity(alloc, text.len() / 2)?;
@@ -403,7 +407,7 @@ fn hex_bytes(alloc: Global, text: &[u8]) -> Result<Vec<u8>, ListFault>
     if !rest.is_empty() {
         return Err(ListFault::Bad(2));
     }
-    Ok(bytes)
+    Ok(Sequence::new(bytes))
 }
 
 fn hex_byte(high: u8, low: u8) -> Option<u8>
