@@ -76,24 +76,45 @@ fn told(alloc: Global, expanded: &Expanded) -> Result<Vec<u8>, AllocError> {
 /// fault or 0, and what is left then.
 type Case = (&'static str, Option<u64>, &'static str, u8, Option<u64>);
 
-/// That the lines after the last directive of a file are expanded to what a case wants.
-fn assert_expanded(
+/// Asserts what an expansion gave.
+fn assert_told(
     rt: &impl Abort,
     alloc: Global,
-    source: &Source,
-    (_text, budget, wanted, number, left): Case,
-) -> Result<(), Memory> {
-    let mut table = Table::new(alloc)?;
-    let tokens = directed(rt, alloc, &mut table, source)?;
-    let expanded = expand(alloc, &table, &env(0), budget, tokens)?;
+    expanded: &Expanded,
+    (_text, _budget, wanted, number, left): Case,
+) -> Result<(), AllocError> {
     assert!(rt; yields_all(alloc, &expanded.tokens)?);
-    assert_shown(rt, told(alloc, &expanded)?.as_slice(), wanted);
+    assert_shown(rt, told(alloc, expanded)?.as_slice(), wanted);
     let found = match &expanded.fault {
         Some(fault) => fault.number,
         None => 0,
     };
     assert!(rt; found == number && expanded.left == left, "at {wanted}");
     Ok(())
+}
+
+/// Asserts what tokens are expanded to by these macros.
+fn assert_expanded_by(
+    rt: &impl Abort,
+    alloc: Global,
+    table: &Table,
+    tokens: &[Token],
+    case: Case,
+) -> Result<(), Memory> {
+    let expanded = expand(alloc, table, &env(0), case.1, tokens)?;
+    Ok(assert_told(rt, alloc, &expanded, case)?)
+}
+
+/// Asserts what the lines after the last directive of a file are expanded to.
+fn assert_expanded(
+    rt: &impl Abort,
+    alloc: Global,
+    source: &Source,
+    case: Case,
+) -> Result<(), Memory> {
+    let mut table = Table::new(alloc)?;
+    let tokens = directed(rt, alloc, &mut table, source)?;
+    assert_expanded_by(rt, alloc, &table, tokens, case)
 }
 
 const CASES: &[Case] = &[

@@ -43,12 +43,17 @@ fn macro_of<'t, 'a>(table: &'t Table<'a>, line: &[Token]) -> Option<&'t Macro<'a
     table.get(name.text.as_bytes())
 }
 
+/// A hide set with one name more.
+fn more(rt: &impl Abort, sets: &mut HideSets, set: Set, name: &[u8]) -> Result<Set, Memory> {
+    assert!(rt; sets.knows(set));
+    sets.with(set, name)
+}
+
 /// The set of these names, each of one letter.
 fn set_of(rt: &impl Abort, sets: &mut HideSets, names: &[u8]) -> Result<Set, Memory> {
     let mut set = sets.empty();
     for name in names {
-        assert!(rt; sets.knows(set));
-        set = sets.with(set, &[*name])?;
+        set = more(rt, sets, set, &[*name])?;
     }
     Ok(set)
 }

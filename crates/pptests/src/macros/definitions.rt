@@ -41,8 +41,27 @@ fn is_wanted(
     }
 }
 
+/// Asserts what a line does to a table.
+fn assert_changes<'a>(
+    rt: &impl Abort,
+    alloc: Global,
+    table: &mut Table<'a>,
+    line: &'a [Token],
+    name: &str,
+    wanted: Result<&str, u8>,
+) -> Result<(), Memory> {
+    let before = shown(alloc, table, name)?;
+    let answer = direct_again(rt, alloc, table, line, (name, before.as_slice()))?;
+    let after = shown(alloc, table, name)?;
+    assert!(rt;
+        is_wanted(&answer, name, (before.as_slice(), after.as_slice()), wanted),
+        "{name}"
+    );
+    Ok(())
+}
+
 /// Asserts what a line does to the table after these lines.
-fn assert_changes(
+fn assert_next(
     rt: &impl Abort,
     alloc: Global,
     lines: &Source,
@@ -51,14 +70,7 @@ fn assert_changes(
     wanted: Result<&str, u8>,
 ) -> Result<(), Memory> {
     let mut table = table_of(rt, alloc, lines)?;
-    let before = shown(alloc, &table, name)?;
-    let answer = direct_again(rt, alloc, &mut table, line, (name, before.as_slice()))?;
-    let after = shown(alloc, &table, name)?;
-    assert!(rt;
-        is_wanted(&answer, name, (before.as_slice(), after.as_slice()), wanted),
-        "{name}"
-    );
-    Ok(())
+    assert_changes(rt, alloc, &mut table, line, name, wanted)
 }
 
 /// Asserts what a line does to a table in which only the lines before it were done: it leaves this definition of the name, or
@@ -72,7 +84,7 @@ fn assert_directed(
 ) -> Result<(), Fail> {
     let lines = source_of(rt, alloc, lines.as_bytes())?;
     let line = source_of(rt, alloc, line.as_bytes())?;
-    Ok(assert_changes(rt, alloc, &lines, line.tokens(), name, wanted)?)
+    Ok(assert_next(rt, alloc, &lines, line.tokens(), name, wanted)?)
 }
 
 /// Lines, the next line and a name: the definition that it then has, or the number of the fault whose text it is.
@@ -230,6 +242,22 @@ fn defines_compares_and_refuses(rt: HostRuntime) -> Result<(), Fail> {
     Ok(())
 }
 
+/// The line of the one token that `X` is defined by.
+fn line_of_x(table: &Table) -> Option<u32> {
+    match table.get(b"X")?.definition().body.as_slice() {
+        [token] => Some(token.at.line),
+        _ => None,
+    }
+}
+
+#[test]
+fn the_later_of_two_agreeing_definitions_stays(rt: HostRuntime) -> Result<(), Fail> {
+    let lines = source_of(&rt, rt.alloc(), b"#define X 1\n#define X 1")?;
+    let table = table_of(&rt, rt.alloc(), &lines)?;
+    assert!(&rt; line_of_x(&table) == Some(2));
+    Ok(())
+}
+
 /// Names with what a new table has of them.
 const PREDEFINED: &[(&str, &str)] = &[
     ("__FILE__", "predefined"),
@@ -244,15 +272,29 @@ const PREDEFINED: &[(&str, &str)] = &[
     ("__STDC", "none"),
 ];
 
+/// Asserts what a new table has of the names.
+fn assert_predefined(rt: &impl Abort, alloc: Global, table: &Table) -> Result<(), Memory> {
+    for &(name, definition) in PREDEFINED {
+        assert!(rt;
+            shown(alloc, table, name)?.as_slice() == definition.as_bytes(),
+            "{name}"
+        );
+    }
+    Ok(())
+}
+
+/// The same where names are hashed so. How the table says that it hashes them.
+fn hashed(rt: &impl Abort, alloc: Global, hashing: Hashing) -> Result<Hashing, Memory> {
+    let table = Table::with_hasher(alloc, hashing)?;
+    assert_predefined(rt, alloc, &table)?;
+    Ok(table.hashing())
+}
+
 #[test]
 fn holds_the_predefined_names_alone(rt: HostRuntime) -> Result<(), Fail> {
     for hashing in [Hashing::fixed(), drawn(&rt)?] {
-        let same = Table::with_hasher(rt.alloc(), hashing)?.hashing();
-        let table = Table::with_hasher(rt.alloc(), same)?;
-        for &(name, definition) in PREDEFINED {
-            let found = shown(rt.alloc(), &table, name)?;
-            assert!(rt; found.as_slice() == definition.as_bytes(), "{name}");
-        }
+        let same = hashed(&rt, rt.alloc(), hashing)?;
+        let _same = hashed(&rt, rt.alloc(), same)?;
     }
     Ok(())
 }

@@ -4,28 +4,55 @@ use super::{HASH, macro_of, push_spelled, set_of, table_of};
 use crate::defining::source_of;
 use crate::showing::{assert_shown, push_token};
 use ppmacro::{Body, Chain, Hidden, HideSets, Operand, push_escaped};
-use pptext::{Kind, Spelling, Token};
-use std::alloc::AllocError;
+use pptext::{Kind, Memory, Source, Spelling, Token};
+use std::alloc::{AllocError, Global};
+use std::process::Abort;
 use std::test::Fail;
 
-// A name that is made where the `#` of a line stands, given a mark and used elsewhere.
-#[test]
-fn marks_and_turns_what_was_made(rt: HostRuntime) -> Result<(), Fail> {
-    let mut sets = HideSets::new(rt.alloc())?;
-    let hide = set_of(&rt, &mut sets, b"a")?;
-    let name = Token {
+/// The name `x` where the `#` of a line stands.
+fn name_at_hash(alloc: Global) -> Result<Token, AllocError> {
+    Ok(Token {
         kind: Kind::Ident,
-        text: Spelling::from_slice(rt.alloc(), b"x")?,
+        text: Spelling::from_slice(alloc, b"x")?,
         space: false,
         at: HASH,
         used: HASH,
-    };
-    let mut made = Hidden::made(rt.alloc(), name, sets.empty())?;
-    made.mark(true);
-    made.turn(USED, hide);
-    assert!(rt; made.spelling()?.as_bytes() == b"x".as_slice());
+    })
+}
+
+/// The same as a token that was made, given a mark and used elsewhere, which `a` hides.
+fn made_and_turned<'a>(
+    rt: &impl Abort,
+    alloc: Global,
+    sets: &mut HideSets,
+) -> Result<Hidden<'a>, Memory> {
+    let hide = set_of(rt, sets, b"a")?;
+    let mut hidden = Hidden::made(alloc, name_at_hash(alloc)?, sets.empty())?;
+    hidden.mark(true);
+    hidden.turn(USED, hide);
+    Ok(hidden)
+}
+
+#[test]
+fn marks_and_turns_what_was_made(rt: HostRuntime) -> Result<(), Fail> {
+    let mut sets = HideSets::new(rt.alloc())?;
+    let made = made_and_turned(&rt, rt.alloc(), &mut sets)?;
+    assert!(&rt; made.spelling()?.as_bytes() == b"x".as_slice());
     let wanted = ("i+ x 1:1:1 3:40:5, ", b"a".as_slice());
     Ok(assert_made(&rt, rt.alloc(), &sets, &made, wanted)?)
+}
+
+/// Puts tokens of a file behind a text, each as it stands in flight.
+fn push_words(
+    alloc: Global,
+    text: &mut Vec<u8>,
+    sets: &HideSets,
+    body: &Body,
+) -> Result<(), AllocError> {
+    for token in body.as_slice() {
+        push_token(alloc, text, Hidden::new(token, sets.empty()).word())?;
+    }
+    Ok(())
 }
 
 #[test]
@@ -33,10 +60,7 @@ fn tokens_in_flight_are_those_of_the_file(rt: HostRuntime) -> Result<(), Fail> {
     let source = source_of(&rt, rt.alloc(), b"a +1")?;
     let sets = HideSets::new(rt.alloc())?;
     let mut text = Vec::new(rt.alloc());
-    for token in Body::new(source.tokens()).as_slice() {
-        let hidden = Hidden::new(token, sets.empty());
-        push_token(rt.alloc(), &mut text, hidden.word())?;
-    }
+    push_words(rt.alloc(), &mut text, &sets, &Body::new(source.tokens()))?;
     let wanted = "i+ a 1:1:1 1:1:1, p+ + 1:1:3 1:1:3, n- 1 1:1:4 1:1:4, ";
     assert_shown(&rt, text.as_slice(), wanted);
     Ok(())
@@ -52,17 +76,21 @@ fn push_leaves(text: &mut Vec<u8>, chain: &Chain) -> Result<(), AllocError> {
     Ok(())
 }
 
+/// The same of all chains of the macro that a line defines.
+fn leaves_in(rt: &impl Abort, alloc: Global, line: &Source) -> Result<Vec<u8>, Fail> {
+    let table = table_of(rt, alloc, line)?;
+    let named = macro_of(&table, line.tokens()).ok_or("no macro")?;
+    let mut text = Vec::new(alloc);
+    for chain in named.chains_with_hasher(alloc, table.hashing())?.as_slice() {
+        push_leaves(&mut text, chain)?;
+    }
+    Ok(text)
+}
+
 #[test]
 fn keeps_the_tokens_of_a_replacement_list(rt: HostRuntime) -> Result<(), Fail> {
     let line = source_of(&rt, rt.alloc(), b"#define f(a) x a##y #a ## z")?;
-    let table = table_of(&rt, rt.alloc(), &line)?;
-    let named = macro_of(&table, line.tokens()).ok_or("no macro")?;
-    let mut text = Vec::new(rt.alloc());
-    let chains = named.chains_with_hasher(rt.alloc(), table.hashing())?;
-    for chain in chains.as_slice() {
-        push_leaves(&mut text, chain)?;
-    }
-    assert_shown(&rt, text.as_slice(), " xy z");
+    assert_shown(&rt, leaves_in(&rt, rt.alloc(), &line)?.as_slice(), " xy z");
     Ok(())
 }
 

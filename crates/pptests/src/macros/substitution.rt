@@ -231,20 +231,45 @@ fn told(
     Ok(text)
 }
 
-/// The same of an invocation, over hide sets of its own. The macro's name hides `b`.
+/// The same of an invocation, over these hide sets. The macro's name hides `b`.
+fn told_over(
+    rt: &impl Abort,
+    alloc: Global,
+    sets: &mut HideSets,
+    of: (&Table, &Macro),
+    texts: &[Source],
+    (by, hides, space): With,
+) -> Result<Vec<u8>, Memory> {
+    let names: &[u8] = if hides { b"g" } else { b"" };
+    let hide = set_of(rt, sets, names)?;
+    let base = set_of(rt, sets, b"b")?;
+    let answer = replaced(rt, alloc, sets, of, texts, by, (hide, base, space))?;
+    Ok(told(rt, alloc, sets, &answer, hides)?)
+}
+
+/// The same over hide sets of its own.
 fn told_of(
     rt: &impl Abort,
     alloc: Global,
     of: (&Table, &Macro),
     texts: &[Source],
-    (by, hides, space): With,
+    with: With,
 ) -> Result<Vec<u8>, Memory> {
     let mut sets = HideSets::new(alloc)?;
-    let names: &[u8] = if hides { b"g" } else { b"" };
-    let hide = set_of(rt, &mut sets, names)?;
-    let base = set_of(rt, &mut sets, b"b")?;
-    let answer = replaced(rt, alloc, &mut sets, of, texts, by, (hide, base, space))?;
-    Ok(told(rt, alloc, &sets, &answer, hides)?)
+    told_over(rt, alloc, &mut sets, of, texts, with)
+}
+
+/// The same of the macro that a line defines.
+fn told_in(
+    rt: &impl Abort,
+    alloc: Global,
+    line: &Source,
+    texts: &[Source],
+    with: With,
+) -> Result<Vec<u8>, Fail> {
+    let table = table_of(rt, alloc, line)?;
+    let named = macro_of(&table, line.tokens()).ok_or("no macro")?;
+    Ok(told_of(rt, alloc, (&table, named), texts, with)?)
 }
 
 /// Asserts what an invocation is replaced by: its text and the mark that is left, or its fault.
@@ -257,9 +282,7 @@ fn assert_told(
 ) -> Result<(), Fail> {
     let line = source_of(rt, alloc, line.as_bytes())?;
     let texts = sources_of(rt, alloc, texts)?;
-    let table = table_of(rt, alloc, &line)?;
-    let named = macro_of(&table, line.tokens()).ok_or("no macro")?;
-    let found = told_of(rt, alloc, (&table, named), texts.as_slice(), with)?;
+    let found = told_in(rt, alloc, &line, texts.as_slice(), with)?;
     assert_shown(rt, found.as_slice(), wanted);
     Ok(())
 }
@@ -485,6 +508,23 @@ fn hides_and_places_what_it_gives(rt: HostRuntime) -> Result<(), Fail> {
     Ok(())
 }
 
+/// How many tokens the list of the macro has that a line defines, where the name is replaced by the list; and whether the macro's
+/// pattern has chains.
+fn list_and_chains(
+    rt: &impl Abort,
+    alloc: Global,
+    line: &Source,
+) -> Result<(Option<usize>, bool), Fail> {
+    let table = table_of(rt, alloc, line)?;
+    let named = macro_of(&table, line.tokens()).ok_or("no macro")?;
+    let pattern = named.pattern(alloc, table.hashing())?;
+    let lone = match named.lone_tokens() {
+        Some(body) => Some(body.len()),
+        None => None,
+    };
+    Ok((lone, matches!(&pattern, Pattern::Joined(_))))
+}
+
 /// Macros, how many tokens the list has where the name is replaced by it, and whether the pattern has chains.
 const LISTED: &[(&str, Option<usize>, bool)] = &[
     ("#define O (1-1)", Some(5), false),
@@ -511,15 +551,10 @@ const LISTED: &[(&str, Option<usize>, bool)] = &[
 fn makes_chains_where_tokens_are_made(rt: HostRuntime) -> Result<(), Fail> {
     for &(line, lone, joined) in LISTED {
         let source = source_of(&rt, rt.alloc(), line.as_bytes())?;
-        let table = table_of(&rt, rt.alloc(), &source)?;
-        let named = macro_of(&table, source.tokens()).ok_or("no macro")?;
-        let pattern = named.pattern(rt.alloc(), table.hashing())?;
-        assert!(rt; matches!(&pattern, Pattern::Joined(_)) == joined, "{line}");
-        let found = match named.lone_tokens() {
-            Some(body) => Some(body.len()),
-            None => None,
-        };
-        assert!(rt; found == lone, "{line}");
+        assert!(rt;
+            list_and_chains(&rt, rt.alloc(), &source)? == (lone, joined),
+            "{line}"
+        );
     }
     Ok(())
 }
@@ -552,36 +587,67 @@ pub(super) fn assert_made(
     Ok(())
 }
 
+/// Asserts the literal of tokens that `a` hides.
+fn assert_stringized(
+    rt: &impl Abort,
+    alloc: Global,
+    sets: &mut HideSets,
+    tokens: &[Token],
+    wanted: &str,
+) -> Result<(), Fail> {
+    let hide = set_of(rt, sets, b"a")?;
+    assert!(rt; sets.knows(hide));
+    let argument = hidden(alloc, sets, hide, tokens)?;
+    let Ok(literal) = stringize(alloc, argument.as_slice(), HASH, USED, sets)? else {
+        return Err(Fail::new("no literal"));
+    };
+    Ok(assert_made(rt, alloc, sets, &literal, (wanted, b""))?)
+}
+
+/// The paste of two tokens, of which `a` and `b` hide the left one, and `a` the other.
+fn pasted<'a>(
+    rt: &impl Abort,
+    alloc: Global,
+    sets: &mut HideSets,
+    left: &Token,
+    right: &Token,
+) -> Result<Result<Hidden<'a>, Fault>, Memory> {
+    let (a, ab) = (set_of(rt, sets, b"a")?, set_of(rt, sets, b"ab")?);
+    assert!(rt; sets.knows(a) && sets.knows(ab));
+    let (left, right) = (Hidden::new(left, ab), Hidden::new(right, a));
+    paste(alloc, &left, &right, USED, sets)
+}
+
+/// Asserts the paste of the second and the third of three tokens, which `a` hides.
+fn assert_pasted(
+    rt: &impl Abort,
+    alloc: Global,
+    sets: &mut HideSets,
+    tokens: &[Token],
+    wanted: &str,
+) -> Result<(), Fail> {
+    let [_, left, right] = tokens else {
+        return Err(Fail::new("other tokens"));
+    };
+    let Ok(token) = pasted(rt, alloc, sets, left, right)? else {
+        return Err(Fail::new("no token"));
+    };
+    Ok(assert_made(rt, alloc, sets, &token, (wanted, b"a"))?)
+}
+
 #[test]
 fn makes_a_literal_of_tokens(rt: HostRuntime) -> Result<(), Fail> {
     tells_each_kind();
     let source = source_of(&rt, rt.alloc(), b" x  + '\"'")?;
     let mut sets = HideSets::new(rt.alloc())?;
-    let hide = set_of(&rt, &mut sets, b"a")?;
-    assert!(rt; sets.knows(hide));
-    let argument = hidden(rt.alloc(), &sets, hide, source.tokens())?;
-    let Ok(literal) = stringize(rt.alloc(), argument.as_slice(), HASH, USED, &mut sets)? else {
-        return Err(Fail::new("no literal"));
-    };
     let wanted = "s- \"x + '\\\"'\" 1:1:1 3:40:5, ";
-    Ok(assert_made(&rt, rt.alloc(), &sets, &literal, (wanted, b""))?)
+    assert_stringized(&rt, rt.alloc(), &mut sets, source.tokens(), wanted)
 }
 
-// `a` and `b` hide the left one, and `a` the other.
 #[test]
 fn pastes_two_tokens(rt: HostRuntime) -> Result<(), Fail> {
     let source = source_of(&rt, rt.alloc(), b"+ x 1")?;
-    let [_, left, right] = source.tokens() else {
-        return Err(Fail::new("other tokens"));
-    };
     let mut sets = HideSets::new(rt.alloc())?;
-    let a = set_of(&rt, &mut sets, b"a")?;
-    let ab = set_of(&rt, &mut sets, b"ab")?;
-    assert!(rt; sets.knows(a) && sets.knows(ab));
-    let (left, right) = (Hidden::new(left, ab), Hidden::new(right, a));
-    let Ok(token) = paste(rt.alloc(), &left, &right, USED, &mut sets)? else {
-        return Err(Fail::new("no token"));
-    };
     let wanted = "i+ x1 1:1:3 3:40:5, ";
-    Ok(assert_made(&rt, rt.alloc(), &sets, &token, (wanted, b"a"))?)
+    assert_pasted(&rt, rt.alloc(), &mut sets, source.tokens(), wanted)
 }
