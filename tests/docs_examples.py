@@ -194,6 +194,10 @@ class Documents(unittest.TestCase):
             outputs = [part for part in plain if part.startswith(("unit ", "cppunits: "))]
             self.assertEqual(outputs, [block for _, _, block in examples(text_of(name)) if block in outputs], name)
 
+    def test_no_mark_of_a_merge_is_left(self):
+        for name in documents():
+            self.assertNotRegex(text_of(name), r"(?m)^(<{7}|>{7}|={7})( |$)", name)
+
     def test_the_man_page_shows_without_a_warning(self):
         page = os.path.join(TOP, "docs", "cppunits.1")
         checks = {"mandoc": ["mandoc", "-Tlint"], "groff": ["groff", "-ww", "-mandoc", "-Tutf8"]}

@@ -37,6 +37,7 @@ pub mod OneKind
 -- At each place of a text one piece can stand, and it isn't empty; where an unclosed comment opens, none can.
 pub mod OnePiece
 -- Tokens that their first byte tells.
+pub mod Light
 -- Reading a file gives one answer.
 pub mod OneReading
 -- A text that is one token, and what the scanner finds there.

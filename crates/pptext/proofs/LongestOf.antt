@@ -273,6 +273,25 @@ str_opened text n fits p =
     let o = opened_by StrOpening (IsQuoted 34) text n fits (then_left (Contains str_prefixes) (Exactly (34 ∷ [])) (IsQuoted 34) (take n text) p) in
     (o.0, o.1, str_opens text o.0 (omega (arith, o.1)) o.2)
 
+-- what begins with no quote and with no letter of a prefix begins no literal
+abbrev pub LiteralHead : ℕ → Type 0
+LiteralHead c = (c ≡ 39) ⊎ ((c ≡ 34) ⊎ IsLetter c)
+
+char_head : (text : List ℕ) (o : ℕ) → CharOpens text o → LiteralHead (get_or text 0 0)
+char_head text o (inl a) = inl a.1
+char_head text o (inr a) = inr (inr a.1)
+
+str_head : (text : List ℕ) (o : ℕ) → StrOpens text o → LiteralHead (get_or text 0 0)
+str_head text o (inl a) = inr (inl a.1)
+str_head text o (inr (inl a)) = inr (inr a.1)
+str_head text o (inr (inr a)) = inr (inr (inl a.1))
+
+pub literal_lacks : (text : List ℕ) → (LiteralHead (get_or text 0 0) → ⊥) → NoFront IsCharConst text × NoFront IsStr text
+literal_lacks text h = (
+  λ m fits p. let o = char_opened text m fits p in h (char_head text o.0 o.2),
+  λ m fits p. let o = str_opened text m fits p in h (str_head text o.0 o.2),
+)
+
 opens_apart : (text : List ℕ) (o r : ℕ) → CharOpens text o → StrOpens text r → ⊥
 opens_apart text o r (inl a) (inl b) = let e : ◌≡◌ {A = ℕ} 39 34 = sym a.1 ∙ b.1 in omega arith
 opens_apart text o r (inl a) (inr (inl b)) = letter-no_quote (get_or text 0 0) 39 b.1 a.1 (omega arith)

@@ -15,6 +15,14 @@ use Rattle.pptext.specs.Grouping.{AreDrafts}
 abbrev pub AreBlanks : ℕ → List ℕ → Type 0
 AreBlanks n text = (k : ℕ) → k < n → IsTrue (is_blank (slice_index text k))
 
+-- `(`, `)`, `,`, `;`, `[`, `]`, `{` and `}`, with which nothing longer begins
+abbrev pub is_closed : ℕ → Bool
+is_closed c = c == 40 || (c == 41 || (c == 44 || (c == 59 || (c == 91 || (c == 93 || (c == 123 || c == 125))))))
+
+-- an identifier begins with this byte, and no literal, as with the letters `u`, `U` and `L`
+abbrev pub starts_word : ℕ → Bool
+starts_word c = is_nondigit c && not (c == 117 || (c == 85 || c == 76))
+
 -- The sort and length of what begins the text behind these tokens of its line, of blanks all that stand in a row; none where a comment is not closed.
 abbrev pub Finds : List (List ℕ) → List ℕ → Option (Sort × ℕ) → Type 0
 Finds line text None = OpensBlock text × ClosesAt text None

@@ -2,6 +2,7 @@
 ghost use Rattle.std.specs.Prelude.{◌≡◌, ◌↔◌, ◌≤◌, length, take, IsTrue, [], ◌∷◌};
 ghost use Rattle.pptext.specs.Spellings.{is_punct1, is_punct2, is_punct3, is_punctuator};
 ghost use Rattle.pptext.specs.Languages.{LongestOrNone};
+ghost use Rattle.pptext.specs.Finds.{is_closed};
 
 /// Whether the byte is a punctuator by itself.
 fn is_punct1(c: u8) -> bool
@@ -34,6 +35,14 @@ fn is_punct1(c: u8) -> bool
             | b','
             | b'#'
     )
+}
+
+/// Whether the byte is a punctuator by itself, and begins no longer token and no header name.
+pub(crate) fn is_closed(c: u8) -> bool
+    ensures is { result ≡ is_closed c }
+    ensures punct { IsTrue result → IsTrue (is_punct1 c) }
+{
+    matches!(c, b'(' | b')' | b',' | b';' | b'[' | b']' | b'{' | b'}')
 }
 
 /// Whether the two bytes are a punctuator.

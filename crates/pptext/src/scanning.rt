@@ -3,6 +3,7 @@ ghost use Rattle.std.specs.Prelude.{◌≡◌, ◌↔◌, ◌⊎◌, [], ◌∷�
 ghost use Rattle.std.specs.List.{AllPass};
 ghost use Rattle.pptext.specs.Languages.{OnlyPart, LongestOrNone, Longest, Repeated, One, Either};
 ghost use Rattle.pptext.specs.Cut.{BeginsWith};
+ghost use Rattle.pptext.specs.Finds.{starts_word};
 ghost use Rattle.pptext.specs.Spellings.{is_digit, is_hex, is_nondigit, is_ident_byte, is_blank, IsUniversal, IsNondigit, IsIdent};
 
 pub(crate) mod carrying;
@@ -86,6 +87,24 @@ fn nondigit_len(text: &[u8]) -> usize
     universal_len(text)
 }
 
+// For each byte whether it is a nondigit and no letter of a literal's prefix.
+static WORD_STARTS: [u8; 256] = *b"\
+    00000000000000000000000000000000\
+    00001000000000000000000000000000\
+    01111111111101111111101111100001\
+    01111111111111111111101111100000\
+    11111111111111111111111111111111\
+    11111111111111111111111111111111\
+    11111111111111111111111111111111\
+    11111111111111111111111111111111";
+
+/// Whether an identifier begins with this byte, and no literal.
+pub(crate) fn starts_word(c: u8) -> bool
+    ensures { result ≡ starts_word c }
+{
+    WORD_STARTS[c as usize] == b'1'
+}
+
 // For each byte whether it is a nondigit or a digit. Saves 5 % of the instructions of `deps` on SQLite.
 static IDENT_BYTES: [u8; 256] = *b"\
     00000000000000000000000000000000\
@@ -126,6 +145,17 @@ fn ident_rest_len(text: &[u8]) -> usize
         at += n;
     }
     at
+}
+
+/// The length of the longest identifier that begins the text, whose first byte is a nondigit (6.4.2).
+#[inline(always)]
+pub(crate) fn word_len(text: &[u8]) -> usize
+    requires some { 0 < length text.now }
+    requires nondigit { IsTrue (is_nondigit (slice_index text.now 0)) }
+    ensures some { 0 < result }
+    ensures longest { Longest IsIdent text.now result }
+{
+    1 + ident_rest_len(&text[1..])
 }
 
 /// The length of the longest identifier that begins the text (6.4.2), or 0.
