@@ -1,9 +1,11 @@
 -- The arguments of an invocation: the lists between `(` and its matching `)` (6.10.3, paragraphs 4, 10 to 12).
-use Rattle.std.specs.Prelude.{ℕ, zero, suc, ◌==◌, ◌-◌, Bool, true, false, List, [], ◌∷◌, length, Option, Some, None, codes, if◌then◌else◌}
+use Rattle.std.specs.Prelude.{ℕ, zero, suc, nat_le, ◌-◌, Bool, true, false, ◌&&◌, List, [], ◌∷◌, length, Option, Some, None, codes, if◌then◌else◌}
 use Rattle.pptext.specs.declared.tokens.Token.{Token}
 use Rattle.pptext.specs.Tokens.{is_punct, is_lone_quote}
 use Rattle.ppmacro.specs.Names.{Name}
 use Rattle.ppmacro.specs.HideSets.{Hiding}
+use Rattle.ppmacro.specs.declared.macros.Variadic.{Variadic}
+use Rattle.ppmacro.specs.declared.macros.Variadic.TheVariants.{No, Lenient}
 
 abbrev pub is_open : Token → Bool
 is_open t = is_punct (codes "(") t
@@ -64,14 +66,24 @@ gather depth commas (t ∷ ts) = elim (argument_role t.token) [
   | Inner ↦ with_token t (gather depth commas ts)
 ]
 
--- how many commas separate arguments: all of them, or with `...` one for each named parameter
-abbrev pub separators : List Name → Bool → Option ℕ
-separators names true = Some (length names)
-separators names false = None
+-- how many commas separate arguments: all of them, or one for each parameter before the variable argument
+abbrev pub separators : List Name → Variadic → Option ℕ
+separators names No = None
+separators names _ = Some (length names - 1)
 
--- the arguments, one for each parameter, or nothing where their number is wrong: nothing between the parentheses
--- is no argument for a macro with neither parameters nor `...`
-abbrev pub fitted : List Name → Bool → List (List Hiding) → Option (List (List Hiding))
-fitted [] false ([] ∷ []) = Some []
-fitted names false as' = if length as' == length names then Some as' else None
-fitted names true as' = if length as' == suc (length names) then Some as' else None
+-- how many arguments there are at least: the variable argument need not be there where it may be absent (gcc's manual, "Variadic Macros")
+abbrev pub needed : List Name → Variadic → ℕ
+needed names Lenient = length names - 1
+needed names _ = length names
+
+-- nothing between the parentheses is no argument where none is needed
+abbrev pub present : ℕ → List (List Hiding) → List (List Hiding)
+present zero ([] ∷ []) = []
+present least as' = as'
+
+abbrev pub of_number : (least most : ℕ) → List (List Hiding) → Option (List (List Hiding))
+of_number least most as' = if nat_le least (length as') && nat_le (length as') most then Some as' else None
+
+-- the arguments, one for each parameter but a variable argument that is absent, or nothing where their number is wrong
+abbrev pub fitted : List Name → Variadic → List (List Hiding) → Option (List (List Hiding))
+fitted names variadic as' = of_number (needed names variadic) (length names) (present (needed names variadic) as')

@@ -9,6 +9,7 @@ use Rattle.ppmacro.specs.Names.{Name, Macros}
 use Rattle.ppmacro.specs.HideSets.{Hiding}
 use Rattle.ppmacro.specs.Substitution.{plain, Marked, substituted}
 use Rattle.ppmacro.specs.declared.macros.Builtin.{Builtin}
+use Rattle.ppmacro.specs.declared.macros.Variadic.{Variadic}
 use Rattle.ppmacro.specs.declared.macros.Definition.{Definition}
 use Rattle.ppmacro.specs.declared.macros.Shape.TheVariants.{Predefined, ObjectLike, FunctionLike}
 use Rattle.ppexpand.specs.declared.env.Env.{Env}
@@ -23,17 +24,17 @@ pub record NamesMacro (macros : Macros) (t : Hiding) (d : Definition) : Type 0 w
   pub named : macro_of macros t.token ≡ Some d
 
 -- it names a function-like macro, and this `(` is next (6.10.3, paragraph 10)
-pub record Opens (macros : Macros) (t paren : Hiding) (d : Definition) (names : List Name) (variadic : Bool) : Type 0 where
+pub record Opens (macros : Macros) (t paren : Hiding) (d : Definition) (names : List Name) (variadic : Variadic) : Type 0 where
   pub names_macro : NamesMacro macros t d
   pub shape : d.shape ≡ FunctionLike names variadic
   pub paren_opens : is_open paren.token ≡ true
 
--- a list begins with this invocation: it has its `)`, and an argument for each parameter (6.10.3, paragraphs 4 and 10 to 12)
+-- a list begins with this invocation: it has its `)`, and the arguments that its parameters take (6.10.3, paragraphs 4 and 10 to 12)
 pub record Invokes (macros : Macros) (list : List Hiding) (call : Call) : Type 0 where
   pub paren : Hiding
   pub inside : List Hiding
   pub names : List Name
-  pub variadic : Bool
+  pub variadic : Variadic
   pub arguments : List (List Hiding)
   pub close : Hiding
   pub laid_out : list ≡ call.head ∷ paren ∷ inside
@@ -92,22 +93,22 @@ mutual
         → object_result t d ≡ Err f
         → StandardExpands macros env level (t ∷ rest) [] (Some f)
     -- a function-like macro's name without `(` next is no invocation (6.10.3, paragraph 10)
-    not_invoked : {level : ℕ} {t : Hiding} {rest tokens : List Hiding} {fault : Option Fault} {d : Definition} {names : List Name} {variadic : Bool}
+    not_invoked : {level : ℕ} {t : Hiding} {rest tokens : List Hiding} {fault : Option Fault} {d : Definition} {names : List Name} {variadic : Variadic}
         → NamesMacro macros t d
         → d.shape ≡ FunctionLike names variadic
         → opens_next rest ≡ false
         → StandardExpands macros env level rest tokens fault
         → StandardExpands macros env level (t ∷ rest) (t ∷ tokens) fault
-    quote_inside : {level : ℕ} {t paren quote : Hiding} {inside : List Hiding} {d : Definition} {names : List Name} {variadic : Bool}
+    quote_inside : {level : ℕ} {t paren quote : Hiding} {inside : List Hiding} {d : Definition} {names : List Name} {variadic : Variadic}
         → Opens macros t paren d names variadic
         → gather 0 (separators names variadic) inside ≡ Quoted quote
         → StandardExpands macros env level (t ∷ paren ∷ inside) [] (Some (quote_fault quote))
-    unclosed : {level : ℕ} {t paren : Hiding} {inside : List Hiding} {d : Definition} {names : List Name} {variadic : Bool}
+    unclosed : {level : ℕ} {t paren : Hiding} {inside : List Hiding} {d : Definition} {names : List Name} {variadic : Variadic}
         → Opens macros t paren d names variadic
         → gather 0 (separators names variadic) inside ≡ Unclosed
         → StandardExpands macros env level (t ∷ paren ∷ inside) [] (Some (fault_at_use 17 t))
     wrong_number : {level : ℕ} {t paren close : Hiding} {inside behind : List Hiding} {d : Definition} {names : List Name}
-        {variadic : Bool} {arguments : List (List Hiding)}
+        {variadic : Variadic} {arguments : List (List Hiding)}
         → Opens macros t paren d names variadic
         → gather 0 (separators names variadic) inside ≡ Closed arguments close behind
         → fitted names variadic arguments ≡ None

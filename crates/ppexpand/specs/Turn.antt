@@ -13,10 +13,11 @@ use Rattle.pptext.specs.declared.tokens.Kind.TheVariants.{Number, Str as StringL
 use Rattle.pptext.specs.Tokens.{is_identifier, is_lone_quote, fault}
 use Rattle.ppmacro.specs.Names.{Name, HideSet, Macros}
 use Rattle.ppmacro.specs.HideSets.{Hiding}
-use Rattle.ppmacro.specs.Chains.{chains_of}
-use Rattle.ppmacro.specs.Substitution.{Arguments, Marked, with_mark, substituted}
+use Rattle.ppmacro.specs.Chains.{names_in, chains_of}
+use Rattle.ppmacro.specs.Substitution.{Arguments, argument_at, Marked, with_mark, substituted}
 use Rattle.ppmacro.specs.declared.macros.Builtin.{Builtin}
 use Rattle.ppmacro.specs.declared.macros.Builtin.TheVariants.{File, Line, Date, Time, Stdc, StdcHosted, StdcVersion}
+use Rattle.ppmacro.specs.declared.macros.Variadic.{Variadic}
 use Rattle.ppmacro.specs.declared.macros.Shape.{Shape}
 use Rattle.ppmacro.specs.declared.macros.Shape.TheVariants.{Predefined, ObjectLike, FunctionLike}
 use Rattle.ppmacro.specs.declared.macros.Definition.{Definition}
@@ -60,8 +61,8 @@ predefined_value b env t gain = record {
 
 -- ---- turns
 
--- an invocation of a function-like macro: its name, the macro, an argument for each parameter, the names that the
--- result gains, and what stands behind the matching `)`
+-- an invocation of a function-like macro: its name, the macro, an argument for each parameter but a variable argument that is
+-- absent, the names that the result gains, and what stands behind the matching `)`
 pub record Call : Type 0 where
   pub head : Hiding
   pub macro : Definition
@@ -109,13 +110,13 @@ called t d (Some as') close behind =
     Called (record { head = t; macro = d; arguments = as'; gain = gain_of t.hide close.hide t.token.text; behind = behind })
 called t d None close behind = Failed (fault_at_use 18 t)
 
-abbrev pub invoked : Hiding → Definition → List Name → Bool → Gathered → Turn
+abbrev pub invoked : Hiding → Definition → List Name → Variadic → Gathered → Turn
 invoked t d names variadic (Closed as' close behind) = called t d (fitted names variadic as') close behind
 invoked t d names variadic (Quoted q) = Failed (quote_fault q)
 invoked t d names variadic Unclosed = Failed (fault_at_use 17 t)
 
 -- a function-like macro's name is invoked where `(` is next, and else passes (6.10.3, paragraph 10)
-abbrev pub function_turn : Hiding → Definition → List Name → Bool → List Hiding → Turn
+abbrev pub function_turn : Hiding → Definition → List Name → Variadic → List Hiding → Turn
 function_turn t d names variadic [] = Passes t []
 function_turn t d names variadic (p ∷ rest) =
     if is_open p.token then invoked t d names variadic (gather 0 (separators names variadic) rest) else Passes t (p ∷ rest)
@@ -152,13 +153,13 @@ is_alone i _ = false
 abbrev pub uses_alone : ℕ → List Chain → Bool
 uses_alone i cs = list_any (λ c. is_alone i c.operands) cs
 
--- for the parameters from i on: the arguments that are to be expanded
-abbrev pub to_expand : ℕ → List Chain → List (List Hiding) → List (Option (List Hiding))
-to_expand i cs [] = []
-to_expand i cs (a ∷ as') = (if uses_alone i cs then Some a else None) ∷ to_expand (suc i) cs as'
+-- for the parameters from i on: the arguments that are to be expanded, of which an absent one is the empty list
+abbrev pub to_expand : ℕ → List Chain → List Name → List (List Hiding) → List (Option (List Hiding))
+to_expand i cs [] given = []
+to_expand i cs (n ∷ names) given = (if uses_alone i cs then Some (argument_at given i) else None) ∷ to_expand (suc i) cs names given
 
 unfoldable pub wanted : Call → List (Option (List Hiding))
-wanted call = to_expand 0 (chains_of call.macro) call.arguments
+wanted call = to_expand 0 (chains_of call.macro) (names_in call.macro.shape) call.arguments
 
 -- their expansions, with one place for each parameter, or the first fault
 abbrev pub ExpandedArguments : Type 0

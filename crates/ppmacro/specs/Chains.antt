@@ -1,17 +1,18 @@
 -- The replacement list as a list of chains, whose operands `##` joins (6.10.3.3).
-use Rattle.std.specs.Prelude.{ℕ, Bool, true, false, ◌&&◌, List, [], ◌∷◌, Option, Some, None, codes, length, position, if◌then◌else◌}
+use Rattle.std.specs.Prelude.{ℕ, Bool, true, false, ◌&&◌, ◌==◌, ◌-◌, List, [], ◌∷◌, map, Option, Some, None, codes, length, position, if◌then◌else◌}
 use Rattle.std.specs.Str.{bytes_eq}
 use Rattle.pptext.specs.declared.tokens.Place.{Place}
 use Rattle.pptext.specs.declared.tokens.Token.{Token}
-use Rattle.pptext.specs.Tokens.{is_identifier}
+use Rattle.pptext.specs.Tokens.{is_identifier, is_punct}
 use Rattle.ppmacro.specs.Spellings.{is_hash, is_paste}
 use Rattle.ppmacro.specs.Names.{Name}
+use Rattle.ppmacro.specs.declared.macros.Variadic.TheVariants.{Lenient}
 use Rattle.ppmacro.specs.declared.macros.Shape.{Shape}
 use Rattle.ppmacro.specs.declared.macros.Shape.TheVariants.{FunctionLike}
 use Rattle.ppmacro.specs.declared.macros.Definition.{Definition}
 use Rattle.ppmacro.specs.declared.macros.Chain.{Chain}
 use Rattle.ppmacro.specs.declared.macros.Operand.{Operand}
-use Rattle.ppmacro.specs.declared.macros.Operand.TheVariants.{Tok, Param, Str}
+use Rattle.ppmacro.specs.declared.macros.Operand.TheVariants.{Tok, Param, Str, Rest}
 
 -- a `#`: its space mark, and where it stands
 pub record HashSign : Type 0 where
@@ -23,20 +24,14 @@ pub data Item : Type 0 where
   Operates : Bool → Operand → Item
   Joins : Item
 
-abbrev pub or_at : Option ℕ → Bool → ℕ → Option ℕ
-or_at (Some i) last n = Some i
-or_at None true n = Some n
-or_at None false n = None
-
--- the names of the parameters
+-- the names of the parameters, that of the variable argument last
 abbrev pub names_in : Shape → List Name
 names_in (FunctionLike names variadic) = names
 names_in _ = []
 
--- which parameter a name is: `__VA_ARGS__` comes behind the named ones, where `...` ends them
+-- which parameter a name is
 abbrev pub parameter_named : Shape → Name → Option ℕ
-parameter_named (FunctionLike names variadic) text = or_at (position (λ p. bytes_eq p text) names) (variadic && bytes_eq (codes "__VA_ARGS__") text) (length names)
-parameter_named _ text = None
+parameter_named shape text = position (λ p. bytes_eq p text) (names_in shape)
 
 -- which parameter a token is
 abbrev pub parameter_of : Shape → Token → Option ℕ
@@ -92,5 +87,31 @@ grouped [] = []
 grouped (Joins ∷ is) = grouped is
 grouped (Operates mark o ∷ is) = elim (begins_joined is) [ true ↦ join_first mark o (grouped is) | false ↦ record { mark = mark; operands = o ∷ [] } ∷ grouped is ]
 
+-- ---- a comma before a variable argument that may be absent (gcc's manual, "Variadic Macros")
+
+-- which parameter may be absent
+abbrev pub lenient_parameter : Shape → Option ℕ
+lenient_parameter (FunctionLike names Lenient) = Some (length names - 1)
+lenient_parameter _ = None
+
+abbrev pub is_comma : Operand → Bool
+is_comma (Tok t) = is_punct (codes ",") t
+is_comma _ = false
+
+-- a last operand behind another: the rest, where it is this parameter behind the token `,`
+abbrev pub rest_behind : ℕ → Operand → Operand → Operand
+rest_behind i o (Param j) = if is_comma o && i == j then Rest i else Param j
+rest_behind i o p = p
+
+-- the operands of a chain, of which the last may be the rest
+abbrev pub ending_in_rest : ℕ → List Operand → List Operand
+ending_in_rest i (o ∷ (p ∷ [])) = o ∷ (rest_behind i o p ∷ [])
+ending_in_rest i (o ∷ (p ∷ (q ∷ os))) = o ∷ ending_in_rest i (p ∷ (q ∷ os))
+ending_in_rest i os = os
+
+abbrev pub with_rest : Option ℕ → Chain → Chain
+with_rest None c = c
+with_rest (Some i) c = record { mark = c.mark; operands = ending_in_rest i c.operands }
+
 abbrev pub chains_of : Definition → List Chain
-chains_of d = grouped (items_behind d.shape None d.body)
+chains_of d = map (with_rest (lenient_parameter d.shape)) (grouped (items_behind d.shape None d.body))

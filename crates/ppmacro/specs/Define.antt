@@ -1,10 +1,12 @@
 -- `#define` and `#undef` (6.10.3, 6.10.3.5): the table afterwards, or the one fault. The tests stand in their order.
-use Rattle.std.specs.Prelude.{◌≡◌, ℕ, Bool, true, false, not, ◌&&◌, ◌||◌, List, [], ◌∷◌, Option, Some, None, is_some, Result, Ok, Err, codes, if◌then◌else◌}
+use Rattle.std.specs.Prelude.{◌≡◌, ℕ, Bool, true, false, not, ◌&&◌, ◌||◌, List, [], ◌∷◌, ◌++◌, Option, Some, None, is_some, Result, Ok, Err, codes, if◌then◌else◌}
 use Rattle.std.specs.List.{list_any}
 use Rattle.std.specs.Option.{option_map}
 use Rattle.std.specs.Str.{bytes_eq}
 use Rattle.std.specs.Cmp.Lexicographic.{pointwise}
 use Rattle.std.specs.FinMap as table
+use Rattle.pptext.specs.declared.sources.Profile.{Profile}
+use Rattle.pptext.specs.Profiles.{is_gnu}
 use Rattle.pptext.specs.declared.tokens.Place.{Place}
 use Rattle.pptext.specs.declared.tokens.Token.{Token}
 use Rattle.pptext.specs.declared.tokens.Fault.{Fault}
@@ -12,7 +14,13 @@ use Rattle.pptext.specs.Tokens.{is_identifier, is_name, is_punct, fault}
 use Rattle.ppmacro.specs.Names.{Name, Macros}
 use Rattle.ppmacro.specs.Spellings.{is_hash, is_paste}
 use Rattle.ppmacro.specs.Headings.{Heading}
-use Rattle.ppmacro.specs.Chains.{parameter_of, is_function_like}
+use Rattle.ppmacro.specs.Chains.{names_in, parameter_of, is_function_like}
+use Rattle.ppmacro.specs.declared.macros.Builtin.{Builtin}
+use Rattle.ppmacro.specs.declared.macros.Builtin.TheVariants.{StdcVersion}
+use Rattle.ppmacro.specs.declared.macros.Variadic.{Variadic}
+use Rattle.ppmacro.specs.declared.macros.Variadic.TheVariants.{No, Strict, Lenient}
+use Rattle.ppmacro.specs.declared.defining.headings.Ending.{Ending}
+use Rattle.ppmacro.specs.declared.defining.headings.Ending.TheVariants.{Plain, Dots, NamedDots}
 use Rattle.ppmacro.specs.declared.macros.Shape.{Shape}
 use Rattle.ppmacro.specs.declared.macros.Shape.TheVariants.{Predefined, ObjectLike, FunctionLike}
 use Rattle.ppmacro.specs.declared.macros.Definition.{Definition}
@@ -34,47 +42,73 @@ pub record Named : Type 0 where
 -- ---- the parameters (6.10p1, 6.10.3p10)
 
 -- `)` is wanted here, and behind it stands the replacement list
-abbrev pub closed : Bool → List Token → Option Heading
-closed variadic [] = None
-closed variadic (t ∷ ts) = if is_punct (codes ")") t then Some (record { names = []; variadic = variadic; body = ts }) else None
+abbrev pub closed : Ending → List Token → Option Heading
+closed ending [] = None
+closed ending (t ∷ ts) = if is_punct (codes ")") t then Some (record { names = []; ending = ending; body = ts }) else None
 
 abbrev pub with_name : Name → Heading → Heading
 with_name n h = record h { names = n ∷ h.names }
 
--- behind a name `,` or `)` is wanted, elsewhere a name or `...`
-abbrev pub parameters_from : Bool → List Token → Option Heading
-parameters_from named [] = None
-parameters_from true (t ∷ ts) = if is_punct (codes ",") t then parameters_from false ts else closed false (t ∷ ts)
-parameters_from false (t ∷ ts) = if is_punct (codes "...") t then closed true ts else (if is_identifier t then option_map (with_name t.text) (parameters_from true ts) else None)
+-- behind a name, and in GNU C behind its `...`
+abbrev pub behind_name : Bool → List Token → Option Heading
+behind_name gnu [] = None
+behind_name gnu (t ∷ ts) = if gnu && is_punct (codes "...") t then closed NamedDots ts else closed Plain (t ∷ ts)
+
+-- behind a name `,` or `)` is wanted, in GNU C also `...`, elsewhere a name or `...`; `named`: a name stands directly before
+abbrev pub parameters_from : (gnu named : Bool) → List Token → Option Heading
+parameters_from gnu named [] = None
+parameters_from gnu true (t ∷ ts) = if is_punct (codes ",") t then parameters_from gnu false ts else behind_name gnu (t ∷ ts)
+parameters_from gnu false (t ∷ ts) =
+    if is_punct (codes "...") t then closed Dots ts else (
+    if is_identifier t then option_map (with_name t.text) (parameters_from gnu true ts) else None)
 
 -- what stands behind `(`
-abbrev pub parameter_list : List Token → Option Heading
-parameter_list [] = None
-parameter_list (t ∷ ts) = if is_punct (codes ")") t then Some (record { names = []; variadic = false; body = ts }) else parameters_from false (t ∷ ts)
+abbrev pub parameter_list : Profile → List Token → Option Heading
+parameter_list profile [] = None
+parameter_list profile (t ∷ ts) =
+    if is_punct (codes ")") t then Some (record { names = []; ending = Plain; body = ts }) else parameters_from (is_gnu profile) false (t ∷ ts)
 
 abbrev pub repeats : List Name → Bool
 repeats [] = false
 repeats (n ∷ ns) = list_any (λ m. bytes_eq m n) ns || repeats ns
 
-abbrev pub function_like : Option Heading → Result Definition Refusal
-function_like None = Err ParameterList
-function_like (Some h) =
+-- all parameters: for `...` stands `__VA_ARGS__`, behind the others (6.10.3.1p2)
+abbrev pub all_parameters : Ending → List Name → List Name
+all_parameters Plain names = names
+all_parameters Dots names = names ++ codes "__VA_ARGS__" ∷ []
+all_parameters NamedDots names = names
+
+-- whether the last parameter takes a variable number of arguments; in GNU C that argument may be absent
+abbrev pub variadic_by : (gnu : Bool) → Ending → Variadic
+variadic_by gnu Plain = No
+variadic_by false Dots = Strict
+variadic_by true Dots = Lenient
+variadic_by false NamedDots = Strict
+variadic_by true NamedDots = Lenient
+
+-- whether `__VA_ARGS__` is among the names
+abbrev pub has_variable_arguments : List Name → Bool
+has_variable_arguments names = list_any (λ n. bytes_eq n (codes "__VA_ARGS__")) names
+
+abbrev pub function_like : Profile → Option Heading → Result Definition Refusal
+function_like profile None = Err ParameterList
+function_like profile (Some h) =
     if repeats h.names then Err ParameterList else (
-    if list_any (λ n. bytes_eq n (codes "__VA_ARGS__")) h.names then Err VariableArguments else
-    Ok (record { shape = FunctionLike h.names h.variadic; body = h.body }))
+    if has_variable_arguments h.names then Err VariableArguments else
+    Ok (record { shape = FunctionLike (all_parameters h.ending h.names) (variadic_by (is_gnu profile) h.ending); body = h.body }))
 
 -- what stands behind the macro's name
-abbrev pub read_definition : List Token → Result Definition Refusal
-read_definition [] = Ok (record { shape = ObjectLike; body = [] })
-read_definition (t ∷ ts) =
+abbrev pub read_definition : Profile → List Token → Result Definition Refusal
+read_definition profile [] = Ok (record { shape = ObjectLike; body = [] })
+read_definition profile (t ∷ ts) =
     if t.space then Ok (record { shape = ObjectLike; body = t ∷ ts }) else (
-    if is_punct (codes "(") t then function_like (parameter_list ts) else Err Spacing)
+    if is_punct (codes "(") t then function_like profile (parameter_list profile ts) else Err Spacing)
 
 -- ---- the replacement list
 
-abbrev pub is_variadic : Shape → Bool
-is_variadic (FunctionLike names variadic) = variadic
-is_variadic _ = false
+-- `__VA_ARGS__` where no `...` stands for it (6.10.3p5)
+abbrev pub misplaces_variable_arguments : Shape → List Token → Bool
+misplaces_variable_arguments shape ts = list_any (is_name (codes "__VA_ARGS__")) ts && not (has_variable_arguments (names_in shape))
 
 abbrev pub is_empty : List Token → Bool
 is_empty [] = true
@@ -109,9 +143,10 @@ same_body [] [] = true
 same_body (t ∷ ts) (u ∷ us) = bytes_eq t.text u.text && pointwise same_token ts us
 same_body _ _ = false
 
+-- the names tell whether `...` ends them
 abbrev pub same_shape : Shape → Shape → Bool
 same_shape ObjectLike ObjectLike = true
-same_shape (FunctionLike ms v) (FunctionLike ns w) = same_bool v w && pointwise bytes_eq ms ns
+same_shape (FunctionLike ms v) (FunctionLike ns w) = pointwise bytes_eq ms ns
 same_shape _ _ = false
 
 abbrev pub agrees : Definition → Definition → Bool
@@ -123,36 +158,42 @@ clashes (Some e) d = not (agrees e d)
 
 -- ---- the whole line
 
-abbrev pub is_predefined_shape : Shape → Bool
-is_predefined_shape (Predefined b) = true
-is_predefined_shape _ = false
+-- Whether a predefined macro stays as it is: each but, in GNU C, `__STDC_VERSION__`, by which a list tells a build's `-std`.
+abbrev pub is_fixed_builtin : (gnu : Bool) → Builtin → Bool
+is_fixed_builtin gnu StdcVersion = not gnu
+is_fixed_builtin gnu _ = true
 
-abbrev pub is_predefined : Option Definition → Bool
-is_predefined None = false
-is_predefined (Some d) = is_predefined_shape d.shape
+abbrev pub is_fixed_shape : (gnu : Bool) → Shape → Bool
+is_fixed_shape gnu (Predefined b) = is_fixed_builtin gnu b
+is_fixed_shape gnu _ = false
+
+abbrev pub is_fixed : (gnu : Bool) → Option Definition → Bool
+is_fixed gnu None = false
+is_fixed gnu (Some d) = is_fixed_shape gnu d.shape
 
 -- names that no macro may have
 abbrev pub is_barred : Name → Bool
 is_barred name = bytes_eq name (codes "defined") || bytes_eq name (codes "__VA_ARGS__")
 
 -- names that no directive may define or take out (6.10.8p2, 6.10.3p5)
-abbrev pub is_reserved : Macros → Name → Bool
-is_reserved macros name = is_predefined (table.get macros name) || is_barred name
+abbrev pub is_reserved : Profile → Macros → Name → Bool
+is_reserved profile macros name = is_fixed (is_gnu profile) (table.get macros name) || is_barred name
 
-abbrev pub refusal_of : Macros → Name → Definition → Option Refusal
-refusal_of macros name d =
-    if not (is_variadic d.shape) && list_any (is_name (codes "__VA_ARGS__")) d.body then Some VariableArguments else (
+-- in GNU C a name may be defined again, whatever its definition was
+abbrev pub refusal_of : Profile → Macros → Name → Definition → Option Refusal
+refusal_of profile macros name d =
+    if misplaces_variable_arguments d.shape d.body then Some VariableArguments else (
     if misplaces_paste true d.body then Some Pasting else (
     if is_function_like d.shape && misplaces_hash d.shape d.body then Some Stringizing else (
-    if clashes (table.get macros name) d then Some Redefinition else None)))
+    if not (is_gnu profile) && clashes (table.get macros name) d then Some Redefinition else None)))
 
 abbrev pub unless_refused : Option Refusal → Definition → Result Definition Refusal
 unless_refused None d = Ok d
 unless_refused (Some r) d = Err r
 
-abbrev pub fitting : Macros → Name → Result Definition Refusal → Result Definition Refusal
-fitting macros name (Ok d) = unless_refused (refusal_of macros name d) d
-fitting macros name (Err r) = Err r
+abbrev pub fitting : Profile → Macros → Name → Result Definition Refusal → Result Definition Refusal
+fitting profile macros name (Ok d) = unless_refused (refusal_of profile macros name d) d
+fitting profile macros name (Err r) = Err r
 
 -- the faults' numbers
 abbrev pub number_of : Refusal → ℕ
@@ -168,12 +209,12 @@ under_name at name (Ok d) = Ok (record { name = name; definition = d })
 under_name at name (Err r) = Err (fault (number_of r) at name)
 
 -- the macro that a line behind `define` defines; `at` is the place of `#`
-abbrev pub judged : Macros → Place → List Token → Result Named Fault
-judged macros at [] = Err (fault 9 at (codes "define"))
-judged macros at (t ∷ ts) =
+abbrev pub judged : Profile → Macros → Place → List Token → Result Named Fault
+judged profile macros at [] = Err (fault 9 at (codes "define"))
+judged profile macros at (t ∷ ts) =
     if is_identifier t then (
-    if is_reserved macros t.text then Err (fault 10 at t.text) else
-    under_name at t.text (fitting macros t.text (read_definition ts))) else Err (fault 9 at (codes "define"))
+    if is_reserved profile macros t.text then Err (fault 10 at t.text) else
+    under_name at t.text (fitting profile macros t.text (read_definition profile ts))) else Err (fault 9 at (codes "define"))
 
 -- a fault that a private function's answer gives by its number and its text
 abbrev pub faulted : {A : Type 0} → Place → Result A (ℕ × Name) → Result A Fault
@@ -184,21 +225,21 @@ abbrev pub entered : Macros → Result Named Fault → Result Macros Fault
 entered macros (Ok n) = Ok (table.insert macros n.name n.definition)
 entered macros (Err f) = Err f
 
-abbrev pub after_define : Macros → Place → List Token → Result Macros Fault
-after_define macros at line = entered macros (judged macros at line)
+abbrev pub after_define : Profile → Macros → Place → List Token → Result Macros Fault
+after_define profile macros at line = entered macros (judged profile macros at line)
 
 -- the name that a line behind `undef` takes out
-abbrev pub undefined : Macros → Place → List Token → Result Name Fault
-undefined macros at (t ∷ []) =
-    if is_identifier t then (if is_reserved macros t.text then Err (fault 10 at t.text) else Ok t.text) else Err (fault 9 at (codes "undef"))
-undefined macros at _ = Err (fault 9 at (codes "undef"))
+abbrev pub undefined : Profile → Macros → Place → List Token → Result Name Fault
+undefined profile macros at (t ∷ []) =
+    if is_identifier t then (if is_reserved profile macros t.text then Err (fault 10 at t.text) else Ok t.text) else Err (fault 9 at (codes "undef"))
+undefined profile macros at _ = Err (fault 9 at (codes "undef"))
 
 abbrev pub taken_out : Macros → Result Name Fault → Result Macros Fault
 taken_out macros (Ok name) = Ok (table.remove macros name)
 taken_out macros (Err f) = Err f
 
-abbrev pub after_undef : Macros → Place → List Token → Result Macros Fault
-after_undef macros at line = taken_out macros (undefined macros at line)
+abbrev pub after_undef : Profile → Macros → Place → List Token → Result Macros Fault
+after_undef profile macros at line = taken_out macros (undefined profile macros at line)
 
 -- what a call left: the new table, or the old one with the fault
 abbrev pub Leaves : Macros → Macros → Result (Unit {0}) Fault → Result Macros Fault → Type 0

@@ -1,17 +1,22 @@
--- How the heading of a function-like macro and a replacement list are laid out.
+-- How the heading of a function-like macro and a replacement list are laid out; which chains have a rest.
 use Rattle.std.specs.Prelude.{◌≡◌, ℕ, Bool, true, false, not, ◌&&◌, List, [], ◌∷◌, ◌++◌, Some, None, codes}
+use Rattle.std.specs.List.{list_any}
 use Rattle.pptext.specs.declared.tokens.Token.{Token}
+use Rattle.pptext.specs.declared.sources.Profile.{Profile}
+use Rattle.pptext.specs.Profiles.{is_gnu}
 use Rattle.pptext.specs.Tokens.{is_identifier, is_punct}
 use Rattle.ppmacro.specs.Names.{Name}
 use Rattle.ppmacro.specs.Spellings.{is_paste}
 use Rattle.ppmacro.specs.Headings.{Heading}
-use Rattle.ppmacro.specs.Chains.{parameter_of, is_function_like, is_operator_hash}
+use Rattle.ppmacro.specs.Chains.{parameter_of, is_function_like, is_operator_hash, lenient_parameter, with_rest}
 use Rattle.ppmacro.specs.Define.{misplaces_paste, misplaces_hash}
+use Rattle.ppmacro.specs.declared.defining.headings.Ending.{Ending}
+use Rattle.ppmacro.specs.declared.defining.headings.Ending.TheVariants.{Plain, Dots, NamedDots}
 use Rattle.ppmacro.specs.declared.macros.Shape.{Shape}
 use Rattle.ppmacro.specs.declared.macros.Definition.{Definition}
 use Rattle.ppmacro.specs.declared.macros.Chain.{Chain}
 use Rattle.ppmacro.specs.declared.macros.Operand.{Operand}
-use Rattle.ppmacro.specs.declared.macros.Operand.TheVariants.{Tok, Param, Str}
+use Rattle.ppmacro.specs.declared.macros.Operand.TheVariants.{Tok, Param, Str, Rest}
 
 -- ---- the heading (6.10p1, 6.10.3p10)
 
@@ -26,28 +31,34 @@ pub data IdentifierList : List Token → List Name → Type 0 where
       → IdentifierList ts names
       → IdentifierList (t ∷ (comma ∷ ts)) (t.text ∷ names)
 
--- what may stand between the parentheses, with the names, and whether `...` ends it
-pub data Parameters : List Token → List Name → Bool → Type 0 where
-  nothing : Parameters [] [] false
+-- what may stand between the parentheses, with the names, and how it ends
+pub data Parameters (profile : Profile) : List Token → List Name → Ending → Type 0 where
+  nothing : Parameters profile [] [] Plain
   names : {ts : List Token} {ns : List Name}
       → IdentifierList ts ns
-      → Parameters ts ns false
+      → Parameters profile ts ns Plain
   ellipsis : {t : Token}
       → is_punct (codes "...") t ≡ true
-      → Parameters (t ∷ []) [] true
+      → Parameters profile (t ∷ []) [] Dots
   names_and_ellipsis : (ts : List Token) (comma t : Token) {ns : List Name}
       → IdentifierList ts ns
       → is_punct (codes ",") comma ≡ true
       → is_punct (codes "...") t ≡ true
-      → Parameters (ts ++ comma ∷ (t ∷ [])) ns true
+      → Parameters profile (ts ++ comma ∷ (t ∷ [])) ns Dots
+  -- in GNU C
+  names_with_ellipsis : (ts : List Token) (t : Token) {ns : List Name}
+      → is_gnu profile ≡ true
+      → IdentifierList ts ns
+      → is_punct (codes "...") t ≡ true
+      → Parameters profile (ts ++ t ∷ []) ns NamedDots
 
 -- behind `(` stand the parameters, `)` and the replacement list
-pub record IsHeading (line : List Token) (heading : Heading) : Type 0 where
+pub record IsHeading (profile : Profile) (line : List Token) (heading : Heading) : Type 0 where
   pub inside : List Token
   pub close : Token
   pub laid_out : line ≡ inside ++ close ∷ heading.body
   pub closes : is_punct (codes ")") close ≡ true
-  pub parameters : Parameters inside heading.names heading.variadic
+  pub parameters : Parameters profile inside heading.names heading.ending
 
 -- ---- the replacement list (6.10.3.2, 6.10.3.3)
 
@@ -77,14 +88,23 @@ pub data AreJoined (shape : Shape) : Bool → List Token → List Operand → Ty
       → AreJoined shape other rest os
       → AreJoined shape mark (ts ++ paste ∷ rest) (o ∷ os)
 
--- these tokens are these chains, laid end to end
+-- these tokens are these chains, laid end to end; the last operand of one may be the rest
 pub data AreChains (shape : Shape) : List Token → List Chain → Type 0 where
   none : AreChains shape [] []
   chain : {mark : Bool} {os : List Operand} {cs : List Chain} (ts rest : List Token)
       → AreJoined shape mark ts os
       → AreChains shape rest cs
-      → AreChains shape (ts ++ rest) (record { mark = mark; operands = os } ∷ cs)
+      → AreChains shape (ts ++ rest) (with_rest (lenient_parameter shape) (record { mark = mark; operands = os }) ∷ cs)
 
 -- `##` and `#` stand where they may (6.10.3.2p1, 6.10.3.3p1, p3)
 abbrev pub places_operators : Definition → Bool
 places_operators d = not (misplaces_paste true d.body) && not (is_function_like d.shape && misplaces_hash d.shape d.body)
+
+-- ---- variable arguments that may be absent (gcc's manual, "Variadic Macros")
+
+abbrev pub is_rest : Operand → Bool
+is_rest (Rest i) = true
+is_rest _ = false
+
+abbrev pub holds_rest : Chain → Bool
+holds_rest c = list_any is_rest c.operands

@@ -1,5 +1,5 @@
 -- What an invocation is replaced by (6.10.3.1 to 6.10.3.3).
-use Rattle.std.specs.Prelude.{ℕ, Bool, true, false, not, ◌&&◌, ◌||◌, ◌==◌, List, [], ◌∷◌, ◌++◌, map, Option, Some, None, unwrap_or, slice_get, Result, Ok, Err, if◌then◌else◌}
+use Rattle.std.specs.Prelude.{ℕ, Bool, true, false, not, ◌&&◌, ◌||◌, ◌==◌, ◌-◌, List, [], ◌∷◌, ◌++◌, map, take, length, Option, Some, None, unwrap_or, slice_get, Result, Ok, Err, if◌then◌else◌}
 use Rattle.std.specs.FinSet as set
 use Rattle.pptext.specs.declared.tokens.Place.{Place}
 use Rattle.pptext.specs.declared.tokens.Token.{Token}
@@ -14,7 +14,7 @@ use Rattle.ppmacro.specs.Lexing.{kind_of}
 use Rattle.ppmacro.specs.declared.macros.Definition.{Definition}
 use Rattle.ppmacro.specs.declared.macros.Chain.{Chain}
 use Rattle.ppmacro.specs.declared.macros.Operand.{Operand}
-use Rattle.ppmacro.specs.declared.macros.Operand.TheVariants.{Tok, Param, Str}
+use Rattle.ppmacro.specs.declared.macros.Operand.TheVariants.{Tok, Param, Str, Rest}
 
 -- ---- `#` (6.10.3.2)
 
@@ -84,7 +84,8 @@ join_all left (right ∷ rest) used = after_ok (join left right used) (λ ts. jo
 
 -- ---- operands and chains
 
--- what an invocation brings: its arguments, and the expansions of those that stand away from `#` and `##`
+-- What an invocation brings: its arguments, and the expansions of those that stand away from `#` and `##`. A variable argument that is absent (gcc's
+-- manual, "Variadic Macros") is not among the arguments, so that they are one less than the parameters.
 pub record Arguments : Type 0 where
   pub given : List (List Hiding)
   pub expanded : List (Option (List Hiding))
@@ -103,6 +104,7 @@ abbrev pub operand_tokens : Bool → Arguments → Place → Operand → Result 
 operand_tokens beside args used (Tok t) = Ok (plain t ∷ [])
 operand_tokens true args used (Param i) = Ok (argument_at args.given i)
 operand_tokens false args used (Param i) = Ok (expanded_at args.expanded i)
+operand_tokens beside args used (Rest i) = Ok (argument_at args.given i)
 operand_tokens beside args used (Str i at) = after_ok (stringized (map (λ t. t.token) (argument_at args.given i)) at used) (λ t. Ok (t ∷ []))
 
 abbrev pub operands_tokens : Bool → Arguments → Place → List Operand → Result (List (List Hiding)) Fault
@@ -113,9 +115,36 @@ abbrev pub is_joined : List Operand → Bool
 is_joined (o ∷ p ∷ os) = true
 is_joined _ = false
 
--- each `#` of a chain, and then `##` from the left
+-- the operands that `##` joins: all but a rest at the end
+abbrev pub before_rest : List Operand → List Operand
+before_rest [] = []
+before_rest (Rest i ∷ []) = []
+before_rest (o ∷ os) = o ∷ before_rest os
+
+-- which argument the rest at the end is
+abbrev pub rest_of : List Operand → Option ℕ
+rest_of [] = None
+rest_of (Rest i ∷ []) = Some i
+rest_of (o ∷ os) = rest_of os
+
+-- all but the last
+abbrev pub without_last : {X : Type 0} → List X → List X
+without_last ts = take (length ts - 1) ts
+
+-- the argument behind these tokens without a paste; where it is absent, the last of them, which is the comma, goes
+abbrev pub rest_behind_comma : {X : Type 0} → Option (List X) → List X → List X
+rest_behind_comma None ts = without_last ts
+rest_behind_comma (Some argument) ts = ts ++ argument
+
+abbrev pub with_rest_tokens : {X : Type 0} → List (List X) → Option ℕ → List X → List X
+with_rest_tokens given None ts = ts
+with_rest_tokens given (Some i) ts = rest_behind_comma (slice_get given i) ts
+
+-- each `#` of a chain, then `##` from the left, and then the rest
 abbrev pub chain_tokens : Arguments → Place → Chain → Result (List Hiding) Fault
-chain_tokens args used c = after_ok (operands_tokens (is_joined c.operands) args used c.operands) (λ lists. join_all [] lists used)
+chain_tokens args used c =
+    after_ok (operands_tokens (is_joined c.operands) args used (before_rest c.operands)) (λ lists.
+    after_ok (join_all [] lists used) (λ ts. Ok (with_rest_tokens args.given (rest_of c.operands) ts)))
 
 -- ---- the replacement
 

@@ -7,7 +7,7 @@ use Rattle.std.specs.Str.{is_utf8, bytes_eq}
 use Rattle.serde_json.specs.Data.{Data}
 use Rattle.serde_json.specs.Read.{read}
 use Rattle.pptext.specs.declared.sources.Profile.{Profile}
-use Rattle.pptext.specs.declared.sources.Profile.TheVariants.{C11, Later}
+use Rattle.pptext.specs.declared.sources.Profile.TheVariants.{C11, Later, Gnu}
 use Rattle.ppshelf.specs.Content.{longest}
 use Rattle.ppshelf.specs.Files.{most_rows}
 use Rattle.ppshelf.specs.Names.{AreNames, are_names, is_folder, row_among}
@@ -74,7 +74,10 @@ folders_hold d = list_all is_folder d.setting.search && list_all (λ (u : DraftU
 
 -- the profile that a text names
 abbrev pub profile_named : List ℕ → Option Profile
-profile_named t = if bytes_eq t (codes "c11") then Some C11 else (if bytes_eq t (codes "later") then Some Later else None)
+profile_named t =
+    if bytes_eq t (codes "c11") then Some C11 else (
+    if bytes_eq t (codes "later") then Some Later else (
+    if bytes_eq t (codes "gnu") then Some Gnu else None))
 
 abbrev pub profile_holds : DraftSetting → Bool
 profile_holds s = is_some (profile_named s.profile)

@@ -1,6 +1,6 @@
 -- Where the name of an include line leads (6.10.2). A path is the list of its segments.
-use Rattle.std.specs.Prelude.{◌≡◌, ℕ, ◌-◌, ◌==◌, ◌||◌, Bool, if◌then◌else◌, List, [], ◌∷◌, ◌++◌, take, length, codes, Option, Some, None, IsSome, ◌⊎◌}
-use Rattle.std.specs.List.{join_with_byte, flat_map}
+use Rattle.std.specs.Prelude.{◌≡◌, ℕ, suc, ◌-◌, ◌==◌, ◌||◌, Bool, if◌then◌else◌, List, [], ◌∷◌, ◌++◌, take, drop, length, codes, Option, Some, None, ◌⊎◌}
+use Rattle.std.specs.List.{join_with_byte}
 use Rattle.std.specs.Str.{bytes_eq}
 use Rattle.ppshelf.specs.Names.{segments, IsRowOf}
 use Rattle.ppshelf.specs.declared.search.Form.{Form}
@@ -36,25 +36,50 @@ abbrev pub parent_of : Option Path → Option Path
 parent_of None = None
 parent_of (Some path) = parent path
 
--- the name that a path spells, if there is one; 47 is `/`
-abbrev pub spelled : Option Path → List (List ℕ)
-spelled None = []
-spelled (Some path) = join_with_byte 47 path ∷ []
+-- the name that a path spells; 47 is `/`
+abbrev pub spelled : Path → List ℕ
+spelled path = join_with_byte 47 path
+
+-- A name that is looked for, and the number of the folder that it is looked for in: 0 is the including file's own
+pub record Candidate : Type 0 where
+  pub name : List ℕ
+  pub folder : ℕ
+
+-- the candidate in the folder of this number; none where no path leads to it
+abbrev pub candidate : ℕ → Option Path → List Candidate
+candidate k None = []
+candidate k (Some path) = record { name = spelled path; folder = k } ∷ []
 
 -- for the quote form, the name beside the including file
-abbrev pub beside : Form → List ℕ → List ℕ → List (List ℕ)
-beside Quote from text = spelled (lead (parent_of (lead (Some []) from)) text)
+abbrev pub beside : Form → List ℕ → List ℕ → List Candidate
+beside Quote from text = candidate 0 (lead (parent_of (lead (Some []) from)) text)
 beside Angle from text = []
 
--- the names in these folders
-abbrev pub inside : List (List ℕ) → List ℕ → List (List ℕ)
-inside folders text = flat_map (λ folder. spelled (lead (lead (Some []) folder) text)) folders
+-- the names in these folders, which are numbered from k on
+abbrev pub inside : ℕ → List (List ℕ) → List ℕ → List Candidate
+inside k [] text = []
+inside k (folder ∷ more) text = candidate k (lead (lead (Some []) folder) text) ++ inside (suc k) more text
 
--- the names that are looked for, in order
-abbrev pub candidates : Form → List ℕ → List (List ℕ) → List (List ℕ) → List ℕ → List (List ℕ)
-candidates form from unit setting text = beside form from text ++ (inside unit text ++ inside setting text)
+-- what is looked for, in order; the search of a unit is its own folders, then the setting's, numbered from 1
+abbrev pub candidates : Form → List ℕ → List (List ℕ) → List (List ℕ) → List ℕ → List Candidate
+candidates form from unit setting text = beside form from text ++ inside 1 (unit ++ setting) text
 
--- the row of the first of these names that is among the shelf's
-abbrev pub IsFirstRow : List (List ℕ) → List (List ℕ) → Option ℕ → Type 0
-IsFirstRow names [] row = row ≡ None
-IsFirstRow names (c ∷ more) row = (IsSome row × IsRowOf names c row) ⊎ (IsRowOf names c None × IsFirstRow names more row)
+-- what is looked for behind the folder of number j, by `#include_next` in a file that was found there (gcc's manual, "Wrapper Headers")
+abbrev pub candidates_behind : ℕ → List (List ℕ) → List (List ℕ) → List ℕ → List Candidate
+candidates_behind j unit setting text = inside (suc j) (drop j (unit ++ setting)) text
+
+-- one list is the end of another
+abbrev pub IsEndOf : List Candidate → List Candidate → Type 0
+IsEndOf end all = (front : List Candidate) × (all ≡ front ++ end)
+
+-- the row of the name that a path spells, if there is a path
+abbrev pub IsRowAt : List (List ℕ) → Option Path → Option ℕ → Type 0
+IsRowAt names None row = row ≡ None
+IsRowAt names (Some path) row = IsRowOf names (spelled path) row
+
+-- the first candidate that is among the shelf's names, as its row and the number of its folder
+abbrev pub IsFirstRow : List (List ℕ) → List Candidate → Option (ℕ × ℕ) → Type 0
+IsFirstRow names [] found = found ≡ None
+IsFirstRow names (c ∷ more) found =
+    ((row : ℕ) × ((found ≡ Some (row, c.folder)) × IsRowOf names c.name (Some row)))
+    ⊎ (IsRowOf names c.name None × IsFirstRow names more found)

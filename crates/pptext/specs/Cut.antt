@@ -1,13 +1,16 @@
 -- Translation phase 3 (5.1.1.2, 6.4): the characters of a text cut into comments, white space, new-lines and tokens.
-use Rattle.std.specs.Prelude.{◌≡◌, ℕ, ◌+◌, ◌≤◌, List, [], ◌∷◌, ◌++◌, IsTrue, length, take, drop, ◌⊎◌, codes, Option, None, Some, unwrap_or}
+use Rattle.std.specs.Prelude.{◌≡◌, ℕ, ◌+◌, ◌≤◌, List, [], ◌∷◌, ◌++◌, Bool, ◌&&◌, ◌||◌, IsTrue, length, take, drop, ◌⊎◌, codes, Option, None, Some, unwrap_or}
 use Rattle.std.specs.List.{flat_map}
+use Rattle.std.specs.Str.{bytes_eq}
 use Rattle.memchr.specs.Find.{FindsNeedle, IsFirstByte, is_byte}
 use Rattle.pptext.specs.declared.tokens.Place.{Place}
 use Rattle.pptext.specs.declared.tokens.Kind.{Kind}
 use Rattle.pptext.specs.declared.tokens.Kind.TheVariants.{Header}
+use Rattle.pptext.specs.declared.sources.Profile.{Profile}
 use Rattle.pptext.specs.declared.characters.Char.{Char}
 use Rattle.pptext.specs.Clean.{codes_of, place}
 use Rattle.pptext.specs.Languages.{Longest}
+use Rattle.pptext.specs.Profiles.{is_gnu}
 use Rattle.pptext.specs.Spellings.{is_blank, IsHeader, Spells, IsSpelling}
 
 pub data Sort : Type 0 where
@@ -32,9 +35,14 @@ with_piece line p Blank = line
 with_piece line p Comment = line
 with_piece line p (Spelled k) = line ++ codes_of p.chars ∷ []
 
--- `#` or `%:`, and `include`: a header name may follow (6.4.7)
-abbrev pub AwaitsHeader : List (List ℕ) → Type 0
-AwaitsHeader line = (line ≡ codes "#" ∷ codes "include" ∷ []) ⊎ (line ≡ codes "%:" ∷ codes "include" ∷ [])
+-- the names of directives that a header name may follow: `include` (6.10.2), and in GNU C `include_next` (gcc's manual, "Wrapper Headers")
+abbrev pub awaits : Profile → List ℕ → Bool
+awaits profile name = bytes_eq name (codes "include") || (is_gnu profile && bytes_eq name (codes "include_next"))
+
+-- `#` or `%:`, and such a name: a header name may follow (6.4.7)
+abbrev pub AwaitsHeader : Profile → List (List ℕ) → Type 0
+AwaitsHeader profile (hash ∷ name ∷ []) = IsTrue ((bytes_eq hash (codes "#") || bytes_eq hash (codes "%:")) && awaits profile name)
+AwaitsHeader profile line = ⊥
 
 abbrev pub BeginsWith : List ℕ → List ℕ → Type 0
 BeginsWith text front = take (length front) text ≡ front
@@ -55,49 +63,49 @@ CommentAt text n =
     (OpensBlock text × (k : ℕ) × ClosesAt text (Some k) × (n ≡ k + 4)) ⊎ (OpensLine text × (r : Option ℕ) × IsFirstByte (is_byte 10) text r × (n ≡ unwrap_or r (length text)))
 
 -- a header name of n characters, behind these tokens of its line
-pub record HeaderAt (line : List (List ℕ)) (text : List ℕ) (n : ℕ) : Type 0 where
-  pub awaited : AwaitsHeader line
+pub record HeaderAt (profile : Profile) (line : List (List ℕ)) (text : List ℕ) (n : ℕ) : Type 0 where
+  pub awaited : AwaitsHeader profile line
   pub fits : n ≤ length text
   pub spelled : IsHeader (take n text)
 
 -- another token of n characters: the longest front that some kind spells
-pub record PlainTokenAt (line : List (List ℕ)) (text : List ℕ) (n : ℕ) (kind : Kind) : Type 0 where
+pub record PlainTokenAt (profile : Profile) (line : List (List ℕ)) (text : List ℕ) (n : ℕ) (kind : Kind) : Type 0 where
   pub no_comment : ¬ (OpensBlock text ⊎ OpensLine text)
-  pub no_header : (m : ℕ) → ¬ HeaderAt line text m
+  pub no_header : (m : ℕ) → ¬ HeaderAt profile line text m
   pub longest : Longest IsSpelling text n
   pub spelled : Spells kind (take n text)
 
 -- n characters of this sort begin the text, behind these tokens of its line
-abbrev pub StandsAt : List (List ℕ) → List ℕ → ℕ → Sort → Type 0
-StandsAt line text n NewLine = (n ≡ 1) × BeginsWith text (10 ∷ [])
-StandsAt line text n Blank = (n ≡ 1) × (c : ℕ) × BeginsWith text (c ∷ []) × IsTrue (is_blank c)
-StandsAt line text n Comment = CommentAt text n
-StandsAt line text n (Spelled k) = (HeaderAt line text n × (k ≡ Header)) ⊎ PlainTokenAt line text n k
+abbrev pub StandsAt : Profile → List (List ℕ) → List ℕ → ℕ → Sort → Type 0
+StandsAt profile line text n NewLine = (n ≡ 1) × BeginsWith text (10 ∷ [])
+StandsAt profile line text n Blank = (n ≡ 1) × (c : ℕ) × BeginsWith text (c ∷ []) × IsTrue (is_blank c)
+StandsAt profile line text n Comment = CommentAt text n
+StandsAt profile line text n (Spelled k) = (HeaderAt profile line text n × (k ≡ Header)) ⊎ PlainTokenAt profile line text n k
 
 -- each piece stands in its place, behind these tokens of the line and before this rest
-abbrev pub EachStands : List (List ℕ) → List Piece → List Char → Type 0
-EachStands line [] rest = Unit {0}
-EachStands line (p ∷ ps) rest =
-    StandsAt line (codes_of (p.chars ++ (laid ps ++ rest))) (length p.chars) p.sort × EachStands (with_piece line p p.sort) ps rest
+abbrev pub EachStands : Profile → List (List ℕ) → List Piece → List Char → Type 0
+EachStands profile line [] rest = Unit {0}
+EachStands profile line (p ∷ ps) rest =
+    StandsAt profile line (codes_of (p.chars ++ (laid ps ++ rest))) (length p.chars) p.sort × EachStands profile (with_piece line p p.sort) ps rest
 
 -- the pieces of a front of the text, and the rest
-pub record CutUpTo (chars : List Char) (pieces : List Piece) (rest : List Char) : Type 0 where
+pub record CutUpTo (profile : Profile) (chars : List Char) (pieces : List Piece) (rest : List Char) : Type 0 where
   pub whole : laid pieces ++ rest ≡ chars
-  pub each : EachStands [] pieces rest
+  pub each : EachStands profile [] pieces rest
 
 -- the pieces of the whole text
-abbrev pub Cut : List Char → List Piece → Type 0
-Cut chars pieces = CutUpTo chars pieces []
+abbrev pub Cut : Profile → List Char → List Piece → Type 0
+Cut profile chars pieces = CutUpTo profile chars pieces []
 
 abbrev pub head_place : List Char → Place
 head_place [] = place 0 0 0
 head_place (c ∷ cs) = c.at
 
 -- a comment that opens at this place is not closed
-pub record Unclosed (chars : List Char) (at : Place) : Type 0 where
+pub record Unclosed (profile : Profile) (chars : List Char) (at : Place) : Type 0 where
   pub pieces : List Piece
   pub rest : List Char
-  pub cut : CutUpTo chars pieces rest
+  pub cut : CutUpTo profile chars pieces rest
   pub opens : OpensBlock (codes_of rest)
   pub never : ClosesAt (codes_of rest) None
   pub here : at ≡ head_place rest

@@ -24,12 +24,12 @@ abbrev pub starts_word : ℕ → Bool
 starts_word c = is_nondigit c && not (c == 117 || (c == 85 || c == 76))
 
 -- The sort and length of what begins the text behind these tokens of its line, of blanks all that stand in a row; none where a comment is not closed.
-abbrev pub Finds : List (List ℕ) → List ℕ → Option (Sort × ℕ) → Type 0
-Finds line text None = OpensBlock text × ClosesAt text None
-Finds line text (Some (Blank, n)) = (n ≤ length text) × (0 < n) × AreBlanks n text
-Finds line text (Some (s, n)) = (n ≤ length text) × (0 < n) × StandsAt line text n s
+abbrev pub Finds : Profile → List (List ℕ) → List ℕ → Option (Sort × ℕ) → Type 0
+Finds profile line text None = OpensBlock text × ClosesAt text None
+Finds profile line text (Some (Blank, n)) = (n ≤ length text) × (0 < n) × AreBlanks n text
+Finds profile line text (Some (s, n)) = (n ≤ length text) × (0 < n) × StandsAt profile line text n s
 
 -- a text is cut into these tokens and lines, or a comment that opens at a place is not closed
 abbrev pub CutsInto : Profile → List Char → List Token → List Line → Result (Unit {0}) Place → Type 0
-CutsInto profile chars ts ls (Ok u) = (pieces : List Piece) × Cut chars pieces × (lines_of profile pieces ≡ lines_from ts ls) × AreDrafts ts ls × (length ls ≤ length chars)
-CutsInto profile chars ts ls (Err p) = Unclosed chars p
+CutsInto profile chars ts ls (Ok u) = (pieces : List Piece) × Cut profile chars pieces × (lines_of profile pieces ≡ lines_from ts ls) × AreDrafts ts ls × (length ls ≤ length chars)
+CutsInto profile chars ts ls (Err p) = Unclosed profile chars p

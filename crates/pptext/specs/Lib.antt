@@ -8,6 +8,7 @@ pub mod Spellings
 pub mod Carrying
 pub mod Kinds
 pub mod Lone
+pub mod Profiles
 pub mod Cut
 pub mod Lines
 pub mod Tree

@@ -4,9 +4,9 @@ use Rattle.std.specs.Str.{bytes_eq}
 use Rattle.pptext.specs.declared.tokens.Token.{Token}
 use Rattle.pptext.specs.declared.tokens.Kind.{Kind}
 use Rattle.pptext.specs.declared.sources.Directive.{Directive}
-use Rattle.pptext.specs.declared.sources.Directive.TheVariants.{If, Ifdef, Ifndef, Elif, Else, Elifdef, Elifndef, Endif, Include, Define, Undef, Line, Error, Pragma, Null, Unknown}
+use Rattle.pptext.specs.declared.sources.Directive.TheVariants.{If, Ifdef, Ifndef, Elif, Else, Elifdef, Elifndef, Endif, Include, IncludeNext, Define, Undef, Line, Error, Pragma, Null, Ignored, Unknown}
 use Rattle.pptext.specs.declared.sources.Profile.{Profile}
-use Rattle.pptext.specs.declared.sources.Profile.TheVariants.{C11, Later}
+use Rattle.pptext.specs.declared.sources.Profile.TheVariants.{C11, Later, Gnu}
 use Rattle.pptext.specs.declared.characters.Char.{Char}
 use Rattle.pptext.specs.Clean.{codes_of}
 use Rattle.pptext.specs.Cut.{Piece, Sort, NewLine, Spelled, head_place}
@@ -42,6 +42,10 @@ directive_names =
 abbrev pub later_names : List (List ℕ × Directive)
 later_names = (codes "elifdef", Elifdef) ∷ (codes "elifndef", Elifndef) ∷ []
 
+-- those of GNU C
+abbrev pub gnu_names : List (List ℕ × Directive)
+gnu_names = (codes "include_next", IncludeNext) ∷ (codes "warning", Ignored) ∷ (codes "ident", Ignored) ∷ (codes "sccs", Ignored) ∷ []
+
 abbrev pub named_in : List (List ℕ × Directive) → List ℕ → Directive
 named_in [] name = Unknown
 named_in ((text, d) ∷ more) name = if bytes_eq name text then d else named_in more name
@@ -50,6 +54,7 @@ named_in ((text, d) ∷ more) name = if bytes_eq name text then d else named_in 
 abbrev pub directive_named : Profile → List ℕ → Directive
 directive_named C11 name = named_in directive_names name
 directive_named Later name = named_in (directive_names ++ later_names) name
+directive_named Gnu name = named_in (directive_names ++ (later_names ++ gnu_names)) name
 
 abbrev pub directive_behind : Profile → List Token → Directive
 directive_behind profile [] = Null

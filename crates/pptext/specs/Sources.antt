@@ -7,6 +7,7 @@ use Rattle.pptext.specs.declared.tokens.Fault.{Fault}
 use Rattle.pptext.specs.declared.tokens.Kind.{Kind}
 use Rattle.pptext.specs.declared.sources.Line.{Line}
 use Rattle.pptext.specs.declared.sources.Profile.{Profile}
+use Rattle.pptext.specs.declared.sources.Profile.TheVariants.{C11}
 use Rattle.pptext.specs.declared.characters.Char.{Char}
 use Rattle.pptext.specs.Clean.{cleaned, placed}
 use Rattle.pptext.specs.Cut.{Piece, Spelled, Cut, Unclosed}
@@ -42,7 +43,7 @@ pub record IsSource (profile : Profile) (file : ℕ) (bytes : List ℕ) (lines :
   pub chars : List Char
   pub pieces : List Piece
   pub cleaned : cleaned file bytes ≡ Ok chars
-  pub cut : Cut chars pieces
+  pub cut : Cut profile chars pieces
   pub grouped : group_fault [] (lines_of profile pieces) ≡ None
   pub same : lines ≡ lines_of profile pieces
 
@@ -51,18 +52,18 @@ pub data IsFaultOf (profile : Profile) (file : ℕ) (bytes : List ℕ) : Fault �
   -- the last line ends in a backslash
   spliced_end : {p : Place} → cleaned file bytes ≡ Err p → IsFaultOf profile file bytes (file_fault 2 p)
   -- else a comment is not closed
-  open_comment : {chars : List Char} {p : Place} → cleaned file bytes ≡ Ok chars → Unclosed chars p → IsFaultOf profile file bytes (file_fault 1 p)
+  open_comment : {chars : List Char} {p : Place} → cleaned file bytes ≡ Ok chars → Unclosed profile chars p → IsFaultOf profile file bytes (file_fault 1 p)
   -- else the groups have a fault
-  bad_groups : {chars : List Char} {pieces : List Piece} {f : Fault} → cleaned file bytes ≡ Ok chars → Cut chars pieces → group_fault [] (lines_of profile pieces) ≡ Some f → IsFaultOf profile file bytes f
+  bad_groups : {chars : List Char} {pieces : List Piece} {f : Fault} → cleaned file bytes ≡ Ok chars → Cut profile chars pieces → group_fault [] (lines_of profile pieces) ≡ Some f → IsFaultOf profile file bytes f
 
 -- what reading a file gives
 abbrev pub Reads : Profile → ℕ → List ℕ → Result (List LogicalLine) Fault → Type 0
 Reads profile file bytes (Ok lines) = IsSource profile file bytes lines
 Reads profile file bytes (Err f) = IsFaultOf profile file bytes f
 
--- outside an include line the text is one token of this kind
+-- outside an include line the text is one token of this kind; there each profile cuts alike, and C11 stands for all
 abbrev pub IsOneToken : List ℕ → Kind → Type 0
-IsOneToken text k = let cs = placed 0 1 1 text in Cut cs (record { sort = Spelled k; chars = cs } ∷ [])
+IsOneToken text k = let cs = placed 0 1 1 text in Cut C11 cs (record { sort = Spelled k; chars = cs } ∷ [])
 
 abbrev pub IsLoneQuote : List ℕ → Type 0
 IsLoneQuote text = (text ≡ 39 ∷ []) ⊎ (text ≡ 34 ∷ [])

@@ -2,6 +2,7 @@
 use Rattle.std.specs.Prelude.{◌≡◌, ℕ, Bool, true, false, List, Option, None, Some, Result, Ok, Err}
 use Rattle.std.specs.Option.{is_some}
 use Rattle.std.specs.FinMap as table
+use Rattle.pptext.specs.declared.tokens.Place.{Place}
 use Rattle.pptext.specs.declared.tokens.Token.{Token}
 use Rattle.pptext.specs.declared.tokens.Fault.{Fault}
 use Rattle.pptext.specs.declared.sources.Directive.{Directive}
@@ -11,9 +12,10 @@ use Rattle.pptext.specs.Tree.{sign_place}
 use Rattle.ppmacro.specs.Names.{Macros}
 use Rattle.ppmacro.specs.Define.{same_bool}
 use Rattle.ppexpr.specs.Conditions.{IsCondition}
-use Rattle.ppunit.specs.States.{State}
+use Rattle.ppunit.specs.States.{Search, State}
 use Rattle.ppunit.specs.Lines.{operands, named_fault, one_identifier}
 use Rattle.ppunit.specs.Quotes.{lone_quote}
+use Rattle.ppunit.specs.Probing.{condition_tokens}
 
 -- whether a name is a macro's
 abbrev pub is_macro_name : Macros → List ℕ → Bool
@@ -28,23 +30,28 @@ by_name wanted macros line (Some name) = Ok (same_bool wanted (is_macro_name mac
 abbrev pub DecidesFreely : State → Result Bool Fault → Option ℕ → Result Bool Fault → Type 0
 DecidesFreely s answer after taken = (after ≡ s.left) × (taken ≡ answer)
 
--- of a line without lone quotes
-abbrev pub DecidesBy : Option Directive → State → List Token → Option ℕ → Result Bool Fault → Type 0
-DecidesBy (Some If) s line after taken = IsCondition s.macros s.env (sign_place line) (operands line) s.left taken after
-DecidesBy (Some Elif) s line after taken = IsCondition s.macros s.env (sign_place line) (operands line) s.left taken after
-DecidesBy (Some Ifdef) s line after taken = DecidesFreely s (by_name true s.macros line (one_identifier (operands line))) after taken
-DecidesBy (Some Ifndef) s line after taken = DecidesFreely s (by_name false s.macros line (one_identifier (operands line))) after taken
-DecidesBy (Some Elifdef) s line after taken = DecidesFreely s (by_name true s.macros line (one_identifier (operands line))) after taken
-DecidesBy (Some Elifndef) s line after taken = DecidesFreely s (by_name false s.macros line (one_identifier (operands line))) after taken
-DecidesBy _ s line after taken = ⊥
+-- a condition of these tokens, or the fault of the step before it, which costs nothing
+abbrev pub DecidesOf : Result (List Token) Fault → State → Place → Option ℕ → Result Bool Fault → Type 0
+DecidesOf (Err f) s at after taken = DecidesFreely s (Err f) after taken
+DecidesOf (Ok tokens) s at after taken = IsCondition s.macros s.env at tokens s.left taken after
 
-abbrev pub DecidesUnless : Option Fault → Option Directive → State → List Token → Option ℕ → Result Bool Fault → Type 0
-DecidesUnless (Some f) d s line after taken = DecidesFreely s (Err f) after taken
-DecidesUnless None d s line after taken = DecidesBy d s line after taken
+-- of a line without lone quotes, in the file of a row
+abbrev pub DecidesBy : Search → ℕ → Option Directive → State → List Token → Option ℕ → Result Bool Fault → Type 0
+DecidesBy search row (Some If) s line after taken = DecidesOf (condition_tokens search row line) s (sign_place line) after taken
+DecidesBy search row (Some Elif) s line after taken = DecidesOf (condition_tokens search row line) s (sign_place line) after taken
+DecidesBy search row (Some Ifdef) s line after taken = DecidesFreely s (by_name true s.macros line (one_identifier (operands line))) after taken
+DecidesBy search row (Some Ifndef) s line after taken = DecidesFreely s (by_name false s.macros line (one_identifier (operands line))) after taken
+DecidesBy search row (Some Elifdef) s line after taken = DecidesFreely s (by_name true s.macros line (one_identifier (operands line))) after taken
+DecidesBy search row (Some Elifndef) s line after taken = DecidesFreely s (by_name false s.macros line (one_identifier (operands line))) after taken
+DecidesBy search row _ s line after taken = ⊥
+
+abbrev pub DecidesUnless : Search → ℕ → Option Fault → Option Directive → State → List Token → Option ℕ → Result Bool Fault → Type 0
+DecidesUnless search row (Some f) d s line after taken = DecidesFreely s (Err f) after taken
+DecidesUnless search row None d s line after taken = DecidesBy search row d s line after taken
 
 -- whether the group behind a line is taken, or the line's fault, and what is left of the budget
-abbrev pub Decides : State → LogicalLine → Option ℕ → Result Bool Fault → Type 0
-Decides s line after taken = DecidesUnless (lone_quote line.tokens) line.directive s line.tokens after taken
+abbrev pub Decides : Search → ℕ → State → LogicalLine → Option ℕ → Result Bool Fault → Type 0
+Decides search row s line after taken = DecidesUnless search row (lone_quote line.tokens) line.directive s line.tokens after taken
 
 -- the lines that have a condition
 abbrev pub IsConditional : Directive → Type 0

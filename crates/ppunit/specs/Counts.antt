@@ -7,35 +7,46 @@ use Rattle.pptext.specs.declared.sources.Directive.{Directive}
 use Rattle.pptext.specs.declared.sources.Directive.TheVariants.{If, Elif, Line}
 use Rattle.pptext.specs.declared.sources.Profile.{Profile}
 use Rattle.pptext.specs.Lines.{LogicalLine}
-use Rattle.pptext.specs.Tree.{Parts, Branches}
+use Rattle.pptext.specs.Tree.{sign_place, Parts, Branches}
 use Rattle.ppexpand.specs.Expansion.{count_expansion}
 use Rattle.ppexpr.specs.Conditions.{count_condition}
-use Rattle.ppunit.specs.States.{State, Surroundings, Reached}
+use Rattle.ppunit.specs.States.{Search, search_of, State, Surroundings, Reached}
 use Rattle.ppunit.specs.Lines.{operands}
 use Rattle.ppunit.specs.Quotes.{lone_quote}
+use Rattle.ppunit.specs.Probing.{condition_tokens}
 use Rattle.ppunit.specs.Including.{Asked, begins_with_header}
-use Rattle.ppunit.specs.Conditions.{DecidesBy, DecidesUnless, Decides}
+use Rattle.ppunit.specs.Conditions.{DecidesOf, DecidesBy, DecidesUnless, Decides}
 use Rattle.ppunit.specs.Directives.{AsksBy, Asks, ControlBy}
 use Rattle.ppunit.specs.Group.{Group, Branched, Controls, Includes, Opened}
 
 -- ---- lines: what replacing their operands takes
 
-abbrev pub count_decides_by : (d : Option Directive) (s : State) (line : List Token) (after : Option ℕ) (taken : Result Bool Fault)
-    → DecidesBy d s line after taken
+abbrev pub count_decides_of : (tokens : Result (List Token) Fault) (s : State) (at : Place) (after : Option ℕ) (taken : Result Bool Fault)
+    → DecidesOf tokens s at after taken
     → ℕ
-count_decides_by (Some If) s line after taken h = count_condition h
-count_decides_by (Some Elif) s line after taken h = count_condition h
-count_decides_by _ s line after taken h = 0
+count_decides_of (Err f) s at after taken h = 0
+count_decides_of (Ok tokens) s at after taken h = count_condition h
 
-abbrev pub count_decides_unless : (quote : Option Fault) (d : Option Directive) (s : State) (line : List Token) (after : Option ℕ)
+abbrev pub count_decides_by : (search : Search) (row : ℕ) (d : Option Directive) (s : State) (line : List Token) (after : Option ℕ)
     (taken : Result Bool Fault)
-    → DecidesUnless quote d s line after taken
+    → DecidesBy search row d s line after taken
     → ℕ
-count_decides_unless (Some f) d s line after taken h = 0
-count_decides_unless None d s line after taken h = count_decides_by d s line after taken h
+count_decides_by search row (Some If) s line after taken h = count_decides_of (condition_tokens search row line) s (sign_place line) after taken h
+count_decides_by search row (Some Elif) s line after taken h = count_decides_of (condition_tokens search row line) s (sign_place line) after taken h
+count_decides_by search row _ s line after taken h = 0
 
-abbrev pub count_decides : (s : State) (line : LogicalLine) (after : Option ℕ) (taken : Result Bool Fault) → Decides s line after taken → ℕ
-count_decides s line after taken h = count_decides_unless (lone_quote line.tokens) line.directive s line.tokens after taken h
+abbrev pub count_decides_unless : (search : Search) (row : ℕ) (quote : Option Fault) (d : Option Directive) (s : State) (line : List Token)
+    (after : Option ℕ) (taken : Result Bool Fault)
+    → DecidesUnless search row quote d s line after taken
+    → ℕ
+count_decides_unless search row (Some f) d s line after taken h = 0
+count_decides_unless search row None d s line after taken h = count_decides_by search row d s line after taken h
+
+abbrev pub count_decides : (search : Search) (row : ℕ) (s : State) (line : LogicalLine) (after : Option ℕ) (taken : Result Bool Fault)
+    → Decides search row s line after taken
+    → ℕ
+count_decides search row s line after taken h =
+    count_decides_unless search row (lone_quote line.tokens) line.directive s line.tokens after taken h
 
 abbrev pub count_asks_by : (header : Bool) (s : State) (line : List Token) (after : Option ℕ) (asked : Result Asked Fault)
     → AsksBy header s line after asked
@@ -60,41 +71,45 @@ abbrev mutual
   count_group Group.done = 0
   count_group (Group.run gives rest) = count_expansion gives.expands + count_group rest
   count_group (Group.control here rest) = count_control here + count_group rest
-  count_group (Group.taken {s = s} {line = line} {after = after} decides here rest) =
-      count_decides s line after (Ok true) decides + (count_group here + count_group rest)
-  count_group (Group.skipped {s = s} {line = line} {after = after} decides here rest) =
-      count_decides s line after (Ok false) decides + (count_branched here + count_group rest)
-  count_group (Group.refused {s = s} {line = line} {after = after} {f = f} decides) = count_decides s line after (Err f) decides
+  count_group {around} {depth} {row} (Group.taken {s = s} {line = line} {after = after} decides here rest) =
+      count_decides (search_of around) row s line after (Ok true) decides + (count_group here + count_group rest)
+  count_group {around} {depth} {row} (Group.skipped {s = s} {line = line} {after = after} decides here rest) =
+      count_decides (search_of around) row s line after (Ok false) decides + (count_branched here + count_group rest)
+  count_group {around} {depth} {row} (Group.refused {s = s} {line = line} {after = after} {f = f} decides) = count_decides (search_of around) row s line after (Err f) decides
 
   pub count_branched : {around : Surroundings} {depth row : ℕ} {s : State} {bs : Branches} {m : Reached}
       → Branched around depth row s bs m
       → ℕ
   count_branched Branched.ended = 0
   count_branched (Branched.otherwise is here) = count_group here
-  count_branched (Branched.branch_taken {s = s} {line = line} {after = after} is decides here) =
-      count_decides s line after (Ok true) decides + count_group here
-  count_branched (Branched.branch_skipped {s = s} {line = line} {after = after} is decides rest) =
-      count_decides s line after (Ok false) decides + count_branched rest
-  count_branched (Branched.branch_refused {s = s} {line = line} {after = after} {f = f} is decides) = count_decides s line after (Err f) decides
+  count_branched {around} {depth} {row} (Branched.branch_taken {s = s} {line = line} {after = after} is decides here) =
+      count_decides (search_of around) row s line after (Ok true) decides + count_group here
+  count_branched {around} {depth} {row} (Branched.branch_skipped {s = s} {line = line} {after = after} is decides rest) =
+      count_decides (search_of around) row s line after (Ok false) decides + count_branched rest
+  count_branched {around} {depth} {row} (Branched.branch_refused {s = s} {line = line} {after = after} {f = f} is decides) = count_decides (search_of around) row s line after (Err f) decides
 
   pub count_control : {around : Surroundings} {depth row : ℕ} {s : State} {line : LogicalLine} {m : Reached}
       → Controls around depth row s line m
       → ℕ
   count_control (Controls.error is) = 0
+  count_control (Controls.ignored is) = 0
   count_control (Controls.quote is q) = 0
   count_control {around} {depth} {row} (Controls.other {s = s} {line = line} {m = m} q does) =
       count_control_by around.profile row line.directive s line m does
   count_control (Controls.include is q here) = count_includes here
+  count_control (Controls.include_next is q here) = count_includes here
 
-  pub count_includes : {around : Surroundings} {depth row : ℕ} {s : State} {line : LogicalLine} {m : Reached}
-      → Includes around depth row s line m
+  pub count_includes : {around : Surroundings} {depth row : ℕ} {behind : Option ℕ} {s : State} {line : LogicalLine} {m : Reached}
+      → Includes around depth row behind s line m
       → ℕ
   count_includes (Includes.misnamed {s = s} {line = line} {after = after} {f = f} asks) = count_asks s line.tokens after (Err f) asks
   count_includes (Includes.missing {s = s} {line = line} {after = after} a asks finds) = count_asks s line.tokens after (Ok a) asks
   count_includes (Includes.included {s = s} {line = line} {after = after} a found asks finds opens) =
       count_asks s line.tokens after (Ok a) asks + count_opened opens
 
-  pub count_opened : {around : Surroundings} {depth row : ℕ} {at : Place} {s : State} {m : Reached} → Opened around depth at s row m → ℕ
+  pub count_opened : {around : Surroundings} {depth row : ℕ} {folder : Option ℕ} {at : Place} {s : State} {m : Reached}
+      → Opened around depth at s row folder m
+      → ℕ
   count_opened (Opened.too_deep deep) = 0
   count_opened (Opened.over fits spent) = 0
   count_opened (Opened.known fits more once) = 1

@@ -1,13 +1,13 @@
 -- What a control line does (6.10.2 to 6.10.7), but for the file that it includes.
-use Rattle.std.specs.Prelude.{◌≡◌, ℕ, Bool, true, false, if◌then◌else◌, Option, None, Some, Result, Ok, Err}
+use Rattle.std.specs.Prelude.{◌≡◌, ℕ, Bool, true, false, ◌&&◌, if◌then◌else◌, Option, None, Some, Result, Ok, Err}
 use Rattle.std.specs.Prelude.{List, [], ◌∷◌, ◌++◌, map, flat_map, codes}
 use Rattle.std.specs.Str.{bytes_eq}
 use Rattle.pptext.specs.declared.tokens.Token.{Token}
 use Rattle.pptext.specs.declared.tokens.Fault.{Fault}
 use Rattle.pptext.specs.declared.sources.Directive.{Directive}
 use Rattle.pptext.specs.declared.sources.Profile.{Profile}
-use Rattle.pptext.specs.declared.sources.Profile.TheVariants.{Later}
-use Rattle.pptext.specs.declared.sources.Directive.TheVariants.{Define, Undef, Line, Pragma, Null, Unknown}
+use Rattle.pptext.specs.declared.sources.Directive.TheVariants.{Define, Undef, Line, Error, Pragma, Null, Ignored, Unknown}
+use Rattle.pptext.specs.Profiles.{has_later}
 use Rattle.pptext.specs.Lines.{LogicalLine}
 use Rattle.pptext.specs.Tree.{sign_place}
 use Rattle.ppmacro.specs.Names.{Macros}
@@ -15,7 +15,7 @@ use Rattle.ppmacro.specs.Define.{after_define, after_undef}
 use Rattle.ppexpand.specs.declared.expansion.Expanded.{Expanded}
 use Rattle.ppexpand.specs.Expansion.{IsExpansion}
 use Rattle.ppshelf.specs.Names.{name_in}
-use Rattle.ppshelf.specs.Search.{candidates, IsFirstRow}
+use Rattle.ppshelf.specs.Search.{Candidate, candidates, candidates_behind, IsFirstRow}
 use Rattle.ppunit.specs.declared.units.Item.TheVariants as item
 use Rattle.ppunit.specs.States.{State, Surroundings, Reached, going, stopped, passed, reading_once, with_left}
 use Rattle.ppunit.specs.Lines.{operands, line_fault, named_fault, spaced}
@@ -70,16 +70,20 @@ AsksBy false s line after asked = AsksReplaced s line after asked
 abbrev pub Asks : State → List Token → Option ℕ → Result Asked Fault → Type 0
 Asks s line after asked = AsksBy (begins_with_header (operands line)) s line after asked
 
--- the row of the file that is asked for in the file of this row, if there is one
-abbrev pub Finds : Surroundings → ℕ → Asked → Option ℕ → Type 0
-Finds around from a found =
-    IsFirstRow around.names (candidates a.form (name_in around.names from) around.unit_folders around.setting_folders a.name) found
+-- what is looked for in the file of this row; or in the folders alone that come behind the one of a number (gcc's manual, "Wrapper Headers")
+abbrev pub looked_for : Surroundings → ℕ → Option ℕ → Asked → List Candidate
+looked_for around from None a = candidates a.form (name_in around.names from) around.unit_folders around.setting_folders a.name
+looked_for around from (Some number) a = candidates_behind number around.unit_folders around.setting_folders a.name
+
+-- the row of the file that is asked for so, if there is one, and the number of the folder in which it is found
+abbrev pub Finds : Surroundings → ℕ → Option ℕ → Asked → Option (ℕ × ℕ) → Type 0
+Finds around from behind a found = IsFirstRow around.names (looked_for around from behind a) found
 
 -- ---- `#pragma` (6.10.6)
 
 -- the tokens behind `#pragma` say that the file is read once, in a profile that has this
 abbrev pub is_once : Profile → List Token → Bool
-is_once Later (t ∷ []) = bytes_eq t.text (codes "once")
+is_once profile (t ∷ []) = has_later profile && bytes_eq t.text (codes "once")
 is_once profile ts = false
 
 -- the file of this row is not read again behind such a pragma
@@ -91,17 +95,23 @@ pragma_passed profile row s line = noting_once profile row (operands line) (pass
 
 -- ---- the other control lines
 
+-- A lone quote is a fault of each line but `#error`, whose tokens are a message, and those that do nothing, whatever their tokens are.
+abbrev pub looks_at_quotes : Option Directive → Bool
+looks_at_quotes (Some Error) = false
+looks_at_quotes (Some Ignored) = false
+looks_at_quotes _ = true
+
 -- a control line without lone quotes that includes no file, in the file of a row
 abbrev pub ControlBy : Profile → ℕ → Option Directive → State → LogicalLine → Reached → Type 0
 ControlBy profile row (Some Null) s line reached = reached ≡ going s
-ControlBy profile row (Some Define) s line reached = reached ≡ with_macros s (after_define s.macros (sign_place line.tokens) (operands line.tokens))
-ControlBy profile row (Some Undef) s line reached = reached ≡ with_macros s (after_undef s.macros (sign_place line.tokens) (operands line.tokens))
+ControlBy profile row (Some Define) s line reached = reached ≡ with_macros s (after_define profile s.macros (sign_place line.tokens) (operands line.tokens))
+ControlBy profile row (Some Undef) s line reached = reached ≡ with_macros s (after_undef profile s.macros (sign_place line.tokens) (operands line.tokens))
 ControlBy profile row (Some Line) s line reached = LineGives s line reached
 ControlBy profile row (Some Pragma) s line reached = reached ≡ going (pragma_passed profile row s line.tokens)
 ControlBy profile row (Some Unknown) s line reached = reached ≡ stopped s (named_fault 8 line.tokens)
 ControlBy _ _ _ s line reached = ⊥
 
--- the control lines that open no file, but for `#error`
+-- the control lines that open no file, but for `#error` and those that do nothing
 abbrev pub IsControl : Directive → Type 0
 IsControl Null = Unit {0}
 IsControl Define = Unit {0}

@@ -4,7 +4,7 @@ use Rattle.std.specs.Prelude.{List, codes, length, take, drop, slice_index}
 use Rattle.std.specs.List.{list_all}
 use Rattle.std.specs.Str.{bytes_eq}
 use Rattle.pptext.specs.declared.sources.Profile.{Profile}
-use Rattle.pptext.specs.declared.sources.Profile.TheVariants.{C11, Later}
+use Rattle.pptext.specs.declared.sources.Profile.TheVariants.{C11, Later, Gnu}
 pub use Rattle.pptext.specs.Spellings.{is_digit}
 use Rattle.ppshelf.specs.Content.{longest}
 use Rattle.ppunit.specs.declared.units.Setting.{Setting}
@@ -65,6 +65,7 @@ is_one_line s = list_all is_in_line s
 abbrev pub is_same : Profile → Profile → Bool
 is_same C11 C11 = true
 is_same Later Later = true
+is_same Gnu Gnu = true
 is_same _ _ = false
 
 -- date and time have their forms

@@ -2,7 +2,7 @@
 use Rattle.std.specs.Prelude.{◌≡◌, ◌≢◌, ℕ, suc, ◌<◌, ◌≤◌, List, [], true, false, Option, None, Some, Ok, Err}
 use Rattle.pptext.specs.declared.tokens.Place.{Place}
 use Rattle.pptext.specs.declared.tokens.Fault.{Fault}
-use Rattle.pptext.specs.declared.sources.Directive.TheVariants.{Include, Error, Else}
+use Rattle.pptext.specs.declared.sources.Directive.TheVariants.{Include, IncludeNext, Error, Ignored, Else}
 use Rattle.pptext.specs.Lines.{LogicalLine}
 use Rattle.pptext.specs.Sources.{Reads}
 use Rattle.pptext.specs.Tokens.{fault}
@@ -12,12 +12,12 @@ use Rattle.ppshelf.specs.Content.{unreadable, readable}
 use Rattle.ppshelf.specs.Files.{file_at}
 use Rattle.ppshelf.specs.Names.{name_in}
 use Rattle.ppunit.specs.Dependencies.{is_among}
-use Rattle.ppunit.specs.States.{State, Surroundings, Reached, going, stopped, depending, entering, leaving, with_left, paying}
+use Rattle.ppunit.specs.States.{State, Surroundings, search_of, Reached, going, stopped, depending, entering, leaving, with_left, paying}
 use Rattle.ppunit.specs.Lines.{operands, line_fault, run_tokens}
 use Rattle.ppunit.specs.Quotes.{lone_quote}
 use Rattle.ppunit.specs.Conditions.{Decides}
 use Rattle.ppunit.specs.Including.{Asked}
-use Rattle.ppunit.specs.Directives.{RunGives, ControlBy, Asks, Finds, message}
+use Rattle.ppunit.specs.Directives.{RunGives, ControlBy, Asks, Finds, message, looks_at_quotes}
 
 -- the deepest include
 abbrev pub deepest : ℕ
@@ -37,17 +37,17 @@ mutual
         → Group around depth row m ps end
         → Group around depth row (going s) (Control line ps) end
     taken : {depth row : ℕ} {s : State} {line : LogicalLine} {ps qs : Parts} {bs : Branches} {after : Option ℕ} {m end : Reached}
-        → Decides s line after (Ok true)
+        → Decides (search_of around) row s line after (Ok true)
         → Group around depth row (going (with_left s after)) ps m
         → Group around depth row m qs end
         → Group around depth row (going s) (Section line ps bs qs) end
     skipped : {depth row : ℕ} {s : State} {line : LogicalLine} {ps qs : Parts} {bs : Branches} {after : Option ℕ} {m end : Reached}
-        → Decides s line after (Ok false)
+        → Decides (search_of around) row s line after (Ok false)
         → Branched around depth row (with_left s after) bs m
         → Group around depth row m qs end
         → Group around depth row (going s) (Section line ps bs qs) end
     refused : {depth row : ℕ} {s : State} {line : LogicalLine} {ps qs : Parts} {bs : Branches} {after : Option ℕ} {f : Fault}
-        → Decides s line after (Err f)
+        → Decides (search_of around) row s line after (Err f)
         → Group around depth row (going s) (Section line ps bs qs) (stopped (with_left s after) f)
 
   -- the branches of an if-section, up to the first that is taken (6.10.1)
@@ -59,26 +59,29 @@ mutual
         → Branched around depth row s (Branch line ps bs) m
     branch_taken : {depth row : ℕ} {s : State} {line : LogicalLine} {ps : Parts} {bs : Branches} {after : Option ℕ} {m : Reached}
         → line.directive ≢ Some Else
-        → Decides s line after (Ok true)
+        → Decides (search_of around) row s line after (Ok true)
         → Group around depth row (going (with_left s after)) ps m
         → Branched around depth row s (Branch line ps bs) m
     branch_skipped : {depth row : ℕ} {s : State} {line : LogicalLine} {ps : Parts} {bs : Branches} {after : Option ℕ} {m : Reached}
         → line.directive ≢ Some Else
-        → Decides s line after (Ok false)
+        → Decides (search_of around) row s line after (Ok false)
         → Branched around depth row (with_left s after) bs m
         → Branched around depth row s (Branch line ps bs) m
     branch_refused : {depth row : ℕ} {s : State} {line : LogicalLine} {ps : Parts} {bs : Branches} {after : Option ℕ} {f : Fault}
         → line.directive ≢ Some Else
-        → Decides s line after (Err f)
+        → Decides (search_of around) row s line after (Err f)
         → Branched around depth row s (Branch line ps bs) (stopped (with_left s after) f)
 
-  -- a control line
+  -- a control line; the search of `#include_next` begins behind the folder in which the file was found, where it has a number
   pub data Controls (around : Surroundings) : ℕ → ℕ → State → LogicalLine → Reached → Type 0 where
     error : {depth row : ℕ} {s : State} {line : LogicalLine}
         → line.directive ≡ Some Error
         → Controls around depth row s line (stopped s (line_fault 34 line.tokens (message (operands line.tokens))))
+    ignored : {depth row : ℕ} {s : State} {line : LogicalLine}
+        → line.directive ≡ Some Ignored
+        → Controls around depth row s line (going s)
     quote : {depth row : ℕ} {s : State} {line : LogicalLine} {f : Fault}
-        → line.directive ≢ Some Error
+        → looks_at_quotes line.directive ≡ true
         → lone_quote line.tokens ≡ Some f
         → Controls around depth row s line (stopped s f)
     other : {depth row : ℕ} {s : State} {line : LogicalLine} {m : Reached}
@@ -88,59 +91,64 @@ mutual
     include : {depth row : ℕ} {s : State} {line : LogicalLine} {m : Reached}
         → line.directive ≡ Some Include
         → lone_quote line.tokens ≡ None
-        → Includes around depth row s line m
+        → Includes around depth row None s line m
+        → Controls around depth row s line m
+    include_next : {depth row : ℕ} {s : State} {line : LogicalLine} {m : Reached}
+        → line.directive ≡ Some IncludeNext
+        → lone_quote line.tokens ≡ None
+        → Includes around depth row s.folder s line m
         → Controls around depth row s line m
 
-  -- An include line without lone quotes (6.10.2): its operands have a fault, or no file is found for what it asks for, or the file that is found is
-  -- opened one level deeper.
-  pub data Includes (around : Surroundings) : ℕ → ℕ → State → LogicalLine → Reached → Type 0 where
-    misnamed : {depth row : ℕ} {s : State} {line : LogicalLine} {after : Option ℕ} {f : Fault}
+  -- An include line without lone quotes (6.10.2), whose search begins behind the folder of a number or with the first: its operands have a fault, or
+  -- no file is found for what it asks for, or the file that is found is opened one level deeper.
+  pub data Includes (around : Surroundings) : ℕ → ℕ → Option ℕ → State → LogicalLine → Reached → Type 0 where
+    misnamed : {depth row : ℕ} {behind : Option ℕ} {s : State} {line : LogicalLine} {after : Option ℕ} {f : Fault}
         → Asks s line.tokens after (Err f)
-        → Includes around depth row s line (stopped (with_left s after) f)
-    missing : {depth row : ℕ} {s : State} {line : LogicalLine} {after : Option ℕ} (a : Asked)
+        → Includes around depth row behind s line (stopped (with_left s after) f)
+    missing : {depth row : ℕ} {behind : Option ℕ} {s : State} {line : LogicalLine} {after : Option ℕ} (a : Asked)
         → Asks s line.tokens after (Ok a)
-        → Finds around row a None
-        → Includes around depth row s line (stopped (with_left s after) (line_fault 31 line.tokens a.name))
-    included : {depth row : ℕ} {s : State} {line : LogicalLine} {after : Option ℕ} (a : Asked) (found : ℕ) {m : Reached}
+        → Finds around row behind a None
+        → Includes around depth row behind s line (stopped (with_left s after) (line_fault 31 line.tokens a.name))
+    included : {depth row : ℕ} {behind : Option ℕ} {s : State} {line : LogicalLine} {after : Option ℕ} (a : Asked) (found : ℕ × ℕ) {m : Reached}
         → Asks s line.tokens after (Ok a)
-        → Finds around row a (Some found)
-        → Opened around (suc depth) (sign_place line.tokens) (with_left s after) found m
-        → Includes around depth row s line m
+        → Finds around row behind a (Some found)
+        → Opened around (suc depth) (sign_place line.tokens) (with_left s after) found.0 (Some found.1) m
+        → Includes around depth row behind s line m
 
-  -- The file of a row is opened, for the line at this place, where something is left for that. One that is read once and was read changes nothing but
-  -- the dependencies and what is left.
-  pub data Opened (around : Surroundings) : ℕ → Place → State → ℕ → Reached → Type 0 where
-    too_deep : {depth row : ℕ} {at : Place} {s : State}
+  -- The file of a row is opened, for the line at this place, where something is left for that; the number is that of the folder in which it was found,
+  -- and the unit's own file has none. One that is read once and was read changes nothing but the dependencies and what is left.
+  pub data Opened (around : Surroundings) : ℕ → Place → State → ℕ → Option ℕ → Reached → Type 0 where
+    too_deep : {depth row : ℕ} {folder : Option ℕ} {at : Place} {s : State}
         → deepest < depth
-        → Opened around depth at s row (stopped s (fault 32 at (name_in around.names row)))
-    over : {depth row : ℕ} {at : Place} {s : State}
+        → Opened around depth at s row folder (stopped s (fault 32 at (name_in around.names row)))
+    over : {depth row : ℕ} {folder : Option ℕ} {at : Place} {s : State}
         → depth ≤ deepest
         → is_spent s.left ≡ true
-        → Opened around depth at s row (stopped s (fault 35 at []))
-    known : {depth row : ℕ} {at : Place} {s : State}
+        → Opened around depth at s row folder (stopped s (fault 35 at []))
+    known : {depth row : ℕ} {folder : Option ℕ} {at : Place} {s : State}
         → depth ≤ deepest
         → is_spent s.left ≡ false
         → is_among row s.once ≡ true
-        → Opened around depth at s row (going (depending (paying s) row))
-    not_readable : {depth row : ℕ} {at : Place} {s : State}
+        → Opened around depth at s row folder (going (depending (paying s) row))
+    not_readable : {depth row : ℕ} {folder : Option ℕ} {at : Place} {s : State}
         → depth ≤ deepest
         → is_spent s.left ≡ false
         → is_among row s.once ≡ false
         → file_at around.files row ≡ Some unreadable
-        → Opened around depth at s row (stopped (depending (paying s) row) (fault 6 at (name_in around.names row)))
-    faulty : {depth row : ℕ} {at : Place} {s : State} {bytes : List ℕ} {f : Fault}
+        → Opened around depth at s row folder (stopped (depending (paying s) row) (fault 6 at (name_in around.names row)))
+    faulty : {depth row : ℕ} {folder : Option ℕ} {at : Place} {s : State} {bytes : List ℕ} {f : Fault}
         → depth ≤ deepest
         → is_spent s.left ≡ false
         → is_among row s.once ≡ false
         → file_at around.files row ≡ Some (readable bytes)
         → Reads around.profile row bytes (Err f)
-        → Opened around depth at s row (stopped (depending (paying s) row) f)
-    read : {depth row : ℕ} {at : Place} {s : State} {bytes : List ℕ} {lines : List LogicalLine} {parts : Parts} {m : Reached}
+        → Opened around depth at s row folder (stopped (depending (paying s) row) f)
+    read : {depth row : ℕ} {folder : Option ℕ} {at : Place} {s : State} {bytes : List ℕ} {lines : List LogicalLine} {parts : Parts} {m : Reached}
         → depth ≤ deepest
         → is_spent s.left ≡ false
         → is_among row s.once ≡ false
         → file_at around.files row ≡ Some (readable bytes)
         → Reads around.profile row bytes (Ok lines)
         → Tree lines parts
-        → Group around depth row (going (entering around (paying s) row)) parts m
-        → Opened around depth at s row (leaving s m)
+        → Group around depth row (going (entering around (paying s) row folder)) parts m
+        → Opened around depth at s row folder (leaving s m)

@@ -1,5 +1,5 @@
 -- Leaving a guarded file out (6.10.1).
-use Rattle.std.specs.Prelude.{◌≡◌, ℕ, ◌≤◌, List, true, false, Some, Ok}
+use Rattle.std.specs.Prelude.{◌≡◌, ℕ, ◌≤◌, List, true, false, Option, Some, Ok}
 use Rattle.pptext.specs.declared.tokens.Place.{Place}
 use Rattle.pptext.specs.Lines.{LogicalLine}
 use Rattle.pptext.specs.Sources.{Reads}
@@ -16,19 +16,20 @@ use Rattle.ppunit.specs.Counts.{count_opened}
 -- a file whose guard is a macro's name changes nothing but the dependencies and what is left of the budget, where something is left
 abbrev pub GuardsLeaveOut : Type 0
 GuardsLeaveOut =
-    (around : Surroundings) (depth row : ℕ) (at : Place) (s : State) (bytes : List ℕ) (lines : List LogicalLine) (x : List ℕ)
+    (around : Surroundings) (depth row : ℕ) (folder : Option ℕ) (at : Place) (s : State) (bytes : List ℕ) (lines : List LogicalLine) (x : List ℕ)
     → depth ≤ deepest
     → file_at around.files row ≡ Some (readable bytes)
     → Reads around.profile row bytes (Ok lines)
     → GuardedBy lines x
     → is_macro_name s.macros x ≡ true
     → is_spent s.left ≡ false
-    → (d : Opened around depth at s row (going (depending (paying s) row))) × (count_opened d ≡ 1)
+    → (d : Opened around depth at s row folder (going (depending (paying s) row))) × (count_opened d ≡ 1)
 
 -- and, with names of which none stands twice, it leads nowhere else
 abbrev pub GuardsOnlyLeaveOut : Type 0
 GuardsOnlyLeaveOut =
-    (around : Surroundings) (depth row : ℕ) (at : Place) (s : State) (bytes : List ℕ) (lines : List LogicalLine) (x : List ℕ) (end : Reached)
+    (around : Surroundings) (depth row : ℕ) (folder : Option ℕ) (at : Place) (s : State) (bytes : List ℕ) (lines : List LogicalLine) (x : List ℕ)
+    (end : Reached)
     → AreNames around.names
     → depth ≤ deepest
     → file_at around.files row ≡ Some (readable bytes)
@@ -36,7 +37,7 @@ GuardsOnlyLeaveOut =
     → GuardedBy lines x
     → is_macro_name s.macros x ≡ true
     → is_spent s.left ≡ false
-    → Opened around depth at s row end
+    → Opened around depth at s row folder end
     → end ≡ going (depending (paying s) row)
 
 -- the lines are one section under a guard that is a macro's name

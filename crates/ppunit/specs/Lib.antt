@@ -4,6 +4,7 @@ pub mod Lines
 pub mod Quotes
 pub mod LineControl
 pub mod Including
+pub mod Probing
 pub mod Conditions
 pub mod Directives
 pub mod Replacing

@@ -4,12 +4,12 @@ use Rattle.pptext.specs.declared.tokens.Place.{Place}
 use Rattle.pptext.specs.declared.tokens.Fault.{Fault}
 use Rattle.pptext.specs.Lines.{LogicalLine}
 use Rattle.pptext.specs.Tokens.{fault}
-use Rattle.ppexpand.specs.declared.env.Env.{Env}
 use Rattle.ppexpand.specs.Budget.{is_spent}
 use Rattle.ppshelf.specs.Content.{Content, unreadable, IsRead}
 use Rattle.ppshelf.specs.Files.{Files, Stock, file_at}
 use Rattle.ppshelf.specs.Names.{name_in}
-use Rattle.ppunit.specs.States.{State, paying, literal}
+use Rattle.ppunit.specs.declared.states.Context.{Context}
+use Rattle.ppunit.specs.States.{State, context, paying, literal}
 use Rattle.ppunit.specs.Group.{deepest}
 use Rattle.ppunit.specs.Guarded.{IsLeftOut}
 
@@ -19,10 +19,10 @@ pub record OpenFile : Type 0 where
   pub lines : List LogicalLine
   pub index : ℕ
 
--- a file that was just opened, and what the predefined names stand for behind it
+-- a file that was just opened, and what belongs to the file that goes on behind it
 pub record Entered : Type 0 where
   pub file : OpenFile
-  pub outer : Env
+  pub outer : Context
 
 -- why a file of this name is not opened: it is too deep, or else nothing is left
 abbrev pub IsUnpaid : ℕ → Place → List ℕ → State → Fault → Type 0
@@ -44,9 +44,10 @@ HasFault shelf files row at f =
     ((file_at files row ≡ Some unreadable) × (f ≡ fault 6 at (name_in shelf.names row)))
     ⊎ ((content : Content) × (file_at files row ≡ Some content) × IsRead shelf.profile row content (Err f))
 
--- A file of this name and these lines is left out, which changes nothing; or its first line comes next, and the predefined names stand for its own.
-abbrev pub Begins : List ℕ → ℕ → List LogicalLine → State → State → Option Entered → Type 0
-Begins name row lines s t None = IsLeftOut s lines × (t ≡ s)
-Begins name row lines s t (Some e) =
-    (e ≡ record { file = record { row = row; lines = lines; index = 0 }; outer = s.env }) × (length lines < 2 ^ 64)
-    × (t ≡ record s { env = record s.env { name = literal name; shift = pos 0 } })
+-- A file of this name and these lines is left out, which changes nothing; or its first line comes next, and the predefined names stand for its own,
+-- with the number of the folder in which it was found.
+abbrev pub Begins : List ℕ → ℕ → Option ℕ → List LogicalLine → State → State → Option Entered → Type 0
+Begins name row folder lines s t None = IsLeftOut s lines × (t ≡ s)
+Begins name row folder lines s t (Some e) =
+    (e ≡ record { file = record { row = row; lines = lines; index = 0 }; outer = context s }) × (length lines < 2 ^ 64)
+    × (t ≡ record s { env = record s.env { name = literal name; shift = pos 0 }; folder = folder })

@@ -9,6 +9,7 @@ use Rattle.ppexpand.specs.Budget.{less_one}
 use Rattle.ppshelf.specs.Files.{Files, Stock}
 use Rattle.ppshelf.specs.Names.{name_in}
 use Rattle.ppunit.specs.Dependencies.{among}
+use Rattle.ppunit.specs.declared.states.Context.{Context}
 use Rattle.ppunit.specs.declared.units.Item.{Item}
 use Rattle.ppunit.specs.declared.units.UnitOut.{UnitOut}
 
@@ -26,6 +27,32 @@ pub record Surroundings : Type 0 where
   pub files : Files
   pub unit_folders : List (List ℕ)
   pub setting_folders : List (List ℕ)
+
+-- what a search for files goes by: all of it but what is known of the files
+pub record Search : Type 0 where
+  pub names : List (List ℕ)
+  pub profile : Profile
+  pub unit_folders : List (List ℕ)
+  pub setting_folders : List (List ℕ)
+
+abbrev pub search_of : Surroundings → Search
+search_of around =
+    record {
+      names = around.names;
+      profile = around.profile;
+      unit_folders = around.unit_folders;
+      setting_folders = around.setting_folders;
+    }
+
+-- the same, of a library
+abbrev pub search_in : Library → Search
+search_in library =
+    record {
+      names = library.shelf.names;
+      profile = library.shelf.profile;
+      unit_folders = library.unit_folders;
+      setting_folders = library.setting_folders;
+    }
 
 -- these files of a library
 abbrev pub surroundings_of : Library → Files → Surroundings
@@ -51,6 +78,16 @@ pub record State : Type 0 where
   pub left : Option ℕ
   -- what the predefined names stand for
   pub env : Env
+  -- the number of the folder in which the file that is worked off was found; none of the unit's own
+  pub folder : Option ℕ
+
+-- what belongs to the file that is worked off
+abbrev pub context : State → Context
+context s = record { env = s.env; folder = s.folder }
+
+-- and this in its place
+abbrev pub in_context : Context → State → State
+in_context c s = record s { env = c.env; folder = c.folder }
 
 -- a unit goes on, or has stopped at its first fault
 pub record Reached : Type 0 where
@@ -90,10 +127,11 @@ given r = record { items = r.state.items; deps = r.state.deps; fault = r.fault }
 abbrev pub literal : List ℕ → List ℕ
 literal name = 34 ∷ (escaped name ++ 34 ∷ [])
 
--- a file begins under its own name and numbers
-abbrev pub entering : Surroundings → State → ℕ → State
-entering around s row = record (depending s row) { env = record s.env { name = literal (name_in around.names row); shift = pos 0 } }
+-- a file begins under its own name and numbers, and with the number of the folder in which it was found
+abbrev pub entering : Surroundings → State → ℕ → Option ℕ → State
+entering around s row folder =
+    record (depending s row) { env = record s.env { name = literal (name_in around.names row); shift = pos 0 }; folder = folder }
 
 -- behind it those of the including file come back
 abbrev pub leaving : State → Reached → Reached
-leaving s m = record m { state = record m.state { env = s.env } }
+leaving s m = record m { state = in_context (context s) m.state }

@@ -1,5 +1,5 @@
 -- The value of a unit: phases 1 to 4 of its definitions and its file.
-use Rattle.std.specs.Prelude.{◌≡◌, ℕ, ◌+◌, ◌<◌, pos, List, [], Ok, Err}
+use Rattle.std.specs.Prelude.{◌≡◌, ℕ, ◌+◌, ◌<◌, pos, List, [], None, Ok, Err}
 use Rattle.pptext.specs.declared.tokens.Place.{Place}
 use Rattle.pptext.specs.declared.tokens.Fault.{Fault}
 use Rattle.pptext.specs.declared.sources.Profile.{Profile}
@@ -27,6 +27,7 @@ beginning setting =
       left = setting.budget;
       env = record
           { name = []; shift = pos 0; date = setting.date; time = setting.time };
+      folder = None;
     }
 
 -- the file's first byte
@@ -51,7 +52,7 @@ pub data Translates (around : Surroundings) (defines : List (List ℕ)) (row : �
       → Translates around defines row s (stopped t f)
   translated : {s t : State} {m : Reached}
       → Defines around defines s (going t)
-      → Opened around 0 (first_place row) t row m
+      → Opened around 0 (first_place row) t row None m
       → Translates around defines row s m
 
 abbrev pub surroundings : List (List ℕ) → Files → Setting → UnitOfList → Surroundings

@@ -7,9 +7,9 @@ use Rattle.pptext.specs.declared.sources.Directive.{Directive}
 use Rattle.pptext.specs.Lines.{LogicalLine}
 use Rattle.pptext.specs.Sources.{next_branch}
 use Rattle.pptext.specs.Tree.{Parts, Branches, part_lines, branch_lines, AreParts, AreBranches, Tree, role, branch_behind, has_condition}
-use Rattle.ppexpand.specs.declared.env.Env.{Env}
 use Rattle.ppshelf.specs.Files.{Files, Extends}
-use Rattle.ppunit.specs.States.{State, Surroundings, Reached, going, stopped}
+use Rattle.ppunit.specs.declared.states.Context.{Context}
+use Rattle.ppunit.specs.States.{Search, State, in_context, Surroundings, search_of, Reached, going, stopped}
 use Rattle.ppunit.specs.Conditions.{DecidesFreely, Decides}
 use Rattle.ppunit.specs.Group.{deepest, Group, Branched, Controls}
 use Rattle.ppunit.specs.Opening.{OpenFile, Entered}
@@ -63,12 +63,12 @@ Advances around files depth row lines index s t (Err f) =
     → Extends more files
     → Ends (around more) depth row (going s) ps k (stopped t f)
 
--- what the predefined names stood for comes back
-abbrev pub back : Env → Reached → Reached
-back env m = record m { state = record m.state { env = env } }
+-- what belongs to the file that goes on comes back
+abbrev pub back : Context → Reached → Reached
+back outer m = record m { state = in_context outer m.state }
 
--- A file was entered and its first line comes next: what its lines reach from this state on leads, with the names brought back, to what was to be
--- reached.
+-- A file was entered and its first line comes next: what its lines reach from this state on leads, with what belongs to the file around brought back,
+-- to what was to be reached.
 pub record EntersFile (around : Files → Surroundings) (files : Files) (depth : ℕ) (whole : Files → Reached → Type 0) (t : State) (e : Entered)
     : Type 0 where
   pub fits : depth ≤ deepest
@@ -115,10 +115,10 @@ abbrev pub Steps : (Files → Surroundings) → Files → ℕ → ℕ → List L
 Steps around files depth row lines index s t (Ok (next, entered)) = StepsTo around files depth row lines index s t next entered
 Steps around files depth row lines index s t (Err f) = Advances around files depth row lines index s t (Err f)
 
--- a file that waits for one that it includes, and what the predefined names stand for in it
+-- a file that waits for one that it includes, and what belongs to it
 pub record Waiting : Type 0 where
   pub file : OpenFile
-  pub env : Env
+  pub context : Context
 
 -- the file whose lines come next: the one that was entered, for which this one waits, or else this one
 abbrev pub next_file : OpenFile → Option Entered → OpenFile
@@ -127,12 +127,12 @@ next_file file (Some e) = e.file
 
 abbrev pub next_waiting : OpenFile → Option Entered → List Waiting → List Waiting
 next_waiting file None ws = ws
-next_waiting file (Some e) ws = record { file = file; env = e.outer } ∷ ws
+next_waiting file (Some e) ws = record { file = file; context = e.outer } ∷ ws
 
--- what the predefined names stood for comes back, file by file
+-- what belongs to the files that wait comes back, file by file
 abbrev pub brought_back : List Waiting → State → State
 brought_back [] s = s
-brought_back (w ∷ ws) s = brought_back ws (record s { env = w.env })
+brought_back (w ∷ ws) s = brought_back ws (in_context w.context s)
 
 -- phase 4 of a file's lines, over these files and any more
 abbrev pub Walks : (Files → Surroundings) → Files → ℕ → ℕ → List LogicalLine → State → Reached → Type 0
@@ -151,27 +151,33 @@ pub record BranchesAt (lines : List LogicalLine) (index : ℕ) (ps : Parts) (bs 
   pub parts : AreParts ps
   pub outer : AreOuter ((bs, qs) ∷ k)
 
--- whether the work goes on behind a branch line or `#endif`, or the line's fault, and what is left of the budget; where the line has a condition,
--- that decides
-abbrev pub EntersIf : Bool → State → LogicalLine → Option ℕ → Result Bool Fault → Type 0
-EntersIf true s line after taken = Decides s line after taken
-EntersIf false s line after taken = DecidesFreely s (Ok true) after taken
+-- whether the work goes on behind a branch line or `#endif` of the file of a row, or the line's fault, and what is left of the budget; where the
+-- line has a condition, that decides
+abbrev pub EntersIf : Search → ℕ → Bool → State → LogicalLine → Option ℕ → Result Bool Fault → Type 0
+EntersIf search row true s line after taken = Decides search row s line after taken
+EntersIf search row false s line after taken = DecidesFreely s (Ok true) after taken
 
-abbrev pub EntersBy : Option Directive → State → LogicalLine → Option ℕ → Result Bool Fault → Type 0
-EntersBy None s line after taken = EntersIf false s line after taken
-EntersBy (Some d) s line after taken = EntersIf (has_condition d) s line after taken
+abbrev pub EntersBy : Search → ℕ → Option Directive → State → LogicalLine → Option ℕ → Result Bool Fault → Type 0
+EntersBy search row None s line after taken = EntersIf search row false s line after taken
+EntersBy search row (Some d) s line after taken = EntersIf search row (has_condition d) s line after taken
 
-abbrev pub Enters : State → LogicalLine → Option ℕ → Result Bool Fault → Type 0
-Enters s line after taken = EntersBy line.directive s line after taken
+abbrev pub Enters : Search → ℕ → State → LogicalLine → Option ℕ → Result Bool Fault → Type 0
+Enters search row s line after taken = EntersBy search row line.directive s line after taken
 
 -- the line that the work goes on with, behind a group that is not taken, and the state then
-abbrev pub FindsBranch : List LogicalLine → State → State → Branches → Parts → Outer → Result ℕ Fault → Type 0
-FindsBranch lines s t bs qs k (Ok next) =
+abbrev pub FindsBranch : Search → ℕ → List LogicalLine → State → State → Branches → Parts → Outer → Result ℕ Fault → Type 0
+FindsBranch search row lines s t bs qs k (Ok next) =
     (ps : Parts) × (k' : Outer) × StandsAt lines next ps k'
-    × ((around : Surroundings) (depth row : ℕ) (end : Reached)
+    × ((around : Surroundings)
+    → search_of around ≡ search
+    → (depth : ℕ) (end : Reached)
     → Ends around depth row (going t) ps k' end
     → (m : Reached) × Branched around depth row s bs m × Ends around depth row m qs k end)
-FindsBranch lines s t bs qs k (Err f) = (around : Surroundings) (depth row : ℕ) → Branched around depth row s bs (stopped t f)
+FindsBranch search row lines s t bs qs k (Err f) =
+    (around : Surroundings)
+    → search_of around ≡ search
+    → (depth : ℕ)
+    → Branched around depth row s bs (stopped t f)
 
 abbrev pub IsTextLine : LogicalLine → Type 0
 IsTextLine line = line.directive ≡ None

@@ -1,0 +1,70 @@
+-- `__has_include` in the operands of `#if` and `#elif` (gcc's manual, "__has_include"): a step before the condition.
+use Rattle.std.specs.Prelude.{ℕ, Bool, false, ◌&&◌, List, [], ◌∷◌, ◌++◌, drop, codes, if◌then◌else◌, Option, None, Some, Result, Ok, Err}
+use Rattle.std.specs.List.{list_any}
+use Rattle.std.specs.Str.{bytes_eq}
+use Rattle.pptext.specs.declared.tokens.Token.{Token}
+use Rattle.pptext.specs.declared.tokens.Fault.{Fault}
+use Rattle.pptext.specs.declared.tokens.Kind.TheVariants.{Number}
+use Rattle.pptext.specs.Profiles.{is_gnu}
+use Rattle.pptext.specs.Tokens.{is_name, is_punct}
+use Rattle.ppshelf.specs.Names.{name_in}
+use Rattle.ppshelf.specs.Search.{Candidate, candidates}
+use Rattle.ppunit.specs.States.{Search}
+use Rattle.ppunit.specs.Lines.{operands, line_fault}
+use Rattle.ppunit.specs.Including.{Asked, expanded_asked, if_somewhere}
+
+abbrev pub is_has_include : Token → Bool
+is_has_include t = is_name (codes "__has_include") t
+
+-- a `(` comes first
+abbrev pub opens : List Token → Bool
+opens [] = false
+opens (t ∷ ts) = is_punct (codes "(") t
+
+-- one of the candidates is among the names
+abbrev pub is_found : List (List ℕ) → List Candidate → Bool
+is_found names candidates = list_any (λ c. list_any (bytes_eq c.name) names) candidates
+
+-- whether an `#include` of this form and name in the file of this row finds one; nothing is opened
+abbrev pub has_file : Search → ℕ → Asked → Bool
+has_file search row a = is_found search.names (candidates a.form (name_in search.names row) search.unit_folders search.setting_folders a.name)
+
+-- the number in the place of `__has_include` and its parentheses
+abbrev pub number_for : Token → Bool → Token
+number_for name found = record name { kind = Number; text = if found then codes "1" else codes "0" }
+
+-- none where no file is asked for
+abbrev pub told : Search → ℕ → Token → Option Asked → Option Token
+told search row name None = None
+told search row name (Some a) = Some (number_for name (has_file search row a))
+
+-- a token before others, where there are both
+abbrev pub before : Option Token → Option (List Token) → Option (List Token)
+before None ts = None
+before (Some t) None = None
+before (Some t) (Some ts) = Some (t ∷ ts)
+
+-- an `__has_include` without its `)`, and what stands behind it so far, with the `(`
+pub record Begun : Type 0 where
+  pub name : Token
+  pub behind : List Token
+
+-- the tokens with a number for each `__has_include` that a `(` follows, up to the first `)`; none where one has no `)` or asks for no file
+abbrev pub probed : Search → ℕ → Option Begun → List Token → Option (List Token)
+probed search row None [] = Some []
+probed search row (Some b) [] = None
+probed search row None (t ∷ ts) =
+    if opens ts && is_has_include t then probed search row (Some (record { name = t; behind = [] })) ts
+    else before (Some t) (probed search row None ts)
+probed search row (Some b) (t ∷ ts) =
+    if is_punct (codes ")") t then before (told search row b.name (if_somewhere (expanded_asked (drop 1 b.behind)))) (probed search row None ts)
+    else probed search row (Some (record { name = b.name; behind = b.behind ++ t ∷ [] })) ts
+
+abbrev pub tokens_or : Fault → Option (List Token) → Result (List Token) Fault
+tokens_or f None = Err f
+tokens_or f (Some ts) = Ok ts
+
+-- the tokens of a line's condition, or fault 30
+abbrev pub condition_tokens : Search → ℕ → List Token → Result (List Token) Fault
+condition_tokens search row line =
+    if is_gnu search.profile then tokens_or (line_fault 30 line []) (probed search row None (operands line)) else Ok (operands line)
