@@ -31,7 +31,7 @@ pub record State (profile : Profile) (chars : List Char) (at start : ℕ) (space
   pub started : start ≤ length ts
   pub few : length ls ≤ at
   pub pieces : List Piece
-  pub cut : CutUpTo chars pieces (drop at chars)
+  pub cut : CutUpTo profile chars pieces (drop at chars)
   pub lines : List LogicalLine
   pub tokens : tokens_of lines ≡ take start ts
   pub spans : ls ≡ drafts 0 lines
@@ -39,7 +39,7 @@ pub record State (profile : Profile) (chars : List Char) (at start : ℕ) (space
   pub line : line_after [] pieces ≡ spelled (drop start ts)
 
 pub state_start : (profile : Profile) (chars : List Char) → State profile chars 0 0 true [] []
-state_start profile chars = record { within = omega arith; started = omega arith; few = omega arith; pieces = []; cut = no_piece chars; lines = []; tokens = refl; spans = refl; sofar = lines_start profile; line = refl }
+state_start profile chars = record { within = omega arith; started = omega arith; few = omega arith; pieces = []; cut = no_piece profile chars; lines = []; tokens = refl; spans = refl; sofar = lines_start profile; line = refl }
 
 abbrev pub piece_at : List Char → ℕ → ℕ → Sort → Piece
 piece_at chars at n s = record { sort = s; chars = take n (drop at chars) }
@@ -47,7 +47,7 @@ piece_at chars at n s = record { sort = s; chars = take n (drop at chars) }
 -- one more piece of any sort
 pub record Grown (profile : Profile) (chars : List Char) (at n : ℕ) (s : Sort) (space : Bool) (done : List LogicalLine) (open_tokens : List Token) (pieces : List Piece) : Type 0 where
   pub room : at + n ≤ length chars
-  pub cut : CutUpTo chars (pieces ++ piece_at chars at n s ∷ []) (drop (at + n) chars)
+  pub cut : CutUpTo profile chars (pieces ++ piece_at chars at n s ∷ []) (drop (at + n) chars)
   pub sofar : LinesSoFar profile (pieces ++ piece_at chars at n s ∷ []) (done ++ lines_ended profile open_tokens (take n (drop at chars)) s) (leaves_space s) (tokens_after space open_tokens (take n (drop at chars)) s)
   pub line : line_after [] (pieces ++ piece_at chars at n s ∷ []) ≡ with_piece (spelled open_tokens) (piece_at chars at n s) s
 
@@ -73,7 +73,7 @@ codes_length chars = length-map chars (λ (c : Char). c.code)
 module _ (profile : Profile) (chars : List Char) where
   pub grown : (at start n : ℕ) (space : Bool) (ts : List Token) (ls : List Line) (s : Sort) (st : State profile chars at start space ts ls)
       → n ≤ length (drop at (codes_of chars))
-      → StandsAt (spelled (drop start ts)) (drop at (codes_of chars)) n s
+      → StandsAt profile (spelled (drop start ts)) (drop at (codes_of chars)) n s
       → Grown profile chars at n s space st.lines (drop start ts) st.pieces
   grown at start n space ts ls s st fits here =
       let p = piece_at chars at n s in
@@ -82,10 +82,10 @@ module _ (profile : Profile) (chars : List Char) where
       let dd : length (drop at chars) ≡ length chars - at = length-drop at chars in
       let split : take n (drop at chars) ++ drop (at + n) chars ≡ drop at chars = ap (λ z. take n (drop at chars) ++ z) (sym (drop-drop n at chars)) ∙ take-append-drop n (drop at chars) in
       let len : length (take n (drop at chars)) ≡ n = length-take-le n (drop at chars) (omega (arith, st.within)) in
-      let standing : StandsAt (line_after [] st.pieces) (codes_of (take n (drop at chars) ++ drop (at + n) chars)) (length (take n (drop at chars))) s = rw (split, codes_from chars at, len, st.line) here in
+      let standing : StandsAt profile (line_after [] st.pieces) (codes_of (take n (drop at chars) ++ drop (at + n) chars)) (length (take n (drop at chars))) s = rw (split, codes_from chars at, len, st.line) here in
       record {
         room = omega (arith, st.within);
-        cut = cut_more chars st.pieces p (drop (at + n) chars) (subst (CutUpTo chars st.pieces) (sym split) st.cut) standing;
+        cut = cut_more profile chars st.pieces p (drop (at + n) chars) (subst (CutUpTo profile chars st.pieces) (sym split) st.cut) standing;
         sofar = lines_more profile st.pieces st.lines space (drop start ts) p st.sofar;
         line = line_after-append [] st.pieces p ∙ ap (λ z. with_piece z p s) st.line;
       }
@@ -135,7 +135,7 @@ module _ (profile : Profile) (chars : List Char) where
   pub skip_comment : (at start n : ℕ) (space : Bool) (ts : List Token) (ls : List Line)
       → State profile chars at start space ts ls
       → n ≤ length (drop at (codes_of chars))
-      → StandsAt (spelled (drop start ts)) (drop at (codes_of chars)) n Comment
+      → StandsAt profile (spelled (drop start ts)) (drop at (codes_of chars)) n Comment
       → State profile chars (at + n) start true ts ls
   skip_comment at start n space ts ls st fits here =
       let g = grown at start n space ts ls Comment st fits here in
@@ -159,7 +159,7 @@ module _ (profile : Profile) (chars : List Char) where
       → stop ≡ length ts
       → number ≡ (head_place (take 1 (drop at chars))).line
       → 1 ≤ length (drop at (codes_of chars))
-      → StandsAt (spelled (drop start ts)) (drop at (codes_of chars)) 1 NewLine
+      → StandsAt profile (spelled (drop start ts)) (drop at (codes_of chars)) 1 NewLine
       → State profile chars (at + 1) stop true ts (ls ++ draft start (line_of profile (drop start ts) number) ∷ [])
   end_line at start stop space ts ls number st stop_is number_is fits here =
       let g = grown at start 1 space ts ls NewLine st fits here in
@@ -185,7 +185,7 @@ module _ (profile : Profile) (chars : List Char) where
       → State profile chars at start space ts ls
       → t ≡ token_of k space (take n (drop at chars))
       → n ≤ length (drop at (codes_of chars))
-      → StandsAt (spelled (drop start ts)) (drop at (codes_of chars)) n (Spelled k)
+      → StandsAt profile (spelled (drop start ts)) (drop at (codes_of chars)) n (Spelled k)
       → State profile chars (at + n) start false (ts ++ t ∷ []) ls
   add_token at start n space ts ls k t st is fits here =
       let g = grown at start n space ts ls (Spelled k) st fits here in
@@ -214,11 +214,11 @@ module _ (profile : Profile) (chars : List Char) where
       let none : drop at chars ≡ [] = drop_all at chars (omega arith) in
       let all = lines_all profile st.pieces st.lines space (drop start ts) st.sofar in
       let are = drafts_are (take start ts) ls st.lines st.tokens st.spans (profile, subst (AllByRecursion (IsDirected profile)) all (pieces_are_directed profile st.pieces)) in
-      (st.pieces, subst (CutUpTo chars st.pieces) none st.cut, all ∙ sym are.0, are.1, omega (arith, st.few, st.within))
+      (st.pieces, subst (CutUpTo profile chars st.pieces) none st.cut, all ∙ sym are.0, are.1, omega (arith, st.few, st.within))
 
   pub left_unclosed : (at start : ℕ) (space : Bool) (ts : List Token) (ls : List Line) (p : Place)
       → State profile chars at start space ts ls
       → p ≡ head_place (drop at chars)
       → OpensBlock (drop at (codes_of chars)) × ClosesAt (drop at (codes_of chars)) None
-      → Unclosed chars p
+      → Unclosed profile chars p
   left_unclosed at start space ts ls p st is open_block = record { pieces = st.pieces; rest = drop at chars; cut = st.cut; opens = rw (codes_from chars at) open_block.0; never = rw (codes_from chars at) open_block.1; here = is }

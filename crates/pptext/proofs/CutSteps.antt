@@ -21,26 +21,26 @@ laid_one : (p : Piece) (ps : List Piece) (rest : List Char) → laid (ps ++ p �
 laid_one p ps rest =
     ap (λ z. z ++ rest) (laid-append ps (p ∷ []) ∙ ap (λ z. laid ps ++ z) (append-nil p.chars)) ∙ append_assoc (laid ps) p.chars rest
 
-each_more : (line : List (List ℕ)) (ps : List Piece) (p : Piece) (rest : List Char)
-    → EachStands line ps (p.chars ++ rest)
-    → StandsAt (line_after line ps) (codes_of (p.chars ++ rest)) (length p.chars) p.sort
-    → EachStands line (ps ++ p ∷ []) rest
-each_more line [] p rest each here = (here, tt)
-each_more line (q ∷ qs) p rest each here =
-    (subst (λ z. StandsAt line (codes_of (q.chars ++ z)) (length q.chars) q.sort) (sym (laid_one p qs rest)) each.0, each_more (with_piece line q q.sort) qs p rest each.1 here)
+each_more : (profile : Profile) (line : List (List ℕ)) (ps : List Piece) (p : Piece) (rest : List Char)
+    → EachStands profile line ps (p.chars ++ rest)
+    → StandsAt profile (line_after line ps) (codes_of (p.chars ++ rest)) (length p.chars) p.sort
+    → EachStands profile line (ps ++ p ∷ []) rest
+each_more profile line [] p rest each here = (here, tt)
+each_more profile line (q ∷ qs) p rest each here =
+    (subst (λ z. StandsAt profile line (codes_of (q.chars ++ z)) (length q.chars) q.sort) (sym (laid_one p qs rest)) each.0, each_more profile (with_piece line q q.sort) qs p rest each.1 here)
 
 -- one more piece
-pub cut_more : (chars : List Char) (ps : List Piece) (p : Piece) (rest : List Char)
-    → CutUpTo chars ps (p.chars ++ rest)
-    → StandsAt (line_after [] ps) (codes_of (p.chars ++ rest)) (length p.chars) p.sort
-    → CutUpTo chars (ps ++ p ∷ []) rest
-cut_more chars ps p rest cut here = record {
+pub cut_more : (profile : Profile) (chars : List Char) (ps : List Piece) (p : Piece) (rest : List Char)
+    → CutUpTo profile chars ps (p.chars ++ rest)
+    → StandsAt profile (line_after [] ps) (codes_of (p.chars ++ rest)) (length p.chars) p.sort
+    → CutUpTo profile chars (ps ++ p ∷ []) rest
+cut_more profile chars ps p rest cut here = record {
   whole = laid_one p ps rest ∙ cut.whole;
-  each = each_more [] ps p rest cut.each here;
+  each = each_more profile [] ps p rest cut.each here;
 }
 
-pub no_piece : (chars : List Char) → CutUpTo chars [] chars
-no_piece chars = record { whole = refl; each = tt }
+pub no_piece : (profile : Profile) (chars : List Char) → CutUpTo profile chars [] chars
+no_piece profile chars = record { whole = refl; each = tt }
 
 pub line_after-append : (line : List (List ℕ)) (ps : List Piece) (p : Piece) → line_after line (ps ++ p ∷ []) ≡ with_piece (line_after line ps) p p.sort
 line_after-append line [] p = refl

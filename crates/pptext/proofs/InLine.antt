@@ -6,6 +6,7 @@ use Rattle.std.proofs.lemmas.Bool.{cases_lt}
 use Rattle.std.proofs.lemmas.Bool.Decides.{nat_tests}
 use Rattle.std.proofs.lemmas.List.{get_or-drop, get_or-take, length-take-le}
 use Rattle.std.proofs.lemmas.List.Sums.{AllPass-from_list_all}
+use Rattle.pptext.specs.declared.sources.Profile.{Profile}
 use Rattle.pptext.specs.declared.tokens.Kind.{Kind}
 use Rattle.pptext.specs.declared.tokens.Kind.TheVariants.{Ident, Number, CharConst, Str, Punct, Header, Other}
 use Rattle.pptext.specs.Languages.{Exactly, Then, Repeated}
@@ -90,9 +91,9 @@ spelling_along s Punct a = punct_along.at s a
 spelling_along s Header a = absurd a
 spelling_along s Other a = (one_passes visible_along).at s a.0
 
-token_along : (line : List (List ℕ)) (text : List ℕ) (n : ℕ) (k : Kind) → StandsAt line text n (Spelled k) → along (take n text) ≡ true
-token_along line text n k (inl h) = header_along.at (take n text) h.0.spelled
-token_along line text n k (inr t) = spelling_along (take n text) k t.spelled
+token_along : (profile : Profile) (line : List (List ℕ)) (text : List ℕ) (n : ℕ) (k : Kind) → StandsAt profile line text n (Spelled k) → along (take n text) ≡ true
+token_along profile line text n k (inl h) = header_along.at (take n text) h.0.spelled
+token_along profile line text n k (inr t) = spelling_along (take n text) k t.spelled
 
 not_newline : (c : ℕ) → within_line c ≡ true → c ≡ 10 → ⊥
 unfolding within_line
@@ -118,14 +119,14 @@ pub line_over_blanks : (codes : List ℕ) (line at n : ℕ)
     → InLine codes line (at + n)
 line_over_blanks codes line at n before blanks = line_on codes line at n before (λ i lt. blank_along (get_or (drop at codes) i 0) (blanks i lt))
 
-pub line_over_token : (codes : List ℕ) (line : List (List ℕ)) (from at n : ℕ) (k : Kind)
+pub line_over_token : (codes : List ℕ) (profile : Profile) (line : List (List ℕ)) (from at n : ℕ) (k : Kind)
     → InLine codes from at
     → n ≤ length (drop at codes)
-    → StandsAt line (drop at codes) n (Spelled k)
+    → StandsAt profile line (drop at codes) n (Spelled k)
     → InLine codes from (at + n)
-line_over_token codes line from at n k before fits here =
+line_over_token codes profile line from at n k before fits here =
     let text = drop at codes in
-    let all = token_along line text n k here in
+    let all = token_along profile line text n k here in
     let l = length-take-le n text fits in
     line_on codes from at n before
     (λ i lt. subst (λ z. within_line z ≡ true) (get_or-take n text i 0 lt) (AllPass-from_list_all within_line (take n text) all i 0 (omega arith)))

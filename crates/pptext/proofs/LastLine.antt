@@ -155,12 +155,12 @@ header_last s (inr a) e =
     let ten : ◌≡◌ {A = ℕ} 34 10 = sym (ap last_of b.is ∙ last-append (34 ∷ b.body) (34 ∷ []) (omega arith)) ∙ e in
     absurd (omega arith)
 
-ends_line : (line : List (List ℕ)) (text : List ℕ) (s : Sort) → StandsAt line text (length text) s → last_of text ≡ 10 → s ≡ NewLine
-ends_line line text NewLine a e = refl
-ends_line line text Blank a e = absurd (blank_last text a.0 a.1 a.2 a.3 e)
-ends_line line text Comment a e = absurd (comment_last text a e)
-ends_line line text (Spelled k) (inl (h, is)) e = absurd (header_last text (subst IsHeader (take_all (length text) text (omega arith)) h.spelled) e)
-ends_line line text (Spelled k) (inr p) e = absurd (spelling_last text k (subst (Spells k) (take_all (length text) text (omega arith)) p.spelled) e)
+ends_line : (profile : Profile) (line : List (List ℕ)) (text : List ℕ) (s : Sort) → StandsAt profile line text (length text) s → last_of text ≡ 10 → s ≡ NewLine
+ends_line profile line text NewLine a e = refl
+ends_line profile line text Blank a e = absurd (blank_last text a.0 a.1 a.2 a.3 e)
+ends_line profile line text Comment a e = absurd (comment_last text a e)
+ends_line profile line text (Spelled k) (inl (h, is)) e = absurd (header_last text (subst IsHeader (take_all (length text) text (omega arith)) h.spelled) e)
+ends_line profile line text (Spelled k) (inr p) e = absurd (spelling_last text k (subst (Spells k) (take_all (length text) text (omega arith)) p.spelled) e)
 
 -- the last_of piece is a new-line
 abbrev EndsLine : List Piece → Type 0
@@ -168,19 +168,19 @@ EndsLine [] = ⊥
 EndsLine (p ∷ []) = p.sort ≡ NewLine
 EndsLine (p ∷ q ∷ ps) = EndsLine (q ∷ ps)
 
-pieces_end : (line : List (List ℕ)) (ps : List Piece) → EachStands line ps [] → last_of (codes_of (laid ps)) ≡ 10 → EndsLine ps
-pieces_end line [] each e = absurd (omega arith)
-pieces_end line (p ∷ []) each e =
+pieces_end : (profile : Profile) (line : List (List ℕ)) (ps : List Piece) → EachStands profile line ps [] → last_of (codes_of (laid ps)) ≡ 10 → EndsLine ps
+pieces_end profile line [] each e = absurd (omega arith)
+pieces_end profile line (p ∷ []) each e =
     let l : length p.chars ≡ length (codes_of (p.chars ++ [])) = sym (length-map (p.chars ++ []) (λ (c : Char). c.code) ∙ ap length (append-nil p.chars)) in
-    ends_line line (codes_of (p.chars ++ [])) p.sort (subst (λ n. StandsAt line (codes_of (p.chars ++ [])) n p.sort) l each.0) e
-pieces_end line (p ∷ q ∷ ps) each e =
+    ends_line profile line (codes_of (p.chars ++ [])) p.sort (subst (λ n. StandsAt profile line (codes_of (p.chars ++ [])) n p.sort) l each.0) e
+pieces_end profile line (p ∷ q ∷ ps) each e =
     let behind : List Char = laid (q ∷ ps) in
-    let some = some_piece (with_piece line p p.sort) (codes_of (q.chars ++ (laid ps ++ []))) (length q.chars) q.sort each.1.0 in
+    let some = some_piece profile (with_piece line p p.sort) (codes_of (q.chars ++ (laid ps ++ []))) (length q.chars) q.sort each.1.0 in
     let l = length-append q.chars (laid ps) in
     let m = length-map (laid (q ∷ ps)) (λ (c : Char). c.code) in
     let split : last_of (codes_of (p.chars ++ laid (q ∷ ps))) ≡ last_of (codes_of (laid (q ∷ ps))) =
     ap last_of (map-append (λ (c : Char). c.code) p.chars (laid (q ∷ ps))) ∙ last-append (codes_of p.chars) (codes_of (laid (q ∷ ps))) (omega arith) in
-    pieces_end (with_piece line p p.sort) (q ∷ ps) each.1 (sym split ∙ e)
+    pieces_end profile (with_piece line p p.sort) (q ∷ ps) each.1 (sym split ∙ e)
 
 spelled-append : (a b : List Token) → spelled (a ++ b) ≡ spelled a ++ spelled b
 spelled-append [] b = refl
@@ -212,14 +212,14 @@ kept profile space ts (p ∷ q ∷ ps) e = kept_more profile space ts p.chars p.
 
 pub keeps_every_token : (profile : Profile) (file : ℕ) (bytes : List ℕ) (chars : List Char) (pieces : List Piece)
     → cleaned file bytes ≡ Ok chars
-    → Cut chars pieces
+    → Cut profile chars pieces
     → spelled (tokens_of (lines_of profile pieces)) ≡ spellings_of pieces
 keeps_every_token profile file bytes chars [] clean cut = refl
 keeps_every_token profile file bytes chars (p ∷ ps) clean cut = cases (cleaned_end file bytes chars clean)
   where
     some : 0 < length (laid (p ∷ ps))
     some =
-        let one = some_piece [] (codes_of (p.chars ++ (laid ps ++ []))) (length p.chars) p.sort cut.each.0 in
+        let one = some_piece profile [] (codes_of (p.chars ++ (laid ps ++ []))) (length p.chars) p.sort cut.each.0 in
         let l = length-append p.chars (laid ps) in
         omega arith
 
@@ -228,4 +228,4 @@ keeps_every_token profile file bytes chars (p ∷ ps) clean cut = cases (cleaned
 
     cases : Ended chars → spelled (tokens_of (lines_of profile (p ∷ ps))) ≡ spellings_of (p ∷ ps)
     cases (inl e) = let none = ap length (same ∙ e) in absurd (omega (arith, some))
-    cases (inr e) = kept profile true [] (p ∷ ps) (pieces_end [] (p ∷ ps) cut.each (ap (λ (z : List Char). last_of (codes_of z)) same ∙ e))
+    cases (inr e) = kept profile true [] (p ∷ ps) (pieces_end profile [] (p ∷ ps) cut.each (ap (λ (z : List Char). last_of (codes_of z)) same ∙ e))

@@ -4,21 +4,18 @@ use Rattle.std.specs.Prelude.{codes, Decides}
 use Rattle.std.proofs.lemmas.Bool.Decides.{Decides-or, not_from_Decides}
 use Rattle.std.proofs.lemmas.List.{take_all}
 use Rattle.pptext.specs.declared.tokens.Kind.{Kind}
+use Rattle.pptext.specs.declared.sources.Profile.TheVariants.{C11}
 use Rattle.pptext.specs.Spellings.{Spells}
 use Rattle.pptext.specs.Kinds.{lone_quote_test, comment_test, spelled_kind, kind_of}
-use Rattle.pptext.specs.Cut.{Sort, Piece, Spelled, OpensBlock, OpensLine, AwaitsHeader, PlainTokenAt}
+use Rattle.pptext.specs.Cut.{Sort, Piece, Spelled, OpensBlock, OpensLine, PlainTokenAt}
 use Rattle.pptext.specs.Sources.{IsOneToken, IsLoneQuote}
 use Rattle.pptext.specs.Lexing.{Lexes, IsLexer, HasOneLexer}
 use Rattle.pptext.proofs.OneCut.{one_cut}
 use Rattle.pptext.proofs.OneToken.{one_token_stands, stands_one_token}
 use Rattle.pptext.proofs.Decides.{HasKind, exactly, either, spelled_kind_is}
 
-no_header : AwaitsHeader [] → ⊥
-no_header (inl e) = cc
-no_header (inr e) = cc
-
-pub plain_token : (text : List ℕ) (k : Kind) → IsOneToken text k → PlainTokenAt [] text (length text) k
-plain_token text k one = elim (one_token_stands text k one) [ inl h ↦ absurd (no_header h.0.awaited) | inr p ↦ p ]
+pub plain_token : (text : List ℕ) (k : Kind) → IsOneToken text k → PlainTokenAt C11 [] text (length text) k
+plain_token text k one = elim (one_token_stands text k one) [ inl h ↦ absurd h.0.awaited | inr p ↦ p ]
 
 pub spelled_whole : (text : List ℕ) (k : Kind) → (¬ (OpensBlock text ⊎ OpensLine text)) → Spells k text → IsOneToken text k
 spelled_whole text k opens h =
@@ -26,7 +23,7 @@ spelled_whole text k opens h =
     stands_one_token text k
     (inr (record {
       no_comment = opens;
-      no_header = λ m h. no_header h.awaited;
+      no_header = λ m h. h.awaited;
       longest = record { fits = omega arith; front = (k, subst (Spells k) whole h); longest = λ m more fits q. absurd (omega arith) };
       spelled = subst (Spells k) whole h;
     }))
@@ -65,7 +62,7 @@ unfolding kind_in first_kind
 one_lexing text None None h g = refl
 one_lexing text None (Some l) h g = absurd (g.1 (h l g.0))
 one_lexing text (Some k) None h g = absurd (h.1 (g k h.0))
-one_lexing text (Some k) (Some l) h g = ap first_kind (one_cut _ _ _ h.0 g.0)
+one_lexing text (Some k) (Some l) h g = ap first_kind (one_cut C11 _ _ _ h.0 g.0)
 
 pub has_one_lexer : HasOneLexer
 has_one_lexer = ((kind_of, lexer_is), λ a b x y text. one_lexing text (a text) (b text) (x.each text) (y.each text))

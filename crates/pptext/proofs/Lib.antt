@@ -62,6 +62,8 @@ pub mod LoneQuotes
 pub mod Spans
 -- Steps that stop: a fault or want of memory goes up, and where a public call answers.
 pub mod Stopping
+-- Names of directives in two tables, one after the other.
+pub mod Named
 -- The directive of each line of a text is that of its tokens.
 pub mod Directed
 -- A role of the code is the one that the definitions mean.

@@ -2,6 +2,7 @@
 use Rattle.std.proofs.Common.{◌≡◌, ℕ, zero, suc, ◌<◌, ◌≤◌, Bool, true, false, not, ◌||◌, ◌==◌, List, [], ◌∷◌, length, take, refl, subst, inl, inr, ◌⊎◌, arith, get_or}
 use Rattle.std.proofs.lemmas.Bool.{false≢true, and_parts}
 use Rattle.std.proofs.lemmas.Bool.Decides.{nat_tests}
+use Rattle.pptext.specs.declared.sources.Profile.{Profile}
 use Rattle.pptext.specs.declared.tokens.Kind.{Kind}
 use Rattle.pptext.specs.declared.tokens.Kind.TheVariants.{Ident, Punct}
 use Rattle.pptext.specs.Languages.{Longest}
@@ -32,11 +33,11 @@ light-no_header c e f = grind (arith, nat_tests)
 no_comment : (text : List ℕ) → begins is_light text ≡ true → OpensBlock text ⊎ OpensLine text → ⊥
 no_comment text e o = begins_apart is_light (λ c. c == 47) light-no_slash text e (opening_begins (λ c. c == 47) refl text o)
 
-no_header : (line : List (List ℕ)) (text : List ℕ) → begins is_light text ≡ true → (m : ℕ) → HeaderAt line text m → ⊥
-no_header line text e m h = begins_apart is_light (λ c. c == 60 || c == 34) light-no_header text e (header_begins (λ c. c == 60 || c == 34) refl refl text m h.spelled)
+no_header : (profile : Profile) (line : List (List ℕ)) (text : List ℕ) → begins is_light text ≡ true → (m : ℕ) → HeaderAt profile line text m → ⊥
+no_header profile line text e m h = begins_apart is_light (λ c. c == 60 || c == 34) light-no_header text e (header_begins (λ c. c == 60 || c == 34) refl refl text m h.spelled)
 
-stands : (line : List (List ℕ)) (text : List ℕ) (n : ℕ) (k : Kind) → begins is_light text ≡ true → Longest IsSpelling text n → Spells k (take n text) → StandsAt line text n (Spelled k)
-stands line text n k e longest spelled = inr (record { no_comment = no_comment text e; no_header = no_header line text e; longest = longest; spelled = spelled })
+stands : (profile : Profile) (line : List (List ℕ)) (text : List ℕ) (n : ℕ) (k : Kind) → begins is_light text ≡ true → Longest IsSpelling text n → Spells k (take n text) → StandsAt profile line text n (Spelled k)
+stands profile line text n k e longest spelled = inr (record { no_comment = no_comment text e; no_header = no_header profile line text e; longest = longest; spelled = spelled })
 
 -- a punctuator that is alone in beginning so
 abbrev alone : List ℕ → Bool
@@ -74,13 +75,13 @@ one_front : (text : List ℕ) → 0 < length text → IsPunct (get_or text 0 0 �
 one_front [] some p = absurd (omega arith)
 one_front (c ∷ cs) some p = p
 
-pub closed_stands : (line : List (List ℕ)) (text : List ℕ) → 0 < length text → is_closed (get_or text 0 0) ≡ true → IsPunct (get_or text 0 0 ∷ []) → StandsAt line text 1 (Spelled Punct)
-closed_stands line text some e p =
+pub closed_stands : (profile : Profile) (line : List (List ℕ)) (text : List ℕ) → 0 < length text → is_closed (get_or text 0 0) ≡ true → IsPunct (get_or text 0 0 ∷ []) → StandsAt profile line text 1 (Spelled Punct)
+closed_stands profile line text some e p =
     let c : ℕ = get_or text 0 0 in
     let spelled : IsPunct (take 1 text) = one_front text some p in
     let literal = literal_lacks text (closed-no_literal c e) in
     let longest : Longest IsPunct text 1 = record { fits = omega arith; front = spelled; longest = λ m more fits q. closed_longest text m e more fits q } in
-    stands line text 1 Punct (head_begins is_light text some (closed-light c e))
+    stands profile line text 1 Punct (head_begins is_light text some (closed-light c e))
     (punct_longest text 1 (omega arith) longest literal.0 literal.1 (ident_lacks text (closed-no_ident c e)) (number_lacks text (closed-no_number c e))) spelled
 
 -- an identifier that begins with no prefix of a literal
@@ -88,16 +89,16 @@ nondigit-light : (c : ℕ) → is_nondigit c ≡ true → is_light c ≡ true
 unfolding is_light
 nondigit-light c e = grind (arith, nat_tests)
 
-pub word_stands : (line : List (List ℕ)) (text : List ℕ) (n : ℕ)
+pub word_stands : (profile : Profile) (line : List (List ℕ)) (text : List ℕ) (n : ℕ)
     → 0 < length text
     → is_nondigit (get_or text 0 0) ≡ true
     → (LiteralHead (get_or text 0 0) → ⊥)
     → 0 < n
     → Longest IsIdent text n
-    → StandsAt line text n (Spelled Ident)
-word_stands line text n some e literal positive longest =
+    → StandsAt profile line text n (Spelled Ident)
+word_stands profile line text n some e literal positive longest =
     let lacks = literal_lacks text literal in
-    stands line text n Ident (head_begins is_light text some (nondigit-light (get_or text 0 0) e)) (ident_longest text n positive longest lacks.0 lacks.1) longest.front
+    stands profile line text n Ident (head_begins is_light text some (nondigit-light (get_or text 0 0) e)) (ident_longest text n positive longest lacks.0 lacks.1) longest.front
 
 pub word_nondigit : (c : ℕ) → starts_word c ≡ true → is_nondigit c ≡ true
 word_nondigit c e = (and_parts (is_nondigit c) (not (c == 117 || (c == 85 || c == 76))) e).0

@@ -7,6 +7,7 @@ use Rattle.std.proofs.lemmas.Bool.{false≢true, and_parts, and_from, cases_lt}
 use Rattle.std.proofs.lemmas.Bool.Decides.{nat_tests}
 use Rattle.std.proofs.lemmas.List.{take-append-drop, length-take-le}
 use Rattle.memchr.specs.Find.{IsFirst, OccursAt, Passes, is_byte}
+use Rattle.pptext.specs.declared.sources.Profile.{Profile}
 use Rattle.pptext.specs.declared.tokens.Kind.{Kind}
 use Rattle.pptext.specs.declared.tokens.Kind.TheVariants.{Header}
 use Rattle.pptext.specs.Languages.{One, Repeated, Longest}
@@ -149,12 +150,12 @@ comment_opens text n (inr b) = inr b.0
 comment_visible : (text : List ℕ) (n : ℕ) → CommentAt text n → begins is_visible text ≡ true
 comment_visible text n a = opening_begins is_visible refl text (comment_opens text n a)
 
-abbrev TokenAt : List (List ℕ) → List ℕ → ℕ → Kind → Type 0
-TokenAt line text n k = (HeaderAt line text n × (k ≡ Header)) ⊎ PlainTokenAt line text n k
+abbrev TokenAt : Profile → List (List ℕ) → List ℕ → ℕ → Kind → Type 0
+TokenAt profile line text n k = (HeaderAt profile line text n × (k ≡ Header)) ⊎ PlainTokenAt profile line text n k
 
-token_visible : (line : List (List ℕ)) (text : List ℕ) (n : ℕ) (k : Kind) → TokenAt line text n k → begins is_visible text ≡ true
-token_visible line text n k (inl (h, e)) = header_begins is_visible refl refl text n h.spelled
-token_visible line text n k (inr p) = begins_front is_visible n text (spelling_visible (take n text) k p.spelled)
+token_visible : (profile : Profile) (line : List (List ℕ)) (text : List ℕ) (n : ℕ) (k : Kind) → TokenAt profile line text n k → begins is_visible text ≡ true
+token_visible profile line text n k (inl (h, e)) = header_begins is_visible refl refl text n h.spelled
+token_visible profile line text n k (inr p) = begins_front is_visible n text (spelling_visible (take n text) k p.spelled)
 
 abbrev is_newline : ℕ → Bool
 is_newline c = c == 10
@@ -175,41 +176,41 @@ blank_visible : (c : ℕ) → is_blank c ≡ true → is_visible c ≡ true → 
 blank_visible c e f = grind (arith, nat_tests)
 
 -- what opens a comment begins no token
-opening_no_token : (line : List (List ℕ)) (text : List ℕ) (n : ℕ) (k : Kind) → OpensBlock text ⊎ OpensLine text → TokenAt line text n k → ⊥
-opening_no_token line text n k a (inl (h, e)) =
+opening_no_token : (profile : Profile) (line : List (List ℕ)) (text : List ℕ) (n : ℕ) (k : Kind) → OpensBlock text ⊎ OpensLine text → TokenAt profile line text n k → ⊥
+opening_no_token profile line text n k a (inl (h, e)) =
     begins_apart (λ c. c == 47) (λ c. c == 60 || c == 34) slash text (opening_begins (λ c. c == 47) refl text a) (header_begins (λ c. c == 60 || c == 34) refl refl text n h.spelled)
   where
     slash : (c : ℕ) → (c == 47) ≡ true → (c == 60 || c == 34) ≡ true → ⊥
     slash c e f = grind (arith, nat_tests)
-opening_no_token line text n k a (inr p) = p.no_comment a
+opening_no_token profile line text n k a (inr p) = p.no_comment a
 
-one_token : (line : List (List ℕ)) (text : List ℕ) (m n : ℕ) (k l : Kind) → TokenAt line text m k → TokenAt line text n l → (m ≡ n) × (k ≡ l)
-one_token line text m n k l (inl (g, e)) (inl (h, f)) = (one_header text m n g.fits h.fits g.spelled h.spelled, e ∙ sym f)
-one_token line text m n k l (inl (g, e)) (inr p) = absurd (p.no_header m g)
-one_token line text m n k l (inr p) (inl (h, f)) = absurd (p.no_header n h)
-one_token line text m n k l (inr p) (inr q) =
+one_token : (profile : Profile) (line : List (List ℕ)) (text : List ℕ) (m n : ℕ) (k l : Kind) → TokenAt profile line text m k → TokenAt profile line text n l → (m ≡ n) × (k ≡ l)
+one_token profile line text m n k l (inl (g, e)) (inl (h, f)) = (one_header text m n g.fits h.fits g.spelled h.spelled, e ∙ sym f)
+one_token profile line text m n k l (inl (g, e)) (inr p) = absurd (p.no_header m g)
+one_token profile line text m n k l (inr p) (inl (h, f)) = absurd (p.no_header n h)
+one_token profile line text m n k l (inr p) (inr q) =
     let same : m ≡ n = longest_one IsSpelling text m n p.longest q.longest in
     (same, one_kind (take n text) k l (subst (λ z. Spells k (take z text)) same p.spelled) q.spelled)
 
 -- one piece can stand at a place
-pub one_piece : (line : List (List ℕ)) (text : List ℕ) (m n : ℕ) (s t : Sort) → StandsAt line text m s → StandsAt line text n t → (m ≡ n) × (s ≡ t)
-one_piece line text m n NewLine NewLine a b = (a.0 ∙ sym b.0, refl)
-one_piece line text m n NewLine Blank a b = absurd (begins_apart is_newline is_blank newline_blank text (newline_begins text a.1) (blank_begins text n b))
-one_piece line text m n NewLine Comment a b = absurd (begins_apart is_newline is_visible newline_visible text (newline_begins text a.1) (comment_visible text n b))
-one_piece line text m n NewLine (Spelled l) a b = absurd (begins_apart is_newline is_visible newline_visible text (newline_begins text a.1) (token_visible line text n l b))
-one_piece line text m n Blank NewLine a b = absurd (begins_apart is_newline is_blank newline_blank text (newline_begins text b.1) (blank_begins text m a))
-one_piece line text m n Blank Blank a b = (a.0 ∙ sym b.0, refl)
-one_piece line text m n Blank Comment a b = absurd (begins_apart is_blank is_visible blank_visible text (blank_begins text m a) (comment_visible text n b))
-one_piece line text m n Blank (Spelled l) a b = absurd (begins_apart is_blank is_visible blank_visible text (blank_begins text m a) (token_visible line text n l b))
-one_piece line text m n Comment NewLine a b = absurd (begins_apart is_newline is_visible newline_visible text (newline_begins text b.1) (comment_visible text m a))
-one_piece line text m n Comment Blank a b = absurd (begins_apart is_blank is_visible blank_visible text (blank_begins text n b) (comment_visible text m a))
-one_piece line text m n Comment Comment a b = (one_comment text m n a b, refl)
-one_piece line text m n Comment (Spelled l) a b = absurd (opening_no_token line text n l (comment_opens text m a) b)
-one_piece line text m n (Spelled k) NewLine a b = absurd (begins_apart is_newline is_visible newline_visible text (newline_begins text b.1) (token_visible line text m k a))
-one_piece line text m n (Spelled k) Blank a b = absurd (begins_apart is_blank is_visible blank_visible text (blank_begins text n b) (token_visible line text m k a))
-one_piece line text m n (Spelled k) Comment a b = absurd (opening_no_token line text m k (comment_opens text n b) a)
-one_piece line text m n (Spelled k) (Spelled l) a b =
-    let both = one_token line text m n k l a b in
+pub one_piece : (profile : Profile) (line : List (List ℕ)) (text : List ℕ) (m n : ℕ) (s t : Sort) → StandsAt profile line text m s → StandsAt profile line text n t → (m ≡ n) × (s ≡ t)
+one_piece profile line text m n NewLine NewLine a b = (a.0 ∙ sym b.0, refl)
+one_piece profile line text m n NewLine Blank a b = absurd (begins_apart is_newline is_blank newline_blank text (newline_begins text a.1) (blank_begins text n b))
+one_piece profile line text m n NewLine Comment a b = absurd (begins_apart is_newline is_visible newline_visible text (newline_begins text a.1) (comment_visible text n b))
+one_piece profile line text m n NewLine (Spelled l) a b = absurd (begins_apart is_newline is_visible newline_visible text (newline_begins text a.1) (token_visible profile line text n l b))
+one_piece profile line text m n Blank NewLine a b = absurd (begins_apart is_newline is_blank newline_blank text (newline_begins text b.1) (blank_begins text m a))
+one_piece profile line text m n Blank Blank a b = (a.0 ∙ sym b.0, refl)
+one_piece profile line text m n Blank Comment a b = absurd (begins_apart is_blank is_visible blank_visible text (blank_begins text m a) (comment_visible text n b))
+one_piece profile line text m n Blank (Spelled l) a b = absurd (begins_apart is_blank is_visible blank_visible text (blank_begins text m a) (token_visible profile line text n l b))
+one_piece profile line text m n Comment NewLine a b = absurd (begins_apart is_newline is_visible newline_visible text (newline_begins text b.1) (comment_visible text m a))
+one_piece profile line text m n Comment Blank a b = absurd (begins_apart is_blank is_visible blank_visible text (blank_begins text n b) (comment_visible text m a))
+one_piece profile line text m n Comment Comment a b = (one_comment text m n a b, refl)
+one_piece profile line text m n Comment (Spelled l) a b = absurd (opening_no_token profile line text n l (comment_opens text m a) b)
+one_piece profile line text m n (Spelled k) NewLine a b = absurd (begins_apart is_newline is_visible newline_visible text (newline_begins text b.1) (token_visible profile line text m k a))
+one_piece profile line text m n (Spelled k) Blank a b = absurd (begins_apart is_blank is_visible blank_visible text (blank_begins text n b) (token_visible profile line text m k a))
+one_piece profile line text m n (Spelled k) Comment a b = absurd (opening_no_token profile line text m k (comment_opens text n b) a)
+one_piece profile line text m n (Spelled k) (Spelled l) a b =
+    let both = one_token profile line text m n k l a b in
     (both.0, ap (λ (z : Kind). Spelled z) both.1)
 
 not_empty : (test : ℕ → Bool) (n : ℕ) (text : List ℕ) → begins test (take n text) ≡ true → 0 < n
@@ -226,23 +227,23 @@ comment_some (c ∷ cs) n (inr (o, Some zero, f, e)) =
 comment_some (c ∷ cs) n (inr (o, Some (suc k), f, e)) = omega arith
 
 -- a piece isn't empty
-pub some_piece : (line : List (List ℕ)) (text : List ℕ) (n : ℕ) (s : Sort) → StandsAt line text n s → 0 < n
-some_piece line text n NewLine a = omega arith
-some_piece line text n Blank a = omega arith
-some_piece line text n Comment a = comment_some text n a
-some_piece line text n (Spelled k) (inl (h, e)) = header_some h.spelled
+pub some_piece : (profile : Profile) (line : List (List ℕ)) (text : List ℕ) (n : ℕ) (s : Sort) → StandsAt profile line text n s → 0 < n
+some_piece profile line text n NewLine a = omega arith
+some_piece profile line text n Blank a = omega arith
+some_piece profile line text n Comment a = comment_some text n a
+some_piece profile line text n (Spelled k) (inl (h, e)) = header_some h.spelled
   where
     header_some : IsHeader (take n text) → 0 < n
     header_some (inl a) = not_empty (λ c. c == 60) n text (subst (λ z. begins (λ c. c == 60) z ≡ true) (sym (between 60 62 (take n text) a).is) refl)
     header_some (inr a) = not_empty (λ c. c == 34) n text (subst (λ z. begins (λ c. c == 34) z ≡ true) (sym (between 34 34 (take n text) a).is) refl)
-some_piece line text n (Spelled k) (inr p) = not_empty is_visible n text (spelling_visible (take n text) k p.spelled)
+some_piece profile line text n (Spelled k) (inr p) = not_empty is_visible n text (spelling_visible (take n text) k p.spelled)
 
 -- where a comment opens that is not closed, no piece can stand
-pub no_piece_open : (line : List (List ℕ)) (text : List ℕ) (n : ℕ) (s : Sort) → OpensBlock text → ClosesAt text None → StandsAt line text n s → ⊥
-no_piece_open line text n NewLine o never a =
+pub no_piece_open : (profile : Profile) (line : List (List ℕ)) (text : List ℕ) (n : ℕ) (s : Sort) → OpensBlock text → ClosesAt text None → StandsAt profile line text n s → ⊥
+no_piece_open profile line text n NewLine o never a =
     begins_apart is_newline is_visible newline_visible text (newline_begins text a.1) (opening_begins is_visible refl text (inl o))
-no_piece_open line text n Blank o never a =
+no_piece_open profile line text n Blank o never a =
     begins_apart is_blank is_visible blank_visible text (blank_begins text n a) (opening_begins is_visible refl text (inl o))
-no_piece_open line text n Comment o never (inl (p, k, f, e)) = never k f.0.low f.0.high f.1
-no_piece_open line text n Comment o never (inr (p, r, f, e)) = one_opening text o p
-no_piece_open line text n (Spelled k) o never a = opening_no_token line text n k (inl o) a
+no_piece_open profile line text n Comment o never (inl (p, k, f, e)) = never k f.0.low f.0.high f.1
+no_piece_open profile line text n Comment o never (inr (p, r, f, e)) = one_opening text o p
+no_piece_open profile line text n (Spelled k) o never a = opening_no_token profile line text n k (inl o) a

@@ -20,11 +20,11 @@ module _ (profile : Profile) (file : ℕ) (bytes : List ℕ) where
   no_both c p e f = let both : ◌≡◌ {A = Result (List Char) Place} (Ok c) (Err p) = sym e ∙ f in cc
 
   -- the pieces of the text are one
-  one_lines : (c d : List Char) (ps qs : List Piece) → cleaned file bytes ≡ Ok c → cleaned file bytes ≡ Ok d → Cut c ps → Cut d qs → ps ≡ qs
-  one_lines c d ps qs e f a b = one_cut c ps qs a (subst (λ (z : List Char). Cut z qs) (sym (one_text c d e f)) b)
+  one_lines : (c d : List Char) (ps qs : List Piece) → cleaned file bytes ≡ Ok c → cleaned file bytes ≡ Ok d → Cut profile c ps → Cut profile d qs → ps ≡ qs
+  one_lines c d ps qs e f a b = one_cut profile c ps qs a (subst (λ (z : List Char). Cut profile z qs) (sym (one_text c d e f)) b)
 
-  closed : (c d : List Char) (ps : List Piece) (p : Place) → cleaned file bytes ≡ Ok c → cleaned file bytes ≡ Ok d → Cut c ps → Unclosed d p → ⊥
-  closed c d ps p e f a u = cut_closed c ps p a (subst (λ (z : List Char). Unclosed z p) (sym (one_text c d e f)) u)
+  closed : (c d : List Char) (ps : List Piece) (p : Place) → cleaned file bytes ≡ Ok c → cleaned file bytes ≡ Ok d → Cut profile c ps → Unclosed profile d p → ⊥
+  closed c d ps p e f a u = cut_closed profile c ps p a (subst (λ (z : List Char). Unclosed profile z p) (sym (one_text c d e f)) u)
 
   no_fault : (lines : List LogicalLine) (f : Fault) → IsSource profile file bytes lines → IsFaultOf profile file bytes f → ⊥
   no_fault lines f s (spliced_end e) = no_both s.chars _ s.cleaned e
@@ -48,7 +48,7 @@ module _ (profile : Profile) (file : ℕ) (bytes : List ℕ) where
   one_fault f g (open_comment h u) (spliced_end e) = absurd (no_both _ _ h e)
   one_fault f g (bad_groups h cut are) (spliced_end e) = absurd (no_both _ _ h e)
   one_fault f g (open_comment {chars = c} {p = p} e u) (open_comment {chars = d} {p = q} h v) =
-      ap (file_fault 1) (one_unclosed c p q u (subst (λ (z : List Char). Unclosed z q) (sym (one_text c d e h)) v))
+      ap (file_fault 1) (one_unclosed profile c p q u (subst (λ (z : List Char). Unclosed profile z q) (sym (one_text c d e h)) v))
   one_fault f g (open_comment e u) (bad_groups h cut are) = absurd (closed _ _ _ _ h e cut u)
   one_fault f g (bad_groups h cut are) (open_comment e u) = absurd (closed _ _ _ _ h e cut u)
   one_fault f g (bad_groups {chars = c} {pieces = ps} e cut is) (bad_groups {chars = d} {pieces = qs} h other are) =

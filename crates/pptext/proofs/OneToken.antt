@@ -3,12 +3,14 @@ use Rattle.std.proofs.Common.{◌≡◌, ℕ, ◌+◌, ◌<◌, ◌≤◌, Bool,
 use Rattle.std.proofs.Common.{Option, None, Some, refl, sym, ap, ◌∙◌, subst, inl, inr, ◌⊎◌, zero, suc, ◌≢◌, arith, get_or}
 use Rattle.std.proofs.lemmas.List.{append-nil, length-map, take_at, take_all, map-append}
 use Rattle.std.specs.Prelude.{Contains}
+use Rattle.pptext.specs.declared.sources.Profile.{Profile}
+use Rattle.pptext.specs.declared.sources.Profile.TheVariants.{C11}
 use Rattle.pptext.specs.declared.tokens.Kind.{Kind}
 use Rattle.pptext.specs.declared.tokens.Kind.TheVariants.{Header}
 use Rattle.pptext.specs.declared.characters.Char.{Char}
 use Rattle.pptext.specs.Clean.{codes_of, placed, newline}
 use Rattle.pptext.specs.Spellings.{IsSpelling, Spells}
-use Rattle.pptext.specs.Cut.{Sort, NewLine, Blank, Comment, Spelled, StandsAt, EachStands, Cut, Piece, laid, with_piece, BeginsWith, OpensBlock, OpensLine, AwaitsHeader}
+use Rattle.pptext.specs.Cut.{Sort, NewLine, Blank, Comment, Spelled, StandsAt, EachStands, Cut, Piece, laid, with_piece, BeginsWith, OpensBlock, OpensLine}
 use Rattle.pptext.specs.Sources.{IsOneToken}
 use Rattle.pptext.specs.Finds.{Finds, AreBlanks}
 use Rattle.pptext.proofs.OnePiece.{one_piece, no_piece_open}
@@ -26,14 +28,14 @@ module _ (text : List ℕ) where
   whole : codes_of (placed 0 1 1 text ++ ([] ++ [])) ≡ text
   whole = ap codes_of (append-nil (placed 0 1 1 text)) ∙ codes_of-placed 0 1 1 text
 
-  pub one_token_stands : (k : Kind) → IsOneToken text k → StandsAt [] text (length text) (Spelled k)
+  pub one_token_stands : (k : Kind) → IsOneToken text k → StandsAt C11 [] text (length text) (Spelled k)
   one_token_stands k cut =
-      subst (λ z. StandsAt [] text z (Spelled k)) (placed_length 0 1 1 text) (subst (λ z. StandsAt [] z (length (placed 0 1 1 text)) (Spelled k)) whole cut.each.0)
+      subst (λ z. StandsAt C11 [] text z (Spelled k)) (placed_length 0 1 1 text) (subst (λ z. StandsAt C11 [] z (length (placed 0 1 1 text)) (Spelled k)) whole cut.each.0)
 
-  pub stands_one_token : (k : Kind) → StandsAt [] text (length text) (Spelled k) → IsOneToken text k
+  pub stands_one_token : (k : Kind) → StandsAt C11 [] text (length text) (Spelled k) → IsOneToken text k
   stands_one_token k here = record {
     whole = append-nil (placed 0 1 1 text ++ []) ∙ append-nil (placed 0 1 1 text);
-    each = (subst (λ z. StandsAt [] z (length (placed 0 1 1 text)) (Spelled k)) (sym whole) (subst (λ z. StandsAt [] text z (Spelled k)) (sym (placed_length 0 1 1 text)) here), tt);
+    each = (subst (λ z. StandsAt C11 [] z (length (placed 0 1 1 text)) (Spelled k)) (sym whole) (subst (λ z. StandsAt C11 [] text z (Spelled k)) (sym (placed_length 0 1 1 text)) here), tt);
   }
 
 -- a text that opens no comment opens none where it stops sooner
@@ -43,13 +45,13 @@ begins_more a b (x ∷ []) t e = cc
 begins_more a b (x ∷ y ∷ s) t e = e
 
 -- a token but a header name is the one token of its spelling
-stands_alone : (line : List (List ℕ)) (s t : List ℕ) (k : Kind) → k ≢ Header → StandsAt line (s ++ t) (length s) (Spelled k) → StandsAt [] s (length s) (Spelled k)
-stands_alone line s t k plain (inl (h, e)) = absurd (plain e)
-stands_alone line s t k plain (inr p) =
+stands_alone : (profile : Profile) (line : List (List ℕ)) (s t : List ℕ) (k : Kind) → k ≢ Header → StandsAt profile line (s ++ t) (length s) (Spelled k) → StandsAt C11 [] s (length s) (Spelled k)
+stands_alone profile line s t k plain (inl (h, e)) = absurd (plain e)
+stands_alone profile line s t k plain (inr p) =
     let front : take (length s) (s ++ t) ≡ take (length s) s = take_at s t (length s) refl ∙ sym (take_all (length s) s (omega arith)) in
     inr (record {
       no_comment = λ o. opens o;
-      no_header = λ m h. no_header m h.awaited;
+      no_header = λ m h. h.awaited;
       longest = record { fits = omega arith; front = subst IsSpelling front p.longest.front; longest = λ m more fits q. absurd (omega arith) };
       spelled = subst (Spells k) front p.spelled;
     })
@@ -58,43 +60,39 @@ stands_alone line s t k plain (inr p) =
     opens (inl o) = p.no_comment (inl (begins_more 47 42 s t o))
     opens (inr o) = p.no_comment (inr (begins_more 47 47 s t o))
 
-    no_header : (m : ℕ) → AwaitsHeader [] → ⊥
-    no_header m (inl e) = cc
-    no_header m (inr e) = cc
-
 -- the place of a piece among its line and the text behind it
-stands_within : (line : List (List ℕ)) (ps : List Piece) (rest : List Char) (i : ℕ) (p : Piece)
-    → EachStands line ps rest
+stands_within : (profile : Profile) (line : List (List ℕ)) (ps : List Piece) (rest : List Char) (i : ℕ) (p : Piece)
+    → EachStands profile line ps rest
     → i < length ps
     → get_or ps i p ≡ p
-    → (before : List (List ℕ)) × (behind : List Char) × StandsAt before (codes_of (p.chars ++ behind)) (length p.chars) p.sort
-stands_within line [] rest i p each lt e = absurd (omega arith)
-stands_within line (q ∷ qs) rest zero p each lt e = (line, laid qs ++ rest, subst (λ (z : Piece). StandsAt line (codes_of (z.chars ++ (laid qs ++ rest))) (length z.chars) z.sort) e each.0)
-stands_within line (q ∷ qs) rest (suc i) p each lt e = stands_within (with_piece line q q.sort) qs rest i p each.1 (omega arith) e
+    → (before : List (List ℕ)) × (behind : List Char) × StandsAt profile before (codes_of (p.chars ++ behind)) (length p.chars) p.sort
+stands_within profile line [] rest i p each lt e = absurd (omega arith)
+stands_within profile line (q ∷ qs) rest zero p each lt e = (line, laid qs ++ rest, subst (λ (z : Piece). StandsAt profile line (codes_of (z.chars ++ (laid qs ++ rest))) (length z.chars) z.sort) e each.0)
+stands_within profile line (q ∷ qs) rest (suc i) p each lt e = stands_within profile (with_piece line q q.sort) qs rest i p each.1 (omega arith) e
 
-pub relexes_what_is_cut : (chars : List Char) (pieces : List Piece) → Cut chars pieces → (p : Piece) (k : Kind) → Contains pieces p → p.sort ≡ Spelled k → k ≢ Header → IsOneToken (codes_of p.chars) k
-relexes_what_is_cut chars pieces cut p k (i, lt, e) sort plain =
-    let found = stands_within [] pieces [] i p cut.each lt e in
+pub relexes_what_is_cut : (profile : Profile) (chars : List Char) (pieces : List Piece) → Cut profile chars pieces → (p : Piece) (k : Kind) → Contains pieces p → p.sort ≡ Spelled k → k ≢ Header → IsOneToken (codes_of p.chars) k
+relexes_what_is_cut profile chars pieces cut p k (i, lt, e) sort plain =
+    let found = stands_within profile [] pieces [] i p cut.each lt e in
     let whole : codes_of (p.chars ++ found.1) ≡ codes_of p.chars ++ codes_of found.1 = map-append (λ (c : Char). c.code) p.chars found.1 in
-    let stands : StandsAt found.0 (codes_of (p.chars ++ found.1)) (length p.chars) (Spelled k) = subst (StandsAt found.0 (codes_of (p.chars ++ found.1)) (length p.chars)) sort found.2 in
-    let here : StandsAt found.0 (codes_of p.chars ++ codes_of found.1) (length (codes_of p.chars)) (Spelled k) = rw (length-map p.chars (λ (c : Char). c.code), ← whole) stands in
-    stands_one_token (codes_of p.chars) k (stands_alone found.0 (codes_of p.chars) (codes_of found.1) k plain here)
+    let stands : StandsAt profile found.0 (codes_of (p.chars ++ found.1)) (length p.chars) (Spelled k) = subst (StandsAt profile found.0 (codes_of (p.chars ++ found.1)) (length p.chars)) sort found.2 in
+    let here : StandsAt profile found.0 (codes_of p.chars ++ codes_of found.1) (length (codes_of p.chars)) (Spelled k) = rw (length-map p.chars (λ (c : Char). c.code), ← whole) stands in
+    stands_one_token (codes_of p.chars) k (stands_alone profile found.0 (codes_of p.chars) (codes_of found.1) k plain here)
 
-first_blank : (text : List ℕ) (n : ℕ) → 0 < n → n ≤ length text → AreBlanks n text → StandsAt [] text 1 Blank
+first_blank : (text : List ℕ) (n : ℕ) → 0 < n → n ≤ length text → AreBlanks n text → StandsAt C11 [] text 1 Blank
 first_blank [] n some fits blank = absurd (omega arith)
 first_blank (c ∷ cs) n some fits blank = (refl, c, refl, blank 0 some)
 
 -- what stands there is the one token
-stood : (text : List ℕ) (n : ℕ) (s : Sort) (k : Kind) → StandsAt [] text n s → IsOneToken text k → ◌≡◌ {A = Option (Sort × ℕ)} (Some (s, n)) (Some (Spelled k, length text))
+stood : (text : List ℕ) (n : ℕ) (s : Sort) (k : Kind) → StandsAt C11 [] text n s → IsOneToken text k → ◌≡◌ {A = Option (Sort × ℕ)} (Some (s, n)) (Some (Spelled k, length text))
 stood text n s k here one =
-    let same = one_piece [] text n (length text) s (Spelled k) here (one_token_stands text k one) in
+    let same = one_piece C11 [] text n (length text) s (Spelled k) here (one_token_stands text k one) in
     ap (λ z. Some (z, n)) same.1 ∙ ap (λ z. Some (Spelled k, z)) same.0
 
 -- where the text is one token, that is what the scanner finds
-pub finds_token : (text : List ℕ) (found : Option (Sort × ℕ)) (k : Kind) → Finds [] text found → IsOneToken text k → found ≡ Some (Spelled k, length text)
-finds_token text None k here one = absurd (no_piece_open [] text (length text) (Spelled k) here.0 here.1 (one_token_stands text k one))
+pub finds_token : (text : List ℕ) (found : Option (Sort × ℕ)) (k : Kind) → Finds C11 [] text found → IsOneToken text k → found ≡ Some (Spelled k, length text)
+finds_token text None k here one = absurd (no_piece_open C11 [] text (length text) (Spelled k) here.0 here.1 (one_token_stands text k one))
 finds_token text (Some (Blank, n)) k here one =
-    let e : Blank ≡ Spelled k = (one_piece [] text 1 (length text) Blank (Spelled k) (first_blank text n here.1 here.0 here.2) (one_token_stands text k one)).1 in cc
+    let e : Blank ≡ Spelled k = (one_piece C11 [] text 1 (length text) Blank (Spelled k) (first_blank text n here.1 here.0 here.2) (one_token_stands text k one)).1 in cc
 finds_token text (Some (NewLine, n)) k here one = stood text n NewLine k here.2 one
 finds_token text (Some (Comment, n)) k here one = stood text n Comment k here.2 one
 finds_token text (Some (Spelled l, n)) k here one = stood text n (Spelled l) k here.2 one

@@ -1,5 +1,6 @@
 -- What the scanner's fronts of a text stand for.
 use Rattle.std.proofs.Common.{◌≡◌, ℕ, List, Option, None, Some, subst, sym, ap, ◌∙◌}
+use Rattle.pptext.specs.declared.sources.Profile.{Profile}
 use Rattle.pptext.specs.declared.tokens.Kind.{Kind}
 use Rattle.pptext.specs.declared.cutting.Front as code
 use Rattle.pptext.specs.declared.cutting.Front.TheVariants as variant
@@ -13,8 +14,8 @@ front_meant (variant.Comment n) = Some (Comment, n)
 front_meant variant.Unclosed = None
 front_meant (variant.Token k n) = Some (Spelled k, n)
 
-pub found_here : (line : List (List ℕ)) (text : List ℕ) (front here : code.Front) (found : Option (Sort × ℕ)) → front_meant front ≡ found → front ≡ here → Finds line text found → Finds line text (front_meant here)
-found_here line text front here found means is finds = subst (Finds line text) (sym means ∙ ap front_meant is) finds
+pub found_here : (profile : Profile) (line : List (List ℕ)) (text : List ℕ) (front here : code.Front) (found : Option (Sort × ℕ)) → front_meant front ≡ found → front ≡ here → Finds profile line text found → Finds profile line text (front_meant here)
+found_here profile line text front here found means is finds = subst (Finds profile line text) (sym means ∙ ap front_meant is) finds
 
 abbrev sort_of : Option (Sort × ℕ) → Sort
 sort_of None = NewLine

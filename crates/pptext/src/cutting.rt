@@ -1,5 +1,6 @@
 // The text cut into lines of tokens.
 ghost use Rattle.std.specs.Prelude.{◌≡◌, ◌≢◌, ◌↔◌, ◌+◌, ◌<◌, ◌≤◌, ℕ, List, [], ◌∷◌, ◌++◌, OnOk, length, take, drop, IsTrue, slice_index, None, IfOk, IfSome, IfNone, false};
+ghost use Rattle.pptext.specs.declared.sources.Profile.{Profile};
 ghost use Rattle.pptext.specs.Spellings.{is_blank};
 ghost use Rattle.pptext.specs.Cut.{OpensBlock, OpensLine, CommentAt, ClosesAt};
 ghost use Rattle.pptext.specs.Lines.{token_of, line_of};
@@ -111,12 +112,12 @@ fn blank_len(text: &[u8]) -> usize
 
 /// What begins a text that begins neither with a new-line nor with a blank, behind these tokens of its line.
 #[inline(never)]
-fn dark_piece_at(text: &[u8], line: &[Token], lone: &mut LoneQuotes) -> Found
+fn dark_piece_at(text: &[u8], line: &[Token], lone: &mut LoneQuotes, profile: Profile) -> Found
     requires some { 0 < length text.now }
     requires no_newline { slice_index text.now 0 ≢ 10 }
     requires no_blank { is_blank (slice_index text.now 0) ≡ false }
     requires lone { KnowsLone text.now lone.old.single lone.old.double }
-    ensures finds { Finds (spelled line.now) text.now result }
+    ensures finds { Finds profile (spelled line.now) text.now result }
     ensures lone { KnowsLone text.now lone.new.single lone.new.double }
 {
     if opens_block(text) {
@@ -134,7 +135,7 @@ fn dark_piece_at(text: &[u8], line: &[Token], lone: &mut LoneQuotes) -> Found
             front: Front::Comment(line_len(text)),
         };
     }
-    let (kind, n) = token_at(text, line, lone);
+    let (kind, n) = token_at(text, line, lone, profile);
     Found {
         front: Front::Token(kind, n),
     }
@@ -145,7 +146,7 @@ fn dark_piece_at(text: &[u8], line: &[Token], lone: &mut LoneQuotes) -> Found
 #[inline(always)]
 fn light_piece_at(text: &[u8]) -> Option<Found>
     requires { 0 < length text.now }
-    ensures some { IfSome result (λ f. (line : List (List ℕ)) → Finds line text.now f) }
+    ensures some { IfSome result (λ f. (profile : Profile) (line : List (List ℕ)) → Finds profile line text.now f) }
     ensures no_newline { IfNone result (slice_index text.now 0 ≢ 10) }
     ensures no_blank { IfNone result (is_blank (slice_index text.now 0) ≡ false) }
 {
@@ -175,26 +176,32 @@ fn light_piece_at(text: &[u8]) -> Option<Found>
 
 /// What begins the text behind the tokens of its line, which begins at this one, where this much is known of its quotes.
 #[inline(always)]
-fn piece_at(text: &[u8], tokens: &[Token], start: usize, lone: &mut LoneQuotes) -> Found
+fn piece_at(
+    text: &[u8],
+    tokens: &[Token],
+    start: usize,
+    lone: &mut LoneQuotes,
+    profile: Profile,
+) -> Found
     requires some { 0 < length text.now }
     requires start { start ≤ length tokens.now }
     requires lone { KnowsLone text.now lone.old.single lone.old.double }
-    ensures finds { Finds (spelled (drop start tokens.now)) text.now result }
+    ensures finds { Finds profile (spelled (drop start tokens.now)) text.now result }
     ensures lone { KnowsLone text.now lone.new.single lone.new.double }
 {
     match light_piece_at(text) {
         Some(found) => found,
-        None => dark_piece_at(text, &tokens[start..], lone),
+        None => dark_piece_at(text, &tokens[start..], lone, profile),
     }
 }
 
 /// What begins the text behind these tokens of its line.
-pub(crate) fn next_piece(text: &[u8], line: &[Token]) -> Found
+pub(crate) fn next_piece(text: &[u8], line: &[Token], profile: Profile) -> Found
     requires { 0 < length text.now }
-    ensures { Finds (spelled line.now) text.now result }
+    ensures { Finds profile (spelled line.now) text.now result }
 {
     let mut lone = LoneQuotes::unknown(text.len());
-    piece_at(text, line, 0, &mut lone)
+    piece_at(text, line, 0, &mut lone, profile)
 }
 
 /// Puts the token that the first n bytes of the text spell behind the others.
@@ -281,7 +288,7 @@ pub(crate) fn cut_lines(
     let mut places = text.places();
     let mut lone = LoneQuotes::unknown(codes.len());
     while at < codes.len() {
-        let found = piece_at(&codes[at..], tokens, start, &mut lone);
+        let found = piece_at(&codes[at..], tokens, start, &mut lone, profile);
         match found.front {
             Front::NewLine => {
                 let number = places.place(at, line).line;

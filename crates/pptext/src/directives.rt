@@ -1,7 +1,7 @@
 // Directives by name.
-ghost use Rattle.std.specs.Prelude.{◌≡◌, codes, ◌||◌};
+ghost use Rattle.std.specs.Prelude.{◌≡◌, ◌++◌, codes, ◌||◌};
 ghost use Rattle.std.specs.Str.{bytes_eq};
-ghost use Rattle.pptext.specs.Lines.{directive_names, later_names, named_in, directive_named, directive_of};
+ghost use Rattle.pptext.specs.Lines.{later_names, gnu_names, named_in, directive_names, directive_named, directive_of};
 ghost use Rattle.pptext.specs.Tree.{opens_section, has_condition, ends_group, role_by, TextLine, ControlLine, Opens, Elses, Closes};
 
 use crate::sources::{Directive, Profile};
@@ -118,14 +118,48 @@ fn later_directive(name: &[u8]) -> Directive
     Directive::Unknown
 }
 
+/// The directive of a name that GNU C has beside them.
+fn gnu_directive(name: &[u8]) -> Directive
+    ensures { result ≡ named_in gnu_names name.now }
+{
+    if is_spelled(name, b"include_next") {
+        return Directive::IncludeNext;
+    }
+    if is_spelled(name, b"warning") {
+        return Directive::Ignored;
+    }
+    if is_spelled(name, b"ident") {
+        return Directive::Ignored;
+    }
+    if is_spelled(name, b"sccs") {
+        return Directive::Ignored;
+    }
+    Directive::Unknown
+}
+
+/// The directive of a name that C11 doesn't have, in GNU C.
+fn added_directive(name: &[u8]) -> Directive
+    ensures { result ≡ named_in (later_names ++ gnu_names) name.now }
+{
+    match later_directive(name) {
+        Directive::Unknown => gnu_directive(name),
+        directive => directive,
+    }
+}
+
 /// The directive of a name.
+#[tactic(auto, using(crate::proofs::Named::known_named, crate::proofs::Named::later_named, crate::proofs::Named::gnu_named))]
 fn directive_named(profile: Profile, name: &[u8]) -> Directive
     ensures { result ≡ directive_named profile name.now }
 {
     let directive = plain_directive(name);
-    match (profile, directive) {
-        (Profile::Later, Directive::Unknown) => later_directive(name),
-        _ => directive,
+    if directive != Directive::Unknown {
+        return directive;
+    }
+    match profile {
+        Profile::C11 => directive,
+        Profile::Later => later_directive(name),
+        Profile::Gnu => added_directive(name),
     }
 }
 

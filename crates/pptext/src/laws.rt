@@ -17,7 +17,7 @@ ghost use Rattle.pptext.specs.Tree.{group_fault, Parts, Tree};
 
 /// A text is cut into comments, white space, new-lines and tokens in one way (5.1.1.2, 6.4).
 pub fn one_cut()
-    ensures { (cs : List Char) (a b : List Piece) → Cut cs a → Cut cs b → a ≡ b }
+    ensures { (profile : Profile) (cs : List Char) (a b : List Piece) → Cut profile cs a → Cut profile cs b → a ≡ b }
 {}
 
 /// Reading a file gives these lines or this fault, and nothing else.
@@ -27,13 +27,13 @@ pub fn one_reading()
 
 /// Each token of a file stands on one of its lines, since a text behind phase 2 ends in a new-line (5.1.1.2).
 pub fn keeps_every_token()
-    ensures { (profile : Profile) (file : ℕ) (bytes : List ℕ) (chars : List Char) (pieces : List Piece) → cleaned file bytes ≡ Ok chars → Cut chars pieces → spelled (tokens_of (lines_of profile pieces)) ≡ spellings_of pieces }
+    ensures { (profile : Profile) (file : ℕ) (bytes : List ℕ) (chars : List Char) (pieces : List Piece) → cleaned file bytes ≡ Ok chars → Cut profile chars pieces → spelled (tokens_of (lines_of profile pieces)) ≡ spellings_of pieces }
 {}
 
 /// Each token of a text but a header name (6.4.7) is the one token of its spelling, so that `relex` finds its kind again,
 /// unless it is a lone quote.
 pub fn relexes_what_is_cut()
-    ensures { (chars : List Char) (pieces : List Piece) → Cut chars pieces → (p : Piece) (k : Kind) → Contains pieces p → p.sort ≡ Spelled k → k ≢ Header → IsOneToken (codes_of p.chars) k }
+    ensures { (profile : Profile) (chars : List Char) (pieces : List Piece) → Cut profile chars pieces → (p : Piece) (k : Kind) → Contains pieces p → p.sort ≡ Spelled k → k ≢ Header → IsOneToken (codes_of p.chars) k }
 {}
 
 /// What carries on an identifier (6.4.2) or a number (6.4.8) is one token of that kind with what stands before it.

@@ -38,7 +38,7 @@ fn fault_at(number: u8, at: Place) -> SourceFault
 }
 
 /// Reads a file of at most `LONGEST` bytes: its lines of preprocessing tokens behind translation phases 1 to 3 (5.1.1.2, 6.4),
-/// and its groups (6.10) by the directives of this profile. Every place has this file number, and the line and the byte, both
+/// and its groups (6.10), both by the directives of this profile. Every place has this file number, and the line and the byte, both
 /// from 1, at which the character was spelled in the file; a byte order mark has no place.
 ///
 /// # Errors
@@ -132,7 +132,7 @@ pub fn relex(text: &[u8]) -> Option<Kind>
     if is_lone_quote(text) {
         return None;
     }
-    let found = next_piece(text, &[]);
+    let found = next_piece(text, &[], Profile::C11);
     let Front::Token(kind, n) = found.front else {
         return None;
     };

@@ -1,5 +1,6 @@
 // A file as its tokens, lines and groups.
 ghost use Rattle.std.specs.Prelude.{◌≡◌};
+ghost use Rattle.pptext.specs.Profiles.{has_later, is_gnu};
 
 use crate::tokens::{Fault, Token};
 use std::alloc::{AllocError, AllocFailed};
@@ -8,13 +9,32 @@ use std::marker::Model;
 /// The most bytes that a file may have.
 pub const LONGEST: usize = 16_777_216;
 
-/// Which directives there are.
+/// Which rules there are.
 #[derive(Clone, Copy, PartialEq, Eq, Debug)]
 pub enum Profile {
     /// Those of ISO/IEC 9899:2011.
     C11,
     /// Those, and `#elifdef`, `#elifndef` of ISO/IEC 9899:2024 (6.10.2), and `#pragma once`.
     Later,
+    /// Those, and the rules of GNU C that the headers of Linux need: named variadic parameters, variable arguments that may be absent,
+    /// `#include_next`, `__has_include`, and `#warning`, `#ident` and `#sccs`, which do nothing.
+    Gnu,
+}
+
+impl Profile {
+    /// Whether what ISO/IEC 9899:2024 added is there, and `#pragma once`.
+    pub fn has_later(self) -> bool
+        ensures { result ≡ has_later self }
+    {
+        matches!(self, Profile::Later | Profile::Gnu)
+    }
+
+    /// Whether the rules of GNU C are there.
+    pub fn is_gnu(self) -> bool
+        ensures { result ≡ is_gnu self }
+    {
+        matches!(self, Profile::Gnu)
+    }
 }
 
 /// What a directive's name says (6.10).
@@ -40,6 +60,8 @@ pub enum Directive {
     Endif,
     /// `#include` (6.10.2)
     Include,
+    /// `#include_next`: the search goes on behind the folder in which this file was found (GNU C, "Wrapper Headers")
+    IncludeNext,
     /// `#define` (6.10.3)
     Define,
     /// `#undef` (6.10.3.5)
@@ -52,6 +74,8 @@ pub enum Directive {
     Pragma,
     /// `#` alone, the null directive (6.10.7)
     Null,
+    /// `#warning`, `#ident`, `#sccs`: nothing is done, whatever stands behind them (GNU C, "Diagnostics", "Other Directives")
+    Ignored,
     /// any other token after the `#`, a non-directive (6.10)
     Unknown,
 }

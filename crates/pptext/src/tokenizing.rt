@@ -2,7 +2,7 @@
 ghost use Rattle.std.specs.Prelude.{◌≡◌, ◌≢◌, ◌↔◌, ◌<◌, ◌≤◌, ℕ, length, take, IsTrue, IfNone, IfSome, slice_index, false};
 ghost use Rattle.pptext.specs.Languages.{Longest, NoFront};
 ghost use Rattle.pptext.specs.Spellings.{IsCharConst, IsSpelling, IsStr, Spells, is_blank};
-ghost use Rattle.pptext.specs.Cut.{OpensBlock, OpensLine, AwaitsHeader, HeaderAt, StandsAt, Spelled};
+ghost use Rattle.pptext.specs.Cut.{OpensBlock, OpensLine, awaits, AwaitsHeader, HeaderAt, StandsAt, Spelled};
 ghost use Rattle.pptext.specs.Lone.{KnowsLone};
 ghost use Rattle.pptext.specs.Tokens.{spelled};
 
@@ -12,27 +12,35 @@ use crate::scanning::headers::header_len;
 use crate::scanning::ident_len;
 use crate::scanning::literals::{LoneQuotes, char_const_len, may_open_literal, str_len};
 use crate::scanning::numbers::number_len;
-use crate::tokens::{Kind, Token};
+use crate::sources::Profile;
+use crate::tokens::{Kind, Token, is_spelled};
+
+/// Whether a header name may follow this name of a directive: `include` (6.10.2), and in GNU C `include_next`.
+fn awaits(profile: Profile, name: &[u8]) -> bool
+    ensures { result ≡ awaits profile name.now }
+{
+    is_spelled(name, b"include") || (profile.is_gnu() && is_spelled(name, b"include_next"))
+}
 
 /// Whether a header name may follow these tokens of a line (6.4.7).
-fn awaits_header(line: &[Token]) -> bool
-    ensures { IsTrue result ↔ AwaitsHeader (spelled line.now) }
+fn awaits_header(profile: Profile, line: &[Token]) -> bool
+    ensures { IsTrue result ↔ AwaitsHeader profile (spelled line.now) }
 {
     if line.len() != 2 {
         return false;
     }
-    if line[1].text.as_bytes() != b"include".as_slice() {
+    if !is_hash(line[0].text.as_bytes()) {
         return false;
     }
-    is_hash(line[0].text.as_bytes())
+    awaits(profile, line[1].text.as_bytes())
 }
 
 /// The length of the header name that begins the text behind these tokens of its line, or 0.
-fn header_at(text: &[u8], line: &[Token]) -> usize
-    ensures none { result ≡ 0 → (m : ℕ) → ¬ HeaderAt (spelled line.now) text.now m }
-    ensures some { 0 < result → HeaderAt (spelled line.now) text.now result }
+fn header_at(text: &[u8], line: &[Token], profile: Profile) -> usize
+    ensures none { result ≡ 0 → (m : ℕ) → ¬ HeaderAt profile (spelled line.now) text.now m }
+    ensures some { 0 < result → HeaderAt profile (spelled line.now) text.now result }
 {
-    if !awaits_header(line) {
+    if !awaits_header(profile, line) {
         return 0;
     }
     header_len(text)
@@ -95,7 +103,12 @@ fn plain_token_at(text: &[u8], lone: &mut LoneQuotes) -> (Kind, usize)
 
 /// The kind and length of the token that begins here, behind these tokens of its line, where this much is
 /// known of the quotes.
-pub(crate) fn token_at(text: &[u8], line: &[Token], lone: &mut LoneQuotes) -> (Kind, usize)
+pub(crate) fn token_at(
+    text: &[u8],
+    line: &[Token],
+    lone: &mut LoneQuotes,
+    profile: Profile,
+) -> (Kind, usize)
     requires some { 0 < length text.now }
     requires no_newline { slice_index text.now 0 ≢ 10 }
     requires no_blank { is_blank (slice_index text.now 0) ≡ false }
@@ -103,10 +116,10 @@ pub(crate) fn token_at(text: &[u8], line: &[Token], lone: &mut LoneQuotes) -> (K
     requires no_line { ¬ OpensLine text.now }
     requires lone { KnowsLone text.now lone.old.single lone.old.double }
     ensures fits { (0 < result.1) × (result.1 ≤ length text.now) }
-    ensures stands { StandsAt (spelled line.now) text.now result.1 (Spelled result.0) }
+    ensures stands { StandsAt profile (spelled line.now) text.now result.1 (Spelled result.0) }
     ensures lone { KnowsLone text.now lone.new.single lone.new.double }
 {
-    let header = header_at(text, line);
+    let header = header_at(text, line, profile);
     if header > 0 {
         return (Kind::Header, header);
     }

@@ -33,7 +33,7 @@ loop-at-preserved-in-NewLine c =
     let l = codes_length chars in
     let d = length-drop c.loop-at.at (codes_of chars) in
     let same = c.codes-codes.ensures in
-    let found = simp (take_rest, same) at (found_here _ _ c.found.inside.front variant.NewLine _ c.found.view_is c.in-NewLine.is c.piece_at-found.ensures.finds) in
+    let found = simp (take_rest, same) at (found_here _ _ _ c.found.inside.front variant.NewLine _ c.found.view_is c.in-NewLine.is c.piece_at-found.ensures.finds) in
     let first_length = ap length c.codes-codes.ensures in
     let number = ap (λ (p : Place). p.line)
     (c.place-number.ensures.place first
@@ -56,7 +56,7 @@ loop-at-preserved-in-Blank c =
     let l = codes_length chars in
     let d = length-drop c.loop-at.at (codes_of chars) in
     let same = c.codes-codes.ensures in
-    let found = simp (take_rest, same) at (found_here _ _ c.found.inside.front (variant.Blank c.in-Blank.n) _ c.found.view_is c.in-Blank.is c.piece_at-found.ensures.finds) in
+    let found = simp (take_rest, same) at (found_here _ _ _ c.found.inside.front (variant.Blank c.in-Blank.n) _ c.found.view_is c.in-Blank.is c.piece_at-found.ensures.finds) in
     let known : KnowsLone (drop c.loop-at.at (codes_of chars)) c.piece_at-found.new.lone.single c.piece_at-found.new.lone.double = simp (take_rest, same) at c.piece_at-found.ensures.lone in
     record {
       same = c.loop-at.invariant.same;
@@ -71,7 +71,7 @@ pub loop-at-preserved-in-Comment : goal.loop-at-preserved-in-Comment
 loop-at-preserved-in-Comment c =
     let chars = c.args.text.now in
     let same = c.codes-codes.ensures in
-    let found = simp (take_rest, same) at (found_here _ _ c.found.inside.front (variant.Comment c.in-Comment.n) _ c.found.view_is c.in-Comment.is c.piece_at-found.ensures.finds) in
+    let found = simp (take_rest, same) at (found_here _ _ _ c.found.inside.front (variant.Comment c.in-Comment.n) _ c.found.view_is c.in-Comment.is c.piece_at-found.ensures.finds) in
     let known : KnowsLone (drop c.loop-at.at (codes_of chars)) c.piece_at-found.new.lone.single c.piece_at-found.new.lone.double = simp (take_rest, same) at c.piece_at-found.ensures.lone in
     record {
       same = c.loop-at.invariant.same;
@@ -85,7 +85,7 @@ pub loop-at-preserved : goal.loop-at-preserved
 loop-at-preserved c =
     let chars = c.args.text.now in
     let same = c.codes-codes.ensures in
-    let found = simp (take_rest, c.deref.ensures.value, same) at (found_here _ _ c.found.inside.front (variant.Token c.in-Token.kind c.in-Token.n) _ c.found.view_is c.in-Token.is c.piece_at-found.ensures.finds) in
+    let found = simp (take_rest, c.deref.ensures.value, same) at (found_here _ _ _ c.found.inside.front (variant.Token c.in-Token.kind c.in-Token.n) _ c.found.view_is c.in-Token.is c.piece_at-found.ensures.finds) in
     let known : KnowsLone (drop c.loop-at.at (codes_of chars)) c.piece_at-found.new.lone.single c.piece_at-found.new.lone.double = simp (take_rest, same) at c.piece_at-found.ensures.lone in
     let there = c.place-place.ensures.place first ∙ ap (λ (z : List Char). (get_or z c.loop-at.at first).at) c.loop-at.invariant.same in
     let l = codes_length chars in
@@ -96,7 +96,7 @@ loop-at-preserved c =
     record {
       same = ap (λ (r : Reading). r.chars) c.place-place.ensures.after ∙ c.loop-at.invariant.same;
       passed = omega (arith, ap (λ (r : Reading). r.passed) c.place-place.ensures.after);
-      in_line = line_over_token (codes_of chars) (spelled (drop c.loop-at.start c.loop-at.tokens.items)) c.loop-at.line c.loop-at.at c.in-Token.n c.in-Token.kind c.loop-at.invariant.in_line found.0 found.2;
+      in_line = line_over_token (codes_of chars) c.args.profile (spelled (drop c.loop-at.start c.loop-at.tokens.items)) c.loop-at.line c.loop-at.at c.in-Token.n c.in-Token.kind c.loop-at.invariant.in_line found.0 found.2;
       state = rw tokens
           (add_token c.args.profile chars c.loop-at.at c.loop-at.start c.in-Token.n c.loop-at.space c.loop-at.tokens.items c.loop-at.lines.items c.in-Token.kind
           (token_of c.in-Token.kind c.loop-at.space (take c.in-Token.n (drop c.loop-at.at chars))) c.loop-at.invariant.state refl found.0 found.2);
@@ -108,7 +108,7 @@ returns-in-Unclosed c =
     let chars = c.args.text.now in
     let l = codes_length chars in
     let same = c.codes-codes.ensures in
-    let found = simp (take_rest, same) at (found_here _ _ c.found.inside.front variant.Unclosed _ c.found.view_is c.in-Unclosed.is c.piece_at-found.ensures.finds) in
+    let found = simp (take_rest, same) at (found_here _ _ _ c.found.inside.front variant.Unclosed _ c.found.view_is c.in-Unclosed.is c.piece_at-found.ensures.finds) in
     let first_length = ap length c.codes-codes.ensures in
     let here = c.place.ensures.place first ∙ ap (λ (z : List Char). (get_or z c.loop-at.at first).at) c.loop-at.invariant.same ∙ head_of_drop chars c.loop-at.at first (omega arith) in
     left_unclosed c.args.profile chars c.loop-at.at c.loop-at.start c.loop-at.space c.loop-at.tokens.items c.loop-at.lines.items c.place.result c.loop-at.invariant.state here found

@@ -3,19 +3,19 @@ use Rattle.pptext.proofs.Light.{closed_stands, word_nondigit, word_opens_none, w
 use Rattle.pptext.proofs.cutting.light_piece_at.Goals as goal
 
 pub returns-then-is_closed-clause-some : goal.returns-then-is_closed-clause-some
-returns-then-is_closed-clause-some c = λ line. (
+returns-then-is_closed-clause-some c = λ profile line. (
   omega arith,
   omega arith,
-  closed_stands line c.args.text.now c.requires (sym c.is_closed.ensures.is ∙ c.if-is_closed.true) (c.is_closed.ensures.punct c.if-is_closed.true),
+  closed_stands profile line c.args.text.now c.requires (sym c.is_closed.ensures.is ∙ c.if-is_closed.true) (c.is_closed.ensures.punct c.if-is_closed.true),
 )
 
 pub returns-then-starts_word-clause-some : goal.returns-then-starts_word-clause-some
 returns-then-starts_word-clause-some c =
     let word = sym c.starts_word.ensures ∙ c.if-starts_word.true in
-    λ line. (
+    λ profile line. (
       c.word_len.ensures.longest.fits,
       c.word_len.ensures.some,
-      word_stands line c.args.text.now c.word_len.result c.requires (word_nondigit (get_or c.args.text.now 0 0) word) (word_opens_none (get_or c.args.text.now 0 0) word)
+      word_stands profile line c.args.text.now c.word_len.result c.requires (word_nondigit (get_or c.args.text.now 0 0) word) (word_opens_none (get_or c.args.text.now 0 0) word)
           c.word_len.ensures.some c.word_len.ensures.longest,
     )
 

@@ -19,7 +19,7 @@ use Rattle.pptext.proofs.reading.read_source.Goals as goal
 -- what grouping answers is what reading answers
 grouped : (profile : Profile) (file : ℕ) (bytes : List ℕ) (chars : List Char) (pieces : List Piece) (lines : List LogicalLine) (r : Result Source SourceFault)
     → cleaned file bytes ≡ Ok chars
-    → Cut chars pieces
+    → Cut profile chars pieces
     → lines_of profile pieces ≡ lines
     → GroupsInto lines r
     → Answers r (Reads profile file bytes)

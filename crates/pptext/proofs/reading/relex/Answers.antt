@@ -1,6 +1,7 @@
 use Rattle.std.proofs.Common.{◌≡◌, [], length, subst, sym, ◌∙◌}
 use Rattle.std.proofs.lemmas.Bool.{false≢true}
 use Rattle.pptext.specs.declared.cutting.Front.TheVariants as variant
+use Rattle.pptext.specs.declared.sources.Profile.TheVariants.{C11}
 use Rattle.pptext.specs.Cut.{Spelled, StandsAt}
 use Rattle.pptext.proofs.OneToken.{finds_token, stands_one_token}
 use Rattle.pptext.proofs.Told.{found_here, token_meant}
@@ -24,7 +25,7 @@ pub returns-clause-some : goal.returns-clause-some
 returns-clause-some c =
     let text = c.args.text.now in
     let kind = c.in-Token.kind in
-    let here = found_here [] text c.found.inside.front (variant.Token kind c.in-Token.n) c.next_piece-found.result c.found.view_is c.in-Token.is c.next_piece-found.ensures in (
-      stands_one_token text kind (subst (λ n. StandsAt [] text n (Spelled kind)) c.if-n-text.false here.2),
+    let here = found_here C11 [] text c.found.inside.front (variant.Token kind c.in-Token.n) c.next_piece-found.result c.found.view_is c.in-Token.is c.next_piece-found.ensures in (
+      stands_one_token text kind (subst (λ n. StandsAt C11 [] text n (Spelled kind)) c.if-n-text.false here.2),
       λ lone. false≢true (sym c.if-is_lone_quote.false ∙ c.is_lone_quote.ensures.1 lone),
     )
