@@ -1,11 +1,11 @@
 -- The chains of a replacement list, laid end to end, are the list.
-use Rattle.std.proofs.Common.{◌≡◌, ℕ, zero, suc, ◌<◌, Bool, true, false, not, ◌&&◌, ◌||◌, List, [], ◌∷◌, ◌++◌, length, Option, Some, None}
+use Rattle.std.proofs.Common.{◌≡◌, ℕ, zero, suc, ◌<◌, Bool, true, false, not, ◌&&◌, ◌||◌, List, [], ◌∷◌, ◌++◌, map, length, Option, Some, None}
 use Rattle.std.proofs.Common.{is_some, codes, if◌then◌else◌, refl, sym, ap, ◌∙◌, subst, true≢false, arith, append_assoc}
 use Rattle.std.proofs.lemmas.Bool.{and_parts, and_right, or_parts, not-true}
 use Rattle.pptext.specs.declared.tokens.Token.{Token}
 use Rattle.pptext.specs.Tokens.{is_identifier, is_punct}
 use Rattle.ppmacro.specs.Spellings.{is_hash, is_paste}
-use Rattle.ppmacro.specs.Chains.{Item, Operates, Joins, parameter_named, parameter_of, is_function_like, is_operator_hash, items_behind, begins_joined, join_first, grouped, chains_of}
+use Rattle.ppmacro.specs.Chains.{Item, Operates, Joins, parameter_named, parameter_of, is_function_like, is_operator_hash, items_behind, begins_joined, join_first, grouped, lenient_parameter, with_rest, chains_of}
 use Rattle.ppmacro.specs.Define.{is_empty, misplaces_paste, begins_with_parameter, misplaces_hash}
 use Rattle.ppmacro.specs.Laws.{IsOperand, token, parameter, stringized, AreJoined, last, pasted, AreChains, none, chain, places_operators}
 use Rattle.ppmacro.specs.declared.macros.Shape.{Shape}
@@ -102,9 +102,15 @@ module _ (shape : Shape) where
       ∙ ap (λ ys. grouped (Operates mark o ∷ ys)) (paste_items p (more ++ rest) s)
       ∙ ap (join_first mark o) (joined_grouped j rest cs b e)
 
-  pub laid : {ts : List Token} {cs : List Chain} → AreChains shape ts cs → grouped (items ts) ≡ cs
+  -- a chain whose last operand may be the rest
+  abbrev ended : Chain → Chain
+  ended = with_rest (lenient_parameter shape)
+
+  pub laid : {ts : List Token} {cs : List Chain} → AreChains shape ts cs → map ended (grouped (items ts)) ≡ cs
   laid none = refl
-  laid (chain {cs = cs} ts rest j more) = joined_grouped j rest cs (unjoined_all more) (laid more)
+  laid (chain {mark = mark} {os = os} ts rest j more) =
+      ap (map ended) (joined_grouped j rest (grouped (items rest)) (unjoined_all more) refl)
+      ∙ ap (λ ds. ended (record { mark = mark; operands = os }) ∷ ds) (laid more)
 
   -- ---- what has its operators in place is laid out
 
@@ -185,13 +191,13 @@ module _ (shape : Shape) where
       → Laid (front ++ p ∷ ts)
   paste_before front p is e none filled = absurd (true≢false filled)
   paste_before {mark = mark} {o = o} front p is e (chain {mark = other} {os = os} {cs = cs} ts rest j more) filled = (
-    record { mark = mark; operands = o ∷ os } ∷ cs,
-    subst (λ xs. AreChains shape xs (record { mark = mark; operands = o ∷ os } ∷ cs)) (append_assoc front (p ∷ ts) rest)
+    ended (record { mark = mark; operands = o ∷ os }) ∷ cs,
+    subst (λ xs. AreChains shape xs (ended (record { mark = mark; operands = o ∷ os }) ∷ cs)) (append_assoc front (p ∷ ts) rest)
         (chain (front ++ p ∷ ts) rest (pasted front p ts other is e j) more),
   )
 
   operand_before : {mark : Bool} {o : Operand} (front rest : List Token) → IsOperand shape mark front o → Laid rest → Laid (front ++ rest)
-  operand_before {mark = mark} {o = o} front rest is m = (record { mark = mark; operands = o ∷ [] } ∷ m.0, chain front rest (last is) m.1)
+  operand_before {mark = mark} {o = o} front rest is m = (ended (record { mark = mark; operands = o ∷ [] }) ∷ m.0, chain front rest (last is) m.1)
 
   lay_behind : {mark : Bool} {o : Operand} (front rest : List Token) → IsOperand shape mark front o → Lays (suc (length rest)) → misplaces_paste false rest ≡ false → HashesStand rest → Laid (front ++ rest)
   lay_behind front [] is on m s = operand_before front [] is ([], none)

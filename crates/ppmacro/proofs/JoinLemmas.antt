@@ -24,6 +24,11 @@ argument-in s [] i = refl
 argument-in s (v ∷ vs) zero = refl
 argument-in s (v ∷ vs) (suc i) = argument-in s vs i
 
+pub argument-absent : (given : List (Vec Hidden Global)) (i : ℕ) → length given ≤ i → None ≡ slice_get (lists_of given) i
+argument-absent [] i h = refl
+argument-absent (v ∷ vs) zero h = absurd (omega arith)
+argument-absent (v ∷ vs) (suc i) h = argument-absent vs i (omega arith)
+
 -- the expansion of a parameter, by what stands at its place
 pub expansion-at : (given : List (Vec Hidden Global)) (es : List Expansion) (i : ℕ) (e : Expansion)
     → i < length es

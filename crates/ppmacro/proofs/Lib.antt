@@ -38,9 +38,13 @@ pub mod Numbers
 pub mod Repeating
 -- A heading is read exactly where it is laid out.
 pub mod Layouts
+-- No variable argument may be absent without the rules of GNU C, and no chain has a rest without such an argument.
+pub mod Lenient
 -- The chains of a replacement list, laid end to end, are the list.
 pub mod Chained
 -- Chains of a token alone, as they are where no `##` stands.
 pub mod Lonely
 -- Chains of an entry alone, as they are where neither `#` nor `##` stands.
 pub mod Patterned
+-- Chains whose last operand may be the rest.
+pub mod Resting

@@ -2,6 +2,7 @@
 use Rattle.std.proofs.Common.{◌≡◌, Bool, true, false, List, [], ◌∷◌, map, refl, ap, ◌∙◌, Option, Some, None, Ok, if◌then◌else◌, ℕ}
 use Rattle.std.specs.List.{list_any}
 use Rattle.std.proofs.lemmas.Bool.{false≢true, or_parts}
+use Rattle.std.proofs.lemmas.List.{map-id}
 use Rattle.pptext.specs.declared.tokens.Token.{Token}
 use Rattle.pptext.specs.declared.tokens.Place.{Place}
 use Rattle.pptext.specs.Tokens.{is_identifier}
@@ -10,7 +11,7 @@ use Rattle.ppmacro.specs.Spellings.{is_paste}
 use Rattle.ppmacro.specs.declared.macros.Shape.{Shape}
 use Rattle.ppmacro.specs.declared.macros.Shape.TheVariants.{Predefined, ObjectLike, FunctionLike}
 use Rattle.ppmacro.specs.declared.macros.Operand.TheVariants.{Tok}
-use Rattle.ppmacro.specs.Chains.{Item, Operates, items_at, items_behind, plain_item, parameter_of, begins_joined, grouped, hash_sign}
+use Rattle.ppmacro.specs.Chains.{Item, Operates, items_at, items_behind, plain_item, parameter_of, begins_joined, grouped, hash_sign, with_rest}
 use Rattle.ppmacro.specs.Lone.{is_object_like, lone_chain}
 use Rattle.ppmacro.specs.Substitution.{Arguments, plain, with_mark, gained, chains_tokens, substituted_by}
 use Rattle.ppmacro.proofs.ChainLemmas.{grouped-alone}
@@ -34,13 +35,16 @@ unjoined : (ts : List Token) → list_any is_paste ts ≡ false → begins_joine
 unjoined [] a = refl
 unjoined (t ∷ ts) a = ap begins_joined (one_item t ts (or_parts (is_paste t) (list_any is_paste ts) a).0)
 
-pub lone_chains : (ts : List Token) → list_any is_paste ts ≡ false → grouped (items_behind ObjectLike None ts) ≡ map lone_chain ts
-lone_chains [] a = refl
-lone_chains (t ∷ ts) a =
+all_alone : (ts : List Token) → list_any is_paste ts ≡ false → grouped (items_behind ObjectLike None ts) ≡ map lone_chain ts
+all_alone [] a = refl
+all_alone (t ∷ ts) a =
     let none = or_parts (is_paste t) (list_any is_paste ts) a in
     ap grouped (one_item t ts none.0)
     ∙ grouped-alone t.space (Tok t) (items_behind ObjectLike None ts) (unjoined ts none.1)
-    ∙ ap (λ cs. lone_chain t ∷ cs) (lone_chains ts none.1)
+    ∙ ap (λ cs. lone_chain t ∷ cs) (all_alone ts none.1)
+
+pub lone_chains : (ts : List Token) → list_any is_paste ts ≡ false → map (with_rest None) (grouped (items_behind ObjectLike None ts)) ≡ map lone_chain ts
+lone_chains ts a = map-id (grouped (items_behind ObjectLike None ts)) ∙ all_alone ts a
 
 -- ---- their tokens
 

@@ -1,5 +1,6 @@
 -- The faults of `#define` and `#undef` are 9 to 16.
 use Rattle.std.proofs.Common.{◌≡◌, ℕ, ◌≤◌, List, [], ◌∷◌, Bool, true, false, Result, Ok, Err, subst, arith, if◌then◌else◌}
+use Rattle.pptext.specs.declared.sources.Profile.{Profile}
 use Rattle.pptext.specs.declared.tokens.Place.{Place}
 use Rattle.pptext.specs.declared.tokens.Token.{Token}
 use Rattle.pptext.specs.declared.tokens.Fault.{Fault}
@@ -30,33 +31,33 @@ named_up_to : (at : Place) (name : Name) (d : Result Definition Refusal) → IsU
 named_up_to at name (Ok d) = tt
 named_up_to at name (Err r) = refusal_up_to r
 
-judged_up_to : (macros : Macros) (at : Place) (line : List Token) → IsUpTo 16 (judged macros at line)
-judged_up_to macros at [] = omega arith
-judged_up_to macros at (t ∷ ts) =
+judged_up_to : (profile : Profile) (macros : Macros) (at : Place) (line : List Token) → IsUpTo 16 (judged profile macros at line)
+judged_up_to profile macros at [] = omega arith
+judged_up_to profile macros at (t ∷ ts) =
     let reserved : Result Named Fault = Err (fault 10 at t.text) in
-    let malformed : Result Named Fault = judged macros at [] in
-    let named : Result Named Fault = under_name at t.text (fitting macros t.text (read_definition ts)) in
-    up_to_either 16 (is_identifier t) (if is_reserved macros t.text then reserved else named) malformed
-    (up_to_either 16 (is_reserved macros t.text) reserved named (omega arith) (named_up_to at t.text (fitting macros t.text (read_definition ts)))) (omega arith)
+    let malformed : Result Named Fault = judged profile macros at [] in
+    let named : Result Named Fault = under_name at t.text (fitting profile macros t.text (read_definition profile ts)) in
+    up_to_either 16 (is_identifier t) (if is_reserved profile macros t.text then reserved else named) malformed
+    (up_to_either 16 (is_reserved profile macros t.text) reserved named (omega arith) (named_up_to at t.text (fitting profile macros t.text (read_definition profile ts)))) (omega arith)
 
 entered_up_to : (macros : Macros) (r : Result Named Fault) → IsUpTo 16 r → IsUpTo 16 (entered macros r)
 entered_up_to macros (Ok n) h = tt
 entered_up_to macros (Err f) h = h
 
-undefined_up_to : (macros : Macros) (at : Place) (line : List Token) → IsUpTo 16 (undefined macros at line)
-undefined_up_to macros at [] = omega arith
-undefined_up_to macros at (t ∷ []) =
+undefined_up_to : (profile : Profile) (macros : Macros) (at : Place) (line : List Token) → IsUpTo 16 (undefined profile macros at line)
+undefined_up_to profile macros at [] = omega arith
+undefined_up_to profile macros at (t ∷ []) =
     let reserved : Result Name Fault = Err (fault 10 at t.text) in
-    let malformed : Result Name Fault = undefined macros at [] in
-    up_to_either 16 (is_identifier t) (if is_reserved macros t.text then reserved else Ok t.text) malformed (up_to_either 16 (is_reserved macros t.text) reserved (Ok t.text) (omega arith) tt) (omega arith)
-undefined_up_to macros at (t ∷ u ∷ us) = omega arith
+    let malformed : Result Name Fault = undefined profile macros at [] in
+    up_to_either 16 (is_identifier t) (if is_reserved profile macros t.text then reserved else Ok t.text) malformed (up_to_either 16 (is_reserved profile macros t.text) reserved (Ok t.text) (omega arith) tt) (omega arith)
+undefined_up_to profile macros at (t ∷ u ∷ us) = omega arith
 
 taken_out_up_to : (macros : Macros) (r : Result Name Fault) → IsUpTo 16 r → IsUpTo 16 (taken_out macros r)
 taken_out_up_to macros (Ok name) h = tt
 taken_out_up_to macros (Err f) h = h
 
-pub define_number : (macros : Macros) (at : Place) (line : List Token) (f : Fault) → after_define macros at line ≡ Err f → f.number ≤ 16
-define_number macros at line f e = subst (IsUpTo 16) e (entered_up_to macros (judged macros at line) (judged_up_to macros at line))
+pub define_number : (profile : Profile) (macros : Macros) (at : Place) (line : List Token) (f : Fault) → after_define profile macros at line ≡ Err f → f.number ≤ 16
+define_number profile macros at line f e = subst (IsUpTo 16) e (entered_up_to macros (judged profile macros at line) (judged_up_to profile macros at line))
 
-pub undef_number : (macros : Macros) (at : Place) (line : List Token) (f : Fault) → after_undef macros at line ≡ Err f → f.number ≤ 16
-undef_number macros at line f e = subst (IsUpTo 16) e (taken_out_up_to macros (undefined macros at line) (undefined_up_to macros at line))
+pub undef_number : (profile : Profile) (macros : Macros) (at : Place) (line : List Token) (f : Fault) → after_undef profile macros at line ≡ Err f → f.number ≤ 16
+undef_number profile macros at line f e = subst (IsUpTo 16) e (taken_out_up_to macros (undefined profile macros at line) (undefined_up_to profile macros at line))

@@ -5,8 +5,10 @@ use Rattle.std.proofs.lemmas.Bool.{or_parts}
 use Rattle.pptext.specs.declared.tokens.Token.{Token}
 use Rattle.ppmacro.specs.Spellings.{is_hash, is_paste}
 use Rattle.ppmacro.specs.declared.macros.Shape.{Shape}
-use Rattle.ppmacro.specs.declared.macros.Operand.TheVariants.{Tok, Param}
-use Rattle.ppmacro.specs.Chains.{Item, items_at, items_behind, plain_item, parameter_of, is_function_like, begins_joined, grouped, hash_sign}
+use Rattle.ppmacro.specs.declared.macros.Operand.TheVariants as operand
+use Rattle.ppmacro.specs.declared.patterns.Entry.{Entry}
+use Rattle.ppmacro.specs.declared.patterns.Entry.TheVariants.{Tok, Param}
+use Rattle.ppmacro.specs.Chains.{Item, items_at, items_behind, plain_item, parameter_of, is_function_like, begins_joined, grouped, hash_sign, lenient_parameter, with_rest}
 use Rattle.ppmacro.specs.Patterns.{is_operator, entry_at, entry_of, entry_chain}
 use Rattle.ppmacro.proofs.ChainLemmas.{grouped-alone}
 
@@ -30,13 +32,26 @@ unjoined s (t ∷ ts) a =
     ∙ begins_alone (parameter_of s t) t (items_behind s None ts)
 
 grouped_entry : (p : Option ℕ) (t : Token) (is : List Item) → begins_joined is ≡ false → grouped (plain_item p t ∷ is) ≡ entry_chain (entry_at p t) ∷ grouped is
-grouped_entry (Some i) t is h = grouped-alone t.space (Param i) is h
-grouped_entry None t is h = grouped-alone t.space (Tok t) is h
+grouped_entry (Some i) t is h = grouped-alone t.space (operand.Param i) is h
+grouped_entry None t is h = grouped-alone t.space (operand.Tok t) is h
 
-pub entry_chains : (s : Shape) (ts : List Token) → list_any is_operator ts ≡ false → map entry_chain (map (entry_of s) ts) ≡ grouped (items_behind s None ts)
-entry_chains s [] a = refl
-entry_chains s (t ∷ ts) a =
+all_alone : (s : Shape) (ts : List Token) → list_any is_operator ts ≡ false → map entry_chain (map (entry_of s) ts) ≡ grouped (items_behind s None ts)
+all_alone s [] a = refl
+all_alone s (t ∷ ts) a =
     let none = or_parts (is_operator t) (list_any is_operator ts) a in
-    ap (λ cs. entry_chain (entry_of s t) ∷ cs) (entry_chains s ts none.1)
+    ap (λ cs. entry_chain (entry_of s t) ∷ cs) (all_alone s ts none.1)
     ∙ sym (grouped_entry (parameter_of s t) t (items_behind s None ts) (unjoined s ts none.1))
     ∙ ap grouped (sym (one_item s t ts none.0))
+
+-- no entry ends in the rest
+restless : (rest : Option ℕ) (e : Entry) → entry_chain e ≡ with_rest rest (entry_chain e)
+restless None e = refl
+restless (Some i) (Tok t) = refl
+restless (Some i) (Param mark j) = refl
+
+all_restless : (rest : Option ℕ) (es : List Entry) → map entry_chain es ≡ map (with_rest rest) (map entry_chain es)
+all_restless rest [] = refl
+all_restless rest (e ∷ es) = λ i. restless rest e i ∷ all_restless rest es i
+
+pub entry_chains : (s : Shape) (ts : List Token) → list_any is_operator ts ≡ false → map entry_chain (map (entry_of s) ts) ≡ map (with_rest (lenient_parameter s)) (grouped (items_behind s None ts))
+entry_chains s ts a = all_restless (lenient_parameter s) (map (entry_of s) ts) ∙ ap (map (with_rest (lenient_parameter s))) (all_alone s ts a)

@@ -1,15 +1,15 @@
 // The chains of a replacement list, whose operands `##` joins (6.10.3.2, 6.10.3.3).
-ghost use Rattle.std.specs.Prelude.{◌≡◌, IfOk, OnOk, None, List, [], ◌∷◌, ◌++◌, false, position, codes};
+ghost use Rattle.std.specs.Prelude.{◌≡◌, IfOk, OnOk, None, List, [], ◌∷◌, ◌++◌, map, false, position};
 ghost use Rattle.std.specs.Str.{bytes_eq};
 ghost use Rattle.std.specs.Option.{option_map};
 ghost use Rattle.ppmacro.specs.Chains as definitions;
-ghost use Rattle.ppmacro.specs.Chains.{names_in, or_at, parameter_named, parameter_of, is_function_like, is_operator_hash, plain_item, stringized_item, items_behind, grouped, chains_of};
+ghost use Rattle.ppmacro.specs.Chains.{names_in, parameter_named, parameter_of, is_function_like, is_operator_hash, plain_item, stringized_item, items_behind, grouped, lenient_parameter, with_rest, chains_of};
 ghost use Rattle.ppmacro.specs.Items.{led_by, resumed};
 ghost use Rattle.pptext.specs.declared.tokens.Token.{Token};
 
 use crate::borrowed::Leaf;
 use crate::keys::Key;
-use crate::macros::{Chain, Chains, Definition, Operand, Operands, Shape};
+use crate::macros::{Chain, Chains, Definition, Operand, Operands, Shape, Variadic};
 use crate::places::{FEW, index_of_each};
 use crate::spellings::{is_hash, is_paste};
 use indexmap::IndexSet;
@@ -61,8 +61,8 @@ impl<'p> Model for Parameters<'p> {
     ghost invariant = { λ p. IfSome p.index (λ s. s.keys ≡ names_in p.shape.now) };
 }
 
-// The names of the parameters.
-fn names_in(shape: &Shape) -> &[Spelling]
+/// The names of the parameters, that of the variable argument last.
+pub(crate) fn names_in(shape: &Shape) -> &[Spelling]
     ensures { result.now ≡ names_in shape.now }
 {
     match shape {
@@ -103,47 +103,12 @@ impl<'p> Parameters<'p> {
     }
 }
 
-// Whether it is the name of the arguments that `...` takes.
-fn is_variable_arguments(name: &[u8]) -> bool
-    ensures { result ≡ bytes_eq (codes "__VA_ARGS__") name.now }
-{
-    b"__VA_ARGS__".as_slice() == name
-}
-
-// What was found, or what comes behind the others.
-fn or_last(found: Option<usize>, last: bool, count: usize) -> Option<usize>
-    ensures { result ≡ or_at found last count }
-{
-    match found {
-        Some(index) => Some(index),
-        None if last => Some(count),
-        None => None,
-    }
-}
-
-// Which parameter has this name, which was found so among their names.
-fn parameter_found(shape: &Shape, name: &[u8], found: Option<usize>) -> Option<usize>
-    requires { found ≡ position (λ n. bytes_eq n name.now) (names_in shape.now) }
-    ensures { result ≡ parameter_named shape.now name.now }
-{
-    let Shape::FunctionLike {
-        parameters,
-        variadic,
-    } = shape
-    else {
-        return None;
-    };
-    let names = parameters.as_slice();
-    let last = *variadic && is_variable_arguments(name);
-    or_last(found, last, names.len())
-}
-
 // Which parameter has this name. A call of it is for identifiers alone.
 #[inline(never)]
 fn parameter_named(shape: &Parameters, name: &[u8]) -> Option<usize>
     ensures { result ≡ parameter_named shape.now name.now }
 {
-    parameter_found(shape.shape, name, shape.index_of(name))
+    shape.index_of(name)
 }
 
 /// Which parameter a token is.
@@ -266,13 +231,13 @@ fn put_item<'a>(
     Ok(false)
 }
 
-// The chains of these tokens.
+// The chains of these tokens, without a rest.
 fn chains_in<'a>(
     alloc: Global,
     shape: &Parameters,
     body: &'a [Token],
-) -> Result<Chains<'a>, AllocError>
-    ensures { IfOk result (λ c. c ≡ grouped (items_behind shape.now None body.now)) }
+) -> Result<Vec<Chain<'a>>, AllocError>
+    ensures { IfOk result (λ v. v.items ≡ grouped (items_behind shape.now None body.now)) }
 {
     let mut chains = Vec::with_capacity(alloc, body.len())?;
     let mut joined = false;
@@ -288,7 +253,32 @@ fn chains_in<'a>(
         hash = None;
         joined = put_item(&mut chains, joined, item)?;
     }
-    Ok(Chains::new(chains))
+    Ok(chains)
+}
+
+// Which parameter may be absent.
+fn lenient_parameter(shape: &Shape) -> Option<usize>
+    ensures { result ≡ lenient_parameter shape.now }
+{
+    match shape {
+        Shape::FunctionLike {
+            parameters,
+            variadic: Variadic::Lenient,
+        } => Some(parameters.as_slice().len().saturating_sub(1)),
+        _ => None,
+    }
+}
+
+// Makes the last operand of each chain the rest, where it is the parameter that may be absent, behind a comma.
+fn end_in_rest(shape: &Shape, chains: &mut [Chain])
+    ensures { chains.new ≡ map (with_rest (lenient_parameter shape.now)) chains.old }
+{
+    let Some(index) = lenient_parameter(shape) else {
+        return;
+    };
+    for chain in chains.iter_mut() {
+        chain.operands.end_in_rest(index);
+    }
 }
 
 /// The chains of a definition's replacement list. Its parameters are hashed so.
@@ -301,5 +291,7 @@ pub(crate) fn chains_of<'a>(
 {
     let body = definition.body.as_slice();
     let shape = Parameters::new(alloc, &definition.shape, body.len(), hashing)?;
-    chains_in(alloc, &shape, body)
+    let mut chains = chains_in(alloc, &shape, body)?;
+    end_in_rest(&definition.shape, chains.as_mut_slice());
+    Ok(Chains::new(chains))
 }

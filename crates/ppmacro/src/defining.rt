@@ -4,20 +4,20 @@ ghost use Rattle.std.specs.FinMap as finite_map;
 ghost use Rattle.ppmacro.specs.declared.macros.Shape.TheVariants.{ObjectLike};
 ghost use Rattle.pptext.specs.Tokens.{fault};
 ghost use Rattle.pptext.specs.declared.tokens.Place.{Place};
-ghost use Rattle.ppmacro.specs.Define.{parameter_list, read_definition, function_like, is_variadic, refusal_of, fitting, number_of, faulted, under_name, judged, after_define, undefined, after_undef, Leaves};
+ghost use Rattle.ppmacro.specs.Define.{parameter_list, read_definition, function_like, refusal_of, fitting, number_of, faulted, under_name, judged, after_define, undefined, after_undef, Leaves};
 
 mod agreement;
 mod bodies;
 mod headings;
 
 use self::agreement::clashes;
-use self::bodies::{misplaces_hash, misplaces_paste, says_variable_arguments};
-use self::headings::{has_variable_arguments, read_heading, repeats};
+use self::bodies::{misplaces_hash, misplaces_paste, misplaces_variable_arguments};
+use self::headings::{all_parameters, has_variable_arguments, read_heading, repeats, variadic_by};
 use crate::borrowed::{Body, Text};
 use crate::chains::is_function_like;
 use crate::macros::{Definition, Macro, Shape};
 use crate::tables::Table;
-use pptext::{Fault, Hashing, Memory, Place, Token};
+use pptext::{Fault, Hashing, Memory, Place, Profile, Token};
 use std::alloc::{AllocError, Global};
 use std::marker::Model;
 
@@ -116,12 +116,13 @@ impl<'a> Model for Named<'a> {
 // The macro behind `(`. Its parameters are hashed so.
 fn function_like<'a>(
     alloc: Global,
+    profile: Profile,
     line: &'a [Token],
     hashing: Hashing,
 ) -> Result<Result<Definition<'a>, Refusal>, AllocError>
-    ensures { IfOk result (λ r. r ≡ function_like (parameter_list line.now)) }
+    ensures { IfOk result (λ r. r ≡ function_like profile (parameter_list profile line.now)) }
 {
-    let Some(heading) = read_heading(alloc, line)? else {
+    let Some(heading) = read_heading(alloc, profile, line)? else {
         return Ok(Err(Refusal {
             wrong: Wrong::ParameterList,
         }));
@@ -138,8 +139,8 @@ fn function_like<'a>(
     }
     Ok(Ok(Definition {
         shape: Shape::FunctionLike {
-            parameters: heading.names,
-            variadic: heading.variadic,
+            parameters: all_parameters(alloc, heading.ending, heading.names)?,
+            variadic: variadic_by(profile.is_gnu(), heading.ending),
         },
         body: heading.body,
     }))
@@ -158,10 +159,11 @@ fn object_like<'a>(body: &'a [Token]) -> Definition<'a>
 // What stands behind the macro's name.
 fn read_definition<'a>(
     alloc: Global,
+    profile: Profile,
     line: &'a [Token],
     hashing: Hashing,
 ) -> Result<Result<Definition<'a>, Refusal>, AllocError>
-    ensures { IfOk result (λ r. r ≡ read_definition line.now) }
+    ensures { IfOk result (λ r. r ≡ read_definition profile line.now) }
 {
     let Some(first) = line.first() else {
         return Ok(Ok(object_like(line)));
@@ -174,21 +176,22 @@ fn read_definition<'a>(
             wrong: Wrong::Spacing,
         }));
     }
-    function_like(alloc, &line[1..], hashing)
+    function_like(alloc, profile, &line[1..], hashing)
 }
 
-// Why a definition is refused, if it is.
+// Why a definition is refused, if it is. In GNU C a name may be defined again, whatever its definition was.
 fn refusal_of(
     alloc: Global,
+    profile: Profile,
     table: &Table,
     name: &[u8],
     definition: &Definition,
 ) -> Result<Option<Refusal>, AllocError>
-    ensures { IfOk result (λ r. r ≡ refusal_of table.now name.now definition.now) }
+    ensures { IfOk result (λ r. r ≡ refusal_of profile table.now name.now definition.now) }
 {
     let shape = &definition.shape;
     let body = definition.body.as_slice();
-    if !is_variadic(shape) && says_variable_arguments(body) {
+    if misplaces_variable_arguments(shape, body) {
         return Ok(Some(Refusal {
             wrong: Wrong::VariableArguments,
         }));
@@ -203,7 +206,7 @@ fn refusal_of(
             wrong: Wrong::Stringizing,
         }));
     }
-    if clashes(table, name, definition) {
+    if !profile.is_gnu() && clashes(table, name, definition) {
         return Ok(Some(Refusal {
             wrong: Wrong::Redefinition,
         }));
@@ -211,30 +214,21 @@ fn refusal_of(
     Ok(None)
 }
 
-// Whether `...` ends the parameters.
-fn is_variadic(shape: &Shape) -> bool
-    ensures { result ≡ is_variadic shape.now }
-{
-    match shape {
-        Shape::FunctionLike { variadic, .. } => *variadic,
-        _ => false,
-    }
-}
-
 // The macro that is defined behind an allowed name, or the fault.
 fn fitting<'a>(
     alloc: Global,
+    profile: Profile,
     table: &Table,
     name: &'a Token,
     line: &'a [Token],
 ) -> Result<Result<Named<'a>, Refused<'a>>, AllocError>
-    ensures { (at : Place) → IfOk result (λ r. faulted at r ≡ under_name at name.now.text (fitting table.now name.now.text (read_definition line.now))) }
+    ensures { (at : Place) → IfOk result (λ r. faulted at r ≡ under_name at name.now.text (fitting profile table.now name.now.text (read_definition profile line.now))) }
 {
-    let definition = match read_definition(alloc, line, table.hashing())? {
+    let definition = match read_definition(alloc, profile, line, table.hashing())? {
         Ok(definition) => definition,
         Err(refusal) => return Ok(Err(refusal.of(name))),
     };
-    match refusal_of(alloc, table, name.text.as_bytes(), &definition)? {
+    match refusal_of(alloc, profile, table, name.text.as_bytes(), &definition)? {
         Some(refusal) => Ok(Err(refusal.of(name))),
         None => Ok(Ok(Named {
             name: Text::of(name),
@@ -246,10 +240,11 @@ fn fitting<'a>(
 // The macro that a line behind `define` defines, or the fault.
 fn judged<'a>(
     alloc: Global,
+    profile: Profile,
     table: &Table,
     line: &'a [Token],
 ) -> Result<Result<Named<'a>, Refused<'a>>, AllocError>
-    ensures { (at : Place) → IfOk result (λ r. faulted at r ≡ judged table.now at line.now) }
+    ensures { (at : Place) → IfOk result (λ r. faulted at r ≡ judged profile table.now at line.now) }
 {
     let Some(name) = line.first() else {
         return Ok(Err(Refused {
@@ -263,13 +258,13 @@ fn judged<'a>(
             text: b"define",
         }));
     }
-    if table.is_reserved(name.text.as_bytes()) {
+    if table.is_reserved(profile, name.text.as_bytes()) {
         return Ok(Err(Refused {
             number: 10,
             text: name.text.as_bytes(),
         }));
     }
-    fitting(alloc, table, name, &line[1..])
+    fitting(alloc, profile, table, name, &line[1..])
 }
 
 // Puts a definition into the table.
@@ -292,18 +287,22 @@ fn enter<'a>(table: &mut Table<'a>, named: Named<'a>) -> Result<(), AllocError>
 /// 14, `#` without a parameter behind it in a function-like macro (6.10.3.2p1);
 /// 16, the name has another definition (6.10.3p2).
 ///
+/// In GNU C `...` may follow the last parameter's name (gcc's manual, "Variadic Macros"), another definition takes the place of the one
+/// before, so that there is no 16, and `__STDC_VERSION__` isn't reserved.
+///
 /// With a fault, and with `Memory` where memory ran out, the table stays as it was.
 #[inline(never)]
 pub fn define<'a>(
     alloc: Global,
     table: &mut Table<'a>,
+    profile: Profile,
     at: Place,
     line: &'a [Token],
 ) -> Result<Result<(), Fault>, Memory>
-    ensures defined { IfOk result (λ r. Leaves table.old table.new r (after_define table.old at line.now)) }
+    ensures defined { IfOk result (λ r. Leaves table.old table.new r (after_define profile table.old at line.now)) }
     ensures memory { OnErr result (table.new ≡ table.old) }
 {
-    match judged(alloc, table, line)? {
+    match judged(alloc, profile, table, line)? {
         Ok(named) => {
             enter(table, named)?;
             Ok(Ok(()))
@@ -313,8 +312,12 @@ pub fn define<'a>(
 }
 
 // The name that a line behind `undef` takes out, or the fault.
-fn undefined<'a>(table: &Table, line: &'a [Token]) -> Result<Text<'a>, Refused<'a>>
-    ensures { (at : Place) → faulted at result ≡ undefined table.now at line.now }
+fn undefined<'a>(
+    profile: Profile,
+    table: &Table,
+    line: &'a [Token],
+) -> Result<Text<'a>, Refused<'a>>
+    ensures { (at : Place) → faulted at result ≡ undefined profile table.now at line.now }
 {
     let [name] = line else {
         return Err(Refused {
@@ -328,7 +331,7 @@ fn undefined<'a>(table: &Table, line: &'a [Token]) -> Result<Text<'a>, Refused<'
             text: b"undef",
         });
     }
-    if table.is_reserved(name.text.as_bytes()) {
+    if table.is_reserved(profile, name.text.as_bytes()) {
         return Err(Refused {
             number: 10,
             text: name.text.as_bytes(),
@@ -338,19 +341,21 @@ fn undefined<'a>(table: &Table, line: &'a [Token]) -> Result<Text<'a>, Refused<'
 }
 
 /// Takes a macro out, if there is one of this name (6.10.3.5p2). `at` is the place of `#`, `line` what stands behind `undef`. Fault 9 at
-/// `at`, with the text `undef`, where that isn't one identifier; fault 10, with the name, where it is reserved (6.10.8p2, 6.10.3p5).
+/// `at`, with the text `undef`, where that isn't one identifier; fault 10, with the name, where it is reserved (6.10.8p2, 6.10.3p5), as
+/// `__STDC_VERSION__` isn't in GNU C.
 ///
 /// With a fault, and with `Memory` where memory ran out, the table stays as it was.
 pub fn undef<'a>(
     alloc: Global,
     table: &mut Table<'a>,
+    profile: Profile,
     at: Place,
     line: &'a [Token],
 ) -> Result<Result<(), Fault>, Memory>
-    ensures undefined { IfOk result (λ r. Leaves table.old table.new r (after_undef table.old at line.now)) }
+    ensures undefined { IfOk result (λ r. Leaves table.old table.new r (after_undef profile table.old at line.now)) }
     ensures memory { OnErr result (table.new ≡ table.old) }
 {
-    match undefined(table, line) {
+    match undefined(profile, table, line) {
         Ok(name) => {
             table.remove(name.bytes());
             Ok(Ok(()))

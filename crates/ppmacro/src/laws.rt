@@ -1,16 +1,22 @@
 // Laws of the definitions: functions that do nothing, whose contracts are the laws.
-ghost use Rattle.std.specs.Prelude.{◌≡◌, ◌↔◌, List, Some, true};
+ghost use Rattle.std.specs.Prelude.{◌≡◌, ◌↔◌, List, None, Some, Ok, true, false};
+ghost use Rattle.std.specs.List.{list_any};
+ghost use Rattle.pptext.specs.declared.sources.Profile.{Profile};
+ghost use Rattle.pptext.specs.declared.tokens.Place.{Place};
 ghost use Rattle.pptext.specs.declared.tokens.Token.{Token};
+ghost use Rattle.pptext.specs.Profiles.{is_gnu};
+ghost use Rattle.ppmacro.specs.Names.{Macros};
 ghost use Rattle.ppmacro.specs.Headings.{Heading};
-ghost use Rattle.ppmacro.specs.Define.{parameter_list};
-ghost use Rattle.ppmacro.specs.Chains.{chains_of};
+ghost use Rattle.ppmacro.specs.Define.{Named, parameter_list, judged};
+ghost use Rattle.ppmacro.specs.Chains.{lenient_parameter, chains_of};
 ghost use Rattle.ppmacro.specs.declared.macros.Definition.{Definition};
 ghost use Rattle.ppmacro.specs.declared.macros.Chain.{Chain};
-ghost use Rattle.ppmacro.specs.Laws.{IsHeading, AreChains, places_operators};
+ghost use Rattle.ppmacro.specs.Laws.{IsHeading, AreChains, places_operators, holds_rest};
 
-/// A heading is read exactly where it is laid out: names with commas between them, then `...` or not, then `)` (6.10.3).
+/// A heading is read exactly where it is laid out: names with commas between them, then `...` or not, then `)` (6.10.3); in GNU C also names and `...`
+/// without a comma between them.
 pub fn reads_headings()
-    ensures { (line : List Token) (heading : Heading) → (parameter_list line ≡ Some heading) ↔ IsHeading line heading }
+    ensures { (profile : Profile) (line : List Token) (heading : Heading) → (parameter_list profile line ≡ Some heading) ↔ IsHeading profile line heading }
 {}
 
 /// The chains of a replacement list, laid end to end with `##` between their operands, are the list, where its operators stand in
@@ -18,4 +24,11 @@ pub fn reads_headings()
 pub fn lays_out_chains()
     ensures laid_out { (definition : Definition) → places_operators definition ≡ true → AreChains definition.shape definition.body (chains_of definition) }
     ensures only { (definition : Definition) (chains : List Chain) → AreChains definition.shape definition.body chains → chains_of definition ≡ chains }
+{}
+
+/// Without the rules of GNU C no variable argument of a macro that is defined may be absent; and no chain of a macro without such an
+/// argument has a rest.
+pub fn lenient_in_gnu_alone()
+    ensures strict { (profile : Profile) (macros : Macros) (at : Place) (line : List Token) (named : Named) → is_gnu profile ≡ false → judged profile macros at line ≡ Ok named → lenient_parameter named.definition.shape ≡ None }
+    ensures pasted { (definition : Definition) → lenient_parameter definition.shape ≡ None → list_any holds_rest (chains_of definition) ≡ false }
 {}

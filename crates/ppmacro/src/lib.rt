@@ -21,8 +21,10 @@ pub use borrowed::{Body, Leaf};
 pub use defining::{define, undef};
 pub use flying::{Expansion, Hidden};
 pub use hide_sets::{HideSets, Set};
-pub use laws::{lays_out_chains, reads_headings};
-pub use macros::{Builtin, Chain, Chains, Definition, Macro, Names, Operand, Operands, Shape};
+pub use laws::{lays_out_chains, lenient_in_gnu_alone, reads_headings};
+pub use macros::{
+    Builtin, Chain, Chains, Definition, Macro, Names, Operand, Operands, Shape, Variadic,
+};
 pub use patterns::{Entry, Pattern};
 pub use substituting::{
     paste, push_escaped, stringize, substitute, substitute_pattern, tells_each_kind,

@@ -1,8 +1,9 @@
 // What a macro is.
-ghost use Rattle.std.specs.Prelude.{◌≡◌, OnOk, IfOk, IfSome, ◌++◌, ◌∷◌, [], map};
+ghost use Rattle.std.specs.Prelude.{◌≡◌, OnOk, IfOk, IfSome, ◌++◌, ◌∷◌, [], map, if◌then◌else◌};
 ghost use Rattle.std.specs.List.{list_any};
 ghost use Rattle.std.specs.Option.{option_copied};
-ghost use Rattle.ppmacro.specs.Chains.{chains_of};
+ghost use Rattle.ppmacro.specs.Chains.{is_comma, rest_behind, ending_in_rest, chains_of};
+ghost use Rattle.ppmacro.specs.declared.macros.Operand.TheVariants.{Rest};
 ghost use Rattle.ppmacro.specs.Lone.{is_object_like, lone_tokens, lone_chain};
 ghost use Rattle.ppmacro.specs.Patterns.{listed};
 ghost use Rattle.ppmacro.specs.Spellings.{is_paste};
@@ -31,13 +32,27 @@ pub enum Builtin {
 /// Names, which contracts see as the list of their spellings.
 pub type Names = Sequence<Spelling>;
 
+/// Whether the last parameter of a macro takes a variable number of arguments, as one list (6.10.3p12).
+#[derive(Clone, Copy, Debug, PartialEq, Eq)]
+pub enum Variadic {
+    /// It takes one argument, as the others do.
+    No,
+    /// It takes all arguments from its own on, of which there is one at least (6.10.3p4).
+    Strict,
+    /// The same, but it may be absent (gcc's manual, "Variadic Macros").
+    Lenient,
+}
+
 /// What kind of macro it is.
 #[derive(Drop)]
 pub enum Shape {
     Predefined(Builtin),
     ObjectLike,
-    /// With the names of its parameters, and whether `...` ends them.
-    FunctionLike { parameters: Names, variadic: bool },
+    /// With the names of its parameters: `__VA_ARGS__` stands last where `...` does.
+    FunctionLike {
+        parameters: Names,
+        variadic: Variadic,
+    },
 }
 
 /// What defines a macro: its kind and its replacement list.
@@ -56,6 +71,8 @@ pub enum Operand<'a> {
     Param(usize),
     /// A parameter behind `#`, which stands at this place.
     Str(usize, Place),
+    /// A variable argument that may be absent, behind a comma at the end of what `##` joins (gcc's manual, "Variadic Macros").
+    Rest(usize),
 }
 
 impl<'a> Default for Operand<'a> {
@@ -67,6 +84,39 @@ impl<'a> Default for Operand<'a> {
     // What stands in the place of an operand that moves; nobody sees it.
     fn default() -> Operand<'a> {
         Operand::Param(0)
+    }
+}
+
+// Whether it is the token `,`.
+fn is_comma(operand: &Operand) -> bool
+    ensures { result ≡ is_comma operand.now }
+{
+    match operand {
+        Operand::Tok(token) => token.token().is_punct(b","),
+        _ => false,
+    }
+}
+
+// Whether the second is this parameter, and the first a comma.
+fn is_rest(before: &Operand, last: &Operand, index: usize) -> bool
+    ensures { rest_behind index before.now last.now ≡ (if result then Rest index else last.now) }
+{
+    match last {
+        Operand::Param(parameter) => *parameter == index && is_comma(before),
+        _ => false,
+    }
+}
+
+// Makes the last operand the rest, where it is this parameter behind a comma.
+fn end_in_rest(operands: &mut [Operand], index: usize)
+    ensures { operands.new ≡ ending_in_rest index operands.old }
+{
+    let count = operands.len();
+    if count < 2 {
+        return;
+    }
+    if is_rest(&operands[count - 2], &operands[count - 1], index) {
+        operands[count - 1] = Operand::Rest(index);
     }
 }
 
@@ -115,6 +165,15 @@ impl<'a> Operands<'a> {
             }
         }
         Ok(())
+    }
+
+    /// Makes the last the rest, where it is this parameter behind a comma.
+    pub(crate) fn end_in_rest(&mut self, index: usize)
+        ensures { self.new ≡ ending_in_rest index self.old }
+    {
+        if let Held::Joined(operands) = &mut self.held {
+            end_in_rest(operands.as_mut_slice(), index);
+        }
     }
 
     /// The operands.

@@ -3,9 +3,9 @@ ghost use Rattle.std.specs.Prelude.{◌≡◌, ◌++◌, ◌∷◌, IfOk, OnOk, 
 ghost use Rattle.std.specs.FinSet as set;
 ghost use Rattle.ppmacro.specs.Numbered.{Numbered};
 ghost use Rattle.ppmacro.specs.HideSets.{set_at, IsKnown, hidings, AllKnown, Keeps};
-ghost use Rattle.ppmacro.specs.Substitution.{is_joined, chain_tokens, mark_first, with_mark, plain, chains_tokens, substituted_by};
+ghost use Rattle.ppmacro.specs.Substitution.{is_joined, before_rest, rest_of, with_rest_tokens, chain_tokens, mark_first, with_mark, plain, chains_tokens, substituted_by};
 ghost use Rattle.pptext.specs.Stops.{Answers};
-ghost use Rattle.ppmacro.specs.Substituting.{ArgumentsKnown, arguments_in, marked_in, pushed, left_with};
+ghost use Rattle.ppmacro.specs.Substituting.{lists_of, ArgumentsKnown, arguments_in, marked_in, pushed, left_with};
 
 mod entries;
 mod gains;
@@ -35,7 +35,41 @@ fn is_joined(operands: &[Operand]) -> bool
     matches!(operands, [_, _, ..])
 }
 
-// The tokens of a chain: each `#`, and then `##` from the left.
+// The operands of a chain that `##` joins, and which argument the rest behind them is.
+fn split_rest<'s, 'a>(operands: &'s [Operand<'a>]) -> (&'s [Operand<'a>], Option<usize>)
+    ensures front { result.0.now ≡ before_rest operands.now }
+    ensures rest { result.1 ≡ rest_of operands.now }
+{
+    let Some((last, front)) = operands.split_last() else {
+        return (operands, None);
+    };
+    match last {
+        Operand::Rest(index) => (front, Some(*index)),
+        _ => (operands, None),
+    }
+}
+
+// Puts the rest behind the other tokens of a chain, or takes away the comma where it is absent.
+fn lay_rest<'a>(
+    tokens: &mut Vec<Hidden<'a>>,
+    given: &[Vec<Hidden<'a>>],
+    rest: Option<usize>,
+) -> Result<(), AllocError>
+    ensures { OnOk result (tokens.new.items ≡ with_rest_tokens (lists_of given.now) rest tokens.old.items) }
+{
+    let Some(index) = rest else {
+        return Ok(());
+    };
+    match given.get(index) {
+        Some(argument) => push_all(tokens, argument.as_slice()),
+        None => {
+            tokens.pop();
+            Ok(())
+        }
+    }
+}
+
+// The tokens of a chain: each `#`, then `##` from the left, and then the rest.
 fn chain_tokens<'x, 'a: 'x>(
     alloc: Global,
     sets: &mut HideSets,
@@ -51,8 +85,11 @@ fn chain_tokens<'x, 'a: 'x>(
 {
     let operands = chain.operands.as_slice();
     let beside = is_joined(operands);
-    let lists = operands_tokens(alloc, sets, beside, given, expanded, used, operands)?;
-    join_all(alloc, sets, lists.as_slice(), used)
+    let (front, rest) = split_rest(operands);
+    let lists = operands_tokens(alloc, sets, beside, given, expanded, used, front)?;
+    let mut tokens = join_all(alloc, sets, lists.as_slice(), used)?;
+    lay_rest(&mut tokens, given, rest)?;
+    Ok(tokens)
 }
 
 // A copy of a token, with this mark.
@@ -127,7 +164,7 @@ fn push_chain_tokens<'x, 'a: 'x>(
                 let pending = push_chain(tokens, mark, expansion(given, expanded, *index))?;
                 return Ok(pending);
             }
-            Operand::Str(_, _) => {}
+            Operand::Str(_, _) | Operand::Rest(_) => {}
         }
     }
     let more = chain_tokens(alloc, sets, given, expanded, used, chain)?;

@@ -2,7 +2,7 @@
 ghost use Rattle.std.specs.Prelude.{◌≡◌, IfOk, OnOk, OnErr};
 ghost use Rattle.std.specs.Option.{option_copied};
 ghost use Rattle.std.specs.FinMap as table;
-ghost use Rattle.ppmacro.specs.Define.{is_barred, is_predefined, is_reserved};
+ghost use Rattle.ppmacro.specs.Define.{is_barred, is_fixed, is_fixed_shape, is_reserved};
 ghost use Rattle.ppmacro.specs.Predefined.{predefined_as, predefined};
 
 use crate::borrowed::Body;
@@ -10,7 +10,7 @@ use crate::keys::Key;
 use crate::macros::{Builtin, Definition, Macro, Shape};
 use crate::marks::Marks;
 use indexmap::IndexMap;
-use pptext::{Hashing, Memory};
+use pptext::{Hashing, Memory, Profile};
 use std::alloc::{AllocError, Global};
 use std::marker::Model;
 
@@ -46,12 +46,23 @@ impl<'a> Model for Table<'a> {
     ghost invariant = { λ t. AreMarked t.marks (table.from_entries t.macros.entries) };
 }
 
-// Whether it is a predefined macro.
-fn is_predefined(found: Option<&Macro>) -> bool
-    ensures { result ≡ is_predefined (option_copied found.entry) }
+// Whether it is a predefined macro that stays as it is: each but, in GNU C, `__STDC_VERSION__`.
+fn is_fixed_shape(gnu: bool, shape: &Shape) -> bool
+    ensures { result ≡ is_fixed_shape gnu shape.now }
+{
+    match shape {
+        Shape::Predefined(Builtin::StdcVersion) => !gnu,
+        Shape::Predefined(_) => true,
+        _ => false,
+    }
+}
+
+// Whether it is such a macro.
+fn is_fixed(gnu: bool, found: Option<&Macro>) -> bool
+    ensures { result ≡ is_fixed gnu (option_copied found.entry) }
 {
     match found {
-        Some(found) => matches!(found.definition().shape, Shape::Predefined(_)),
+        Some(found) => is_fixed_shape(gnu, &found.definition().shape),
         None => false,
     }
 }
@@ -162,10 +173,10 @@ impl<'a> Table<'a> {
     }
 
     /// Whether no directive may define the name or take it out (6.10.8p2, 6.10.3p5).
-    pub(crate) fn is_reserved(&self, name: &[u8]) -> bool
-        ensures { result ≡ is_reserved self.now name.now }
+    pub(crate) fn is_reserved(&self, profile: Profile, name: &[u8]) -> bool
+        ensures { result ≡ is_reserved profile self.now name.now }
     {
-        is_predefined(self.get(name)) || is_barred(name)
+        is_fixed(profile.is_gnu(), self.get(name)) || is_barred(name)
     }
 
     // Puts a macro under this name.

@@ -46,7 +46,7 @@ fn same_body(left: &[Token], right: &[Token]) -> bool
     same_tokens(&left[1..], &right[1..])
 }
 
-// Whether two macros are of one kind, with the same parameters.
+// Whether two macros are of one kind, with the same parameters. The names tell whether `...` ends them.
 fn same_shape(left: &Shape, right: &Shape) -> bool
     ensures { result ≡ same_shape left.now right.now }
 {
@@ -55,13 +55,13 @@ fn same_shape(left: &Shape, right: &Shape) -> bool
         (
             Shape::FunctionLike {
                 parameters: names,
-                variadic,
+                ..
             },
             Shape::FunctionLike {
                 parameters: others,
-                variadic: other,
+                ..
             },
-        ) => *variadic == *other && names.as_slice() == others.as_slice(),
+        ) => names.as_slice() == others.as_slice(),
         _ => false,
     }
 }

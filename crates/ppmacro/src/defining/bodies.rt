@@ -2,19 +2,27 @@
 ghost use Rattle.std.specs.Prelude.{◌≡◌, IfOk, codes, true};
 ghost use Rattle.std.specs.List.{list_any};
 ghost use Rattle.pptext.specs.Tokens.{is_name};
-ghost use Rattle.ppmacro.specs.Define.{misplaces_paste, begins_with_parameter, misplaces_hash};
+ghost use Rattle.ppmacro.specs.Define.{misplaces_variable_arguments, misplaces_paste, begins_with_parameter, misplaces_hash};
 
-use crate::chains::{Parameters, parameter_of};
+use super::headings::has_variable_arguments;
+use crate::chains::{Parameters, names_in, parameter_of};
 use crate::macros::Shape;
 use crate::spellings::{is_hash, is_paste};
 use pptext::{Hashing, Token};
 use std::alloc::{AllocError, Global};
 
-/// Whether `__VA_ARGS__` stands in it.
-pub(crate) fn says_variable_arguments(body: &[Token]) -> bool
+// Whether `__VA_ARGS__` stands in it.
+fn says_variable_arguments(body: &[Token]) -> bool
     ensures { result ≡ list_any (is_name (codes "__VA_ARGS__")) body.now }
 {
     body.iter().any(|t| t.is_name(b"__VA_ARGS__"))
+}
+
+/// Whether `__VA_ARGS__` stands in it where no `...` stands for it.
+pub(crate) fn misplaces_variable_arguments(shape: &Shape, body: &[Token]) -> bool
+    ensures { result ≡ misplaces_variable_arguments shape.now body.now }
+{
+    says_variable_arguments(body) && !has_variable_arguments(names_in(shape))
 }
 
 /// Whether `##` stands first, last or beside another.

@@ -1,23 +1,34 @@
 // The parameters of a function-like macro (6.10.3p10).
-ghost use Rattle.std.specs.Prelude.{◌≡◌, IfOk, codes, false};
+ghost use Rattle.std.specs.Prelude.{◌≡◌, IfOk, false};
 ghost use Rattle.std.specs.List.{list_any};
 ghost use Rattle.std.specs.Option.{option_map};
 ghost use Rattle.std.specs.Str.{bytes_eq};
-ghost use Rattle.ppmacro.specs.Define.{closed, parameters_from, parameter_list, repeats};
+ghost use Rattle.ppmacro.specs.Define.{closed, behind_name, parameters_from, parameter_list, repeats, all_parameters, variadic_by, has_variable_arguments};
 ghost use Rattle.ppmacro.specs.Items.{with_names};
 
 use crate::borrowed::Body;
-use crate::macros::Names;
+use crate::macros::{Names, Variadic};
 use crate::places::{FEW, index_of_each};
-use pptext::{Hashing, Spelling, Token};
+use pptext::{Hashing, Profile, Spelling, Token};
 use std::alloc::{AllocError, Global};
 use std::marker::Model;
 
-/// The parameters' names, whether `...` ends them, and what stands behind `)`.
+/// How a list of parameters ends.
+#[derive(Clone, Copy)]
+pub(crate) enum Ending {
+    /// Without `...`.
+    Plain,
+    /// With `...`.
+    Dots,
+    /// With a name and `...` (gcc's manual, "Variadic Macros").
+    NamedDots,
+}
+
+/// The parameters' names as they are written, how they end, and what stands behind `)`.
 #[derive(Drop)]
 pub(crate) struct Heading<'a> {
     pub(crate) names: Names,
-    pub(crate) variadic: bool,
+    pub(crate) ending: Ending,
     pub(crate) body: Body<'a>,
 }
 
@@ -26,12 +37,12 @@ impl<'a> Model for Heading<'a> {
 
     ghost Value = { Heading };
 
-    ghost view = { λ h. record { names = h.names; variadic = h.variadic; body = h.body } };
+    ghost view = { λ h. record { names = h.names; ending = h.ending; body = h.body } };
 }
 
 // The heading of these names, where `)` stands here.
-fn closed<'a>(names: Vec<Spelling>, variadic: bool, line: &'a [Token]) -> Option<Heading<'a>>
-    ensures { result ≡ option_map (with_names names.items) (closed variadic line.now) }
+fn closed<'a>(names: Vec<Spelling>, ending: Ending, line: &'a [Token]) -> Option<Heading<'a>>
+    ensures { result ≡ option_map (with_names names.items) (closed ending line.now) }
 {
     let Some(first) = line.first() else {
         return None;
@@ -41,27 +52,44 @@ fn closed<'a>(names: Vec<Spelling>, variadic: bool, line: &'a [Token]) -> Option
     }
     Some(Heading {
         names: Names::new(names),
-        variadic,
+        ending,
         body: Body::new(&line[1..]),
     })
 }
 
+// The heading of these names, the last of which stands directly before. In GNU C its `...` may stand here.
+fn behind_name<'a>(names: Vec<Spelling>, gnu: bool, line: &'a [Token]) -> Option<Heading<'a>>
+    ensures { result ≡ option_map (with_names names.items) (behind_name gnu line.now) }
+{
+    let Some(first) = line.first() else {
+        return None;
+    };
+    if gnu && first.is_punct(b"...") {
+        return closed(names, Ending::NamedDots, &line[1..]);
+    }
+    closed(names, Ending::Plain, line)
+}
+
 // The heading of one parameter or more, or of `...`.
-fn parameters<'a>(alloc: Global, line: &'a [Token]) -> Result<Option<Heading<'a>>, AllocError>
-    ensures { IfOk result (λ h. h ≡ parameters_from false line.now) }
+fn parameters<'a>(
+    alloc: Global,
+    gnu: bool,
+    line: &'a [Token],
+) -> Result<Option<Heading<'a>>, AllocError>
+    ensures { IfOk result (λ h. h ≡ parameters_from gnu false line.now) }
 {
     let mut names = Vec::new(alloc);
     let mut named = false;
     for (i, token) in line.iter().enumerate() {
         if named {
             if !token.is_punct(b",") {
-                return Ok(closed(names, false, &line[i..]));
+                return Ok(behind_name(names, gnu, &line[i..]));
             }
             named = false;
             continue;
         }
         if token.is_punct(b"...") {
-            return Ok(closed(names, true, &line[i + 1..]));
+            return Ok(closed(names, Ending::Dots, &line[i + 1..]));
         }
         if !token.is_identifier() {
             return Ok(None);
@@ -75,17 +103,18 @@ fn parameters<'a>(alloc: Global, line: &'a [Token]) -> Result<Option<Heading<'a>
 /// The heading that a line begins with behind `(`, if it has the form of one.
 pub(crate) fn read_heading<'a>(
     alloc: Global,
+    profile: Profile,
     line: &'a [Token],
 ) -> Result<Option<Heading<'a>>, AllocError>
-    ensures { IfOk result (λ h. h ≡ parameter_list line.now) }
+    ensures { IfOk result (λ h. h ≡ parameter_list profile line.now) }
 {
     let Some(first) = line.first() else {
         return Ok(None);
     };
     if first.is_punct(b")") {
-        return Ok(closed(Vec::new(alloc), false, line));
+        return Ok(closed(Vec::new(alloc), Ending::Plain, line));
     }
-    parameters(alloc, line)
+    parameters(alloc, profile.is_gnu(), line)
 }
 
 // Whether a name is among these.
@@ -123,7 +152,36 @@ pub(crate) fn repeats(
 
 /// Whether `__VA_ARGS__` is among the names.
 pub(crate) fn has_variable_arguments(names: &[Spelling]) -> bool
-    ensures { result ≡ list_any (λ n. bytes_eq n (codes "__VA_ARGS__")) names.now }
+    ensures { result ≡ has_variable_arguments names.now }
 {
     is_among(names, b"__VA_ARGS__")
+}
+
+/// All parameters: for `...` stands `__VA_ARGS__`, behind the others (6.10.3.1p2).
+pub(crate) fn all_parameters(
+    alloc: Global,
+    ending: Ending,
+    names: Names,
+) -> Result<Names, AllocError>
+    ensures { IfOk result (λ all. all ≡ all_parameters ending names) }
+{
+    match ending {
+        Ending::Plain | Ending::NamedDots => Ok(names),
+        Ending::Dots => {
+            let mut all = names.into_vec();
+            all.push(Spelling::from_slice(alloc, b"__VA_ARGS__")?)?;
+            Ok(Names::new(all))
+        }
+    }
+}
+
+/// Whether the last parameter takes a variable number of arguments. In GNU C that argument may be absent.
+pub(crate) fn variadic_by(gnu: bool, ending: Ending) -> Variadic
+    ensures { result ≡ variadic_by gnu ending }
+{
+    match (ending, gnu) {
+        (Ending::Plain, _) => Variadic::No,
+        (Ending::Dots | Ending::NamedDots, false) => Variadic::Strict,
+        (Ending::Dots | Ending::NamedDots, true) => Variadic::Lenient,
+    }
 }

@@ -112,6 +112,7 @@ pub(crate) fn operand_tokens<'x, 'a: 'x>(
             }
             Ok(Vec::from_clones(alloc, expansion(given, expanded, *index))?)
         }
+        Operand::Rest(index) => Ok(Vec::from_clones(alloc, argument(given, *index))?),
     }
 }
 

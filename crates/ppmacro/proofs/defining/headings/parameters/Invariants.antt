@@ -5,4 +5,4 @@ use Rattle.ppmacro.specs.Items.{with_names}
 use Rattle.ppmacro.proofs.defining.headings.parameters.Given as goal
 
 abbrev pub invariant-loop-i : goal.invariant-loop-i
-invariant-loop-i l = option_map (with_names l.names.items) (parameters_from l.named (drop l.i l.line)) ≡ parameters_from false l.line
+invariant-loop-i l = option_map (with_names l.names.items) (parameters_from l.gnu l.named (drop l.i l.line)) ≡ parameters_from l.gnu false l.line

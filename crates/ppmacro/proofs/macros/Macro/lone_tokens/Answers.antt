@@ -1,8 +1,8 @@
-use Rattle.std.proofs.Common.{rules, ◌≡◌, ◌∙◌, true, false, None}
+use Rattle.std.proofs.Common.{rules, ◌≡◌, ◌∙◌, true, false, None, map}
 use Rattle.std.specs.List.{list_any}
 use Rattle.ppmacro.specs.Spellings.{is_paste}
 use Rattle.ppmacro.specs.Lone.{is_object_like}
-use Rattle.ppmacro.specs.Chains.{items_behind, grouped}
+use Rattle.ppmacro.specs.Chains.{items_behind, grouped, lenient_parameter, with_rest}
 use Rattle.ppmacro.proofs.Lonely.{lone_chains, object_like}
 use Rattle.ppmacro.proofs.macros.Macro.lone_tokens.Goals as goal
 
@@ -11,4 +11,4 @@ returns-clause-chains c =
     let is : is_object_like c.args.self.now.shape ≡ true = search rules in
     let body : c.args.self.now.body ≡ c.as_slice-body.result.now = search rules in
     let none : list_any is_paste c.as_slice-body.result.now ≡ false = search rules in
-    (λ i. grouped (items_behind (object_like c.args.self.now.shape is i) None (body i))) ∙ lone_chains c.as_slice-body.result.now none
+    (λ i. map (with_rest (lenient_parameter (object_like c.args.self.now.shape is i))) (grouped (items_behind (object_like c.args.self.now.shape is i) None (body i)))) ∙ lone_chains c.as_slice-body.result.now none
