@@ -1,20 +1,19 @@
 -- How the arguments of an invocation are expanded one after the other.
 use Rattle.std.proofs.Common.{MatchOption, IfSome, ◌≡◌, ℕ, zero, suc, ◌+◌, ◌<◌, ◌≤◌, Bool, true, false, ◌||◌, List, [], ◌∷◌, ◌++◌, map, drop, Option, Some, None, Ok, Err, Vec}
-use Rattle.std.proofs.Common.{Global, is_some, true≢false, refl, sym, ap, ◌∙◌, subst, get_or, length, add-one, arith}
-use Rattle.std.proofs.lemmas.List.{get_or_default}
+use Rattle.std.proofs.Common.{Global, is_some, true≢false, refl, sym, ap, ◌∙◌, subst, get_or, length, add-one, arith, if◌then◌else◌}
 use Rattle.pptext.specs.declared.tokens.Token.{Token}
 use Rattle.pptext.specs.declared.tokens.Fault.{Fault}
-use Rattle.ppmacro.specs.Names.{Macros}
+use Rattle.ppmacro.specs.Names.{Name, Macros}
 use Rattle.ppmacro.specs.Numbered.{Numbered}
 use Rattle.ppmacro.specs.HideSets.{Hiding, hidings, AllKnown, Keeps}
-use Rattle.ppmacro.specs.Chains.{chains_of}
-use Rattle.ppmacro.specs.Substituting.{ListsKnown, option_of}
+use Rattle.ppmacro.specs.Chains.{names_in, chains_of}
+use Rattle.ppmacro.specs.Substituting.{lists_of, ListsKnown, option_of}
+use Rattle.ppmacro.specs.Substitution.{argument_at}
 use Rattle.std.specs.Option.{option_map}
 use Rattle.ppmacro.specs.declared.flying.Expansion.{Expansion}
 use Rattle.ppmacro.specs.declared.flying.Expansion.TheVariants.{Unused}
 use Rattle.ppmacro.specs.declared.flying.Hidden.{Hidden}
 use Rattle.ppmacro.specs.declared.macros.Chain.{Chain}
-use Rattle.ppmacro.proofs.WalkLemmas.{drop-item}
 use Rattle.ppexpand.specs.declared.env.Env.{Env}
 use Rattle.ppmacro.specs.Patterns.{entry_chain}
 use Rattle.ppmacro.specs.declared.patterns.Entry.{Entry}
@@ -23,18 +22,11 @@ use Rattle.ppexpand.specs.Turn.{Call, is_alone, uses_alone, to_expand, wanted}
 use Rattle.ppexpand.specs.Expansion.{Expands, ExpandsTo, ExpandsArguments}
 use Rattle.ppexpand.specs.Shown.{given_in, expanded_in, ExpansionsKnown, held, Raises, HasExpanded, ExpandsArgument, expands, raises}
 use Rattle.ppexpand.proofs.Follows.{ArgumentsFollow, arguments_start, arguments_unused, arguments_used, arguments_refused, arguments_end}
-use Rattle.ppexpand.proofs.Keeping.{expanded-keeps, expanded_in-push}
+use Rattle.ppexpand.proofs.Keeping.{expanded-keeps, expanded_in-push, arguments_known}
 
-pub arguments_first : (macros : Macros) (env : Env) (level : ℕ) (call : Call) (left : Option ℕ) → ArgumentsFollow macros env level call left (wanted call) [] left (to_expand 0 (chains_of call.macro) call.arguments)
+pub arguments_first : (macros : Macros) (env : Env) (level : ℕ) (call : Call) (left : Option ℕ) → ArgumentsFollow macros env level call left (wanted call) [] left (to_expand 0 (chains_of call.macro) (names_in call.macro.shape) call.arguments)
 unfolding wanted
 arguments_first macros env level call left = arguments_start macros env level call left (wanted call)
-
--- the argument of this parameter is not used alone, or is
-pub to_expand-unused : (i : ℕ) (cs : List Chain) (a : List Hiding) (rest : List (List Hiding)) → uses_alone i cs ≡ false → to_expand i cs (a ∷ rest) ≡ None ∷ to_expand (suc i) cs rest
-to_expand-unused i cs a rest h = rw h refl
-
-pub to_expand-used : (i : ℕ) (cs : List Chain) (a : List Hiding) (rest : List (List Hiding)) → uses_alone i cs ≡ true → to_expand i cs (a ∷ rest) ≡ Some a ∷ to_expand (suc i) cs rest
-to_expand-used i cs a rest h = rw h refl
 
 -- a fault that was raised, or none
 pub raised_some : (o : Option Fault) → is_some o ≡ true → (f : Fault) × (o ≡ Some f)
@@ -91,111 +83,104 @@ module _ (macros : Macros) (env : Env) (level : ℕ) (head : Token) (left after 
 
 -- ---- the argument of a parameter
 
-drop-given : (s : Numbered) (i : ℕ) (vs : List (Vec Hidden Global)) → drop i (given_in s vs) ≡ given_in s (drop i vs)
-drop-given s zero vs = refl
-drop-given s (suc i) [] = refl
-drop-given s (suc i) (v ∷ vs) = drop-given s i vs
+argument-in : (s : Numbered) (vs : List (Vec Hidden Global)) (i : ℕ) → argument_at (given_in s vs) i ≡ hidings s (argument_at (lists_of vs) i)
+argument-in s [] i = refl
+argument-in s (v ∷ vs) zero = refl
+argument-in s (v ∷ vs) (suc i) = argument-in s vs i
 
-pub given-item : (s : Numbered) (vs : List (Vec Hidden Global)) (i : ℕ) (v : Vec Hidden Global) → i < length vs → v ≡ get_or vs i v → drop i (given_in s vs) ≡ hidings s v.items ∷ drop (i + 1) (given_in s vs)
-given-item s vs i v h e = drop-given s i vs ∙ ap (given_in s) (drop-item vs i v h e) ∙ ap (λ xs. hidings s v.items ∷ xs) (sym (drop-given s (i + 1) vs))
+pub argument-known : (s : Numbered) (vs : List (Vec Hidden Global)) (i : ℕ) → ListsKnown s vs → AllKnown s (argument_at (lists_of vs) i)
+argument-known s vs i known = (arguments_known vs [] known (record { each = tt })).given_known i
 
-pub given-end : (s : Numbered) (vs : List (Vec Hidden Global)) (i : ℕ) → length vs ≤ i → drop i (given_in s vs) ≡ []
-given-end s vs i h = drop-given s i vs ∙ ap (given_in s) (drop_all vs i h)
-  where
-    drop_all : (vs : List (Vec Hidden Global)) (i : ℕ) → length vs ≤ i → drop i vs ≡ []
-    drop_all [] zero h = refl
-    drop_all [] (suc i) h = refl
-    drop_all (v ∷ vs) zero h = absurd (omega arith)
-    drop_all (v ∷ vs) (suc i) h = drop_all vs i (omega arith)
+-- what is to be expanded of the parameter i, where that is used alone or isn't
+abbrev expands_here : Bool → ℕ → List (List Hiding) → Option (List Hiding)
+expands_here alone i given = if alone then Some (argument_at given i) else None
 
-pub known-item : (s : Numbered) (vs : List (Vec Hidden Global)) (i : ℕ) (v : Vec Hidden Global) → i < length vs → v ≡ get_or vs i v → ListsKnown s vs → AllKnown s v.items
-known-item s [] i v h e known = absurd (omega arith)
-known-item s (x ∷ vs) zero v h e known = rw e known.each.0
-known-item s (x ∷ vs) (suc i) v h e known = known-item s vs i v (omega arith) e (record { each = known.each.1 })
+-- what is left to expand, where this parameter is next
+rest-next : (cs : List Chain) (names : List Name) (given : List (List Hiding)) (i j : ℕ) → j < length names
+    → to_expand i cs (drop j names) given ≡ expands_here (uses_alone i cs) i given ∷ to_expand (suc i) cs (drop (suc j) names) given
+rest-next cs [] given i j h = absurd (omega arith)
+rest-next cs (n ∷ names) given i zero h = refl
+rest-next cs (n ∷ names) given i (suc j) h = rest-next cs names given i j (omega arith)
 
--- what is left to expand, where this argument is next
-pub rest-unused : (s : Numbered) (vs : List (Vec Hidden Global)) (cs : List Chain) (i : ℕ) (v : Vec Hidden Global)
-    → i < length vs
-    → v ≡ get_or vs i v
-    → uses_alone i cs ≡ false
-    → to_expand i cs (drop i (given_in s vs)) ≡ None ∷ to_expand (i + 1) cs (drop (i + 1) (given_in s vs))
-rest-unused s vs cs i v h e u = ap (to_expand i cs) (given-item s vs i v h e)
-    ∙ to_expand-unused i cs (hidings s v.items) (drop (i + 1) (given_in s vs)) u
-    ∙ ap (λ n. None ∷ to_expand n cs (drop (i + 1) (given_in s vs))) (sym (add-one i))
+rest-is : (cs : List Chain) (names : List Name) (given : List (List Hiding)) (i : ℕ) (alone : Bool) → i < length names → uses_alone i cs ≡ alone
+    → to_expand i cs (drop i names) given ≡ expands_here alone i given ∷ to_expand (i + 1) cs (drop (i + 1) names) given
+rest-is cs names given i alone h u =
+    rest-next cs names given i i h ∙ ap (λ b. expands_here b i given ∷ to_expand (suc i) cs (drop (suc i) names) given) u
+    ∙ ap (λ k. expands_here alone i given ∷ to_expand k cs (drop k names) given) (sym (add-one i))
 
-pub rest-used : (s : Numbered) (vs : List (Vec Hidden Global)) (cs : List Chain) (i : ℕ) (v : Vec Hidden Global)
-    → i < length vs
-    → v ≡ get_or vs i v
-    → uses_alone i cs ≡ true
-    → to_expand i cs (drop i (given_in s vs)) ≡ Some (hidings s v.items) ∷ to_expand (i + 1) cs (drop (i + 1) (given_in s vs))
-rest-used s vs cs i v h e u =
-    ap (to_expand i cs) (given-item s vs i v h e)
-    ∙ to_expand-used i cs (hidings s v.items) (drop (i + 1) (given_in s vs)) u
-    ∙ ap (λ n. Some (hidings s v.items) ∷ to_expand n cs (drop (i + 1) (given_in s vs))) (sym (add-one i))
+rest-end : (cs : List Chain) (names : List Name) (given : List (List Hiding)) (i j : ℕ) → length names ≤ j → to_expand i cs (drop j names) given ≡ []
+rest-end cs [] given i zero h = refl
+rest-end cs [] given i (suc j) h = refl
+rest-end cs (n ∷ names) given i zero h = absurd (omega arith)
+rest-end cs (n ∷ names) given i (suc j) h = rest-end cs names given i j (omega arith)
 
-pub rest-end : (s : Numbered) (vs : List (Vec Hidden Global)) (cs : List Chain) (i : ℕ) → length vs ≤ i → to_expand i cs (drop i (given_in s vs)) ≡ []
-rest-end s vs cs i h = ap (to_expand i cs) (given-end s vs i h)
-
--- the next argument of a call, which is put behind what the others are expanded to, and what is left then
-module _ (macros : Macros) (env : Env) (level : ℕ) (first left between : Option ℕ) (s u w : Numbered) (vs : List (Vec Hidden Global)) (cs : List Chain) (i : ℕ) (v : Vec Hidden Global)
+-- the argument of the next parameter, which is put behind what the others are expanded to, and what is left then
+module _ (macros : Macros) (env : Env) (level : ℕ) (first left between : Option ℕ) (s u w : Numbered) (vs : List (Vec Hidden Global)) (cs : List Chain) (names : List Name) (i : ℕ)
     (done items : List Expansion) (call : Call) (all : List (Option (List Hiding))) where
   abbrev Here : Type 0
-  Here = ArgumentsFollow macros env level call first all (expanded_in u vs done) left (to_expand i cs (drop i (given_in s vs)))
+  Here = ArgumentsFollow macros env level call first all (expanded_in u vs done) left (to_expand i cs (drop i names) (given_in s vs))
 
   abbrev Behind : List (Option (List Hiding))
-  Behind = to_expand (i + 1) cs (drop (i + 1) (given_in s vs))
+  Behind = to_expand (i + 1) cs (drop (i + 1) names) (given_in s vs)
 
-  is_behind : i < length vs → v ≡ get_or vs i v → length done ≡ i → drop (length done) vs ≡ v ∷ drop (i + 1) vs
-  is_behind less is count = subst (λ n. drop n vs ≡ v ∷ drop (i + 1) vs) (sym count) (drop-item vs i v less is)
+  abbrev argument : List Hidden
+  argument = argument_at (lists_of vs) i
 
-  pub follows_unused : i < length vs → v ≡ get_or vs i v → length done ≡ i → uses_alone i cs ≡ false → items ≡ done ++ Unused ∷ [] → Here
+  pushed : (x : Numbered) (e : Expansion) → length done ≡ i → items ≡ done ++ e ∷ [] → expanded_in x vs items ≡ expanded_in x vs done ++ option_map (hidings x) (option_of argument e) ∷ []
+  pushed x e count made =
+      ap (expanded_in x vs) made ∙ expanded_in-push x vs done e ∙ ap (λ n. expanded_in x vs done ++ option_map (hidings x) (option_of (argument_at (lists_of vs) n) e) ∷ []) count
+
+  pub follows_unused : i < length names → length done ≡ i → uses_alone i cs ≡ false → items ≡ done ++ Unused ∷ [] → Here
       → ArgumentsFollow macros env level call first all (expanded_in u vs items) left Behind
-  follows_unused less is count unused made here =
-      let shown : expanded_in u vs items ≡ expanded_in u vs done ++ None ∷ [] = ap (expanded_in u vs) made ∙ expanded_in-push u vs done Unused v (drop (i + 1) vs) (is_behind less is count) in
+  follows_unused less count unused made here =
       let next : ArgumentsFollow macros env level call first all (expanded_in u vs done) left (None ∷ Behind) =
-      subst (ArgumentsFollow macros env level call first all (expanded_in u vs done) left) (rest-unused s vs cs i v less is unused) here in
-      subst (λ xs. ArgumentsFollow macros env level call first all xs left Behind) (sym shown)
+      subst (ArgumentsFollow macros env level call first all (expanded_in u vs done) left) (rest-is cs names (given_in s vs) i false less unused) here in
+      subst (λ xs. ArgumentsFollow macros env level call first all xs left Behind) (sym (pushed u Unused count made))
       (arguments_unused macros env level call first all (expanded_in u vs done) left Behind next)
 
-  is_next : i < length vs → v ≡ get_or vs i v → uses_alone i cs ≡ true → Here
-      → ArgumentsFollow macros env level call first all (expanded_in u vs done) left (Some (hidings s v.items) ∷ Behind)
-  is_next less is is_used here = subst (ArgumentsFollow macros env level call first all (expanded_in u vs done) left) (rest-used s vs cs i v less is is_used) here
+  is_next : i < length names → uses_alone i cs ≡ true → Here → ArgumentsFollow macros env level call first all (expanded_in u vs done) left (Some (hidings s argument) ∷ Behind)
+  is_next less is_used here =
+      subst (ArgumentsFollow macros env level call first all (expanded_in u vs done) left)
+      (rest-is cs names (given_in s vs) i true less is_used ∙ ap (λ a. Some a ∷ Behind) (argument-in s vs i)) here
 
-  pub follows_used : (e : Expansion) (tokens : List Hiding) → i < length vs → v ≡ get_or vs i v → length done ≡ i → uses_alone i cs ≡ true → items ≡ done ++ e ∷ []
+  pub follows_used : (e : Expansion) (tokens : List Hiding) → i < length names → length done ≡ i → uses_alone i cs ≡ true → items ≡ done ++ e ∷ []
       → Keeps u w
       → ListsKnown u vs
       → ExpansionsKnown u done
-      → option_map (hidings w) (option_of v.items e) ≡ Some tokens
-      → ExpandsArgument macros env level call.head.token left (hidings s v.items) between (Ok tokens)
+      → option_map (hidings w) (option_of argument e) ≡ Some tokens
+      → ExpandsArgument macros env level call.head.token left (hidings s argument) between (Ok tokens)
       → Here
       → ArgumentsFollow macros env level call first all (expanded_in w vs items) between Behind
-  follows_used e tokens less is count is_used made keeps known done_known here_is one here =
+  follows_used e tokens less count is_used made keeps known done_known here_is one here =
       let same : expanded_in w vs done ≡ expanded_in u vs done = expanded-keeps vs done keeps known done_known in
-      let shown : expanded_in w vs items ≡ expanded_in u vs done ++ Some tokens ∷ [] =
-      ap (expanded_in w vs) made ∙ expanded_in-push w vs done e v (drop (i + 1) vs) (is_behind less is count) ∙ (λ j. same j ++ here_is j ∷ []) in
+      let shown : expanded_in w vs items ≡ expanded_in u vs done ++ Some tokens ∷ [] = pushed w e count made ∙ (λ j. same j ++ here_is j ∷ []) in
       subst (λ xs. ArgumentsFollow macros env level call first all xs between Behind) (sym shown)
-      (arguments_used macros env level call first all (expanded_in u vs done) left between Behind (hidings s v.items) tokens (is_next less is is_used here) one)
+      (arguments_used macros env level call first all (expanded_in u vs done) left between Behind (hidings s argument) tokens (is_next less is_used here) one)
 
-  pub follows_refused : (f : Fault) → i < length vs → v ≡ get_or vs i v → uses_alone i cs ≡ true
-      → ExpandsArgument macros env level call.head.token left (hidings s v.items) between (Err f)
+  pub follows_refused : (f : Fault) → i < length names → uses_alone i cs ≡ true
+      → ExpandsArgument macros env level call.head.token left (hidings s argument) between (Err f)
       → Here
       → ExpandsArguments macros env level call first all between (Err f)
-  follows_refused f less is is_used one here =
-      arguments_refused macros env level call first all (expanded_in u vs done) left between Behind (hidings s v.items) f (is_next less is is_used here) one
+  follows_refused f less is_used one here =
+      arguments_refused macros env level call first all (expanded_in u vs done) left between Behind (hidings s argument) f (is_next less is_used here) one
 
-pub follows_all : (macros : Macros) (env : Env) (level : ℕ) (first left : Option ℕ) (s u : Numbered) (vs : List (Vec Hidden Global)) (cs : List Chain) (i : ℕ) (done : List Expansion) (call : Call)
-    (all : List (Option (List Hiding)))
-    → length vs ≤ i
-    → ArgumentsFollow macros env level call first all (expanded_in u vs done) left (to_expand i cs (drop i (given_in s vs)))
+pub follows_all : (macros : Macros) (env : Env) (level : ℕ) (first left : Option ℕ) (s u : Numbered) (vs : List (Vec Hidden Global)) (cs : List Chain) (names : List Name) (i : ℕ) (done : List Expansion)
+    (call : Call) (all : List (Option (List Hiding)))
+    → length names ≤ i
+    → ArgumentsFollow macros env level call first all (expanded_in u vs done) left (to_expand i cs (drop i names) (given_in s vs))
     → ExpandsArguments macros env level call first all left (Ok (expanded_in u vs done))
-follows_all macros env level first left s u vs cs i done call all end here = arguments_end macros env level call first all (expanded_in u vs done) left
-    (subst (ArgumentsFollow macros env level call first all (expanded_in u vs done) left) (rest-end s vs cs i end) here)
+follows_all macros env level first left s u vs cs names i done call all end here = arguments_end macros env level call first all (expanded_in u vs done) left
+    (subst (ArgumentsFollow macros env level call first all (expanded_in u vs done) left) (rest-end cs names (given_in s vs) i i end) here)
 
 -- what is marked of a parameter is whether it is used alone
-pub marked-alone : (used : List Bool) (count i : ℕ) (cs : List Chain) (mark : Bool) → i < count → length used ≡ count
+pub marked-alone : (used shown : List Bool) (count i : ℕ) (cs ds : List Chain) (mark : Bool)
+    → shown ≡ used
+    → cs ≡ ds
     → ((j : ℕ) → j < count → get_or used j false ≡ uses_alone j cs)
-    → mark ≡ get_or used i mark → uses_alone i cs ≡ mark
-marked-alone used count i cs mark less long marks is = sym (marks i less) ∙ get_or_default used i false mark (subst (λ n. i < n) (sym long) less) ∙ sym is
+    → i < count
+    → get_or shown i false ≡ mark
+    → uses_alone i ds ≡ mark
+marked-alone used shown count i cs ds mark same chains marks less is = ap (uses_alone i) (sym chains) ∙ sym (marks i less) ∙ ap (λ xs. get_or xs i false) (sym same) ∙ is
 
 -- a parameter stands among the chains of entries where it is one of them
 pub used-by-entries : (i : ℕ) (es : List Entry) → uses_alone i (map entry_chain es) ≡ list_any (λ e. is_alone i (entry_chain e).operands) es

@@ -1,12 +1,12 @@
 -- Arguments and invocations stand for the same while hide sets are added.
-use Rattle.std.proofs.Common.{◌≡◌, ℕ, zero, suc, List, [], ◌∷◌, ◌++◌, drop, length, unwrap_or, Some, Vec, Global, refl, ap}
+use Rattle.std.proofs.Common.{◌≡◌, ℕ, zero, suc, List, [], ◌∷◌, ◌++◌, length, unwrap_or, Some, Vec, Global, refl, ap}
 use Rattle.std.specs.Option.{option_map}
 use Rattle.std.specs.FinSet as set
 use Rattle.ppmacro.specs.Names.{HideSet}
 use Rattle.ppmacro.specs.Numbered.{Numbered}
 use Rattle.ppmacro.specs.HideSets.{set_at, hiding, hidings, HasSets, AllKnown, Keeps}
-use Rattle.ppmacro.specs.Substitution.{expanded_at}
-use Rattle.ppmacro.specs.Substituting.{option_of, options_of, ListsKnown, ArgumentsKnown}
+use Rattle.ppmacro.specs.Substitution.{argument_at, expanded_at}
+use Rattle.ppmacro.specs.Substituting.{lists_of, option_of, options_of, ListsKnown, ArgumentsKnown}
 use Rattle.ppmacro.specs.declared.flying.Hidden.{Hidden}
 use Rattle.ppmacro.specs.declared.flying.Expansion.{Expansion}
 use Rattle.ppmacro.specs.declared.flying.Expansion.TheVariants.{Unused, AsGiven, Made}
@@ -48,16 +48,13 @@ expanded_known-push (x ∷ es) e h here =
     let rest = expanded_known-push es e (record { each = h.each.1 }) here in
     record { each = (h.each.0, rest.each) }
 
--- one more, of the argument that is next
-pub expanded_in-push : (s : Numbered) (vs : List (Vec Hidden Global)) (es : List Expansion) (e : Expansion) (v : Vec Hidden Global) (rest : List (Vec Hidden Global))
-    → drop (length es) vs ≡ v ∷ rest
-    → expanded_in s vs (es ++ e ∷ []) ≡ expanded_in s vs es ++ option_map (hidings s) (option_of v.items e) ∷ []
-expanded_in-push s [] [] e v rest h = absurd (cc h)
-expanded_in-push s (w ∷ vs) [] e v rest h =
-    let same : w ≡ v = cc h in
-    ap (λ (x : Vec Hidden Global). option_map (hidings s) (option_of x.items e) ∷ []) same
-expanded_in-push s [] (x ∷ es) e v rest h = absurd (cc h)
-expanded_in-push s (w ∷ vs) (x ∷ es) e v rest h = ap (λ xs. option_map (hidings s) (option_of w.items x) ∷ xs) (expanded_in-push s vs es e v rest h)
+-- one more, of the argument that is next, or of one that is absent
+pub expanded_in-push : (s : Numbered) (vs : List (Vec Hidden Global)) (es : List Expansion) (e : Expansion)
+    → expanded_in s vs (es ++ e ∷ []) ≡ expanded_in s vs es ++ option_map (hidings s) (option_of (argument_at (lists_of vs) (length es)) e) ∷ []
+expanded_in-push s [] [] e = refl
+expanded_in-push s (v ∷ vs) [] e = refl
+expanded_in-push s [] (x ∷ es) e = ap (λ xs. option_map (hidings s) (option_of [] x) ∷ xs) (expanded_in-push s [] es e)
+expanded_in-push s (v ∷ vs) (x ∷ es) e = ap (λ xs. option_map (hidings s) (option_of v.items x) ∷ xs) (expanded_in-push s vs es e)
 
 option-at : {s : Numbered} (given : List Hidden) (e : Expansion) → AllKnown s given → AllKnown s (held e) → AllKnown s (unwrap_or (option_of given e) [])
 option-at given Unused g h = h

@@ -10,13 +10,14 @@ use Rattle.ppmacro.specs.Names.{Name, HideSet, Macros}
 use Rattle.ppmacro.specs.HideSets.{Hiding}
 use Rattle.ppmacro.specs.Chains.{chains_of}
 use Rattle.ppmacro.specs.Lexing.{kind_of}
+use Rattle.ppmacro.specs.declared.macros.Variadic.{Variadic}
 use Rattle.ppmacro.specs.declared.macros.Shape.{Shape}
 use Rattle.ppmacro.specs.declared.macros.Shape.TheVariants.{Predefined, ObjectLike, FunctionLike}
 use Rattle.ppmacro.specs.declared.macros.Definition.{Definition}
 use Rattle.ppmacro.specs.declared.macros.Chain.{Chain}
 use Rattle.ppmacro.specs.declared.macros.Operand.{Operand}
-use Rattle.ppmacro.specs.declared.macros.Operand.TheVariants.{Tok, Param, Str}
-use Rattle.ppmacro.specs.Substitution.{string_text, string_token, is_string_literal, stringized, pasted_as, pasted, after_ok, join, join_all, Arguments, argument_at, operand_tokens, operands_tokens, is_joined, chain_tokens, Marked}
+use Rattle.ppmacro.specs.declared.macros.Operand.TheVariants.{Tok, Param, Str, Rest}
+use Rattle.ppmacro.specs.Substitution.{string_text, string_token, is_string_literal, stringized, pasted_as, pasted, after_ok, join, join_all, Arguments, argument_at, operand_tokens, operands_tokens, is_joined, before_rest, chain_tokens, Marked}
 use Rattle.ppmacro.specs.Substitution.{chains_tokens, substituted}
 use Rattle.ppexpand.specs.declared.env.Env.{Env}
 use Rattle.ppexpand.specs.declared.expansion.Expanded.{Expanded}
@@ -64,6 +65,7 @@ below_operand : (beside : Bool) (args : Arguments) (used : Place) (o : Operand) 
 below_operand beside args used (Tok t) = tt
 below_operand true args used (Param i) = tt
 below_operand false args used (Param i) = tt
+below_operand beside args used (Rest i) = tt
 below_operand beside args used (Str i at) =
     let argument : List Token = map (λ t. t.token) (argument_at args.given i) in
     below_after {B = List Hiding} (stringized argument at used) (λ t. Ok (t ∷ [])) (below_stringized argument at used) (λ t. tt)
@@ -74,7 +76,9 @@ below_operands beside args used (o ∷ os) =
     below_after (operand_tokens beside args used o) _ (below_operand beside args used o) (λ ts. below_after (operands_tokens beside args used os) _ (below_operands beside args used os) (λ rest. tt))
 
 below_chain : (args : Arguments) (used : Place) (c : Chain) → IsBelow (chain_tokens args used c)
-below_chain args used c = below_after (operands_tokens (is_joined c.operands) args used c.operands) _ (below_operands (is_joined c.operands) args used c.operands) (λ lists. below_join_all [] lists used)
+below_chain args used c =
+    let os = before_rest c.operands in
+    below_after (operands_tokens (is_joined c.operands) args used os) _ (below_operands (is_joined c.operands) args used os) (λ lists. below_after (join_all [] lists used) _ (below_join_all [] lists used) (λ ts. tt))
 
 below_chains : (args : Arguments) (used : Place) (pending first : Bool) (cs : List Chain) → IsBelow (chains_tokens args used pending first cs)
 below_chains args used pending first [] = tt
@@ -103,12 +107,12 @@ below_called : (t : Hiding) (d : Definition) (as' : Option (List (List Hiding)))
 below_called t d (Some as') close behind = tt
 below_called t d None close behind = omega arith
 
-below_invoked : (t : Hiding) (d : Definition) (names : List Name) (variadic : Bool) (g : Gathered) → IsTurnBelow (invoked t d names variadic g)
+below_invoked : (t : Hiding) (d : Definition) (names : List Name) (variadic : Variadic) (g : Gathered) → IsTurnBelow (invoked t d names variadic g)
 below_invoked t d names variadic (Closed as' close behind) = below_called t d (fitted names variadic as') close behind
 below_invoked t d names variadic (Quoted q) = omega arith
 below_invoked t d names variadic Unclosed = omega arith
 
-below_function : (t : Hiding) (d : Definition) (names : List Name) (variadic : Bool) (list : List Hiding) → IsTurnBelow (function_turn t d names variadic list)
+below_function : (t : Hiding) (d : Definition) (names : List Name) (variadic : Variadic) (list : List Hiding) → IsTurnBelow (function_turn t d names variadic list)
 below_function t d names variadic [] = tt
 below_function t d names variadic (p ∷ rest) =
     turn_either (is_open p.token) (invoked t d names variadic (gather 0 (separators names variadic) rest)) (Passes t (p ∷ rest)) (below_invoked t d names variadic (gather 0 (separators names variadic) rest)) tt

@@ -1,5 +1,5 @@
 -- A token that passes is settled.
-use Rattle.std.proofs.Common.{◌≡◌, ℕ, zero, suc, Bool, true, false, not, List, [], ◌∷◌, Option, Some, None, Result, Ok, Err, if◌then◌else◌, refl, ap, ◌∙◌, subst}
+use Rattle.std.proofs.Common.{◌≡◌, ℕ, zero, suc, true, false, not, List, [], ◌∷◌, Option, Some, None, Result, Ok, Err, if◌then◌else◌, refl, ap, ◌∙◌, subst}
 use Rattle.std.proofs.lemmas.Bool.{or_right}
 use Rattle.std.proofs.lemmas.List.Elements.{All-cons, All-nil}
 use Rattle.std.specs.List.{AllPass}
@@ -11,6 +11,7 @@ use Rattle.ppmacro.specs.HideSets.{Hiding}
 use Rattle.ppmacro.specs.Chains.{is_function_like}
 use Rattle.ppmacro.specs.Substitution.{Marked}
 use Rattle.ppmacro.specs.declared.macros.Definition.{Definition}
+use Rattle.ppmacro.specs.declared.macros.Variadic.{Variadic}
 use Rattle.ppmacro.specs.declared.macros.Shape.{Shape}
 use Rattle.ppmacro.specs.declared.macros.Shape.TheVariants.{Predefined, ObjectLike, FunctionLike}
 use Rattle.ppexpand.specs.declared.env.Env.{Env}
@@ -34,7 +35,7 @@ module _ (macros : Macros) (env : Env) where
   replaced_settles (Ok m) rest = tt
   replaced_settles (Err f) rest = tt
 
-  invoked_settles : (t : Hiding) (d : Definition) (names : List Name) (variadic : Bool) (g : Gathered) → Settles (invoked t d names variadic g)
+  invoked_settles : (t : Hiding) (d : Definition) (names : List Name) (variadic : Variadic) (g : Gathered) → Settles (invoked t d names variadic g)
   invoked_settles t d names variadic (Closed as' close behind) = by_count (fitted names variadic as')
     where
       by_count : (o : Option (List (List Hiding))) → Settles (called t d o close behind)
@@ -43,7 +44,7 @@ module _ (macros : Macros) (env : Env) where
   invoked_settles t d names variadic (Quoted q) = tt
   invoked_settles t d names variadic Unclosed = tt
 
-  function_settles : (t : Hiding) (rest : List Hiding) (d : Definition) (names : List Name) (variadic : Bool) → is_settled macros t ≡ true → Settles (function_turn t d names variadic rest)
+  function_settles : (t : Hiding) (rest : List Hiding) (d : Definition) (names : List Name) (variadic : Variadic) → is_settled macros t ≡ true → Settles (function_turn t d names variadic rest)
   function_settles t [] d names variadic settled = settled
   function_settles t (p ∷ rest) d names variadic settled =
       elim (is_open p.token) as (λ b. Settles (if b then invoked t d names variadic (gather 0 (separators names variadic) rest) else Passes t (p ∷ rest))) [

@@ -9,6 +9,7 @@ use Rattle.ppmacro.specs.HideSets.{Hiding}
 use Rattle.ppmacro.specs.Substitution.{Marked}
 use Rattle.ppmacro.specs.declared.macros.Builtin.{Builtin}
 use Rattle.ppmacro.specs.declared.macros.Definition.{Definition}
+use Rattle.ppmacro.specs.declared.macros.Variadic.{Variadic}
 use Rattle.ppmacro.specs.declared.macros.Shape.{Shape}
 use Rattle.ppmacro.specs.declared.macros.Shape.TheVariants.{Predefined, ObjectLike, FunctionLike}
 use Rattle.ppexpand.specs.declared.env.Env.{Env}
@@ -41,20 +42,20 @@ module _ (macros : Macros) (env : Env) where
     predefined : {t : Hiding} {rest : List Hiding} {d : Definition} {b : Builtin} → NamesMacro macros t d → d.shape ≡ Predefined b → Means (t ∷ rest) (Replaced (predefined_value b env t (set.insert t.hide t.token.text) ∷ rest))
     object_like : {t : Hiding} {rest : List Hiding} {d : Definition} {m : Marked} → NamesMacro macros t d → d.shape ≡ ObjectLike → object_result t d ≡ Ok m → Means (t ∷ rest) (Replaced (followed_by rest m))
     object_refused : {t : Hiding} {rest : List Hiding} {d : Definition} {f : Fault} → NamesMacro macros t d → d.shape ≡ ObjectLike → object_result t d ≡ Err f → Means (t ∷ rest) (Failed f)
-    not_invoked : {t : Hiding} {rest : List Hiding} {d : Definition} {names : List Name} {variadic : Bool}
+    not_invoked : {t : Hiding} {rest : List Hiding} {d : Definition} {names : List Name} {variadic : Variadic}
         → NamesMacro macros t d
         → d.shape ≡ FunctionLike names variadic
         → opens_next rest ≡ false
         → Means (t ∷ rest) (Passes t rest)
-    quote_inside : {t paren quote : Hiding} {inside : List Hiding} {d : Definition} {names : List Name} {variadic : Bool}
+    quote_inside : {t paren quote : Hiding} {inside : List Hiding} {d : Definition} {names : List Name} {variadic : Variadic}
         → Opens macros t paren d names variadic
         → gather 0 (separators names variadic) inside ≡ Quoted quote
         → Means (t ∷ paren ∷ inside) (Failed (quote_fault quote))
-    unclosed : {t paren : Hiding} {inside : List Hiding} {d : Definition} {names : List Name} {variadic : Bool}
+    unclosed : {t paren : Hiding} {inside : List Hiding} {d : Definition} {names : List Name} {variadic : Variadic}
         → Opens macros t paren d names variadic
         → gather 0 (separators names variadic) inside ≡ Unclosed
         → Means (t ∷ paren ∷ inside) (Failed (fault_at_use 17 t))
-    wrong_number : {t paren close : Hiding} {inside behind : List Hiding} {d : Definition} {names : List Name} {variadic : Bool} {arguments : List (List Hiding)}
+    wrong_number : {t paren close : Hiding} {inside behind : List Hiding} {d : Definition} {names : List Name} {variadic : Variadic} {arguments : List (List Hiding)}
         → Opens macros t paren d names variadic
         → gather 0 (separators names variadic) inside ≡ Closed arguments close behind
         → fitted names variadic arguments ≡ None
@@ -63,7 +64,7 @@ module _ (macros : Macros) (env : Env) where
 
   -- ---- the turn of a list is by one of the rules
 
-  by_number : (t paren close : Hiding) (inside behind : List Hiding) (d : Definition) (names : List Name) (variadic : Bool) (arguments : List (List Hiding))
+  by_number : (t paren close : Hiding) (inside behind : List Hiding) (d : Definition) (names : List Name) (variadic : Variadic) (arguments : List (List Hiding))
       → Opens macros t paren d names variadic
       → gather 0 (separators names variadic) inside ≡ Closed arguments close behind
       → (o : Option (List (List Hiding)))
@@ -73,7 +74,7 @@ module _ (macros : Macros) (env : Env) where
   by_number t paren close inside behind d names variadic arguments i g (Some given) e =
       Means.begins (record { paren = paren; inside = inside; names = names; variadic = variadic; arguments = arguments; close = close; laid_out = refl; opens = i; closed = g; fits = e; gains = refl })
 
-  by_gathered : (t paren : Hiding) (inside : List Hiding) (d : Definition) (names : List Name) (variadic : Bool)
+  by_gathered : (t paren : Hiding) (inside : List Hiding) (d : Definition) (names : List Name) (variadic : Variadic)
       → Opens macros t paren d names variadic
       → (g : Gathered)
       → gather 0 (separators names variadic) inside ≡ g
@@ -82,7 +83,7 @@ module _ (macros : Macros) (env : Env) where
   by_gathered t paren inside d names variadic i (Quoted q) e = Means.quote_inside i e
   by_gathered t paren inside d names variadic i Unclosed e = Means.unclosed i e
 
-  by_next : (t : Hiding) (rest : List Hiding) (d : Definition) (names : List Name) (variadic : Bool) → NamesMacro macros t d → d.shape ≡ FunctionLike names variadic → Means (t ∷ rest) (function_turn t d names variadic rest)
+  by_next : (t : Hiding) (rest : List Hiding) (d : Definition) (names : List Name) (variadic : Variadic) → NamesMacro macros t d → d.shape ≡ FunctionLike names variadic → Means (t ∷ rest) (function_turn t d names variadic rest)
   by_next t [] d names variadic c e = Means.not_invoked c e refl
   by_next t (paren ∷ inside) d names variadic c e = elim (is_open paren.token) as (λ b. is_open paren.token ≡ b → Means (t ∷ paren ∷ inside) (function_turn t d names variadic (paren ∷ inside))) [
     | true ↦ λ o. rw o (by_gathered t paren inside d names variadic (record { names_macro = c; shape = e; paren_opens = o }) (gather 0 (separators names variadic) inside) refl)
@@ -119,11 +120,11 @@ module _ (macros : Macros) (env : Env) where
   calls_turn : {t : Hiding} {d : Definition} (rest : List Hiding) → NamesMacro macros t d → (s : Shape) → d.shape ≡ s → turn macros env (t ∷ rest) ≡ macro_turn env t rest d s
   calls_turn {t = t} {d = d} rest c s e = turn-named macros env t rest c.no_quote c.not_hidden ∙ ap (named_turn env t rest) c.named ∙ ap (macro_turn env t rest d) e
 
-  not_opened : (t : Hiding) (d : Definition) (names : List Name) (variadic : Bool) (rest : List Hiding) → opens_next rest ≡ false → function_turn t d names variadic rest ≡ Passes t rest
+  not_opened : (t : Hiding) (d : Definition) (names : List Name) (variadic : Variadic) (rest : List Hiding) → opens_next rest ≡ false → function_turn t d names variadic rest ≡ Passes t rest
   not_opened t d names variadic [] e = refl
   not_opened t d names variadic (p ∷ rest) e = rw e refl
 
-  invokes_turn : {t paren : Hiding} {d : Definition} {names : List Name} {variadic : Bool} (inside : List Hiding)
+  invokes_turn : {t paren : Hiding} {d : Definition} {names : List Name} {variadic : Variadic} (inside : List Hiding)
       → Opens macros t paren d names variadic
       → (g : Gathered)
       → gather 0 (separators names variadic) inside ≡ g

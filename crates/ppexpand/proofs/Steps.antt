@@ -16,6 +16,7 @@ use Rattle.ppmacro.specs.Names.{Name, HideSet, Macros}
 use Rattle.ppmacro.specs.HideSets.{Hiding}
 use Rattle.ppmacro.specs.Members.{same_name}
 use Rattle.ppmacro.specs.declared.macros.Definition.{Definition}
+use Rattle.ppmacro.specs.declared.macros.Variadic.{Variadic}
 use Rattle.ppmacro.specs.declared.macros.Shape.{Shape}
 use Rattle.ppmacro.specs.declared.macros.Shape.TheVariants.{Predefined, ObjectLike, FunctionLike}
 use Rattle.ppmacro.specs.Chains.{chains_of}
@@ -185,7 +186,7 @@ module _ (macros : Macros) (env : Env) where
   call_steps : (t p : Hiding) (rest : List Hiding)
       → Among t.token.text (table.keys macros)
       → set.contains t.hide t.token.text ≡ false
-      → (d : Definition) (names : List Name) (variadic : Bool) (g : Gathered)
+      → (d : Definition) (names : List Name) (variadic : Variadic) (g : Gathered)
       → Stands rest g
       → StepsTo (t ∷ (p ∷ rest)) (invoked t d names variadic g)
   call_steps t p rest named free d names variadic (Closed as' close behind) stands = by_count (fitted names variadic as')
@@ -199,7 +200,7 @@ module _ (macros : Macros) (env : Env) where
   function_steps : (t : Hiding) (rest : List Hiding)
       → Among t.token.text (table.keys macros)
       → set.contains t.hide t.token.text ≡ false
-      → (d : Definition) (names : List Name) (variadic : Bool)
+      → (d : Definition) (names : List Name) (variadic : Variadic)
       → StepsTo (t ∷ rest) (function_turn t d names variadic rest)
   function_steps t [] named free d names variadic = refl
   function_steps t (p ∷ rest) named free d names variadic =

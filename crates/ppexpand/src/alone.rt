@@ -1,10 +1,21 @@
 // Which parameters a replacement list uses away from `#` and `##`: their arguments are expanded (6.10.3.1).
 ghost use Rattle.std.specs.Prelude.{◌≡◌, ◌<◌, ◌||◌, ℕ, false, IfOk, get_or, length, map};
+ghost use Rattle.ppmacro.specs.Chains.{names_in};
 ghost use Rattle.ppmacro.specs.Patterns.{entry_chain, listed};
 ghost use Rattle.ppexpand.specs.Turn.{is_alone, uses_alone};
 
-use ppmacro::{Chain, Entry, Operand, Pattern};
+use ppmacro::{Chain, Entry, Macro, Operand, Pattern, Shape};
 use std::alloc::{AllocError, Global};
+
+/// How many parameters a macro has.
+pub(crate) fn parameters_of(replaced: &Macro) -> usize
+    ensures { result ≡ length (names_in replaced.now.shape) }
+{
+    match &replaced.definition().shape {
+        Shape::FunctionLike { parameters, .. } => parameters.as_slice().len(),
+        _ => 0,
+    }
+}
 
 /// Marks the parameter that a chain is, where it is one parameter alone.
 fn mark(used: &mut Vec<bool>, operands: &[Operand])
@@ -48,17 +59,18 @@ fn used_entries(
     Ok(used)
 }
 
-/// For each of so many parameters, whether a replacement list uses it away from `#` and `##`. The list is passed once, however many
+/// For each parameter of a macro, whether this replacement list uses it away from `#` and `##`. The list is passed once, however many
 /// parameters there are.
 #[inline(never)]
 pub(crate) fn used_alone(
     alloc: Global,
-    parameters: usize,
+    replaced: &Macro,
     pattern: &Pattern,
 ) -> Result<Vec<bool>, AllocError>
-    ensures len { IfOk result (λ v. length v.items ≡ parameters) }
-    ensures used { IfOk result (λ v. (i : ℕ) → i < parameters → get_or v.items i false ≡ uses_alone i (listed pattern.now)) }
+    ensures len { IfOk result (λ v. length v.items ≡ length (names_in replaced.now.shape)) }
+    ensures used { IfOk result (λ v. (i : ℕ) → i < length (names_in replaced.now.shape) → get_or v.items i false ≡ uses_alone i (listed pattern.now)) }
 {
+    let parameters = parameters_of(replaced);
     match pattern {
         Pattern::Alone(entries) => used_entries(alloc, parameters, entries.as_slice()),
         Pattern::Joined(chains) => used_chains(alloc, parameters, chains.as_slice()),

@@ -3,14 +3,14 @@ ghost use Rattle.std.specs.Prelude.{◌≡◌, ◌∷◌, ◌++◌, [], IfOk, On
 ghost use Rattle.ppmacro.specs.Numbered.{Numbered};
 ghost use Rattle.ppmacro.specs.HideSets.{HasSets, hiding, hidings, AllKnown};
 ghost use Rattle.ppmacro.specs.Substituting.{ListsKnown};
-ghost use Rattle.ppexpand.specs.Arguments.{Closed, Quoted, Unclosed, separates, fewer, separators, gather, fitted};
+ghost use Rattle.ppexpand.specs.Arguments.{Closed, Quoted, Unclosed, separates, fewer, separators, needed, gather, fitted};
 ghost use Rattle.ppexpand.specs.Shown.{given_in, fitting_in, FittingKnown, is_bare};
 
 use crate::cursor::Cursor;
 use crate::lists::put;
 use crate::spellings::{ArgumentRole, argument_role};
 use crate::supply::Supply;
-use ppmacro::Hidden;
+use ppmacro::{Hidden, Variadic};
 use pptext::Spelling;
 use std::alloc::{AllocError, Global};
 use std::mem;
@@ -32,11 +32,24 @@ pub(crate) enum Gathered<'a> {
     Unclosed,
 }
 
-/// How many commas separate arguments: all, or with `...` one for each named parameter.
-pub(crate) fn separators(names: &[Spelling], variadic: bool) -> Option<usize>
+/// How many commas separate arguments: all, or one for each parameter before the variable argument.
+pub(crate) fn separators(names: &[Spelling], variadic: Variadic) -> Option<usize>
     ensures { result ≡ separators names.now variadic }
 {
-    if variadic { Some(names.len()) } else { None }
+    match variadic {
+        Variadic::No => None,
+        Variadic::Strict | Variadic::Lenient => Some(names.len().saturating_sub(1)),
+    }
+}
+
+/// How many arguments there are at least.
+fn needed(names: &[Spelling], variadic: Variadic) -> usize
+    ensures { result ≡ needed names.now variadic }
+{
+    match variadic {
+        Variadic::No | Variadic::Strict => names.len(),
+        Variadic::Lenient => names.len().saturating_sub(1),
+    }
 }
 
 /// Whether a comma inside so many parentheses separates arguments, where so many commas may.
@@ -126,25 +139,22 @@ fn is_bare(arguments: &[Vec<Hidden>]) -> bool
     }
 }
 
-/// The arguments by parameter, or None where their number is wrong.
+/// The arguments by parameter, without a variable argument that is absent; or None where their number is wrong.
 pub(crate) fn fit<'a>(
     alloc: Global,
     arguments: Vec<Vec<Hidden<'a>>>,
     names: &[Spelling],
-    variadic: bool,
+    variadic: Variadic,
 ) -> Option<Vec<Vec<Hidden<'a>>>>
     ensures is { (sets : Numbered) → fitting_in sets result ≡ fitted names.now variadic (given_in sets arguments.entry.items) }
     ensures known { (sets : Numbered) → ListsKnown sets arguments.entry.items → FittingKnown sets result }
 {
-    if names.is_empty() && !variadic && is_bare(arguments.as_slice()) {
+    let least = needed(names, variadic);
+    if least == 0 && is_bare(arguments.as_slice()) {
         return Some(Vec::new(alloc));
     }
-    let named = if variadic {
-        arguments.len().saturating_sub(1)
-    } else {
-        arguments.len()
-    };
-    if named == names.len() && (!variadic || !arguments.is_empty()) {
+    let count = arguments.len();
+    if least <= count && count <= names.len() {
         Some(arguments)
     } else {
         None

@@ -3,10 +3,10 @@ ghost use Rattle.std.specs.Prelude.{◌≡◌, ℕ, ◌≤◌, ◌++◌, ◌∷�
 ghost use Rattle.ppmacro.specs.Chains.{chains_of};
 ghost use Rattle.ppmacro.specs.Patterns.{listed};
 ghost use Rattle.std.specs.Option.{option_copied};
-ghost use Rattle.ppmacro.specs.Substituting.{tokens_of, option_of};
+ghost use Rattle.ppmacro.specs.Substituting.{tokens_of, lists_of, option_of};
 ghost use Rattle.ppmacro.specs.HideSets.{hidings, AllKnown, Keeps};
 ghost use Rattle.ppmacro.specs.Numbered.{Numbered};
-ghost use Rattle.ppmacro.specs.Substitution.{plain};
+ghost use Rattle.ppmacro.specs.Substitution.{argument_at, plain};
 ghost use Rattle.pptext.specs.Tokens.{fault as fault_at};
 ghost use Rattle.ppmacro.specs.declared.flying.Hidden.{Hidden};
 ghost use Rattle.ppexpand.specs.Expansion.{ExpandsTo, IsExpansion};
@@ -16,7 +16,7 @@ ghost use Rattle.ppexpand.specs.Skipping.{HasSkipped};
 ghost use Rattle.ppexpand.specs.Shown.{expanded_in, ExpansionsKnown, call_in, CallKnown, finished_in, Raises, held, ExpandsArgument, HasExpanded};
 ghost use Rattle.ppexpand.specs.Shown.{ExpandsWanted, ComesTo, HasTaken, HasCalled};
 
-use crate::alone::used_alone;
+use crate::alone::{parameters_of, used_alone};
 use crate::cursor::{Ahead, Cursor};
 use crate::env::Env;
 use crate::lists::put;
@@ -236,6 +236,17 @@ fn expand_argument<'x, 'a: 'x>(
     made(supply.alloc(), passed, fault)
 }
 
+/// The argument of a parameter: no tokens, where it is absent.
+fn argument_of<'c, 'x>(arguments: &'c [Vec<Hidden<'x>>], parameter: usize) -> &'c [Hidden<'x>]
+    ensures { result.now ≡ argument_at (lists_of arguments.now) parameter }
+{
+    let Some(tokens) = arguments.get(parameter) else {
+        let none: &'c [Hidden<'x>] = Default::default();
+        return none;
+    };
+    tokens.as_slice()
+}
+
 /// Makes `expanded` the expansions of the arguments that stand away from `#` and `##` in this list, which is the macro's, each by its
 /// parameter; or `fault` becomes the fault that one raised. `left` becomes what they leave.
 #[cycle(expansion)]
@@ -265,15 +276,14 @@ fn expand_arguments<'x, 'a: 'x>(
     ensures known { OnOk result (fault.new ≡ None → ExpansionsKnown sets.new expanded.new.items) }
     ensures keeps { Keeps sets.old sets.new }
 {
-    let count = call.arguments.len();
-    let used = used_alone(supply.alloc(), count, pattern)?;
-    for (parameter, argument) in call.arguments.iter().enumerate() {
-        if !used[parameter] {
+    let used = used_alone(supply.alloc(), call.replaced, pattern)?;
+    for (parameter, alone) in used.iter().enumerate() {
+        if !*alone {
             put(expanded, Expansion::Unused)?;
             continue;
         }
         let head = &call.head;
-        let tokens = argument.as_slice();
+        let tokens = argument_of(call.arguments.as_slice(), parameter);
         match expand_argument(supply, table, env, level, left, sets, head, tokens, fault)? {
             Some(expansion) => put(expanded, expansion)?,
             None => return Ok(()),
@@ -307,7 +317,7 @@ fn follow<'x, 'a: 'x>(
     ensures keeps { Keeps sets.old sets.new }
 {
     let pattern = call.replaced.pattern(supply.alloc(), table.hashing())?;
-    let mut expanded = Vec::with_capacity(supply.alloc(), call.arguments.len())?;
+    let mut expanded = Vec::with_capacity(supply.alloc(), parameters_of(call.replaced))?;
     expand_arguments(
         supply,
         table,
@@ -489,7 +499,7 @@ fn expand_rest<'x, 'a: 'x>(
 /// What passed before a fault stays. The other faults:
 /// 7, a lone quote, at its own place; and at the place where a macro's name is used
 /// 17, an invocation without its `)`;
-/// 18, another number of arguments than of parameters;
+/// 18, another number of arguments than of parameters, but for a variable argument that may be absent;
 /// 19, `##` of two tokens that make no token;
 /// 20, `#` of an argument that makes no string literal;
 /// 21, an argument to be expanded more than 256 levels deep.

@@ -29,7 +29,8 @@ use crate::spellings::{at_use, is_open, is_quote, lone_quote, over_budget};
 use crate::spending::is_spent;
 use crate::supply::Supply;
 use ppmacro::{
-    Builtin, Expansion, Hidden, HideSets, Macro, Pattern, Set, Shape, Table, substitute_pattern,
+    Builtin, Expansion, Hidden, HideSets, Macro, Pattern, Set, Shape, Table, Variadic,
+    substitute_pattern,
 };
 use pptext::{Fault, Memory, Place, Spelling, Token};
 use std::alloc::{AllocError, Global};
@@ -41,7 +42,7 @@ pub(crate) struct Invocation<'t, 'x, 'a> {
     /// The macro's name.
     pub(crate) head: Hidden<'x>,
     pub(crate) replaced: &'t Macro<'a>,
-    /// An argument for each parameter.
+    /// An argument for each parameter but a variable argument that is absent.
     pub(crate) arguments: Vec<Vec<Hidden<'x>>>,
     /// The names that hide both its name and its `)`; each token of the replacement gains them and the macro's name.
     pub(crate) both: Set,
@@ -348,7 +349,7 @@ fn invoked<'t, 'x, 'a: 'x>(
     head: Hidden<'x>,
     replaced: &'t Macro<'a>,
     names: &[Spelling],
-    variadic: bool,
+    variadic: Variadic,
     list: &mut Cursor<'x>,
 ) -> Result<Next<'t, 'x, 'a>, Memory>
     requires head { HasSets sets.old head }
@@ -376,7 +377,7 @@ fn function_turn<'t, 'x, 'a: 'x>(
     head: Hidden<'x>,
     replaced: &'t Macro<'a>,
     names: &[Spelling],
-    variadic: bool,
+    variadic: Variadic,
     list: &mut Cursor<'x>,
 ) -> Result<Next<'t, 'x, 'a>, Memory>
     requires head { HasSets sets.old head }

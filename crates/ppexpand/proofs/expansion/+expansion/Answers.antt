@@ -1,18 +1,19 @@
-use Rattle.std.proofs.Common.{◌≡◌, ◌∙◌, ◌∷◌, [], ◌+◌, ◌<◌, length, get_or, Ok, Err, Some, None, true, false, refl, sym, ap, subst, arith}
+use Rattle.std.proofs.Common.{◌≡◌, ◌∙◌, ◌∷◌, [], ◌+◌, ◌<◌, ◌≤◌, length, Ok, Err, Some, None, true, false, refl, sym, ap, subst, arith}
 use Rattle.std.specs.Option.{option_map}
 use Rattle.std.proofs.lemmas.List.{length-append}
 use Rattle.std.proofs.lemmas.Result.{IfOk-weaker, on_ok_weaker}
 use Rattle.ppmacro.specs.HideSets.{hidings, AllKnown}
-use Rattle.ppmacro.specs.Chains.{chains_of}
+use Rattle.ppmacro.specs.Chains.{names_in, chains_of}
 use Rattle.ppmacro.specs.Patterns.{listed}
-use Rattle.ppmacro.specs.Substituting.{option_of}
+use Rattle.ppmacro.specs.Substitution.{argument_at}
+use Rattle.ppmacro.specs.Substituting.{lists_of, option_of}
 use Rattle.ppmacro.specs.declared.flying.Expansion.TheVariants.{Unused}
 use Rattle.ppmacro.proofs.KeepLemmas.{hidings-keeps, known-keeps, keeps-all, keeps-after}
 use Rattle.ppexpand.specs.Turn.{finished, wanted, uses_alone}
 use Rattle.ppexpand.specs.Expansion.{ExpandsArguments}
 use Rattle.ppexpand.specs.Shown.{finished_in, expanded_in, held, ExpansionsKnown, ExpandsArgument, deep, ComesTo, refuses, finishes}
 use Rattle.ppexpand.proofs.Keeping.{call_of, call_of-keeps, call_known-keeps, given_known-keeps, expanded_known-keeps, expanded_known-push}
-use Rattle.ppexpand.proofs.ArgumentLemmas.{arguments_first, raised_some, raised_none, raised_not, argument_expands, argument_outcome, argument_known, known-item, follows_unused, follows_used, follows_refused, follows_all, marked-alone}
+use Rattle.ppexpand.proofs.ArgumentLemmas.{arguments_first, raised_some, raised_none, raised_not, argument_expands, argument_outcome, argument_known, argument-known, follows_unused, follows_used, follows_refused, follows_all, marked-alone}
 use Rattle.ppexpand.proofs.Skipping.{plain-expands, next-known, more-known, follows_skip, skip_falls}
 use Rattle.ppexpand.proofs.Follows.{more_follows, more_falls, end_follows, call_taken}
 use Rattle.ppexpand.proofs.expansion.+expansion.Goals as goal
@@ -147,22 +148,18 @@ expand_arguments-loop-parameter-init m c = record {
   follows = λ behind. rw c.requires.none (arguments_first c.args.table.now c.args.env.now c.args.level (call_of c.args.sets.now c.args.call.now behind) c.args.left.now);
 }
 
-pub expand_arguments-loop-parameter-preserved-then-not-index : goal.expand_arguments-loop-parameter-preserved-then-not-index
-expand_arguments-loop-parameter-preserved-then-not-index m c =
+pub expand_arguments-loop-parameter-preserved-then-not-alone : goal.expand_arguments-loop-parameter-preserved-then-not-alone
+expand_arguments-loop-parameter-preserved-then-not-alone m c =
     let s = c.args.sets.now in
     let u = c.loop-parameter.sets in
     let i = c.loop-parameter.parameter in
     let vs = c.args.call.now.arguments.items in
     let cs = chains_of c.args.call.now.replaced.now in
-    let v = c.argument-item.result in
+    let names = names_in c.args.call.now.replaced.now.shape in
     let done = c.loop-parameter.expanded.items in
-    let less : i < length vs = subst (λ xs. i < length xs) c.deref-argument-items.ensures.value c.loop-parameter-test.true in
-    let is : v ≡ get_or vs i v = c.argument-item.is ∙ ap (λ xs. get_or xs i v) c.deref-argument-items.ensures.value in
-    let unused : uses_alone i cs ≡ false = ap (uses_alone i) (sym c.requires.chains)
-    ∙ marked-alone c.in_ok-used.used.items c.len-count.result i (listed c.args.pattern.now) c.index.result.now
-    (subst (λ n. i < n) (c.deref-argument-items.ensures.len ∙ sym c.len-count.ensures) c.loop-parameter-test.true)
-    c.in_ok-used.ensures.len c.in_ok-used.ensures.used c.index.ensures
-    ∙ c.if-not-index.true in
+    let less : i < length names = subst (λ n. i < n) (ap length c.deref-alone-items.ensures.value ∙ c.in_ok-used.ensures.len) c.loop-parameter-test.true in
+    let unused : uses_alone i cs ≡ false = marked-alone c.in_ok-used.used.items c.deref-alone-items.result.now (length names) i (listed c.args.pattern.now) cs false
+    c.deref-alone-items.ensures.value c.requires.chains c.in_ok-used.ensures.used less c.if-not-alone.true in
     let made = c.in_ok-put.ensures in
     record {
       low = c.loop-parameter.invariant.low;
@@ -172,8 +169,8 @@ expand_arguments-loop-parameter-preserved-then-not-index m c =
       keeps = c.loop-parameter.invariant.keeps;
       follows = λ behind.
           (let call = call_of s c.args.call.now behind in
-          follows_unused c.args.table.now c.args.env.now c.args.level c.args.left.now c.loop-parameter.left c.loop-parameter.left s u u vs cs i v done c.put.new.items.items call (wanted call)
-          less is c.loop-parameter.invariant.count unused made (c.loop-parameter.invariant.follows behind));
+          follows_unused c.args.table.now c.args.env.now c.args.level c.args.left.now c.loop-parameter.left c.loop-parameter.left s u u vs cs names i done c.put.new.items.items call (wanted call)
+          less c.loop-parameter.invariant.count unused made (c.loop-parameter.invariant.follows behind));
     }
 
 pub expand_arguments-expand_argument-requires : goal.expand_arguments-expand_argument-requires
@@ -181,12 +178,10 @@ expand_arguments-expand_argument-requires m c =
     let u = c.loop-parameter.sets in
     let i = c.loop-parameter.parameter in
     let vs = c.args.call.now.arguments.items in
-    let v = c.argument-item.result in
-    let less : i < length vs = subst (λ xs. i < length xs) c.deref-argument-items.ensures.value c.loop-parameter-test.true in
-    let is : v ≡ get_or vs i v = c.argument-item.is ∙ ap (λ xs. get_or xs i v) c.deref-argument-items.ensures.value in
+    let tokens_are : c.argument_of-tokens.result.now ≡ argument_at (lists_of vs) i = c.argument_of-tokens.ensures ∙ ap (λ gs. argument_at (lists_of gs) i) c.as_slice.ensures.value in
     let known = given_known-keeps vs c.loop-parameter.invariant.keeps c.requires.known.arguments in (
       omega arith,
-      (c.loop-parameter.invariant.low, (subst (AllKnown u) (sym c.as_slice-tokens.ensures.value) (known-item u vs i v less is known), c.loop-parameter.invariant.no_fault)),
+      (c.loop-parameter.invariant.low, (subst (AllKnown u) (sym tokens_are) (argument-known u vs i known), c.loop-parameter.invariant.no_fault)),
     )
 
 pub expand_arguments-returns-in-None-clause-is : goal.expand_arguments-returns-in-None-clause-is
@@ -196,24 +191,21 @@ expand_arguments-returns-in-None-clause-is m c =
     let i = c.loop-parameter.parameter in
     let vs = c.args.call.now.arguments.items in
     let cs = chains_of c.args.call.now.replaced.now in
-    let v = c.argument-item.result in
+    let names = names_in c.args.call.now.replaced.now.shape in
     let done = c.loop-parameter.expanded.items in
-    let less : i < length vs = subst (λ xs. i < length xs) c.deref-argument-items.ensures.value c.loop-parameter-test.true in
-    let is : v ≡ get_or vs i v = c.argument-item.is ∙ ap (λ xs. get_or xs i v) c.deref-argument-items.ensures.value in
-    let is_used : uses_alone i cs ≡ true = ap (uses_alone i) (sym c.requires.chains)
-    ∙ marked-alone c.in_ok-used.used.items c.len-count.result i (listed c.args.pattern.now) c.index.result.now
-    (subst (λ n. i < n) (c.deref-argument-items.ensures.len ∙ sym c.len-count.ensures) c.loop-parameter-test.true)
-    c.in_ok-used.ensures.len c.in_ok-used.ensures.used c.index.ensures
-    ∙ c.if-not-index.false in
-    let argument : hidings u c.as_slice-tokens.result.now ≡ hidings s v.items =
-    ap (hidings u) c.as_slice-tokens.ensures.value ∙ hidings-keeps v.items c.loop-parameter.invariant.keeps (known-item s vs i v less is c.requires.known.arguments) in
+    let less : i < length names = subst (λ n. i < n) (ap length c.deref-alone-items.ensures.value ∙ c.in_ok-used.ensures.len) c.loop-parameter-test.true in
+    let is_used : uses_alone i cs ≡ true = marked-alone c.in_ok-used.used.items c.deref-alone-items.result.now (length names) i (listed c.args.pattern.now) cs true
+    c.deref-alone-items.ensures.value c.requires.chains c.in_ok-used.ensures.used less c.if-not-alone.false in
+    let tokens_are : c.argument_of-tokens.result.now ≡ argument_at (lists_of vs) i = c.argument_of-tokens.ensures ∙ ap (λ gs. argument_at (lists_of gs) i) c.as_slice.ensures.value in
+    let argument : hidings u c.argument_of-tokens.result.now ≡ hidings s (argument_at (lists_of vs) i) =
+    ap (hidings u) tokens_are ∙ hidings-keeps (argument_at (lists_of vs) i) c.loop-parameter.invariant.keeps (argument-known s vs i c.requires.known.arguments) in
     let raised = rw c.in-None.is at c.in_ok-expansion.ensures.is in
-    let one : ExpandsArgument c.args.table.now c.args.env.now c.args.level c.args.call.now.head.token c.loop-parameter.left (hidings s v.items) c.expand_argument.new.left (Err raised.0) =
+    let one : ExpandsArgument c.args.table.now c.args.env.now c.args.level c.args.call.now.head.token c.loop-parameter.left (hidings s (argument_at (lists_of vs) i)) c.expand_argument.new.left (Err raised.0) =
     subst (λ l. ExpandsArgument c.args.table.now c.args.env.now c.args.level c.args.call.now.head.token c.loop-parameter.left l c.expand_argument.new.left (Err raised.0)) argument raised.2 in
     rw raised.1 (λ behind.
     let call = call_of s c.args.call.now behind in
-    follows_refused c.args.table.now c.args.env.now c.args.level c.args.left.now c.loop-parameter.left c.expand_argument.new.left s u u vs cs i v done done call (wanted call)
-    raised.0 less is is_used one (c.loop-parameter.invariant.follows behind))
+    follows_refused c.args.table.now c.args.env.now c.args.level c.args.left.now c.loop-parameter.left c.expand_argument.new.left s u u vs cs names i done done call (wanted call)
+    raised.0 less is_used one (c.loop-parameter.invariant.follows behind))
 
 pub expand_arguments-returns-in-None-clause-known : goal.expand_arguments-returns-in-None-clause-known
 expand_arguments-returns-in-None-clause-known m c =
@@ -224,29 +216,26 @@ pub expand_arguments-loop-parameter-preserved : goal.expand_arguments-loop-param
 expand_arguments-loop-parameter-preserved m c =
     let s = c.args.sets.now in
     let u = c.loop-parameter.sets in
-    let w = c.expand_argument.new.sets in
     let i = c.loop-parameter.parameter in
     let vs = c.args.call.now.arguments.items in
     let cs = chains_of c.args.call.now.replaced.now in
-    let v = c.argument-item.result in
+    let names = names_in c.args.call.now.replaced.now.shape in
     let done = c.loop-parameter.expanded.items in
+    let less : i < length names = subst (λ n. i < n) (ap length c.deref-alone-items.ensures.value ∙ c.in_ok-used.ensures.len) c.loop-parameter-test.true in
+    let is_used : uses_alone i cs ≡ true = marked-alone c.in_ok-used.used.items c.deref-alone-items.result.now (length names) i (listed c.args.pattern.now) cs true
+    c.deref-alone-items.ensures.value c.requires.chains c.in_ok-used.ensures.used less c.if-not-alone.false in
+    let tokens_are : c.argument_of-tokens.result.now ≡ argument_at (lists_of vs) i = c.argument_of-tokens.ensures ∙ ap (λ gs. argument_at (lists_of gs) i) c.as_slice.ensures.value in
+    let w = c.expand_argument.new.sets in
     let keeps = c.in_ok-expansion.ensures.keeps in
-    let less : i < length vs = subst (λ xs. i < length xs) c.deref-argument-items.ensures.value c.loop-parameter-test.true in
-    let is : v ≡ get_or vs i v = c.argument-item.is ∙ ap (λ xs. get_or xs i v) c.deref-argument-items.ensures.value in
-    let is_used : uses_alone i cs ≡ true = ap (uses_alone i) (sym c.requires.chains)
-    ∙ marked-alone c.in_ok-used.used.items c.len-count.result i (listed c.args.pattern.now) c.index.result.now
-    (subst (λ n. i < n) (c.deref-argument-items.ensures.len ∙ sym c.len-count.ensures) c.loop-parameter-test.true)
-    c.in_ok-used.ensures.len c.in_ok-used.ensures.used c.index.ensures
-    ∙ c.if-not-index.false in
-    let argument : hidings u c.as_slice-tokens.result.now ≡ hidings s v.items =
-    ap (hidings u) c.as_slice-tokens.ensures.value ∙ hidings-keeps v.items c.loop-parameter.invariant.keeps (known-item s vs i v less is c.requires.known.arguments) in
+    let argument : hidings u c.argument_of-tokens.result.now ≡ hidings s (argument_at (lists_of vs) i) =
+    ap (hidings u) tokens_are ∙ hidings-keeps (argument_at (lists_of vs) i) c.loop-parameter.invariant.keeps (argument-known s vs i c.requires.known.arguments) in
     let made_is = rw c.in-Some.is at c.in_ok-expansion.ensures.is in
     let e = c.in-Some.expansion in
     let tokens = made_is.1.0 in
-    let one : ExpandsArgument c.args.table.now c.args.env.now c.args.level c.args.call.now.head.token c.loop-parameter.left (hidings s v.items) c.expand_argument.new.left (Ok tokens) =
+    let one : ExpandsArgument c.args.table.now c.args.env.now c.args.level c.args.call.now.head.token c.loop-parameter.left (hidings s (argument_at (lists_of vs) i)) c.expand_argument.new.left (Ok tokens) =
     subst (λ l. ExpandsArgument c.args.table.now c.args.env.now c.args.level c.args.call.now.head.token c.loop-parameter.left l c.expand_argument.new.left (Ok tokens)) argument made_is.1.2 in
-    let here_is : option_map (hidings w) (option_of v.items e) ≡ Some tokens =
-    subst (λ g. option_map (hidings w) (option_of g e) ≡ Some tokens) c.as_slice-tokens.ensures.value made_is.1.1 in
+    let here_is : option_map (hidings w) (option_of (argument_at (lists_of vs) i) e) ≡ Some tokens =
+    subst (λ g. option_map (hidings w) (option_of g e) ≡ Some tokens) tokens_are made_is.1.1 in
     let tokens_known : AllKnown w (held e) = rw c.in-Some.is at c.in_ok-expansion.ensures.known in
     let made = c.in_ok-put-in-Some.ensures in
     let given_known = given_known-keeps vs c.loop-parameter.invariant.keeps c.requires.known.arguments in
@@ -258,20 +247,24 @@ expand_arguments-loop-parameter-preserved m c =
       keeps = keeps-after c.loop-parameter.invariant.keeps keeps;
       follows = λ behind.
           (let call = call_of s c.args.call.now behind in
-          follows_used c.args.table.now c.args.env.now c.args.level c.args.left.now c.loop-parameter.left c.expand_argument.new.left s u w vs cs i v done c.put-in-Some.new.items.items call (wanted call)
-          e tokens less is c.loop-parameter.invariant.count is_used made keeps given_known c.loop-parameter.invariant.known here_is one (c.loop-parameter.invariant.follows behind));
+          follows_used c.args.table.now c.args.env.now c.args.level c.args.left.now c.loop-parameter.left c.expand_argument.new.left s u w vs cs names i done c.put-in-Some.new.items.items call (wanted call)
+          e tokens less c.loop-parameter.invariant.count is_used made keeps given_known c.loop-parameter.invariant.known here_is one (c.loop-parameter.invariant.follows behind));
     }
 
 pub expand_arguments-returns-clause-is : goal.expand_arguments-returns-clause-is
 expand_arguments-returns-clause-is m c =
     let s = c.args.sets.now in
     let u = c.loop-parameter.sets in
+    let i = c.loop-parameter.parameter in
     let vs = c.args.call.now.arguments.items in
+    let names = names_in c.args.call.now.replaced.now.shape in
     let done = c.loop-parameter.expanded.items in
+    let end : length names ≤ i =
+    subst (λ n. n ≤ i) (ap length c.deref-alone-items.ensures.value ∙ c.in_ok-used.ensures.len) (omega (arith, c.loop-parameter-test.false)) in
     rw c.loop-parameter.invariant.no_fault (λ behind.
     let call = call_of s c.args.call.now behind in
-    follows_all c.args.table.now c.args.env.now c.args.level c.args.left.now c.loop-parameter.left s u vs (chains_of c.args.call.now.replaced.now)
-    c.loop-parameter.parameter done call (wanted call) (omega (arith, c.loop-parameter-test.false)) (c.loop-parameter.invariant.follows behind))
+    follows_all c.args.table.now c.args.env.now c.args.level c.args.left.now c.loop-parameter.left s u vs (chains_of c.args.call.now.replaced.now) names
+    i done call (wanted call) end (c.loop-parameter.invariant.follows behind))
 
 pub expand_arguments-returns-clause-known : goal.expand_arguments-returns-clause-known
 expand_arguments-returns-clause-known m c = λ none. c.loop-parameter.invariant.known

@@ -1,6 +1,6 @@
 use Rattle.std.proofs.Common.{◌≡◌, None, ◌≤◌, ◌-◌, ◌+◌, ◌*◌, List, drop, length}
 use Rattle.ppmacro.specs.HideSets.{hidings, AllKnown, Keeps}
-use Rattle.ppmacro.specs.Chains.{chains_of}
+use Rattle.ppmacro.specs.Chains.{names_in, chains_of}
 use Rattle.ppmacro.specs.declared.flying.Hidden.{Hidden}
 use Rattle.ppexpand.specs.Turn.{wanted, to_expand}
 use Rattle.ppexpand.specs.Shown.{given_in, expanded_in, ExpansionsKnown}
@@ -47,5 +47,5 @@ invariant-expand_arguments-loop-parameter l = record {
   follows : (behind : List Hidden)
       → ArgumentsFollow l.table l.env l.level (call_of l.fn.sets l.call behind) l.fn.left (wanted (call_of l.fn.sets l.call behind))
       (expanded_in l.sets l.call.arguments.items l.expanded.items) l.left
-      (to_expand l.parameter (chains_of l.call.replaced.now) (drop l.parameter (given_in l.fn.sets l.call.arguments.items)));
+      (to_expand l.parameter (chains_of l.call.replaced.now) (drop l.parameter (names_in l.call.replaced.now.shape)) (given_in l.fn.sets l.call.arguments.items));
 }
