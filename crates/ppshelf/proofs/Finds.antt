@@ -1,118 +1,133 @@
 -- The first of several names that a shelf has.
-use Rattle.std.proofs.Common.{◌≡◌, ℕ, ◌+◌, suc, ◌<◌, ◌≤◌, List, [], ◌∷◌, ◌++◌, length, get_or, drop, drop-cons, Option, Some, None}
-use Rattle.std.proofs.Common.{IfSome, IsSome, is_some, false, refl, sym, ap, ◌∙◌, subst, arith, inl, inr}
+use Rattle.std.proofs.Common.{◌≡◌, ℕ, ◌+◌, zero, suc, ◌<◌, ◌≤◌, List, [], ◌∷◌, ◌++◌, length, get_or, take, drop, drop-cons, append_assoc, Option, Some, None}
+use Rattle.std.proofs.Common.{IfSome, refl, sym, ap, ◌∙◌, subst, arith, inl, inr}
+use Rattle.std.specs.Option.{option_map}
 use Rattle.std.proofs.lemmas.Grind.{common_steps}
-use Rattle.std.proofs.lemmas.Bool.{cases_lt, false≢true}
+use Rattle.std.proofs.lemmas.Bool.{cases_lt}
+use Rattle.std.proofs.lemmas.Option.{none-some}
 use Rattle.ppshelf.specs.Names.{AreNames, IsRowOf}
-use Rattle.ppshelf.specs.Search.{IsFirstRow, inside, spelled, lead}
+use Rattle.ppshelf.specs.Search.{Path, Candidate, IsFirstRow, IsRowAt, IsEndOf, candidate, candidates, candidates_behind, inside, lead}
+use Rattle.ppshelf.specs.declared.search.Form.TheVariants.{Angle}
 
 nothing_left : (folders : List (List ℕ)) (i : ℕ) → length folders ≤ i → drop i folders ≡ []
 nothing_left folders i past = grind (arith, common_steps)
 
-none_is : IsSome {T = ℕ} None → ⊥
-none_is h = false≢true h
-
-some_is : (row : Option ℕ) → row ≡ None → IsSome row → ⊥
-some_is row e some = none_is (let P : Option ℕ → Type 0 = λ r. IsSome r in subst P e some)
-
 module _ (names : List (List ℕ)) where
-  -- where none of the first names is there, the others decide
-  pub first_later : (xs ys : List (List ℕ)) (row : Option ℕ) → IsFirstRow names xs None → IsFirstRow names ys row → IsFirstRow names (xs ++ ys) row
-  first_later [] ys row none h = h
-  first_later (x ∷ xs) ys row none h = elim none [ inl a ↦ absurd (none_is a.0) | inr b ↦ inr (b.0, first_later xs ys row b.1 h) ]
+  -- where none of the first candidates is there, the others decide
+  pub first_later : (xs ys : List Candidate) (found : Option (ℕ × ℕ)) → IsFirstRow names xs None → IsFirstRow names ys found → IsFirstRow names (xs ++ ys) found
+  first_later [] ys found none h = h
+  first_later (x ∷ xs) ys found none h = elim none [ inl a ↦ absurd (none-some (a.0, x.folder) a.1.0) | inr b ↦ inr (b.0, first_later xs ys found b.1 h) ]
 
   -- and what is found among the first is found among all
-  pub first_here : (xs ys : List (List ℕ)) (row : Option ℕ) → IsFirstRow names xs row → IsSome row → IsFirstRow names (xs ++ ys) row
-  first_here [] ys row h some = absurd (some_is row h some)
-  first_here (x ∷ xs) ys row h some = elim h [ inl a ↦ inl a | inr b ↦ inr (b.0, first_here xs ys row b.1 some) ]
+  pub first_here : (xs ys : List Candidate) (found : ℕ × ℕ) → IsFirstRow names xs (Some found) → IsFirstRow names (xs ++ ys) (Some found)
+  first_here [] ys found h = absurd (none-some found (sym h))
+  first_here (x ∷ xs) ys found h = elim h [ inl a ↦ inl a | inr b ↦ inr (b.0, first_here xs ys found b.1) ]
 
-  row_within : (c : List ℕ) (row : Option ℕ) → IsRowOf names c row → IfSome row (λ r. r < length names)
-  row_within c None h = tt
-  row_within c (Some r) h = h.0
+  pub first_within : (cs : List Candidate) (found : Option (ℕ × ℕ)) → IsFirstRow names cs found → IfSome found (λ f. f.0 < length names)
+  first_within [] found e = let P : Option (ℕ × ℕ) → Type 0 = λ o. IfSome o (λ f. f.0 < length names) in subst P (sym e) tt
+  first_within (c ∷ cs) found h =
+      let P : Option (ℕ × ℕ) → Type 0 = λ o. IfSome o (λ f. f.0 < length names) in
+      elim h [ inl a ↦ subst P (sym a.1.0) a.1.1.0 | inr b ↦ first_within cs found b.1 ]
 
-  pub first_within : (cs : List (List ℕ)) (row : Option ℕ) → IsFirstRow names cs row → IfSome row (λ r. r < length names)
-  first_within [] row e = let P : Option ℕ → Type 0 = λ o. IfSome o (λ r. r < length names) in subst P (sym e) tt
-  first_within (c ∷ cs) row h = elim h [ inl a ↦ row_within c row a.1 | inr b ↦ first_within cs row b.1 ]
+  -- the row where a path leads is what is found of its candidate alone
+  pub first_alone : (k : ℕ) (path : Option Path) (row : Option ℕ) → IsRowAt names path row → IsFirstRow names (candidate k path) (option_map (λ r. (r, k)) row)
+  first_alone k None row h = ap (λ (o : Option ℕ). option_map (λ r. (r, k)) o) h
+  first_alone k (Some path) None h = inr (h, refl)
+  first_alone k (Some path) (Some row) h = inl (row, (refl, h))
 
-  -- a search that has passed over the first folders
-  pub record Passed (folders : List (List ℕ)) (text : List ℕ) (i : ℕ) : Type 0 where
-    pub rest : (row : Option ℕ) → IsFirstRow names (inside (drop i folders) text) row → IsFirstRow names (inside folders text) row
+  -- a search that begins behind the folder of number j and has passed over those up to number i
+  pub record Passed (folders : List (List ℕ)) (text : List ℕ) (j i : ℕ) : Type 0 where
+    pub rest : (found : Option (ℕ × ℕ)) → IsFirstRow names (inside (suc i) (drop i folders) text) found → IsFirstRow names (inside (suc j) (drop j folders) text) found
 
-  there : (folders : List (List ℕ)) (text : List ℕ) (i : ℕ) (folder : List ℕ) → i < length folders → folder ≡ get_or folders i [] → drop i folders ≡ folder ∷ drop (i + 1) folders
-  there folders text i folder within is =
-      let next : suc i ≡ i + 1 = omega arith in
-      drop-cons folders i [] within ∙ (ap (λ (x : List ℕ). x ∷ drop (suc i) folders) (sym is) ∙ ap (λ k. folder ∷ drop k folders) next)
+  there : (folders : List (List ℕ)) (i : ℕ) (folder : List ℕ) → i < length folders → folder ≡ get_or folders i [] → drop i folders ≡ folder ∷ drop (suc i) folders
+  there folders i folder within is = drop-cons folders i [] within ∙ ap (λ (x : List ℕ). x ∷ drop (suc i) folders) (sym is)
 
-  pub pass_over : (folders : List (List ℕ)) (text : List ℕ) (i : ℕ) (folder : List ℕ) (row : Option ℕ)
-      → Passed folders text i
+  pub pass_over : (folders : List (List ℕ)) (text : List ℕ) (j i : ℕ) (folder : List ℕ)
+      → Passed folders text j i
       → i < length folders
       → folder ≡ get_or folders i []
-      → is_some row ≡ false
-      → IsFirstRow names (spelled (lead (lead (Some []) folder) text)) row
-      → Passed folders text (i + 1)
-  pass_over folders text i folder (Some row) p within is other none = absurd (false≢true (sym other))
-  pass_over folders text i folder None p within is other none = record {
-    rest = λ later h.
-        let P : List (List ℕ) → Type 0 = λ fs. IsFirstRow names (inside fs text) later in
-        p.rest later (subst P (sym (there folders text i folder within is)) (first_later (spelled (lead (lead (Some []) folder) text)) (inside (drop (i + 1) folders) text) later none h));
+      → IsRowAt names (lead (lead (Some []) folder) text) None
+      → Passed folders text j (i + 1)
+  pass_over folders text j i folder p within is none = record {
+    rest = λ found h.
+        let next : i + 1 ≡ suc i = omega arith in
+        let path = lead (lead (Some []) folder) text in
+        let P : List (List ℕ) → Type 0 = λ fs. IsFirstRow names (inside (suc i) fs text) found in
+        let Q : ℕ → Type 0 = λ k. IsFirstRow names (inside (suc k) (drop k folders) text) found in
+        p.rest found (subst P (sym (there folders i folder within is)) (first_later (candidate (suc i) path) (inside (suc (suc i)) (drop (suc i) folders) text) found (first_alone (suc i) path None none) (subst Q next h)));
   }
 
-  pub found_here : (folders : List (List ℕ)) (text : List ℕ) (i : ℕ) (folder : List ℕ) (row : Option ℕ)
-      → Passed folders text i
+  pub found_here : (folders : List (List ℕ)) (text : List ℕ) (j i : ℕ) (folder : List ℕ) (row : ℕ)
+      → Passed folders text j i
       → i < length folders
       → folder ≡ get_or folders i []
-      → IsSome row
-      → IsFirstRow names (spelled (lead (lead (Some []) folder) text)) row
-      → IsFirstRow names (inside folders text) row
-  found_here folders text i folder row p within is some h =
-      let P : List (List ℕ) → Type 0 = λ fs. IsFirstRow names (inside fs text) row in
-      p.rest row (subst P (sym (there folders text i folder within is)) (first_here (spelled (lead (lead (Some []) folder) text)) (inside (drop (i + 1) folders) text) row h some))
+      → IsRowAt names (lead (lead (Some []) folder) text) (Some row)
+      → IsFirstRow names (inside (suc j) (drop j folders) text) (Some (row, i + 1))
+  found_here folders text j i folder row p within is h =
+      let next : suc i ≡ i + 1 = omega arith in
+      let path = lead (lead (Some []) folder) text in
+      let P : List (List ℕ) → Type 0 = λ fs. IsFirstRow names (inside (suc i) fs text) (Some (row, suc i)) in
+      let Q : ℕ → Type 0 = λ k. IsFirstRow names (inside (suc j) (drop j folders) text) (Some (row, k)) in
+      subst Q next (p.rest (Some (row, suc i)) (subst P (sym (there folders i folder within is)) (first_here (candidate (suc i) path) (inside (suc (suc i)) (drop (suc i) folders) text) (row, suc i) (first_alone (suc i) path (Some row) h))))
 
-  pub found_nowhere : (folders : List (List ℕ)) (text : List ℕ) (i : ℕ) → Passed folders text i → length folders ≤ i → IsFirstRow names (inside folders text) None
-  found_nowhere folders text i p past =
-      let P : List (List ℕ) → Type 0 = λ fs. IsFirstRow names (inside fs text) None in
+  pub found_nowhere : (folders : List (List ℕ)) (text : List ℕ) (j i : ℕ) → Passed folders text j i → length folders ≤ i → IsFirstRow names (inside (suc j) (drop j folders) text) None
+  found_nowhere folders text j i p past =
+      let P : List (List ℕ) → Type 0 = λ fs. IsFirstRow names (inside (suc i) fs text) None in
       let e : drop i folders ≡ [] = nothing_left folders i past in
       p.rest None (subst P (sym e) refl)
 
-  none_of : (xs : List (List ℕ)) (row : Option ℕ) → is_some row ≡ false → IsFirstRow names xs row → IsFirstRow names xs None
-  none_of xs None other h = h
-  none_of xs (Some row) other h = absurd (false≢true (sym other))
-
-  -- three rows of names, one after the other
-  pub found_second : (xs ys zs : List (List ℕ)) (first row : Option ℕ) → is_some first ≡ false → IsFirstRow names xs first → IsSome row → IsFirstRow names ys row → IsFirstRow names (xs ++ (ys ++ zs)) row
-  found_second xs ys zs first row other none some h = first_later xs (ys ++ zs) row (none_of xs first other none) (first_here ys zs row h some)
-
-  pub found_third : (xs ys zs : List (List ℕ)) (first second row : Option ℕ)
-      → is_some first ≡ false
-      → IsFirstRow names xs first
-      → is_some second ≡ false
-      → IsFirstRow names ys second
-      → IsFirstRow names zs row
-      → IsFirstRow names (xs ++ (ys ++ zs)) row
-  found_third xs ys zs first second row other none other_too none_too h = first_later xs (ys ++ zs) row (none_of xs first other none) (first_later ys zs row (none_of ys second other_too none_too) h)
-
-same_row : (names : List (List ℕ)) → AreNames names → (c : List ℕ) (a b : Option ℕ) → IsSome a → IsRowOf names c a → IsSome b → IsRowOf names c b → a ≡ b
-same_row names good c None b found x other y = absurd (none_is found)
-same_row names good c (Some i) None found x other y = absurd (none_is other)
-same_row names good c (Some i) (Some j) found x other y =
+same_row : (names : List (List ℕ)) → AreNames names → (name : List ℕ) (i j : ℕ) → IsRowOf names name (Some i) → IsRowOf names name (Some j) → i ≡ j
+same_row names good name i j x y =
     elim (cases_lt i j) [
       | inl l ↦ absurd ((good j y.0).once i l (x.1 ∙ sym y.1))
       | inr l ↦
           elim (cases_lt j i) [
             | inl l' ↦ absurd ((good i x.0).once j l' (y.1 ∙ sym x.1))
-            | inr l' ↦ ap (λ (k : ℕ). Some k) (omega arith)
+            | inr l' ↦ omega arith
           ]
     ]
 
-not_both : (names : List (List ℕ)) (c : List ℕ) (a : Option ℕ) → IsSome a → IsRowOf names c a → IsRowOf names c None → ⊥
-not_both names c None found x none = none_is found
-not_both names c (Some i) found x none = none i x.0 x.1
-
--- where each name stands once, at most one row is the first
-pub one_first : (names : List (List ℕ)) → AreNames names → (cs : List (List ℕ)) (a b : Option ℕ) → IsFirstRow names cs a → IsFirstRow names cs b → a ≡ b
+-- where each name stands once, a search finds one row at most
+pub one_first : (names : List (List ℕ)) → AreNames names → (cs : List Candidate) (a b : Option (ℕ × ℕ)) → IsFirstRow names cs a → IsFirstRow names cs b → a ≡ b
 one_first names good [] a b x y = x ∙ sym y
 one_first names good (c ∷ cs) a b x y =
     elim x [
-      | inl h ↦ elim y [ inl k ↦ same_row names good c a b h.0 h.1 k.0 k.1 | inr k ↦ absurd (not_both names c a h.0 h.1 k.0) ]
-      | inr h ↦ elim y [ inl k ↦ absurd (not_both names c b k.0 k.1 h.0) | inr k ↦ one_first names good cs a b h.1 k.1 ]
+      | inl h ↦
+          elim y [
+            | inl k ↦ h.1.0 ∙ ap (λ (row : ℕ). Some (row, c.folder)) (same_row names good c.name h.0 k.0 h.1.1 k.1.1) ∙ sym k.1.0
+            | inr k ↦ absurd (k.0 h.0 h.1.1.0 h.1.1.1)
+          ]
+      | inr h ↦ elim y [ inl k ↦ absurd (h.0 k.0 k.1.1.0 k.1.1.1) | inr k ↦ one_first names good cs a b h.1 k.1 ]
     ]
+
+-- the candidates in some folders: those in the first j, and those in the others
+parted : (folders : List (List ℕ)) (text : List ℕ) (j k m : ℕ) → m ≡ k + j → inside k folders text ≡ inside k (take j folders) text ++ inside m (drop j folders) text
+parted folders text zero k m e = let same : k ≡ m = omega (arith, e) in ap (λ (n : ℕ). inside n folders text) same
+parted [] text (suc j) k m e = refl
+parted (folder ∷ more) text (suc j) k m e =
+    let here = candidate k (lead (lead (Some []) folder) text) in
+    let next : m ≡ suc k + j = omega (arith, e) in
+    ap (λ (cs : List Candidate). here ++ cs) (parted more text j (suc k) m next) ∙ sym (append_assoc here (inside (suc k) (take j more) text) (inside m (drop j more) text))
+
+-- what is looked for behind a folder is the end of what is looked for in all
+pub behind_ends : (from text : List ℕ) (unit setting : List (List ℕ)) (j : ℕ) → IsEndOf (candidates_behind j unit setting text) (candidates Angle from unit setting text)
+behind_ends from text unit setting j =
+    let first : suc j ≡ 1 + j = omega arith in
+    (inside 1 (take j (unit ++ setting)) text, parted (unit ++ setting) text j 1 (suc j) first)
+
+-- what is found in folders that are numbered from k on has no smaller number
+above_one : (names : List (List ℕ)) (path : Option Path) (k : ℕ) (more : List Candidate) (found : ℕ × ℕ) → (IsFirstRow names more (Some found) → k ≤ found.1) → IsFirstRow names (candidate k path ++ more) (Some found) → k ≤ found.1
+above_one names None k more found later h = later h
+above_one names (Some path) k more found later h =
+    let P : Option (ℕ × ℕ) → Type 0 = λ o. IfSome o (λ f. k ≤ f.1) in
+    let own : k ≤ k = omega arith in
+    elim h [ inl a ↦ subst P (sym a.1.0) own | inr b ↦ later b.1 ]
+
+above : (names folders : List (List ℕ)) (text : List ℕ) (k : ℕ) (found : ℕ × ℕ) → IsFirstRow names (inside k folders text) (Some found) → k ≤ found.1
+above names [] text k found h = absurd (none-some found (sym h))
+above names (folder ∷ more) text k found h =
+    above_one names (lead (lead (Some []) folder) text) k (inside (suc k) more text) found (λ r. let l = above names more text (suc k) found r in omega arith) h
+
+-- so a search behind a folder finds what it finds in a later one
+pub found_behind : (names unit setting : List (List ℕ)) (text : List ℕ) (j row folder : ℕ) → IsFirstRow names (candidates_behind j unit setting text) (Some (row, folder)) → j < folder
+found_behind names unit setting text j row folder h = let l = above names (drop j (unit ++ setting)) text (suc j) (row, folder) h in omega arith

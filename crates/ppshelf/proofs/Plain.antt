@@ -1,12 +1,12 @@
 -- Texts whose segments all lead on.
-use Rattle.std.proofs.Common.{◌≡◌, ℕ, ◌==◌, ◌<◌, Bool, true, false, not, ◌&&◌, List, [], ◌∷◌, ◌++◌, length, Option, Some, None, refl, sym, ap, subst, ◌∙◌, arith, append_assoc, inl, inr}
+use Rattle.std.proofs.Common.{◌≡◌, ℕ, ◌==◌, ◌<◌, Bool, true, false, not, ◌&&◌, List, [], ◌∷◌, ◌++◌, length, Option, Some, refl, sym, ap, subst, ◌∙◌, arith, append_assoc}
 use Rattle.std.specs.List.{join_with_byte, list_all}
 use Rattle.std.proofs.lemmas.Bool.{false≢true}
 use Rattle.std.proofs.lemmas.List.{append-nil}
 use Rattle.std.proofs.lemmas.List.Splits.{join_with_byte-slice_split, length-slice_split}
 use Rattle.std.proofs.Math.Dec.{eqb-suc-zero}
 use Rattle.ppshelf.specs.Names.{segments, is_plain_segment, IsRowOf}
-use Rattle.ppshelf.specs.Search.{Path, step, walk, lead, spelled, IsFirstRow}
+use Rattle.ppshelf.specs.Search.{Path, step, walk, lead, spelled, IsRowAt}
 
 both : (a b : Bool) → (a && b) ≡ true → (a ≡ true) × (b ≡ true)
 both true true e = (refl, refl)
@@ -46,29 +46,26 @@ join_two (s ∷ t ∷ first) more some next =
 pub some_segment : (text : List ℕ) → 0 < length (segments text)
 some_segment text = let l = length-slice_split (λ b. b == 47) text in omega arith
 
--- a name in a folder, where both are such texts
-pub spelled_joined : (folder name : List ℕ) → list_all is_plain_segment (segments folder) ≡ true → list_all is_plain_segment (segments name) ≡ true
-    → spelled (lead (lead (Some []) folder) name) ≡ (folder ++ 47 ∷ name) ∷ []
-spelled_joined folder name plain plain_too =
+-- where a name in a folder leads, where both are such texts
+led_joined : (folder name : List ℕ) → list_all is_plain_segment (segments folder) ≡ true → list_all is_plain_segment (segments name) ≡ true
+    → lead (lead (Some []) folder) name ≡ Some (segments folder ++ segments name)
+led_joined folder name plain plain_too =
     let there : lead (Some []) folder ≡ Some (segments folder) = lead_on [] (segments folder) plain in
-    let on : lead (lead (Some []) folder) name ≡ Some (segments folder ++ segments name) = ap (λ (p : Option Path). walk p (segments name)) there ∙ lead_on (segments folder) (segments name) plain_too in
-    let join : join_with_byte 47 (segments folder ++ segments name) ≡ folder ++ 47 ∷ name =
+    ap (λ (p : Option Path). walk p (segments name)) there ∙ lead_on (segments folder) (segments name) plain_too
+
+-- and how that is spelled
+spelled_joined : (folder name : List ℕ) → spelled (segments folder ++ segments name) ≡ folder ++ 47 ∷ name
+spelled_joined folder name =
     join_two (segments folder) (segments name) (some_segment folder) (some_segment name)
-    ∙ (ap (λ (x : List ℕ). x ++ 47 ∷ join_with_byte 47 (segments name)) (join_with_byte-slice_split 47 folder) ∙ ap (λ (x : List ℕ). folder ++ 47 ∷ x) (join_with_byte-slice_split 47 name)) in
-    ap spelled on ∙ ap (λ (x : List ℕ). x ∷ []) join
+    ∙ (ap (λ (x : List ℕ). x ++ 47 ∷ join_with_byte 47 (segments name)) (join_with_byte-slice_split 47 folder) ∙ ap (λ (x : List ℕ). folder ++ 47 ∷ x) (join_with_byte-slice_split 47 name))
 
--- the row of one name is the first of it alone
-first_alone : (names : List (List ℕ)) (name : List ℕ) (row : Option ℕ) → IsRowOf names name row → IsFirstRow names (name ∷ []) row
-first_alone names name None h = inr (h, refl)
-first_alone names name (Some row) h = inl (refl, h)
-
-pub first_joined : (names : List (List ℕ)) (folder name joined : List ℕ) (row : Option ℕ)
+pub row_joined : (names : List (List ℕ)) (folder name joined : List ℕ) (row : Option ℕ)
     → list_all is_plain_segment (segments folder) ≡ true
     → list_all is_plain_segment (segments name) ≡ true
     → joined ≡ folder ++ 47 ∷ name
     → IsRowOf names joined row
-    → IsFirstRow names (spelled (lead (lead (Some []) folder) name)) row
-first_joined names folder name joined row plain plain_too is h =
-    let P : List (List ℕ) → Type 0 = λ all. IsFirstRow names all row in
+    → IsRowAt names (lead (lead (Some []) folder) name) row
+row_joined names folder name joined row plain plain_too is h =
+    let P : Option Path → Type 0 = λ path. IsRowAt names path row in
     let Q : List ℕ → Type 0 = λ text. IsRowOf names text row in
-    subst P (sym (spelled_joined folder name plain plain_too)) (first_alone names (folder ++ 47 ∷ name) row (subst Q is h))
+    subst P (sym (led_joined folder name plain plain_too)) (subst Q (is ∙ sym (spelled_joined folder name)) h)

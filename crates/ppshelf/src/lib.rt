@@ -16,10 +16,12 @@ mod shelf;
 pub use disk::{Disk, ReadFault};
 pub use folder_disk::FolderDisk;
 pub use index::Index;
-pub use laws::{callers_agree, learnt_stays, names_decide, one_row};
+pub use laws::{
+    callers_agree, learnt_stays, names_decide, next_ends_search, next_goes_on, one_row,
+};
 pub use loaded::Loaded;
 pub use memory_disk::{File, MemoryDisk};
 pub use names::{is_folder, is_name};
 pub use pptext::LONGEST;
-pub use search::{Folders, Form, resolve};
+pub use search::{Folders, Form, resolve, resolve_behind};
 pub use shelf::{LookFault, MOST_ROWS, Pass, Shelf, ShelfFault};

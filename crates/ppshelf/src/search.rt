@@ -1,5 +1,6 @@
 // The search for included files (6.10.2).
-ghost use Rattle.std.specs.Prelude.{◌≡◌, ◌<◌, ◌++◌, ◌∷◌, [], length, map, IfOk, IfSome, OnOk, Some, true};
+ghost use Rattle.std.specs.Prelude.{◌≡◌, ◌<◌, ◌+◌, ◌++◌, ◌∷◌, [], length, map, slice_index_or, IfOk, IfSome, OnOk, Some, true};
+ghost use Rattle.std.specs.Option.{option_map};
 ghost use Rattle.std.specs.List.{list_all};
 ghost use Rattle.std.specs.String.{string_bytes};
 ghost use Rattle.ppshelf.specs.Names.{is_name, is_plain_segment, name_in, segments};
@@ -22,14 +23,29 @@ pub enum Form {
     Angle,
 }
 
-/// The folders that are searched for every include, first those of the unit, then those of the setting.
+/// The folders that are searched for every include, first those of the unit, then those of the setting. They are numbered from 1.
 #[derive(Clone, Copy)]
 pub struct Folders<'a> {
     pub unit: &'a [String],
     pub setting: &'a [String],
 }
 
-/// The row of the file that an include line in row `from` names, or `None` where no folder has it.
+impl<'a> Folders<'a> {
+    // The folder behind so many others.
+    fn behind(self, passed: usize) -> &'a [u8]
+        requires { passed < length self.unit.now + length self.setting.now }
+        ensures { result.now ≡ slice_index_or (map string_bytes self.entry.unit.now ++ map string_bytes self.entry.setting.now) passed [] }
+    {
+        let own = self.unit.len();
+        if passed < own {
+            return self.unit[passed].as_bytes();
+        }
+        self.setting[passed - own].as_bytes()
+    }
+}
+
+/// The row of the file that an include line in row `from` names, with the number of the folder that has it, or `None` where no
+/// folder has it. The number of the including file's own folder is 0.
 ///
 /// Folder and name are joined by `/`. Empty segments and `.` are dropped, and `..` removes the segment before it; a folder from
 /// which it would lead above the root is passed over.
@@ -40,25 +56,37 @@ pub fn resolve<D: Disk>(
     form: Form,
     name: &[u8],
     folders: Folders<'_>,
-) -> Result<Option<usize>, Memory>
+) -> Result<Option<(usize, usize)>, Memory>
     requires { from < length shelf.now.names }
-    ensures first { IfOk result (λ row. spec.IsFirstRow shelf.now.names
+    ensures first { IfOk result (λ found. spec.IsFirstRow shelf.now.names
         (spec.candidates form (name_in shelf.now.names from) (map string_bytes folders.entry.unit.now)
-        (map string_bytes folders.entry.setting.now) name.now) row) }
-    ensures within { IfOk result (λ found. IfSome found (λ row. row < length shelf.now.names)) }
+        (map string_bytes folders.entry.setting.now) name.now) found) }
+    ensures within { IfOk result (λ found. IfSome found (λ f. f.0 < length shelf.now.names)) }
 {
-    let plain = is_plain(name);
     let mut joined = Vec::with_capacity(alloc, USUAL)?;
-    let beside = row_beside(alloc, shelf, from, form, name, plain, &mut joined)?;
-    if beside.is_some() {
-        return Ok(beside);
+    let beside = row_beside(alloc, shelf, from, form, name, &mut joined)?;
+    if let Some(row) = beside {
+        return Ok(Some((row, 0)));
     }
-    let found = row_inside(alloc, shelf, folders.unit, name, plain, &mut joined)?;
-    if found.is_some() {
-        return Ok(found);
-    }
-    let last = row_inside(alloc, shelf, folders.setting, name, plain, &mut joined)?;
-    Ok(last)
+    row_inside(alloc, shelf, 0, name, folders, &mut joined)
+}
+
+/// The same for `#include_next` in a file that was found in the folder of this number (gcc's manual, "Wrapper Headers"): the
+/// folders with larger numbers alone are searched, for both forms of the name.
+pub fn resolve_behind<D: Disk>(
+    alloc: Global,
+    shelf: &Shelf<D>,
+    number: usize,
+    name: &[u8],
+    folders: Folders<'_>,
+) -> Result<Option<(usize, usize)>, Memory>
+    ensures first { IfOk result (λ found. spec.IsFirstRow shelf.now.names
+        (spec.candidates_behind number (map string_bytes folders.entry.unit.now)
+        (map string_bytes folders.entry.setting.now) name.now) found) }
+    ensures within { IfOk result (λ found. IfSome found (λ f. f.0 < length shelf.now.names)) }
+{
+    let mut joined = Vec::with_capacity(alloc, USUAL)?;
+    row_inside(alloc, shelf, number, name, folders, &mut joined)
 }
 
 // For the quote form, the row beside the including file.
@@ -68,12 +96,11 @@ fn row_beside<D: Disk>(
     from: usize,
     form: Form,
     name: &[u8],
-    plain: bool,
     joined: &mut Vec<u8>,
 ) -> Result<Option<usize>, Memory>
-    requires from { from < length shelf.now.names }
-    requires plain { plain ≡ list_all is_plain_segment (segments name.now) }
-    ensures { IfOk result (λ row. spec.IsFirstRow shelf.now.names (spec.beside form (name_in shelf.now.names from) name.now) row) }
+    requires { from < length shelf.now.names }
+    ensures { IfOk result (λ row. spec.IsFirstRow shelf.now.names (spec.beside form (name_in shelf.now.names from) name.now)
+        (option_map (λ r. (r, 0)) row)) }
 {
     if form == Form::Angle {
         return Ok(None);
@@ -81,7 +108,7 @@ fn row_beside<D: Disk>(
     // For proofs: the names are in normal form.
     shelf.lawful();
     let folder = folder_of(shelf.name(from).as_bytes());
-    row_in_folder(alloc, shelf, folder, name, plain, joined)
+    row_in_folder(alloc, shelf, folder, name, is_plain(name), joined)
 }
 
 // The folder of the file with this name: the root, to which the empty text leads, or what stands before the last slash.
@@ -95,22 +122,25 @@ fn folder_of(name: &[u8]) -> &[u8]
     }
 }
 
-// The row of the first of the folders in which the name is.
+// The row of the name in the first folder behind the one of this number that has it, with that folder's number.
 fn row_inside<D: Disk>(
     alloc: Global,
     shelf: &Shelf<D>,
-    folders: &[String],
+    number: usize,
     name: &[u8],
-    plain: bool,
+    folders: Folders<'_>,
     joined: &mut Vec<u8>,
-) -> Result<Option<usize>, Memory>
-    requires { plain ≡ list_all is_plain_segment (segments name.now) }
-    ensures { IfOk result (λ row. spec.IsFirstRow shelf.now.names (spec.inside (map string_bytes folders.now) name.now) row) }
+) -> Result<Option<(usize, usize)>, Memory>
+    ensures { IfOk result (λ found. spec.IsFirstRow shelf.now.names
+        (spec.candidates_behind number (map string_bytes folders.entry.unit.now)
+        (map string_bytes folders.entry.setting.now) name.now) found) }
 {
-    for folder in folders {
-        let row = row_in_folder(alloc, shelf, folder.as_bytes(), name, plain, joined)?;
-        if row.is_some() {
-            return Ok(row);
+    let plain = is_plain(name);
+    let count = folders.unit.len() + folders.setting.len();
+    for passed in number..count {
+        let row = row_in_folder(alloc, shelf, folders.behind(passed), name, plain, joined)?;
+        if let Some(row) = row {
+            return Ok(Some((row, passed + 1)));
         }
     }
     Ok(None)
@@ -127,7 +157,7 @@ fn row_in_folder<D: Disk>(
     joined: &mut Vec<u8>,
 ) -> Result<Option<usize>, Memory>
     requires { plain ≡ list_all is_plain_segment (segments name.now) }
-    ensures { IfOk result (λ row. spec.IsFirstRow shelf.now.names (spec.spelled (spec.lead (spec.lead (Some []) folder.now) name.now)) row) }
+    ensures { IfOk result (λ row. spec.IsRowAt shelf.now.names (spec.lead (spec.lead (Some []) folder.now) name.now) row) }
 {
     if plain && is_plain(folder) {
         join(joined, folder, name)?;
@@ -158,7 +188,7 @@ fn row_led<'a, D: Disk>(
     mut path: Path<'a>,
     text: &'a [u8],
 ) -> Result<Option<usize>, Memory>
-    ensures { IfOk result (λ row. spec.IsFirstRow shelf.now.names (spec.spelled (spec.lead (Some path.entry) text.now)) row) }
+    ensures { IfOk result (λ row. spec.IsRowAt shelf.now.names (spec.lead (Some path.entry) text.now) row) }
 {
     if !path.lead(text)? {
         return Ok(None);

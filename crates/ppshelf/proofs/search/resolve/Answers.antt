@@ -1,20 +1,15 @@
-use Rattle.std.proofs.Common.{sym}
-use Rattle.ppshelf.proofs.Finds.{found_second, found_third, first_within}
+use Rattle.std.proofs.lemmas.Result.{IfOk-weaker}
+use Rattle.ppshelf.proofs.Finds.{first_here, first_later, first_within}
 use Rattle.ppshelf.proofs.search.resolve.Goals as goal
 
-pub returns-then-is_some-2-clause-first : goal.returns-then-is_some-2-clause-first
-returns-then-is_some-2-clause-first g c =
-    found_second _ _ _ _ c.in_ok-beside.beside c.in_ok-found.found (sym c.if-is_some.ensures) c.in_ok-beside.ensures (sym c.if-is_some-2.ensures) c.in_ok-found.ensures
+pub returns-in-Some-clause-first : goal.returns-in-Some-clause-first
+returns-in-Some-clause-first g c = first_here _ _ _ (c.in-Some.row, 0) (rw c.in-Some.is at c.in_ok-beside.ensures)
 
 pub returns-clause-first : goal.returns-clause-first
-returns-clause-first g c =
-    found_third _ _ _ _ c.in_ok-beside.beside c.in_ok-found.found c.in_ok-last.last (sym c.if-is_some.ensures) c.in_ok-beside.ensures (sym c.if-is_some-2.ensures) c.in_ok-found.ensures c.in_ok-last.ensures
+returns-clause-first g c = IfOk-weaker c.row_inside.result _ _ (λ found h. first_later _ _ _ found (rw c.in_default.is at c.in_ok-beside.ensures) h) c.row_inside.ensures
 
-pub returns-then-is_some-clause-within : goal.returns-then-is_some-clause-within
-returns-then-is_some-clause-within g c = first_within _ _ _ c.in_ok-beside.ensures
-
-pub returns-then-is_some-2-clause-within : goal.returns-then-is_some-2-clause-within
-returns-then-is_some-2-clause-within g c = first_within _ _ _ c.in_ok-found.ensures
+pub returns-in-Some-clause-within : goal.returns-in-Some-clause-within
+returns-in-Some-clause-within g c = first_within _ _ _ (rw c.in-Some.is at c.in_ok-beside.ensures)
 
 pub returns-clause-within : goal.returns-clause-within
-returns-clause-within g c = first_within _ _ _ c.in_ok-last.ensures
+returns-clause-within g c = IfOk-weaker c.row_inside.result _ _ (λ found h. first_within _ _ found h) c.row_inside.ensures

@@ -1,26 +1,29 @@
-use Rattle.std.proofs.Common.{◌≡◌, ◌<◌, [], ℕ, List, map, length, get_or, ap, sym, ◌∙◌, arith}
+use Rattle.std.proofs.Common.{◌<◌, ◌+◌, ◌++◌, ℕ, List, map, length, length-append, arith}
 use Rattle.std.specs.String.{string_bytes}
-use Rattle.std.proofs.lemmas.List.{get_or-map, length-map}
+use Rattle.std.proofs.lemmas.List.{length-map}
 use Rattle.ppshelf.proofs.Finds.{pass_over, found_here}
 use Rattle.ppshelf.proofs.search.row_inside.Goals as goal
 
-pub loop-folder-init : goal.loop-folder-init
-loop-folder-init g c = record { rest = λ row h. h }
+within_both : {A B : Type 0} (f : A → B) (xs ys : List A) (i : ℕ) → i < length xs + length ys → i < length (map f xs ++ map f ys)
+within_both f xs ys i within =
+    let first = length-map xs f in
+    let second = length-map ys f in
+    let all = length-append (map f xs) (map f ys) in
+    omega (arith, within)
 
-pub loop-folder-preserved : goal.loop-folder-preserved
-loop-folder-preserved g c =
-    let folders : List (List ℕ) = map string_bytes c.args.folders.now in
-    let i = c.loop-folder.folder-index in
-    let there : i < length c.args.folders.now = omega arith in
-    let within : i < length folders = let l = length-map c.args.folders.now string_bytes in omega arith in
-    let is : c.as_bytes.result.now ≡ get_or folders i [] = c.as_bytes.ensures.value ∙ (ap string_bytes c.folder-item.is ∙ sym (get_or-map string_bytes c.args.folders.now i c.folder-item.result [] there)) in
-    pass_over _ folders c.args.name.now i c.as_bytes.result.now c.in_ok-row.row c.loop-folder.invariant within is (sym c.if-is_some.ensures) c.in_ok-row.ensures
+pub loop-passed-init : goal.loop-passed-init
+loop-passed-init g c = record { rest = λ found h. h }
 
-pub returns-then-is_some : goal.returns-then-is_some
-returns-then-is_some g c =
-    let folders : List (List ℕ) = map string_bytes c.args.folders.now in
-    let i = c.loop-folder.folder-index in
-    let there : i < length c.args.folders.now = omega arith in
-    let within : i < length folders = let l = length-map c.args.folders.now string_bytes in omega arith in
-    let is : c.as_bytes.result.now ≡ get_or folders i [] = c.as_bytes.ensures.value ∙ (ap string_bytes c.folder-item.is ∙ sym (get_or-map string_bytes c.args.folders.now i c.folder-item.result [] there)) in
-    found_here _ folders c.args.name.now i c.as_bytes.result.now c.in_ok-row.row c.loop-folder.invariant within is (sym c.if-is_some.ensures) c.in_ok-row.ensures
+pub loop-passed-preserved : goal.loop-passed-preserved
+loop-passed-preserved g c =
+    let folders = map string_bytes c.args.folders.unit.now ++ map string_bytes c.args.folders.setting.now in
+    let i = c.loop-passed.passed in
+    let within = within_both string_bytes c.args.folders.unit.now c.args.folders.setting.now i c.loop-passed-test.true in
+    pass_over _ folders c.args.name.now c.args.number i c.behind.result.now c.loop-passed.invariant within c.behind.ensures (rw c.in_default.is at c.in_ok-row.ensures)
+
+pub returns-in-Some : goal.returns-in-Some
+returns-in-Some g c =
+    let folders = map string_bytes c.args.folders.unit.now ++ map string_bytes c.args.folders.setting.now in
+    let i = c.loop-passed.passed in
+    let within = within_both string_bytes c.args.folders.unit.now c.args.folders.setting.now i c.loop-passed-test.true in
+    found_here _ folders c.args.name.now c.args.number i c.behind.result.now c.in-Some.row c.loop-passed.invariant within c.behind.ensures (rw c.in-Some.is at c.in_ok-row.ensures)
