@@ -1,12 +1,12 @@
 -- A group and all that it includes within a budget that they would overrun.
-use Rattle.std.proofs.Common.{◌≡◌, ℕ, zero, suc, ◌+◌, ◌-◌, ◌<◌, ◌≤◌, List, [], true, false, Some, Ok, Err, refl, arith}
+use Rattle.std.proofs.Common.{◌≡◌, ℕ, zero, suc, ◌+◌, ◌-◌, ◌<◌, ◌≤◌, List, [], true, false, Option, Some, Ok, Err, refl, arith}
 use Rattle.pptext.specs.declared.tokens.Place.{Place}
 use Rattle.pptext.specs.Lines.{LogicalLine}
 use Rattle.pptext.specs.Tree.{Parts, Branches}
 use Rattle.pptext.specs.Tokens.{fault}
 use Rattle.ppexpand.specs.Expansion.{count_expansion}
 use Rattle.ppexpand.proofs.Budget.{Covers, covers_less}
-use Rattle.ppunit.specs.States.{State, Surroundings, Reached, stopped, depending, with_left, paying}
+use Rattle.ppunit.specs.States.{State, context, in_context, Surroundings, Reached, stopped, depending, with_left, paying, search_of}
 use Rattle.ppunit.specs.Lines.{run_tokens}
 use Rattle.ppunit.specs.Group.{deepest, Group, Branched, Controls, Includes, Opened}
 use Rattle.ppunit.specs.Counts.{count_decides, count_asks, count_group, count_branched, count_control, count_includes, count_opened}
@@ -20,7 +20,7 @@ use Rattle.ppunit.proofs.CappedLines.{Stops, over_same, over_then, run_short, as
 
 module _ (around : Surroundings) where
   -- a file that there is nothing left for
-  over_here : {depth row : ℕ} {at : Place} (s t : State) → depth ≤ deepest → Before s t → Stops t (λ u f. Opened around depth at (with_left s (Some 0)) row (stopped u f))
+  over_here : {depth row : ℕ} {folder : Option ℕ} {at : Place} (s t : State) → depth ≤ deepest → Before s t → Stops t (λ u f. Opened around depth at (with_left s (Some 0)) row folder (stopped u f))
   over_here {at = at} s t fits h = (with_left s (Some 0), fault 35 at [], over_same s t (fault 35 at []) refl h, Opened.over fits refl)
 
   mutual
@@ -54,58 +54,58 @@ module _ (around : Surroundings) where
               let x = group_short (b - c) left rest (omega arith) in
               (x.0, x.1, x.2, Group.control {end = stopped x.0 x.1} (control_enough around b is here (b - c) sum) x.3))
         ]
-    group_short {end = end} b is (Group.taken {s = s} {line = line} {after = after} {m = m} decides here rest) less =
-        let c = count_decides s line after (Ok true) decides in
+    group_short {row = row} {end = end} b is (Group.taken {s = s} {line = line} {after = after} {m = m} decides here rest) less =
+        let c = count_decides (search_of around) row s line after (Ok true) decides in
         let j = count_group here in
         let k = count_group rest in
         let one = group_before around here in
         let two = group_before around rest in
         elim (dec_lt b c) [
           | yes less ↦
-              (let x = decides_short s line after (Ok true) b is decides less in
+              (let x = decides_short (search_of around) row s line after (Ok true) b is decides less in
               (with_left s (Some 0), x.0, over_same s end.state x.0 x.1 (before_then s m.state end.state one two), Group.refused x.2))
           | no not_less ↦
               (let sum : b ≡ c + (b - c) = omega arith in
-              let left = decides_rest s line after (Ok true) b (b - c) is decides sum in
+              let left = decides_rest (search_of around) row s line after (Ok true) b (b - c) is decides sum in
               elim (dec_lt (b - c) j) [
                 | yes less ↦
                     (let x = group_short (b - c) left here less in
-                    (x.0, x.1, over_then x.0 m.state end.state x.1 x.2 two, Group.taken {end = stopped x.0 x.1} (decides_enough s line after (Ok true) b is decides (b - c) sum) x.3 Group.stays))
+                    (x.0, x.1, over_then x.0 m.state end.state x.1 x.2 two, Group.taken {end = stopped x.0 x.1} (decides_enough (search_of around) row s line after (Ok true) b is decides (b - c) sum) x.3 Group.stays))
                 | no not_less2 ↦
                     (let n = b - c - j in
                     let sum2 : b - c ≡ j + n = omega arith in
                     let next = group_rest around (b - c) n left here sum2 in
                     let x = group_short n next rest (omega arith) in
-                    (x.0, x.1, x.2, Group.taken {end = stopped x.0 x.1} (decides_enough s line after (Ok true) b is decides (b - c) sum) (group_enough around (b - c) left here n sum2) x.3))
+                    (x.0, x.1, x.2, Group.taken {end = stopped x.0 x.1} (decides_enough (search_of around) row s line after (Ok true) b is decides (b - c) sum) (group_enough around (b - c) left here n sum2) x.3))
               ])
         ]
-    group_short {end = end} b is (Group.skipped {s = s} {line = line} {after = after} {m = m} decides here rest) less =
-        let c = count_decides s line after (Ok false) decides in
+    group_short {row = row} {end = end} b is (Group.skipped {s = s} {line = line} {after = after} {m = m} decides here rest) less =
+        let c = count_decides (search_of around) row s line after (Ok false) decides in
         let j = count_branched here in
         let k = count_group rest in
         let one = branches_before around here in
         let two = group_before around rest in
         elim (dec_lt b c) [
           | yes less ↦
-              (let x = decides_short s line after (Ok false) b is decides less in
+              (let x = decides_short (search_of around) row s line after (Ok false) b is decides less in
               (with_left s (Some 0), x.0, over_same s end.state x.0 x.1 (before_then s m.state end.state one two), Group.refused x.2))
           | no not_less ↦
               (let sum : b ≡ c + (b - c) = omega arith in
-              let left = decides_rest s line after (Ok false) b (b - c) is decides sum in
+              let left = decides_rest (search_of around) row s line after (Ok false) b (b - c) is decides sum in
               elim (dec_lt (b - c) j) [
                 | yes less ↦
                     (let x = branches_short (b - c) left here less in
-                    (x.0, x.1, over_then x.0 m.state end.state x.1 x.2 two, Group.skipped {end = stopped x.0 x.1} (decides_enough s line after (Ok false) b is decides (b - c) sum) x.3 Group.stays))
+                    (x.0, x.1, over_then x.0 m.state end.state x.1 x.2 two, Group.skipped {end = stopped x.0 x.1} (decides_enough (search_of around) row s line after (Ok false) b is decides (b - c) sum) x.3 Group.stays))
                 | no not_less2 ↦
                     (let n = b - c - j in
                     let sum2 : b - c ≡ j + n = omega arith in
                     let next = branches_rest around (b - c) n left here sum2 in
                     let x = group_short n next rest (omega arith) in
-                    (x.0, x.1, x.2, Group.skipped {end = stopped x.0 x.1} (decides_enough s line after (Ok false) b is decides (b - c) sum) (branches_enough around (b - c) left here n sum2) x.3))
+                    (x.0, x.1, x.2, Group.skipped {end = stopped x.0 x.1} (decides_enough (search_of around) row s line after (Ok false) b is decides (b - c) sum) (branches_enough around (b - c) left here n sum2) x.3))
               ])
         ]
-    group_short b is (Group.refused {s = s} {line = line} {after = after} {f = f} decides) less =
-        let x = decides_short s line after (Err f) b is decides less in
+    group_short {row = row} b is (Group.refused {s = s} {line = line} {after = after} {f = f} decides) less =
+        let x = decides_short (search_of around) row s line after (Err f) b is decides less in
         (with_left s (Some 0), x.0, over_same s (with_left s after) x.0 x.1 (same_state s), Group.refused x.2)
 
     branches_short : {depth row : ℕ} {s : State} {bs : Branches} {m : Reached} (b : ℕ) → Covers s.left b
@@ -116,32 +116,32 @@ module _ (around : Surroundings) where
     branches_short b is (Branched.otherwise e here) less =
         let x = group_short b is here less in
         (x.0, x.1, x.2, Branched.otherwise e x.3)
-    branches_short {m = m} b is (Branched.branch_taken {s = s} {line = line} {after = after} e decides here) less =
-        let c = count_decides s line after (Ok true) decides in
+    branches_short {row = row} {m = m} b is (Branched.branch_taken {s = s} {line = line} {after = after} e decides here) less =
+        let c = count_decides (search_of around) row s line after (Ok true) decides in
         elim (dec_lt b c) [
           | yes less ↦
-              (let x = decides_short s line after (Ok true) b is decides less in
+              (let x = decides_short (search_of around) row s line after (Ok true) b is decides less in
               (with_left s (Some 0), x.0, over_same s m.state x.0 x.1 (group_before around here), Branched.branch_refused e x.2))
           | no not_less ↦
               (let sum : b ≡ c + (b - c) = omega arith in
-              let left = decides_rest s line after (Ok true) b (b - c) is decides sum in
+              let left = decides_rest (search_of around) row s line after (Ok true) b (b - c) is decides sum in
               let x = group_short (b - c) left here (omega arith) in
-              (x.0, x.1, x.2, Branched.branch_taken {m = stopped x.0 x.1} e (decides_enough s line after (Ok true) b is decides (b - c) sum) x.3))
+              (x.0, x.1, x.2, Branched.branch_taken {m = stopped x.0 x.1} e (decides_enough (search_of around) row s line after (Ok true) b is decides (b - c) sum) x.3))
         ]
-    branches_short {m = m} b is (Branched.branch_skipped {s = s} {line = line} {after = after} e decides here) less =
-        let c = count_decides s line after (Ok false) decides in
+    branches_short {row = row} {m = m} b is (Branched.branch_skipped {s = s} {line = line} {after = after} e decides here) less =
+        let c = count_decides (search_of around) row s line after (Ok false) decides in
         elim (dec_lt b c) [
           | yes less ↦
-              (let x = decides_short s line after (Ok false) b is decides less in
+              (let x = decides_short (search_of around) row s line after (Ok false) b is decides less in
               (with_left s (Some 0), x.0, over_same s m.state x.0 x.1 (branches_before around here), Branched.branch_refused e x.2))
           | no not_less ↦
               (let sum : b ≡ c + (b - c) = omega arith in
-              let left = decides_rest s line after (Ok false) b (b - c) is decides sum in
+              let left = decides_rest (search_of around) row s line after (Ok false) b (b - c) is decides sum in
               let x = branches_short (b - c) left here (omega arith) in
-              (x.0, x.1, x.2, Branched.branch_skipped {m = stopped x.0 x.1} e (decides_enough s line after (Ok false) b is decides (b - c) sum) x.3))
+              (x.0, x.1, x.2, Branched.branch_skipped {m = stopped x.0 x.1} e (decides_enough (search_of around) row s line after (Ok false) b is decides (b - c) sum) x.3))
         ]
-    branches_short b is (Branched.branch_refused {s = s} {line = line} {after = after} {f = f} e decides) less =
-        let x = decides_short s line after (Err f) b is decides less in
+    branches_short {row = row} b is (Branched.branch_refused {s = s} {line = line} {after = after} {f = f} e decides) less =
+        let x = decides_short (search_of around) row s line after (Err f) b is decides less in
         (with_left s (Some 0), x.0, over_same s (with_left s after) x.0 x.1 (same_state s), Branched.branch_refused e x.2)
 
     control_short : {depth row : ℕ} {s : State} {line : LogicalLine} {m : Reached} (b : ℕ) → Covers s.left b
@@ -149,6 +149,7 @@ module _ (around : Surroundings) where
         → b < count_control d
         → Stops m.state (λ t f. Controls around depth row (with_left s (Some b)) line (stopped t f))
     control_short b is (Controls.error e) less = absurd (omega arith)
+    control_short b is (Controls.ignored e) less = absurd (omega arith)
     control_short b is (Controls.quote e q) less = absurd (omega arith)
     control_short {row = row} b is (Controls.other {s = s} {line = line} {m = m} q does) less =
         let x = control_by_short around.profile row line.directive s line m b is does less in
@@ -156,11 +157,14 @@ module _ (around : Surroundings) where
     control_short b is (Controls.include e q here) less =
         let x = includes_short b is here less in
         (x.0, x.1, x.2, Controls.include e q x.3)
+    control_short b is (Controls.include_next e q here) less =
+        let x = includes_short b is here less in
+        (x.0, x.1, x.2, Controls.include_next e q x.3)
 
-    includes_short : {depth row : ℕ} {s : State} {line : LogicalLine} {m : Reached} (b : ℕ) → Covers s.left b
-        → (d : Includes around depth row s line m)
+    includes_short : {depth row : ℕ} {behind : Option ℕ} {s : State} {line : LogicalLine} {m : Reached} (b : ℕ) → Covers s.left b
+        → (d : Includes around depth row behind s line m)
         → b < count_includes d
-        → Stops m.state (λ t f. Includes around depth row (with_left s (Some b)) line (stopped t f))
+        → Stops m.state (λ t f. Includes around depth row behind (with_left s (Some b)) line (stopped t f))
     includes_short b is (Includes.misnamed {s = s} {line = line} {after = after} {f = f} asks) less =
         let x = asks_short s line.tokens after (Err f) b is asks less in
         (with_left s (Some 0), x.0, over_same s (with_left s after) x.0 x.1 (same_state s), Includes.misnamed x.2)
@@ -180,23 +184,23 @@ module _ (around : Surroundings) where
               (x.0, x.1, x.2, Includes.included a found {m = stopped x.0 x.1} (asks_enough s line.tokens after (Ok a) b is asks (b - c) sum) finds x.3))
         ]
 
-    pub opened_short : {depth row : ℕ} {at : Place} {s : State} {m : Reached} (b : ℕ) → Covers s.left b
-        → (d : Opened around depth at s row m)
+    pub opened_short : {depth row : ℕ} {folder : Option ℕ} {at : Place} {s : State} {m : Reached} (b : ℕ) → Covers s.left b
+        → (d : Opened around depth at s row folder m)
         → b < count_opened d
-        → Stops m.state (λ t f. Opened around depth at (with_left s (Some b)) row (stopped t f))
+        → Stops m.state (λ t f. Opened around depth at (with_left s (Some b)) row folder (stopped t f))
     opened_short b is (Opened.too_deep deep) less = absurd (omega arith)
     opened_short b is (Opened.over fits spent) less = absurd (omega arith)
-    opened_short {depth} {row} {at} zero is (Opened.known {s = s} fits more once) less = over_here {depth = depth} {row = row} {at = at} s (depending (paying s) row) fits (depends s row)
+    opened_short {depth} {row} {folder} {at} zero is (Opened.known {s = s} fits more once) less = over_here {depth = depth} {row = row} {folder = folder} {at = at} s (depending (paying s) row) fits (depends s row)
     opened_short (suc b) is (Opened.known fits more once) less = absurd (omega arith)
-    opened_short {depth} {row} {at} zero is (Opened.not_readable {s = s} fits more once file) less = over_here {depth = depth} {row = row} {at = at} s (depending (paying s) row) fits (depends s row)
+    opened_short {depth} {row} {folder} {at} zero is (Opened.not_readable {s = s} fits more once file) less = over_here {depth = depth} {row = row} {folder = folder} {at = at} s (depending (paying s) row) fits (depends s row)
     opened_short (suc b) is (Opened.not_readable fits more once file) less = absurd (omega arith)
-    opened_short {depth} {row} {at} zero is (Opened.faulty {s = s} fits more once file reads) less = over_here {depth = depth} {row = row} {at = at} s (depending (paying s) row) fits (depends s row)
+    opened_short {depth} {row} {folder} {at} zero is (Opened.faulty {s = s} fits more once file reads) less = over_here {depth = depth} {row = row} {folder = folder} {at = at} s (depending (paying s) row) fits (depends s row)
     opened_short (suc b) is (Opened.faulty fits more once file reads) less = absurd (omega arith)
-    opened_short {depth} {row} {at} zero is (Opened.read {s = s} {m = m} fits more once file reads tree here) less =
-        over_here {depth = depth} {row = row} {at = at} s (record m.state { env = s.env }) fits (before_then s (depending s row) m.state (depends s row) (group_before around here))
+    opened_short {depth} {row} {folder} {at} zero is (Opened.read {s = s} {m = m} fits more once file reads tree here) less =
+        over_here {depth = depth} {row = row} {folder = folder} {at = at} s (in_context (context s) m.state) fits (before_then s (depending s row) m.state (depends s row) (group_before around here))
     opened_short (suc b) is (Opened.read {s = s} {m = m} fits more once file reads tree here) less =
         let x = group_short b (covers_less is) here (omega arith) in
-        (record x.0 { env = s.env }, x.1, record { number = x.2.number; left = x.2.left; before = x.2.before }, Opened.read fits refl once file reads tree x.3)
+        (in_context (context s) x.0, x.1, record { number = x.2.number; left = x.2.left; before = x.2.before }, Opened.read fits refl once file reads tree x.3)
 
   defines_short : {defines : List (List ℕ)} {s : State} {m : Reached} (b : ℕ) → Covers s.left b
       → (d : Defines around defines s m)

@@ -1,24 +1,27 @@
 -- A line within a budget that it would overrun: it stops by fault 35, before the state that it would have reached.
-use Rattle.std.proofs.Common.{◌≡◌, ℕ, ◌<◌, List, [], ◌++◌, map, Bool, true, false, Option, Some, None, Result, Err, refl, sym, ap, ◌∙◌, arith, append_assoc, append-nil}
+use Rattle.std.proofs.Common.{◌≡◌, ℕ, ◌<◌, List, [], ◌++◌, map, Bool, true, false, Option, Some, None, Result, Ok, Err, refl, sym, ap, ◌∙◌, arith, append_assoc, append-nil}
 use Rattle.std.proofs.lemmas.List.{map-append}
+use Rattle.pptext.specs.declared.tokens.Place.{Place}
 use Rattle.pptext.specs.declared.tokens.Token.{Token}
 use Rattle.pptext.specs.declared.tokens.Fault.{Fault}
 use Rattle.pptext.specs.declared.sources.Directive.{Directive}
 use Rattle.pptext.specs.declared.sources.Directive.TheVariants.{If, Ifdef, Ifndef, Elif, Elifdef, Elifndef, Define, Undef, Line, Pragma, Null, Unknown}
 use Rattle.pptext.specs.declared.sources.Profile.{Profile}
 use Rattle.pptext.specs.Lines.{LogicalLine}
+use Rattle.pptext.specs.Tree.{sign_place}
 use Rattle.ppexpand.specs.Expansion.{count_expansion}
 use Rattle.ppexpand.proofs.Budget.{StopsEarly, Covers, expansion_short}
 use Rattle.ppexpr.proofs.Capped.{condition_short}
 use Rattle.ppunit.specs.declared.units.Item.{Item}
-use Rattle.ppunit.specs.States.{State, Reached, stopped, passed, with_left}
+use Rattle.ppunit.specs.States.{State, Reached, stopped, passed, with_left, Search}
 use Rattle.ppunit.specs.Lines.{operands, line_fault}
 use Rattle.ppunit.specs.Quotes.{lone_quote}
 use Rattle.ppunit.specs.LineControl.{presumed}
 use Rattle.ppunit.specs.Including.{Asked, begins_with_header, asked_behind}
-use Rattle.ppunit.specs.Conditions.{DecidesBy, DecidesUnless, Decides}
+use Rattle.ppunit.specs.Probing.{condition_tokens}
+use Rattle.ppunit.specs.Conditions.{DecidesBy, DecidesUnless, Decides, DecidesOf}
 use Rattle.ppunit.specs.Directives.{RunGives, AsksBy, Asks, ControlBy, renumbered_by}
-use Rattle.ppunit.specs.Counts.{count_decides_by, count_decides_unless, count_decides, count_asks_by, count_asks, count_control_by}
+use Rattle.ppunit.specs.Counts.{count_decides_by, count_decides_unless, count_decides, count_asks_by, count_asks, count_control_by, count_decides_of}
 use Rattle.ppunit.proofs.Kept.{Before, before_then, control_by_before}
 use Rattle.ppunit.specs.declared.units.Item.TheVariants as item
 
@@ -71,30 +74,37 @@ pub asks_short : (s : State) (line : List Token) (after : Option ℕ) (asked : R
     → (f : Fault) × (f.number ≡ 35) × Asks (with_left s (Some b)) line (Some 0) (Err f)
 asks_short s line after asked b is g less = asks_by_short (begins_with_header (operands line)) s line after asked b is g less
 
-decides_by_short : (d : Option Directive) (s : State) (line : List Token) (after : Option ℕ) (taken : Result Bool Fault) (b : ℕ) → Covers s.left b
-    → (g : DecidesBy d s line after taken)
-    → b < count_decides_by d s line after taken g
-    → (f : Fault) × (f.number ≡ 35) × DecidesBy d (with_left s (Some b)) line (Some 0) (Err f)
-decides_by_short (Some If) s line after taken b is g less = condition_short b is g less
-decides_by_short (Some Elif) s line after taken b is g less = condition_short b is g less
-decides_by_short (Some Ifdef) s line after taken b is g less = absurd (omega arith)
-decides_by_short (Some Ifndef) s line after taken b is g less = absurd (omega arith)
-decides_by_short (Some Elifdef) s line after taken b is g less = absurd (omega arith)
-decides_by_short (Some Elifndef) s line after taken b is g less = absurd (omega arith)
-decides_by_short _ s line after taken b is g less = absurd g
+decides_of_short : (tokens : Result (List Token) Fault) (s : State) (at : Place) (after : Option ℕ) (taken : Result Bool Fault) (b : ℕ) → Covers s.left b
+    → (g : DecidesOf tokens s at after taken)
+    → b < count_decides_of tokens s at after taken g
+    → (f : Fault) × (f.number ≡ 35) × DecidesOf tokens (with_left s (Some b)) at (Some 0) (Err f)
+decides_of_short (Err f) s at after taken b is g less = absurd (omega arith)
+decides_of_short (Ok tokens) s at after taken b is g less = condition_short b is g less
 
-decides_unless_short : (quote : Option Fault) (d : Option Directive) (s : State) (line : List Token) (after : Option ℕ) (taken : Result Bool Fault) (b : ℕ) → Covers s.left b
-    → (g : DecidesUnless quote d s line after taken)
-    → b < count_decides_unless quote d s line after taken g
-    → (f : Fault) × (f.number ≡ 35) × DecidesUnless quote d (with_left s (Some b)) line (Some 0) (Err f)
-decides_unless_short (Some f) d s line after taken b is g less = absurd (omega arith)
-decides_unless_short None d s line after taken b is g less = decides_by_short d s line after taken b is g less
+decides_by_short : (search : Search) (row : ℕ) (d : Option Directive) (s : State) (line : List Token) (after : Option ℕ) (taken : Result Bool Fault) (b : ℕ) → Covers s.left b
+    → (g : DecidesBy search row d s line after taken)
+    → b < count_decides_by search row d s line after taken g
+    → (f : Fault) × (f.number ≡ 35) × DecidesBy search row d (with_left s (Some b)) line (Some 0) (Err f)
+decides_by_short search row (Some If) s line after taken b is g less = decides_of_short (condition_tokens search row line) s (sign_place line) after taken b is g less
+decides_by_short search row (Some Elif) s line after taken b is g less = decides_of_short (condition_tokens search row line) s (sign_place line) after taken b is g less
+decides_by_short search row (Some Ifdef) s line after taken b is g less = absurd (omega arith)
+decides_by_short search row (Some Ifndef) s line after taken b is g less = absurd (omega arith)
+decides_by_short search row (Some Elifdef) s line after taken b is g less = absurd (omega arith)
+decides_by_short search row (Some Elifndef) s line after taken b is g less = absurd (omega arith)
+decides_by_short search row _ s line after taken b is g less = absurd g
 
-pub decides_short : (s : State) (line : LogicalLine) (after : Option ℕ) (taken : Result Bool Fault) (b : ℕ) → Covers s.left b
-    → (g : Decides s line after taken)
-    → b < count_decides s line after taken g
-    → (f : Fault) × (f.number ≡ 35) × Decides (with_left s (Some b)) line (Some 0) (Err f)
-decides_short s line after taken b is g less = decides_unless_short (lone_quote line.tokens) line.directive s line.tokens after taken b is g less
+decides_unless_short : (search : Search) (row : ℕ) (quote : Option Fault) (d : Option Directive) (s : State) (line : List Token) (after : Option ℕ) (taken : Result Bool Fault) (b : ℕ) → Covers s.left b
+    → (g : DecidesUnless search row quote d s line after taken)
+    → b < count_decides_unless search row quote d s line after taken g
+    → (f : Fault) × (f.number ≡ 35) × DecidesUnless search row quote d (with_left s (Some b)) line (Some 0) (Err f)
+decides_unless_short search row (Some f) d s line after taken b is g less = absurd (omega arith)
+decides_unless_short search row None d s line after taken b is g less = decides_by_short search row d s line after taken b is g less
+
+pub decides_short : (search : Search) (row : ℕ) (s : State) (line : LogicalLine) (after : Option ℕ) (taken : Result Bool Fault) (b : ℕ) → Covers s.left b
+    → (g : Decides search row s line after taken)
+    → b < count_decides search row s line after taken g
+    → (f : Fault) × (f.number ≡ 35) × Decides search row (with_left s (Some b)) line (Some 0) (Err f)
+decides_short search row s line after taken b is g less = decides_unless_short search row (lone_quote line.tokens) line.directive s line.tokens after taken b is g less
 
 pub control_by_short : (profile : Profile) (row : ℕ) (d : Option Directive) (s : State) (line : LogicalLine) (m : Reached) (b : ℕ) → Covers s.left b
     → (g : ControlBy profile row d s line m)

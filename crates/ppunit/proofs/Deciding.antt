@@ -1,54 +1,105 @@
 -- What the code decides by tokens and a directive, of a line.
-use Rattle.std.proofs.Common.{◌≡◌, ℕ, Bool, true, false, List, refl, sym, subst, Option, None, Some, Result, Ok}
+use Rattle.std.proofs.Common.{◌≡◌, ℕ, Bool, true, false, ◌&&◌, if◌then◌else◌, List, [], refl, sym, ap, ◌∙◌, subst, Option, None, Some, Result, Ok}
+use Rattle.std.specs.List.{list_any}
+use Rattle.std.proofs.lemmas.Bool.{false≢true}
+use Rattle.pptext.specs.declared.tokens.Place.{Place}
 use Rattle.pptext.specs.declared.tokens.Token.{Token}
 use Rattle.pptext.specs.declared.tokens.Fault.{Fault}
+use Rattle.pptext.specs.declared.sources.Profile.{Profile}
 use Rattle.pptext.specs.declared.sources.Directive.{Directive}
 use Rattle.pptext.specs.declared.sources.Directive.TheVariants.{Elif, Elifdef, Elifndef}
 use Rattle.pptext.specs.Lines.{LogicalLine}
-use Rattle.ppunit.specs.States.{State}
-use Rattle.ppunit.specs.Conditions.{Decides, DecidesUnless, IsConditional}
+use Rattle.ppunit.specs.States.{Search, State}
+use Rattle.ppunit.specs.Conditions.{DecidesOf, Decides, DecidesUnless, IsConditional}
 use Rattle.ppunit.specs.Quotes.{lone_quote}
-use Rattle.ppunit.specs.Lines.{directed}
-use Rattle.pptext.specs.Tree.{has_condition}
+use Rattle.ppunit.specs.Lines.{operands, line_fault, directed}
+use Rattle.ppunit.specs.Probing.{is_has_include, probed, tokens_or, condition_tokens}
+use Rattle.ppexpr.specs.Conditions.{IsCondition}
+use Rattle.pptext.specs.Profiles.{is_gnu}
+use Rattle.pptext.specs.Tree.{sign_place, has_condition}
+use Rattle.ppunit.proofs.Probed.{unused}
 use Rattle.ppunit.specs.Walk.{EntersIf, EntersBy, Enters}
 
-pub decides_at : (s : State) (r : LogicalLine) (d : Directive) (tokens : List Token) (after : Option ℕ) (taken : Result Bool Fault)
+pub decides_at : (search : Search) (row : ℕ) (s : State) (r : LogicalLine) (d : Directive) (tokens : List Token) (after : Option ℕ) (taken : Result Bool Fault)
     → r.directive ≡ Some d
     → tokens ≡ r.tokens
-    → ((number : ℕ) → Decides s (directed d tokens number) after taken)
-    → Decides s r after taken
-decides_at s r d tokens after taken is same decides =
-    subst (λ (z : Option Directive). DecidesUnless (lone_quote r.tokens) z s r.tokens after taken) (sym is)
-    (subst (λ (ts : List Token). DecidesUnless (lone_quote ts) (Some d) s ts after taken) same (decides 0))
+    → ((number : ℕ) → Decides search row s (directed d tokens number) after taken)
+    → Decides search row s r after taken
+decides_at search row s r d tokens after taken is same decides =
+    subst (λ (z : Option Directive). DecidesUnless search row (lone_quote r.tokens) z s r.tokens after taken) (sym is)
+    (subst (λ (ts : List Token). DecidesUnless search row (lone_quote ts) (Some d) s ts after taken) same (decides 0))
 
 -- a line of this directive that has no condition is entered
-enters_by_directive : (d : Directive) (s : State) (r : LogicalLine) → has_condition d ≡ false → EntersBy (Some d) s r s.left (Ok true)
-enters_by_directive d s r e = subst (λ (b : Bool). EntersIf b s r s.left (Ok true)) (sym e) (refl, refl)
+enters_by_directive : (search : Search) (row : ℕ) (d : Directive) (s : State) (r : LogicalLine) → has_condition d ≡ false → EntersBy search row (Some d) s r s.left (Ok true)
+enters_by_directive search row d s r e = subst (λ (b : Bool). EntersIf search row b s r s.left (Ok true)) (sym e) (refl, refl)
 
-pub enters_no_directive : (s : State) (r : LogicalLine) → r.directive ≡ None → Enters s r s.left (Ok true)
-enters_no_directive s r is = subst (λ (z : Option Directive). EntersBy z s r s.left (Ok true)) (sym is) (refl, refl)
+pub enters_no_directive : (search : Search) (row : ℕ) (s : State) (r : LogicalLine) → r.directive ≡ None → Enters search row s r s.left (Ok true)
+enters_no_directive search row s r is = subst (λ (z : Option Directive). EntersBy search row z s r s.left (Ok true)) (sym is) (refl, refl)
 
-pub enters_unasked : (s : State) (r : LogicalLine) (d : Directive) → r.directive ≡ Some d → has_condition d ≡ false → Enters s r s.left (Ok true)
-enters_unasked s r d is e = subst (λ (z : Option Directive). EntersBy z s r s.left (Ok true)) (sym is) (enters_by_directive d s r e)
+pub enters_unasked : (search : Search) (row : ℕ) (s : State) (r : LogicalLine) (d : Directive) → r.directive ≡ Some d → has_condition d ≡ false → Enters search row s r s.left (Ok true)
+enters_unasked search row s r d is e = subst (λ (z : Option Directive). EntersBy search row z s r s.left (Ok true)) (sym is) (enters_by_directive search row d s r e)
 
-enters_by_condition : (d : Directive) (s : State) (r : LogicalLine) (after : Option ℕ) (taken : Result Bool Fault)
+enters_by_condition : (search : Search) (row : ℕ) (d : Directive) (s : State) (r : LogicalLine) (after : Option ℕ) (taken : Result Bool Fault)
     → has_condition d ≡ true
-    → Decides s r after taken
-    → EntersBy (Some d) s r after taken
-enters_by_condition d s r after taken e decides = subst (λ (b : Bool). EntersIf b s r after taken) (sym e) decides
+    → Decides search row s r after taken
+    → EntersBy search row (Some d) s r after taken
+enters_by_condition search row d s r after taken e decides = subst (λ (b : Bool). EntersIf search row b s r after taken) (sym e) decides
 
-pub enters_asked : (s : State) (r : LogicalLine) (d : Directive) (tokens : List Token) (after : Option ℕ) (taken : Result Bool Fault)
+pub enters_asked : (search : Search) (row : ℕ) (s : State) (r : LogicalLine) (d : Directive) (tokens : List Token) (after : Option ℕ) (taken : Result Bool Fault)
     → r.directive ≡ Some d
     → tokens ≡ r.tokens
     → has_condition d ≡ true
-    → ((number : ℕ) → Decides s (directed d tokens number) after taken)
-    → Enters s r after taken
-enters_asked s r d tokens after taken is same e decides =
-    subst (λ (z : Option Directive). EntersBy z s r after taken) (sym is)
-    (enters_by_condition d s r after taken e (decides_at s r d tokens after taken is same decides))
+    → ((number : ℕ) → Decides search row s (directed d tokens number) after taken)
+    → Enters search row s r after taken
+enters_asked search row s r d tokens after taken is same e decides =
+    subst (λ (z : Option Directive). EntersBy search row z s r after taken) (sym is)
+    (enters_by_condition search row d s r after taken e (decides_at search row s r d tokens after taken is same decides))
 
 pub conditional : (d : Directive) → has_condition d ≡ true → IsConditional d
 conditional Elif e = tt
 conditional Elifdef e = tt
 conditional Elifndef e = tt
 conditional d e = absurd (cc)
+
+-- ---- conditions, with the step before them or without it
+
+unprobed_by : (search : Search) (row : ℕ) (f : Fault) (ts : List Token) (b : Bool) → (b && list_any is_has_include ts) ≡ false
+    → (if b then tokens_or f (probed search row None ts) else Ok ts) ≡ Ok ts
+unprobed_by search row f ts true e = ap (tokens_or f) (unused search row ts e)
+unprobed_by search row f ts false e = refl
+
+-- there is no step before the condition
+pub decides_unprobed : (search : Search) (row : ℕ) (s : State) (line ts : List Token) (profile : Profile) (at : Place) (after : Option ℕ) (taken : Result Bool Fault)
+    → profile ≡ search.profile
+    → ts ≡ operands line
+    → at ≡ sign_place line
+    → false ≡ (is_gnu profile && list_any is_has_include ts)
+    → IsCondition s.macros s.env at ts s.left taken after
+    → DecidesOf (condition_tokens search row line) s (sign_place line) after taken
+decides_unprobed search row s line ts profile at after taken same_profile same_tokens same_place e condition =
+    let unprobed = unprobed_by search row (line_fault 30 line []) (operands line) (is_gnu search.profile)
+    (sym (e ∙ ap (λ (z : Profile). is_gnu z && list_any is_has_include ts) same_profile ∙ ap (λ (z : List Token). is_gnu search.profile && list_any is_has_include z) same_tokens)) in
+    subst (λ (z : Result (List Token) Fault). DecidesOf z s (sign_place line) after taken) (sym unprobed)
+    (subst (λ (z : Place). IsCondition s.macros s.env z (operands line) s.left taken after) same_place
+    (subst (λ (z : List Token). IsCondition s.macros s.env at z s.left taken after) same_tokens condition))
+
+probed_by : (search : Search) (row : ℕ) (f : Fault) (ts : List Token) (b : Bool) → (b && list_any is_has_include ts) ≡ true
+    → (if b then tokens_or f (probed search row None ts) else Ok ts) ≡ tokens_or f (probed search row None ts)
+probed_by search row f ts true e = refl
+probed_by search row f ts false e = absurd (false≢true e)
+
+-- the condition is that of the tokens behind the step
+pub decides_probed : (search : Search) (row : ℕ) (s : State) (line ts us : List Token) (profile : Profile) (at : Place) (after : Option ℕ) (taken : Result Bool Fault)
+    → profile ≡ search.profile
+    → ts ≡ operands line
+    → at ≡ sign_place line
+    → true ≡ (is_gnu profile && list_any is_has_include ts)
+    → Some us ≡ probed search row None ts
+    → IsCondition s.macros s.env at us s.left taken after
+    → DecidesOf (condition_tokens search row line) s (sign_place line) after taken
+decides_probed search row s line ts us profile at after taken same_profile same_tokens same_place e is condition =
+    let tokens = probed_by search row (line_fault 30 line []) (operands line) (is_gnu search.profile)
+    (sym (e ∙ ap (λ (z : Profile). is_gnu z && list_any is_has_include ts) same_profile ∙ ap (λ (z : List Token). is_gnu search.profile && list_any is_has_include z) same_tokens)) in
+    let known = ap (tokens_or (line_fault 30 line [])) (is ∙ ap (λ (z : List Token). probed search row None z) same_tokens) ∙ sym tokens in
+    subst (λ (z : Result (List Token) Fault). DecidesOf z s (sign_place line) after taken) known
+    (subst (λ (z : Place). IsCondition s.macros s.env z us s.left taken after) same_place condition)

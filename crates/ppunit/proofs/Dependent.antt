@@ -7,7 +7,7 @@ use Rattle.pptext.specs.declared.tokens.Token.{Token}
 use Rattle.pptext.specs.declared.tokens.Fault.{Fault}
 use Rattle.pptext.specs.declared.sources.Profile.{Profile}
 use Rattle.pptext.specs.declared.sources.Directive.{Directive}
-use Rattle.pptext.specs.declared.sources.Directive.TheVariants.{If, Ifdef, Ifndef, Elif, Elifdef, Elifndef, Else, Endif, Include, Define, Undef, Line, Error, Pragma, Null, Unknown}
+use Rattle.pptext.specs.declared.sources.Directive.TheVariants.{If, Ifdef, Ifndef, Elif, Elifdef, Elifndef, Else, Endif, Include, IncludeNext, Define, Undef, Line, Error, Pragma, Null, Ignored, Unknown}
 use Rattle.pptext.specs.Lines.{LogicalLine}
 use Rattle.pptext.specs.Tree.{sign_place, Parts, Branches}
 use Rattle.ppmacro.specs.Names.{Macros}
@@ -57,10 +57,11 @@ control_keeps profile row (Some Elifndef) s r m does = absurd does
 control_keeps profile row (Some Else) s r m does = absurd does
 control_keeps profile row (Some Endif) s r m does = absurd does
 control_keeps profile row (Some Include) s r m does = absurd does
+control_keeps profile row (Some IncludeNext) s r m does = absurd does
 control_keeps profile row (Some Define) s r m does =
-    ap (λ (z : Reached). z.state.deps) does ∙ macros_keep s (after_define s.macros (sign_place r.tokens) (operands r.tokens))
+    ap (λ (z : Reached). z.state.deps) does ∙ macros_keep s (after_define profile s.macros (sign_place r.tokens) (operands r.tokens))
 control_keeps profile row (Some Undef) s r m does =
-    ap (λ (z : Reached). z.state.deps) does ∙ macros_keep s (after_undef s.macros (sign_place r.tokens) (operands r.tokens))
+    ap (λ (z : Reached). z.state.deps) does ∙ macros_keep s (after_undef profile s.macros (sign_place r.tokens) (operands r.tokens))
 control_keeps profile row (Some Line) s r m does =
     ap (λ (z : Reached). z.state.deps) does.is ∙ renumbered_keeps (with_left s does.expanded.left) r does.expanded.fault (presumed does.expanded.tokens)
 control_keeps profile row (Some Error) s r m does = absurd does
@@ -68,6 +69,7 @@ control_keeps profile row (Some Pragma) s r m does =
     let t = passed s (item.Pragma (sign_place r.tokens) (operands r.tokens) ∷ []) in
     ap (λ (z : Reached). z.state.deps) does ∙ noting_keeps (is_once profile (operands r.tokens)) t row
 control_keeps profile row (Some Null) s r m does = ap (λ (z : Reached). z.state.deps) does
+control_keeps profile row (Some Ignored) s r m does = absurd does
 control_keeps profile row (Some Unknown) s r m does = ap (λ (z : Reached). z.state.deps) does
 
 -- ---- what joins them
@@ -102,17 +104,19 @@ module _ (around : Surroundings) where
 
     control_within : {depth row : ℕ} {s : State} {line : LogicalLine} {m : Reached} → Controls around depth row s line m → Within s.deps → Within m.state.deps
     control_within (Controls.error is) all = all
+    control_within (Controls.ignored is) all = all
     control_within (Controls.quote is q) all = all
     control_within {row = row} {s = s} {line = line} {m = m} (Controls.other q does) all =
         subst Within (sym (control_keeps around.profile row line.directive s line m does)) all
     control_within (Controls.include is q here) all = includes_within here all
+    control_within (Controls.include_next is q here) all = includes_within here all
 
-    includes_within : {depth row : ℕ} {s : State} {line : LogicalLine} {m : Reached} → Includes around depth row s line m → Within s.deps → Within m.state.deps
+    includes_within : {depth row : ℕ} {behind : Option ℕ} {s : State} {line : LogicalLine} {m : Reached} → Includes around depth row behind s line m → Within s.deps → Within m.state.deps
     includes_within (Includes.misnamed asks) all = all
     includes_within (Includes.missing a asks finds) all = all
     includes_within (Includes.included a found asks finds opens) all = opened_within opens (first_within around.names _ (Some found) finds) all
 
-    opened_within : {depth row : ℕ} {at : Place} {s : State} {m : Reached} → Opened around depth at s row m → row < length around.names → Within s.deps → Within m.state.deps
+    opened_within : {depth row : ℕ} {folder : Option ℕ} {at : Place} {s : State} {m : Reached} → Opened around depth at s row folder m → row < length around.names → Within s.deps → Within m.state.deps
     opened_within (Opened.too_deep deep) within all = all
     opened_within (Opened.over fits spent) within all = all
     opened_within {row = row} {s = s} (Opened.known fits some known) within all = among_within row s.deps within all

@@ -1,11 +1,11 @@
 -- Groups and units do the same within a budget that suffices for them, and leave the rest.
-use Rattle.std.proofs.Common.{◌≡◌, ℕ, zero, suc, ◌+◌, List, [], true, false, Some, None, Ok, Err, refl, sym, subst, arith}
+use Rattle.std.proofs.Common.{◌≡◌, ℕ, zero, suc, ◌+◌, List, [], true, false, Option, Some, None, Ok, Err, refl, sym, subst, arith}
 use Rattle.pptext.specs.declared.tokens.Place.{Place}
 use Rattle.pptext.specs.Lines.{LogicalLine}
 use Rattle.pptext.specs.Tree.{Parts, Branches, Done, End}
 use Rattle.pptext.specs.Tokens.{fault}
 use Rattle.ppexpand.proofs.Budget.{Covers, without, covers_less, covers_rest}
-use Rattle.ppunit.specs.States.{State, Surroundings, Reached, going, stopped, with_left}
+use Rattle.ppunit.specs.States.{State, Surroundings, Reached, going, stopped, with_left, search_of}
 use Rattle.ppunit.specs.Lines.{run_tokens}
 use Rattle.ppunit.specs.Group.{Group, Branched, Controls, Includes, Opened}
 use Rattle.ppunit.specs.Counts.{count_group, count_branched, count_control, count_includes, count_opened}
@@ -55,18 +55,18 @@ module _ (around : Surroundings) where
     group_enough b is (Group.control here rest) n sum =
         let k = count_group rest in
         Group.control (control_enough b is here (k + n) (omega arith)) (group_enough (k + n) (control_rest b (k + n) is here (omega arith)) rest n refl)
-    group_enough b is (Group.taken {s = s} {line = line} {after = after} decides here rest) n sum =
+    group_enough {row = row} b is (Group.taken {s = s} {line = line} {after = after} decides here rest) n sum =
         let j = count_group here in
         let k = count_group rest in
-        let left = decides_rest s line after (Ok true) b (j + (k + n)) is decides (omega arith) in
-        Group.taken (decides_enough s line after (Ok true) b is decides (j + (k + n)) (omega arith)) (group_enough (j + (k + n)) left here (k + n) refl) (group_enough (k + n) (group_rest (j + (k + n)) (k + n) left here refl) rest n refl)
-    group_enough b is (Group.skipped {s = s} {line = line} {after = after} decides here rest) n sum =
+        let left = decides_rest (search_of around) row s line after (Ok true) b (j + (k + n)) is decides (omega arith) in
+        Group.taken (decides_enough (search_of around) row s line after (Ok true) b is decides (j + (k + n)) (omega arith)) (group_enough (j + (k + n)) left here (k + n) refl) (group_enough (k + n) (group_rest (j + (k + n)) (k + n) left here refl) rest n refl)
+    group_enough {row = row} b is (Group.skipped {s = s} {line = line} {after = after} decides here rest) n sum =
         let j = count_branched here in
         let k = count_group rest in
-        let left = decides_rest s line after (Ok false) b (j + (k + n)) is decides (omega arith) in
-        Group.skipped (decides_enough s line after (Ok false) b is decides (j + (k + n)) (omega arith))
+        let left = decides_rest (search_of around) row s line after (Ok false) b (j + (k + n)) is decides (omega arith) in
+        Group.skipped (decides_enough (search_of around) row s line after (Ok false) b is decides (j + (k + n)) (omega arith))
         (branches_enough (j + (k + n)) left here (k + n) refl) (group_enough (k + n) (branches_rest (j + (k + n)) (k + n) left here refl) rest n refl)
-    group_enough b is (Group.refused {s = s} {line = line} {after = after} {f = f} decides) n sum = Group.refused (decides_enough s line after (Err f) b is decides n sum)
+    group_enough {row = row} b is (Group.refused {s = s} {line = line} {after = after} {f = f} decides) n sum = Group.refused (decides_enough (search_of around) row s line after (Err f) b is decides n sum)
 
     pub branches_enough : {depth row : ℕ} {s : State} {bs : Branches} {m : Reached} (b : ℕ) → Covers s.left b
         → (d : Branched around depth row s bs m) (n : ℕ)
@@ -76,14 +76,14 @@ module _ (around : Surroundings) where
         let same : b ≡ n = omega arith in
         subst (λ x. Branched around depth row (with_left s (Some b)) (End line) (holding x (going s))) same Branched.ended
     branches_enough b is (Branched.otherwise e here) n sum = Branched.otherwise e (group_enough b is here n sum)
-    branches_enough b is (Branched.branch_taken {s = s} {line = line} {after = after} e decides here) n sum =
+    branches_enough {row = row} b is (Branched.branch_taken {s = s} {line = line} {after = after} e decides here) n sum =
         let j = count_group here in
-        Branched.branch_taken e (decides_enough s line after (Ok true) b is decides (j + n) (omega arith)) (group_enough (j + n) (decides_rest s line after (Ok true) b (j + n) is decides (omega arith)) here n refl)
-    branches_enough b is (Branched.branch_skipped {s = s} {line = line} {after = after} e decides rest) n sum =
+        Branched.branch_taken e (decides_enough (search_of around) row s line after (Ok true) b is decides (j + n) (omega arith)) (group_enough (j + n) (decides_rest (search_of around) row s line after (Ok true) b (j + n) is decides (omega arith)) here n refl)
+    branches_enough {row = row} b is (Branched.branch_skipped {s = s} {line = line} {after = after} e decides rest) n sum =
         let j = count_branched rest in
-        Branched.branch_skipped e (decides_enough s line after (Ok false) b is decides (j + n) (omega arith)) (branches_enough (j + n) (decides_rest s line after (Ok false) b (j + n) is decides (omega arith)) rest n refl)
-    branches_enough b is (Branched.branch_refused {s = s} {line = line} {after = after} {f = f} e decides) n sum =
-        Branched.branch_refused e (decides_enough s line after (Err f) b is decides n sum)
+        Branched.branch_skipped e (decides_enough (search_of around) row s line after (Ok false) b is decides (j + n) (omega arith)) (branches_enough (j + n) (decides_rest (search_of around) row s line after (Ok false) b (j + n) is decides (omega arith)) rest n refl)
+    branches_enough {row = row} b is (Branched.branch_refused {s = s} {line = line} {after = after} {f = f} e decides) n sum =
+        Branched.branch_refused e (decides_enough (search_of around) row s line after (Err f) b is decides n sum)
 
     pub control_enough : {depth row : ℕ} {s : State} {line : LogicalLine} {m : Reached} (b : ℕ) → Covers s.left b
         → (d : Controls around depth row s line m) (n : ℕ)
@@ -92,17 +92,21 @@ module _ (around : Surroundings) where
     control_enough {depth} {row} {s} {line} {m} b is (Controls.error e) n sum =
         let same : b ≡ n = omega arith in
         subst (λ x. Controls around depth row (with_left s (Some b)) line (holding x m)) same (Controls.error e)
+    control_enough {depth} {row} {s} {line} {m} b is (Controls.ignored e) n sum =
+        let same : b ≡ n = omega arith in
+        subst (λ x. Controls around depth row (with_left s (Some b)) line (holding x m)) same (Controls.ignored e)
     control_enough {depth} {row} {s} {line} {m} b is (Controls.quote e q) n sum =
         let same : b ≡ n = omega arith in
         subst (λ x. Controls around depth row (with_left s (Some b)) line (holding x m)) same (Controls.quote e q)
     control_enough {row = row} b is (Controls.other {s = s} {line = line} {m = m} q does) n sum =
         Controls.other q (control_by_enough around.profile row line.directive s line m b is does n sum)
     control_enough b is (Controls.include e q here) n sum = Controls.include e q (includes_enough b is here n sum)
+    control_enough b is (Controls.include_next e q here) n sum = Controls.include_next e q (includes_enough b is here n sum)
 
-    includes_enough : {depth row : ℕ} {s : State} {line : LogicalLine} {m : Reached} (b : ℕ) → Covers s.left b
-        → (d : Includes around depth row s line m) (n : ℕ)
+    includes_enough : {depth row : ℕ} {behind : Option ℕ} {s : State} {line : LogicalLine} {m : Reached} (b : ℕ) → Covers s.left b
+        → (d : Includes around depth row behind s line m) (n : ℕ)
         → b ≡ count_includes d + n
-        → Includes around depth row (with_left s (Some b)) line (holding n m)
+        → Includes around depth row behind (with_left s (Some b)) line (holding n m)
     includes_enough b is (Includes.misnamed {s = s} {line = line} {after = after} {f = f} asks) n sum =
         Includes.misnamed (asks_enough s line.tokens after (Err f) b is asks n sum)
     includes_enough b is (Includes.missing {s = s} {line = line} {after = after} a asks finds) n sum =
@@ -112,29 +116,29 @@ module _ (around : Surroundings) where
         Includes.included a found (asks_enough s line.tokens after (Ok a) b is asks (j + n) (omega arith)) finds
         (opened_enough (j + n) (asks_rest s line.tokens after (Ok a) b (j + n) is asks (omega arith)) opens n refl)
 
-    pub opened_enough : {depth row : ℕ} {at : Place} {s : State} {m : Reached} (b : ℕ) → Covers s.left b
-        → (d : Opened around depth at s row m) (n : ℕ)
+    pub opened_enough : {depth row : ℕ} {folder : Option ℕ} {at : Place} {s : State} {m : Reached} (b : ℕ) → Covers s.left b
+        → (d : Opened around depth at s row folder m) (n : ℕ)
         → b ≡ count_opened d + n
-        → Opened around depth at (with_left s (Some b)) row (holding n m)
-    opened_enough {depth} {row} {at} {s} {m} b is (Opened.too_deep deep) n sum =
+        → Opened around depth at (with_left s (Some b)) row folder (holding n m)
+    opened_enough {depth} {row} {folder} {at} {s} {m} b is (Opened.too_deep deep) n sum =
         let same : b ≡ n = omega arith in
-        subst (λ x. Opened around depth at (with_left s (Some b)) row (holding x m)) same (Opened.too_deep deep)
-    opened_enough {depth} {row} {at} {s} zero is (Opened.over fits spent) n sum =
+        subst (λ x. Opened around depth at (with_left s (Some b)) row folder (holding x m)) same (Opened.too_deep deep)
+    opened_enough {depth} {row} {folder} {at} {s} zero is (Opened.over fits spent) n sum =
         let same : 0 ≡ n = omega arith in
-        subst (λ x. Opened around depth at (with_left s (Some 0)) row (holding x (stopped s (fault 35 at [])))) same (Opened.over fits refl)
+        subst (λ x. Opened around depth at (with_left s (Some 0)) row folder (holding x (stopped s (fault 35 at [])))) same (Opened.over fits refl)
     opened_enough (suc b) is (Opened.over {s = s} fits spent) n sum = absurd (covered s.left b is spent)
     opened_enough zero is (Opened.known fits more once) n sum = absurd (omega arith)
-    opened_enough {depth} {row} {at} {s} {m} (suc b) is (Opened.known fits more once) n sum =
+    opened_enough {depth} {row} {folder} {at} {s} {m} (suc b) is (Opened.known fits more once) n sum =
         let same : b ≡ n = omega arith in
-        subst (λ x. Opened around depth at (with_left s (Some (suc b))) row (holding x m)) same (Opened.known fits refl once)
+        subst (λ x. Opened around depth at (with_left s (Some (suc b))) row folder (holding x m)) same (Opened.known fits refl once)
     opened_enough zero is (Opened.not_readable fits more once file) n sum = absurd (omega arith)
-    opened_enough {depth} {row} {at} {s} {m} (suc b) is (Opened.not_readable fits more once file) n sum =
+    opened_enough {depth} {row} {folder} {at} {s} {m} (suc b) is (Opened.not_readable fits more once file) n sum =
         let same : b ≡ n = omega arith in
-        subst (λ x. Opened around depth at (with_left s (Some (suc b))) row (holding x m)) same (Opened.not_readable fits refl once file)
+        subst (λ x. Opened around depth at (with_left s (Some (suc b))) row folder (holding x m)) same (Opened.not_readable fits refl once file)
     opened_enough zero is (Opened.faulty fits more once file reads) n sum = absurd (omega arith)
-    opened_enough {depth} {row} {at} {s} {m} (suc b) is (Opened.faulty fits more once file reads) n sum =
+    opened_enough {depth} {row} {folder} {at} {s} {m} (suc b) is (Opened.faulty fits more once file reads) n sum =
         let same : b ≡ n = omega arith in
-        subst (λ x. Opened around depth at (with_left s (Some (suc b))) row (holding x m)) same (Opened.faulty fits refl once file reads)
+        subst (λ x. Opened around depth at (with_left s (Some (suc b))) row folder (holding x m)) same (Opened.faulty fits refl once file reads)
     opened_enough zero is (Opened.read fits more once file reads tree here) n sum = absurd (omega arith)
     opened_enough (suc b) is (Opened.read {s = s} fits more once file reads tree here) n sum =
         Opened.read fits refl once file reads tree (group_enough b (covers_less is) here n (omega arith))

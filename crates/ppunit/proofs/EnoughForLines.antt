@@ -1,5 +1,6 @@
 -- A line does the same within a budget that suffices for it, and leaves the rest.
 use Rattle.std.proofs.Common.{◌≡◌, ℕ, zero, suc, ◌+◌, List, [], ◌∷◌, Bool, true, false, Option, Some, None, Result, Ok, Err, refl, ap, ◌∙◌, subst, arith, if◌then◌else◌}
+use Rattle.pptext.specs.declared.tokens.Place.{Place}
 use Rattle.pptext.specs.declared.tokens.Token.{Token}
 use Rattle.pptext.specs.declared.tokens.Fault.{Fault}
 use Rattle.pptext.specs.declared.sources.Directive.{Directive}
@@ -12,14 +13,15 @@ use Rattle.ppexpand.specs.Expansion.{count_expansion}
 use Rattle.ppexpand.specs.Budget.{is_spent}
 use Rattle.ppexpand.proofs.Budget.{Covers, larger, covers_rest, expansion_enough}
 use Rattle.ppexpr.proofs.Capped.{condition_enough}
-use Rattle.ppunit.specs.States.{State, Reached, going, passed, reading_once, with_left}
+use Rattle.ppunit.specs.States.{State, Reached, going, passed, reading_once, with_left, Search}
 use Rattle.ppunit.specs.Lines.{operands}
 use Rattle.ppunit.specs.Quotes.{lone_quote}
 use Rattle.ppunit.specs.LineControl.{Presumed, presumed}
 use Rattle.ppunit.specs.Including.{Asked, begins_with_header}
-use Rattle.ppunit.specs.Conditions.{DecidesBy, DecidesUnless, Decides}
+use Rattle.ppunit.specs.Probing.{condition_tokens}
+use Rattle.ppunit.specs.Conditions.{DecidesBy, DecidesUnless, Decides, DecidesOf}
 use Rattle.ppunit.specs.Directives.{RunGives, AsksBy, Asks, ControlBy, with_macros, renumbered_by, is_once, noting_once}
-use Rattle.ppunit.specs.Counts.{count_decides_by, count_decides_unless, count_decides, count_asks_by, count_asks, count_control_by}
+use Rattle.ppunit.specs.Counts.{count_decides_by, count_decides_unless, count_decides, count_asks_by, count_asks, count_control_by, count_decides_of}
 use Rattle.ppunit.proofs.Spends.{asks_spends, decides_spends, run_spends}
 use Rattle.ppunit.specs.declared.units.Item.TheVariants as item
 
@@ -68,30 +70,37 @@ pub asks_enough : (s : State) (line : List Token) (after : Option ℕ) (asked : 
     → Asks (with_left s (Some b)) line (Some n) asked
 asks_enough s line after asked b is g n sum = asks_by_enough (begins_with_header (operands line)) s line after asked b is g n sum
 
-decides_by_enough : (d : Option Directive) (s : State) (line : List Token) (after : Option ℕ) (taken : Result Bool Fault) (b : ℕ) → Covers s.left b
-    → (g : DecidesBy d s line after taken) (n : ℕ)
-    → b ≡ count_decides_by d s line after taken g + n
-    → DecidesBy d (with_left s (Some b)) line (Some n) taken
-decides_by_enough (Some If) s line after taken b is g n sum = condition_enough b is g n sum
-decides_by_enough (Some Elif) s line after taken b is g n sum = condition_enough b is g n sum
-decides_by_enough (Some Ifdef) s line after taken b is g n sum = (ap Some (omega arith), g.1)
-decides_by_enough (Some Ifndef) s line after taken b is g n sum = (ap Some (omega arith), g.1)
-decides_by_enough (Some Elifdef) s line after taken b is g n sum = (ap Some (omega arith), g.1)
-decides_by_enough (Some Elifndef) s line after taken b is g n sum = (ap Some (omega arith), g.1)
-decides_by_enough _ s line after taken b is g n sum = absurd g
+decides_of_enough : (tokens : Result (List Token) Fault) (s : State) (at : Place) (after : Option ℕ) (taken : Result Bool Fault) (b : ℕ) → Covers s.left b
+    → (g : DecidesOf tokens s at after taken) (n : ℕ)
+    → b ≡ count_decides_of tokens s at after taken g + n
+    → DecidesOf tokens (with_left s (Some b)) at (Some n) taken
+decides_of_enough (Err f) s at after taken b is g n sum = (ap Some (omega arith), g.1)
+decides_of_enough (Ok tokens) s at after taken b is g n sum = condition_enough b is g n sum
 
-decides_unless_enough : (quote : Option Fault) (d : Option Directive) (s : State) (line : List Token) (after : Option ℕ) (taken : Result Bool Fault) (b : ℕ) → Covers s.left b
-    → (g : DecidesUnless quote d s line after taken) (n : ℕ)
-    → b ≡ count_decides_unless quote d s line after taken g + n
-    → DecidesUnless quote d (with_left s (Some b)) line (Some n) taken
-decides_unless_enough (Some f) d s line after taken b is g n sum = (ap Some (omega arith), g.1)
-decides_unless_enough None d s line after taken b is g n sum = decides_by_enough d s line after taken b is g n sum
+decides_by_enough : (search : Search) (row : ℕ) (d : Option Directive) (s : State) (line : List Token) (after : Option ℕ) (taken : Result Bool Fault) (b : ℕ) → Covers s.left b
+    → (g : DecidesBy search row d s line after taken) (n : ℕ)
+    → b ≡ count_decides_by search row d s line after taken g + n
+    → DecidesBy search row d (with_left s (Some b)) line (Some n) taken
+decides_by_enough search row (Some If) s line after taken b is g n sum = decides_of_enough (condition_tokens search row line) s (sign_place line) after taken b is g n sum
+decides_by_enough search row (Some Elif) s line after taken b is g n sum = decides_of_enough (condition_tokens search row line) s (sign_place line) after taken b is g n sum
+decides_by_enough search row (Some Ifdef) s line after taken b is g n sum = (ap Some (omega arith), g.1)
+decides_by_enough search row (Some Ifndef) s line after taken b is g n sum = (ap Some (omega arith), g.1)
+decides_by_enough search row (Some Elifdef) s line after taken b is g n sum = (ap Some (omega arith), g.1)
+decides_by_enough search row (Some Elifndef) s line after taken b is g n sum = (ap Some (omega arith), g.1)
+decides_by_enough search row _ s line after taken b is g n sum = absurd g
 
-pub decides_enough : (s : State) (line : LogicalLine) (after : Option ℕ) (taken : Result Bool Fault) (b : ℕ) → Covers s.left b
-    → (g : Decides s line after taken) (n : ℕ)
-    → b ≡ count_decides s line after taken g + n
-    → Decides (with_left s (Some b)) line (Some n) taken
-decides_enough s line after taken b is g n sum = decides_unless_enough (lone_quote line.tokens) line.directive s line.tokens after taken b is g n sum
+decides_unless_enough : (search : Search) (row : ℕ) (quote : Option Fault) (d : Option Directive) (s : State) (line : List Token) (after : Option ℕ) (taken : Result Bool Fault) (b : ℕ) → Covers s.left b
+    → (g : DecidesUnless search row quote d s line after taken) (n : ℕ)
+    → b ≡ count_decides_unless search row quote d s line after taken g + n
+    → DecidesUnless search row quote d (with_left s (Some b)) line (Some n) taken
+decides_unless_enough search row (Some f) d s line after taken b is g n sum = (ap Some (omega arith), g.1)
+decides_unless_enough search row None d s line after taken b is g n sum = decides_by_enough search row d s line after taken b is g n sum
+
+pub decides_enough : (search : Search) (row : ℕ) (s : State) (line : LogicalLine) (after : Option ℕ) (taken : Result Bool Fault) (b : ℕ) → Covers s.left b
+    → (g : Decides search row s line after taken) (n : ℕ)
+    → b ≡ count_decides search row s line after taken g + n
+    → Decides search row (with_left s (Some b)) line (Some n) taken
+decides_enough search row s line after taken b is g n sum = decides_unless_enough search row (lone_quote line.tokens) line.directive s line.tokens after taken b is g n sum
 
 nothing_spent : (profile : Profile) (row : ℕ) (d : Option Directive) (s : State) (line : LogicalLine) (m : Reached) (b n : ℕ) → b ≡ 0 + n
     → ControlBy profile row d (with_left s (Some b)) line (holding b m)
@@ -122,11 +131,11 @@ pub asks_rest : (s : State) (line : List Token) (after : Option ℕ) (asked : Re
     → Covers after m
 asks_rest s line after asked b m is g sum = covers_rest after (count_asks s line after asked g) m is (asks_spends s line after asked g) sum
 
-pub decides_rest : (s : State) (line : LogicalLine) (after : Option ℕ) (taken : Result Bool Fault) (b m : ℕ) → Covers s.left b
-    → (g : Decides s line after taken)
-    → b ≡ count_decides s line after taken g + m
+pub decides_rest : (search : Search) (row : ℕ) (s : State) (line : LogicalLine) (after : Option ℕ) (taken : Result Bool Fault) (b m : ℕ) → Covers s.left b
+    → (g : Decides search row s line after taken)
+    → b ≡ count_decides search row s line after taken g + m
     → Covers after m
-decides_rest s line after taken b m is g sum = covers_rest after (count_decides s line after taken g) m is (decides_spends s line after taken g) sum
+decides_rest search row s line after taken b m is g sum = covers_rest after (count_decides search row s line after taken g) m is (decides_spends search row s line after taken g) sum
 
 pub run_rest : (s : State) (tokens : List Token) (r : Reached) (b m : ℕ) → Covers s.left b
     → (g : RunGives s tokens r)

@@ -32,13 +32,13 @@ both P (x ∷ xs) ys a b = (a.0, both P xs ys a.1 b)
 
 -- ---- from the pieces of the text
 
-piece_spelled : (line : List (List ℕ)) (chars rest : List Char) (k : Kind) → StandsAt line (codes_of (chars ++ rest)) (length chars) (Spelled k) → Spells k (codes_of chars) ⊎ IsHeader (codes_of chars)
-piece_spelled line chars rest k here = cases here
+piece_spelled : (profile : Profile) (line : List (List ℕ)) (chars rest : List Char) (k : Kind) → StandsAt profile line (codes_of (chars ++ rest)) (length chars) (Spelled k) → Spells k (codes_of chars) ⊎ IsHeader (codes_of chars)
+piece_spelled profile line chars rest k here = cases here
   where
     front : take (length chars) (codes_of (chars ++ rest)) ≡ codes_of chars
     front = ap (take (length chars)) (map-append (λ (c : Char). c.code) chars rest) ∙ take_at (codes_of chars) (codes_of rest) (length chars) (length-map chars (λ (c : Char). c.code))
 
-    cases : StandsAt line (codes_of (chars ++ rest)) (length chars) (Spelled k) → Spells k (codes_of chars) ⊎ IsHeader (codes_of chars)
+    cases : StandsAt profile line (codes_of (chars ++ rest)) (length chars) (Spelled k) → Spells k (codes_of chars) ⊎ IsHeader (codes_of chars)
     cases (inl h) = inr (subst IsHeader front h.0.spelled)
     cases (inr p) = inl (subst (Spells k) front p.spelled)
 
@@ -50,18 +50,18 @@ ended_spelled profile tokens chars Blank all = tt
 ended_spelled profile tokens chars Comment all = tt
 ended_spelled profile tokens chars (Spelled k) all = tt
 
-after_spelled : (line : List (List ℕ)) (space : Bool) (tokens : List Token) (chars rest : List Char) (sort : Sort)
+after_spelled : (profile : Profile) (line : List (List ℕ)) (space : Bool) (tokens : List Token) (chars rest : List Char) (sort : Sort)
     → AreSpelled tokens
-    → StandsAt line (codes_of (chars ++ rest)) (length chars) sort
+    → StandsAt profile line (codes_of (chars ++ rest)) (length chars) sort
     → AreSpelled (tokens_after space tokens chars sort)
-after_spelled line space tokens chars rest NewLine all here = tt
-after_spelled line space tokens chars rest Blank all here = all
-after_spelled line space tokens chars rest Comment all here = all
-after_spelled line space tokens chars rest (Spelled k) all here = both IsSpelled tokens _ all (piece_spelled line chars rest k here, tt)
+after_spelled profile line space tokens chars rest NewLine all here = tt
+after_spelled profile line space tokens chars rest Blank all here = all
+after_spelled profile line space tokens chars rest Comment all here = all
+after_spelled profile line space tokens chars rest (Spelled k) all here = both IsSpelled tokens _ all (piece_spelled profile line chars rest k here, tt)
 
 lines_spelled : (profile : Profile) (line : List (List ℕ)) (space : Bool) (tokens : List Token) (ps : List Piece) (rest : List Char)
     → AreSpelled tokens
-    → EachStands line ps rest
+    → EachStands profile line ps rest
     → AllByRecursion (IsSpelledLine profile) (lines_behind profile space tokens ps)
 lines_spelled profile line space tokens [] rest all each = tt
 lines_spelled profile line space tokens (p ∷ ps) rest all each =
@@ -69,7 +69,7 @@ lines_spelled profile line space tokens (p ∷ ps) rest all each =
     both (IsSpelledLine profile) (lines_ended profile tokens p.chars p.sort) (lines_behind profile (leaves_space p.sort) after ps)
     (ended_spelled profile tokens p.chars p.sort all)
     (lines_spelled profile (with_piece line p p.sort) (leaves_space p.sort) after ps rest
-    (after_spelled line space tokens p.chars (laid ps ++ rest) p.sort all each.0) each.1)
+    (after_spelled profile line space tokens p.chars (laid ps ++ rest) p.sort all each.0) each.1)
 
 pub source_spelled : (profile : Profile) (file : ℕ) (bytes : List ℕ) (lines : List LogicalLine)
     → IsSource profile file bytes lines

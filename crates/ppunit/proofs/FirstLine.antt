@@ -2,10 +2,10 @@
 use Rattle.std.proofs.Common.{◌≡◌, ◌≢◌, ℕ, Bool, true, false, List, [], ◌∷◌, ◌++◌, refl, sym, ap, ◌∙◌, append_assoc, Option, None, Some, Result}
 use Rattle.pptext.specs.declared.tokens.Fault.{Fault}
 use Rattle.pptext.specs.declared.sources.Directive.{Directive}
-use Rattle.pptext.specs.declared.sources.Directive.TheVariants.{If, Ifdef, Ifndef, Elif, Elifdef, Elifndef, Else, Endif, Include, Define, Undef, Line as LineOf, Error, Pragma, Null, Unknown}
+use Rattle.pptext.specs.declared.sources.Directive.TheVariants.{If, Ifdef, Ifndef, Elif, Elifdef, Elifndef, Else, Endif, Include, IncludeNext, Define, Undef, Line as LineOf, Error, Pragma, Null, Ignored, Unknown}
 use Rattle.pptext.specs.Lines.{LogicalLine}
 use Rattle.pptext.specs.Tree.{Parts, Done, Run, Control, Section, Branches, End, Branch, part_lines, branch_lines, AreParts, AreBranches, role, role_by, opens_section, ends_group}
-use Rattle.ppunit.specs.States.{State}
+use Rattle.ppunit.specs.States.{Search, State}
 use Rattle.ppunit.specs.Conditions.{Decides}
 use Rattle.ppunit.specs.Walk.{Outer, lay, AreOuter, EntersBy}
 
@@ -55,23 +55,25 @@ else_directive d e = cc
 pub not_else : (d : Option Directive) → role_by d ≡ role_by (Some Elif) → d ≢ Some Else
 not_else d e h = let differs : role_by (Some Elif) ≡ role_by (Some Else) = sym e ∙ ap role_by h in cc
 
-pub condition_decides : (d : Option Directive) (s : State) (r : LogicalLine) (after : Option ℕ) (taken : Result Bool Fault)
+pub condition_decides : (search : Search) (row : ℕ) (d : Option Directive) (s : State) (r : LogicalLine) (after : Option ℕ) (taken : Result Bool Fault)
     → role_by d ≡ role_by (Some Elif)
-    → EntersBy d s r after taken
-    → Decides s r after taken
-condition_decides (Some Elif) s r after taken e entered = entered
-condition_decides (Some Elifdef) s r after taken e entered = entered
-condition_decides (Some Elifndef) s r after taken e entered = entered
-condition_decides d s r after taken e entered = absurd (cc)
+    → EntersBy search row d s r after taken
+    → Decides search row s r after taken
+condition_decides search row (Some Elif) s r after taken e entered = entered
+condition_decides search row (Some Elifdef) s r after taken e entered = entered
+condition_decides search row (Some Elifndef) s r after taken e entered = entered
+condition_decides search row d s r after taken e entered = absurd (cc)
 
 pub control_role : (d : Directive) → opens_section d ≡ false → ends_group d ≡ false → role_by (Some d) ≡ role_by (Some Null)
 control_role Define o e = refl
 control_role Undef o e = refl
 control_role Include o e = refl
+control_role IncludeNext o e = refl
 control_role LineOf o e = refl
 control_role Error o e = refl
 control_role Pragma o e = refl
 control_role Null o e = refl
+control_role Ignored o e = refl
 control_role Unknown o e = refl
 control_role d o e = absurd (cc)
 

@@ -1,12 +1,12 @@
 -- Where a unit gives something over some files, it gives the same over any more, with the same count.
-use Rattle.std.proofs.Common.{◌≡◌, ℕ, suc, ◌+◌, List, true, false, Ok, refl, ap}
+use Rattle.std.proofs.Common.{◌≡◌, ℕ, suc, ◌+◌, List, true, false, Option, Ok, refl, ap}
 use Rattle.pptext.specs.declared.tokens.Place.{Place}
 use Rattle.pptext.specs.Lines.{LogicalLine}
 use Rattle.pptext.specs.Tree.{Parts, Branches}
 use Rattle.ppexpand.specs.Expansion.{count_expansion}
 use Rattle.ppshelf.specs.Content.{unreadable}
 use Rattle.ppshelf.specs.Files.{Files, Extends}
-use Rattle.ppunit.specs.States.{State, Surroundings, Reached}
+use Rattle.ppunit.specs.States.{State, Surroundings, Reached, search_of}
 use Rattle.ppunit.specs.Group.{Group, Branched, Controls, Includes, Opened}
 use Rattle.ppunit.specs.Counts.{count_decides, count_asks, count_group, count_branched, count_control, count_includes, count_opened}
 use Rattle.ppunit.specs.Unit.{Defines, unread, processed, Translates, undefined, translated, surroundings, count_defines, count_translates}
@@ -31,41 +31,43 @@ module _ (around : Surroundings) (more : Files) (grows : Extends more around.fil
         let h = control_grows here in
         let r = group_grows rest in
         (Group.control h.0 r.0, both h.1 r.1)
-    group_grows (Group.taken {s = s} {line = line} {after = after} decides here rest) =
+    group_grows {row = row} (Group.taken {s = s} {line = line} {after = after} decides here rest) =
         let h = group_grows here in
         let r = group_grows rest in
-        (Group.taken decides h.0 r.0, ap (λ n. count_decides s line after (Ok true) decides + n) (both h.1 r.1))
-    group_grows (Group.skipped {s = s} {line = line} {after = after} decides here rest) =
+        (Group.taken decides h.0 r.0, ap (λ n. count_decides (search_of around) row s line after (Ok true) decides + n) (both h.1 r.1))
+    group_grows {row = row} (Group.skipped {s = s} {line = line} {after = after} decides here rest) =
         let h = branches_grow here in
         let r = group_grows rest in
-        (Group.skipped decides h.0 r.0, ap (λ n. count_decides s line after (Ok false) decides + n) (both h.1 r.1))
+        (Group.skipped decides h.0 r.0, ap (λ n. count_decides (search_of around) row s line after (Ok false) decides + n) (both h.1 r.1))
     group_grows (Group.refused decides) = (Group.refused decides, refl)
 
     branches_grow : {depth row : ℕ} {s : State} {bs : Branches} {m : Reached} (d : Branched around depth row s bs m) → (e : Branched wider depth row s bs m) × (count_branched e ≡ count_branched d)
     branches_grow Branched.ended = (Branched.ended, refl)
     branches_grow (Branched.otherwise is here) = let h = group_grows here in (Branched.otherwise is h.0, h.1)
-    branches_grow (Branched.branch_taken {s = s} {line = line} {after = after} is decides here) =
+    branches_grow {row = row} (Branched.branch_taken {s = s} {line = line} {after = after} is decides here) =
         let h = group_grows here in
-        (Branched.branch_taken is decides h.0, ap (λ n. count_decides s line after (Ok true) decides + n) h.1)
-    branches_grow (Branched.branch_skipped {s = s} {line = line} {after = after} is decides rest) =
+        (Branched.branch_taken is decides h.0, ap (λ n. count_decides (search_of around) row s line after (Ok true) decides + n) h.1)
+    branches_grow {row = row} (Branched.branch_skipped {s = s} {line = line} {after = after} is decides rest) =
         let r = branches_grow rest in
-        (Branched.branch_skipped is decides r.0, ap (λ n. count_decides s line after (Ok false) decides + n) r.1)
+        (Branched.branch_skipped is decides r.0, ap (λ n. count_decides (search_of around) row s line after (Ok false) decides + n) r.1)
     branches_grow (Branched.branch_refused is decides) = (Branched.branch_refused is decides, refl)
 
     control_grows : {depth row : ℕ} {s : State} {line : LogicalLine} {m : Reached} (d : Controls around depth row s line m) → (e : Controls wider depth row s line m) × (count_control e ≡ count_control d)
     control_grows (Controls.error is) = (Controls.error is, refl)
+    control_grows (Controls.ignored is) = (Controls.ignored is, refl)
     control_grows (Controls.quote is q) = (Controls.quote is q, refl)
     control_grows (Controls.other q does) = (Controls.other q does, refl)
     control_grows (Controls.include is q here) = let h = includes_grow here in (Controls.include is q h.0, h.1)
+    control_grows (Controls.include_next is q here) = let h = includes_grow here in (Controls.include_next is q h.0, h.1)
 
-    includes_grow : {depth row : ℕ} {s : State} {line : LogicalLine} {m : Reached} (d : Includes around depth row s line m) → (e : Includes wider depth row s line m) × (count_includes e ≡ count_includes d)
+    includes_grow : {depth row : ℕ} {behind : Option ℕ} {s : State} {line : LogicalLine} {m : Reached} (d : Includes around depth row behind s line m) → (e : Includes wider depth row behind s line m) × (count_includes e ≡ count_includes d)
     includes_grow (Includes.misnamed asks) = (Includes.misnamed asks, refl)
     includes_grow (Includes.missing a asks finds) = (Includes.missing a asks finds, refl)
     includes_grow (Includes.included {s = s} {line = line} {after = after} a found asks finds opens) =
         let o = opened_grows opens in
         (Includes.included a found asks finds o.0, ap (λ n. count_asks s line.tokens after (Ok a) asks + n) o.1)
 
-    pub opened_grows : {depth row : ℕ} {at : Place} {s : State} {m : Reached} (d : Opened around depth at s row m) → (e : Opened wider depth at s row m) × (count_opened e ≡ count_opened d)
+    pub opened_grows : {depth row : ℕ} {folder : Option ℕ} {at : Place} {s : State} {m : Reached} (d : Opened around depth at s row folder m) → (e : Opened wider depth at s row folder m) × (count_opened e ≡ count_opened d)
     opened_grows (Opened.too_deep deep) = (Opened.too_deep deep, refl)
     opened_grows (Opened.over fits spent) = (Opened.over fits spent, refl)
     opened_grows (Opened.known fits some known) = (Opened.known fits some known, refl)

@@ -1,5 +1,5 @@
 -- The opening line of a guarded file does not take its group where the guard is a macro's name, in each of its three forms.
-use Rattle.std.proofs.Common.{◌≡◌, ℕ, ◌+◌, Bool, true, false, ◌&&◌, List, [], ◌∷◌, Option, Some, None, Ok, refl, sym, ap, ◌∙◌, subst, codes, if◌then◌else◌, is_some, arith}
+use Rattle.std.proofs.Common.{◌≡◌, ℕ, ◌+◌, Bool, true, false, ◌&&◌, List, [], ◌∷◌, Option, Some, None, Result, Ok, refl, sym, ap, ◌∙◌, subst, codes, if◌then◌else◌, is_some, arith}
 use Rattle.std.proofs.lemmas.Bool.{and_parts}
 use Rattle.pptext.specs.declared.tokens.Place.{Place}
 use Rattle.pptext.specs.declared.tokens.Token.{Token}
@@ -9,7 +9,8 @@ use Rattle.pptext.specs.declared.tokens.Kind.TheVariants.{Ident, Punct}
 use Rattle.pptext.specs.declared.sources.Directive.{Directive}
 use Rattle.pptext.specs.declared.sources.Directive.TheVariants.{If, Ifndef}
 use Rattle.pptext.specs.declared.sources.Profile.{Profile}
-use Rattle.pptext.specs.declared.sources.Profile.TheVariants.{C11, Later}
+use Rattle.pptext.specs.declared.sources.Profile.TheVariants.{C11, Later, Gnu}
+use Rattle.pptext.specs.Profiles.{is_gnu}
 use Rattle.pptext.specs.Spellings.{Spells}
 use Rattle.pptext.specs.Lines.{LogicalLine, directive_of, directive_named}
 use Rattle.pptext.specs.Tree.{role, role_by, role_named}
@@ -23,50 +24,57 @@ use Rattle.ppexpr.specs.Conditions.{IsCondition, count_condition}
 use Rattle.ppexpr.proofs.OneCondition.{same_condition}
 use Rattle.ppexpr.proofs.Capped.{condition_spends, condition_enough}
 use Rattle.ppexpr.proofs.GuardConditions.{punctuator, as_defined, as_name, bare_false, parenthesized_false}
-use Rattle.ppunit.specs.States.{State}
+use Rattle.ppunit.specs.States.{Search, State}
 use Rattle.ppunit.specs.Quotes.{lone_quote}
-use Rattle.ppunit.specs.Conditions.{is_macro_name, by_name, Decides, DecidesBy, DecidesUnless}
-use Rattle.ppunit.specs.Counts.{count_decides_by, count_decides_unless, count_decides}
+use Rattle.ppunit.specs.Lines.{line_fault}
+use Rattle.ppunit.specs.Probing.{probed, tokens_or, condition_tokens}
+use Rattle.ppunit.specs.Conditions.{is_macro_name, by_name, DecidesOf, Decides, DecidesBy, DecidesUnless}
+use Rattle.ppunit.specs.Counts.{count_decides_of, count_decides_by, count_decides_unless, count_decides}
 use Rattle.ppunit.proofs.FileTokens.{IsSpelled, AreSpelled, IsSpelledLine, opens_header, kind_is, defined_spelled}
 use Rattle.std.specs.FinMap as table
 use Rattle.ppunit.proofs.Unquoted.{is_quote, is_ident_kind, ident_unquoted, named_is, is_hash, hash_unquoted, opens_by, AreUnquoted, no_quote, named_unquoted}
 
 -- the group behind a line is not taken, and that costs nothing
-abbrev SkipsBy : Option Directive → State → List Token → Type 0
-SkipsBy d s tokens = (h : DecidesBy d s tokens s.left (Ok false)) × (count_decides_by d s tokens s.left (Ok false) h ≡ 0)
+abbrev SkipsOf : Result (List Token) Fault → State → Place → Type 0
+SkipsOf tokens s at = (h : DecidesOf tokens s at s.left (Ok false)) × (count_decides_of tokens s at s.left (Ok false) h ≡ 0)
 
-abbrev SkipsUnless : Option Fault → Option Directive → State → List Token → Type 0
-SkipsUnless quote d s tokens = (h : DecidesUnless quote d s tokens s.left (Ok false)) × (count_decides_unless quote d s tokens s.left (Ok false) h ≡ 0)
+abbrev SkipsBy : Search → ℕ → Option Directive → State → List Token → Type 0
+SkipsBy search row d s tokens = (h : DecidesBy search row d s tokens s.left (Ok false)) × (count_decides_by search row d s tokens s.left (Ok false) h ≡ 0)
+
+abbrev SkipsUnless : Search → ℕ → Option Fault → Option Directive → State → List Token → Type 0
+SkipsUnless search row quote d s tokens = (h : DecidesUnless search row quote d s tokens s.left (Ok false)) × (count_decides_unless search row quote d s tokens s.left (Ok false) h ≡ 0)
 
 -- of a line of these tokens
-abbrev Skips : State → Option Directive → List Token → Type 0
-Skips s d tokens = SkipsUnless (lone_quote tokens) d s tokens
+abbrev Skips : Search → ℕ → State → Option Directive → List Token → Type 0
+Skips search row s d tokens = SkipsUnless search row (lone_quote tokens) d s tokens
 
 -- of a line without lone quotes whose directive is spelled so
-decided : (s : State) (profile : Profile) (h d : Token) (ts : List Token) (name : List ℕ) (is_called : Directive)
+decided : (search : Search) (row : ℕ) (s : State) (profile : Profile) (h d : Token) (ts : List Token) (name : List ℕ) (is_called : Directive)
     → is_hash h.text ≡ true
     → named d name ≡ true
     → directive_named profile name ≡ is_called
     → is_quote name ≡ false
     → AreUnquoted ts
-    → SkipsBy (Some is_called) s (h ∷ d ∷ ts)
-    → Skips s (directive_of profile (h ∷ d ∷ ts)) (h ∷ d ∷ ts)
-decided s profile h d ts name is_called hash is called plain rest decides =
+    → SkipsBy search row (Some is_called) s (h ∷ d ∷ ts)
+    → Skips search row s (directive_of profile (h ∷ d ∷ ts)) (h ∷ d ∷ ts)
+decided search row s profile h d ts name is_called hash is called plain rest decides =
     let quotes : lone_quote (h ∷ d ∷ ts) ≡ None = no_quote (h ∷ d ∷ ts) (hash_unquoted h hash, (named_unquoted d name is plain, rest)) in
     let directive : directive_of profile (h ∷ d ∷ ts) ≡ Some is_called =
     ap (λ (b : Bool). if b then Some (directive_named profile d.text) else None) hash
     ∙ ap (λ (z : List ℕ). Some (directive_named profile z)) (named_is d name is) ∙ ap (λ (z : Directive). Some z) called in
-    subst (λ (q : Option Fault). SkipsUnless q (directive_of profile (h ∷ d ∷ ts)) s (h ∷ d ∷ ts)) (sym quotes)
-    (subst (λ (z : Option Directive). SkipsBy z s (h ∷ d ∷ ts)) (sym directive) decides)
+    subst (λ (q : Option Fault). SkipsUnless search row q (directive_of profile (h ∷ d ∷ ts)) s (h ∷ d ∷ ts)) (sym quotes)
+    (subst (λ (z : Option Directive). SkipsBy search row z s (h ∷ d ∷ ts)) (sym directive) decides)
 
 -- each profile has the names of C11
 if_called : (profile : Profile) → directive_named profile (codes "if") ≡ If
 if_called C11 = refl
 if_called Later = refl
+if_called Gnu = refl
 
 ifndef_called : (profile : Profile) → directive_named profile (codes "ifndef") ≡ Ifndef
 ifndef_called C11 = refl
 ifndef_called Later = refl
+ifndef_called Gnu = refl
 
 -- ---- the three forms of a guard
 
@@ -120,14 +128,30 @@ costs_nothing s at tokens condition None =
     let counts : k ≡ 0 = cc in
     counts
 
-by_ifndef : (s : State) (profile : Profile) (h d t : Token) (x : List ℕ)
+-- a condition that asks for no file is decided as it stands
+unprobed : (search : Search) (row : ℕ) (h d : Token) (ts : List Token) → probed search row None ts ≡ Some ts → condition_tokens search row (h ∷ d ∷ ts) ≡ Ok ts
+unprobed search row h d ts e = chosen (is_gnu search.profile)
+  where
+    chosen : (b : Bool) → (if b then tokens_or (line_fault 30 (h ∷ d ∷ ts) []) (probed search row None ts) else Ok ts) ≡ Ok ts
+    chosen true = ap (tokens_or (line_fault 30 (h ∷ d ∷ ts) [])) e
+    chosen false = refl
+
+by_condition : (search : Search) (row : ℕ) (s : State) (h d : Token) (ts : List Token)
+    → probed search row None ts ≡ Some ts
+    → IsFalseFreely s h.at ts
+    → SkipsBy search row (Some If) s (h ∷ d ∷ ts)
+by_condition search row s h d ts stays condition =
+    subst (λ (z : Result (List Token) Fault). SkipsOf z s h.at) (sym (unprobed search row h d ts stays))
+    (condition s.left, costs_nothing s h.at ts condition s.left)
+
+by_ifndef : (search : Search) (row : ℕ) (s : State) (profile : Profile) (h d t : Token) (x : List ℕ)
     → is_hash h.text ≡ true
     → IsGuard (named d (codes "ifndef")) t x
     → is_macro_name s.macros x ≡ true
-    → Skips s (directive_of profile (h ∷ d ∷ t ∷ [])) (h ∷ d ∷ t ∷ [])
-by_ifndef s profile h d t x hash g known =
+    → Skips search row s (directive_of profile (h ∷ d ∷ t ∷ [])) (h ∷ d ∷ t ∷ [])
+by_ifndef search row s profile h d t x hash g known =
     let line = h ∷ d ∷ t ∷ [] in
-    decided s profile h d (t ∷ []) (codes "ifndef") Ifndef hash g.form (ifndef_called profile) refl (ident_unquoted t g.kind, tt) (
+    decided search row s profile h d (t ∷ []) (codes "ifndef") Ifndef hash g.form (ifndef_called profile) refl (ident_unquoted t g.kind, tt) (
       (
         refl,
         sym (ap (λ (k : Kind). by_name false s.macros line (if is_identifier_kind k then Some t.text else None)) g.kind ∙ ap
@@ -136,26 +160,27 @@ by_ifndef s profile h d t x hash g known =
       refl,
     )
 
-by_bare : (s : State) (profile : Profile) (h d n f t : Token) (x : List ℕ)
+by_bare : (search : Search) (row : ℕ) (s : State) (profile : Profile) (h d n f t : Token) (x : List ℕ)
     → IsSpelled n
     → IsSpelled f
     → is_hash h.text ≡ true
     → IsGuard (is_not_defined d n f) t x
     → is_macro_name s.macros x ≡ true
-    → Skips s (directive_of profile (h ∷ d ∷ n ∷ f ∷ t ∷ [])) (h ∷ d ∷ n ∷ f ∷ t ∷ [])
-by_bare s profile h d n f t x sn sf hash g known =
+    → Skips search row s (directive_of profile (h ∷ d ∷ n ∷ f ∷ t ∷ [])) (h ∷ d ∷ n ∷ f ∷ t ∷ [])
+by_bare search row s profile h d n f t x sn sf hash g known =
     let p = and_parts (named d (codes "if")) (named n (codes "!") && named f (codes "defined")) g.form in
     let q = and_parts (named n (codes "!")) (named f (codes "defined")) p.1 in
     let bang = punctuator_is n (codes "!") sn q.0 refl refl in
     let asks = defined_is f sf q.1 in
     let name = name_is t g.kind in
     let same : (punctuator (codes "!") n ∷ as_defined f ∷ as_name t ∷ []) ≡ (n ∷ f ∷ t ∷ []) = λ i. bang i ∷ asks i ∷ name i ∷ [] in
+    let stays : probed search row None (n ∷ f ∷ t ∷ []) ≡ Some (n ∷ f ∷ t ∷ []) = subst (λ (z : List Token). probed search row None z ≡ Some z) same refl in
     let condition : IsFalseFreely s h.at (n ∷ f ∷ t ∷ []) = subst (λ (z : List Token). IsFalseFreely s h.at z) same (λ left. bare_false s.macros s.env h.at left n f t (known_name s x t g.name known)) in
-    decided s profile h d (n ∷ f ∷ t ∷ []) (codes "if") If hash p.0 (if_called profile) refl
+    decided search row s profile h d (n ∷ f ∷ t ∷ []) (codes "if") If hash p.0 (if_called profile) refl
     (named_unquoted n (codes "!") q.0 refl, (named_unquoted f (codes "defined") q.1 refl, (ident_unquoted t g.kind, tt)))
-    (condition s.left, costs_nothing s h.at (n ∷ f ∷ t ∷ []) condition s.left)
+    (by_condition search row s h d (n ∷ f ∷ t ∷ []) stays condition)
 
-by_parenthesized : (s : State) (profile : Profile) (h d n f l t r : Token) (x : List ℕ)
+by_parenthesized : (search : Search) (row : ℕ) (s : State) (profile : Profile) (h d n f l t r : Token) (x : List ℕ)
     → IsSpelled n
     → IsSpelled f
     → IsSpelled l
@@ -163,8 +188,8 @@ by_parenthesized : (s : State) (profile : Profile) (h d n f l t r : Token) (x : 
     → is_hash h.text ≡ true
     → IsGuard (is_not_defined d n f && are_parentheses l r) t x
     → is_macro_name s.macros x ≡ true
-    → Skips s (directive_of profile (h ∷ d ∷ n ∷ f ∷ l ∷ t ∷ r ∷ [])) (h ∷ d ∷ n ∷ f ∷ l ∷ t ∷ r ∷ [])
-by_parenthesized s profile h d n f l t r x sn sf sl sr hash g known =
+    → Skips search row s (directive_of profile (h ∷ d ∷ n ∷ f ∷ l ∷ t ∷ r ∷ [])) (h ∷ d ∷ n ∷ f ∷ l ∷ t ∷ r ∷ [])
+by_parenthesized search row s profile h d n f l t r x sn sf sl sr hash g known =
     let forms = and_parts (is_not_defined d n f) (are_parentheses l r) g.form in
     let p = and_parts (named d (codes "if")) (named n (codes "!") && named f (codes "defined")) forms.0 in
     let q = and_parts (named n (codes "!")) (named f (codes "defined")) p.1 in
@@ -176,42 +201,43 @@ by_parenthesized s profile h d n f l t r x sn sf sl sr hash g known =
     let closes = punctuator_is r (codes ")") sr around.1 refl refl in
     let same : (punctuator (codes "!") n ∷ as_defined f ∷ punctuator (codes "(") l ∷ as_name t ∷ punctuator (codes ")") r ∷ []) ≡ (n ∷ f ∷ l ∷ t ∷ r ∷ []) =
     λ i. bang i ∷ asks i ∷ opens i ∷ name i ∷ closes i ∷ [] in
+    let stays : probed search row None (n ∷ f ∷ l ∷ t ∷ r ∷ []) ≡ Some (n ∷ f ∷ l ∷ t ∷ r ∷ []) = subst (λ (z : List Token). probed search row None z ≡ Some z) same refl in
     let condition : IsFalseFreely s h.at (n ∷ f ∷ l ∷ t ∷ r ∷ []) = subst (λ (z : List Token). IsFalseFreely s h.at z) same (λ left. parenthesized_false s.macros s.env h.at left n f l t r (known_name s x t g.name known)) in
-    decided s profile h d (n ∷ f ∷ l ∷ t ∷ r ∷ []) (codes "if") If hash p.0 (if_called profile) refl (
+    decided search row s profile h d (n ∷ f ∷ l ∷ t ∷ r ∷ []) (codes "if") If hash p.0 (if_called profile) refl (
       named_unquoted n (codes "!") q.0 refl,
       (
         named_unquoted f (codes "defined") q.1 refl,
         (named_unquoted l (codes "(") around.0 refl, (ident_unquoted t g.kind, (named_unquoted r (codes ")") around.1 refl, tt))),
       ),
-    ) (condition s.left, costs_nothing s h.at (n ∷ f ∷ l ∷ t ∷ r ∷ []) condition s.left)
+    ) (by_condition search row s h d (n ∷ f ∷ l ∷ t ∷ r ∷ []) stays condition)
 
-guard_decides : (s : State) (profile : Profile) (tokens : List Token) (x : List ℕ)
+guard_decides : (search : Search) (row : ℕ) (s : State) (profile : Profile) (tokens : List Token) (x : List ℕ)
     → AreSpelled tokens
     → role_by (directive_of profile tokens) ≡ role_named If
     → guard_name tokens ≡ Some x
     → is_macro_name s.macros x ≡ true
-    → Skips s (directive_of profile tokens) tokens
-guard_decides s profile [] x all opens is known = absurd (cc)
-guard_decides s profile (a ∷ []) x all opens is known = absurd (cc)
-guard_decides s profile (a ∷ b ∷ []) x all opens is known = absurd (cc)
-guard_decides s profile (h ∷ d ∷ t ∷ []) x all opens is known =
-    by_ifndef s profile h d t x (opens_by (is_hash h.text) _ opens) (ident_if_is _ t x is) known
-guard_decides s profile (a ∷ b ∷ c ∷ d ∷ []) x all opens is known = absurd (cc)
-guard_decides s profile (h ∷ d ∷ n ∷ f ∷ t ∷ []) x all opens is known =
-    by_bare s profile h d n f t x all.1.1.0 all.1.1.1.0 (opens_by (is_hash h.text) _ opens) (ident_if_is _ t x is) known
-guard_decides s profile (a ∷ b ∷ c ∷ d ∷ e ∷ f ∷ []) x all opens is known = absurd (cc)
-guard_decides s profile (h ∷ d ∷ n ∷ f ∷ l ∷ t ∷ r ∷ []) x all opens is known =
-    by_parenthesized s profile h d n f l t r x all.1.1.0 all.1.1.1.0 all.1.1.1.1.0 all.1.1.1.1.1.1.0 (opens_by (is_hash h.text) _ opens)
+    → Skips search row s (directive_of profile tokens) tokens
+guard_decides search row s profile [] x all opens is known = absurd (cc)
+guard_decides search row s profile (a ∷ []) x all opens is known = absurd (cc)
+guard_decides search row s profile (a ∷ b ∷ []) x all opens is known = absurd (cc)
+guard_decides search row s profile (h ∷ d ∷ t ∷ []) x all opens is known =
+    by_ifndef search row s profile h d t x (opens_by (is_hash h.text) _ opens) (ident_if_is _ t x is) known
+guard_decides search row s profile (a ∷ b ∷ c ∷ d ∷ []) x all opens is known = absurd (cc)
+guard_decides search row s profile (h ∷ d ∷ n ∷ f ∷ t ∷ []) x all opens is known =
+    by_bare search row s profile h d n f t x all.1.1.0 all.1.1.1.0 (opens_by (is_hash h.text) _ opens) (ident_if_is _ t x is) known
+guard_decides search row s profile (a ∷ b ∷ c ∷ d ∷ e ∷ f ∷ []) x all opens is known = absurd (cc)
+guard_decides search row s profile (h ∷ d ∷ n ∷ f ∷ l ∷ t ∷ r ∷ []) x all opens is known =
+    by_parenthesized search row s profile h d n f l t r x all.1.1.0 all.1.1.1.0 all.1.1.1.1.0 all.1.1.1.1.1.1.0 (opens_by (is_hash h.text) _ opens)
     (ident_if_is _ t x is) known
-guard_decides s profile (a ∷ b ∷ c ∷ d ∷ e ∷ f ∷ g ∷ h ∷ ts) x all opens is known = absurd (cc)
+guard_decides search row s profile (a ∷ b ∷ c ∷ d ∷ e ∷ f ∷ g ∷ h ∷ ts) x all opens is known = absurd (cc)
 
 -- the opening line of a guarded file
-pub guard_line : (s : State) (profile : Profile) (r : LogicalLine) (x : List ℕ)
+pub guard_line : (search : Search) (row : ℕ) (s : State) (profile : Profile) (r : LogicalLine) (x : List ℕ)
     → IsSpelledLine profile r
     → role r ≡ role_named If
     → guard_name r.tokens ≡ Some x
     → is_macro_name s.macros x ≡ true
-    → (h : Decides s r s.left (Ok false)) × (count_decides s r s.left (Ok false) h ≡ 0)
-guard_line s profile r x (spelled, directed) opens is known =
-    subst (λ (z : Option Directive). Skips s z r.tokens) (sym directed)
-    (guard_decides s profile r.tokens x spelled (ap role_by (sym directed) ∙ opens) is known)
+    → (h : Decides search row s r s.left (Ok false)) × (count_decides search row s r s.left (Ok false) h ≡ 0)
+guard_line search row s profile r x (spelled, directed) opens is known =
+    subst (λ (z : Option Directive). Skips search row s z r.tokens) (sym directed)
+    (guard_decides search row s profile r.tokens x spelled (ap role_by (sym directed) ∙ opens) is known)

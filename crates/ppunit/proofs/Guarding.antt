@@ -15,7 +15,7 @@ use Rattle.ppexpand.specs.Expansion.{ended, done, turn_within, count_expansion}
 use Rattle.ppshelf.specs.Content.{Content, unreadable, readable, IsRead}
 use Rattle.ppshelf.specs.Files.{file_at}
 use Rattle.ppunit.specs.declared.units.Item.{Item}
-use Rattle.ppunit.specs.States.{State, Surroundings, going, depending, entering, paying}
+use Rattle.ppunit.specs.States.{State, Surroundings, search_of, going, depending, entering, paying}
 use Rattle.ppunit.specs.Dependencies.{is_among}
 use Rattle.ppunit.specs.Lines.{run_tokens}
 use Rattle.ppunit.specs.Conditions.{is_macro_name}
@@ -89,21 +89,21 @@ module _ (around : Surroundings) (depth row : ℕ) (s : State) where
       run_passes rs ps (blank_gives s rs g.0) (guarded_group ps x (behind (IsSpelledLine around.profile) rs (part_lines ps) all) are.3 g.1 known)
   guarded_group (Control r ps) x all are g known = absurd g
   guarded_group (Section r ps (End e) qs) x all are g known =
-      let skips = guard_line s around.profile r x all.0 are.0 g.0 known in
+      let skips = guard_line (search_of around) row s around.profile r x all.0 are.0 g.0 known in
       let rest = blank_group qs g.1 in
       (Group.skipped skips.0 Branched.ended rest.0, both_free skips.1 (both_free refl rest.1))
   guarded_group (Section r ps (Branch e ps' bs) qs) x all are g known = absurd g
 
 pub guards_leave_out : GuardsLeaveOut
-guards_leave_out around depth row at s bytes lines x fits is reads (parts, tree, guarded) known some = cases (is_among row s.once) refl
+guards_leave_out around depth row folder at s bytes lines x fits is reads (parts, tree, guarded) known some = cases (is_among row s.once) refl
   where
     spelled : AllByRecursion (IsSpelledLine around.profile) (part_lines parts)
     spelled = subst (AllByRecursion (IsSpelledLine around.profile)) (sym tree.whole) (source_spelled around.profile row bytes lines reads)
 
-    cases : (b : Bool) → is_among row s.once ≡ b → (d : Opened around depth at s row (going (depending (paying s) row))) × (count_opened d ≡ 1)
+    cases : (b : Bool) → is_among row s.once ≡ b → (d : Opened around depth at s row folder (going (depending (paying s) row))) × (count_opened d ≡ 1)
     cases true once = (Opened.known fits some once, refl)
     cases false new =
-        let inside = guarded_group around depth row (entering around (paying s) row) parts x spelled tree.each guarded known in
+        let inside = guarded_group around depth row (entering around (paying s) row folder) parts x spelled tree.each guarded known in
         (Opened.read fits some new is reads tree inside.0, ap suc inside.1)
 
 -- ---- where a file is left out
@@ -120,18 +120,18 @@ pub one_guard : (lines : List LogicalLine) (x y : List ℕ) → GuardedBy lines 
 one_guard lines x y (parts, tree, guarded) (parts', tree', guarded') =
     parts_guard parts x y guarded (subst (λ (z : Parts). GuardedParts z y) (at_most_one lines parts' parts tree' tree) guarded')
 
-pub opens_left_out : (around : Surroundings) (depth row : ℕ) (at : Place) (s a : State) (content : Content) (lines : List LogicalLine)
+pub opens_left_out : (around : Surroundings) (depth row : ℕ) (folder : Option ℕ) (at : Place) (s a : State) (content : Content) (lines : List LogicalLine)
     → depth ≤ deepest
     → is_spent s.left ≡ false
     → file_at around.files row ≡ Some content
     → IsRead around.profile row content (Ok lines)
     → a ≡ depending (paying s) row
     → IsLeftOut a lines
-    → Opened around depth at s row (going a)
-opens_left_out around depth row at s a unreadable lines fits some known reads is left = absurd reads
-opens_left_out around depth row at s a (readable bytes) lines fits some known reads is (x, guarded, defined) =
-    subst (λ (z : State). Opened around depth at s row (going z)) (sym is)
-    (guards_leave_out around depth row at s bytes lines x fits known reads guarded (subst (λ (z : State). is_macro_name z.macros x ≡ true) is defined) some).0
+    → Opened around depth at s row folder (going a)
+opens_left_out around depth row folder at s a unreadable lines fits some known reads is left = absurd reads
+opens_left_out around depth row folder at s a (readable bytes) lines fits some known reads is (x, guarded, defined) =
+    subst (λ (z : State). Opened around depth at s row folder (going z)) (sym is)
+    (guards_leave_out around depth row folder at s bytes lines x fits known reads guarded (subst (λ (z : State). is_macro_name z.macros x ≡ true) is defined) some).0
 
 pub left_out_by : (s : State) (lines : List LogicalLine) (name : List ℕ) (b : Bool) → GuardedBy lines name → b ≡ is_macro_name s.macros name → IsTrue b ↔ IsLeftOut s lines
 left_out_by s lines name b guarded is = (λ e. (name, guarded, sym is ∙ e), λ l. is ∙ ap (λ (z : List ℕ). is_macro_name s.macros z) (one_guard lines name l.0 guarded l.1) ∙ l.2)

@@ -94,16 +94,18 @@ module _ (around : Surroundings) where
 
     pub control_before : {depth row : ℕ} {s : State} {line : LogicalLine} {m : Reached} → Controls around depth row s line m → Before s m.state
     control_before (Controls.error {s = s} e) = same_state s
+    control_before (Controls.ignored {s = s} e) = same_state s
     control_before (Controls.quote {s = s} e q) = same_state s
     control_before {row = row} (Controls.other {s = s} {line = line} {m = m} q does) = control_by_before around.profile row line.directive s line m does
     control_before (Controls.include e q here) = includes_before here
+    control_before (Controls.include_next e q here) = includes_before here
 
-    includes_before : {depth row : ℕ} {s : State} {line : LogicalLine} {m : Reached} → Includes around depth row s line m → Before s m.state
+    includes_before : {depth row : ℕ} {behind : Option ℕ} {s : State} {line : LogicalLine} {m : Reached} → Includes around depth row behind s line m → Before s m.state
     includes_before (Includes.misnamed {s = s} asks) = same_state s
     includes_before (Includes.missing {s = s} a asks finds) = same_state s
     includes_before (Includes.included a found asks finds opens) = opened_before opens
 
-    pub opened_before : {depth row : ℕ} {at : Place} {s : State} {m : Reached} → Opened around depth at s row m → Before s m.state
+    pub opened_before : {depth row : ℕ} {folder : Option ℕ} {at : Place} {s : State} {m : Reached} → Opened around depth at s row folder m → Before s m.state
     opened_before (Opened.too_deep {s = s} deep) = same_state s
     opened_before (Opened.over {s = s} fits spent) = same_state s
     opened_before {row = row} (Opened.known {s = s} fits more once) = depends s row

@@ -4,7 +4,7 @@ use Rattle.pptext.specs.declared.tokens.Place.{Place}
 use Rattle.pptext.specs.declared.tokens.Token.{Token}
 use Rattle.pptext.specs.declared.tokens.Fault.{Fault}
 use Rattle.pptext.specs.declared.sources.Directive.{Directive}
-use Rattle.pptext.specs.declared.sources.Directive.TheVariants.{Include}
+use Rattle.pptext.specs.declared.sources.Directive.TheVariants.{Include, IncludeNext}
 use Rattle.pptext.specs.declared.sources.Profile.{Profile}
 use Rattle.pptext.specs.Lines.{LogicalLine}
 use Rattle.pptext.specs.Tree.{sign_place, opens_section, ends_group}
@@ -61,23 +61,41 @@ leads_on around files depth one other t (Ok (Some e)) turn leads = record {
 }
 leads_on around files depth one other t (Err f) turn leads = λ more grows. turn more (stopped t f) (leads more grows)
 
-pub leads_included : (around : Files → Surroundings) (files : Files) (depth deeper row found : ℕ) (at : Place) (line : LogicalLine) (s t : State)
-    (after : Option ℕ) (a : Asked) (r : Result (Option Entered) Fault)
+pub leads_included : (around : Files → Surroundings) (files : Files) (depth deeper row : ℕ) (behind : Option ℕ) (found : ℕ × ℕ) (at : Place)
+    (line : LogicalLine) (s t : State) (after : Option ℕ) (a : Asked) (r : Result (Option Entered) Fault)
     → deeper ≡ suc depth
     → at ≡ sign_place line.tokens
+    → Asks s line.tokens after (Ok a)
+    → ((more : Files) → Finds (around more) row behind a (Some found))
+    → Leads around files deeper (λ more m. Opened (around more) deeper at (with_left s after) found.0 (Some found.1) m) t r
+    → Leads around files (suc depth) (λ more m. Includes (around more) depth row behind s line m) t r
+leads_included around files depth deeper row behind found at line s t after a r one place asks finds leads =
+    let u = with_left s after in
+    let here : Leads around files (suc depth) (λ more m. Opened (around more) (suc depth) (sign_place line.tokens) u found.0 (Some found.1) m) t r =
+    subst (λ (z : Place). Leads around files (suc depth) (λ more m. Opened (around more) (suc depth) z u found.0 (Some found.1) m) t r) place
+    (subst (λ (z : ℕ). Leads around files z (λ more m. Opened (around more) z at u found.0 (Some found.1) m) t r) one leads) in
+    leads_on around files (suc depth) (λ more m. Opened (around more) (suc depth) (sign_place line.tokens) u found.0 (Some found.1) m)
+    (λ more m. Includes (around more) depth row behind s line m) t r (λ more m opened. Includes.included a found asks (finds more) opened) here
+
+pub leads_include : (around : Files → Surroundings) (files : Files) (depth row : ℕ) (line : LogicalLine) (s t : State) (r : Result (Option Entered) Fault)
     → line.directive ≡ Some Include
     → lone_quote line.tokens ≡ None
-    → Asks s line.tokens after (Ok a)
-    → ((more : Files) → Finds (around more) row a (Some found))
-    → Leads around files deeper (λ more m. Opened (around more) deeper at (with_left s after) found m) t r
+    → Leads around files (suc depth) (λ more m. Includes (around more) depth row None s line m) t r
     → Leads around files (suc depth) (λ more m. Controls (around more) depth row s line m) t r
-leads_included around files depth deeper row found at line s t after a r one place is alone asks finds leads =
-    let u = with_left s after in
-    let here : Leads around files (suc depth) (λ more m. Opened (around more) (suc depth) (sign_place line.tokens) u found m) t r =
-    subst (λ (z : Place). Leads around files (suc depth) (λ more m. Opened (around more) (suc depth) z u found m) t r) place
-    (subst (λ (z : ℕ). Leads around files z (λ more m. Opened (around more) z at u found m) t r) one leads) in
-    leads_on around files (suc depth) (λ more m. Opened (around more) (suc depth) (sign_place line.tokens) u found m)
-    (λ more m. Controls (around more) depth row s line m) t r (λ more m opened. Controls.include is alone (Includes.included a found asks (finds more) opened)) here
+leads_include around files depth row line s t r is alone leads =
+    leads_on around files (suc depth) (λ more m. Includes (around more) depth row None s line m) (λ more m. Controls (around more) depth row s line m) t r
+    (λ more m here. Controls.include is alone here) leads
+
+pub leads_next : (around : Files → Surroundings) (files : Files) (depth row : ℕ) (folder : Option ℕ) (line : LogicalLine) (s t : State)
+    (r : Result (Option Entered) Fault)
+    → folder ≡ s.folder
+    → line.directive ≡ Some IncludeNext
+    → lone_quote line.tokens ≡ None
+    → Leads around files (suc depth) (λ more m. Includes (around more) depth row folder s line m) t r
+    → Leads around files (suc depth) (λ more m. Controls (around more) depth row s line m) t r
+leads_next around files depth row folder line s t r its is alone leads =
+    leads_on around files (suc depth) (λ more m. Includes (around more) depth row folder s line m) (λ more m. Controls (around more) depth row s line m) t r
+    (λ more m here. Controls.include_next is alone (subst (λ (z : Option ℕ). Includes (around more) depth row z s line m) its here)) leads
 
 pub steps_line : (around : Files → Surroundings) (files : Files) (depth row : ℕ) (lines : List LogicalLine) (index : ℕ) (s t : State)
     (next : ℕ) (r : ℕ × Option Entered)

@@ -52,8 +52,10 @@ pub mod Deciding
 pub mod OpenFiles
 -- How much work is left on the files that are open: a line of a file counts more than all lines of a file one deeper.
 pub mod Work
--- The row that a search finds is one of the shelf.
-pub mod Found
+-- Whether a search finds a row, as a test.
+pub mod Finding
+-- How far the uses of `__has_include` have become numbers.
+pub mod Probed
 -- Opening a file, from what the steps of the code ensure.
 pub mod Opens
 -- A control line, and where a line leads, from what the steps of the code ensure.

@@ -1,24 +1,31 @@
 -- Over the same files a control line reaches one state, if the file that it opens does.
-use Rattle.std.proofs.Common.{◌≡◌, ◌≢◌, ℕ, suc, List, Option, Some, None, Ok, Err, refl, sym, ap, ◌∙◌, subst}
+use Rattle.std.proofs.Common.{◌≡◌, ℕ, suc, List, true, Option, Some, None, Ok, Err, refl, sym, ap, ◌∙◌, subst}
 use Rattle.pptext.specs.declared.tokens.Token.{Token}
 use Rattle.pptext.specs.declared.tokens.Fault.{Fault}
 use Rattle.pptext.specs.declared.sources.Directive.{Directive}
-use Rattle.pptext.specs.declared.sources.Directive.TheVariants.{Include, Error}
+use Rattle.pptext.specs.declared.sources.Directive.TheVariants.{Include, IncludeNext, Error, Ignored}
 use Rattle.pptext.specs.Lines.{LogicalLine}
 use Rattle.pptext.specs.Tree.{sign_place}
 use Rattle.ppshelf.specs.Names.{AreNames}
 use Rattle.ppunit.specs.Including.{Asked}
-use Rattle.ppunit.specs.States.{State, Surroundings, Reached, stopped, with_left}
+use Rattle.ppunit.specs.States.{State, Surroundings, Reached, going, stopped, with_left}
 use Rattle.ppunit.specs.Lines.{operands, line_fault}
 use Rattle.ppunit.specs.Quotes.{lone_quote}
-use Rattle.ppunit.specs.Directives.{ControlBy, message, Asks, Finds}
+use Rattle.ppunit.specs.Directives.{ControlBy, message, looks_at_quotes, Asks, Finds}
 use Rattle.ppunit.specs.Group.{Controls, Includes, Opened}
 use Rattle.ppunit.proofs.OneLine.{OneExpansion, OneDecision, OneRow, control_by_once, asks_once}
 use Rattle.ppunit.proofs.OneSection.{stopped_again}
 
+-- a line whose quotes are looked at is neither
+error_quiet : (d : Option Directive) → d ≡ Some Error → looks_at_quotes d ≡ true → ⊥
+error_quiet d is looks = absurd (cc)
+
+ignored_quiet : (d : Option Directive) → d ≡ Some Ignored → looks_at_quotes d ≡ true → ⊥
+ignored_quiet d is looks = absurd (cc)
+
 module _ (expansions : OneExpansion) (decisions : OneDecision) (rows : OneRow) (around : Surroundings) (once : AreNames around.names) where
-  finds_once : (from : ℕ) (asked : Asked) (a b : Option ℕ) → Finds around from asked a → Finds around from asked b → a ≡ b
-  finds_once from asked a b p q = rows around.names once _ a b p q
+  finds_once : (from : ℕ) (behind : Option ℕ) (asked : Asked) (a b : Option (ℕ × ℕ)) → Finds around from behind asked a → Finds around from behind asked b → a ≡ b
+  finds_once from behind asked a b p q = rows around.names once _ a b p q
 
   not_other : (row : ℕ) (d : Directive) (s : State) (line : LogicalLine) (m : Reached)
       → line.directive ≡ Some d
@@ -31,19 +38,34 @@ module _ (expansions : OneExpansion) (decisions : OneDecision) (rows : OneRow) (
       → Controls around depth row s line m
       → stopped s (line_fault 34 line.tokens (message (operands line.tokens))) ≡ m
   at_error e (Controls.error is) = refl
-  at_error e (Controls.quote is q) = absurd (is e)
+  at_error e (Controls.ignored is) = let differs : Some Error ≡ Some Ignored = sym e ∙ is in absurd (cc)
+  at_error {line = line} e (Controls.quote is q) = absurd (error_quiet line.directive e is)
   at_error {row = row} {s = s} {line = line} {m = m} e (Controls.other q does) = absurd (not_other row Error s line m e does)
   at_error e (Controls.include is q here) = let differs : Some Error ≡ Some Include = sym e ∙ is in absurd (cc)
+  at_error e (Controls.include_next is q here) = let differs : Some Error ≡ Some IncludeNext = sym e ∙ is in absurd (cc)
+
+  pub at_ignored : {depth row : ℕ} {s : State} {line : LogicalLine} {m : Reached}
+      → line.directive ≡ Some Ignored
+      → Controls around depth row s line m
+      → going s ≡ m
+  at_ignored e (Controls.error is) = let differs : Some Ignored ≡ Some Error = sym e ∙ is in absurd (cc)
+  at_ignored e (Controls.ignored is) = refl
+  at_ignored {line = line} e (Controls.quote is q) = absurd (ignored_quiet line.directive e is)
+  at_ignored {row = row} {s = s} {line = line} {m = m} e (Controls.other q does) = absurd (not_other row Ignored s line m e does)
+  at_ignored e (Controls.include is q here) = let differs : Some Ignored ≡ Some Include = sym e ∙ is in absurd (cc)
+  at_ignored e (Controls.include_next is q here) = let differs : Some Ignored ≡ Some IncludeNext = sym e ∙ is in absurd (cc)
 
   pub at_quote : {depth row : ℕ} {s : State} {line : LogicalLine} {f : Fault} {m : Reached}
-      → line.directive ≢ Some Error
+      → looks_at_quotes line.directive ≡ true
       → lone_quote line.tokens ≡ Some f
       → Controls around depth row s line m
       → stopped s f ≡ m
-  at_quote other e (Controls.error is) = absurd (other is)
-  at_quote {s = s} {f = f} other e (Controls.quote {f = g} is q) = let same : f ≡ g = cc in ap (λ x. stopped s x) same
-  at_quote other e (Controls.other q does) = absurd (cc)
-  at_quote other e (Controls.include is q here) = absurd (cc)
+  at_quote {line = line} looks e (Controls.error is) = absurd (error_quiet line.directive is looks)
+  at_quote {line = line} looks e (Controls.ignored is) = absurd (ignored_quiet line.directive is looks)
+  at_quote {s = s} {f = f} looks e (Controls.quote {f = g} is q) = let same : f ≡ g = cc in ap (λ x. stopped s x) same
+  at_quote looks e (Controls.other q does) = absurd (cc)
+  at_quote looks e (Controls.include is q here) = absurd (cc)
+  at_quote looks e (Controls.include_next is q here) = absurd (cc)
 
   pub at_other : {depth row : ℕ} {s : State} {line : LogicalLine} {k m : Reached}
       → lone_quote line.tokens ≡ None
@@ -51,28 +73,44 @@ module _ (expansions : OneExpansion) (decisions : OneDecision) (rows : OneRow) (
       → Controls around depth row s line m
       → k ≡ m
   at_other {row = row} {s = s} {line = line} {k = k} q does (Controls.error is) = absurd (not_other row Error s line k is does)
+  at_other {row = row} {s = s} {line = line} {k = k} q does (Controls.ignored is) = absurd (not_other row Ignored s line k is does)
   at_other q does (Controls.quote is e) = absurd (cc)
   at_other {row = row} {s = s} {line = line} {k = k} {m = m} q does (Controls.other e does') =
       control_by_once expansions decisions around.profile row line.directive s line k m does does'
   at_other {row = row} {s = s} {line = line} {k = k} q does (Controls.include is e here) = absurd (not_other row Include s line k is does)
+  at_other {row = row} {s = s} {line = line} {k = k} q does (Controls.include_next is e here) = absurd (not_other row IncludeNext s line k is does)
 
   pub at_include : {depth row : ℕ} {s : State} {line : LogicalLine} {m : Reached}
       → line.directive ≡ Some Include
       → lone_quote line.tokens ≡ None
       → Controls around depth row s line m
-      → Includes around depth row s line m
+      → Includes around depth row None s line m
   at_include e q (Controls.error is) = let differs : Some Include ≡ Some Error = sym e ∙ is in absurd (cc)
+  at_include e q (Controls.ignored is) = let differs : Some Include ≡ Some Ignored = sym e ∙ is in absurd (cc)
   at_include e q (Controls.quote is q') = absurd (cc)
   at_include {row = row} {s = s} {line = line} {m = m} e q (Controls.other q' does) = absurd (not_other row Include s line m e does)
   at_include e q (Controls.include is q' here) = here
+  at_include e q (Controls.include_next is q' here) = let differs : Some Include ≡ Some IncludeNext = sym e ∙ is in absurd (cc)
+
+  pub at_next : {depth row : ℕ} {s : State} {line : LogicalLine} {m : Reached}
+      → line.directive ≡ Some IncludeNext
+      → lone_quote line.tokens ≡ None
+      → Controls around depth row s line m
+      → Includes around depth row s.folder s line m
+  at_next e q (Controls.error is) = let differs : Some IncludeNext ≡ Some Error = sym e ∙ is in absurd (cc)
+  at_next e q (Controls.ignored is) = let differs : Some IncludeNext ≡ Some Ignored = sym e ∙ is in absurd (cc)
+  at_next e q (Controls.quote is q') = absurd (cc)
+  at_next {row = row} {s = s} {line = line} {m = m} e q (Controls.other q' does) = absurd (not_other row IncludeNext s line m e does)
+  at_next e q (Controls.include is q' here) = let differs : Some IncludeNext ≡ Some Include = sym e ∙ is in absurd (cc)
+  at_next e q (Controls.include_next is q' here) = here
 
   -- one line asks for one thing
   same_asked : (s : State) (line : List Token) (after behind : Option ℕ) (a b : Asked) → Asks s line after (Ok a) → Asks s line behind (Ok b) → a ≡ b
   same_asked s line after behind a b p q = let one : Ok a ≡ Ok b = (asks_once expansions decisions s line after behind (Ok a) (Ok b) p q).0 in cc
 
-  pub after_misnamed : {depth row : ℕ} {s : State} {line : LogicalLine} {after : Option ℕ} {f : Fault} {m : Reached}
+  pub after_misnamed : {depth row : ℕ} {start : Option ℕ} {s : State} {line : LogicalLine} {after : Option ℕ} {f : Fault} {m : Reached}
       → Asks s line.tokens after (Err f)
-      → Includes around depth row s line m
+      → Includes around depth row start s line m
       → stopped (with_left s after) f ≡ m
   after_misnamed {s = s} {line = line} {after = after} {f = f} asks (Includes.misnamed {after = behind} {f = g} asks') =
       let one = asks_once expansions decisions s line.tokens after behind (Err f) (Err g) asks asks' in
@@ -82,10 +120,10 @@ module _ (expansions : OneExpansion) (decisions : OneDecision) (rows : OneRow) (
   after_misnamed {s = s} {line = line} {after = after} {f = f} asks (Includes.included {after = behind} a found asks' finds opens) =
       let one : Err f ≡ Ok a = (asks_once expansions decisions s line.tokens after behind (Err f) (Ok a) asks asks').0 in absurd (cc)
 
-  pub after_missing : {depth row : ℕ} {s : State} {line : LogicalLine} {after : Option ℕ} {m : Reached} (a : Asked)
+  pub after_missing : {depth row : ℕ} {start : Option ℕ} {s : State} {line : LogicalLine} {after : Option ℕ} {m : Reached} (a : Asked)
       → Asks s line.tokens after (Ok a)
-      → Finds around row a None
-      → Includes around depth row s line m
+      → Finds around row start a None
+      → Includes around depth row start s line m
       → stopped (with_left s after) (line_fault 31 line.tokens a.name) ≡ m
   after_missing {s = s} {line = line} {after = after} a asks finds (Includes.misnamed {after = behind} {f = f} asks') =
       let one : Ok a ≡ Err f = (asks_once expansions decisions s line.tokens after behind (Ok a) (Err f) asks asks').0 in absurd (cc)
@@ -93,25 +131,25 @@ module _ (expansions : OneExpansion) (decisions : OneDecision) (rows : OneRow) (
       let same = same_asked s line.tokens after behind a b asks asks' in
       let lefts = (asks_once expansions decisions s line.tokens after behind (Ok a) (Ok b) asks asks').1 in
       λ i. stopped (with_left s (lefts i)) (line_fault 31 line.tokens (same i).name)
-  after_missing {row = row} {s = s} {line = line} {after = after} a asks finds (Includes.included {after = behind} b found asks' finds' opens) =
+  after_missing {row = row} {start = start} {s = s} {line = line} {after = after} a asks finds (Includes.included {after = behind} b found asks' finds' opens) =
       let same = same_asked s line.tokens after behind a b asks asks' in
-      let one : None ≡ Some found = finds_once row b None (Some found) (subst (λ x. Finds around row x None) same finds) finds' in absurd (cc)
+      let one : None ≡ Some found = finds_once row start b None (Some found) (subst (λ x. Finds around row start x None) same finds) finds' in absurd (cc)
 
-  pub after_included : {depth row : ℕ} {s : State} {line : LogicalLine} {after : Option ℕ} {m : Reached} (a : Asked) (found : ℕ)
+  pub after_included : {depth row : ℕ} {start : Option ℕ} {s : State} {line : LogicalLine} {after : Option ℕ} {m : Reached} (a : Asked) (found : ℕ × ℕ)
       → Asks s line.tokens after (Ok a)
-      → Finds around row a (Some found)
-      → Includes around depth row s line m
-      → Opened around (suc depth) (sign_place line.tokens) (with_left s after) found m
+      → Finds around row start a (Some found)
+      → Includes around depth row start s line m
+      → Opened around (suc depth) (sign_place line.tokens) (with_left s after) found.0 (Some found.1) m
   after_included {s = s} {line = line} {after = after} a found asks finds (Includes.misnamed {after = behind} {f = f} asks') =
       let one : Ok a ≡ Err f = (asks_once expansions decisions s line.tokens after behind (Ok a) (Err f) asks asks').0 in absurd (cc)
-  after_included {row = row} {s = s} {line = line} {after = after} a found asks finds (Includes.missing {after = behind} b asks' finds') =
+  after_included {row = row} {start = start} {s = s} {line = line} {after = after} a found asks finds (Includes.missing {after = behind} b asks' finds') =
       let same = same_asked s line.tokens after behind a b asks asks' in
-      let one : Some found ≡ None = finds_once row b (Some found) None (subst (λ x. Finds around row x (Some found)) same finds) finds' in absurd (cc)
-  after_included {depth = depth} {row = row} {s = s} {line = line} {after = after} {m = m} a found asks finds
+      let one : Some found ≡ None = finds_once row start b (Some found) None (subst (λ x. Finds around row start x (Some found)) same finds) finds' in absurd (cc)
+  after_included {depth = depth} {row = row} {start = start} {s = s} {line = line} {after = after} {m = m} a found asks finds
       (Includes.included {after = behind} b other asks' finds' opens) =
       let same = same_asked s line.tokens after behind a b asks asks' in
-      let one : Some found ≡ Some other = finds_once row b (Some found) (Some other) (subst (λ x. Finds around row x (Some found)) same finds) finds' in
+      let one : Some found ≡ Some other = finds_once row start b (Some found) (Some other) (subst (λ x. Finds around row start x (Some found)) same finds) finds' in
       let same_row : other ≡ found = cc in
       let lefts = sym (asks_once expansions decisions s line.tokens after behind (Ok a) (Ok b) asks asks').1 in
-      subst (λ (x : Option ℕ). Opened around (suc depth) (sign_place line.tokens) (with_left s x) found m) lefts
-      (subst (λ (x : ℕ). Opened around (suc depth) (sign_place line.tokens) (with_left s behind) x m) same_row opens)
+      subst (λ (x : Option ℕ). Opened around (suc depth) (sign_place line.tokens) (with_left s x) found.0 (Some found.1) m) lefts
+      (subst (λ (x : ℕ × ℕ). Opened around (suc depth) (sign_place line.tokens) (with_left s behind) x.0 (Some x.1) m) same_row opens)

@@ -1,11 +1,11 @@
 -- Over the same files a line does one thing, and leaves one thing of a budget.
-use Rattle.std.proofs.Common.{◌≡◌, ℕ, Bool, true, false, List, [], map, Option, Some, None, Result, sym, ap, ◌∙◌}
+use Rattle.std.proofs.Common.{◌≡◌, ℕ, Bool, true, false, List, [], map, Option, Some, None, Result, sym, ap, ◌∙◌, Ok, Err}
 use Rattle.pptext.specs.declared.tokens.Place.{Place}
 use Rattle.pptext.specs.declared.tokens.Token.{Token}
 use Rattle.pptext.specs.declared.tokens.Fault.{Fault}
 use Rattle.pptext.specs.declared.sources.Profile.{Profile}
 use Rattle.pptext.specs.declared.sources.Directive.{Directive}
-use Rattle.pptext.specs.declared.sources.Directive.TheVariants.{If, Ifdef, Ifndef, Elif, Elifdef, Elifndef, Else, Endif, Include, Define, Undef, Line, Error, Pragma, Null, Unknown}
+use Rattle.pptext.specs.declared.sources.Directive.TheVariants.{If, Ifdef, Ifndef, Elif, Elifdef, Elifndef, Else, Endif, Include, IncludeNext, Define, Undef, Line, Error, Pragma, Null, Ignored, Unknown}
 use Rattle.pptext.specs.Lines.{LogicalLine}
 use Rattle.pptext.specs.Sources.{Reads}
 use Rattle.pptext.specs.Tree.{sign_place, Parts, Tree}
@@ -15,13 +15,14 @@ use Rattle.ppexpand.specs.declared.expansion.Expanded.{Expanded}
 use Rattle.ppexpand.specs.Expansion.{IsExpansion}
 use Rattle.ppexpr.specs.Conditions.{IsCondition}
 use Rattle.ppshelf.specs.Names.{AreNames}
-use Rattle.ppshelf.specs.Search.{IsFirstRow}
-use Rattle.ppunit.specs.States.{State, Reached, passed, with_left}
+use Rattle.ppshelf.specs.Search.{Candidate, IsFirstRow}
+use Rattle.ppunit.specs.States.{State, Reached, passed, with_left, Search}
 use Rattle.ppunit.specs.Lines.{operands, line_fault}
 use Rattle.ppunit.specs.Quotes.{lone_quote}
 use Rattle.ppunit.specs.LineControl.{presumed}
 use Rattle.ppunit.specs.Including.{Asked, begins_with_header, asked_behind}
-use Rattle.ppunit.specs.Conditions.{Decides, DecidesBy, DecidesUnless}
+use Rattle.ppunit.specs.Probing.{condition_tokens}
+use Rattle.ppunit.specs.Conditions.{Decides, DecidesBy, DecidesUnless, DecidesOf}
 use Rattle.ppunit.specs.Directives.{RunGives, LineGives, renumbered_by, ControlBy, Asks, AsksBy}
 use Rattle.ppunit.specs.declared.units.Item.TheVariants as item
 
@@ -44,7 +45,7 @@ abbrev pub OneTree : Type 0
 OneTree = (lines : List LogicalLine) (a b : Parts) → Tree lines a → Tree lines b → a ≡ b
 
 abbrev pub OneRow : Type 0
-OneRow = (names : List (List ℕ)) → AreNames names → (candidates : List (List ℕ)) (a b : Option ℕ) → IsFirstRow names candidates a → IsFirstRow names candidates b → a ≡ b
+OneRow = (names : List (List ℕ)) → AreNames names → (candidates : List Candidate) (a b : Option (ℕ × ℕ)) → IsFirstRow names candidates a → IsFirstRow names candidates b → a ≡ b
 
 module _ (expansions : OneExpansion) (decisions : OneDecision) where
   pub run_once : (s : State) (tokens : List Token) (a b : Reached) → RunGives s tokens a → RunGives s tokens b → a ≡ b
@@ -75,12 +76,14 @@ module _ (expansions : OneExpansion) (decisions : OneDecision) where
   control_by_once profile row (Some Else) s r a b p q = absurd p
   control_by_once profile row (Some Endif) s r a b p q = absurd p
   control_by_once profile row (Some Include) s r a b p q = absurd p
+  control_by_once profile row (Some IncludeNext) s r a b p q = absurd p
   control_by_once profile row (Some Define) s r a b p q = p ∙ sym q
   control_by_once profile row (Some Undef) s r a b p q = p ∙ sym q
   control_by_once profile row (Some Line) s r a b p q = line_once s r a b p q
   control_by_once profile row (Some Error) s r a b p q = absurd p
   control_by_once profile row (Some Pragma) s r a b p q = p ∙ sym q
   control_by_once profile row (Some Null) s r a b p q = p ∙ sym q
+  control_by_once profile row (Some Ignored) s r a b p q = absurd p
   control_by_once profile row (Some Unknown) s r a b p q = p ∙ sym q
 
   -- one answer, and one rest of the budget
@@ -104,38 +107,49 @@ module _ (expansions : OneExpansion) (decisions : OneDecision) where
       → (a ≡ b) × (after ≡ behind)
   asks_once s line after behind a b p q = asks_by_once (begins_with_header (operands line)) s line after behind a b p q
 
-  decides_by_once : (d : Option Directive) (s : State) (line : List Token) (after behind : Option ℕ) (a b : Result Bool Fault)
-      → DecidesBy d s line after a
-      → DecidesBy d s line behind b
+  decides_of_once : (tokens : Result (List Token) Fault) (s : State) (at : Place) (after behind : Option ℕ) (a b : Result Bool Fault)
+      → DecidesOf tokens s at after a
+      → DecidesOf tokens s at behind b
       → (a ≡ b) × (after ≡ behind)
-  decides_by_once None s line after behind a b p q = absurd p
-  decides_by_once (Some If) s line after behind a b p q = decisions s.macros s.env (sign_place line) (operands line) s.left after behind a b p q
-  decides_by_once (Some Elif) s line after behind a b p q = decisions s.macros s.env (sign_place line) (operands line) s.left after behind a b p q
-  decides_by_once (Some Ifdef) s line after behind a b p q = free_once s.left after behind _ a b p q
-  decides_by_once (Some Ifndef) s line after behind a b p q = free_once s.left after behind _ a b p q
-  decides_by_once (Some Elifdef) s line after behind a b p q = free_once s.left after behind _ a b p q
-  decides_by_once (Some Elifndef) s line after behind a b p q = free_once s.left after behind _ a b p q
-  decides_by_once (Some Else) s line after behind a b p q = absurd p
-  decides_by_once (Some Endif) s line after behind a b p q = absurd p
-  decides_by_once (Some Include) s line after behind a b p q = absurd p
-  decides_by_once (Some Define) s line after behind a b p q = absurd p
-  decides_by_once (Some Undef) s line after behind a b p q = absurd p
-  decides_by_once (Some Line) s line after behind a b p q = absurd p
-  decides_by_once (Some Error) s line after behind a b p q = absurd p
-  decides_by_once (Some Pragma) s line after behind a b p q = absurd p
-  decides_by_once (Some Null) s line after behind a b p q = absurd p
-  decides_by_once (Some Unknown) s line after behind a b p q = absurd p
+  decides_of_once (Err f) s at after behind a b p q = free_once s.left after behind _ a b p q
+  decides_of_once (Ok tokens) s at after behind a b p q = decisions s.macros s.env at tokens s.left after behind a b p q
 
-  decides_unless_once : (quote : Option Fault) (d : Option Directive) (s : State) (line : List Token) (after behind : Option ℕ) (a b : Result Bool Fault)
-      → DecidesUnless quote d s line after a
-      → DecidesUnless quote d s line behind b
+  decides_by_once : (search : Search) (row : ℕ) (d : Option Directive) (s : State) (line : List Token) (after behind : Option ℕ) (a b : Result Bool Fault)
+      → DecidesBy search row d s line after a
+      → DecidesBy search row d s line behind b
       → (a ≡ b) × (after ≡ behind)
-  decides_unless_once None d s line after behind a b p q = decides_by_once d s line after behind a b p q
-  decides_unless_once (Some f) d s line after behind a b p q = free_once s.left after behind _ a b p q
+  decides_by_once search row None s line after behind a b p q = absurd p
+  decides_by_once search row (Some If) s line after behind a b p q =
+      decides_of_once (condition_tokens search row line) s (sign_place line) after behind a b p q
+  decides_by_once search row (Some Elif) s line after behind a b p q =
+      decides_of_once (condition_tokens search row line) s (sign_place line) after behind a b p q
+  decides_by_once search row (Some Ifdef) s line after behind a b p q = free_once s.left after behind _ a b p q
+  decides_by_once search row (Some Ifndef) s line after behind a b p q = free_once s.left after behind _ a b p q
+  decides_by_once search row (Some Elifdef) s line after behind a b p q = free_once s.left after behind _ a b p q
+  decides_by_once search row (Some Elifndef) s line after behind a b p q = free_once s.left after behind _ a b p q
+  decides_by_once search row (Some Else) s line after behind a b p q = absurd p
+  decides_by_once search row (Some Endif) s line after behind a b p q = absurd p
+  decides_by_once search row (Some Include) s line after behind a b p q = absurd p
+  decides_by_once search row (Some IncludeNext) s line after behind a b p q = absurd p
+  decides_by_once search row (Some Define) s line after behind a b p q = absurd p
+  decides_by_once search row (Some Undef) s line after behind a b p q = absurd p
+  decides_by_once search row (Some Line) s line after behind a b p q = absurd p
+  decides_by_once search row (Some Error) s line after behind a b p q = absurd p
+  decides_by_once search row (Some Pragma) s line after behind a b p q = absurd p
+  decides_by_once search row (Some Null) s line after behind a b p q = absurd p
+  decides_by_once search row (Some Ignored) s line after behind a b p q = absurd p
+  decides_by_once search row (Some Unknown) s line after behind a b p q = absurd p
 
-  pub decides_once : (s : State) (line : LogicalLine) (after behind : Option ℕ) (a b : Result Bool Fault)
-      → Decides s line after a
-      → Decides s line behind b
+  decides_unless_once : (search : Search) (row : ℕ) (quote : Option Fault) (d : Option Directive) (s : State) (line : List Token) (after behind : Option ℕ) (a b : Result Bool Fault)
+      → DecidesUnless search row quote d s line after a
+      → DecidesUnless search row quote d s line behind b
       → (a ≡ b) × (after ≡ behind)
-  decides_once s line after behind a b p q =
-      decides_unless_once (lone_quote line.tokens) line.directive s line.tokens after behind a b p q
+  decides_unless_once search row None d s line after behind a b p q = decides_by_once search row d s line after behind a b p q
+  decides_unless_once search row (Some f) d s line after behind a b p q = free_once s.left after behind _ a b p q
+
+  pub decides_once : (search : Search) (row : ℕ) (s : State) (line : LogicalLine) (after behind : Option ℕ) (a b : Result Bool Fault)
+      → Decides search row s line after a
+      → Decides search row s line behind b
+      → (a ≡ b) × (after ≡ behind)
+  decides_once search row s line after behind a b p q =
+      decides_unless_once search row (lone_quote line.tokens) line.directive s line.tokens after behind a b p q

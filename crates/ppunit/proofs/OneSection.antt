@@ -4,7 +4,7 @@ use Rattle.pptext.specs.declared.tokens.Fault.{Fault}
 use Rattle.pptext.specs.declared.sources.Directive.TheVariants.{Else}
 use Rattle.pptext.specs.Lines.{LogicalLine}
 use Rattle.pptext.specs.Tree.{Parts, Done, Run, Control, Section, Branches, End, Branch}
-use Rattle.ppunit.specs.States.{State, Surroundings, Reached, going, stopped, with_left}
+use Rattle.ppunit.specs.States.{State, Surroundings, Reached, going, stopped, with_left, search_of}
 use Rattle.ppunit.specs.Lines.{run_tokens}
 use Rattle.ppunit.specs.Conditions.{Decides}
 use Rattle.ppunit.specs.Directives.{RunGives}
@@ -32,16 +32,16 @@ module _ (expansions : OneExpansion) (decisions : OneDecision) (around : Surroun
 
   pub data AfterSection (depth row : ℕ) (s : State) (line : LogicalLine) (ps : Parts) (bs : Branches) (qs : Parts) : Reached → Type 0 where
     is_taken : {after : Option ℕ} {m end : Reached}
-        → Decides s line after (Ok true)
+        → Decides (search_of around) row s line after (Ok true)
         → Group around depth row (going (with_left s after)) ps m
         → Group around depth row m qs end
         → AfterSection depth row s line ps bs qs end
     is_skipped : {after : Option ℕ} {m end : Reached}
-        → Decides s line after (Ok false)
+        → Decides (search_of around) row s line after (Ok false)
         → Branched around depth row (with_left s after) bs m
         → Group around depth row m qs end
         → AfterSection depth row s line ps bs qs end
-    is_refused : {after : Option ℕ} {f : Fault} → Decides s line after (Err f) → AfterSection depth row s line ps bs qs (stopped (with_left s after) f)
+    is_refused : {after : Option ℕ} {f : Fault} → Decides (search_of around) row s line after (Err f) → AfterSection depth row s line ps bs qs (stopped (with_left s after) f)
 
   pub at_section : {depth row : ℕ} {s : State} {line : LogicalLine} {ps qs : Parts} {bs : Branches} {end : Reached} → Group around depth row (going s) (Section line ps bs qs) end → AfterSection depth row s line ps bs qs end
   at_section (Group.taken decides here rest) = is_taken decides here rest
@@ -55,17 +55,17 @@ module _ (expansions : OneExpansion) (decisions : OneDecision) (around : Surroun
     is_else : {m : Reached} → line.directive ≡ Some Else → Group around depth row (going s) ps m → AfterBranch depth row s line ps bs m
     is_elif : {after : Option ℕ} {m : Reached}
         → line.directive ≢ Some Else
-        → Decides s line after (Ok true)
+        → Decides (search_of around) row s line after (Ok true)
         → Group around depth row (going (with_left s after)) ps m
         → AfterBranch depth row s line ps bs m
     is_passed : {after : Option ℕ} {m : Reached}
         → line.directive ≢ Some Else
-        → Decides s line after (Ok false)
+        → Decides (search_of around) row s line after (Ok false)
         → Branched around depth row (with_left s after) bs m
         → AfterBranch depth row s line ps bs m
     is_faulty : {after : Option ℕ} {f : Fault}
         → line.directive ≢ Some Else
-        → Decides s line after (Err f)
+        → Decides (search_of around) row s line after (Err f)
         → AfterBranch depth row s line ps bs (stopped (with_left s after) f)
 
   pub at_branch : {depth row : ℕ} {s : State} {line : LogicalLine} {ps : Parts} {bs : Branches} {m : Reached} → Branched around depth row s (Branch line ps bs) m → AfterBranch depth row s line ps bs m
@@ -84,40 +84,40 @@ module _ (expansions : OneExpansion) (decisions : OneDecision) (around : Surroun
 
   -- the same decision leaves the same
   taken_again : (depth row : ℕ) (s : State) (line : LogicalLine) (ps : Parts) (after behind : Option ℕ) (answer : Result Bool Fault) (z : Reached)
-      → Decides s line after answer
-      → Decides s line behind answer
+      → Decides (search_of around) row s line after answer
+      → Decides (search_of around) row s line behind answer
       → Group around depth row (going (with_left s behind)) ps z
       → Group around depth row (going (with_left s after)) ps z
   taken_again depth row s line ps after behind answer z decides decides' here =
-      let lefts = sym (decides_once expansions decisions s line after behind answer answer decides decides').1 in
+      let lefts = sym (decides_once expansions decisions (search_of around) row s line after behind answer answer decides decides').1 in
       subst (λ (x : Option ℕ). Group around depth row (going (with_left s x)) ps z) lefts here
 
   skipped_again : (depth row : ℕ) (s : State) (line : LogicalLine) (bs : Branches) (after behind : Option ℕ) (answer : Result Bool Fault) (z : Reached)
-      → Decides s line after answer
-      → Decides s line behind answer
+      → Decides (search_of around) row s line after answer
+      → Decides (search_of around) row s line behind answer
       → Branched around depth row (with_left s behind) bs z
       → Branched around depth row (with_left s after) bs z
   skipped_again depth row s line bs after behind answer z decides decides' here =
-      let lefts = sym (decides_once expansions decisions s line after behind answer answer decides decides').1 in
+      let lefts = sym (decides_once expansions decisions (search_of around) row s line after behind answer answer decides decides').1 in
       subst (λ (x : Option ℕ). Branched around depth row (with_left s x) bs z) lefts here
 
   -- the same fault, where the same is left
   pub stopped_again : {A : Type 0} (s : State) (after behind : Option ℕ) (f g : Fault) → ◌≡◌ {A = Result A Fault} (Err f) (Err g) → after ≡ behind → stopped (with_left s after) f ≡ stopped (with_left s behind) g
   stopped_again s after behind f g faults lefts = let same : f ≡ g = cc in λ i. stopped (with_left s (lefts i)) (same i)
 
-  refused_again : (s : State) (line : LogicalLine) (after behind : Option ℕ) (f g : Fault)
-      → Decides s line after (Err f)
-      → Decides s line behind (Err g)
+  refused_again : (row : ℕ) (s : State) (line : LogicalLine) (after behind : Option ℕ) (f g : Fault)
+      → Decides (search_of around) row s line after (Err f)
+      → Decides (search_of around) row s line behind (Err g)
       → stopped (with_left s after) f ≡ stopped (with_left s behind) g
-  refused_again s line after behind f g decides decides' =
-      let one = decides_once expansions decisions s line after behind (Err f) (Err g) decides decides' in
+  refused_again row s line after behind f g decides decides' =
+      let one = decides_once expansions decisions (search_of around) row s line after behind (Err f) (Err g) decides decides' in
       stopped_again {A = Bool} s after behind f g one.0 one.1
 
-  same_decision : (s : State) (line : LogicalLine) (after behind : Option ℕ) (a b : Result Bool Fault) → Decides s line after a → Decides s line behind b → a ≡ b
-  same_decision s line after behind a b p q = (decides_once expansions decisions s line after behind a b p q).0
+  same_decision : (row : ℕ) (s : State) (line : LogicalLine) (after behind : Option ℕ) (a b : Result Bool Fault) → Decides (search_of around) row s line after a → Decides (search_of around) row s line behind b → a ≡ b
+  same_decision row s line after behind a b p q = (decides_once expansions decisions (search_of around) row s line after behind a b p q).0
 
   pub after_taken : {depth row : ℕ} {s : State} {line : LogicalLine} {ps qs : Parts} {bs : Branches} {after : Option ℕ} {m y : Reached}
-      → Decides s line after (Ok true)
+      → Decides (search_of around) row s line after (Ok true)
       → SameGroup depth row (going (with_left s after)) ps m
       → SameGroup depth row m qs y
       → (z : Reached)
@@ -125,35 +125,35 @@ module _ (expansions : OneExpansion) (decisions : OneDecision) (around : Surroun
       → y ≡ z
   after_taken {depth = depth} {row = row} {s = s} {line = line} {ps = ps} {qs = qs} {after = after} decides here rest z (is_taken {after = behind} {m = n} decides' here' rest') =
       rest z (subst (λ x. Group around depth row x qs z) (sym (here n (taken_again depth row s line ps after behind (Ok true) n decides decides' here'))) rest')
-  after_taken {s = s} {line = line} {after = after} decides here rest z (is_skipped {after = behind} decides' here' rest') =
-      let differs : Ok true ≡ Ok false = same_decision s line after behind (Ok true) (Ok false) decides decides' in absurd (cc)
-  after_taken {s = s} {line = line} {after = after} decides here rest z (is_refused {after = behind} {f = f} decides') =
-      let differs : Ok true ≡ Err f = same_decision s line after behind (Ok true) (Err f) decides decides' in absurd (cc)
+  after_taken {row = row} {s = s} {line = line} {after = after} decides here rest z (is_skipped {after = behind} decides' here' rest') =
+      let differs : Ok true ≡ Ok false = same_decision row s line after behind (Ok true) (Ok false) decides decides' in absurd (cc)
+  after_taken {row = row} {s = s} {line = line} {after = after} decides here rest z (is_refused {after = behind} {f = f} decides') =
+      let differs : Ok true ≡ Err f = same_decision row s line after behind (Ok true) (Err f) decides decides' in absurd (cc)
 
   pub after_skipped : {depth row : ℕ} {s : State} {line : LogicalLine} {ps qs : Parts} {bs : Branches} {after : Option ℕ} {m y : Reached}
-      → Decides s line after (Ok false)
+      → Decides (search_of around) row s line after (Ok false)
       → SameBranches depth row (with_left s after) bs m
       → SameGroup depth row m qs y
       → (z : Reached)
       → AfterSection depth row s line ps bs qs z
       → y ≡ z
-  after_skipped {s = s} {line = line} {after = after} decides here rest z (is_taken {after = behind} decides' here' rest') =
-      let differs : Ok false ≡ Ok true = same_decision s line after behind (Ok false) (Ok true) decides decides' in absurd (cc)
+  after_skipped {row = row} {s = s} {line = line} {after = after} decides here rest z (is_taken {after = behind} decides' here' rest') =
+      let differs : Ok false ≡ Ok true = same_decision row s line after behind (Ok false) (Ok true) decides decides' in absurd (cc)
   after_skipped {depth = depth} {row = row} {s = s} {line = line} {qs = qs} {bs = bs} {after = after} decides here rest z (is_skipped {after = behind} {m = n} decides' here' rest') =
       rest z (subst (λ x. Group around depth row x qs z) (sym (here n (skipped_again depth row s line bs after behind (Ok false) n decides decides' here'))) rest')
-  after_skipped {s = s} {line = line} {after = after} decides here rest z (is_refused {after = behind} {f = f} decides') =
-      let differs : Ok false ≡ Err f = same_decision s line after behind (Ok false) (Err f) decides decides' in absurd (cc)
+  after_skipped {row = row} {s = s} {line = line} {after = after} decides here rest z (is_refused {after = behind} {f = f} decides') =
+      let differs : Ok false ≡ Err f = same_decision row s line after behind (Ok false) (Err f) decides decides' in absurd (cc)
 
   pub after_refused : {depth row : ℕ} {s : State} {line : LogicalLine} {ps qs : Parts} {bs : Branches} {after : Option ℕ} {f : Fault}
-      → Decides s line after (Err f)
+      → Decides (search_of around) row s line after (Err f)
       → (z : Reached)
       → AfterSection depth row s line ps bs qs z
       → stopped (with_left s after) f ≡ z
-  after_refused {s = s} {line = line} {after = after} {f = f} decides z (is_taken {after = behind} decides' here' rest') =
-      let differs : Err f ≡ Ok true = same_decision s line after behind (Err f) (Ok true) decides decides' in absurd (cc)
-  after_refused {s = s} {line = line} {after = after} {f = f} decides z (is_skipped {after = behind} decides' here' rest') =
-      let differs : Err f ≡ Ok false = same_decision s line after behind (Err f) (Ok false) decides decides' in absurd (cc)
-  after_refused {s = s} {line = line} {after = after} {f = f} decides z (is_refused {after = behind} {f = g} decides') = refused_again s line after behind f g decides decides'
+  after_refused {row = row} {s = s} {line = line} {after = after} {f = f} decides z (is_taken {after = behind} decides' here' rest') =
+      let differs : Err f ≡ Ok true = same_decision row s line after behind (Err f) (Ok true) decides decides' in absurd (cc)
+  after_refused {row = row} {s = s} {line = line} {after = after} {f = f} decides z (is_skipped {after = behind} decides' here' rest') =
+      let differs : Err f ≡ Ok false = same_decision row s line after behind (Err f) (Ok false) decides decides' in absurd (cc)
+  after_refused {row = row} {s = s} {line = line} {after = after} {f = f} decides z (is_refused {after = behind} {f = g} decides') = refused_again row s line after behind f g decides decides'
 
   not_both : (line : LogicalLine) → line.directive ≡ Some Else → line.directive ≢ Some Else → ⊥
   not_both line e f = f e
@@ -171,7 +171,7 @@ module _ (expansions : OneExpansion) (decisions : OneDecision) (around : Surroun
 
   pub after_elif : {depth row : ℕ} {s : State} {line : LogicalLine} {ps : Parts} {bs : Branches} {after : Option ℕ} {y : Reached}
       → line.directive ≢ Some Else
-      → Decides s line after (Ok true)
+      → Decides (search_of around) row s line after (Ok true)
       → SameGroup depth row (going (with_left s after)) ps y
       → (z : Reached)
       → AfterBranch depth row s line ps bs z
@@ -179,36 +179,36 @@ module _ (expansions : OneExpansion) (decisions : OneDecision) (around : Surroun
   after_elif {line = line} is decides here z (is_else is' here') = absurd (not_both line is' is)
   after_elif {depth = depth} {row = row} {s = s} {line = line} {ps = ps} {after = after} is decides here z (is_elif {after = behind} is' decides' here') =
       here z (taken_again depth row s line ps after behind (Ok true) z decides decides' here')
-  after_elif {s = s} {line = line} {after = after} is decides here z (is_passed {after = behind} is' decides' rest) =
-      let differs : Ok true ≡ Ok false = same_decision s line after behind (Ok true) (Ok false) decides decides' in absurd (cc)
-  after_elif {s = s} {line = line} {after = after} is decides here z (is_faulty {after = behind} {f = f} is' decides') =
-      let differs : Ok true ≡ Err f = same_decision s line after behind (Ok true) (Err f) decides decides' in absurd (cc)
+  after_elif {row = row} {s = s} {line = line} {after = after} is decides here z (is_passed {after = behind} is' decides' rest) =
+      let differs : Ok true ≡ Ok false = same_decision row s line after behind (Ok true) (Ok false) decides decides' in absurd (cc)
+  after_elif {row = row} {s = s} {line = line} {after = after} is decides here z (is_faulty {after = behind} {f = f} is' decides') =
+      let differs : Ok true ≡ Err f = same_decision row s line after behind (Ok true) (Err f) decides decides' in absurd (cc)
 
   pub after_passed : {depth row : ℕ} {s : State} {line : LogicalLine} {ps : Parts} {bs : Branches} {after : Option ℕ} {y : Reached}
       → line.directive ≢ Some Else
-      → Decides s line after (Ok false)
+      → Decides (search_of around) row s line after (Ok false)
       → SameBranches depth row (with_left s after) bs y
       → (z : Reached)
       → AfterBranch depth row s line ps bs z
       → y ≡ z
   after_passed {line = line} is decides rest z (is_else is' here') = absurd (not_both line is' is)
-  after_passed {s = s} {line = line} {after = after} is decides rest z (is_elif {after = behind} is' decides' here') =
-      let differs : Ok false ≡ Ok true = same_decision s line after behind (Ok false) (Ok true) decides decides' in absurd (cc)
+  after_passed {row = row} {s = s} {line = line} {after = after} is decides rest z (is_elif {after = behind} is' decides' here') =
+      let differs : Ok false ≡ Ok true = same_decision row s line after behind (Ok false) (Ok true) decides decides' in absurd (cc)
   after_passed {depth = depth} {row = row} {s = s} {line = line} {bs = bs} {after = after} is decides rest z (is_passed {after = behind} is' decides' rest') =
       rest z (skipped_again depth row s line bs after behind (Ok false) z decides decides' rest')
-  after_passed {s = s} {line = line} {after = after} is decides rest z (is_faulty {after = behind} {f = f} is' decides') =
-      let differs : Ok false ≡ Err f = same_decision s line after behind (Ok false) (Err f) decides decides' in absurd (cc)
+  after_passed {row = row} {s = s} {line = line} {after = after} is decides rest z (is_faulty {after = behind} {f = f} is' decides') =
+      let differs : Ok false ≡ Err f = same_decision row s line after behind (Ok false) (Err f) decides decides' in absurd (cc)
 
   pub after_faulty : {depth row : ℕ} {s : State} {line : LogicalLine} {ps : Parts} {bs : Branches} {after : Option ℕ} {f : Fault}
       → line.directive ≢ Some Else
-      → Decides s line after (Err f)
+      → Decides (search_of around) row s line after (Err f)
       → (z : Reached)
       → AfterBranch depth row s line ps bs z
       → stopped (with_left s after) f ≡ z
   after_faulty {line = line} is decides z (is_else is' here') = absurd (not_both line is' is)
-  after_faulty {s = s} {line = line} {after = after} {f = f} is decides z (is_elif {after = behind} is' decides' here') =
-      let differs : Err f ≡ Ok true = same_decision s line after behind (Err f) (Ok true) decides decides' in absurd (cc)
-  after_faulty {s = s} {line = line} {after = after} {f = f} is decides z (is_passed {after = behind} is' decides' rest) =
-      let differs : Err f ≡ Ok false = same_decision s line after behind (Err f) (Ok false) decides decides' in absurd (cc)
-  after_faulty {s = s} {line = line} {after = after} {f = f} is decides z (is_faulty {after = behind} {f = g} is' decides') =
-      refused_again s line after behind f g decides decides'
+  after_faulty {row = row} {s = s} {line = line} {after = after} {f = f} is decides z (is_elif {after = behind} is' decides' here') =
+      let differs : Err f ≡ Ok true = same_decision row s line after behind (Err f) (Ok true) decides decides' in absurd (cc)
+  after_faulty {row = row} {s = s} {line = line} {after = after} {f = f} is decides z (is_passed {after = behind} is' decides' rest) =
+      let differs : Err f ≡ Ok false = same_decision row s line after behind (Err f) (Ok false) decides decides' in absurd (cc)
+  after_faulty {row = row} {s = s} {line = line} {after = after} {f = f} is decides z (is_faulty {after = behind} {f = g} is' decides') =
+      refused_again row s line after behind f g decides decides'

@@ -1,5 +1,5 @@
 -- Over the same files a unit reaches one state, and leaves one thing of its budget.
-use Rattle.std.proofs.Common.{◌≡◌, ℕ, List, Some, None, Result, Ok, Err, refl, sym, ap, ◌∙◌, subst}
+use Rattle.std.proofs.Common.{◌≡◌, ℕ, List, Option, Some, None, Result, Ok, Err, refl, sym, ap, ◌∙◌, subst}
 use Rattle.pptext.specs.declared.tokens.Place.{Place}
 use Rattle.pptext.specs.declared.tokens.Fault.{Fault}
 use Rattle.pptext.specs.Lines.{LogicalLine}
@@ -12,7 +12,7 @@ use Rattle.ppunit.specs.Group.{Group, Branched, Controls, Includes, Opened}
 use Rattle.ppunit.specs.Unit.{Defines, unread, processed, Translates, undefined, translated, command_file, command_text, first_place}
 use Rattle.ppunit.proofs.OneLine.{OneExpansion, OneDecision, OneReading, OneTree, OneRow, run_once}
 use Rattle.ppunit.proofs.OneSection.{AfterRun, at_run, AfterControl, at_control, at_done, at_stop, at_section, at_end, at_branch, after_taken, after_skipped, after_refused, after_else, after_elif, after_passed, after_faulty}
-use Rattle.ppunit.proofs.OneControl.{at_error, at_quote, at_other, at_include, after_misnamed, after_missing, after_included}
+use Rattle.ppunit.proofs.OneControl.{at_error, at_ignored, at_quote, at_other, at_include, at_next, after_misnamed, after_missing, after_included}
 use Rattle.ppunit.proofs.OneOpening.{at_deep, at_over, at_known, at_unreadable, at_reading, after_fault, AfterLines, after_lines}
 
 module _ (expansions : OneExpansion) (decisions : OneDecision) (readings : OneReading) (trees : OneTree) (rows : OneRow) where
@@ -40,23 +40,25 @@ module _ (expansions : OneExpansion) (decisions : OneDecision) (readings : OneRe
 
       control_once : {depth row : ℕ} {s : State} {line : LogicalLine} {y : Reached} → Controls around depth row s line y → (z : Reached) → Controls around depth row s line z → y ≡ z
       control_once (Controls.error is) z d = at_error expansions decisions rows around once is d
+      control_once (Controls.ignored is) z d = at_ignored expansions decisions rows around once is d
       control_once (Controls.quote is q) z d = at_quote expansions decisions rows around once is q d
       control_once (Controls.other q does) z d = at_other expansions decisions rows around once q does d
       control_once (Controls.include is q here) z d = includes_once here z (at_include expansions decisions rows around once is q d)
+      control_once (Controls.include_next is q here) z d = includes_once here z (at_next expansions decisions rows around once is q d)
 
-      includes_once : {depth row : ℕ} {s : State} {line : LogicalLine} {y : Reached} → Includes around depth row s line y → (z : Reached) → Includes around depth row s line z → y ≡ z
+      includes_once : {depth row : ℕ} {behind : Option ℕ} {s : State} {line : LogicalLine} {y : Reached} → Includes around depth row behind s line y → (z : Reached) → Includes around depth row behind s line z → y ≡ z
       includes_once (Includes.misnamed asks) z d = after_misnamed expansions decisions rows around once asks d
       includes_once (Includes.missing a asks finds) z d = after_missing expansions decisions rows around once a asks finds d
       includes_once (Includes.included a found asks finds opens) z d = opened_once opens z (after_included expansions decisions rows around once a found asks finds d)
 
-      pub opened_once : {depth row : ℕ} {at : Place} {s : State} {y : Reached} → Opened around depth at s row y → (z : Reached) → Opened around depth at s row z → y ≡ z
+      pub opened_once : {depth row : ℕ} {folder : Option ℕ} {at : Place} {s : State} {y : Reached} → Opened around depth at s row folder y → (z : Reached) → Opened around depth at s row folder z → y ≡ z
       opened_once (Opened.too_deep deep) z d = at_deep readings trees around deep d
       opened_once (Opened.over fits spent) z d = at_over readings trees around fits spent d
       opened_once (Opened.known fits some known) z d = at_known readings trees around fits some known d
       opened_once (Opened.not_readable fits some new is) z d = at_unreadable readings trees around fits some new is d
       opened_once (Opened.faulty {bytes = bytes} {f = f} fits some new is reads) z d = after_fault readings trees around refl (at_reading readings trees around bytes (Err f) fits some new is reads d)
-      opened_once {depth} {row} {at} {s} (Opened.read {bytes = bytes} {lines = lines} {parts = parts} {m = m} fits some new is reads tree here) z d =
-          let h : AfterLines readings trees around depth s row parts z = after_lines readings trees around refl tree (at_reading readings trees around bytes (Ok lines) fits some new is reads d) in
+      opened_once {depth} {row} {folder} {at} {s} (Opened.read {bytes = bytes} {lines = lines} {parts = parts} {m = m} fits some new is reads tree here) z d =
+          let h : AfterLines readings trees around depth s row folder parts z = after_lines readings trees around refl tree (at_reading readings trees around bytes (Ok lines) fits some new is reads d) in
           ap (λ x. leaving s x) (group_once here h.0 h.2) ∙ sym h.1
 
     command_reading : (defines : List (List ℕ)) (x y : Result (List LogicalLine) Fault)
@@ -100,14 +102,14 @@ module _ (expansions : OneExpansion) (decisions : OneDecision) (readings : OneRe
         let one = defines_once here (going t') here' in
         let no_fault : Some f ≡ None = λ i. (one i).fault in absurd (cc)
 
-    translated_once : {defines : List (List ℕ)} {row : ℕ} {s t : State} {y m : Reached} → Defines around defines s (going t) → Opened around 0 (first_place row) t row y → Translates around defines row s m → y ≡ m
+    translated_once : {defines : List (List ℕ)} {row : ℕ} {s t : State} {y m : Reached} → Defines around defines s (going t) → Opened around 0 (first_place row) t row None y → Translates around defines row s m → y ≡ m
     translated_once {t = t} here opens (undefined {t = t'} {f = f'} here') =
         let one = defines_once here (stopped t' f') here' in
         let no_fault : None ≡ Some f' = λ i. (one i).fault in absurd (cc)
     translated_once {row = row} {t = t} {m = m} here opens (translated {t = t'} here' opens') =
         let one = defines_once here (going t') here' in
         let states : t' ≡ t = λ i. ((sym one) i).state in
-        opened_once opens m (subst (λ z. Opened around 0 (first_place row) z row m) states opens')
+        opened_once opens m (subst (λ z. Opened around 0 (first_place row) z row None m) states opens')
 
     pub translates_once : {defines : List (List ℕ)} {row : ℕ} {s : State} {y : Reached} → Translates around defines row s y → (z : Reached) → Translates around defines row s z → y ≡ z
     translates_once (undefined here) z d = undefined_once here d

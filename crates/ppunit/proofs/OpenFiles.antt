@@ -6,7 +6,7 @@ use Rattle.pptext.specs.Tree.{Parts, Tree}
 use Rattle.ppshelf.specs.Files.{Files, Extends}
 use Rattle.ppunit.specs.Opening.{OpenFile, Entered}
 use Rattle.ppunit.specs.Group.{Group, Controls}
-use Rattle.ppunit.specs.States.{State, Surroundings, Reached, going, stopped}
+use Rattle.ppunit.specs.States.{State, in_context, Surroundings, Reached, going, stopped}
 use Rattle.ppunit.specs.Walk.{line_at, Outer, StandsAt, Ends, Advances, Passes, EntersFile, StepsTo, Waiting, Walks, back, next_file, next_waiting, brought_back}
 use Rattle.ppunit.proofs.WholeFile.{FileSoFar, file_start, file_more, file_stop, file_done, extends_trans}
 use Rattle.ppunit.proofs.Advancing.{ends_stop}
@@ -21,10 +21,10 @@ Waits [] [] = Unit {0}
 Waits (w ∷ ws) ((ps, k) ∷ rests) = StandsAt w.file.lines w.file.index ps k × Waits ws rests
 Waits ws rests = ⊥
 
--- What is to be reached by the file whose lines are worked off: with the names brought back, the rest of the file that waits for it has to lead to
--- what that one is to reach.
+-- What is to be reached by the file whose lines are worked off: with what belongs to the file that waits for it brought back, the rest of that
+-- one has to lead to what it is to reach.
 abbrev pub Owes : (Files → Surroundings) → (Files → Reached → Type 0) → List Waiting → List Rest → Files → Reached → Type 0
-Owes around whole (w ∷ ws) ((ps, k) ∷ rests) more m = (end : Reached) → Ends (around more) (length ws) w.file.row (back w.env m) ps k end → Owes around whole ws rests more end
+Owes around whole (w ∷ ws) ((ps, k) ∷ rests) more m = (end : Reached) → Ends (around more) (length ws) w.file.row (back w.context m) ps k end → Owes around whole ws rests more end
 Owes around whole ws rests more m = whole more m
 
 -- as far as the lines go that have been passed, of the file and of those that wait
@@ -52,7 +52,7 @@ enters_at : (around : Files → Surroundings) (old new : Files) (whole : Files �
     → Extends new old
     → Passes (length ws) file.row file.lines file.index t next
     → EntersFile around new (suc (length ws)) (λ more m. Controls (around more) (length ws) file.row t (line_at file.lines file.index) m) u e
-    → StackAt around new whole (record { file = record file { index = next }; env = e.outer } ∷ ws) e.file u
+    → StackAt around new whole (record { file = record file { index = next }; context = e.outer } ∷ ws) e.file u
 enters_at around old new whole next t u ws file e at wider passes enters =
     let f = at.file_so_far in
     let g = passes f.parts f.outer f.stands in
@@ -60,7 +60,7 @@ enters_at around old new whole next t u ws file e at wider passes enters =
       rests = (g.0, g.1) ∷ at.rests;
       waits = (g.2, at.waits);
       file_so_far =
-          file_start around new (Owes around whole (record { file = record file { index = next }; env = e.outer } ∷ ws) ((g.0, g.1) ∷ at.rests))
+          file_start around new (Owes around whole (record { file = record file { index = next }; context = e.outer } ∷ ws) ((g.0, g.1) ∷ at.rests))
           (suc (length ws)) e.file.row e.file.lines e.file.index u enters.parts enters.begins enters.tree
           (λ more grows m group end rest. f.ends more (extends_trans more new old grows wider) end
           (g.3 (around more) (back e.outer m) end (enters.group more grows m group) rest));
@@ -103,7 +103,7 @@ leaves_at : (around : Files → Surroundings) (files : Files) (whole : Files →
     → Waits (w ∷ ws) rests
     → FileSoFar around files (Owes around whole (w ∷ ws) rests) (suc (length ws)) file.row file.lines file.index t
     → length file.lines ≤ file.index
-    → StackAt around files whole ws w.file (record t { env = w.env })
+    → StackAt around files whole ws w.file (in_context w.context t)
 leaves_at around files whole w ws file t [] waits sofar over = absurd waits
 leaves_at around files whole w ws file t ((ps, k) ∷ rests) waits sofar over = record {
   rests = rests;
@@ -122,7 +122,7 @@ pub stack_leaves : (around : Files → Surroundings) (files : Files) (row : ℕ)
     (ws : List Waiting) (file : OpenFile)
     → StackSoFar around files row lines s (w ∷ ws) file t
     → length file.lines ≤ file.index
-    → StackSoFar around files row lines s ws w.file (record t { env = w.env })
+    → StackSoFar around files row lines s ws w.file (in_context w.context t)
 stack_leaves around files row lines s t w ws file sofar over = record {
   so_far = λ parts tree.
       let f = sofar.so_far parts tree in
@@ -137,7 +137,7 @@ stops_at : (around : Files → Surroundings) (whole : Files → Reached → Type
 stops_at around whole more t fault [] rests waits owes = owes
 stops_at around whole more t fault (w ∷ ws) [] waits owes = absurd waits
 stops_at around whole more t fault (w ∷ ws) ((ps, k) ∷ rests) waits owes =
-    let u = record t { env = w.env } in
+    let u = in_context w.context t in
     stops_at around whole more u fault ws rests waits.1 (owes (stopped u fault) (ends_stop (around more) (length ws) w.file.row (stopped u fault) u fault ps k Group.stays))
 
 pub stack_stops : (around : Files → Surroundings) (old new : Files) (row : ℕ) (lines : List LogicalLine) (s t u : State) (fault : Fault)

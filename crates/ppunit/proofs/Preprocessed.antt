@@ -9,7 +9,7 @@ use Rattle.pptext.specs.Lines.{LogicalLine}
 use Rattle.pptext.specs.Sources.{IsSource, Reads}
 use Rattle.pptext.specs.Tree.{Parts, Tree, group_fault}
 use Rattle.ppshelf.specs.Files.{Files, Extends}
-use Rattle.ppunit.specs.States.{State, Surroundings, Reached, going, stopped, given}
+use Rattle.ppunit.specs.States.{State, in_context, Surroundings, Reached, going, stopped, given}
 use Rattle.ppunit.specs.declared.units.Unit.{Unit as UnitOfList}
 use Rattle.ppunit.specs.declared.units.Setting.{Setting}
 use Rattle.ppunit.specs.declared.units.UnitOut.{UnitOut}
@@ -70,7 +70,7 @@ pub entered_file : (around : Files → Surroundings) (files new : Files) (depth 
     → Walks around new depth e.file.row e.file.lines t (record { state = u; fault = fault })
     → (more : Files)
     → Extends more new
-    → whole more (record { state = record u { env = e.outer }; fault = fault })
+    → whole more (record { state = in_context e.outer u; fault = fault })
 entered_file around files new depth whole t u e fault wider enters walks more grows =
     enters.group more (extends_trans more new files grows wider) (record { state = u; fault = fault }) (walks enters.parts enters.tree more grows)
 
@@ -82,7 +82,7 @@ undefined_unit around files defines row s t f over = undefined (over files (exte
 pub translated_unit : (around : Files → Surroundings) (files more : Files) (defines : List (List ℕ)) (row : ℕ) (s t u : State) (g : Option Fault)
     → DefinesOver around files defines s (going t)
     → Extends more files
-    → ((most : Files) → Extends most more → Opened (around most) 0 (first_place row) t row (record { state = u; fault = g }))
+    → ((most : Files) → Extends most more → Opened (around most) 0 (first_place row) t row None (record { state = u; fault = g }))
     → Translates (around more) defines row s (record { state = u; fault = g })
 translated_unit around files more defines row s t u g over grows opens = translated (over more grows) (opens more (extends_itself more))
 

@@ -5,7 +5,7 @@ use Rattle.pptext.specs.declared.tokens.Fault.{Fault}
 use Rattle.pptext.specs.Lines.{LogicalLine}
 use Rattle.pptext.specs.Tree.{Parts, Branches}
 use Rattle.ppexpand.specs.Budget.{less_one, is_spent}
-use Rattle.ppunit.specs.States.{State, Surroundings, Reached}
+use Rattle.ppunit.specs.States.{State, Surroundings, Reached, search_of}
 use Rattle.ppunit.specs.Lines.{run_tokens}
 use Rattle.ppunit.specs.Group.{Group, Branched, Controls, Includes, Opened}
 use Rattle.ppunit.specs.Unit.{surroundings, Defines, unread, processed, Translates, undefined, translated}
@@ -23,33 +23,35 @@ module _ (around : Surroundings) where
     group_other is h Group.done = tt
     group_other is h (Group.run {s = s} {lines = lines} {m = m} gives rest) = group_other (run_none s (run_tokens lines) m is gives) (run_other s (run_tokens lines) m is gives) rest
     group_other is h (Group.control here rest) = group_other (control_none around is here) (control_other is here) rest
-    group_other is h (Group.taken {s = s} {line = line} {after = after} decides here rest) =
-        let left = decides_none s line after (Ok true) is decides in
+    group_other {row = row} is h (Group.taken {s = s} {line = line} {after = after} decides here rest) =
+        let left = decides_none (search_of around) row s line after (Ok true) is decides in
         group_other (group_none around left here) (group_other left tt here) rest
-    group_other is h (Group.skipped {s = s} {line = line} {after = after} decides here rest) =
-        let left = decides_none s line after (Ok false) is decides in
+    group_other {row = row} is h (Group.skipped {s = s} {line = line} {after = after} decides here rest) =
+        let left = decides_none (search_of around) row s line after (Ok false) is decides in
         group_other (branches_none around left here) (branches_other left here) rest
-    group_other is h (Group.refused {s = s} {line = line} {after = after} {f = f} decides) = decides_other s line after f is decides
+    group_other {row = row} is h (Group.refused {s = s} {line = line} {after = after} {f = f} decides) = decides_other (search_of around) row s line after f is decides
 
     branches_other : {depth row : ℕ} {s : State} {bs : Branches} {m : Reached} → s.left ≡ None → Branched around depth row s bs m → IsOther m.fault
     branches_other is Branched.ended = tt
     branches_other is (Branched.otherwise e here) = group_other is tt here
-    branches_other is (Branched.branch_taken {s = s} {line = line} {after = after} e decides here) = group_other (decides_none s line after (Ok true) is decides) tt here
-    branches_other is (Branched.branch_skipped {s = s} {line = line} {after = after} e decides rest) = branches_other (decides_none s line after (Ok false) is decides) rest
-    branches_other is (Branched.branch_refused {s = s} {line = line} {after = after} {f = f} e decides) = decides_other s line after f is decides
+    branches_other {row = row} is (Branched.branch_taken {s = s} {line = line} {after = after} e decides here) = group_other (decides_none (search_of around) row s line after (Ok true) is decides) tt here
+    branches_other {row = row} is (Branched.branch_skipped {s = s} {line = line} {after = after} e decides rest) = branches_other (decides_none (search_of around) row s line after (Ok false) is decides) rest
+    branches_other {row = row} is (Branched.branch_refused {s = s} {line = line} {after = after} {f = f} e decides) = decides_other (search_of around) row s line after f is decides
 
     control_other : {depth row : ℕ} {s : State} {line : LogicalLine} {m : Reached} → s.left ≡ None → Controls around depth row s line m → IsOther m.fault
     control_other is (Controls.error e) = λ h. absurd (omega arith)
+    control_other is (Controls.ignored e) = tt
     control_other is (Controls.quote {line = line} e q) = subst IsOther q (quote_other line.tokens)
     control_other {row = row} is (Controls.other {s = s} {line = line} {m = m} q does) = control_by_other around.profile row line.directive s line m is does
     control_other is (Controls.include e q here) = includes_other is here
+    control_other is (Controls.include_next e q here) = includes_other is here
 
-    includes_other : {depth row : ℕ} {s : State} {line : LogicalLine} {m : Reached} → s.left ≡ None → Includes around depth row s line m → IsOther m.fault
+    includes_other : {depth row : ℕ} {behind : Option ℕ} {s : State} {line : LogicalLine} {m : Reached} → s.left ≡ None → Includes around depth row behind s line m → IsOther m.fault
     includes_other is (Includes.misnamed {s = s} {line = line} {after = after} {f = f} asks) = asks_other s line.tokens after f is asks
     includes_other is (Includes.missing a asks finds) = λ h. absurd (omega arith)
     includes_other is (Includes.included {s = s} {line = line} {after = after} a found asks finds opens) = opened_other (asks_none s line.tokens after (Ok a) is asks) opens
 
-    opened_other : {depth row : ℕ} {at : Place} {s : State} {m : Reached} → s.left ≡ None → Opened around depth at s row m → IsOther m.fault
+    opened_other : {depth row : ℕ} {folder : Option ℕ} {at : Place} {s : State} {m : Reached} → s.left ≡ None → Opened around depth at s row folder m → IsOther m.fault
     opened_other is (Opened.too_deep deep) = λ e. absurd (omega arith)
     opened_other is (Opened.over {s = s} fits spent) = absurd (never_spent s.left is spent)
     opened_other is (Opened.known fits more once) = tt

@@ -1,5 +1,6 @@
 -- Without a budget no line ends in fault 35.
 use Rattle.std.proofs.Common.{◌≡◌, ◌≢◌, ℕ, ◌≤◌, List, [], ◌∷◌, Bool, true, false, Option, Some, None, Result, Ok, Err, refl, sym, subst, arith, if◌then◌else◌}
+use Rattle.pptext.specs.declared.tokens.Place.{Place}
 use Rattle.pptext.specs.declared.tokens.Token.{Token}
 use Rattle.pptext.specs.declared.tokens.Fault.{Fault}
 use Rattle.pptext.specs.declared.sources.Directive.{Directive}
@@ -8,6 +9,7 @@ use Rattle.pptext.specs.declared.sources.Profile.{Profile}
 use Rattle.pptext.specs.Lines.{LogicalLine, lines_of}
 use Rattle.pptext.specs.Sources.{IsFaultOf}
 use Rattle.pptext.specs.Tree.{role, role_named, role_by, Open, opened, fault_at_end, fault_or, group_fault, Parts, Branches, sign_place}
+use Rattle.pptext.specs.Profiles.{is_gnu}
 use Rattle.pptext.specs.Tokens.{is_lone_quote}
 use Rattle.ppmacro.specs.Names.{Macros}
 use Rattle.ppmacro.specs.Define.{after_define, after_undef}
@@ -17,12 +19,13 @@ use Rattle.ppexpand.specs.declared.expansion.Expanded.{Expanded}
 use Rattle.ppexpand.specs.Expansion.{IsExpansion}
 use Rattle.ppexpand.proofs.Refusing.{expansion_never_refused}
 use Rattle.ppexpr.proofs.Capped.{IsOther as IsOtherOr, condition_never_refused}
-use Rattle.ppunit.specs.States.{State, Surroundings, Reached, with_left}
+use Rattle.ppunit.specs.States.{State, Surroundings, Reached, with_left, Search}
 use Rattle.ppunit.specs.Lines.{operands, line_fault, one_identifier}
 use Rattle.ppunit.specs.Quotes.{quote_fault, lone_quote}
 use Rattle.ppunit.specs.LineControl.{Presumed, presumed}
 use Rattle.ppunit.specs.Including.{Asked, begins_with_header, header_asked, expanded_asked, if_somewhere, asked_or, asked_behind}
-use Rattle.ppunit.specs.Conditions.{by_name, DecidesBy, DecidesUnless, Decides}
+use Rattle.ppunit.specs.Probing.{probed, tokens_or, condition_tokens}
+use Rattle.ppunit.specs.Conditions.{by_name, DecidesBy, DecidesUnless, Decides, DecidesOf}
 use Rattle.ppunit.specs.Directives.{RunGives, with_macros, renumbered_by, AsksBy, Asks, ControlBy}
 use Rattle.ppunit.specs.Group.{Group, Branched, Controls}
 use Rattle.ppunit.specs.Unit.{count_defines, Defines}
@@ -35,8 +38,8 @@ use Rattle.ppunit.proofs.Spends.{still_none, asks_spends, decides_spends, run_sp
 pub asks_none : (s : State) (line : List Token) (after : Option ℕ) (asked : Result Asked Fault) → s.left ≡ None → Asks s line after asked → after ≡ None
 asks_none s line after asked is g = still_none (count_asks s line after asked g) is (asks_spends s line after asked g)
 
-pub decides_none : (s : State) (line : LogicalLine) (after : Option ℕ) (taken : Result Bool Fault) → s.left ≡ None → Decides s line after taken → after ≡ None
-decides_none s line after taken is g = still_none (count_decides s line after taken g) is (decides_spends s line after taken g)
+pub decides_none : (search : Search) (row : ℕ) (s : State) (line : LogicalLine) (after : Option ℕ) (taken : Result Bool Fault) → s.left ≡ None → Decides search row s line after taken → after ≡ None
+decides_none search row s line after taken is g = still_none (count_decides search row s line after taken g) is (decides_spends search row s line after taken g)
 
 pub run_none : (s : State) (tokens : List Token) (m : Reached) → s.left ≡ None → RunGives s tokens m → m.state.left ≡ None
 run_none s tokens m is g = still_none (count_expansion g.expands) is (run_spends s tokens m g)
@@ -140,21 +143,36 @@ by_name_other wanted macros line (Some name) = tt
 by_name_decides : (wanted : Bool) (macros : Macros) (line : List Token) (name : Option (List ℕ)) (f : Fault) → Err f ≡ by_name wanted macros line name → f.number ≢ 35
 by_name_decides wanted macros line name f e = subst IsOtherOr (sym e) (by_name_other wanted macros line name)
 
-decides_by_other : (d : Option Directive) (s : State) (line : List Token) (after : Option ℕ) (f : Fault) → s.left ≡ None → DecidesBy d s line after (Err f) → f.number ≢ 35
-decides_by_other (Some If) s line after f is g = condition_never_refused is g
-decides_by_other (Some Elif) s line after f is g = condition_never_refused is g
-decides_by_other (Some Ifdef) s line after f is g = by_name_decides true s.macros line (one_identifier (operands line)) f g.1
-decides_by_other (Some Ifndef) s line after f is g = by_name_decides false s.macros line (one_identifier (operands line)) f g.1
-decides_by_other (Some Elifdef) s line after f is g = by_name_decides true s.macros line (one_identifier (operands line)) f g.1
-decides_by_other (Some Elifndef) s line after f is g = by_name_decides false s.macros line (one_identifier (operands line)) f g.1
-decides_by_other _ s line after f is g = absurd g
+tokens_or_other : (f : Fault) (tokens : Option (List Token)) → f.number ≢ 35 → IsOtherOr (tokens_or f tokens)
+tokens_or_other f None h = h
+tokens_or_other f (Some ts) h = tt
 
-decides_unless_other : (quote : Option Fault) (d : Option Directive) (s : State) (line : List Token) (after : Option ℕ) (f : Fault) → IsOther quote → s.left ≡ None → DecidesUnless quote d s line after (Err f) → f.number ≢ 35
-decides_unless_other (Some q) d s line after f h is g = subst IsOtherOr (sym g.1) h
-decides_unless_other None d s line after f h is g = decides_by_other d s line after f is g
+condition_tokens_other : (search : Search) (row : ℕ) (line : List Token) → IsOtherOr (condition_tokens search row line)
+condition_tokens_other search row line = chosen (is_gnu search.profile)
+  where
+    chosen : (b : Bool) → IsOtherOr (if b then tokens_or (line_fault 30 line []) (probed search row None (operands line)) else Ok (operands line))
+    chosen true = tokens_or_other (line_fault 30 line []) (probed search row None (operands line)) (λ e. absurd (omega arith))
+    chosen false = tt
 
-pub decides_other : (s : State) (line : LogicalLine) (after : Option ℕ) (f : Fault) → s.left ≡ None → Decides s line after (Err f) → f.number ≢ 35
-decides_other s line after f is g = decides_unless_other (lone_quote line.tokens) line.directive s line.tokens after f (quote_other line.tokens) is g
+decides_of_other : (tokens : Result (List Token) Fault) (s : State) (at : Place) (after : Option ℕ) (f : Fault) → IsOtherOr tokens → s.left ≡ None → DecidesOf tokens s at after (Err f) → f.number ≢ 35
+decides_of_other (Err e) s at after f h is g = subst IsOtherOr (sym g.1) h
+decides_of_other (Ok tokens) s at after f h is g = condition_never_refused is g
+
+decides_by_other : (search : Search) (row : ℕ) (d : Option Directive) (s : State) (line : List Token) (after : Option ℕ) (f : Fault) → s.left ≡ None → DecidesBy search row d s line after (Err f) → f.number ≢ 35
+decides_by_other search row (Some If) s line after f is g = decides_of_other (condition_tokens search row line) s (sign_place line) after f (condition_tokens_other search row line) is g
+decides_by_other search row (Some Elif) s line after f is g = decides_of_other (condition_tokens search row line) s (sign_place line) after f (condition_tokens_other search row line) is g
+decides_by_other search row (Some Ifdef) s line after f is g = by_name_decides true s.macros line (one_identifier (operands line)) f g.1
+decides_by_other search row (Some Ifndef) s line after f is g = by_name_decides false s.macros line (one_identifier (operands line)) f g.1
+decides_by_other search row (Some Elifdef) s line after f is g = by_name_decides true s.macros line (one_identifier (operands line)) f g.1
+decides_by_other search row (Some Elifndef) s line after f is g = by_name_decides false s.macros line (one_identifier (operands line)) f g.1
+decides_by_other search row _ s line after f is g = absurd g
+
+decides_unless_other : (search : Search) (row : ℕ) (quote : Option Fault) (d : Option Directive) (s : State) (line : List Token) (after : Option ℕ) (f : Fault) → IsOther quote → s.left ≡ None → DecidesUnless search row quote d s line after (Err f) → f.number ≢ 35
+decides_unless_other search row (Some q) d s line after f h is g = subst IsOtherOr (sym g.1) h
+decides_unless_other search row None d s line after f h is g = decides_by_other search row d s line after f is g
+
+pub decides_other : (search : Search) (row : ℕ) (s : State) (line : LogicalLine) (after : Option ℕ) (f : Fault) → s.left ≡ None → Decides search row s line after (Err f) → f.number ≢ 35
+decides_other search row s line after f is g = decides_unless_other search row (lone_quote line.tokens) line.directive s line.tokens after f (quote_other line.tokens) is g
 
 asked_or_other : (f : Fault) (a : Option Asked) → f.number ≢ 35 → IsOtherOr (asked_or f a)
 asked_or_other f None h = h
@@ -183,9 +201,9 @@ of_reached e h = subst (λ r. IsOther r.fault) (sym e) h
 pub control_by_other : (profile : Profile) (row : ℕ) (d : Option Directive) (s : State) (line : LogicalLine) (m : Reached) → s.left ≡ None → ControlBy profile row d s line m → IsOther m.fault
 control_by_other profile row (Some Null) s line m is g = of_reached g tt
 control_by_other profile row (Some Define) s line m is g =
-    of_reached g (macros_other s (after_define s.macros (sign_place line.tokens) (operands line.tokens)) (define_number s.macros (sign_place line.tokens) (operands line.tokens)))
+    of_reached g (macros_other s (after_define profile s.macros (sign_place line.tokens) (operands line.tokens)) (define_number profile s.macros (sign_place line.tokens) (operands line.tokens)))
 control_by_other profile row (Some Undef) s line m is g =
-    of_reached g (macros_other s (after_undef s.macros (sign_place line.tokens) (operands line.tokens)) (undef_number s.macros (sign_place line.tokens) (operands line.tokens)))
+    of_reached g (macros_other s (after_undef profile s.macros (sign_place line.tokens) (operands line.tokens)) (undef_number profile s.macros (sign_place line.tokens) (operands line.tokens)))
 control_by_other profile row (Some Line) s line m is g =
     of_reached g.is (renumbered_other (with_left s g.expanded.left) line g.expanded.fault (presumed g.expanded.tokens) (expansion_other is g.expands))
 control_by_other profile row (Some Pragma) s line m is g = of_reached g tt

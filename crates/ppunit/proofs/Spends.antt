@@ -7,7 +7,7 @@ use Rattle.pptext.specs.declared.sources.Directive.{Directive}
 use Rattle.pptext.specs.declared.sources.Directive.TheVariants.{If, Ifdef, Ifndef, Elif, Elifdef, Elifndef, Define, Undef, Line, Pragma, Null, Unknown}
 use Rattle.pptext.specs.declared.sources.Profile.{Profile}
 use Rattle.pptext.specs.Lines.{LogicalLine}
-use Rattle.pptext.specs.Tree.{Parts, Branches}
+use Rattle.pptext.specs.Tree.{Parts, Branches, sign_place}
 use Rattle.ppmacro.specs.Names.{Macros}
 use Rattle.ppexpand.specs.Budget.{less_one, is_spent}
 use Rattle.ppexpand.specs.Expansion.{count_expansion}
@@ -18,15 +18,16 @@ use Rattle.ppshelf.specs.Files.{Files}
 use Rattle.ppunit.specs.declared.units.Unit.{Unit as UnitOfList}
 use Rattle.ppunit.specs.declared.units.Setting.{Setting}
 use Rattle.ppunit.specs.declared.units.UnitOut.{UnitOut}
-use Rattle.ppunit.specs.States.{State, Surroundings, Reached, with_left, reading_once}
+use Rattle.ppunit.specs.States.{State, Surroundings, Reached, with_left, reading_once, search_of, Search}
 use Rattle.ppunit.specs.Lines.{operands, run_tokens}
 use Rattle.ppunit.specs.Quotes.{lone_quote}
 use Rattle.ppunit.specs.LineControl.{Presumed, presumed}
 use Rattle.ppunit.specs.Including.{Asked, begins_with_header}
-use Rattle.ppunit.specs.Conditions.{DecidesBy, DecidesUnless, Decides}
+use Rattle.ppunit.specs.Probing.{condition_tokens}
+use Rattle.ppunit.specs.Conditions.{DecidesBy, DecidesUnless, Decides, DecidesOf}
 use Rattle.ppunit.specs.Directives.{RunGives, AsksBy, Asks, ControlBy, with_macros, renumbered_by, is_once, noting_once}
 use Rattle.ppunit.specs.Group.{Group, Branched, Controls, Includes, Opened}
-use Rattle.ppunit.specs.Counts.{count_decides_by, count_decides_unless, count_decides, count_asks_by, count_asks, count_control_by, count_group, count_branched, count_control, count_includes, count_opened}
+use Rattle.ppunit.specs.Counts.{count_decides_by, count_decides_unless, count_decides, count_asks_by, count_asks, count_control_by, count_group, count_branched, count_control, count_includes, count_opened, count_decides_of}
 use Rattle.ppunit.specs.Unit.{Defines, unread, processed, Translates, undefined, translated, IsUnit, count, count_defines, count_translates}
 use Rattle.ppunit.specs.Capped.{AtMost}
 
@@ -79,24 +80,29 @@ asks_by_spends false s line after asked g = expansion_spends s.macros s.env g.ex
 pub asks_spends : (s : State) (line : List Token) (after : Option ℕ) (asked : Result Asked Fault) (g : Asks s line after asked) → s.left ≡ plus (count_asks s line after asked g) after
 asks_spends s line after asked g = asks_by_spends (begins_with_header (operands line)) s line after asked g
 
-decides_by_spends : (d : Option Directive) (s : State) (line : List Token) (after : Option ℕ) (taken : Result Bool Fault) (g : DecidesBy d s line after taken)
-    → s.left ≡ plus (count_decides_by d s line after taken g) after
-decides_by_spends (Some If) s line after taken g = condition_spends g
-decides_by_spends (Some Elif) s line after taken g = condition_spends g
-decides_by_spends (Some Ifdef) s line after taken g = same_left s.left after g.0
-decides_by_spends (Some Ifndef) s line after taken g = same_left s.left after g.0
-decides_by_spends (Some Elifdef) s line after taken g = same_left s.left after g.0
-decides_by_spends (Some Elifndef) s line after taken g = same_left s.left after g.0
-decides_by_spends _ s line after taken g = absurd g
+decides_of_spends : (tokens : Result (List Token) Fault) (s : State) (at : Place) (after : Option ℕ) (taken : Result Bool Fault) (g : DecidesOf tokens s at after taken)
+    → s.left ≡ plus (count_decides_of tokens s at after taken g) after
+decides_of_spends (Err f) s at after taken g = same_left s.left after g.0
+decides_of_spends (Ok tokens) s at after taken g = condition_spends g
 
-decides_unless_spends : (quote : Option Fault) (d : Option Directive) (s : State) (line : List Token) (after : Option ℕ) (taken : Result Bool Fault) (g : DecidesUnless quote d s line after taken)
-    → s.left ≡ plus (count_decides_unless quote d s line after taken g) after
-decides_unless_spends (Some f) d s line after taken g = same_left s.left after g.0
-decides_unless_spends None d s line after taken g = decides_by_spends d s line after taken g
+decides_by_spends : (search : Search) (row : ℕ) (d : Option Directive) (s : State) (line : List Token) (after : Option ℕ) (taken : Result Bool Fault) (g : DecidesBy search row d s line after taken)
+    → s.left ≡ plus (count_decides_by search row d s line after taken g) after
+decides_by_spends search row (Some If) s line after taken g = decides_of_spends (condition_tokens search row line) s (sign_place line) after taken g
+decides_by_spends search row (Some Elif) s line after taken g = decides_of_spends (condition_tokens search row line) s (sign_place line) after taken g
+decides_by_spends search row (Some Ifdef) s line after taken g = same_left s.left after g.0
+decides_by_spends search row (Some Ifndef) s line after taken g = same_left s.left after g.0
+decides_by_spends search row (Some Elifdef) s line after taken g = same_left s.left after g.0
+decides_by_spends search row (Some Elifndef) s line after taken g = same_left s.left after g.0
+decides_by_spends search row _ s line after taken g = absurd g
 
-pub decides_spends : (s : State) (line : LogicalLine) (after : Option ℕ) (taken : Result Bool Fault) (g : Decides s line after taken)
-    → s.left ≡ plus (count_decides s line after taken g) after
-decides_spends s line after taken g = decides_unless_spends (lone_quote line.tokens) line.directive s line.tokens after taken g
+decides_unless_spends : (search : Search) (row : ℕ) (quote : Option Fault) (d : Option Directive) (s : State) (line : List Token) (after : Option ℕ) (taken : Result Bool Fault) (g : DecidesUnless search row quote d s line after taken)
+    → s.left ≡ plus (count_decides_unless search row quote d s line after taken g) after
+decides_unless_spends search row (Some f) d s line after taken g = same_left s.left after g.0
+decides_unless_spends search row None d s line after taken g = decides_by_spends search row d s line after taken g
+
+pub decides_spends : (search : Search) (row : ℕ) (s : State) (line : LogicalLine) (after : Option ℕ) (taken : Result Bool Fault) (g : Decides search row s line after taken)
+    → s.left ≡ plus (count_decides search row s line after taken g) after
+decides_spends search row s line after taken g = decides_unless_spends search row (lone_quote line.tokens) line.directive s line.tokens after taken g
 
 pub control_by_spends : (profile : Profile) (row : ℕ) (d : Option Directive) (s : State) (line : LogicalLine) (m : Reached) (g : ControlBy profile row d s line m)
     → s.left ≡ plus (count_control_by profile row d s line m g) m.state.left
@@ -123,32 +129,34 @@ module _ (around : Surroundings) where
     group_spends (Group.done {s = s}) = plus-nothing s.left
     group_spends (Group.run {s = s} {lines = lines} {m = m} gives rest) = both _ _ _ (run_spends s (run_tokens lines) m gives) (group_spends rest)
     group_spends (Group.control here rest) = both _ _ _ (control_spends here) (group_spends rest)
-    group_spends (Group.taken {s = s} {line = line} {after = after} decides here rest) =
-        both _ _ _ (decides_spends s line after (Ok true) decides) (both _ _ _ (group_spends here) (group_spends rest))
-    group_spends (Group.skipped {s = s} {line = line} {after = after} decides here rest) =
-        both _ _ _ (decides_spends s line after (Ok false) decides) (both _ _ _ (branches_spend here) (group_spends rest))
-    group_spends (Group.refused {s = s} {line = line} {after = after} {f = f} decides) = decides_spends s line after (Err f) decides
+    group_spends {row = row} (Group.taken {s = s} {line = line} {after = after} decides here rest) =
+        both _ _ _ (decides_spends (search_of around) row s line after (Ok true) decides) (both _ _ _ (group_spends here) (group_spends rest))
+    group_spends {row = row} (Group.skipped {s = s} {line = line} {after = after} decides here rest) =
+        both _ _ _ (decides_spends (search_of around) row s line after (Ok false) decides) (both _ _ _ (branches_spend here) (group_spends rest))
+    group_spends {row = row} (Group.refused {s = s} {line = line} {after = after} {f = f} decides) = decides_spends (search_of around) row s line after (Err f) decides
 
     pub branches_spend : {depth row : ℕ} {s : State} {bs : Branches} {m : Reached} (d : Branched around depth row s bs m) → s.left ≡ plus (count_branched d) m.state.left
     branches_spend (Branched.ended {s = s}) = plus-nothing s.left
     branches_spend (Branched.otherwise e here) = group_spends here
-    branches_spend (Branched.branch_taken {s = s} {line = line} {after = after} e decides here) = both _ _ _ (decides_spends s line after (Ok true) decides) (group_spends here)
-    branches_spend (Branched.branch_skipped {s = s} {line = line} {after = after} e decides rest) = both _ _ _ (decides_spends s line after (Ok false) decides) (branches_spend rest)
-    branches_spend (Branched.branch_refused {s = s} {line = line} {after = after} {f = f} e decides) = decides_spends s line after (Err f) decides
+    branches_spend {row = row} (Branched.branch_taken {s = s} {line = line} {after = after} e decides here) = both _ _ _ (decides_spends (search_of around) row s line after (Ok true) decides) (group_spends here)
+    branches_spend {row = row} (Branched.branch_skipped {s = s} {line = line} {after = after} e decides rest) = both _ _ _ (decides_spends (search_of around) row s line after (Ok false) decides) (branches_spend rest)
+    branches_spend {row = row} (Branched.branch_refused {s = s} {line = line} {after = after} {f = f} e decides) = decides_spends (search_of around) row s line after (Err f) decides
 
     pub control_spends : {depth row : ℕ} {s : State} {line : LogicalLine} {m : Reached} (d : Controls around depth row s line m) → s.left ≡ plus (count_control d) m.state.left
     control_spends (Controls.error {s = s} e) = plus-nothing s.left
+    control_spends (Controls.ignored {s = s} e) = plus-nothing s.left
     control_spends (Controls.quote {s = s} e q) = plus-nothing s.left
     control_spends {row = row} (Controls.other {s = s} {line = line} {m = m} q does) = control_by_spends around.profile row line.directive s line m does
     control_spends (Controls.include e q here) = includes_spend here
+    control_spends (Controls.include_next e q here) = includes_spend here
 
-    pub includes_spend : {depth row : ℕ} {s : State} {line : LogicalLine} {m : Reached} (d : Includes around depth row s line m) → s.left ≡ plus (count_includes d) m.state.left
+    pub includes_spend : {depth row : ℕ} {behind : Option ℕ} {s : State} {line : LogicalLine} {m : Reached} (d : Includes around depth row behind s line m) → s.left ≡ plus (count_includes d) m.state.left
     includes_spend (Includes.misnamed {s = s} {line = line} {after = after} {f = f} asks) = asks_spends s line.tokens after (Err f) asks
     includes_spend (Includes.missing {s = s} {line = line} {after = after} a asks finds) = asks_spends s line.tokens after (Ok a) asks
     includes_spend (Includes.included {s = s} {line = line} {after = after} a found asks finds opens) =
         both _ _ _ (asks_spends s line.tokens after (Ok a) asks) (opened_spends opens)
 
-    pub opened_spends : {depth row : ℕ} {at : Place} {s : State} {m : Reached} (d : Opened around depth at s row m) → s.left ≡ plus (count_opened d) m.state.left
+    pub opened_spends : {depth row : ℕ} {folder : Option ℕ} {at : Place} {s : State} {m : Reached} (d : Opened around depth at s row folder m) → s.left ≡ plus (count_opened d) m.state.left
     opened_spends (Opened.too_deep {s = s} deep) = plus-nothing s.left
     opened_spends (Opened.over {s = s} fits spent) = plus-nothing s.left
     opened_spends (Opened.known {s = s} fits more once) = pays s.left more

@@ -3,7 +3,7 @@ use Rattle.std.proofs.Common.{◌≡◌, ℕ, ◌<◌, true, refl, ◌∙◌, ar
 use Rattle.std.proofs.lemmas.Bool.{and_parts}
 use Rattle.std.proofs.lemmas.Bool.Decides.{nat_tests}
 use Rattle.pptext.specs.declared.sources.Profile.{Profile}
-use Rattle.pptext.specs.declared.sources.Profile.TheVariants.{C11, Later}
+use Rattle.pptext.specs.declared.sources.Profile.TheVariants.{C11, Later, Gnu}
 use Rattle.ppunit.specs.declared.units.Unit.{Unit as UnitOfList}
 use Rattle.ppunit.specs.Forms.{is_same, is_unit}
 use Rattle.ppunit.specs.Unit.{IsUnitOf}
@@ -11,6 +11,7 @@ use Rattle.ppunit.specs.Unit.{IsUnitOf}
 same_profile : (one other : Profile) → is_same one other ≡ true → one ≡ other
 same_profile C11 C11 e = refl
 same_profile Later Later e = refl
+same_profile Gnu Gnu e = refl
 same_profile one other e = absurd (cc)
 
 less : (a b : ℕ) → nat_lt a b ≡ true → a < b

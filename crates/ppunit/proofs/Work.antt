@@ -68,7 +68,7 @@ work_entering : (f : OpenFile) (next : ℕ) (e : Entered) (ws : List Waiting)
     → f.index < next
     → length e.file.lines < 2 ^ 64
     → length ws < 200
-    → work e.file (record { file = record f { index = next }; env = e.outer } ∷ ws) < work f ws
+    → work e.file (record { file = record f { index = next }; context = e.outer } ∷ ws) < work f ws
 unfolding work waiting_work
 work_entering f next e ws within further few deep =
     deeper (lines_left e.file) (lines_left (record f { index = next })) (lines_left f) (room (200 - suc (length ws))) (room (200 - length ws))

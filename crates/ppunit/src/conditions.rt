@@ -1,38 +1,50 @@
 // Whether a line of an if-section takes the group behind it (6.10.1, and for `#elifdef` and `#elifndef` 6.10.2 of
 // ISO/IEC 9899:2024).
-ghost use Rattle.std.specs.Prelude.{◌≡◌, ℕ, true, false};
+ghost use Rattle.std.specs.Prelude.{◌≡◌, ◌<◌, ℕ, true, false, length};
 ghost use Rattle.pptext.specs.Stops.{IfSettled};
 ghost use Rattle.pptext.specs.Tree.{sign_place};
 ghost use Rattle.ppexpr.specs.Conditions.{IsCondition};
 ghost use Rattle.ppunit.specs.Conditions as spec;
 ghost use Rattle.ppunit.specs.Lines as spec_lines;
-ghost use Rattle.ppunit.specs.States.{with_left};
+ghost use Rattle.ppunit.specs.Probing.{condition_tokens};
+ghost use Rattle.ppunit.specs.States.{search_in, with_left};
 
 use crate::lines::{line_fault, name, one_identifier, operands, refuse_lone_quote, sign};
+use crate::opening::Around;
+use crate::probing::{is_probed, probe};
 use crate::states::State;
 use ppexpr::evaluate;
 use ppmacro::Table;
-use pptext::{Directive, Stop, Token};
+use ppshelf::Disk;
+use pptext::{Directive, Fault, Place, Stop, Token};
 use std::alloc::Global;
 
-/// Whether the group behind a line is taken, or the line's fault: 7, 9, or one of its condition. Only what is left of the
-/// budget changes.
-pub(crate) fn decide(
-    alloc: Global,
+/// Whether the group behind a line in the file of a row is taken, or the line's fault: 7, 9, 30, or one of its condition. Only
+/// what is left of the budget changes.
+pub(crate) fn decide<D: Disk>(
+    around: &Around<'_, '_, D>,
     state: &mut State,
+    row: usize,
     directive: Directive,
     line: &[Token],
 ) -> Result<bool, Stop>
-    requires { spec.IsConditional directive }
+    requires rows { 0 < length around.now.shelf.names }
+    requires condition { spec.IsConditional directive }
     ensures rest { state.new ≡ with_left state.old state.new.left }
     ensures decides { IfSettled result (λ taken.
-        (number : ℕ) → spec.Decides state.old (spec_lines.directed directive line.now number) state.new.left taken) }
+        (number : ℕ)
+        → spec.Decides (search_in around.now) row state.old (spec_lines.directed directive line.now number) state.new.left taken) }
 {
     refuse_lone_quote(line)?;
     match directive {
-        Directive::Ifdef | Directive::Elifdef => by_name(alloc, true, &state.macros, line),
-        Directive::Ifndef | Directive::Elifndef => by_name(alloc, false, &state.macros, line),
-        _ => by_condition(alloc, state, line),
+        Directive::Ifdef | Directive::Elifdef => by_name(around.alloc, true, &state.macros, line),
+        Directive::Ifndef | Directive::Elifndef => by_name(
+            around.alloc,
+            false,
+            &state.macros,
+            line,
+        ),
+        _ => by_condition(around, state, row, line),
     }
 }
 
@@ -47,20 +59,36 @@ fn by_name(alloc: Global, wanted: bool, macros: &Table, line: &[Token]) -> Resul
 }
 
 // The value of the line's condition.
-fn by_condition(alloc: Global, state: &mut State, line: &[Token]) -> Result<bool, Stop>
+fn by_condition<D: Disk>(
+    around: &Around<'_, '_, D>,
+    state: &mut State,
+    row: usize,
+    line: &[Token],
+) -> Result<bool, Stop>
+    requires { 0 < length around.now.shelf.names }
     ensures rest { state.new ≡ with_left state.old state.new.left }
     ensures is { IfSettled result (λ taken.
-        IsCondition state.old.macros state.old.env (sign_place line.now) (spec_lines.operands line.now) state.old.left taken state.new.left) }
+        spec.DecidesOf (condition_tokens (search_in around.now) row line.now) state.old (sign_place line.now) state.new.left taken) }
 {
     let at = sign(line);
-    let (taken, left) = evaluate(
-        alloc,
-        &state.macros,
-        &state.env,
-        state.left,
-        at,
-        operands(line),
-    )?;
+    let operands = operands(line);
+    // Most conditions ask for no file: their tokens are not copied.
+    if !is_probed(around.profile(), operands) {
+        return value(around.alloc, state, at, operands);
+    }
+    let Some(tokens) = probe(around, row, operands)? else {
+        return Err(Stop::Fault(Fault::bare(30, at)));
+    };
+    value(around.alloc, state, at, tokens.as_slice())
+}
+
+// The value of a condition.
+fn value(alloc: Global, state: &mut State, at: Place, tokens: &[Token]) -> Result<bool, Stop>
+    ensures rest { state.new ≡ with_left state.old state.new.left }
+    ensures is { IfSettled result (λ taken.
+        IsCondition state.old.macros state.old.env at tokens.now state.old.left taken state.new.left) }
+{
+    let (taken, left) = evaluate(alloc, &state.macros, &state.env, state.left, at, tokens)?;
     state.left = left;
     taken.map_err(Stop::Fault)
 }

@@ -66,7 +66,7 @@ fn is_once(profile: Profile, tokens: &[Token]) -> bool
     ensures { result ≡ spec.is_once profile tokens.now }
 {
     match tokens {
-        [only] => profile == Profile::Later && only.text.as_bytes() == b"once".as_slice(),
+        [only] => profile.has_later() && only.text.as_bytes() == b"once".as_slice(),
         _ => false,
     }
 }
@@ -97,22 +97,44 @@ fn stopped(fault: Fault) -> Result<(), Stop>
 }
 
 // A `#define` line (6.10.3).
-fn define_by<'x>(alloc: Global, state: &mut State<'x>, line: &'x [Token]) -> Result<(), Stop>
+fn define_by<'x>(
+    alloc: Global,
+    state: &mut State<'x>,
+    profile: Profile,
+    line: &'x [Token],
+) -> Result<(), Stop>
     ensures { IfSettled result (λ r.
-        record { state = state.new; fault = result_err r } ≡ spec.with_macros state.old (after_define state.old.macros (sign_place line.now) (spec_lines.operands line.now))) }
+        record { state = state.new; fault = result_err r } ≡ spec.with_macros state.old (after_define profile state.old.macros (sign_place line.now) (spec_lines.operands line.now))) }
 {
-    match define(alloc, &mut state.macros, sign(line), operands(line))? {
+    match define(
+        alloc,
+        &mut state.macros,
+        profile,
+        sign(line),
+        operands(line),
+    )? {
         Ok(()) => Ok(()),
         Err(fault) => stopped(fault),
     }
 }
 
 // An `#undef` line (6.10.3.5).
-fn undef_by<'x>(alloc: Global, state: &mut State<'x>, line: &'x [Token]) -> Result<(), Stop>
+fn undef_by<'x>(
+    alloc: Global,
+    state: &mut State<'x>,
+    profile: Profile,
+    line: &'x [Token],
+) -> Result<(), Stop>
     ensures { IfSettled result (λ r.
-        record { state = state.new; fault = result_err r } ≡ spec.with_macros state.old (after_undef state.old.macros (sign_place line.now) (spec_lines.operands line.now))) }
+        record { state = state.new; fault = result_err r } ≡ spec.with_macros state.old (after_undef profile state.old.macros (sign_place line.now) (spec_lines.operands line.now))) }
 {
-    match undef(alloc, &mut state.macros, sign(line), operands(line))? {
+    match undef(
+        alloc,
+        &mut state.macros,
+        profile,
+        sign(line),
+        operands(line),
+    )? {
         Ok(()) => Ok(()),
         Err(fault) => stopped(fault),
     }
@@ -142,8 +164,8 @@ fn control_any<'x>(
         (record { state = state.new; fault = result_err r })) }
 {
     match directive {
-        Directive::Define => define_by(alloc, state, line),
-        Directive::Undef => undef_by(alloc, state, line),
+        Directive::Define => define_by(alloc, state, profile, line),
+        Directive::Undef => undef_by(alloc, state, profile, line),
         Directive::Line => renumber(alloc, state, line, physical),
         Directive::Pragma => pragma(state, profile, row, line),
         Directive::Unknown => unknown(alloc, line),
@@ -168,7 +190,7 @@ pub(crate) fn control<'x>(
 {
     // Most control lines define a macro.
     if directive == Directive::Define {
-        return define_by(alloc, state, line);
+        return define_by(alloc, state, profile, line);
     }
     control_any(alloc, state, profile, row, directive, line, physical)
 }

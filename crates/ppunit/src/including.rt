@@ -142,6 +142,26 @@ fn is_nowhere(name: &[u8]) -> bool
     name.is_empty() || name[0] == b'/'
 }
 
+// But for a name that no file has: an empty one, or one from the root.
+fn if_somewhere(asked: Option<Asked>) -> Option<Asked>
+    ensures { result ≡ spec.if_somewhere asked }
+{
+    match asked {
+        Some(asked) if !is_nowhere(asked.name.as_bytes()) => Some(asked),
+        _ => None,
+    }
+}
+
+/// What tokens ask for as they stand, without replacement, but for a name that no file has.
+pub(crate) fn asked_as_it_stands(
+    alloc: Global,
+    tokens: &[Token],
+) -> Result<Option<Asked>, AllocError>
+    ensures { IfOk result (λ a. a ≡ spec.if_somewhere (spec.expanded_asked tokens.now)) }
+{
+    Ok(if_somewhere(expanded_asked(alloc, tokens)?))
+}
+
 // What the tokens behind replacement ask for, or fault 30.
 fn asked_behind(alloc: Global, line: &[Token], tokens: &[Token]) -> Result<Asked, Stop>
     ensures { IfSettled result (λ r. r ≡ spec.asked_or (line_fault 30 line.now []) (spec.if_somewhere (spec.expanded_asked tokens.now))) }

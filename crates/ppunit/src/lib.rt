@@ -15,6 +15,7 @@ mod lines;
 mod lists;
 mod opening;
 mod preprocessing;
+mod probing;
 mod replacing;
 mod stack;
 mod states;

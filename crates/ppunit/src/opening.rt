@@ -14,13 +14,12 @@ ghost use Rattle.ppunit.specs.Walk.{Leads};
 use crate::guards::is_left_out;
 use crate::including::Asked;
 use crate::indexed::count;
-use crate::states::{State, literal};
+use crate::states::{Context, State, literal};
 use ppexpand::Env;
-use ppshelf::{Disk, Folders, Form, Pass, Shelf, resolve};
+use ppshelf::{Disk, Folders, Form, Pass, Shelf, resolve, resolve_behind};
 use pptext::{Fault, Memory, Place, Profile, Source, Stop};
 use std::alloc::{AllocError, Global};
 use std::marker::Model;
-use std::mem::replace;
 
 /// The deepest include: the unit's file is at depth 0, and an included file one deeper than its include line.
 const DEEPEST: u32 = 200;
@@ -136,11 +135,11 @@ impl<'a> OpenFile<'a> {
     }
 }
 
-/// A file that was just opened, and what the predefined names stand for behind it.
+/// A file that was just opened, and what belongs to the file that goes on behind it.
 #[derive(Drop)]
 pub(crate) struct Entered<'a> {
     pub file: OpenFile<'a>,
-    pub outer: Env,
+    pub outer: Context,
 }
 
 impl<'a> Model for Entered<'a> {
@@ -149,6 +148,13 @@ impl<'a> Model for Entered<'a> {
     ghost Value = { Entered };
 
     ghost view = { λ e. record { file = e.file; outer = e.outer } };
+}
+
+/// A file that is opened, or was: its row, and the number of the folder in which it was found; none of the unit's own.
+#[derive(Clone, Copy)]
+pub(crate) struct Opening {
+    pub row: usize,
+    pub folder: Option<usize>,
 }
 
 // What predefined names stand for where a file begins.
@@ -163,22 +169,26 @@ fn entering(alloc: Global, outer: &Env, name: &str) -> Result<Env, AllocError>
     })
 }
 
-/// The row of the file that is asked for in the file of a row. The file that holds a unit's definitions is no file of the
-/// shelf, and none stands beside it.
+/// The row of the file that is asked for in the file of a row, and the number of the folder in which it is found. With a number
+/// the folders behind that one alone are searched. The file that holds a unit's definitions is no file of the shelf, and none stands
+/// beside it.
 pub(crate) fn resolve_in<D: Disk>(
     around: &Around<'_, '_, D>,
-    row: usize,
+    from: Opening,
     asked: &Asked,
-) -> Result<Option<usize>, Memory>
+) -> Result<Option<(usize, usize)>, Memory>
     requires { 0 < length around.now.shelf.names }
-    ensures finds { (files : Files) → IfOk result (λ found. Finds (surroundings_of around.now files) row asked.now found) }
-    ensures within { IfOk result (λ found. IfSome found (λ found. found < length around.now.shelf.names)) }
+    ensures finds { (files : Files) → IfOk result (λ found. Finds (surroundings_of around.now files) from.row from.folder asked.now found) }
+    ensures within { IfOk result (λ found. IfSome found (λ f. f.0 < length around.now.shelf.names)) }
 {
     let shelf = around.shelf();
     let folders = around.folders();
     let name = asked.name.as_bytes();
-    if row < shelf.len() {
-        return resolve(around.alloc, shelf, row, asked.form, name, folders);
+    if let Some(number) = from.folder {
+        return resolve_behind(around.alloc, shelf, number, name, folders);
+    }
+    if from.row < shelf.len() {
+        return resolve(around.alloc, shelf, from.row, asked.form, name, folders);
     }
     resolve(around.alloc, shelf, 0, Form::Angle, name, folders)
 }
@@ -244,27 +254,28 @@ fn source_of<'a, D: Disk>(
     }
 }
 
-// The file of a row that has this name and these lines, before its first line; or nothing where its guard is a macro's name: its
-// lines would do nothing.
+// The file that is opened and has this name and these lines, before its first line; or nothing where its guard is a macro's name:
+// its lines would do nothing.
 fn begin<'a>(
     alloc: Global,
     state: &mut State,
-    row: usize,
+    opening: Opening,
     name: &str,
     source: &'a Source,
 ) -> Result<Option<Entered<'a>>, AllocError>
-    ensures { IfOk result (λ entered. Begins name.now row source.now state.old state.new entered) }
+    ensures { IfOk result (λ entered. Begins name.now opening.row opening.folder source.now state.old state.new entered) }
 {
     if is_left_out(state, source) {
         return Ok(None);
     }
-    let inner = entering(alloc, &state.env, name)?;
-    let outer = replace(&mut state.env, inner);
-    let file = OpenFile::new(row, source);
+    let env = entering(alloc, &state.env, name)?;
+    let folder = opening.folder;
+    let outer = state.enter(Context { env, folder });
+    let file = OpenFile::new(opening.row, source);
     Ok(Some(Entered { file, outer }))
 }
 
-/// Opens the file of a row for the line at this place, or leaves it out: one that is read once and was read, or one with a
+/// Opens a file for the line at this place, or leaves it out: one that is read once and was read, or one with a
 /// guard that is a macro's name. That takes one of the budget. Faults 32, 35 where nothing is left, and 6, or the file's own.
 pub(crate) fn open<'a, D: Disk>(
     around: &Around<'a, '_, D>,
@@ -272,22 +283,23 @@ pub(crate) fn open<'a, D: Disk>(
     state: &mut State,
     depth: u32,
     at: Place,
-    row: usize,
+    opening: Opening,
 ) -> Result<Option<Entered<'a>>, Stop>
     requires shelf { pass.old.shelf ≡ around.now.shelf }
-    requires row { row < length around.now.shelf.names }
+    requires row { opening.row < length around.now.shelf.names }
     ensures shelf { pass.new.shelf ≡ around.now.shelf }
     ensures grows { Extends pass.new.files pass.old.files }
     ensures opened { IfSettled result (λ leads.
         Leads (surroundings_of around.now) pass.new.files depth
-        (λ (more : Files) (m : Reached). Opened (surroundings_of around.now more) depth at state.old row m)
+        (λ (more : Files) (m : Reached). Opened (surroundings_of around.now more) depth at state.old opening.row opening.folder m)
         state.new leads) }
 {
+    let row = opening.row;
     pay_for(around, state, depth, at, row)?;
     if note(state, row)? {
         return Ok(None);
     }
     let source = source_of(around, pass, at, row)?;
     let name = around.shelf().name(row);
-    Ok(begin(around.alloc, state, row, name, source)?)
+    Ok(begin(around.alloc, state, opening, name, source)?)
 }

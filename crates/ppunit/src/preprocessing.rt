@@ -1,5 +1,5 @@
 // A whole unit: its definitions, and then its file.
-ghost use Rattle.std.specs.Prelude.{◌≡◌, ◌<◌, IfOk, Ok, Option, All, length};
+ghost use Rattle.std.specs.Prelude.{◌≡◌, ◌<◌, IfOk, Ok, Option, None, All, length};
 ghost use Rattle.std.specs.Result.{result_err};
 ghost use Rattle.pptext.specs.Stops.{IfSettled};
 ghost use Rattle.pptext.specs.declared.tokens.Fault.{Fault};
@@ -13,7 +13,7 @@ ghost use Rattle.ppunit.specs.Walk.{DefinesOver};
 use crate::definitions::{COMMAND_FILE, Definitions};
 use crate::laws::{budget_caps_units, stays_within};
 use crate::lists::{Items, Rows};
-use crate::opening::{Around, OpenFile, open};
+use crate::opening::{Around, OpenFile, Opening, open};
 use crate::states::State;
 use crate::units::{Setting, Unit, UnitOut};
 use crate::walking::walk;
@@ -60,7 +60,7 @@ fn process<'x, 'a: 'x, D: Disk>(
     ensures opened { IfSettled result (λ r.
         (more : Files)
         → Extends more pass.new.files
-        → Opened (surroundings_of around.now more) 0 (first_place row) state.old row (record { state = state.new; fault = result_err r })) }
+        → Opened (surroundings_of around.now more) 0 (first_place row) state.old row None (record { state = state.new; fault = result_err r })) }
 {
     // A row fits a place, since a shelf has at most `MOST_ROWS`.
     let _count = around.shelf().len();
@@ -69,11 +69,12 @@ fn process<'x, 'a: 'x, D: Disk>(
         line: 1,
         col: 1,
     };
-    let Some(entered) = open(around, pass, state, 0, at, row)? else {
+    let opening = Opening { row, folder: None };
+    let Some(entered) = open(around, pass, state, 0, at, opening)? else {
         return Ok(());
     };
     let walked = walk(around, pass, state, entered.file);
-    state.env = entered.outer;
+    state.go_back(entered.outer);
     walked
 }
 
@@ -147,6 +148,7 @@ fn answer<'x>(state: State<'x>, ended: Result<Option<Fault>, Memory>) -> Result<
         items,
         deps,
         env: _,
+        folder: _,
     } = state;
     answer_of(items, deps, ended)
 }

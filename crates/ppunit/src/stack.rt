@@ -1,18 +1,17 @@
 // The files that wait for one that they include (6.10.2).
-ghost use Rattle.std.specs.Prelude.{◌≡◌, ◌≤◌, ◌∷◌, [], length, IfOk, MatchOption, OnOk};
+ghost use Rattle.std.specs.Prelude.{◌≡◌, ◌≤◌, ◌∷◌, [], Some, length, IfOk, MatchOption, OnOk};
 ghost use Rattle.ppunit.specs.Walk.{next_file, next_waiting, brought_back};
 
 use crate::opening::{Entered, OpenFile};
-use crate::states::State;
-use ppexpand::Env;
+use crate::states::{Context, State};
 use std::alloc::{AllocError, Global};
 use std::marker::Model;
 
-/// A file that waits for one that it includes, and what the predefined names stand for in it.
+/// A file that waits for one that it includes, and what belongs to it.
 #[derive(Drop)]
 pub(crate) struct Waiting<'a> {
     pub file: OpenFile<'a>,
-    pub env: Env,
+    pub context: Context,
 }
 
 impl<'a> Model for Waiting<'a> {
@@ -20,7 +19,7 @@ impl<'a> Model for Waiting<'a> {
 
     ghost Value = { Waiting };
 
-    ghost view = { λ w. record { file = w.file; env = w.env } };
+    ghost view = { λ w. record { file = w.file; context = w.context } };
 }
 
 /// The files that wait, each for the next one and the last one for the file whose lines are worked off. Contracts see them
@@ -57,20 +56,17 @@ impl<'a> Stack<'a> {
         self.files.len() as u32
     }
 
-    /// The file that the work goes on with: the one that was entered, for which this one waits, or else this one.
+    /// The file that was entered, for which this one waits.
     pub(crate) fn enter(
         &mut self,
         file: OpenFile<'a>,
-        entered: Option<Entered<'a>>,
+        entered: Entered<'a>,
     ) -> Result<OpenFile<'a>, AllocError>
-        ensures file { IfOk result (λ next. next ≡ next_file file.entry entered.entry) }
-        ensures waiting { OnOk result (self.new ≡ next_waiting file.entry entered.entry self.old) }
+        ensures file { IfOk result (λ next. next ≡ next_file file.entry (Some entered.entry)) }
+        ensures waiting { OnOk result (self.new ≡ next_waiting file.entry (Some entered.entry) self.old) }
     {
-        let Some(entered) = entered else {
-            return Ok(file);
-        };
-        let env = entered.outer;
-        self.files.push(Waiting { file, env })?;
+        let context = entered.outer;
+        self.files.push(Waiting { file, context })?;
         Ok(entered.file)
     }
 
@@ -81,13 +77,13 @@ impl<'a> Stack<'a> {
         self.files.pop()
     }
 
-    /// No file goes on. What the predefined names stand for comes back, file by file.
+    /// No file goes on. What belongs to them comes back, file by file.
     pub(crate) fn stop(self, state: &mut State)
         ensures { state.new ≡ brought_back self.entry state.old }
     {
         let mut files = self;
         while let Some(waiting) = files.pop() {
-            state.env = waiting.env;
+            state.go_back(waiting.context);
         }
     }
 }

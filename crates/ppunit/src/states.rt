@@ -1,7 +1,7 @@
 // Where phase 4 stands in a unit.
-ghost use Rattle.std.specs.Prelude.{◌≡◌, IfOk, OnOk, [], ◌∷◌};
+ghost use Rattle.std.specs.Prelude.{◌≡◌, IfOk, OnOk, [], ◌∷◌, None};
 ghost use Rattle.ppexpand.specs.Budget.{is_spent};
-ghost use Rattle.ppunit.specs.States.{passed, depending, reading_once, paying, literal};
+ghost use Rattle.ppunit.specs.States.{context, in_context, passed, depending, reading_once, paying, literal};
 ghost use Rattle.ppunit.specs.Unit.{beginning};
 ghost use Rattle.ppunit.specs.declared.units.Item.TheVariants as item;
 
@@ -12,9 +12,18 @@ use ppmacro::{Table, push_escaped};
 use pptext::{Hashing, Memory, Place, Spelling, Token};
 use std::alloc::{AllocError, Global};
 use std::marker::Model;
+use std::mem::replace;
+
+/// What belongs to the file that is worked off: what the predefined names stand for in it, and the number of the folder in which it
+/// was found; none of the unit's own.
+#[derive(Drop)]
+pub(crate) struct Context {
+    pub env: Env,
+    pub folder: Option<usize>,
+}
 
 /// Where phase 4 stands: the macros, what was passed on, the files that were opened in the order of their first
-/// opening, those of them that are not read again, what is left of the budget, and what the predefined names stand for.
+/// opening, those of them that are not read again, what is left of the budget, and what belongs to the file that is worked off.
 #[derive(Drop)]
 pub(crate) struct State<'x> {
     pub macros: Table<'x>,
@@ -23,6 +32,7 @@ pub(crate) struct State<'x> {
     pub once: Rows,
     pub left: Option<u64>,
     pub env: Env,
+    pub folder: Option<usize>,
 }
 
 impl<'x> Model for State<'x> {
@@ -44,6 +54,7 @@ impl<'x> Model for State<'x> {
       once = s.once;
       left = s.left;
       env = s.env;
+      folder = s.folder;
     } };
 }
 
@@ -63,7 +74,7 @@ impl<'x> State<'x> {
 
     // Nothing was passed on, and no file was opened.
     fn untouched(alloc: Global, macros: Table<'x>, left: Option<u64>, env: Env) -> State<'x>
-        ensures { result ≡ record { macros = macros.entry; items = []; deps = []; once = []; left = left; env = env } }
+        ensures { result ≡ record { macros = macros.entry; items = []; deps = []; once = []; left = left; env = env; folder = None } }
     {
         State {
             macros,
@@ -72,7 +83,27 @@ impl<'x> State<'x> {
             once: Rows::new(alloc),
             left,
             env,
+            folder: None,
         }
+    }
+
+    /// A file begins in this context. The one of the file around.
+    pub(crate) fn enter(&mut self, inner: Context) -> Context
+        ensures outer { result ≡ context self.old }
+        ensures inner { self.new ≡ in_context inner self.old }
+    {
+        Context {
+            env: replace(&mut self.env, inner.env),
+            folder: replace(&mut self.folder, inner.folder),
+        }
+    }
+
+    /// A file goes on in this context.
+    pub(crate) fn go_back(&mut self, outer: Context)
+        ensures { self.new ≡ in_context outer self.old }
+    {
+        self.env = outer.env;
+        self.folder = outer.folder;
     }
 
     /// Passes a pragma on.

@@ -7,12 +7,11 @@ ghost use Rattle.std.specs.Result.{result_err};
 ghost use Rattle.pptext.specs.Lines.{LogicalLine};
 ghost use Rattle.pptext.specs.Stops.{IfSettled};
 ghost use Rattle.pptext.specs.Tree.{Parts, Branches, branch_lines, AreBranches, opens_section, ends_group};
+ghost use Rattle.pptext.specs.declared.sources.Directive.{Directive};
 ghost use Rattle.ppshelf.specs.Files.{Files, Extends};
-ghost use Rattle.pptext.specs.declared.sources.Directive.TheVariants.{Include};
-ghost use Rattle.ppunit.specs.Group.{Controls};
-ghost use Rattle.ppunit.specs.States.{Surroundings, Reached, surroundings_of, with_left};
+ghost use Rattle.ppunit.specs.Group.{Controls, Includes};
+ghost use Rattle.ppunit.specs.States.{Surroundings, Reached, surroundings_of, search_in, with_left};
 ghost use Rattle.ppunit.specs.Lines.{directed};
-ghost use Rattle.ppunit.specs.Quotes as quotes;
 ghost use Rattle.ppunit.specs.Walk.{line_at, IsTextLine, IsRest, Outer, BranchesAt, Enters, FindsBranch, Advances, Leads, Steps, Walks};
 
 use crate::conditions::decide;
@@ -20,7 +19,7 @@ use crate::directives::{control, error, run_text};
 use crate::including::ask;
 use crate::indexed::{count, line, tokens_at, tokens_between};
 use crate::lines::{line_fault, refuse_lone_quote, sign};
-use crate::opening::{Around, Entered, OpenFile, open, resolve_in};
+use crate::opening::{Around, Entered, OpenFile, Opening, open, resolve_in};
 use crate::stack::Stack;
 use crate::states::State;
 use ppshelf::{Disk, Pass};
@@ -48,11 +47,18 @@ fn run_end(source: &Source, start: usize) -> usize
     end
 }
 
-// Whether the work goes on behind a branch line. Only what is left of the budget changes.
-fn enters(alloc: Global, state: &mut State, source: &Source, index: usize) -> Result<bool, Stop>
-    requires { index < length source.now }
+// Whether the work goes on behind a branch line of the file of a row. Only what is left of the budget changes.
+fn enters<D: Disk>(
+    around: &Around<'_, '_, D>,
+    state: &mut State,
+    row: usize,
+    source: &Source,
+    index: usize,
+) -> Result<bool, Stop>
+    requires rows { 0 < length around.now.shelf.names }
+    requires index { index < length source.now }
     ensures rest { state.new ≡ with_left state.old state.new.left }
-    ensures enters { IfSettled result (λ taken. Enters state.old (line_at source.now index) state.new.left taken) }
+    ensures enters { IfSettled result (λ taken. Enters (search_in around.now) row state.old (line_at source.now index) state.new.left taken) }
 {
     let Some(directive) = line(source, index).directive else {
         return Ok(true);
@@ -60,27 +66,29 @@ fn enters(alloc: Global, state: &mut State, source: &Source, index: usize) -> Re
     if !directive.has_condition() {
         return Ok(true);
     }
-    decide(alloc, state, directive, tokens_at(source, index))
+    decide(around, state, row, directive, tokens_at(source, index))
 }
 
 // Behind an opening line or a branch that takes no group: the line that the work goes on with, within the branch
 // that is taken or behind `#endif`.
-fn find_branch(
-    alloc: Global,
+fn find_branch<D: Disk>(
+    around: &Around<'_, '_, D>,
     state: &mut State,
+    row: usize,
     source: &Source,
     start: usize,
 ) -> Result<usize, Stop>
-    requires { start < length source.now }
+    requires rows { 0 < length around.now.shelf.names }
+    requires start { start < length source.now }
     ensures further { IfOk result (λ next. start < next) }
     ensures found { IfSettled result (λ next.
         (ps : Parts) (bs : Branches) (qs : Parts) (k : Outer)
         → BranchesAt source.now start ps bs qs k
-        → FindsBranch source.now state.old state.new bs qs k next) }
+        → FindsBranch (search_in around.now) row source.now state.old state.new bs qs k next) }
 {
     let mut index = start;
     while let Some(next) = line(source, index).next_branch {
-        if enters(alloc, state, source, next)? {
+        if enters(around, state, row, source, next)? {
             return Ok(next + 1);
         }
         index = next;
@@ -104,25 +112,27 @@ fn section_end(source: &Source, branch: usize) -> usize
     index + 1
 }
 
-// An opening line: the line that the work goes on with.
-fn enter_section(
-    alloc: Global,
+// An opening line in the file of a row: the line that the work goes on with.
+fn enter_section<D: Disk>(
+    around: &Around<'_, '_, D>,
     state: &mut State,
+    row: usize,
     source: &Source,
     directive: Directive,
     index: usize,
 ) -> Result<usize, Stop>
+    requires rows { 0 < length around.now.shelf.names }
     requires index { index < length source.now }
     requires line { (line_at source.now index).directive ≡ Some directive }
     requires opens { opens_section directive ≡ true }
     ensures further { IfOk result (λ next. index < next) }
-    ensures entered { (around : Files → Surroundings) (files : Files) (depth row : ℕ)
-        → IfSettled result (λ next. Advances around files depth row source.now index state.old state.new next) }
+    ensures entered { (files : Files) (depth : ℕ)
+        → IfSettled result (λ next. Advances (surroundings_of around.now) files depth row source.now index state.old state.new next) }
 {
-    if decide(alloc, state, directive, tokens_at(source, index))? {
+    if decide(around, state, row, directive, tokens_at(source, index))? {
         return Ok(index + 1);
     }
-    find_branch(alloc, state, source, index)
+    find_branch(around, state, row, source, index)
 }
 
 // A text run: the line behind it.
@@ -143,33 +153,37 @@ fn do_run<'x>(
     Ok(end)
 }
 
-// An include line: the file that it asks for is opened, one deeper.
+// An include line, whose search begins behind the folder of the number, or with the first: the file that it asks for is opened, one
+// deeper.
 fn include<'x, 'a: 'x, D: Disk>(
     around: &Around<'a, '_, D>,
     pass: &mut Pass<'a, D>,
     state: &mut State<'x>,
     depth: u32,
-    row: usize,
+    from: Opening,
     line: &'x [Token],
 ) -> Result<Option<Entered<'a>>, Stop>
     requires shelf { pass.old.shelf ≡ around.now.shelf }
     requires rows { 0 < length around.now.shelf.names }
     requires depth { depth ≤ 200 }
-    requires quotes { quotes.lone_quote line.now ≡ None }
     ensures shelf { pass.new.shelf ≡ around.now.shelf }
     ensures grows { Extends pass.new.files pass.old.files }
-    ensures control { IfSettled result (λ leads.
-        (number : ℕ)
+    ensures includes { IfSettled result (λ leads.
+        (directive : Directive) (number : ℕ)
         → Leads (surroundings_of around.now) pass.new.files (suc depth)
-        (λ (more : Files) (m : Reached). Controls (surroundings_of around.now more) depth row state.old (directed Include line.now number) m)
+        (λ (more : Files) (m : Reached). Includes (surroundings_of around.now more) depth from.row from.folder state.old (directed directive line.now number) m)
         state.new leads) }
 {
     let asked = ask(around.alloc, state, line)?;
-    let Some(found) = resolve_in(around, row, &asked)? else {
+    let Some((row, folder)) = resolve_in(around, from, &asked)? else {
         let name = asked.name.as_bytes();
         return Err(Stop::Fault(line_fault(around.alloc, 31, line, name)?));
     };
-    open(around, pass, state, depth + 1, sign(line), found)
+    let opening = Opening {
+        row,
+        folder: Some(folder),
+    };
+    open(around, pass, state, depth + 1, sign(line), opening)
 }
 
 // A control line: the file that it opens, if it opens one.
@@ -198,9 +212,18 @@ fn do_line<'x, 'a: 'x, D: Disk>(
     if directive == Directive::Error {
         return Err(Stop::Fault(error(around.alloc, line)?));
     }
+    if directive == Directive::Ignored {
+        return Ok(None);
+    }
     refuse_lone_quote(line)?;
     if directive == Directive::Include {
-        return include(around, pass, state, depth, row, line);
+        let from = Opening { row, folder: None };
+        return include(around, pass, state, depth, from, line);
+    }
+    if directive == Directive::IncludeNext {
+        let folder = state.folder;
+        let from = Opening { row, folder };
+        return include(around, pass, state, depth, from, line);
     }
     let profile = around.profile();
     control(around.alloc, state, profile, row, directive, line, physical)?;
@@ -256,7 +279,7 @@ fn step<'x, 'a: 'x, D: Disk>(
         return Ok(to_line(do_run(around.alloc, state, source, index)?));
     };
     if directive.opens_section() {
-        return Ok(to_line(enter_section(around.alloc, state, source, directive, index)?));
+        return Ok(to_line(enter_section(around, state, row, source, directive, index)?));
     }
     if directive.ends_group() {
         return Ok(to_line(section_end(source, index)));
@@ -292,8 +315,12 @@ pub(crate) fn walk<'s, 'a: 's, D: Disk>(
         if file.index < count(file.source) {
             match step(around, pass, state, waiting.depth(), &file) {
                 Ok(next) => {
-                    file.index = next.line;
-                    file = waiting.enter(file, next.entered)?;
+                    let Next { line, entered } = next;
+                    file.index = line;
+                    // Most lines open no file, and need no call: saves 3 % of the instructions of `deps` on Redis.
+                    if let Some(entered) = entered {
+                        file = waiting.enter(file, entered)?;
+                    }
                 }
                 Err(stop) => {
                     waiting.stop(state);
@@ -304,7 +331,7 @@ pub(crate) fn walk<'s, 'a: 's, D: Disk>(
             let Some(outer) = waiting.pop() else {
                 return Ok(());
             };
-            state.env = outer.env;
+            state.go_back(outer.context);
             file = outer.file;
         }
     }

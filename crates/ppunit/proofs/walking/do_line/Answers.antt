@@ -1,13 +1,13 @@
 use Rattle.std.proofs.Common.{rules, ◌≡◌, ◌≢◌, None, Some, refl, sym, ap, subst}
 use Rattle.pptext.specs.declared.sources.Directive.{Directive}
-use Rattle.pptext.specs.declared.sources.Directive.TheVariants.{Error, Include}
+use Rattle.pptext.specs.declared.sources.Directive.TheVariants.{Error, Ignored, Include, IncludeNext}
 use Rattle.pptext.specs.declared.tokens.Fault.{Fault}
 use Rattle.pptext.proofs.Stopping.{stopped}
-use Rattle.ppunit.specs.States.{surroundings_of}
+use Rattle.ppunit.specs.States.{State, surroundings_of}
 use Rattle.ppunit.specs.Lines.{directed}
 use Rattle.ppunit.specs.Group.{Controls}
-use Rattle.ppunit.proofs.Leading.{other_control}
-use Rattle.ppunit.proofs.ControlKinds.{other_is_control}
+use Rattle.ppunit.proofs.Leading.{other_control, leads_include, leads_next}
+use Rattle.ppunit.proofs.ControlKinds.{other_is_control, other_looks}
 use Rattle.ppunit.proofs.Preprocessed.{on_settled}
 use Rattle.ppunit.proofs.walking.do_line.Goals as goal
 
@@ -22,14 +22,35 @@ returns-then-eq-clause-control g c more grows =
 
 pub returns-in_err-refuse_lone_quote-clause-control : goal.returns-in_err-refuse_lone_quote-clause-control
 returns-in_err-refuse_lone_quote-clause-control g c =
-    let other : Some c.args.directive ≢ Some Error = λ h. let is : c.args.directive ≡ Error = cc in search rules in
+    let not_error : c.args.directive ≢ Error = λ is. search rules in
+    let not_ignored : c.args.directive ≢ Ignored = λ is. search rules in
     stopped _ _ _ _ c.from_residual-in_err-refuse_lone_quote.ensures.1 c.in_err-refuse_lone_quote.ensures (λ fault quote more grows.
-    Controls.quote other (sym quote))
+    Controls.quote (other_looks c.args.directive not_error not_ignored) (sym quote))
 
 pub returns-then-eq-2-clause-control : goal.returns-then-eq-2-clause-control
-returns-then-eq-2-clause-control g c =
+returns-then-eq-2-clause-control g c more grows =
+    let is : c.args.directive ≡ Ignored = search rules in
+    Controls.ignored (ap (λ (z : Directive). Some z) is)
+
+pub returns-then-eq-3-clause-control : goal.returns-then-eq-3-clause-control
+returns-then-eq-3-clause-control g c =
     let is : c.args.directive ≡ Include = search rules in
-    rw is (on_settled c.include.result (λ r leads. leads c.args.physical) c.include.ensures.control)
+    let alone = sym c.in_ok-refuse_lone_quote.ensures in
+    on_settled c.include.result
+    (λ r leads. leads_include (surroundings_of c.args.around.now) c.include.new.pass.files c.args.depth c.args.row
+    (directed c.args.directive c.args.line.now c.args.physical) c.args.state.now c.include.new.state r (ap (λ (z : Directive). Some z) is) alone
+    (leads c.args.directive c.args.physical))
+    c.include.ensures.includes
+
+pub returns-then-eq-4-clause-control : goal.returns-then-eq-4-clause-control
+returns-then-eq-4-clause-control g c =
+    let is : c.args.directive ≡ IncludeNext = search rules in
+    let alone = sym c.in_ok-refuse_lone_quote.ensures in
+    on_settled c.include-then-eq-4.result
+    (λ r leads. leads_next (surroundings_of c.args.around.now) c.include-then-eq-4.new.pass.files c.args.depth c.args.row c.state.inside.folder
+    (directed c.args.directive c.args.line.now c.args.physical) c.args.state.now c.include-then-eq-4.new.state r
+    (ap (λ (z : State). z.folder) c.state.view_is) (ap (λ (z : Directive). Some z) is) alone (leads c.args.directive c.args.physical))
+    c.include-then-eq-4.ensures.includes
 
 pub returns-in_err-control-clause-control : goal.returns-in_err-control-clause-control
 returns-in_err-control-clause-control g c =
@@ -49,11 +70,10 @@ returns-clause-control g c more grows =
 pub include-requires-clause-shelf : goal.include-requires-clause-shelf
 include-requires-clause-shelf g c = c.requires.shelf
 
-pub include-requires-clause-quotes : goal.include-requires-clause-quotes
-include-requires-clause-quotes g c = sym c.in_ok-refuse_lone_quote.ensures
-
 pub control-requires : goal.control-requires
 control-requires g c =
     let not_error : c.args.directive ≢ Error = λ is. search rules in
+    let not_ignored : c.args.directive ≢ Ignored = λ is. search rules in
     let not_include : c.args.directive ≢ Include = λ is. search rules in
-    other_is_control c.args.directive c.requires.opens c.requires.ends not_error not_include
+    let not_next : c.args.directive ≢ IncludeNext = λ is. search rules in
+    other_is_control c.args.directive c.requires.opens c.requires.ends not_error not_ignored not_include not_next

@@ -1,6 +1,6 @@
-use Rattle.std.proofs.Common.{◌+◌, Bool, Ok, Err, sym, subst}
+use Rattle.std.proofs.Common.{◌+◌, Bool, Ok, Err, refl, sym, subst}
 use Rattle.pptext.proofs.Stopping.{stopped}
-use Rattle.ppunit.specs.States.{State}
+use Rattle.ppunit.specs.States.{State, surroundings_of, search_in}
 use Rattle.ppunit.specs.Conditions.{Decides}
 use Rattle.ppunit.specs.Walk.{line_at, Advances}
 use Rattle.ppunit.proofs.Deciding.{decides_at}
@@ -9,32 +9,32 @@ use Rattle.ppunit.proofs.Preprocessed.{on_settled}
 use Rattle.ppunit.proofs.walking.enter_section.Goals as goal
 
 pub returns-in_err-decide-clause-entered : goal.returns-in_err-decide-clause-entered
-returns-in_err-decide-clause-entered c around files depth row =
+returns-in_err-decide-clause-entered g c files depth =
     stopped _ _ _ _ c.from_residual.ensures.1 c.in_err-decide.ensures.decides (λ fault decides.
-    subst (λ (z : State). Advances around files depth row c.args.source.now c.args.index c.args.state.now z (Err fault)) (sym c.in_err-decide.ensures.rest)
-    (enter_refused around files depth row c.args.source.now c.args.index c.args.state.now c.decide.new.state.left c.args.directive fault
-    c.requires.index c.requires.line c.requires.opens
-    (decides_at c.args.state.now (line_at c.args.source.now c.args.index) c.args.directive c.tokens_at.result.now c.decide.new.state.left (Err fault)
+    subst (λ (z : State). Advances (surroundings_of c.args.around.now) files depth c.args.row c.args.source.now c.args.index c.args.state.now z (Err fault)) (sym c.in_err-decide.ensures.rest)
+    (enter_refused (surroundings_of c.args.around.now) (search_in c.args.around.now) files depth c.args.row c.args.source.now c.args.index c.args.state.now c.decide.new.state.left c.args.directive fault
+    c.requires.index c.requires.line c.requires.opens (λ more. refl)
+    (decides_at (search_in c.args.around.now) c.args.row c.args.state.now (line_at c.args.source.now c.args.index) c.args.directive c.tokens_at.result.now c.decide.new.state.left (Err fault)
     c.requires.line c.tokens_at.ensures.tokens decides)))
 
 pub returns-then-branch-clause-entered : goal.returns-then-branch-clause-entered
-returns-then-branch-clause-entered c around files depth row =
-    let decides = subst (λ (z : Bool). Decides c.args.state.now (line_at c.args.source.now c.args.index) c.decide.new.state.left (Ok z))
+returns-then-branch-clause-entered g c files depth =
+    let decides = subst (λ (z : Bool). Decides (search_in c.args.around.now) c.args.row c.args.state.now (line_at c.args.source.now c.args.index) c.decide.new.state.left (Ok z))
     c.if-branch.true
-    (decides_at c.args.state.now (line_at c.args.source.now c.args.index) c.args.directive c.tokens_at.result.now c.decide.new.state.left
+    (decides_at (search_in c.args.around.now) c.args.row c.args.state.now (line_at c.args.source.now c.args.index) c.args.directive c.tokens_at.result.now c.decide.new.state.left
     (Ok c.in_ok-decide.field-0) c.requires.line c.tokens_at.ensures.tokens c.in_ok-decide.ensures.decides) in
-    subst (λ (z : State). Advances around files depth row c.args.source.now c.args.index c.args.state.now z (Ok (c.args.index + 1)))
+    subst (λ (z : State). Advances (surroundings_of c.args.around.now) files depth c.args.row c.args.source.now c.args.index c.args.state.now z (Ok (c.args.index + 1)))
     (sym c.in_ok-decide.ensures.rest)
-    (enter_taken around files depth row c.args.source.now c.args.index c.args.state.now c.decide.new.state.left c.args.directive c.requires.index
-    c.requires.line c.requires.opens decides)
+    (enter_taken (surroundings_of c.args.around.now) (search_in c.args.around.now) files depth c.args.row c.args.source.now c.args.index c.args.state.now c.decide.new.state.left c.args.directive c.requires.index
+    c.requires.line c.requires.opens (λ more. refl) decides)
 
 pub returns-clause-entered : goal.returns-clause-entered
-returns-clause-entered c around files depth row =
-    let decides = subst (λ (z : Bool). Decides c.args.state.now (line_at c.args.source.now c.args.index) c.decide.new.state.left (Ok z))
+returns-clause-entered g c files depth =
+    let decides = subst (λ (z : Bool). Decides (search_in c.args.around.now) c.args.row c.args.state.now (line_at c.args.source.now c.args.index) c.decide.new.state.left (Ok z))
     c.if-branch.false
-    (decides_at c.args.state.now (line_at c.args.source.now c.args.index) c.args.directive c.tokens_at.result.now c.decide.new.state.left
+    (decides_at (search_in c.args.around.now) c.args.row c.args.state.now (line_at c.args.source.now c.args.index) c.args.directive c.tokens_at.result.now c.decide.new.state.left
     (Ok c.in_ok-decide.field-0) c.requires.line c.tokens_at.ensures.tokens c.in_ok-decide.ensures.decides) in
     on_settled c.find_branch.result
-    (λ next found. enter_skipped around files depth row c.args.source.now c.args.index c.args.state.now c.find_branch.new.state
-    c.decide.new.state.left c.args.directive next c.requires.index c.requires.line c.requires.opens decides found)
+    (λ next found. enter_skipped (surroundings_of c.args.around.now) (search_in c.args.around.now) files depth c.args.row c.args.source.now c.args.index c.args.state.now c.find_branch.new.state
+    c.decide.new.state.left c.args.directive next c.requires.index c.requires.line c.requires.opens (λ more. refl) decides found)
     (rw c.in_ok-decide.ensures.rest at c.find_branch.ensures.found)

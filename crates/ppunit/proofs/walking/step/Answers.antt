@@ -21,7 +21,7 @@ returns-in_default-clause-step g c =
 pub returns-in_err-enter_section-clause-step : goal.returns-in_err-enter_section-clause-step
 returns-in_err-enter_section-clause-step g c =
     rw (← c.file.view_is) (stopped _ _ _ _ c.from_residual-in_err-enter_section.ensures.1
-    (c.in_err-enter_section.ensures.entered (surroundings_of c.args.around.now) c.args.pass.now.files c.args.depth c.file.inside.row)
+    (c.in_err-enter_section.ensures.entered c.args.pass.now.files c.args.depth)
     (λ fault advances. advances))
 
 pub returns-then-opens_section-clause-step : goal.returns-then-opens_section-clause-step
@@ -29,7 +29,7 @@ returns-then-opens_section-clause-step g c =
     rw (← c.file.view_is) (steps_line (surroundings_of c.args.around.now) c.args.pass.now.files c.args.depth c.file.inside.row c.file.inside.source.now
     c.file.inside.index c.args.state.now c.enter_section.new.state c.in_ok-enter_section.field-0 c.to_line-then-opens_section.result
     c.to_line-then-opens_section.ensures
-    (c.in_ok-enter_section.ensures.entered (surroundings_of c.args.around.now) c.args.pass.now.files c.args.depth c.file.inside.row))
+    (c.in_ok-enter_section.ensures.entered c.args.pass.now.files c.args.depth))
 
 pub returns-then-ends_group-clause-step : goal.returns-then-ends_group-clause-step
 returns-then-ends_group-clause-step g c =

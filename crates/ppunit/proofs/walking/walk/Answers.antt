@@ -21,9 +21,9 @@ loop-file-init g c =
           (stack_start (surroundings_of c.args.around.now) c.args.pass.now.files c.args.state.now c.args.first c.requires.begins);
     }
 
-pub returns-in_default-clause-walk : goal.returns-in_default-clause-walk
-returns-in_default-clause-walk g c =
-    let none : c.loop-file.waiting ≡ [] = c.in_default.ensures.0 in
+pub returns-in_default-pop-clause-walk : goal.returns-in_default-pop-clause-walk
+returns-in_default-pop-clause-walk g c =
+    let none : c.loop-file.waiting ≡ [] = c.in_default-pop.ensures.0 in
     let over = subst (λ (z : OpenFile). length z.lines ≤ z.index) c.file.view_is (omega (arith, c.count.ensures, c.if-file-count.false)) in
     stack_done (surroundings_of c.args.around.now) c.loop-file.pass.files c.args.first.row c.args.first.lines c.args.state.now c.loop-file.state
     c.loop-file.file
@@ -32,14 +32,14 @@ returns-in_default-clause-walk g c =
 
 pub loop-file-smaller : goal.loop-file-smaller
 loop-file-smaller g c =
-    let outer : Waiting = record { file = c.outer.inside.file; env = c.outer.inside.env } in
-    let there : c.loop-file.waiting ≡ outer ∷ c.pop.new.self = rw (← c.outer.view_is) at c.in-Some.ensures in
+    let outer : Waiting = record { file = c.outer.inside.file; context = c.outer.inside.context } in
+    let there : c.loop-file.waiting ≡ outer ∷ c.pop.new.self = rw (← c.outer.view_is) at c.in-Some-pop.ensures in
     subst (λ (z : List Waiting). work outer.file c.pop.new.self < work c.loop-file.file z) (sym there) (work_leaving c.loop-file.file outer c.pop.new.self)
 
 pub loop-file-preserved : goal.loop-file-preserved
 loop-file-preserved g c =
-    let outer : Waiting = record { file = c.outer.inside.file; env = c.outer.inside.env } in
-    let there : c.loop-file.waiting ≡ outer ∷ c.pop.new.self = rw (← c.outer.view_is) at c.in-Some.ensures in
+    let outer : Waiting = record { file = c.outer.inside.file; context = c.outer.inside.context } in
+    let there : c.loop-file.waiting ≡ outer ∷ c.pop.new.self = rw (← c.outer.view_is) at c.in-Some-pop.ensures in
     let over = subst (λ (z : OpenFile). length z.lines ≤ z.index) c.file.view_is (omega (arith, c.count.ensures, c.if-file-count.false)) in
     record {
       shelf = c.loop-file.invariant.shelf;
@@ -47,15 +47,15 @@ loop-file-preserved g c =
       depth = omega (arith, ap length there, c.loop-file.invariant.depth);
       walked =
           subst (λ (z : State). StackSoFar (surroundings_of c.args.around.now) c.loop-file.pass.files c.args.first.row c.args.first.lines
-          c.args.state.now c.pop.new.self outer.file (record z { env = outer.env })) (sym c.state.view_is)
+          c.args.state.now c.pop.new.self outer.file z) (sym c.go_back.ensures)
           (stack_leaves (surroundings_of c.args.around.now) c.loop-file.pass.files c.args.first.row c.args.first.lines c.args.state.now
           c.loop-file.state outer c.pop.new.self c.loop-file.file
           (subst (λ (z : List Waiting). StackSoFar (surroundings_of c.args.around.now) c.loop-file.pass.files c.args.first.row c.args.first.lines
           c.args.state.now z c.loop-file.file c.loop-file.state) there c.loop-file.invariant.walked) over);
     }
 
-pub loop-file-smaller-in-Ok : goal.loop-file-smaller-in-Ok
-loop-file-smaller-in-Ok g c =
+pub loop-file-smaller-in-Some : goal.loop-file-smaller-in-Some
+loop-file-smaller-in-Some g c =
     let step = rw (c.in-Ok.is, c.depth.ensures, ← c.next.view_is) at c.step.ensures.step in
     let further = rw (c.in-Ok.is, ← c.next.view_is) at c.step.ensures.further in
     let within = subst (λ (z : OpenFile). z.index < length z.lines) c.file.view_is (omega (arith, c.count.ensures, c.if-file-count.true)) in
@@ -63,25 +63,55 @@ loop-file-smaller-in-Ok g c =
     c.loop-file.file.index c.next.inside.line c.loop-file.state c.step.new.state c.loop-file.file c.next.inside.entered c.loop-file.waiting within
     further step in
     let moved = ap (λ (z : OpenFile). record z { index = c.next.inside.line }) c.file.view_is in
-    rw (c.in_ok-file-in-Ok.ensures.file, c.in_ok-file-in-Ok.ensures.waiting, moved) less
+    rw (c.in_ok-file-in-Ok.ensures.file, c.in_ok-file-in-Ok.ensures.waiting, moved) (rw c.in-Some.is at less)
 
-pub loop-file-preserved-in-Ok : goal.loop-file-preserved-in-Ok
-loop-file-preserved-in-Ok g c =
+pub loop-file-preserved-in-Some : goal.loop-file-preserved-in-Some
+loop-file-preserved-in-Some g c =
     let step = rw (c.in-Ok.is, c.depth.ensures, ← c.next.view_is) at c.step.ensures.step in
     let moved = ap (λ (z : OpenFile). record z { index = c.next.inside.line }) c.file.view_is in
     record {
       shelf = c.step.ensures.shelf;
       grows = extends_trans c.step.new.pass.files c.loop-file.pass.files c.args.pass.now.files c.step.ensures.grows c.loop-file.invariant.grows;
       depth =
-          rw c.in_ok-file-in-Ok.ensures.waiting
+          rw c.in_ok-file-in-Ok.ensures.waiting (rw c.in-Some.is at
           (next_depth (surroundings_of c.args.around.now) c.step.new.pass.files c.loop-file.file.row c.loop-file.file.lines
           c.loop-file.file.index c.next.inside.line c.loop-file.state c.step.new.state c.loop-file.waiting
-          _ c.next.inside.entered c.loop-file.invariant.depth step);
+          c.loop-file.file c.next.inside.entered c.loop-file.invariant.depth step));
       walked =
-          rw (c.in_ok-file-in-Ok.ensures.file, c.in_ok-file-in-Ok.ensures.waiting, moved)
+          rw (c.in_ok-file-in-Ok.ensures.file, c.in_ok-file-in-Ok.ensures.waiting, moved) (rw c.in-Some.is at
           (stack_next (surroundings_of c.args.around.now) c.loop-file.pass.files c.step.new.pass.files c.args.first.row c.args.first.lines
           c.args.state.now c.loop-file.state c.step.new.state c.loop-file.waiting c.loop-file.file c.next.inside.line c.next.inside.entered c.loop-file.invariant.walked
-          c.step.ensures.grows step);
+          c.step.ensures.grows step));
+    }
+
+pub loop-file-smaller-in_default : goal.loop-file-smaller-in_default
+loop-file-smaller-in_default g c =
+    let step = rw (c.in-Ok.is, c.depth.ensures, ← c.next.view_is) at c.step.ensures.step in
+    let further = rw (c.in-Ok.is, ← c.next.view_is) at c.step.ensures.further in
+    let within = subst (λ (z : OpenFile). z.index < length z.lines) c.file.view_is (omega (arith, c.count.ensures, c.if-file-count.true)) in
+    let less = work_next (surroundings_of c.args.around.now) c.step.new.pass.files c.loop-file.file.row c.loop-file.file.lines
+    c.loop-file.file.index c.next.inside.line c.loop-file.state c.step.new.state c.loop-file.file c.next.inside.entered c.loop-file.waiting within
+    further step in
+    let moved = ap (λ (z : OpenFile). record z { index = c.next.inside.line }) c.file.view_is in
+    rw moved (rw c.in_default.is at less)
+
+pub loop-file-preserved-in_default : goal.loop-file-preserved-in_default
+loop-file-preserved-in_default g c =
+    let step = rw (c.in-Ok.is, c.depth.ensures, ← c.next.view_is) at c.step.ensures.step in
+    let moved = ap (λ (z : OpenFile). record z { index = c.next.inside.line }) c.file.view_is in
+    record {
+      shelf = c.step.ensures.shelf;
+      grows = extends_trans c.step.new.pass.files c.loop-file.pass.files c.args.pass.now.files c.step.ensures.grows c.loop-file.invariant.grows;
+      depth =
+          rw c.in_default.is at
+          (next_depth (surroundings_of c.args.around.now) c.step.new.pass.files c.loop-file.file.row c.loop-file.file.lines
+          c.loop-file.file.index c.next.inside.line c.loop-file.state c.step.new.state c.loop-file.waiting
+          c.loop-file.file c.next.inside.entered c.loop-file.invariant.depth step);
+      walked =
+          rw moved (rw c.in_default.is at
+          (stack_next (surroundings_of c.args.around.now) c.loop-file.pass.files c.step.new.pass.files c.args.first.row c.args.first.lines
+          c.args.state.now c.loop-file.state c.step.new.state c.loop-file.waiting c.loop-file.file c.next.inside.line c.next.inside.entered c.loop-file.invariant.walked
+          c.step.ensures.grows step));
     }
 
 pub returns-in-Err-clause-walk : goal.returns-in-Err-clause-walk
@@ -121,8 +151,8 @@ returns-in_err-file-in-Ok-clause-shelf g c = c.step.ensures.shelf
 pub returns-in_err-file-in-Ok-clause-grows : goal.returns-in_err-file-in-Ok-clause-grows
 returns-in_err-file-in-Ok-clause-grows g c = extends_trans c.step.new.pass.files c.loop-file.pass.files c.args.pass.now.files c.step.ensures.grows c.loop-file.invariant.grows
 
-pub returns-in_default-clause-shelf : goal.returns-in_default-clause-shelf
-returns-in_default-clause-shelf g c = c.loop-file.invariant.shelf
+pub returns-in_default-pop-clause-shelf : goal.returns-in_default-pop-clause-shelf
+returns-in_default-pop-clause-shelf g c = c.loop-file.invariant.shelf
 
-pub returns-in_default-clause-grows : goal.returns-in_default-clause-grows
-returns-in_default-clause-grows g c = c.loop-file.invariant.grows
+pub returns-in_default-pop-clause-grows : goal.returns-in_default-pop-clause-grows
+returns-in_default-pop-clause-grows g c = c.loop-file.invariant.grows

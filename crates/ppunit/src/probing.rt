@@ -1,0 +1,144 @@
+// `__has_include` in the operands of `#if` and `#elif` (gcc's manual, "__has_include").
+ghost use Rattle.std.specs.Prelude.{◌≡◌, ◌<◌, ◌&&◌, drop, length, position, codes, None, IfOk, IfSome};
+ghost use Rattle.std.specs.List.{list_any};
+ghost use Rattle.std.specs.Option.{option_map};
+ghost use Rattle.pptext.specs.Profiles.{is_gnu};
+ghost use Rattle.pptext.specs.Tokens.{is_punct};
+ghost use Rattle.ppunit.specs.Including.{expanded_asked, if_somewhere};
+ghost use Rattle.ppunit.specs.Probing as spec;
+ghost use Rattle.ppunit.specs.States.{search_in};
+
+use crate::including::{Asked, asked_as_it_stands};
+use crate::opening::{Around, Opening, resolve_in};
+use ppshelf::Disk;
+use pptext::{Kind, Memory, Profile, Spelling, Token};
+use std::alloc::{AllocError, Global};
+
+fn is_has_include(token: &Token) -> bool
+    ensures { result ≡ spec.is_has_include token.now }
+{
+    token.is_name(b"__has_include")
+}
+
+fn has_a_use(tokens: &[Token]) -> bool
+    ensures { result ≡ list_any spec.is_has_include tokens.now }
+{
+    tokens.iter().any(|token| is_has_include(token))
+}
+
+/// Whether there is a step over these operands before the condition.
+pub(crate) fn is_probed(profile: Profile, operands: &[Token]) -> bool
+    ensures { result ≡ (is_gnu profile && list_any spec.is_has_include operands.now) }
+{
+    profile.is_gnu() && has_a_use(operands)
+}
+
+// Whether a `(` comes first.
+fn opens(tokens: &[Token]) -> bool
+    ensures { result ≡ spec.opens tokens.now }
+{
+    match tokens {
+        [first, ..] => first.is_punct(b"("),
+        [] => false,
+    }
+}
+
+// Whether a token asks for a file, by what stands behind it.
+fn asks(token: &Token, behind: &[Token]) -> bool
+    ensures { result ≡ (spec.opens behind.now && spec.is_has_include token.now) }
+{
+    opens(behind) && is_has_include(token)
+}
+
+// The index of the first `)`.
+fn close(tokens: &[Token]) -> Option<usize>
+    ensures index { result ≡ position (λ t. is_punct (codes ")") t) tokens.now }
+    ensures within { IfSome result (λ index. index < length tokens.now) }
+{
+    tokens.iter().position(|token| token.is_punct(b")"))
+}
+
+// The tokens but for the first.
+fn behind_first(tokens: &[Token]) -> &[Token]
+    ensures { result.now ≡ drop 1 tokens.now }
+{
+    match tokens {
+        [_, rest @ ..] => rest,
+        [] => &[],
+    }
+}
+
+// Whether an `#include` that asks so in the file of a row finds a file. It is not opened.
+fn has_file<D: Disk>(around: &Around<'_, '_, D>, row: usize, asked: &Asked) -> Result<bool, Memory>
+    requires { 0 < length around.now.shelf.names }
+    ensures { IfOk result (λ found. found ≡ spec.has_file (search_in around.now) row asked.now) }
+{
+    let from = Opening { row, folder: None };
+    let found = resolve_in(around, from, asked)?;
+    Ok(found.is_some())
+}
+
+// The number in the place of `__has_include` and its parentheses.
+fn number_for(alloc: Global, name: &Token, found: bool) -> Result<Token, AllocError>
+    ensures { IfOk result (λ t. t ≡ spec.number_for name.now found) }
+{
+    let digit = if found {
+        b"1".as_slice()
+    } else {
+        b"0".as_slice()
+    };
+    Ok(Token {
+        kind: Kind::Number,
+        text: Spelling::from_slice(alloc, digit)?,
+        space: name.space,
+        at: name.at,
+        used: name.used,
+    })
+}
+
+// The number, where a file is asked for behind the first of these tokens, which is the `(`.
+fn number<D: Disk>(
+    around: &Around<'_, '_, D>,
+    row: usize,
+    name: &Token,
+    behind: &[Token],
+) -> Result<Option<Token>, Memory>
+    requires { 0 < length around.now.shelf.names }
+    ensures { IfOk result (λ t. t ≡ spec.told (search_in around.now) row name.now (if_somewhere (expanded_asked (drop 1 behind.now)))) }
+{
+    let Some(asked) = asked_as_it_stands(around.alloc, behind_first(behind))? else {
+        return Ok(None);
+    };
+    let found = has_file(around, row, &asked)?;
+    Ok(Some(number_for(around.alloc, name, found)?))
+}
+
+/// The operands in the file of a row with a number for each `__has_include` that a `(` follows, or none where one has no `)` or
+/// asks for no file.
+pub(crate) fn probe<D: Disk>(
+    around: &Around<'_, '_, D>,
+    row: usize,
+    operands: &[Token],
+) -> Result<Option<Vec<Token>>, Memory>
+    requires { 0 < length around.now.shelf.names }
+    ensures { IfOk result (λ tokens. option_map (λ v. v.items) tokens ≡ spec.probed (search_in around.now) row None operands.now) }
+{
+    let mut probed = Vec::new(around.alloc);
+    let mut rest = operands;
+    while let Some((first, behind)) = rest.split_first() {
+        if !asks(first, behind) {
+            probed.push(first.clone()?)?;
+            rest = behind;
+            continue;
+        }
+        let Some(end) = close(behind) else {
+            return Ok(None);
+        };
+        let Some(told) = number(around, row, first, &behind[..end])? else {
+            return Ok(None);
+        };
+        probed.push(told)?;
+        rest = &behind[end + 1..];
+    }
+    Ok(Some(probed))
+}
