@@ -11,7 +11,7 @@ use Rattle.std.proofs.lemmas.List.Quantifiers.{position-Some}
 use Rattle.std.proofs.lemmas.List.Sums.{AllPass-from_list_all}
 use Rattle.serde_json.specs.Data.{Data}
 use Rattle.pptext.specs.declared.sources.Profile.{Profile}
-use Rattle.pptext.specs.declared.sources.Profile.TheVariants.{C11, Later}
+use Rattle.pptext.specs.declared.sources.Profile.TheVariants.{C11, Later, Gnu}
 use Rattle.ppunit.specs.Forms.{is_one_line, is_same, is_unit}
 use Rattle.ppunit.specs.Unit.{command_text}
 use Rattle.ppunit.specs.declared.units.Unit.{Unit as UnitOfList}
@@ -80,6 +80,7 @@ place_below t names h = below_by t names (row_among t names) refl h
 same_as_itself : (p : Profile) → is_same p p ≡ true
 same_as_itself C11 = refl
 same_as_itself Later = refl
+same_as_itself Gnu = refl
 
 less_test : (a b : ℕ) → a < b → nat_lt a b ≡ true
 less_test a b h = grind (arith, nat_tests)

@@ -172,6 +172,7 @@ fn profile_named(text: &str) -> Option<Profile>
     match text {
         "c11" => Some(Profile::C11),
         "later" => Some(Profile::Later),
+        "gnu" => Some(Profile::Gnu),
         _ => None,
     }
 }
