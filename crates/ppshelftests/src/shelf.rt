@@ -4,6 +4,7 @@ ghost use Rattle.ppshelf.specs.Files.{most_rows};
 
 mod again;
 mod filling;
+mod finding;
 mod looking;
 mod naming;
 mod reading;

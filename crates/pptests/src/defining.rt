@@ -30,19 +30,20 @@ pub(crate) fn env(shift: i64) -> Env {
     }
 }
 
-/// What a line of `#define` or `#undef` makes of a table.
+/// What a line of `#define` or `#undef` makes of a table, by the rules of this profile.
 pub(crate) fn direct<'a>(
     alloc: Global,
     table: &mut Table<'a>,
+    profile: Profile,
     line: &'a [Token],
 ) -> Result<Result<(), Fault>, Memory> {
     let [hash, name, rest @ ..] = line else {
         return Ok(Ok(()));
     };
     if name.is_name(b"undef") {
-        return undef(alloc, table, hash.at, rest);
+        return undef(alloc, table, profile, hash.at, rest);
     }
-    define(alloc, table, hash.at, rest)
+    define(alloc, table, profile, hash.at, rest)
 }
 
 /// Puts the macros of a file's lines into a table. The tokens behind the last of them.
@@ -56,7 +57,7 @@ pub(crate) fn directed<'a>(
     for line in source.lines() {
         if matches!(line.directive, Some(Directive::Define | Directive::Undef)) {
             let tokens = tokens_at(source, line.start, line.end);
-            assert!(rt; direct(alloc, table, tokens)?.is_ok());
+            assert!(rt; direct(alloc, table, Profile::C11, tokens)?.is_ok());
             behind = line.end;
         }
     }

@@ -8,7 +8,7 @@ mod substitution;
 mod two_sets;
 
 use crate::defining::{directed, source_of};
-use ppmacro::{Hidden, HideSets, Macro, Set, Shape, Table};
+use ppmacro::{Hidden, HideSets, Macro, Set, Shape, Table, Variadic};
 use pptext::{Memory, Place, Source, Token};
 use std::alloc::{AllocError, Global};
 use std::process::Abort;
@@ -108,14 +108,15 @@ fn push_parameters(text: &mut Vec<u8>, shape: &Shape) -> Result<(), AllocError> 
         text.extend_from_slice(name.as_bytes())?;
         text.push(b',')?;
     }
-    if *variadic {
-        text.extend_from_slice(b"...")?;
-    }
-    text.push(b')')?;
-    Ok(())
+    text.extend_from_slice(match variadic {
+        Variadic::No => b")".as_slice(),
+        Variadic::Strict => b"...)",
+        Variadic::Lenient => b"...?)",
+    })
 }
 
-/// The definition of a name, with each parameter followed by a comma, as `(a,b,...) a` or ` 1`; or `none`.
+/// The definition of a name, with each parameter followed by a comma, as `(a,b,...) a` or ` 1`, and `...?` where the last argument may be
+/// absent; or `none`.
 fn shown(alloc: Global, table: &Table, name: &str) -> Result<Vec<u8>, AllocError> {
     let mut text = Vec::new(alloc);
     let Some(found) = table.get(name.as_bytes()) else {

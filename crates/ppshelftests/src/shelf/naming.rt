@@ -88,7 +88,7 @@ fn assert_finds(
     assert!(rt; shelf.name(1) == "inc/b.h");
     let folders = Folders { unit: &[], setting };
     let found = resolve(alloc, shelf, 0, Form::Angle, b"b.h", folders)?;
-    assert!(rt; found == Some(1));
+    assert!(rt; found == Some((1, 1)));
     Ok(shelf.hashing())
 }
 

@@ -2,7 +2,7 @@
 use super::{HASH, shown, table_of};
 use crate::defining::{direct, drawn, source_of};
 use ppmacro::Table;
-use pptext::{Fault, Hashing, Memory, Source, Token};
+use pptext::{Fault, Hashing, Memory, Profile, Source, Token};
 use std::alloc::Global;
 use std::process::Abort;
 use std::test::Fail;
@@ -12,12 +12,12 @@ fn direct_again<'a>(
     rt: &impl Abort,
     alloc: Global,
     table: &mut Table<'a>,
-    line: &'a [Token],
+    (profile, line): (Profile, &'a [Token]),
     (name, before): (&str, &[u8]),
 ) -> Result<Result<(), Fault>, Memory> {
-    let Ok(answer) = direct(alloc, table, line) else {
+    let Ok(answer) = direct(alloc, table, profile, line) else {
         assert!(rt; shown(alloc, table, name)?.as_slice() == before, "{name}");
-        return direct(alloc, table, line);
+        return direct(alloc, table, profile, line);
     };
     Ok(answer)
 }
@@ -46,7 +46,7 @@ fn assert_changes<'a>(
     rt: &impl Abort,
     alloc: Global,
     table: &mut Table<'a>,
-    line: &'a [Token],
+    line: (Profile, &'a [Token]),
     name: &str,
     wanted: Result<&str, u8>,
 ) -> Result<(), Memory> {
@@ -65,7 +65,7 @@ fn assert_next(
     rt: &impl Abort,
     alloc: Global,
     lines: &Source,
-    line: &[Token],
+    line: (Profile, &[Token]),
     name: &str,
     wanted: Result<&str, u8>,
 ) -> Result<(), Memory> {
@@ -73,18 +73,20 @@ fn assert_next(
     assert_changes(rt, alloc, &mut table, line, name, wanted)
 }
 
-/// Asserts what a line does to a table in which only the lines before it were done: it leaves this definition of the name, or
-/// raises the fault of this number and leaves what the name had.
+/// Asserts what a line does by the rules of this profile to a table in which only the lines before it were done, by those of C11: it leaves
+/// this definition of the name, or raises the fault of this number and leaves what the name had.
 fn assert_directed(
     rt: &impl Abort,
     alloc: Global,
+    profile: Profile,
     (lines, line): (&str, &str),
     name: &str,
     wanted: Result<&str, u8>,
 ) -> Result<(), Fail> {
     let lines = source_of(rt, alloc, lines.as_bytes())?;
     let line = source_of(rt, alloc, line.as_bytes())?;
-    Ok(assert_next(rt, alloc, &lines, line.tokens(), name, wanted)?)
+    let line = (profile, line.tokens());
+    Ok(assert_next(rt, alloc, &lines, line, name, wanted)?)
 }
 
 /// Lines, the next line and a name: the definition that it then has, or the number of the fault whose text it is.
@@ -161,6 +163,12 @@ const REFUSED: &[Case] = &[
     ("#define X 7", "#undef X Y", "undef", Err(9)),
     ("#define X 7", "#undef __FILE__ X", "undef", Err(9)),
     ("#define X 7", "#undef __FILE__", "__FILE__", Err(10)),
+    (
+        "#define X 7",
+        "#undef __STDC_VERSION__",
+        "__STDC_VERSION__",
+        Err(10),
+    ),
     ("#define X 7", "#undef defined", "defined", Err(10)),
     ("#define X 7", "#undef __VA_ARGS__", "__VA_ARGS__", Err(10)),
 ];
@@ -191,13 +199,13 @@ const DEFINED: &[Case] = &[
         "",
         "#define v(...) #__VA_ARGS__",
         "v",
-        Ok("(...) #__VA_ARGS__"),
+        Ok("(__VA_ARGS__,...) #__VA_ARGS__"),
     ),
     (
         "",
         "#define w(a,...)a##__VA_ARGS__",
         "w",
-        Ok("(a,...)a##__VA_ARGS__"),
+        Ok("(a,__VA_ARGS__,...)a##__VA_ARGS__"),
     ),
     (
         "#define w(a,...)a##__VA_ARGS__",
@@ -232,11 +240,60 @@ const COMPARED: &[Case] = &[
     ),
 ];
 
+/// Lines that GNU C takes, and those that it refuses.
+const GNU: &[Case] = &[
+    ("", "#define f(a...) a", "f", Ok("(a,...?) a")),
+    ("", "#define f(a, b ...)b", "f", Ok("(a,b,...?)b")),
+    (
+        "",
+        "#define f(a,...)a##__VA_ARGS__",
+        "f",
+        Ok("(a,__VA_ARGS__,...?)a##__VA_ARGS__"),
+    ),
+    ("", "#define f(a...,b) a", "f", Err(11)),
+    ("", "#define f(a... ...) a", "f", Err(11)),
+    ("", "#define f(a,a...) a", "f", Err(11)),
+    ("", "#define f(__VA_ARGS__...) 1", "f", Err(15)),
+    ("", "#define f(a...) __VA_ARGS__", "f", Err(15)),
+    ("", "#define f(a...) #b", "f", Err(14)),
+    ("#define X 7", "#define X 8", "X", Ok(" 8")),
+    ("#define X 7", "#define X() 7", "X", Ok("() 7")),
+    (
+        "",
+        "#define __STDC_VERSION__ 1",
+        "__STDC_VERSION__",
+        Ok(" 1"),
+    ),
+    (
+        "",
+        "#undef __STDC_VERSION__",
+        "__STDC_VERSION__",
+        Ok("none"),
+    ),
+    ("", "#define __STDC__ 1", "__STDC__", Err(10)),
+];
+
+/// Lines that are refused with what ISO/IEC 9899:2024 added, as without it.
+const LATER: &[Case] = &[
+    ("", "#define f(a...) a", "f", Err(11)),
+    ("#define X 7", "#define X 8", "X", Err(16)),
+    ("", "#undef __STDC_VERSION__", "__STDC_VERSION__", Err(10)),
+];
+
+/// Each table with the profile whose rules its lines are told by.
+const TABLES: &[(Profile, &[Case])] = &[
+    (Profile::C11, REFUSED),
+    (Profile::C11, DEFINED),
+    (Profile::C11, COMPARED),
+    (Profile::Later, LATER),
+    (Profile::Gnu, GNU),
+];
+
 #[test]
 fn defines_compares_and_refuses(rt: HostRuntime) -> Result<(), Fail> {
-    for cases in [REFUSED, DEFINED, COMPARED] {
+    for &(profile, cases) in TABLES {
         for &(lines, line, name, wanted) in cases {
-            assert_directed(&rt, rt.alloc(), (lines, line), name, wanted)?;
+            assert_directed(&rt, rt.alloc(), profile, (lines, line), name, wanted)?;
         }
     }
     Ok(())

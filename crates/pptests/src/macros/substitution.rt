@@ -5,13 +5,13 @@ ghost use Rattle.ppmacro.specs.Substituting.{ListsKnown, ArgumentsKnown};
 ghost use Rattle.ppmacro.specs.declared.flying.Expansion.TheVariants.{Made};
 
 use super::{HASH, has, is_hidden_by, macro_of, push_spelled, set_of, sources_of, table_of};
-use crate::defining::source_of;
+use crate::defining::{direct, source_of};
 use crate::showing::{assert_shown, push_fault, push_fields};
 use ppmacro::{
     Chain, Expansion, Hidden, HideSets, Macro, Pattern, Set, Table, paste, stringize, substitute,
     substitute_pattern, tells_each_kind,
 };
-use pptext::{Fault, Memory, Place, Source, Token};
+use pptext::{Fault, Memory, Place, Profile, Source, Token};
 use std::alloc::{AllocError, Global};
 use std::process::Abort;
 use std::test::Fail;
@@ -259,30 +259,44 @@ fn told_of(
     told_over(rt, alloc, &mut sets, of, texts, with)
 }
 
-/// The same of the macro that a line defines.
+/// The table after a line of `#define`, by the rules of this profile.
+fn table_by<'a>(
+    rt: &impl Abort,
+    alloc: Global,
+    profile: Profile,
+    line: &'a Source,
+) -> Result<Table<'a>, Memory> {
+    let mut table = Table::new(alloc)?;
+    assert!(rt; direct(alloc, &mut table, profile, line.tokens())?.is_ok());
+    Ok(table)
+}
+
+/// The same of the macro that a line defines by the rules of this profile.
 fn told_in(
     rt: &impl Abort,
     alloc: Global,
+    profile: Profile,
     line: &Source,
     texts: &[Source],
     with: With,
 ) -> Result<Vec<u8>, Fail> {
-    let table = table_of(rt, alloc, line)?;
+    let table = table_by(rt, alloc, profile, line)?;
     let named = macro_of(&table, line.tokens()).ok_or("no macro")?;
     Ok(told_of(rt, alloc, (&table, named), texts, with)?)
 }
 
-/// Asserts what an invocation is replaced by: its text and the mark that is left, or its fault.
+/// Asserts what an invocation is replaced by: its text and the mark that is left, or its fault. The macro is defined by the rules of this profile.
 fn assert_told(
     rt: &impl Abort,
     alloc: Global,
+    profile: Profile,
     (line, texts): (&str, &[&str]),
     with: With,
     wanted: &str,
 ) -> Result<(), Fail> {
     let line = source_of(rt, alloc, line.as_bytes())?;
     let texts = sources_of(rt, alloc, texts)?;
-    let found = told_in(rt, alloc, &line, texts.as_slice(), with)?;
+    let found = told_in(rt, alloc, profile, &line, texts.as_slice(), with)?;
     assert_shown(rt, found.as_slice(), wanted);
     Ok(())
 }
@@ -476,22 +490,107 @@ const PATTERNS: &[Case] = &[
     ("#define S(x) %: x", &["a"], false, "\"a\" |-"),
 ];
 
+// The comma before a variable argument that is absent, empty, one or more, where it may be absent: as gcc has it. An argument is a line of its own here, whose
+// first token has a space mark, and keeps that.
+const RESTS: &[Case] = &[
+    (
+        "#define e(f, ...) p(f, ## __VA_ARGS__)",
+        &["1"],
+        false,
+        "p(1) |-",
+    ),
+    (
+        "#define e(f, ...) p(f, ## __VA_ARGS__)",
+        &["1", ""],
+        false,
+        "p(1,) |-",
+    ),
+    (
+        "#define e(f, ...) p(f, ## __VA_ARGS__)",
+        &["1", "2"],
+        false,
+        "p(1, 2) |-",
+    ),
+    (
+        "#define e(f, a...) p(f, ## a)",
+        &["1", "2, 3"],
+        false,
+        "p(1, 2, 3) |-",
+    ),
+    ("#define z(...) 0, ## __VA_ARGS__", &[], false, "0 |-"),
+    ("#define z(...) 0, ## __VA_ARGS__", &["1"], false, "0, 1 |-"),
+    ("#define m(f, a...) f ,##a", &["1"], false, "1 |+"),
+    ("#define t(x, V...) -x ,##V ,##V-", &["1"], false, "-1 - |-"),
+    (
+        "#define t(x, V...) -x ,##V ,##V-",
+        &["1", "2"],
+        false,
+        "-1 , 2 , 2- |-",
+    ),
+    (
+        "#define l(x, V...) x ## , ## V",
+        &["", "b"],
+        false,
+        ", b |-",
+    ),
+    ("#define l(x, V...) x ## , ## V", &["", ""], false, ", |-"),
+    ("#define l(x, V...) x ## , ## V", &[""], false, " |-"),
+    (
+        "#define l(x, V...) x ## , ## V",
+        &["1"],
+        false,
+        "19 3:40:5 1,",
+    ),
+    (
+        "#define n(x, V...) V , ## x",
+        &["1", "2"],
+        false,
+        "19 3:40:5 ,1",
+    ),
+    ("#define h(x, V...) #V x ## V V", &["x"], false, "\"\" x |+"),
+    (
+        "#define h(x, V...) #V x ## V V",
+        &["x", "y"],
+        false,
+        "\"y\" xy y |-",
+    ),
+];
+
+// Where no variable argument may be absent, the comma is pasted like any token (6.10.3.3p3).
+const PASTED: &[Case] = &[
+    ("#define z(...) 0, ## __VA_ARGS__", &[""], false, "0, |-"),
+    (
+        "#define z(...) 0, ## __VA_ARGS__",
+        &["1"],
+        false,
+        "19 3:40:5 ,1",
+    ),
+];
+
 #[test]
 fn replaces_by_the_replacement_list(rt: HostRuntime) -> Result<(), Fail> {
     for by in [By::Chains, By::Pattern] {
-        for cases in [REPLACED, MARKED, REFUSED, PATTERNS] {
+        for cases in [REPLACED, MARKED, REFUSED, PATTERNS, PASTED] {
             for &(line, texts, space, wanted) in cases {
                 let with = (by, false, space);
-                assert_told(&rt, rt.alloc(), (line, texts), with, wanted)?;
+                assert_told(&rt, rt.alloc(), Profile::C11, (line, texts), with, wanted)?;
             }
         }
     }
     Ok(())
 }
 
-// Every token gains a set and a name. Beside them the argument's tokens keep their sets, a pasted one has what both parts have, and
-// one of the replacement list or of `#` has none. A token stands where its first part was spelled, and one that is joined
-// to nothing stays what it is.
+#[test]
+fn lays_a_rest_or_takes_the_comma_away(rt: HostRuntime) -> Result<(), Fail> {
+    for by in [By::Chains, By::Pattern] {
+        for &(line, texts, space, wanted) in RESTS {
+            let with = (by, false, space);
+            assert_told(&rt, rt.alloc(), Profile::Gnu, (line, texts), with, wanted)?;
+        }
+    }
+    Ok(())
+}
+
 #[test]
 fn hides_and_places_what_it_gives(rt: HostRuntime) -> Result<(), Fail> {
     let line = "#define f(a,b) a a##a a##1 #a x b##a";
@@ -500,7 +599,26 @@ fn hides_and_places_what_it_gives(rt: HostRuntime) -> Result<(), Fail> {
         assert_told(
             &rt,
             rt.alloc(),
+            Profile::C11,
             (line, &["y", ""]),
+            (by, true, false),
+            wanted,
+        )?;
+    }
+    Ok(())
+}
+
+// The tokens of a rest keep their sets, and the comma before them has none of its own.
+#[test]
+fn lays_a_rest_behind_the_comma(rt: HostRuntime) -> Result<(), Fail> {
+    let line = "#define e(f,a...) f,##a";
+    let wanted = "1, 2+ |- g1 -20 g1 g2";
+    for by in [By::Chains, By::Pattern] {
+        assert_told(
+            &rt,
+            rt.alloc(),
+            Profile::Gnu,
+            (line, &["1", "2+"]),
             (by, true, false),
             wanted,
         )?;
@@ -543,6 +661,7 @@ const LISTED: &[(&str, Option<usize>, bool)] = &[
     ("#define V(x, ...) x __VA_ARGS__", None, false),
     ("#define P(x) x ## 1", None, true),
     ("#define S(x) %: x", None, true),
+    ("#define R(x, ...) x, ## __VA_ARGS__", None, true),
 ];
 
 // Where no `##` stands in its list, an object-like macro's name is replaced by the list. Where neither `#` nor `##` stands there, no

@@ -1,5 +1,5 @@
-// What directives do to groups, by their names.
-use pptext::Directive;
+// What directives do to groups, by their names, and what profiles have.
+use pptext::{Directive, Profile};
 
 /// Directives, and whether each opens a section, has a condition, ends a group.
 const ROLES: &[(Directive, bool, bool, bool)] = &[
@@ -23,5 +23,20 @@ fn tells_what_a_directive_does_to_groups(rt: HostRuntime) {
             "of {directive:?}"
         );
         assert!(rt; directive.ends_group() == ends, "of {directive:?}");
+    }
+}
+
+/// Profiles, and whether each has what C23 added, and the rules of GNU C.
+const PROFILES: &[(Profile, bool, bool)] = &[
+    (Profile::C11, false, false),
+    (Profile::Later, true, false),
+    (Profile::Gnu, true, true),
+];
+
+#[test]
+fn tells_what_a_profile_has(rt: HostRuntime) {
+    for &(profile, later, gnu) in PROFILES {
+        assert!(rt; profile.has_later() == later, "of {profile:?}");
+        assert!(rt; profile.is_gnu() == gnu, "of {profile:?}");
     }
 }

@@ -104,6 +104,23 @@ const LINES: &[(Profile, &str, &str)] = &[
         "#ifndef X\n\t/*\n*/ # def\\\nine X\n\n??=endif\n",
         "0-3 1 Ifndef 3, 3-6 4 Define -, 6-6 5 - -, 6-8 6 Endif -, ",
     ),
+    // a header name by profile: one token, or each of its own
+    (Profile::C11, "#include <a b>", "0-3 1 Include -, "),
+    (Profile::Gnu, "#include <a b>", "0-3 1 Include -, "),
+    (Profile::C11, "#include_next <a b>", "0-6 1 Unknown -, "),
+    (Profile::Later, "#include_next <a b>", "0-6 1 Unknown -, "),
+    (Profile::Gnu, "#include_next <a b>", "0-3 1 IncludeNext -, "),
+    (
+        Profile::C11,
+        "%:include_next\"a\\\"b\"",
+        "0-3 1 Unknown -, ",
+    ),
+    (
+        Profile::Gnu,
+        "%:include_next\"a\\\"b\"",
+        "0-5 1 IncludeNext -, ",
+    ),
+    (Profile::Gnu, "#warning <a b>", "0-6 1 Ignored -, "),
     // the first fault
     (Profile::C11, "/*\na \\", "2 7:2:3 "),
     (Profile::C11, "\u{feff}#else\n/\\\n* ", "1 7:2:1 "),

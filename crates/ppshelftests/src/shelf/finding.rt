@@ -1,0 +1,56 @@
+// Searches for included files: the rows that they find, and the numbers of the folders.
+use super::{named, texts};
+use ppshelf::{Folders, Form, MemoryDisk, Shelf, resolve, resolve_behind};
+use pptext::Memory;
+use std::alloc::Global;
+use std::process::Abort;
+use std::test::Fail;
+
+const NAMES: &[&str] = &["src/a.c", "src/h.h", "one/h.h", "two/h.h", "three/h.h"];
+
+/// Names that `src/a.c` includes in a form, with the row and the folder's number of what is found.
+const INCLUDED: &[(Form, &str, Option<(usize, usize)>)] = &[
+    (Form::Quote, "h.h", Some((1, 0))),
+    (Form::Angle, "h.h", Some((2, 1))),
+    (Form::Quote, "../three/h.h", Some((4, 0))),
+    (Form::Angle, "k.h", None),
+];
+
+/// Numbers of folders, with what is found of `h.h` behind them.
+const BEHIND: &[(usize, Option<(usize, usize)>)] = &[
+    (0, Some((2, 1))),
+    (1, Some((3, 2))),
+    (2, Some((4, 3))),
+    (3, None),
+    (9, None),
+];
+
+fn assert_finds(
+    rt: &impl Abort,
+    alloc: Global,
+    shelf: &Shelf<MemoryDisk>,
+    folders: Folders<'_>,
+) -> Result<(), Memory> {
+    assert!(rt; shelf.len() == 5);
+    for &(form, name, row) in INCLUDED {
+        let found = resolve(alloc, shelf, 0, form, name.as_bytes(), folders)?;
+        assert!(rt; found == row, "{name}");
+    }
+    for &(number, row) in BEHIND {
+        let found = resolve_behind(alloc, shelf, number, b"h.h", folders)?;
+        assert!(rt; found == row, "{number}");
+    }
+    Ok(())
+}
+
+#[test]
+fn searches_number_their_folders(rt: HostRuntime) -> Result<(), Fail> {
+    let alloc = rt.alloc();
+    let shelf = named(alloc, NAMES)?;
+    let (unit, setting) = (texts(alloc, &["one"])?, texts(alloc, &["two", "three"])?);
+    let folders = Folders {
+        unit: unit.as_slice(),
+        setting: setting.as_slice(),
+    };
+    Ok(assert_finds(&rt, alloc, &shelf, folders)?)
+}
