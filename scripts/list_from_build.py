@@ -182,17 +182,18 @@ def commands(path, said):
 
 COMMENT = rb"/\*[^*]*\*+(?:[^/*][^*]*\*+)*/"
 BLANK = rb"(?:[ \t\v\f\r]|" + COMMENT + rb")*"
-INCLUDE = re.compile(rb"^" + BLANK + rb"(?:#|%:)" + BLANK + rb"include(?![\w$])" + BLANK
+INCLUDE = re.compile(rb"^" + BLANK + rb"(?:#|%:)" + BLANK + rb"include(_next)?(?![\w$])" + BLANK
                      + rb"(?:\"([^\"\n]+)\"|<([^>\n]+)>|([^\s\"</]))", re.MULTILINE)
+ASKED = re.compile(rb"\b__has_include" + BLANK + rb"\(" + BLANK + rb"(?:\"([^\"\n]+)\"|<([^>\n]+)>)")
 SPLICE = re.compile(rb"(?:\\|\?\?/)\r?\n")
-QUOTE, ANGLE, COMPUTED = "quote", "angle", "computed"
+QUOTE, ANGLE, COMPUTED, EACH = "quote", "angle", "computed", "each"
 
 
 class Files:
-    """What stands on the disk, each file and folder looked at once."""
+    """What stands on the disk, each file and folder looked at once; by the profile gnu, `#include_next` and `__has_include` are looked for."""
 
-    def __init__(self, said):
-        self.said, self.lines, self.there, self.below = said, {}, {}, {}
+    def __init__(self, said, gnu):
+        self.said, self.gnu, self.lines, self.there, self.below = said, gnu, {}, {}, {}
         self.missing = set()
 
     def is_file(self, path):
@@ -205,7 +206,10 @@ class Files:
         if path not in self.lines:
             with open(path, "rb") as file:
                 text = SPLICE.sub(b"", file.read()).replace(b"??=", b"#")
-            self.lines[path] = unique(map(form_and_name, INCLUDE.finditer(text)))
+            found = [form_and_name(line, self.gnu) for line in INCLUDE.finditer(text)]
+            if self.gnu:
+                found += [(EACH, os.fsdecode(asked[1] or asked[2])) for asked in ASKED.finditer(text)]
+            self.lines[path] = unique(pair for pair in found if pair is not None)
         return self.lines[path]
 
     def headers(self, folder):
@@ -238,6 +242,8 @@ class Files:
                     self.said.add("%s: a name that a macro makes is also searched in -iquote folders" % path)
             elif name.startswith("/"):
                 self.said.add("%s: an include line names %s, which is fault 30" % (path, name))
+            elif form == EACH:
+                yield from filter(self.is_file, (at(folder, name) for folder in (own, *search)))
             else:
                 yield self.resolved(path, form, name, (own, *search) if form == QUOTE else search, quotes)
 
@@ -261,9 +267,13 @@ class Files:
         return list(reached)
 
 
-def form_and_name(found):
-    """An include line's form and name; a name that a macro makes is empty."""
-    quoted, angled, _ = found.groups()
+def form_and_name(found, gnu):
+    """An include line's form and name; a name that a macro makes is empty.  `#include_next` may find each file of its name."""
+    following, quoted, angled, _ = found.groups()
+    if following is not None:
+        if not gnu:
+            return None
+        return (COMPUTED, "") if quoted is None and angled is None else (EACH, os.fsdecode(quoted or angled))
     if quoted is not None:
         return QUOTE, os.fsdecode(quoted)
     return (ANGLE, os.fsdecode(angled)) if angled is not None else (COMPUTED, "")
@@ -293,7 +303,7 @@ class Builder:
     """Puts a list together: rows of names below a root, units, and files that are made."""
 
     def __init__(self, asked, said):
-        self.asked, self.said, self.files = asked, said, Files(said)
+        self.asked, self.said, self.files = asked, said, Files(said, asked.profile == "gnu")
         self.system = unique(os.path.abspath(folder) for folder in asked.system)
         self.made, self.root = {}, None
 
@@ -441,8 +451,8 @@ def list_of(asked, rows, pairs):
     """The list; folders that all units share stand once."""
     units = [unit for _, unit in pairs]
     date, clock = now()
-    budget = {} if asked.budget is None else {"budget": asked.budget}
-    whole = {**budget, "date": asked.date or date, "time": asked.time or clock, "search": [], "files": rows, "units": units}
+    chosen = {"budget": asked.budget, "profile": asked.profile}
+    whole = {**{name: value for name, value in chosen.items() if value is not None}, "date": asked.date or date, "time": asked.time or clock, "search": [], "files": rows, "units": units}
     if units and all(unit["search"] == units[0]["search"] for unit in units):
         whole["search"] = units[0]["search"]
         whole["units"] = [{k: v for k, v in unit.items() if k != "search"} for unit in units]
@@ -479,6 +489,8 @@ def options():
                             " undefines the name (may be repeated)")
     asked.add_argument("--date", metavar="TEXT", help="as 'Feb  9 2024' (default: SOURCE_DATE_EPOCH, or today)")
     asked.add_argument("--time", metavar="TEXT", help="as 08:05:03 (default: SOURCE_DATE_EPOCH, or now)")
+    asked.add_argument("--profile", choices=("c11", "later", "gnu"),
+                       help="which rules there are: gnu for headers of Linux, later for C23's branches and #pragma once (default: c11)")
     asked.add_argument("--budget", metavar="N", type=budget,
                        help="how many replacements and openings each unit may make (default: any number)")
     asked.add_argument("--targets", metavar="FILE", help="write what each unit is compiled to, a line each, for depfile.py")

@@ -90,6 +90,7 @@ export CPPUNITS
 if has python3 "the tests of the scripts and documents"; then
     begin python3 tests/called_tests.py
     begin python3 tests/row_tests.py
+    begin python3 tests/gnu_tests.py
     begin python3 tests/token_tests.py
     begin python3 tests/phase_tests.py
     begin python3 tests/list_tests.py

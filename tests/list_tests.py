@@ -251,6 +251,15 @@ class Commands(Lists):
         _, listed, _ = self.unit("cc -I. -c a.c", {**files, "a.c": text})
         self.assertEqual([row["name"] for row in listed["files"]], ["a.c"] + ["%d.h" % n for n in range(1, 7)])
 
+    def test_the_profile_gnu_has_all_files_of_a_next_include(self):
+        files = {"a.c": "#include <h.h>\n#if __has_include(<k.h>)\nk\n#endif\n", "one/h.h": "#include_next <h.h>\n", "two/h.h": "h\n",
+                 "two/k.h": "", "three/h.h": ""}
+        for words, profile, names in ([], None, ["a.c", "one/h.h"]), (["--profile", "gnu"], "gnu", sorted(files)):
+            _, listed, _ = self.unit("cc -Ione -Itwo -Ithree -c a.c", files, words)
+            self.assertEqual((listed.get("profile"), sorted(row["name"] for row in listed["files"])), (profile, names))
+        done = cppunits("--root", self.root, "dump", input=json.dumps(listed).encode())
+        self.assertEqual([line.split()[4] for line in done.stdout.splitlines() if line.startswith(b"tok ")], [b"h", b"k"])
+
     def test_a_folder_for_names_in_quotes_alone(self):
         files = {"a.c": "#include <h.h>\n", "q/h.h": "", "i/h.h": ""}
         _, _, said = self.unit("cc -iquote q -Ii -c a.c", files, status=1)

@@ -1,0 +1,256 @@
+#!/usr/bin/env python3
+"""Rows of the profile gnu, by what the program prints: what gcc's manual calls variadic macros, wrapper headers and `__has_include`.
+
+    tests/gnu_tests.py [PROGRAM] [-k NAME]
+
+Where a unit is ok, its tokens are those of gcc 12 with -std=gnu11, but for the trailing comma of `0, ## __VA_ARGS__` under the later profile.
+"""
+import unittest
+
+from counted import dumped, main
+from row_tests import given
+
+# Texts of a.c, and what a unit of it gives.
+TEXTS = [
+    # a named variadic parameter
+    ("#define f(x...) [x]\nf(1, 2)\n", "[ 1 , 2 ] | 0 | ok"),
+    ("#define f(x, y ...) x|y\nf(1, 2, 3)\n", "1 | 2 , 3 | 0 | ok"),
+    ("#define f(x...) #x\nf(a ,  \"b\") f()\n", "\"a , \\\"b\\\"\" \"\" | 0 | ok"),
+    ("#define f(x, x...) x\n", "| 0 | 11 0:1:1 f"),
+    ("#define f(x..., y) x\n", "| 0 | 11 0:1:1 f"),
+    ("#define f(...x) x\n", "| 0 | 11 0:1:1 f"),
+    ("#define f(x... ...) x\n", "| 0 | 11 0:1:1 f"),
+    ("#define f(__VA_ARGS__...) 1\n", "| 0 | 15 0:1:1 f"),
+    ("#define f(x...) __VA_ARGS__\n", "| 0 | 15 0:1:1 f"),
+    ("#define f(x...) # __VA_ARGS__\n", "| 0 | 15 0:1:1 f"),
+    ("#define f(x...) # y\n", "| 0 | 14 0:1:1 f"),
+    ("#define f(x...) x ##\n", "| 0 | 13 0:1:1 f"),
+    # a variable argument that is absent
+    ("#define f(a, ...) a|__VA_ARGS__|\nf(1) f(1,) f(1,2)\n", "1 | | 1 | | 1 | 2 | | 0 | ok"),
+    ("#define f(a, ...) a|__VA_ARGS__|\nf() f( )\n", "| | | | | 0 | ok"),
+    ("#define f(a, b, ...) a\nf(1,2) f(1)\n", "1 | 0 | 18 0:2:8 f"),
+    ("#define f(a, b, ...) a\nf()\n", "| 0 | 18 0:2:1 f"),
+    ("#define f(a, ...) #__VA_ARGS__ a ## __VA_ARGS__ __VA_ARGS__\nf(x) f(x,y)\n", "\"\" x \"y\" xy y | 0 | ok"),
+    # the comma before a variable argument
+    ("#define e(f, a...) p(f, ## a)\ne(1) e(1,) e(1,2) e(1,2,3)\n", "p ( 1 ) p ( 1 , ) p ( 1 , 2 ) p ( 1 , 2 , 3 ) | 0 | ok"),
+    ("#define e(f, ...) p(f, ## __VA_ARGS__)\ne(1) e(1,) e(1,2)\n", "p ( 1 ) p ( 1 , ) p ( 1 , 2 ) | 0 | ok"),
+    ("#define e(...) p(0, ## __VA_ARGS__)\ne() e( ) e(1) e(,)\n", "p ( 0 ) p ( 0 ) p ( 0 , 1 ) p ( 0 , , ) | 0 | ok"),
+    ("#define E\n#define e(...) p(0, ## __VA_ARGS__)\ne(E)\n", "p ( 0 , ) | 0 | ok"),
+    ("#define e(f, a...) p(f, ## a)\ne(1, e(2, 3))\n", "p ( 1 , e ( 2 , 3 ) ) | 0 | ok"),
+    ("#define e(f, a...) p(f, ## a)\n#define X 7\ne(1, X, X)\n", "p ( 1 , 7 , 7 ) | 0 | ok"),
+    ("#define e(f,a...) f,##a\n e(1) +\ne(1,  2, 3)+\n", "1 + 1 , 2 , 3 + | 0 | ok"),
+    ("#define e(f,a...) f ,##a\ne(1)-\n#define n(a...) ,##a\n(n())\n", "1 - ( ) | 0 | ok"),
+    ("#define e(x, V...) -x ,##V ,##V-\ne(1) e(1,2)\n", "- 1 - - 1 , 2 , 2 - | 0 | ok"),
+    ("#define e(x, V...) x ## , ## V\ne(,b) e(,) e()\n", ", b , | 0 | ok"),
+    ("#define e(x, V...) x ## , ## V\ne(1,b)\n", "| 0 | 19 0:2:1 1,"),
+    ("#define e(x, V...) x , ## V ## y\ne(1)\n", "| 0 | 19 0:2:1 ,y"),
+    ("#define e(x, V...) V , ## x\ne(1,2)\n", "| 0 | 19 0:2:1 ,1"),
+    ("#define e(x, V...) x , ## V|V\n#define X 7\ne(1) e(1,X)\n", "1 | 1 , 7 | 7 | 0 | ok"),
+    ("#define e(x, V...) x , ## V\n#define g e(1, g)\ng\ne(e, (2))(3)\n", "1 , g e , ( 2 ) ( 3 ) | 0 | ok"),
+    ("#define e(x, V...) x V\n#if e(1)\nyes\n#endif\n", "yes | 0 | ok"),
+    # `#include_next`
+    ("#include_next\n", "| 0 | 30 0:1:1"),
+    # directives that do nothing
+    ("#warning old  header\n#ident \"x\"\n#sccs \"y\"\nz\n", "z | 0 | ok"),
+    ("#warning don't\n#ident \"\nz\n", "z | 0 | ok"),
+    ("#assert x(y)\n", "| 0 | 8 0:1:1 assert"),
+    # another definition of a name
+    ("#define X 1\n#define X 2\nX\n", "2 | 0 | ok"),
+    ("#define X(a) a\n#define X 2\nX(1)\n", "2 ( 1 ) | 0 | ok"),
+    ("#define X 1\n#define X 1\nX\n", "1 | 0 | ok"),
+    ("#define __FILE__ 1\n", "| 0 | 10 0:1:1 __FILE__"),
+    ("#define X 1\n#define X a ##\nX\n", "| 0 | 13 0:2:1 X"),
+    # `__has_include`
+    ("#ifdef __has_include\n1\n#endif\n#if __has_include\n2\n#endif\n", "| 0 | ok"),
+    ("#if __has_include(k.h)\n#endif\n", "| 0 | 30 0:1:1"),
+    ("#if __has_include(\"k.h\"\n#endif\n", "| 0 | 30 0:1:1"),
+    ("#if __has_include(\"/k.h\")\n#endif\n", "| 0 | 30 0:1:1"),
+    ("#if defined __has_include (\"a.c\")\n#endif\n", "| 0 | 22 0:1:1"),
+    ("#if defined 3 && __has_include(k)\n#endif\n", "| 0 | 30 0:1:1"),
+    ("#define W(x) __has_include(x)\n#if W(\"a.c\")\n#endif\n", "| 0 | 23 0:2:1"),
+    ("__has_include(\"a.c\")\n", "__has_include ( \"a.c\" ) | 0 | ok"),
+    ("#if 0\n#elif __has_include(\"a.c\")\n1\n#endif\n", "1 | 0 | ok"),
+    # `__STDC_VERSION__`
+    ("__STDC_VERSION__\n#undef __STDC_VERSION__\n__STDC_VERSION__\n", "201112L __STDC_VERSION__ | 0 | ok"),
+    ("#undef __STDC__\n", "| 0 | 10 0:1:1 __STDC__"),
+    # all of the later profile
+    ("#if 0\n#elifdef __STDC__\n1\n#endif\n#pragma once\n", "1 pragma@0:5:1[ once ] | 0 | ok"),
+]
+# The same in other profiles.
+OTHERS = [
+    ("later", "#define f(x...) x\n", "| 0 | 11 0:1:1 f"),
+    ("c11", "#define f(a, ...) a\nf(1)\n", "| 0 | 18 0:2:1 f"),
+    ("later", "#define f(a, ...) a\nf(1)\n", "| 0 | 18 0:2:1 f"),
+    ("later", "#define e(...) 0, ## __VA_ARGS__\ne()\n", "0 , | 0 | ok"),
+    ("later", "#define e(...) 0, ## __VA_ARGS__\ne(1)\n", "| 0 | 19 0:2:1 ,1"),
+    ("later", "#warning x\n", "| 0 | 8 0:1:1 warning"),
+    ("later", "#define X 1\n#define X 2\n", "| 0 | 16 0:2:1 X"),
+    ("later", "#if __has_include(\"a.c\")\n1\n#endif\n", "| 0 | 23 0:1:1"),
+]
+# Files, what a unit of the first has, what all units share, and what it gives.
+LISTS = [
+    # `#include_next`
+    ([
+        ("a.c", "#include <h.h>\n"),
+        ("one/h.h", "1\n#include_next <h.h>\n"),
+        ("two/h.h", "2\n#include_next \"h.h\"\n"),
+        ("three/h.h", "3\n"),
+    ], {"search": ["one", "two", "three"]}, {}, "1 2 3 | 0 1 2 3 | ok"),
+    ([
+        ("a.c", "#include <h.h>\n"),
+        ("one/h.h", "1\n#include_next <h.h>\n"),
+        ("two/h.h", "2\n#include_next \"h.h\"\n"),
+    ], {"search": ["one", "two"]}, {}, "1 2 | 0 1 2 | 31 2:2:1 h.h"),
+    ([
+        ("a.c", "#include <h.h>\n"),
+        ("one/h.h", "1\n#include_next <h.h>\n"),
+        ("two/h.h", "2\n#include_next \"h.h\"\n"),
+        ("three/h.h", "3\n"),
+    ], {"search": ["one"]}, {"search": ["two", "three"]}, "1 2 3 | 0 1 2 3 | ok"),
+    ([
+        ("src/a.c", "#include \"h.h\"\n"),
+        ("src/h.h", "0\n#include_next \"h.h\"\n"),
+        ("one/h.h", "1\n#include_next <h.h>\n"),
+        ("two/h.h", "2\n#include_next \"h.h\"\n"),
+        ("three/h.h", "3\n"),
+    ], {"search": ["one", "two", "three"]}, {}, "0 1 2 3 | 0 1 2 3 4 | ok"),
+    ([
+        ("src/a.c", "#include \"h.h\"\n"),
+        ("src/h.h", "0\n#include_next \"k.h\"\n"),
+        ("src/k.h", "9\n"),
+    ], {"search": ["one"]}, {}, "0 | 0 1 | 31 1:2:1 k.h"),
+    ([
+        ("src/a.c", "#include_next \"k.h\"\n"),
+        ("src/k.h", "9\n"),
+        ("one/k.h", "1\n"),
+    ], {"search": ["one"]}, {}, "9 | 0 1 | ok"),
+    ([
+        ("a.c", "#include <h.h>\n"),
+        ("one/h.h", "#include_next <k.h>\n"),
+        ("one/k.h", "1\n"),
+        ("two/k.h", "2\n"),
+    ], {"search": ["one", "two"]}, {}, "2 | 0 1 3 | ok"),
+    ([
+        ("a.c", "#include \"one/h.h\"\n#include <h.h>\n"),
+        ("one/h.h", "#include_next <k.h>\n"),
+        ("one/k.h", "1\n"),
+        ("two/k.h", "2\n"),
+    ], {"search": ["one", "two"]}, {}, "1 2 | 0 1 2 3 | ok"),
+    ([
+        ("a.c", "#define K <k.h>\n#include <h.h>\n"),
+        ("one/h.h", "#include_next K\n"),
+        ("two/k.h", "2\n"),
+    ], {"search": ["one", "two"]}, {}, "2 | 0 1 2 | ok"),
+    ([
+        ("a.c", "#include <h.h>\n"),
+        ("one/h.h", "#include_next <k'//.h>\n"),
+        ("two/k'/.h", "2\n"),
+    ], {"search": ["one", "two"]}, {}, "2 | 0 1 2 | ok"),
+    ([
+        ("a.c", "#include_next \"h.h\" x\n"),
+        ("h.h", ""),
+    ], {}, {}, "| 0 | 30 0:1:1"),
+    ([
+        ("a.c", "#include <h.h>\n"),
+        ("one/h.h", "1\n#include_next <h.h>\n"),
+        ("two/h.h", "2\n#include_next \"h.h\"\n"),
+        ("three/h.h", "3\n"),
+    ], {"search": ["one", "two", "three"]}, {"budget": 3}, "1 2 | 0 1 2 | 35 2:2:1"),
+    ([
+        ("a.c", "#include <h.h>\n"),
+        ("one/h.h", "1\n#include_next <h.h>\n"),
+    ], {"search": ["one", "one"]}, {}, "1 1 | 0 1 | 31 1:2:1 h.h"),
+    ([
+        ("a.c", "#include <h.h>\n#include <h.h>\n"),
+        ("one/h.h", "#ifndef H\n#define H\n#include_next <h.h>\n#endif\n"),
+        ("two/h.h", "2\n"),
+    ], {"search": ["one", "two"]}, {}, "2 | 0 1 2 | ok"),
+    ([
+        ("a.c", "#include <h.h>\n#include <h.h>\n"),
+        ("one/h.h", "#pragma once\n#include_next <h.h>\n"),
+        ("two/h.h", "2\n"),
+    ], {"search": ["one", "two"]}, {}, "pragma@1:1:1[ once ] 2 | 0 1 2 | ok"),
+    ([
+        ("a.c", "#include_next \"h.h\"\n"),
+        ("h.h", ""),
+    ], {}, {"profile": "later"}, "| 0 | 8 0:1:1 include_next"),
+    # another definition of a name
+    ([
+        ("a.c", "X\n"),
+    ], {"define": ["X 1", "X 2"]}, {}, "2 | 0 | ok"),
+    # `__has_include`
+    ([
+        ("a.c", "#if __has_include(\"k.h\") && __has_include(<k.h>)\n1\n#endif\n#if __has_include ( \"no.h\" ) || __has_include(<no.h>)\n2\n#else\n3\n#endif\n"),
+        ("inc/k.h", ""),
+    ], {"define": ["__has_include __has_include"], "search": ["inc"]}, {}, "1 3 | 0 | ok"),
+    ([
+        ("src/a.c", "#if __has_include(\"k.h\") && !__has_include(<k.h>)\n1\n#endif\n"),
+        ("src/k.h", ""),
+    ], {"define": ["__has_include __has_include"]}, {}, "1 | 0 | ok"),
+    ([
+        ("a.c", "#if __has_include(\"k.h\")\n1\n#endif\n"),
+        ("k.h", "/* x"),
+    ], {}, {}, "1 | 0 | ok"),
+    ([
+        ("a.c", "#define k 7\n#if __has_include(<k.h>)\n1\n#endif\n"),
+        ("inc/k.h", ""),
+    ], {"search": ["inc"]}, {}, "1 | 0 | ok"),
+    ([
+        ("a.c", "#ifdef __has_include\n1\n#endif\n#if defined __has_include && defined(__has_include)\n2\n#endif\n"),
+    ], {"define": ["__has_include __has_include"]}, {}, "1 2 | 0 | ok"),
+    ([
+        ("a.c", "#if __has_include(\"a.c\")\n1\n#endif\n"),
+    ], {}, {"budget": 1}, "1 | 0 | ok"),
+    # `__STDC_VERSION__`
+    ([
+        ("a.c", "__STDC_VERSION__\n#if __STDC_VERSION__ < 201112L\n1\n#endif\n"),
+    ], {"define": ["__STDC_VERSION__ 199901L"]}, {}, "199901L 1 | 0 | ok"),
+    ([
+        ("a.c", "x\n"),
+    ], {"define": ["__STDC_VERSION__ 199901L"]}, {"profile": "later"}, "| | 10 65535:1:1 __STDC_VERSION__"),
+    # `__has_attribute` by definitions
+    ([
+        ("a.c", "#if defined __has_attribute && __has_attribute(__unused__) && !__has_attribute(nothing)\n1\n#endif\n"),
+    ], {"define": ["__has_attribute(x) __has_attribute_1(x)", "__has_attribute_1(x) __has_attribute_ ## x", "__has_attribute___unused__ 1"]}, {}, "1 | 0 | ok"),
+]
+
+# What stands where, of tokens behind a comma and of one behind a comma that went.
+PLACED = [
+    b"tok 0:2:4 0:2:2 n+ 1",
+    b"tok 0:2:7 0:2:7 p+ +",
+    b"tok 0:3:3 0:3:1 n+ 1",
+    b"tok 0:1:20 0:3:1 p- ,",
+    b"tok 0:3:7 0:3:1 n+ 2",
+    b"tok 0:3:8 0:3:1 p- ,",
+    b"tok 0:3:10 0:3:1 n+ 3",
+    b"tok 0:3:12 0:3:12 p- +",
+    b"dep 0 a.c",
+    b"ok",
+]
+
+
+def gives(files, unit, shared):
+    """What a unit of the first file gives, in the profile gnu unless another is said."""
+    return given(files, [{"file": files[0][0], **unit}], **{"profile": "gnu", **shared})
+
+
+class Gnu(unittest.TestCase):
+    def test_texts(self):
+        for text, wanted in TEXTS:
+            self.assertEqual(gives([("a.c", text)], {}, {}), [wanted], text)
+
+    def test_other_profiles(self):
+        for profile, text, wanted in OTHERS:
+            self.assertEqual(gives([("a.c", text)], {}, {"profile": profile}), [wanted], text)
+
+    def test_lists(self):
+        for files, unit, shared, wanted in LISTS:
+            self.assertEqual(gives(files, unit, shared), [wanted], files)
+
+    def test_places_and_marks(self):
+        found = dumped([{"name": "a.c", "text": "#define e(f,a...) f,##a\n e(1) +\ne(1,  2, 3)+\n"}], [{"file": "a.c"}], profile="gnu")
+        self.assertEqual(found, [PLACED])
+
+
+if __name__ == "__main__":
+    main()
