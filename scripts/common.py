@@ -4,6 +4,7 @@ import contextlib
 import json
 import os
 import re
+import signal
 import sys
 import tempfile
 
@@ -56,6 +57,8 @@ def shown(character):
 def run(main):
     """Runs a script, and ends it with its status and at most one line for what went wrong."""
     try:
+        # ends as an interrupt does, so that nothing is left behind
+        signal.signal(signal.SIGTERM, signal.default_int_handler)
         status = main()
         sys.stdout.flush()
     except Refused as refusal:
@@ -174,25 +177,30 @@ INSIDE = (b"tok ", b"prag ", b"ptok ", b"dep ")
 def units(path):
     """The units of an output, one after the other; refused where it isn't an output from its first line to its end."""
     with opened(path) as file:
-        unit, count = None, 0
-        for number, line in enumerate(file, 1):
-            where = "%s, line %d" % (path, number)
-            if not line.endswith(b"\n"):
-                raise Refused(where + ": the output is cut off")
-            line = line[:-1]
-            if unit is None:
-                unit = begun(where, line, count)
-                count += 1
-            elif line == b"ok" or line.startswith(b"fault "):
-                unit.last = line
-                yield unit
-                unit = None
-            elif line.startswith(INSIDE):
-                unit.lines.append(line)
-            else:
-                raise Refused(where + ": no line that cppunits prints within a unit")
-        if unit is not None:
-            raise Refused("%s: the output is cut off within unit %d" % (path, unit.number))
+        yield from units_of(path, file)
+
+
+def units_of(path, lines):
+    """The units of an output's lines, which are bytes; the path is what a refusal calls it."""
+    unit, count = None, 0
+    for number, line in enumerate(lines, 1):
+        where = "%s, line %d" % (path, number)
+        if not line.endswith(b"\n"):
+            raise Refused(where + ": the output is cut off")
+        line = line[:-1]
+        if unit is None:
+            unit = begun(where, line, count)
+            count += 1
+        elif line == b"ok" or line.startswith(b"fault "):
+            unit.last = line
+            yield unit
+            unit = None
+        elif line.startswith(INSIDE):
+            unit.lines.append(line)
+        else:
+            raise Refused(where + ": no line that cppunits prints within a unit")
+    if unit is not None:
+        raise Refused("%s: the output is cut off within unit %d" % (path, unit.number))
 
 
 def begun(where, line, number):

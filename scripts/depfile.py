@@ -10,6 +10,8 @@ Turns what `cppunits deps` (or `dump`) prints into dependency files, one a unit:
 NAME, and DIR/NAME.I.d where unit I is a further unit of that file.  Each holds one rule, escaped as ninja and GNU make
 read it (as gcc -MD writes it): the target, a colon, and the unit's dependencies.
 
+For example:  cppunits --root . deps < list.json | depfile.py --into d
+
 The target is NAME with its last suffix replaced by `.o`; --targets names a file with a target for each unit, one a
 line, as list_from_build.py --targets writes it.  Names are relative to the list's root: --prefix puts the way from the
 build's folder to the root in front.  Files that list_from_build.py made are left out.
@@ -33,7 +35,8 @@ def rule(target, names, headers):
 
 
 def object_of(name):
-    return os.path.splitext(name)[0] + b".o"
+    end = ".o" if isinstance(name, str) else b".o"
+    return os.path.splitext(name)[0] + end
 
 
 def targets_of(path):

@@ -14,6 +14,8 @@ Cuts a list by its units, and puts the outputs of the parts together again.
   shards.py join [--list LIST] OUTPUT ..   writes to standard output what one run over the whole list prints, out of
                                            the outputs of all parts, given in the order of the lists
 
+For example:  shards.py cut 4 --into shards list.json
+
 With --list the units of the outputs are compared with those of the whole list, so that no part is left out.
 LIST may be `-`, standard input."""
 MOST = 65535

@@ -11,6 +11,8 @@ has a mark or where two tokens would join, and a line break where the line of us
 that is preprocessed: `gcc -x cpp-output -c`, or under a name that ends in `.i`.  The operator _Pragma with a string
 literal becomes a #pragma line.
 
+For example:  cppunits --root . dump < list.json | text.py --into text
+
 Without --into it writes one unit's text to standard output: that of --unit, or the first.  With --into it writes
 DIR/NAME.i for each unit, and DIR/NAME.I.i where unit I is a further unit of that file.
 

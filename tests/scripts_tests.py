@@ -15,7 +15,7 @@ import xml.etree.ElementTree
 
 from counted import LIST, TOP, Folder, cppunits, main, missed, program, run, script, well, write
 
-SCRIPTS = ("list_from_build.py", "depfile.py", "text.py", "shards.py")
+SCRIPTS = ("list_from_build.py", "depfile.py", "text.py", "shards.py", "faults.py")
 
 
 def listed(files, units=None):

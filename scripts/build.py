@@ -1,0 +1,287 @@
+#!/usr/bin/env python3
+"""From a build's compile_commands.json to dependency files, a dump or faults, by one command."""
+import argparse
+import os
+import re
+import shutil
+import sys
+import tempfile
+import time
+
+import depfile
+from commands import Said, commands
+from common import DONE, GENERATED, PARTLY, Refused, own_names, parser, run, say, units, written
+from compilers import HAS_INCLUDE, SECONDS, Compilers
+from faults import forms, print_faults, wants_colour
+from lists import Builder, Given, bytes_of, list_of
+from runs import PIECE, Program, settled
+
+TEXT = """\
+Preprocesses a build's C units with cppunits, as its compile_commands.json has them.
+
+  build.py deps     writes a dependency file for each unit, as gcc -MD does: --into DIR
+  build.py dump     prints each unit's tokens and dependencies, as `cppunits dump` does
+  build.py faults   prints the first fault of each unit that has one, as faults.py does: by file, line and column
+
+For example, in a project's build folder:  build.py faults compile_commands.json
+
+The compilers of the commands are asked for their folders, macros and operators, under the options that change them.
+Only cc, gcc and clang, with a version or a target's name, are run, and only from PATH, /usr and /opt; --query-driver
+lets others be run.  All files that an include line can find are on cppunits' list; for names that macros make it is
+run until it asks for no more.
+
+The last line on standard error counts units, units with a fault, files and seconds."""
+FACTS = {"inline": False, "profile": "gnu", "budget": None, "date": None, "time": None, "root": "/"}
+DEPENDENCY = re.compile(rb"\ndep (\d+) ")
+
+
+class Progress:
+    """What is being done, on a line of its own that goes again; nothing where standard error is no terminal."""
+
+    def __init__(self):
+        self.there = sys.stderr.isatty()
+
+    def __call__(self, text):
+        if self.there:
+            print("\r\x1b[K" + text, end="", file=sys.stderr, flush=True)
+
+    def clear(self):
+        self(" ")
+        self("")
+
+
+class Counted(Said):
+    """What can't be expressed; commands that are left out are counted."""
+
+    def __init__(self, progress):
+        super().__init__()
+        self.progress, self.out = progress, {}
+
+    def add(self, line):
+        self.progress.clear()
+        super().add(line)
+
+    def left_out(self, path, reason):
+        self.out[reason] = self.out.get(reason, 0) + 1
+
+    def end(self):
+        for reason, count in self.out.items():
+            say("%d commands are left out: %s" % (count, reason))
+
+
+class Asked(Given):
+    """The folders and definitions that a unit gets by what its compiler says."""
+
+    def __init__(self, compilers, asked):
+        super().__init__(asked.system, asked.define)
+        self.compilers = compilers
+
+    def folders(self, command):
+        answer = self.compilers.answer(command)
+        return (answer.folders if answer else []) + self.system
+
+    def definitions(self, command):
+        answer = self.compilers.answer(command)
+        return {**(answer.definitions() if answer else {"__has_include": HAS_INCLUDE}), **self.texts}
+
+
+class Work:
+    """A build's list, and what cppunits says of it."""
+
+    def __init__(self, asked, folder):
+        self.asked, self.folder, self.began = asked, folder, time.monotonic()
+        self.progress = Progress()
+        self.said = Counted(self.progress)
+        self.program = Program(program_of(asked.program), folder, asked.workers)
+        self.faults, self.read = 0, set()
+        facts = argparse.Namespace(**FACTS, generate=os.path.join(folder, "root"))
+        self.compilers = Compilers(self.said, asked.query_driver, asked.seconds)
+        self.builder = Builder(facts, self.said, Asked(self.compilers, asked), True)
+        self.listed, self.pairs = None, []
+
+    def prepare(self):
+        """Makes the list, and keeps it where that is asked for."""
+        self.progress("reading %s" % self.asked.build)
+        all_commands = list(commands(self.asked.build, self.said))
+        self.progress("asking compilers")
+        self.compilers.ask_for(all_commands)
+        self.progress("looking for the files of %d units" % len(all_commands))
+        settled(self.builder, all_commands, self.program, self.learn, self.progress)
+        rows, self.pairs = self.builder.build(all_commands)
+        self.listed = list_of(self.builder.asked, rows, self.pairs)
+        if self.asked.list:
+            self.keep(all_commands)
+
+    def keep(self, all_commands):
+        """Writes the list; with the contents of the files, where some are made."""
+        listed = self.listed
+        if self.builder.made:
+            self.builder.asked.inline = True
+            listed = list_of(self.builder.asked, *self.builder.build(all_commands))
+        with written(self.asked.list) as file:
+            file.write(bytes_of(listed))
+
+    def learn(self):
+        self.compilers.learn(self.builder.files.asked_of_operators(self.builder.paths))
+
+    def run(self, word):
+        """The path of what cppunits prints."""
+        path = os.path.join(self.folder, "output")
+        with open(path, "wb") as file:
+            file.writelines(self.pieces(word))
+        return path
+
+    def pieces(self, word):
+        """What cppunits prints, in pieces that end lines."""
+        self.progress("running %d units over %d files" % (len(self.pairs), len(self.listed["files"])))
+        for piece in self.program.pieces(word, self.listed, self.builder.root):
+            self.progress.clear()
+            yield piece
+
+    def end(self):
+        """The last lines, and the status."""
+        self.said.end()
+        say("%d units, %d with a fault, %d files (%d on the list), %.1f seconds"
+            % (len(self.pairs), self.faults, len(self.read), len(self.listed["files"]), time.monotonic() - self.began))
+        return PARTLY if self.faults or self.said.lines else DONE
+
+    def count(self, path):
+        """Counts the faults of an output and the files that were read, and gives its bytes in pieces."""
+        with open(path, "rb") as file:
+            yield from self.counted(iter(lambda: file.read(PIECE) + file.readline(), b""))
+
+    def counted(self, pieces):
+        """The same of an output's pieces, which end lines."""
+        for piece in pieces:
+            lines = b"\n" + piece
+            self.read.update(DEPENDENCY.findall(lines))
+            self.faults += lines.count(b"\nfault ")
+            yield piece
+
+
+def deps(work):
+    """Writes the dependency files."""
+    sources = [os.path.dirname(command.file) for command, _ in work.pairs]
+    front = os.path.join(os.path.commonpath(sources), "")[1:] if sources else ""
+    path = work.run("deps")
+    for _ in work.count(path):
+        pass
+    for (unit, own), (command, _) in zip(own_names(units(path), ".d"), work.pairs):
+        if unit.fault is not None:
+            say("%s: fault %s (`build.py faults` says more)" % (command.file, unit.fault.split(" ")[0]))
+            continue
+        names = [os.fsencode(name) for name in dependencies(command, unit)]
+        headers = names[1:] if work.asked.phony else []
+        target = os.fsencode(command.target or command.output or depfile.object_of(os.path.basename(command.file)))
+        try:
+            text = depfile.rule(target, names, headers)
+        except Refused as refusal:
+            work.said.add("%s: %s" % (command.file, refusal))
+            continue
+        with written(os.path.join(work.asked.into, own[len(front):])) as file:
+            file.write(text)
+
+
+def dependencies(command, unit):
+    """The names of a unit's dependencies: relative where the command names their folder so, whole else."""
+    near = tuple(sorted(command.near))
+    whole = tuple(sorted({os.path.dirname(command.file), *sum(command.folders.values(), [])} - command.near))
+    made = GENERATED.encode() + b"/"
+    paths = ["/" + os.fsdecode(name) for name in unit.dependencies() if not name.startswith(made)]
+    if command.file in paths:
+        # a file that stands first in a made file's place comes first here, too
+        paths.insert(0, paths.pop(paths.index(command.file)))
+    return [os.path.relpath(path, command.directory) if is_near(near, whole, path) else path for path in paths]
+
+
+def is_near(near, whole, path):
+    """Whether the deepest folder above a path is one of those with a relative name."""
+    if not near:
+        return False
+    depth = max((len(folder) for folder in near if path.startswith(folder + "/")), default=-1)
+    return depth > max((len(folder) for folder in whole if path.startswith(folder + "/")), default=-1)
+
+
+def dump(work):
+    """Prints the dump."""
+    with written(work.asked.output) as out:
+        out.writelines(work.counted(work.pieces("dump")))
+
+
+def faults(work):
+    """Prints the faults."""
+    path = work.run("deps")
+    for _ in work.count(path):
+        pass
+    with open(path, "rb") as file:
+        colour = wants_colour(work.asked.colour, sys.stdout)
+        print_faults(work.listed, file, work.builder.root, sys.stdout, colour, work.asked.form, os.path.join(work.folder, "root"))
+
+
+def program_of(word):
+    """The program's path: the one that was named, or cppunits on PATH."""
+    path = shutil.which(word or "cppunits")
+    if path is None:
+        raise Refused("%s: there is no such program (--program names one)" % (word or "cppunits"))
+    return os.path.abspath(path)
+
+
+def number(word, least, most, kind):
+    try:
+        value = kind(word)
+    except ValueError:
+        value = least - 1
+    if not least <= value <= most:
+        raise argparse.ArgumentTypeError("a number from %g to %g is wanted" % (least, most))
+    return value
+
+
+def options():
+    asked = parser(TEXT, "some unit has a fault, or something can't be expressed, which is said")
+    words = asked.add_subparsers(required=True, metavar="deps|dump|faults")
+    for name, task, text in (("deps", deps, "write dependency files"), ("dump", dump, "print tokens and dependencies"),
+                             ("faults", faults, "print faults")):
+        word = words.add_parser(name, help=text, description=text[0].upper() + text[1:] + ", as build.py --help says.")
+        word.set_defaults(task=task)
+        word.add_argument("build", metavar="FILE", nargs="?", default="compile_commands.json",
+                          help="the build's commands (default: compile_commands.json; -: standard input)")
+        if task is deps:
+            word.add_argument("--into", metavar="DIR", default="cppunits-deps", help="the folder of the files (default: cppunits-deps)")
+            word.add_argument("--phony", action="store_true", help="a rule without prerequisites for each header, for make")
+        if task is dump:
+            word.add_argument("--output", metavar="FILE", default="-", help="write here (default: standard output)")
+        if task is faults:
+            forms(word)
+        shared(word)
+    return asked.parse_args()
+
+
+def shared(word):
+    """The options that deps, dump and faults share."""
+    word.add_argument("--program", metavar="FILE", help="the program (default: cppunits on PATH)")
+    word.add_argument("--workers", metavar="N", type=lambda text: number(text, 1, 64, int), help="how many units at once, for cppunits")
+    word.add_argument("--list", metavar="FILE", help="keep the list here, with names below / (and with contents where -include made files)")
+    word.add_argument("--query-driver", metavar="GLOB", action="append", default=[],
+                      help="let compilers whose paths match be run, as '/home/me/cross/bin/*-gcc' (may be repeated)")
+    word.add_argument("--seconds", metavar="N", type=lambda text: number(text, 0.1, 3600, float), default=SECONDS,
+                      help="how long each question to a compiler may take (default: %d)" % SECONDS)
+    word.add_argument("--system", metavar="DIR", action="append", default=[], help="a folder that each unit searches behind its compiler's")
+    word.add_argument("--define", metavar="TEXT", action="append", default=[],
+                      help="a definition, as it stands behind #define, for each unit whose command says nothing of the name")
+
+
+def main():
+    asked = options()
+    with tempfile.TemporaryDirectory(prefix="cppunits.") as folder:
+        work = Work(asked, os.path.realpath(folder))
+        try:
+            work.prepare()
+            asked.task(work)
+        finally:
+            work.progress.clear()
+        sys.stdout.flush()
+        return work.end()
+
+
+if __name__ == "__main__":
+    run(main)

@@ -1,0 +1,291 @@
+"""A compile command's words: which file is compiled, with which definitions and folders, and by which compiler."""
+import functools
+import os
+import re
+import shlex
+
+from common import Refused, opened, read_json, say
+
+MOST_NAME = 1024
+PREDEFINED = {"__FILE__", "__LINE__", "__DATE__", "__TIME__", "__STDC__", "__STDC_HOSTED__", "__STDC_VERSION__"}
+NEVER = PREDEFINED | {"defined", "__VA_ARGS__"}
+
+FOLDERS = {"-I": "bracket", "-iquote": "quote", "-isystem": "system", "-idirafter": "after"}
+READ = (*FOLDERS, "-D", "-U", "-include", "-x", "-o")
+LONG = {"--include-directory": "-I", "--define-macro": "-D", "--undefine-macro": "-U", "--include": "-include",
+        "--output": "-o", "--language": "-x"}
+# options whose next word is theirs, and says nothing to a preprocessor
+WORD_BEHIND = set("""-MF -MT -MQ -MJ -L -l -T -u -z -e -G -A -arch -target --target --param -Xlinker -Xassembler -Xclang
+    -mllvm -framework -isysroot --sysroot -aux-info -dumpbase -dumpbase-ext -dumpdir -wrapper -specs
+    --serialize-diagnostics -install_name -gcc-toolchain -include-pch""".split())
+NOT_READ = ("-imacros", "-iprefix", "-iwithprefix", "-iwithprefixbefore", "-I-", "-Xpreprocessor", "-imultilib")
+# what changes a compiler's own folders and macros, and neither runs nor writes anything
+ASKING = re.compile(r"""-std=[\w:.+]+ | -ansi | -O(?:[0-3sgz]|fast)? | -m[\w.+,=-]+ | -f[\w-]+ | -f(?:sanitize|cf-protection|pack-struct
+    |exec-charset|wide-exec-charset|abi-version|gnuc-version|fp-contract|excess-precision)=[\w,.+-]+
+    | -nostdinc | -nostdlibinc | -undef | -pthreads? | --target=[\w.+-]+ | --sysroot=.+ | -isysroot.+""", re.VERBOSE)
+NOT_ASKED = tuple("""-fplugin -fpass-plugin -fdump -fsave -fprofile -fcallgraph -fopt-info -fsyntax-only -fpreprocessed -fdirectives-only
+    -fcompare-debug -fmodule -ftime -fmem -fstack-usage -mllvm""".split())
+WORDS_ASKED = {"--sysroot", "-isysroot", "-target"}
+# programs that stand in front of a compiler and run it
+LAUNCHERS = {"ccache", "sccache", "distcc", "icecc", "buildcache", "gomacc", "env"}
+SUFFIXES = {".c": "c", ".h": "c"}
+LANGUAGES = set("c c-header cpp-output c++ c++-header c++-cpp-output objective-c objective-c++ assembler"
+                " assembler-with-cpp cuda none".split())
+
+
+class Command:
+    """What a command asks of the preprocessor: folders, definitions in their order, files to include first.
+
+    `compiler` is the word that names the compiler, behind ccache and the like, and `asking` the options that change what it answers;
+    `near` are folders that have a relative name in the command, so that the names of their files have, too."""
+
+    def __init__(self, entry, said):
+        self.directory = os.path.abspath(entry["directory"])
+        self.file = at(self.directory, entry["file"])
+        self.said, self.output, self.target = said, self.written(entry.get("output")), None
+        self.folders = {kind: [] for kind in FOLDERS.values()}
+        self.definitions, self.named, self.includes, self.asking, self.near = {}, set(), [], [], set()
+        self.language = SUFFIXES.get(os.path.splitext(self.file)[1], "other")
+        words = self.words_of(entry)
+        if not (os.path.isabs(entry["file"]) and entry["file"] in words):
+            self.near.add(os.path.dirname(self.file))
+        for option, word in self.options(words):
+            self.take(option, word)
+
+    def words_of(self, entry):
+        """The words behind the compiler's."""
+        words = list(entry["arguments"]) if "arguments" in entry else split_command(entry["command"])
+        at_word = compiler_at(words)
+        self.compiler = words[at_word] if at_word < len(words) else ""
+        return list(self.with_responses(words[at_word + 1:], 0))
+
+    def with_responses(self, words, depth):
+        """The words, with those of response files in the place of @FILE, and those of -Wp, in its place."""
+        for word in words:
+            path = os.path.join(self.directory, word[1:])
+            if word.startswith("@") and os.path.isfile(path) and depth < 16:
+                with open(path, encoding="utf-8", errors="surrogateescape") as file:
+                    yield from self.with_responses(split_response(file.read()), depth + 1)
+            elif word.startswith("-Wp,"):
+                yield from word[4:].split(",")
+            else:
+                yield word
+
+    def options(self, words):
+        """The options that are read, each with its word; what can't be is said."""
+        words = iter(words)
+        for word in words:
+            head, sign, tail = word.partition("=")
+            if head in LONG:
+                yield LONG[head], tail if sign else next(words, "")
+            elif word in READ:
+                yield word, next(words, "")
+            elif word.startswith(NOT_READ):
+                self.said.add("%s: %s isn't read" % (self.file, word))
+            elif word in WORD_BEHIND:
+                self.ask(word, next(words, ""))
+            elif ASKING.fullmatch(word):
+                self.ask(word)
+            else:
+                option = max((o for o in READ if word.startswith(o)), key=len, default=None)
+                if option is not None:
+                    yield option, word[len(option):]
+
+    def ask(self, option, word=None):
+        """Notes an option that changes the compiler's answers; names of folders become whole ones."""
+        head, sign, tail = option.partition("=")
+        if word is not None:
+            if option in WORDS_ASKED:
+                self.asking += [option, word if option == "-target" else at(self.directory, word)]
+        elif head == "--sysroot":
+            self.asking.append(head + sign + at(self.directory, tail))
+        elif option.startswith("-isysroot"):
+            self.asking += ["-isysroot", at(self.directory, option[len("-isysroot"):])]
+        elif not option.startswith(NOT_ASKED):
+            self.asking.append(option)
+
+    def take(self, option, word):
+        if option in FOLDERS:
+            folder = at(self.directory, word)
+            if os.path.isdir(folder):
+                self.said.same(os.path.join(self.directory, word), folder)
+                self.folders[FOLDERS[option]].append(folder)
+                if not os.path.isabs(word):
+                    self.near.add(folder)
+        elif option == "-D":
+            self.define(word)
+        elif option == "-U":
+            self.forget(word)
+            if word in PREDEFINED:
+                self.said.add("%s: -U%s: this name stays defined" % (self.file, word))
+        elif option == "-include":
+            self.includes.append(word)
+        elif option == "-x" and word in LANGUAGES - {"none"}:
+            self.language = "c" if word == "c-header" else word
+        elif option == "-o":
+            self.target = self.written(word)
+            self.output = self.output or self.target
+
+    def written(self, name):
+        """A name that is compiled to, or None where it is none that can be written."""
+        try:
+            return name and os.fsdecode(os.fsencode(name))
+        except UnicodeEncodeError:
+            self.said.add("%s: -o %s: no text" % (self.file, name))
+            return None
+
+    def define(self, word):
+        """As gcc does: the first `=` becomes a space, without one ` 1` stands behind; a line end ends it."""
+        word = re.split("[\r\n]", word, maxsplit=1)[0]
+        name = defined_name(word)
+        if name in NEVER:
+            self.said.add("%s: -D%s: this name may not be defined" % (self.file, word))
+            return
+        if not is_text(word):
+            self.said.add("%s: -D%s: no UTF-8 text" % (self.file, word))
+            return
+        self.forget(name)
+        self.definitions[name] = (word.replace("=", " ", 1) if "=" in word else word + " 1").rstrip(" ")
+
+    def forget(self, name):
+        """What was said of a name before, also for all units, counts no more."""
+        self.definitions.pop(name, None)
+        self.named.add(name)
+
+    def search(self, system):
+        """The folders for names in quotes, in their order, and how many of them are for such names alone."""
+        return searched(self.folders, system)
+
+
+def searched(folders, system):
+    """Puts the folders of each kind together; one that stands twice is dropped as gcc drops it, told apart as a folder, not by its name."""
+    late = once(folders["system"] + system + folders["after"])
+    behind = {place(folder) for folder in late}
+    bracket = [folder for folder in once(folders["bracket"]) if place(folder) not in behind] + late
+    quote = once(folders["quote"])
+    if quote and bracket and place(quote[-1]) == place(bracket[0]):
+        quote.pop()
+    return tuple(quote + bracket), len(quote)
+
+
+def once(folders):
+    """The folders, each once, in the order of their first places."""
+    found = {}
+    for folder in folders:
+        found.setdefault(place(folder), folder)
+    return list(found.values())
+
+
+@functools.lru_cache(maxsize=None)
+def place(folder):
+    """What tells a folder from others, whatever its name."""
+    try:
+        found = os.stat(folder)
+    except OSError:
+        return folder
+    return found.st_dev, found.st_ino
+
+
+def compiler_at(words):
+    """The place of the compiler's word: behind ccache and the like, their options, and variables that `env` sets."""
+    at_word = 0
+    while at_word < len(words) - 1 and os.path.basename(words[at_word]) in LAUNCHERS:
+        at_word += 1
+        while at_word < len(words) - 1 and ("=" in words[at_word] or words[at_word].startswith("-")):
+            at_word += 1
+    return at_word
+
+
+PIECE = re.compile(r"""[^ \t\r\n"'\\]+ | \\(.) | '([^']*)' | "((?:\\.|[^"\\])*)" """, re.VERBOSE | re.DOTALL)
+WORD = re.compile("(?:%s)+" % PIECE.pattern, re.VERBOSE | re.DOTALL)
+
+
+def split_command(text):
+    """The words of a command, as a shell reads them: what shlex gives, in a tenth of its time."""
+    if WORD.sub("", text).strip(" \t\r\n"):
+        return shlex.split(text)
+    return [PIECE.sub(unquoted, word[0]) for word in WORD.finditer(text)]
+
+
+def unquoted(found):
+    escaped, single, double = found.groups()
+    if double is not None:
+        return re.sub(r'\\(["\\])', r"\1", double)
+    return escaped or single or ("" if single is not None else found[0])
+
+
+def split_response(text):
+    """The words of a response file: quotes hold white space together, and a backslash keeps the next character."""
+    words = shlex.shlex(text, posix=True, punctuation_chars=False)
+    words.whitespace_split, words.commenters, words.escapedquotes = True, "", "\"'"
+    return list(words)
+
+
+def defined_name(text):
+    """The name that a definition is for, as a command or `#define` has it."""
+    return re.match(r"[^\s(=]*", text)[0]
+
+
+def at(directory, word):
+    return os.path.normpath(os.path.join(directory, word))
+
+
+def unique(words):
+    return list(dict.fromkeys(words))
+
+
+def commands(path, said):
+    """The commands of a build's C units."""
+    with opened(path) as file:
+        entries = read_json(path, file.read())
+    if not isinstance(entries, list):
+        raise Refused("%s is no compile_commands.json: it is to be an array" % path)
+    for number, entry in enumerate(entries):
+        try:
+            command = Command(entry, said)
+        except (KeyError, TypeError, AttributeError, ValueError) as error:
+            raise Refused("%s, entry %d: no `directory`, `file` and `command` or `arguments` (%s)"
+                          % (path, number, error)) from None
+        if command.language != "c":
+            said.left_out(command.file, "no C file")
+        elif not os.path.isfile(command.file):
+            said.left_out(command.file, "there is no such file (is it made by the build?)")
+        else:
+            yield command
+
+
+def is_text(word):
+    """Whether it can be written in UTF-8."""
+    try:
+        word.encode()
+    except UnicodeEncodeError:
+        return False
+    return True
+
+
+def is_name(name):
+    """Whether a list may hold this name, which is relative and normal."""
+    if not is_text(name) or re.search("[\x00-\x1f\x7f]", name):
+        return False
+    return name != "." and 1 <= len(name.encode()) <= MOST_NAME
+
+
+class Said:
+    """What can't be expressed: each line once, on standard error."""
+
+    def __init__(self):
+        self.lines = set()
+
+    def add(self, line):
+        if line not in self.lines:
+            self.lines.add(line)
+            say(line)
+
+    def left_out(self, path, reason):
+        """A command that isn't part of the list."""
+        self.add("%s: %s" % (path, reason))
+
+    def same(self, asked, taken):
+        """`..` goes back by names here, and by folders on a disk: they differ behind a symbolic link."""
+        if ".." in asked and os.path.realpath(asked) != os.path.realpath(taken):
+            self.add("%s: behind a symbolic link; %s is taken" % (asked, taken))

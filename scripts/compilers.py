@@ -1,0 +1,273 @@
+"""What compilers say of themselves: the folders that they search, the macros that they define, and what their operators know.
+
+A list of commands may come from a stranger, so few programs are run: those named as compilers are, which stand on PATH or below /usr or /opt,
+and those that the user names.  No shell is used, each question has a limit of seconds, and options that load or write anything aren't passed.
+"""
+import contextlib
+import fnmatch
+import os
+import re
+import select
+import shutil
+import signal
+import subprocess
+import tempfile
+import threading
+import time
+from concurrent.futures import ThreadPoolExecutor
+
+from commands import at, defined_name, is_text, unique
+
+NAME = re.compile(r"(?:\w[\w.]*-){0,5}(?:cc|gcc|clang)(?:-\d[\d.]*)?")
+PLACES = ("/usr/", "/opt/")
+SECONDS, MOST_ANSWER, AT_ONCE = 10, 16777216, 4
+OPERATORS = ("has_attribute", "has_builtin", "has_c_attribute", "has_cpp_attribute", "has_feature", "has_extension")
+# names that a list may not define; `__STDC_VERSION__` isn't among them under the profile gnu
+KEPT = {"__FILE__", "__LINE__", "__DATE__", "__TIME__", "__STDC__", "defined", "__VA_ARGS__", "__VA_OPT__"}
+MACRO = re.compile(r"#define ([A-Za-z_$][\w$]*(?:\([^()]*\))?(?: .*)?)")
+HAS_INCLUDE = "__has_include __has_include"
+
+
+class Limit:
+    """How many seconds a question may take; none where everything is to stop."""
+
+    def __init__(self, seconds):
+        self.seconds, self.stopped = seconds, threading.Event()
+
+    def wait(self, stream, end):
+        """Waits until there is something to read; a moment at a time, as everything may be to stop."""
+        while not self.stopped.is_set() and time.monotonic() < end:
+            if select.select([stream], [], [], min(0.1, self.seconds))[0]:
+                return
+        raise NoAnswer("it takes more than %g seconds" % self.seconds, True)
+
+
+class NoAnswer(Exception):
+    """A compiler that gives no answer, and why; `hangs` where it is stopped."""
+
+    def __init__(self, reason, hangs=False):
+        super().__init__(reason)
+        self.hangs = hangs
+
+
+class Answer:
+    """What a compiler says under some options: folders, definitions by name, and by operator what each name comes to."""
+
+    def __init__(self, folders, macros):
+        self.folders, self.macros, self.operators, self.whole, self.asked = folders, macros, [], None, False
+        self.known = {operator: {} for operator in OPERATORS}
+
+    def definitions(self):
+        """All definitions by their names, those of the operators among them."""
+        if self.whole is None:
+            self.whole = {**self.macros, **{defined_name(text): text for text in (HAS_INCLUDE, *self.of_operators())}}
+        return self.whole
+
+    def of_operators(self):
+        """The definitions that stand for the operators: each is asked by a name that its argument ends."""
+        for operator in self.operators:
+            yield "__%s(x) __%s_1(x)" % (operator, operator)
+            yield "__%s_1(x) __%s_ ## x" % (operator, operator)
+            yield from ("__%s_%s %s" % (operator, name, value) for name, value in sorted(self.known[operator].items()) if value != "0")
+
+    def learn(self, pairs, printed):
+        """Takes what was printed of pairs of an operator and a name."""
+        for operator, name in pairs:
+            self.known[operator][name] = "0"
+        found, self.asked = set(self.operators), True
+        for operator, name, value in re.findall(r"^@ (\w+) (\w*) ?: ?(.*)$", printed, re.MULTILINE):
+            found.add(operator)
+            if name in self.known.get(operator, ()):
+                self.known[operator][name] = value if re.fullmatch(r"\d+[lL]?", value) else "1"
+        self.operators, self.whole = [operator for operator in OPERATORS if operator in found], None
+
+
+class Compilers:
+    """Answers by compiler and options, each asked for once, several at a time."""
+
+    def __init__(self, said, globs=(), seconds=SECONDS):
+        self.said, self.globs, self.limit = said, globs, Limit(seconds)
+        self.answers, self.failed, self.programs = {}, set(), {}
+
+    def answer(self, command):
+        """What the command's compiler says, or None, which is told."""
+        key = self.key(command)
+        if key not in self.answers:
+            self.ask_for([command])
+        return self.answers[key]
+
+    def ask_for(self, all_commands):
+        """Asks for all answers that these commands need."""
+        keys = [key for key in unique(map(self.key, all_commands)) if key not in self.answers]
+        self.answers.update({key: None for key in keys})
+        found = self.each(asked, [(*key, self.limit) for key in keys if key[0] is not None])
+        for key, answer in found.items():
+            if answer.macros.pop("__STDC_HOSTED__", None) == "__STDC_HOSTED__ 0":
+                self.said.add("%s: __STDC_HOSTED__ is 0 there, and stays 1 here" % " ".join([key[0], *key[1]]))
+        self.answers.update(found)
+
+    def key(self, command):
+        return self.program(command), tuple(command.asking)
+
+    def program(self, command):
+        """The path of the command's compiler, or None where it isn't run, which is told."""
+        key = (command.compiler, command.directory if os.path.dirname(command.compiler) else None)
+        if key not in self.programs:
+            path, reason = trusted(command.compiler, command.directory, self.globs)
+            if reason:
+                self.said.add("%s: this compiler isn't asked: %s" % (command.compiler or "no word", reason))
+            self.programs[key] = None if reason else path
+        return self.programs[key]
+
+    def learn(self, names):
+        """Asks each compiler what its operators say of these names."""
+        questions = []
+        for key, answer in self.answers.items():
+            if answer is not None:
+                fresh = [(operator, name) for operator in OPERATORS for name in sorted(names) if name not in answer.known[operator]]
+                if fresh or not answer.asked:
+                    questions.append((*key, self.limit, fresh))
+        for key, (fresh, printed) in self.each(asked_of_operators, questions).items():
+            self.answers[key].learn(fresh, printed)
+
+    def each(self, task, questions):
+        """The answers to questions by compiler and options; a compiler that gave none isn't asked again."""
+        found = {}
+
+        def one(question):
+            if question[0] in self.failed:
+                return None
+            try:
+                return task(*question)
+            except NoAnswer as reason:
+                if reason.hangs:
+                    self.failed.add(question[0])
+                return reason
+
+        with ThreadPoolExecutor(AT_ONCE) as pool:
+            try:
+                answers = list(pool.map(one, questions))
+            except BaseException:
+                self.limit.stopped.set()
+                raise
+        for question, answer in zip(questions, answers):
+            if isinstance(answer, NoAnswer):
+                self.said.add("%s: no answer: %s" % (" ".join([question[0], *question[1]]), answer))
+            elif answer is not None:
+                found[question[:2]] = answer
+        return found
+
+
+def asked(program, options, limit):
+    """A compiler's folders and macros."""
+    folders = folders_of(ask(program, options, ["-v"], False, limit))
+    macros = macros_of(ask(program, options, ["-dM"], True, limit))
+    return Answer(folders, macros)
+
+
+def asked_of_operators(program, options, limit, pairs):
+    """Pairs of an operator and a name, and what a compiler prints of them."""
+    return pairs, ask(program, options, ["-P"], True, limit, question_of(pairs))
+
+
+def ask(program, options, question, output, limit, text=b""):
+    """What a compiler prints on standard output, or on standard error."""
+    return answered([program, "-E", *question, "-x", "c", *options, "-"], text, output, limit)
+
+
+def trusted(word, directory, globs):
+    """The path of a compiler, and why it isn't run: none where it is."""
+    if not is_text(word) or "\0" in word:
+        return None, "its name is no text"
+    path = at(directory, word) if os.path.dirname(word) else found_on_path(word)
+    if path is None:
+        return None, "there is no such program on PATH"
+    if not os.access(path, os.X_OK) or not os.path.isfile(path):
+        return None, "there is no such program"
+    if any(fnmatch.fnmatchcase(path, glob) for glob in globs):
+        return path, None
+    reason = None
+    if not NAME.fullmatch(os.path.basename(word)):
+        reason = "its name is none of cc, gcc and clang"
+    elif os.path.dirname(word) and not os.path.isabs(word):
+        reason = "its path is relative"
+    elif os.path.dirname(word) and not is_installed(path) and path != found_on_path(os.path.basename(word)):
+        reason = "it is neither on PATH nor below /usr or /opt"
+    return path, reason and "%s (--query-driver '%s' lets it be run)" % (reason, path)
+
+
+def is_installed(path):
+    """Whether a path is below /usr or /opt, and leads to a program there."""
+    return path.startswith(PLACES) and os.path.realpath(path).startswith(PLACES)
+
+
+def found_on_path(word):
+    """Where PATH has a program; relative folders of PATH don't count."""
+    folders = [folder for folder in os.environ.get("PATH", os.defpath).split(os.pathsep) if os.path.isabs(folder)]
+    return shutil.which(word, path=os.pathsep.join(folders)) if word and folders else None
+
+
+def answered(words, text, output, limit):
+    """Runs a program over a text in a folder of its own, with a limit of seconds and of bytes."""
+    with tempfile.TemporaryDirectory() as folder, tempfile.TemporaryFile() as given:
+        given.write(text)
+        given.seek(0)
+        streams = {"stdout": subprocess.PIPE, "stderr": subprocess.DEVNULL}
+        if not output:
+            streams = {"stdout": subprocess.DEVNULL, "stderr": subprocess.PIPE}
+        try:
+            process = subprocess.Popen(words, stdin=given, cwd=folder, start_new_session=True, env=dict(os.environ, LC_ALL="C"), **streams)
+        except (OSError, ValueError) as error:
+            raise NoAnswer(getattr(error, "strerror", None) or str(error)) from None
+        try:
+            return gathered(process.stdout or process.stderr, time.monotonic() + limit.seconds, limit)
+        finally:
+            with contextlib.suppress(OSError):
+                os.killpg(process.pid, signal.SIGKILL)
+            process.wait()
+            (process.stdout or process.stderr).close()
+
+
+def gathered(stream, end, limit):
+    """What a program prints until it ends."""
+    data = []
+    while sum(map(len, data)) <= MOST_ANSWER:
+        limit.wait(stream, end)
+        data.append(os.read(stream.fileno(), 65536))
+        if not data[-1]:
+            return b"".join(data).decode("utf-8", "replace")
+    raise NoAnswer("it prints more than %d bytes" % MOST_ANSWER, True)
+
+
+def folders_of(printed):
+    """The folders of `#include <...> search starts here`, those that are there."""
+    found = re.search(r"^#include <\.\.\.> search starts here:\n(.*?)^End of search list", printed, re.MULTILINE | re.DOTALL)
+    if found is None:
+        lines = printed.strip().split("\n")
+        raise NoAnswer("it names no folders; it says: %s" % (next((line for line in lines if "error" in line), lines[-1])[:200] or "nothing"))
+    folders = [line[1:] for line in found[1].split("\n") if line.startswith(" /") and not line.endswith("(framework directory)")]
+    return unique(os.path.realpath(folder) if ".." in folder else os.path.normpath(folder) for folder in folders if os.path.isdir(folder))
+
+
+def macros_of(printed):
+    """The definitions of `#define` lines, by name; those of names that are kept for the standard are left out."""
+    lines = [line for line in printed.split("\n") if line.startswith("#define ")]
+    found = [MACRO.fullmatch(line) for line in lines]
+    if not found or not all(found):
+        raise NoAnswer("it names no macros")
+    texts = {defined_name(line[1]): line[1].rstrip() for line in found if line[1].isprintable()}
+    texts = {name: text for name, text in texts.items() if name not in KEPT}
+    # without the name, as by -std=c90, the list's own value would stand
+    texts.setdefault("__STDC_VERSION__", "__STDC_VERSION__ 0L")
+    return texts
+
+
+def question_of(pairs):
+    """A text that asks a compiler for each operator, and what it says of each name."""
+    lines = []
+    for operator in OPERATORS:
+        lines += ["#ifdef __%s" % operator, "@ %s :" % operator, "#endif"]
+    for operator, name in pairs:
+        asked = "__%s(%s)" % (operator, name)
+        lines += ["#ifdef __%s" % operator, "#if " + asked, "@ %s %s : %s" % (operator, name, asked), "#endif", "#endif"]
+    return "\n".join([*lines, ""]).encode()

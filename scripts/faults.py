@@ -1,0 +1,340 @@
+#!/usr/bin/env python3
+"""Tells the faults that cppunits printed as compilers tell theirs: path, line, column, what it is and what to do."""
+import os
+import re
+import sys
+import unicodedata
+
+import include_chain
+from common import DONE, GENERATED, PARTLY, Refused, compact, opened, parser, plain, read_list, run, shown, units_of
+from fault_texts import advice, message
+
+TEXT = """\
+Tells the faults of what `cppunits deps` (or `dump`) printed as compilers tell theirs, one for each unit that has one:
+
+  In file included from src/main.c:2:
+  lib/low.h:7:1: error: no such file: word.h [fault 31]
+      7 | #include "word.h"
+        | ^
+  note: Give the folder that has it: by `-I` in a build's command, by `search` in a list, whose `files` name it.
+
+LIST is the list that cppunits was given.  The include lines above a fault are told where the unit's dependencies and the
+sources leave one way alone; elsewhere the unit is named.  The line is told where it is as the fault says.  Columns count bytes, from 1.
+A path is relative to this folder where it lies below it.  The place <command line> is the unit's definitions, one a line.
+
+--format json writes an object a line for each fault: path, line, column, number, message, advice, text, unit (its
+number), source (the path of its file) and chain (path and line of each include line, the innermost first, or null).
+
+Example:
+  cppunits --root . deps < list.json | faults.py --root . list.json"""
+FAULT = re.compile(rb"fault (\d{1,2}) (\d{1,5}):(\d{1,9}):(\d{1,9})(?: (.*))?", re.DOTALL)
+DEPENDENCY = re.compile(rb"dep (\d{1,5}) (.+)", re.DOTALL)
+COMMAND_LINE, DEFINITIONS = "<command line>", 65535
+UNREADABLE, TOO_DEEP = 6, 32
+# what stands at the place of a fault: a name at some, else the directive's #, which may be written in other ways
+AT_NAMES = range(17, 22)
+AT_OTHERS = {1: (b"/",), 2: (b"\\", b"??/"), 7: (b"'", b'"')}
+HASHES = (b"#", b"%:", b"??=", b"%\\")
+PLACE, ERROR, NOTE, CARET, PLAIN = "\33[1m", "\33[1;31m", "\33[1;36m", "\33[1;32m", "\33[0m"
+MOST_LETTERS, BEFORE_CARET, MOST_FILE = 200, 100, 16777216
+
+
+class Sources:
+    """A list's files, units and folders, and what stands in the files."""
+
+    def __init__(self, listed, root, made=None):
+        self.root, self.here = os.path.abspath(root), os.getcwd()
+        self.made = self.root if made is None else os.path.abspath(made)
+        self.read, self.split, self.directives = {}, {}, {}
+        self.files, self.units = listed["files"], listed["units"]
+        self.search, self.once = listed.get("search", []), listed.get("profile") in ("later", "gnu")
+        self.names = [row.get("name") if isinstance(row, dict) else None for row in self.files]
+        lists = [self.search] + [unit.get(member, []) for unit in self.units if isinstance(unit, dict)
+                                 for member in ("search", "define")]
+        texts = self.names + [word for words in lists for word in (words if isinstance(words, list) else [None])]
+        texts += [unit.get("file") if isinstance(unit, dict) else None for unit in self.units]
+        if not all(isinstance(text, str) for text in texts):
+            raise Refused("the list isn't as docs/FORMAT.md says: a name, a folder or a definition is no text")
+        self.rows, self.finders = {name: row for row, name in enumerate(self.names)}, {}
+
+    def path(self, name):
+        """A file's path for a reader: relative to this folder where it lies below it."""
+        path = os.path.join(self.root, name)
+        inside = os.path.relpath(path, self.here)
+        return path if inside == ".." or inside.startswith("../") else inside
+
+    def data(self, row):
+        """A file's bytes, or None where there are none."""
+        if row not in self.read:
+            self.read[row] = self.contents(self.files[row])
+        return self.read[row]
+
+    def contents(self, file):
+        try:
+            if "hex" in file:
+                return bytes.fromhex(file["hex"])
+            if "text" in file:
+                return file["text"].encode("utf-8", "surrogatepass")
+            root = self.made if file["name"].startswith(GENERATED + "/") else self.root
+            path = os.path.join(os.fsencode(root), as_bytes(file["name"]))
+            if not os.path.isfile(path) or os.path.getsize(path) > MOST_FILE:
+                return None
+            with open(path, "rb") as source:
+                return source.read()
+        except (OSError, ValueError, TypeError, AttributeError):
+            return None
+
+    def line(self, row, number):
+        """A line of a file, without its end, or None."""
+        if row not in self.split:
+            data = self.data(row)
+            data = data[3:] if data is not None and data.startswith(b"\xef\xbb\xbf") else data
+            self.split[row] = None if data is None else data.split(b"\n")
+        lines = self.split[row]
+        if lines is None or not 1 <= number <= len(lines):
+            return None
+        return lines[number - 1].rstrip(b"\r")
+
+    def source(self, row):
+        """A file's include lines, or None where they can't be told."""
+        if row not in self.directives:
+            data = self.data(row)
+            try:
+                self.directives[row] = None if data is None else include_chain.Source(data)
+            except include_chain.Unclear:
+                self.directives[row] = None
+        return self.directives[row]
+
+    def finder(self, search):
+        """What finds the files of include lines, with a unit's folders before those of the list."""
+        if tuple(search) not in self.finders:
+            self.finders[tuple(search)] = include_chain.Names(self.names, self.rows, search + self.search)
+        return self.finders[tuple(search)]
+
+    def definitions(self, unit):
+        return self.units[unit.number].get("define", [])
+
+
+class Fault:
+    """A unit's fault: its number, place and text."""
+
+    def __init__(self, unit, sources):
+        found = FAULT.fullmatch(unit.last)
+        if not found:
+            raise Refused("unit %d: no fault as cppunits prints it" % unit.number)
+        self.number, self.row, self.line, self.column = (int(word) for word in found.groups()[:4])
+        self.text = plain(found[5] or b"").decode("utf-8", "surrogateescape")
+        self.unit, self.sources = unit, sources
+        self.order = [self.opened_row(line) for line in unit.lines if line.startswith(b"dep ")]
+        self.compare(unit.number < len(sources.units) and as_bytes(sources.units[unit.number]["file"]) == unit.name)
+        self.compare(self.row == DEFINITIONS or self.row < len(sources.names))
+
+    def opened_row(self, line):
+        found = DEPENDENCY.fullmatch(line)
+        row, names = int(found[1]) if found else -1, self.sources.names
+        self.compare(0 <= row < len(names) and as_bytes(names[row]) == plain(found[2]))
+        return row
+
+    def compare(self, agrees):
+        """Refuses an output that isn't that of the list."""
+        if not agrees:
+            raise Refused("the output isn't that of the list: unit %d or its files are others" % self.unit.number)
+
+    @property
+    def source(self):
+        """The path of the file that is compiled."""
+        return self.sources.path(self.unit.source.decode("utf-8", "surrogateescape"))
+
+    @property
+    def path(self):
+        return COMMAND_LINE if self.row == DEFINITIONS else self.sources.path(self.sources.names[self.row])
+
+    def is_own(self):
+        """Whether it is in the file that is compiled."""
+        return self.row != DEFINITIONS and as_bytes(self.sources.names[self.row]) in (self.unit.name, self.unit.source)
+
+    def shown_line(self):
+        """The line of the source, or None where none is there that has what the fault is about."""
+        if self.row == DEFINITIONS:
+            texts = self.sources.definitions(self.unit)
+            return ("#define " + texts[self.line - 1]).encode() if 1 <= self.line <= len(texts) else None
+        line = self.sources.line(self.row, self.line)
+        if line is None or not line.strip():
+            return None
+        rest = line[self.column - 1:]
+        is_name = re.match(rb"[\w$\\\x80-\xff]", rest) is not None
+        if self.number in AT_OTHERS:
+            fits = rest.startswith(AT_OTHERS[self.number])
+        else:
+            fits = is_name if self.number in AT_NAMES else rest.startswith(HASHES) or (is_name and self.number == 35)
+        return line if fits else None
+
+    def chain(self):
+        """The include lines above it, each its path and line, the innermost first; None where they aren't certain."""
+        if self.row == DEFINITIONS or not self.order:
+            return []
+        found = self.rows_above()
+        if found is None:
+            return None
+        told, inner = [], self.row
+        for row, line in found:
+            name, below = self.sources.names[row], self.sources.names[inner]
+            if not name.startswith(GENERATED + "/"):
+                told.append((self.sources.path(name), line))
+            elif as_bytes(below) != self.unit.source:
+                told.append((COMMAND_LINE, line))
+            inner = row
+        return told
+
+    def rows_above(self):
+        found = {row: self.sources.source(row) for row in self.opened_files()}
+        if self.number in include_chain.READING:
+            found[self.row] = include_chain.Source(b"")
+        if self.number == TOO_DEEP or None in found.values():
+            return None
+        listed = self.sources.units[self.unit.number]
+        names = self.sources.finder(listed.get("search", []))
+        pairs = [re.match(rb"([\w$]*)(.*)", as_bytes(text), re.DOTALL).groups() for text in listed.get("define", [])]
+        setting = names, self.opened_files(), found, dict(pairs), self.sources.once
+        return include_chain.chain(*setting, self.number, self.row, self.line)
+
+    def opened_files(self):
+        """The dependencies, but for one that couldn't be read: the fault is where it was asked for."""
+        return self.order[:-1] if self.number == UNREADABLE and len(self.order) > 1 else self.order
+
+    def members(self):
+        """What the form `json` tells of it."""
+        chain = self.chain()
+        above = None if chain is None else [{"path": path, "line": line} for path, line in chain]
+        return {"path": self.path, "line": self.line, "column": self.column, "number": self.number,
+                "message": message(self.number, self.text), "advice": advice(self.number), "text": self.text,
+                "unit": self.unit.number, "source": self.source, "chain": above}
+
+    def lines(self, colour):
+        """What the form `text` tells of it."""
+        def set_in(style, text):
+            return style + text + PLAIN if colour else text
+
+        chain = self.chain()
+        above = ["%s:%d" % (readable(path), line) for path, line in chain or ()]
+        for at, place in enumerate(above):
+            begin = "                 from" if at else "In file included from"
+            yield "%s %s%s" % (begin, set_in(PLACE, place), ":" if at == len(above) - 1 else ",")
+        if not above and not self.is_own():
+            yield "In unit %s:" % set_in(PLACE, readable(self.source))
+        place = "%s:%d:%d:" % (readable(self.path), self.line, self.column)
+        told = readable(message(self.number, self.text))
+        yield "%s %s %s [fault %d]" % (set_in(PLACE, place), set_in(ERROR, "error:"), told, self.number)
+        line = self.shown_line()
+        if line is not None:
+            text, before = excerpt(line, self.column)
+            yield "%5d | %s" % (self.line, text)
+            yield "      | %s%s" % (before, set_in(CARET, "^"))
+        if advice(self.number):
+            yield "%s %s" % (set_in(NOTE, "note:"), advice(self.number))
+
+
+def as_bytes(name):
+    """A name as the program has it."""
+    return name.encode("utf-8", "surrogatepass")
+
+
+def readable(text):
+    return "".join(shown(letter) for letter in text)
+
+
+def excerpt(line, column):
+    """A line for a reader, and what stands in the next one before the caret; of a long line a part."""
+    begin = len(line[:column - 1].decode("utf-8", "surrogateescape"))
+    letters = line.decode("utf-8", "surrogateescape")
+    if len(letters) <= MOST_LETTERS:
+        return "".join(map(letter, letters)), "".join(map(blank, letters[:begin]))
+    first = max(0, begin - BEFORE_CARET)
+    last = first + MOST_LETTERS
+    left, right = "..." if first else "", "..." if last < len(letters) else ""
+    text = left + "".join(map(letter, letters[first:last])) + right
+    return text, " " * len(left) + "".join(map(blank, letters[first:begin]))
+
+
+def letter(one):
+    """A letter as it may stand on a terminal: tabs are kept, what can't be seen is told by its number."""
+    if one == "\t" or one.isprintable():
+        return one
+    if "\udc80" <= one <= "\udcff":
+        return "<%02X>" % (ord(one) - 0xdc00)
+    return "<U+%04X>" % ord(one)
+
+
+def blank(one):
+    """As much white space as a letter is wide."""
+    if one == "\t":
+        return one
+    if one.isprintable():
+        wide = unicodedata.east_asian_width(one) in "WF"
+        return "" if unicodedata.combining(one) else "  " if wide else " "
+    return " " * len(letter(one))
+
+
+def print_faults(listed, output_lines, root=".", to=None, colour=False, form="text", made=None):
+    """Prints the fault of each unit that has one, and gives their number.
+
+    listed: the list's object; output_lines: what cppunits printed, as lines of bytes (an open binary file, for one); root: the
+    folder of the list's names; to: a text file; colour: whether for a terminal; form: `text` or `json`; made: the folder of the
+    files that were made for the list, where they aren't below the root."""
+    to = sys.stdout if to is None else to
+    sources, count = Sources(listed, root, made), 0
+    for unit in units_of("the output", output_lines):
+        if unit.fault is None:
+            continue
+        count += 1
+        fault = Fault(unit, sources)
+        if form == "json":
+            data = compact(fault.members())
+        else:
+            text = "".join(line + "\n" for line in fault.lines(colour))
+            data = text.encode("utf-8", "backslashreplace")
+        put(to, data)
+    return count
+
+
+def put(to, data):
+    """Bytes of UTF-8 to a text file, whatever its own encoding is."""
+    if hasattr(to, "buffer"):
+        to.flush()
+        to.buffer.write(data)
+    else:
+        to.write(data.decode())
+
+
+def wants_colour(word, to):
+    """Whether colours are asked for: by `auto` where the output is a terminal that has some."""
+    if word != "auto":
+        return word == "always"
+    return to.isatty() and os.environ.get("TERM", "dumb") != "dumb" and "NO_COLOR" not in os.environ
+
+
+def forms(asked):
+    """The options that say in which form faults are told."""
+    asked.add_argument("--color", "--colour", dest="colour", choices=("auto", "always", "never"), default="auto",
+                       help="whether to use colours (default: auto, where standard output is a terminal)")
+    asked.add_argument("--format", dest="form", choices=("text", "json"), default="text",
+                       help="the form: text for readers and editors, or an object a line (default: text)")
+
+
+def main():
+    asked = parser(TEXT, "some unit has a fault, as cppunits itself says it")
+    asked.add_argument("list", metavar="LIST", help="the list, of which cppunits printed; `-` is standard input")
+    asked.add_argument("output", metavar="OUTPUT", nargs="?", default="-", help="what it printed (default: standard input)")
+    asked.add_argument("--root", metavar="DIR", default=".", help="the folder of the list's names (default: this one)")
+    forms(asked)
+    words = asked.parse_args()
+    if words.list == words.output == "-":
+        asked.error("the list and the output can't both come from standard input")
+    listed = read_list(words.list)
+    with opened(words.output) as lines:
+        count = print_faults(listed, lines, words.root, sys.stdout, wants_colour(words.colour, sys.stdout), words.form)
+    return PARTLY if count else DONE
+
+
+if __name__ == "__main__":
+    run(main)

@@ -1,0 +1,240 @@
+"""The files that units can reach: their include lines, and where each name is looked for."""
+import os
+import re
+
+from commands import at, unique
+
+HEADERS = (".h", ".hh", ".hpp", ".hxx", ".inc", ".inl", ".def", ".tbl", ".ipp", ".x")
+COMMENT = rb"/\*[^*]*\*+(?:[^/*][^*]*\*+)*/"
+BLANK = rb"(?:[ \t\v\f\r]|" + COMMENT + rb")*"
+INCLUDE = re.compile(rb"[#%]:?" + BLANK + rb"include(_next)?(?![\w$])" + BLANK
+                     + rb"(?:\"([^\"\n]+)\"|<([^>\n]+)>|([A-Za-z_$\\\x80-\xff]))")
+ASKED = re.compile(rb"\b__has_include" + BLANK + rb"\(" + BLANK + rb"(?:\"([^\"\n]+)\"|<([^>\n]+)>)")
+NEXT = re.compile(rb"\b__has_include_next" + BLANK + rb"\(" + BLANK + rb"(?:\"([^\"\n]+)\"|<([^>\n]+)>)")
+# names that a compiler's operators may be asked for: by a macro whose name ends in the operator's, and by any in a condition
+OPERATOR = re.compile(rb"has_(?:attribute|c_attribute|cpp_attribute|builtin|feature|extension)[ \t]*\([ \t]*([A-Za-z_]\w*)[ \t]*\)", re.IGNORECASE)
+CONDITION = re.compile(rb"#[ \t]*(?:el)?if\b([^\n]*)")
+CALLED = re.compile(rb"\b(?!defined\b)[A-Za-z_]\w*[ \t]*\([ \t]*([A-Za-z_]\w*)[ \t]*\)")
+# comments, and the literals in which `/*` is none
+PASSED = re.compile(rb"/\*.*?\*/|//[^\n]*|\"(?:\\.|[^\"\\\n])*\"|'(?:\\.|[^'\\\n])*'", re.DOTALL)
+SPLICE = re.compile(rb"(?:\\|\?\?/)\r?\n")
+QUOTE, ANGLE, COMPUTED, EACH = "quote", "angle", "computed", "each"
+
+
+class Files:
+    """What stands on the disk, each file and folder looked at once.
+
+    By the profile gnu, `#include_next` and `__has_include` are looked for.  With `every`, a name is each file that it may be, and a name that
+    a macro makes is what `settled` says of its file; without, a name is the first file that is found, and a macro's may be any header."""
+
+    def __init__(self, said, gnu, every=False):
+        self.said, self.gnu, self.every = said, gnu, every
+        self.lines, self.there, self.below, self.operators, self.nexts = {}, {}, {}, {}, {}
+        self.missing, self.settled, self.shadows = set(), {}, {}
+
+    def is_file(self, path):
+        if path not in self.there:
+            self.there[path] = os.path.isfile(path)
+        return self.there[path]
+
+    def includes(self, path):
+        """The include lines of a file: each its form and its name."""
+        if path not in self.lines:
+            text = content(path)
+            if b"\\\n" in text or b"\\\r\n" in text or b"??" in text:
+                text = SPLICE.sub(b"", text).replace(b"??=", b"#")
+            found = include_lines(text, self.gnu) if b"include" in text else []
+            if (COMPUTED, "") in found and (COMPUTED, "") not in include_lines(PASSED.sub(uncommented, text), self.gnu):
+                # it stands in a comment, which takes longer to see
+                found.remove((COMPUTED, ""))
+            if self.gnu and b"__has_include" in text:
+                found += [(EACH, os.fsdecode(asked[1] or asked[2])) for asked in ASKED.finditer(text)]
+            self.lines[path] = unique(found)
+            self.operators[path] = operators_in(text)
+            if self.gnu and b"__has_include_next" in text:
+                self.nexts[path] = unique(os.fsdecode(asked[1] or asked[2]) for asked in NEXT.finditer(text))
+        return self.lines[path]
+
+    def computes(self, path):
+        """Whether a macro makes the name of an include line of this file."""
+        return (COMPUTED, "") in self.includes(path)
+
+    def next_answers(self, paths, search):
+        """What `__has_include_next` is where these files ask it: whether a folder behind the file's has the name.
+
+        None is the answer for a file that is in no folder of the search."""
+        answers = set()
+        for path in paths:
+            for name in self.nexts.get(path, ()):
+                folder = os.path.dirname(path)
+                behind = search[search.index(folder) + 1:] if folder in search else ()
+                answers.add(any(self.is_file(joined(folder, name)) for folder in behind) if folder in search else None)
+        return answers
+
+    def headers(self, folder):
+        """Every header at or below a folder; hidden folders are passed over."""
+        if folder not in self.below:
+            found = []
+            for where, folders, names in os.walk(folder):
+                folders[:] = sorted(name for name in folders if not name.startswith("."))
+                found += [os.path.join(where, name) for name in sorted(names) if name.endswith(HEADERS)]
+            self.below[folder] = found
+        return self.below[folder]
+
+    def first(self, folders, name):
+        """The first file of this name in the folders, or None."""
+        for folder in folders:
+            path = joined(folder, name)
+            if self.is_file(path):
+                self.said.same(os.path.join(folder, name), path)
+                return path
+        return None
+
+    def each(self, folders, name):
+        """Each file of this name in the folders."""
+        found = []
+        for folder in folders:
+            path = joined(folder, name)
+            if self.is_file(path):
+                if ".." in name:
+                    self.said.same(os.path.join(folder, name), path)
+                found.append(path)
+        return found
+
+    def reach(self, starts, search, quotes):
+        """The files that some files reach over these folders, with themselves, in the order of finding."""
+        reached, looked = dict.fromkeys(starts), Looked(self, search, quotes)
+        waiting = list(reversed(list(reached)))
+        while waiting:
+            path = waiting.pop()
+            fresh = [found for found in unique(looked.asked_for(path)) if found not in reached]
+            reached.update(dict.fromkeys(fresh))
+            waiting += reversed(fresh)
+        return list(reached)
+
+    def say_shadow(self, path, name, found):
+        """A name in angle brackets is looked for in -iquote folders, too, as a list has one kind of folder."""
+        self.said.add("%s: <%s> is found in an -iquote folder, as %s" % (path, name, found))
+
+    def say_shadows(self, members):
+        """The same of each file on the list that stands so before the right one."""
+        for (path, name), found in self.shadows.items():
+            if found in members:
+                self.say_shadow(path, name, found)
+
+    def settle(self, path, name):
+        """Notes a name that a macro makes in this file."""
+        self.settled.setdefault(path, {})[name] = None
+
+    def asked_of_operators(self, paths):
+        """The names that these files may ask a compiler's operators for."""
+        names = set()
+        for path in paths:
+            self.includes(path)
+            names.update(self.operators[path])
+        return names
+
+
+class Looked:
+    """What names are found as over one search: each name looked for once, and beside each folder of an includer once."""
+
+    def __init__(self, files, search, quotes):
+        self.files, self.search, self.quotes, self.done, self.said = files, search, quotes, set(), files.said
+
+    def asked_for(self, path):
+        """The files that a file's include lines can ask for, but for those that the same lines of others gave."""
+        own = os.path.dirname(path)
+        for form, name in self.files.includes(path):
+            key = (form, name) if form == ANGLE else (form, name, own)
+            if form == COMPUTED:
+                yield from self.computed(path, own)
+            elif key not in self.done:
+                self.done.add(key)
+                yield from self.named(path, own, form, name)
+
+    def computed(self, path, own):
+        """The files of a name that a macro makes: every header, or those of the names that are known."""
+        if self.files.every:
+            for name in self.files.settled.get(path, ()):
+                yield from self.named(path, own, EACH, name)
+            return
+        for folder in unique((own, *self.search)):
+            yield from self.files.headers(folder)
+        if self.quotes:
+            self.said.add("%s: a name that a macro makes is also searched in -iquote folders" % path)
+
+    def named(self, path, own, form, name):
+        if name.startswith("/"):
+            if not self.files.every:
+                self.said.add("%s: an include line names %s, which is fault 30" % (path, name))
+            return []
+        folders = self.search if form == ANGLE else (own, *self.search)
+        if form == EACH or self.files.every:
+            return self.every(path, form, name, folders)
+        return self.resolved(path, form, name, folders)
+
+    def every(self, path, form, name, folders):
+        """Each file of this name; of a name in angle brackets none in a folder for names in quotes."""
+        if form != ANGLE or not self.quotes:
+            return self.files.each(folders, name)
+        shadow = self.files.first(folders[:self.quotes], name)
+        if shadow is not None:
+            self.files.shadows[path, name] = shadow
+        return self.files.each(folders[self.quotes:], name)
+
+    def resolved(self, path, form, name, folders):
+        found = self.files.first(folders, name)
+        if form == ANGLE and found != self.files.first(folders[self.quotes:], name):
+            self.files.say_shadow(path, name, found)
+        if found is None:
+            self.files.missing.add(name)
+            return []
+        return [found]
+
+
+def content(path):
+    """A file's bytes, none of one that can't be read: a unit that opens it has a fault."""
+    try:
+        with open(path, "rb") as file:
+            return file.read()
+    except OSError:
+        return b""
+
+
+def joined(folder, name):
+    """The path of a name below a folder, in normal form."""
+    return at(folder, name) if "//" in name or "./" in name or folder == "/" else "%s/%s" % (folder, name)
+
+
+def include_lines(text, gnu):
+    """The include lines of a text, before which nothing but white space or a comment's end stands: each its form and its name."""
+    found = []
+    for line in INCLUDE.finditer(text):
+        before = text[text.rfind(b"\n", 0, line.start()) + 1:line.start()].strip()
+        if not before or before.endswith(b"*/"):
+            found.append(form_and_name(line, gnu))
+    return unique(pair for pair in found if pair is not None)
+
+
+def form_and_name(found, gnu):
+    """An include line's form and name; a name that a macro makes is empty.  `#include_next` may find each file of its name."""
+    following, quoted, angled, _ = found.groups()
+    if following is not None:
+        if not gnu:
+            return None
+        return (COMPUTED, "") if quoted is None and angled is None else (EACH, os.fsdecode(quoted or angled))
+    if quoted is not None:
+        return QUOTE, os.fsdecode(quoted)
+    return (ANGLE, os.fsdecode(angled)) if angled is not None else (COMPUTED, "")
+
+
+def uncommented(found):
+    return b" " if found[0][:1] == b"/" else found[0]
+
+
+def operators_in(text):
+    """The names that a file may ask a compiler's operators for."""
+    names = {found[1] for line in CONDITION.finditer(text) for found in CALLED.finditer(line[1])}
+    if b"has_" in text or b"HAS_" in text:
+        names.update(found[1] for found in OPERATOR.finditer(text))
+    return [name.decode("latin-1") for name in names]

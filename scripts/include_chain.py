@@ -1,0 +1,341 @@
+"""The include lines by which a unit came to a place, where its dependencies and the sources leave one way alone.
+
+A unit's dependencies stand in the order of first opening.  Over the include lines of these files, every way to open them in
+this order is followed: a stack of files, each with the line that is being obeyed, for each way.  A line that no condition
+stands before is obeyed for certain; any other may be.  A file whose guard is never undefined does nothing when it is opened again.
+What all ways say at the place of the fault is certain; where they differ, nothing is told."""
+import collections
+import re
+
+SPLICE = re.compile(rb"(?:\\|\?\?/)\r?\n")
+# a splice, or a line end within a comment, stands as a zero byte, so that lines can be counted
+PIECE = re.compile(rb"(^[ \t\v\f\r\0]*(?:#|%:)[ \t\0]*include(?:_next)?[ \t\0]*<[^>\n]*>)|/\*.*?(?:\*/|\Z)|//[^\n]*"
+                   rb"|\"(?:\\.|[^\"\\\n])*\"|'(?:\\.|[^'\\\n])*'", re.DOTALL | re.MULTILINE)
+CUT = re.compile(rb"[/*]\0+[/*]")
+DIRECTIVE = re.compile(rb"[ \t\v\f\r]*(?:#|%:)[ \t\v\f\r]*([A-Za-z_]*)[ \t\v\f\r]*(.*)", re.DOTALL)
+HEADER = re.compile(rb"\s*(?:\"([^\"]+)\"|<([^>]+)>)\s*")
+NAME = re.compile(rb"[\w$\x80-\xff]+")
+GUARD = re.compile(rb"!\s*defined\s*(?:\(\s*)?([\w$]+)\s*\)?\s*$")
+OPENINGS, BRANCHES = (b"if", b"ifdef", b"ifndef"), (b"elif", b"else", b"elifdef", b"elifndef")
+# how many ways are followed, and how many steps that may take
+MOST, MOST_STEPS = 200, 1000000
+ALL = float("inf")
+# faults of a file of which nothing is processed
+READING = (1, 2, 3, 4, 5)
+
+
+class Unclear(Exception):
+    """There is more than one way, or a file can't be looked at."""
+
+
+class Source:
+    """A file's include lines, each with its line, depth and operand, and its #error lines; what it defines, and its guard."""
+
+    def __init__(self, text):
+        self.includes, self.errors, self.defined, self.undefined = [], [], {}, set()
+        self.guard, self.once, self.dead, self.lines = None, False, [], 0
+        # the line of the guard's #else, behind which a file that is opened again goes on
+        self.other = None
+        self.closed = self.guarded = False
+        for line, words in logical_lines(text):
+            self.take(line, words)
+        if not (self.closed and self.guarded):
+            self.guard = None
+
+    def take(self, line, words):
+        """One line: its number, and its text without comments."""
+        found = DIRECTIVE.match(words)
+        if not found and not words.strip():
+            return
+        self.lines += 1
+        if self.closed or (self.lines > 1 and not self.dead):
+            # something stands before or behind the section that would be the guard's
+            self.guard = None
+        if not found:
+            return
+        name, rest = found.groups()
+        if name in OPENINGS:
+            self.opening(name, rest)
+        elif name in BRANCHES and self.dead:
+            if len(self.dead) == 1:
+                self.guard, self.other = self.guard if name == b"else" else None, line
+            self.dead[-1:] = [False]
+        elif name == b"endif":
+            self.dead[-1:] = []
+            self.closed = not self.dead
+        elif not any(self.dead):
+            self.obey(line, name, rest)
+
+    def opening(self, name, rest):
+        if self.lines == 1:
+            tested = NAME.match(rest) if name == b"ifndef" else None
+            tested = tested or (GUARD.match(rest) if name == b"if" else None)
+            self.guard = tested[tested.re.groups] if tested else None
+        self.dead.append(name == b"if" and rest.strip() == b"0")
+
+    def obey(self, line, name, rest):
+        """A directive that may be obeyed."""
+        subject = NAME.match(rest)
+        if name in (b"include", b"include_next"):
+            self.includes.append((line, len(self.dead) + bool(self.other), name == b"include_next", rest))
+        elif name == b"error":
+            self.errors.append((line, len(self.dead) + bool(self.other)))
+        elif name == b"define" and subject:
+            self.guarded |= subject[0] == self.guard and len(self.dead) == 1 and not self.includes
+            self.defined.setdefault(subject[0], []).append(rest[subject.end():])
+        elif name == b"undef" and subject:
+            self.undefined.add(subject[0])
+        elif name == b"pragma" and rest.split() == [b"once"] and len(self.dead) <= bool(self.guard) and not self.includes:
+            self.once = True
+
+
+def logical_lines(text):
+    """Each line of a file, spliced and without comments, with the number of the physical line of its first token."""
+    if text.startswith(b"\xef\xbb\xbf"):
+        text = text[3:]
+    text = SPLICE.sub(b"\0", text.replace(b"\0", b" ")).replace(b"??=", b"#")
+    if CUT.search(text):
+        raise Unclear
+    number = 1
+    for line in PIECE.sub(blank, text).split(b"\n"):
+        before = len(line) - len(line.lstrip(b" \t\v\f\r\0"))
+        yield number + line[:before].count(b"\0"), line.replace(b"\0", b"")
+        number += 1 + line.count(b"\0")
+
+
+def blank(found):
+    """A comment as one space, with a zero byte for each line that it goes over."""
+    word = found[0]
+    if not word.startswith(b"/"):
+        return word
+    return b" " + b"\0" * (word.count(b"\n") + word.count(b"\0"))
+
+
+def joined(folder, name):
+    """A folder and a name below it in normal form, or None where `..` leads out of the root."""
+    parts = []
+    for part in (folder + "/" + name).split("/"):
+        if part == "..":
+            if not parts:
+                return None
+            parts.pop()
+        elif part not in ("", "."):
+            parts.append(part)
+    return "/".join(parts)
+
+
+class Names:
+    """Which file of a list an include line opens, over the folders of a unit's search."""
+
+    def __init__(self, names, rows, search):
+        self.names, self.rows, self.search, self.known = names, rows, search, {}
+
+    def name(self, header):
+        return (header[1] or header[2]).decode("utf-8", "surrogateescape")
+
+    def beside(self, row, header):
+        """The row of the file of this name in the folder of a file, or None; a name in angle brackets isn't looked for there."""
+        return self.row_of(self.names[row].rpartition("/")[0], self.name(header)) if header[1] else None
+
+    def first(self, header, begin):
+        """The row of the first file of this name in the folders from one on, and the number of the next folder; None without one."""
+        name = self.name(header)
+        if (begin, name) not in self.known:
+            found = ((self.row_of(folder, name), at + 1) for at, folder in enumerate(self.search) if at >= begin)
+            self.known[begin, name] = next((pair for pair in found if pair[0] is not None), (None, 0))
+        return self.known[begin, name]
+
+    def row_of(self, folder, name):
+        if (folder, name) not in self.known:
+            self.known[folder, name] = self.rows.get(joined(folder, name))
+        return self.known[folder, name]
+
+    def begins(self, row):
+        """The numbers behind each folder that a file may have been found by."""
+        return [at + 1 for at, folder in enumerate(self.search) if self.names[row].startswith("" if folder == "." else folder + "/")]
+
+
+class Ways:
+    """All ways in which the files of a unit can have been opened in their order."""
+
+    def __init__(self, names, order, sources, defined, pragma_once):
+        self.names, self.order, self.sources, self.defined = names, order, sources, defined
+        self.opened, self.steps, self.bodies = set(order[:1]), 0, {}
+        # where `#include_next` of each file may begin to look: behind the folder by which it was found, or at the first
+        self.begins = {row: {0} if row == order[0] else set() for row in order}
+        self.spent, self.again, self.split, self.to, self.sure = set(), {}, {}, {row: {} for row in order}, {}
+        undefined = set().union(*(sources[row].undefined for row in order))
+        guards = {sources[row].guard for row in order}
+        times = collections.Counter(name for row in order for name in guards & sources[row].defined.keys())
+        for row in order:
+            source = sources[row]
+            guarded = source.guard and source.guard not in undefined
+            if (guarded and source.other is None) or (source.once and pragma_once):
+                self.spent.add(row)
+            self.again[row] = source.other if guarded and source.other else 0
+            # a guard that another file or a definition makes a macro may be closed from the beginning
+            fresh = not source.guard or (times[source.guard] == 1 and source.guard not in defined)
+            self.split[row] = self.again[row] if fresh else 0
+            self.lines_of(row, source, fresh)
+        while any([self.next_found(row, header) for row in order for _, header in self.next_lines(row)]):
+            pass
+        for row in order:
+            for line, header in self.next_lines(row):
+                self.put(row, line, [found for found, _ in self.next_of(row, header)] if header else self.order)
+
+    def step(self, count=1):
+        """Counts what is looked at, so that no list takes long."""
+        self.steps += count
+        if self.steps > MOST_STEPS:
+            raise Unclear
+
+    def lines_of(self, row, source, sure):
+        """By file: the lines that may open each other file, and those that are obeyed for certain, with what they open."""
+        self.sure[row] = []
+        for line, depth in source.errors:
+            if sure and depth <= bool(source.guard):
+                self.sure[row].append((line, None))
+        for line, depth, following, operand in source.includes:
+            header = HEADER.fullmatch(operand)
+            if following:
+                continue
+            if header:
+                target = self.target(row, header)
+                self.put(row, line, [target])
+                if sure and depth <= bool(source.guard):
+                    self.sure[row].append((line, target))
+            else:
+                self.put(row, line, self.by_macro(row, operand.strip()))
+
+    def target(self, row, header):
+        """What a line opens."""
+        found, begin = self.names.beside(row, header), 0
+        if found is None:
+            found, begin = self.names.first(header, 0)
+        if found in self.begins:
+            self.begins[found].add(begin)
+        return found
+
+    def next_lines(self, row):
+        """The lines of `#include_next`, each with its header name, or None where a macro makes it."""
+        return [(line, HEADER.fullmatch(operand)) for line, _, following, operand in self.sources[row].includes if following]
+
+    def next_of(self, row, header):
+        """What such a line may open, each with where a next one begins."""
+        found = [self.names.first(header, begin) for begin in self.begins[row]]
+        return found + [(self.names.beside(row, header), 0)] if row == self.order[0] else found
+
+    def next_found(self, row, header):
+        """Notes how files are found by such a line, and tells whether one is found in a way that is new."""
+        before = sum(map(len, self.begins.values()))
+        if header is None:
+            self.anywhere()
+        for found, begin in self.next_of(row, header) if header else ():
+            if found in self.begins:
+                self.begins[found].add(begin)
+        return sum(map(len, self.begins.values())) > before
+
+    def anywhere(self):
+        """Any file may be found in any way."""
+        for row in self.order:
+            self.begins[row].update(self.names.begins(row), [0])
+
+    def put(self, row, line, targets):
+        self.step(len(targets))
+        for target in set(targets):
+            self.to[row].setdefault(target, []).append(line)
+
+    def by_macro(self, row, macro):
+        """The files that an include line with a macro may open: all, where one of its definitions is no header name."""
+        if macro not in self.bodies:
+            self.step(len(self.order))
+            found = [self.sources[at].defined.get(macro, []) for at in self.order]
+            self.bodies[macro] = sum(found, [self.defined[macro]] if macro in self.defined else [])
+        headers = [HEADER.fullmatch(body) for body in self.bodies[macro]]
+        if None in headers or not headers:
+            self.anywhere()
+            return self.order
+        return [self.target(row, header) for header in headers]
+
+    def passes(self, row, begin, end):
+        """Whether a file can be read between two of its lines without opening a file for the first time."""
+        if begin < self.split[row] < end < ALL:
+            # the two branches of a guard aren't obeyed in one opening
+            return False
+        return all(target in self.opened for line, target in self.sure[row] if begin < line < end)
+
+    def opening(self, stack, row):
+        """The stacks that come of a stack by opening a file, at the line of any file to which it can come back."""
+        start = self.again[row] if row in self.opened else 0
+        for depth in reversed(range(len(stack))):
+            at, begin = stack[depth]
+            self.step(1 + len(self.sure[at]))
+            for line in self.to[at].get(row, ()):
+                if line > begin and self.passes(at, begin, line):
+                    yield stack[:depth] + ((at, line), (row, start))
+            if not self.passes(at, begin, ALL):
+                break
+
+    def leading(self, goal):
+        """The files that can be opened again to some effect, and come to this one."""
+        again = [row for row in self.opened if row not in self.spent]
+        found, grown = {goal}, True
+        while grown:
+            grown = False
+            self.step(len(again))
+            for row in again:
+                if row not in found and any(target in found for target in self.to[row]):
+                    found.add(row)
+                    grown = True
+        return [row for row in again if row in found]
+
+    def opened_again(self, stacks, goal):
+        """These stacks, and those that come of them by opening files again on the way to this file."""
+        found, waiting = set(stacks), list(stacks)
+        rows = self.leading(goal)
+        while waiting:
+            stack = waiting.pop()
+            for row in rows:
+                fresh = set(self.opening(stack, row)) - found
+                found |= fresh
+                waiting += fresh
+            if len(found) > MOST:
+                raise Unclear
+        return found
+
+    def all(self):
+        """The stacks at the first opening of the last file."""
+        stacks = {((self.order[0], 0),)}
+        for row in self.order[1:]:
+            before = self.opened_again(stacks, row)
+            stacks = {new for stack in before for new in self.opening(stack, row)}
+            self.opened.add(row)
+            if not stacks or len(stacks) > MOST:
+                raise Unclear
+        return stacks
+
+    def at(self, row, end):
+        """The include lines above a line of a file, by each way."""
+        for stack in self.opened_again(self.all(), row):
+            for depth in reversed(range(len(stack))):
+                at, begin = stack[depth]
+                if at == row and begin < end and self.passes(at, begin, end):
+                    yield stack[:depth]
+                if not self.passes(at, begin, ALL):
+                    break
+
+
+def chain(names, order, sources, defined, pragma_once, number, row, line):
+    """The include lines above a fault, each its file's row and line, the innermost first; None where they aren't certain.
+
+    names: what finds a unit's files; order: the rows of its dependencies; sources: the Source of each; defined: the macros of
+    its definitions with their bodies; pragma_once: whether the profile has it; then the fault's number and place."""
+    try:
+        ways = Ways(names, order, sources, defined, pragma_once)
+        if number in READING:
+            found = {stack[:-1] for stack in ways.all()} if row == order[-1] else set()
+        else:
+            found = set(ways.at(row, line))
+    except Unclear:
+        return None
+    return list(reversed(found.pop())) if len(found) == 1 else None

@@ -1,0 +1,208 @@
+"""Puts a list together: names below a root, units with their definitions and folders, and files that are made."""
+import os
+import time
+
+from commands import defined_name, is_name, unique
+from common import GENERATED, Refused, compact, written
+from files import Files
+
+MOST_NAMES, MOST_INPUT, MOST_FILE = 65535, 268435456, 16777216
+MONTHS = "Jan Feb Mar Apr May Jun Jul Aug Sep Oct Nov Dec".split()
+
+
+class Given:
+    """The folders and definitions that all units get besides their commands'."""
+
+    def __init__(self, folders, texts):
+        self.system = unique(os.path.abspath(folder) for folder in folders)
+        self.texts = {defined_name(text): text for text in texts}
+
+    def folders(self, command):
+        return self.system
+
+    def definitions(self, command):
+        """The definitions by their names."""
+        return self.texts
+
+
+class Builder:
+    """Puts a list together: rows of names below a root, units, and files that are made."""
+
+    def __init__(self, asked, said, given, every=False):
+        self.asked, self.said, self.given = asked, said, given
+        self.files = Files(said, asked.profile == "gnu", every)
+        self.made, self.root, self.paths, self.computing, self.searches, self.nexts = {}, None, [], set(), {}, {}
+
+    def build(self, all_commands):
+        """The rows of all files that were gathered, and these commands with their units."""
+        self.made = {}
+        self.root = os.path.abspath(self.asked.root) if self.asked.root else self.common(self.paths, all_commands)
+        names = {path: name for path in self.paths if (name := self.name(path)) is not None}
+        pairs = [(command, unit) for command in all_commands if (unit := self.unit(command, names)) is not None]
+        files = [self.row(path, name) for path, name in names.items()] + list(self.made.values())
+        rows = [row for row in files if row is not None]
+        if len(rows) > MOST_NAMES or len(pairs) > MOST_NAMES:
+            raise Refused("%d names and %d units: a list has at most %d of each" % (len(rows), len(pairs), MOST_NAMES))
+        listed = {row["name"] for row in rows}
+        pairs = [(command, unit) for command, unit in pairs if unit["file"] in listed]
+        return rows, pairs
+
+    def gather(self, all_commands):
+        """Finds all files that the units reach, each once; `computing` are the units that reach a name which a macro makes."""
+        groups, reached = {}, {}
+        for command in all_commands:
+            groups.setdefault(self.search(command), []).append(command)
+        self.computing = set()
+        for (search, quotes), members in groups.items():
+            found = self.files.reach([path for command in members for path in self.starts(command)], search, quotes)
+            reached.update(dict.fromkeys(found))
+            if any(map(self.files.computes, found)):
+                self.computing.update(members)
+            if self.files.every:
+                self.note_next(members, found, search, quotes)
+        self.files.say_shadows(reached)
+        self.paths = list(reached)
+
+    def starts(self, command):
+        """A unit's file, and those that are included first."""
+        return [command.file, *(path for word in command.includes if (path := self.first_of(command, word)) is not None)]
+
+    def note_next(self, members, found, search, quotes):
+        """Notes what `__has_include_next` is for units over one search, for each by itself where they differ."""
+        answers = self.files.next_answers(found, search)
+        for command in members:
+            if len(answers) > 1:
+                own = self.files.next_answers(self.files.reach(self.starts(command), search, quotes), search)
+            else:
+                own = answers
+            self.nexts[command] = next(iter(own)) if len(own) == 1 else None
+
+    def search(self, command):
+        """A command's folders, and how many of them are for names in quotes alone."""
+        if command not in self.searches:
+            self.searches[command] = command.search(self.given.folders(command))
+        return self.searches[command]
+
+    def first_of(self, command, word):
+        """The file of an -include: first in the command's own folder, then in those for names in quotes."""
+        return self.files.first((command.directory, *self.search(command)[0]), word)
+
+    def common(self, paths, all_commands):
+        folders = {os.path.dirname(path) for path in paths}
+        for command in all_commands:
+            folders.update(self.search(command)[0])
+        return os.path.commonpath(folders) if folders else os.getcwd()
+
+    def below(self, path):
+        """The path relative to the root, or None where it isn't below it."""
+        front = os.path.join(self.root, "")
+        return "." if path == self.root else path[len(front):] if path.startswith(front) else None
+
+    def name(self, path):
+        """A file's name in the list, or None where it can't have one, which is said."""
+        name = self.below(path)
+        if name is None:
+            self.said.add("%s: not below the root %s" % (path, self.root))
+        elif not is_name(name):
+            self.said.add("%s: no name that a list may hold (UTF-8, no control bytes, at most 1,024 bytes)" % path)
+        else:
+            return name
+        return None
+
+    def unit(self, command, names):
+        file = names.get(command.file)
+        if file is None:
+            return None
+        first = [self.included_first(command, word, names) for word in command.includes]
+        first = [name for name in first if name is not None]
+        folders = [self.folder(folder) for folder in self.search(command)[0]]
+        return {"file": self.made_of(file, tuple(first), command) if first else file,
+                "define": self.defined(command),
+                "search": [folder for folder in folders if folder is not None]}
+
+    def defined(self, command):
+        """A command's definitions, and before them those for all units, but for names of which the command says more."""
+        given = self.given.definitions(command)
+        if self.nexts.get(command) is not None:
+            given = {"__has_include_next": "__has_include_next(x) %d" % self.nexts[command], **given}
+        return [text for name, text in given.items() if name not in command.named] + list(command.definitions.values())
+
+    def folder(self, path):
+        name = self.below(path)
+        if name is None or (name != "." and not is_name(name)):
+            self.said.add("%s: no folder below the root %s" % (path, self.root))
+            return None
+        return name
+
+    def included_first(self, command, word, names):
+        path = self.first_of(command, word)
+        name = names.get(path)
+        if name is None:
+            self.said.add("%s: -include %s: there is no such file" % (command.file, word))
+            return None
+        if not (self.asked.inline or self.asked.generate):
+            self.said.add("%s: -include %s needs --inline or --generate" % (command.file, word))
+            return None
+        return name
+
+    def made_of(self, file, first, command):
+        """The name of the file that includes these and then the unit's."""
+        key = (file, first)
+        if key in self.made:
+            return self.made[key]["name"]
+        name = "%s/%d/%s" % (GENERATED, len(self.made), file)
+        if not is_name(name) or any('"' in word for word in (*first, file)):
+            self.said.add("%s: -include %s: a name that no include line can ask for" % (command.file, " ".join(first)))
+            return file
+        up = "../" * name.count("/")
+        text = "".join('#include "%s%s"\n' % (up, word) for word in (*first, file))
+        self.made[key] = {"name": name, "text": text} if self.asked.inline else {"name": name}
+        if self.asked.generate:
+            where = self.root if self.asked.generate is True else self.asked.generate
+            with written(os.path.join(where, name)) as made:
+                made.write(text.encode())
+        return name
+
+    def row(self, path, name):
+        """A file of the list, or None where its content is too long for one."""
+        if not self.asked.inline:
+            return {"name": name}
+        with open(path, "rb") as file:
+            data = file.read(MOST_FILE + 1)
+        if len(data) > MOST_FILE:
+            self.said.add("%s: more than %d bytes" % (path, MOST_FILE))
+            return None
+        try:
+            return {"name": name, "text": data.decode()}
+        except UnicodeDecodeError:
+            return {"name": name, "hex": data.hex()}
+
+
+def now():
+    """The date and the time as gcc has them: by SOURCE_DATE_EPOCH in UTC, otherwise the local time."""
+    epoch = os.environ.get("SOURCE_DATE_EPOCH", "")
+    moment = time.gmtime(int(epoch)) if epoch.isdecimal() else time.localtime()
+    date = "%s %2d %04d" % (MONTHS[moment.tm_mon - 1], moment.tm_mday, moment.tm_year)
+    return date, time.strftime("%H:%M:%S", moment)
+
+
+def list_of(asked, rows, pairs):
+    """The list; folders that all units share stand once."""
+    units = [unit for _, unit in pairs]
+    date, clock = now()
+    chosen = {"budget": asked.budget, "profile": asked.profile}
+    whole = {name: value for name, value in chosen.items() if value is not None}
+    whole.update({"date": asked.date or date, "time": asked.time or clock, "search": [], "files": rows, "units": units})
+    if units and all(unit["search"] == units[0]["search"] for unit in units):
+        whole["search"] = units[0]["search"]
+        whole["units"] = [{k: v for k, v in unit.items() if k != "search"} for unit in units]
+    whole["units"] = [{k: v for k, v in unit.items() if v} for unit in whole["units"]]
+    return whole
+
+
+def bytes_of(listed):
+    """The list's bytes, refused where they are more than cppunits reads."""
+    data = compact(listed)
+    if len(data) > MOST_INPUT:
+        raise Refused("the list has %d bytes, more than %d" % (len(data), MOST_INPUT))
+    return data

@@ -1,0 +1,453 @@
+#!/usr/bin/env python3
+"""Tests of scripts/build.py, over compilers that these tests make and over the machine's gcc with its own headers.
+
+    tests/build_tests.py [PROGRAM] [-k NAME]
+
+A compiler that is made here is a shell script: it notes its words, and answers the questions for folders, macros and operators.  With the
+machine's gcc the tokens are compared with those of `gcc -E -P`, and the dependencies with those of `gcc -M`.
+"""
+import json
+import os
+import pty
+import re
+import signal
+import subprocess
+import sys
+import time
+import unittest
+
+from counted import TOP, Folder, cppunits, main, missed, program, run, spelled, well, write
+
+BUILD = os.path.join(TOP, "scripts", "build.py")
+COMPILER = """#!/bin/sh
+echo "${0##*/} $*" >> "%(top)s/asked"
+case " $* " in
+    *" -v "*) printf '#include <...> search starts here:\\n %(top)s/sys\\nEnd of search list.\\n' >&2 ;;
+    *" -dM "*) printf '#define %%s\\n' 'WHO %(who)s' '__STDC__ 1' '__STDC_HOSTED__ 1' '__STDC_VERSION__ 199901L' 'F(a,b) a b' ;;
+    *) sed -n 's/^#ifdef __has_attribute$/@ has_attribute :/p; s/^#if __has_attribute(good)$/@ has_attribute good : 1/p' ;;
+esac
+"""
+# what a preprocessing token is, for texts of gcc -E -P
+TOKEN = re.compile(r"""(?:u8|[uUL])?"(?:\\.|[^"\\\n])*" | [uUL]?'(?:\\.|[^'\\\n])*' | \.?[0-9](?:[eEpP][+-]|[\w.])* | [A-Za-z_$][\w$]*
+    | \.\.\. | <<= | >>= | -> | \+\+ | -- | << | >> | [<>=!*/%+&^|-]= | && | \|\| | \#\# | \S""", re.VERBOSE)
+HEADERS = "stdio.h limits.h stdint.h errno.h sys/socket.h"
+REAL = {
+    "src/a.c": "".join("#include <%s>\n" % name for name in HEADERS.split()) + '#include "own.h"\n#include NAMED\n'
+               "#if __has_attribute(__nonnull__) && defined __has_include\nint limit = INT_MAX + OWN + PATH_MAX;\n#endif\n"
+               "long version = __STDC_VERSION__;\n",
+    "src/b.c": "#include <sys/socket.h>\n#ifdef __OPTIMIZE__\nint optimized;\n#endif\nint family = AF_INET6;\n",
+    "inc/own.h": "#pragma once\n#include <errno.h>\n#define OWN EINTR\n",
+    "inc/named/first.h": "int first;\n#include SECOND\n", "inc/second.h": "int second;\n", "inc/never.h": "int never;\n",
+}
+
+
+class Builds(Folder):
+    """Builds in a folder of their own, with compilers in its folder `bin`, which PATH names first."""
+
+    def setUp(self):
+        super().setUp()
+        write(self.top, {"sys/sys.h": "int sys;\n", "a.c": "#include <sys.h>\nWHO\n", "tmp/x": ""})
+        self.path_of = os.pathsep.join([self.path("bin"), os.environ["PATH"]])
+
+    def compiler(self, name, text=COMPILER, who="1"):
+        """Makes a compiler, and gives its path."""
+        write(self.top, {name: text % {"top": self.top, "who": who} if "%(" in text else text})
+        os.chmod(self.path(name), 0o755)
+        return self.path(name)
+
+    def words(self, task, *words):
+        return [sys.executable, BUILD, task, "--program", program(), *words]
+
+    def environment(self):
+        return dict(os.environ, PATH=self.path_of, TMPDIR=self.path("tmp"))
+
+    def build(self, task, commands, *words, status=0, **more):
+        """What build.py prints for commands, each words or text for the file a.c, or with the file's name, and its lines on standard error."""
+        entries = []
+        for command in commands:
+            command, file = command if isinstance(command, tuple) else (command, "a.c")
+            entries.append({"directory": self.top, "file": file, "command" if isinstance(command, str) else "arguments": command})
+        write(self.top, {"compile_commands.json": json.dumps(entries)})
+        done = run(self.words(task, *words), cwd=self.top, env=self.environment(), **more)
+        self.assertEqual(done.returncode, status, done.stderr.decode())
+        self.assertEqual(os.listdir(self.path("tmp")), ["x"])
+        return done.stdout.decode(), done.stderr.decode().splitlines()
+
+    def tokens(self, commands, *words, **more):
+        """The spellings of each unit's tokens, and the lines on standard error."""
+        printed, said = self.build("dump", commands, *words, **more)
+        units = re.split(r"^unit .*\n", printed, flags=re.MULTILINE)[1:]
+        return [[spelled(word.encode()) for word in re.findall(r"^tok \S+ \S+ \S+ (.*)$", unit, re.MULTILINE)] for unit in units], said
+
+    def asked(self):
+        try:
+            with open(self.path("asked")) as file:
+                return file.read().splitlines()
+        except FileNotFoundError:
+            return []
+
+
+class Compilers(Builds):
+    """Which compilers are asked, and what."""
+
+    def test_folders_macros_and_operators_are_the_compilers(self):
+        self.compiler("bin/gcc")
+        write(self.top, {"a.c": "#include <sys.h>\nWHO F(1, 2) __STDC_VERSION__ __STDC_HOSTED__\n#if defined __has_include && __has_attribute(good)\n"
+                                "good\n#endif\n#define OWN(a) __has_attribute(a)\n#if OWN(good)\nown\n#endif\n"
+                                "#if __has_attribute(bad)\nbad\n#endif\n#ifdef __has_builtin\nno\n#endif\n"})
+        tokens, said = self.tokens(["gcc -DX -c a.c"])
+        self.assertEqual(tokens, [["int", "sys", ";", "1", "1", "2", "199901L", "1", "good", "own"]])
+        self.assertRegex(said[0], r"^build.py: 1 units, 0 with a fault, 2 files \(2 on the list\), [0-9.]+ seconds$")
+        self.assertEqual(len(said), 1)
+
+    def test_what_a_command_says_of_a_name_counts_for_more(self):
+        self.compiler("bin/gcc")
+        self.assertEqual(self.tokens(["gcc -DWHO=x -c a.c", "gcc -UWHO -c a.c"])[0], [["int", "sys", ";", "x"], ["int", "sys", ";", "WHO"]])
+
+    def test_each_compiler_and_each_set_of_options_is_asked_once(self):
+        self.compiler("bin/gcc")
+        self.compiler("bin/clang-14", who="2")
+        options = "-std=c99 -O2 -m32 -fPIC -pthread -nostdinc -undef"
+        refused = ("-fplugin=./x.so -specs=x -B. -wrapper x -Xclang x -fdump-tree-all -fpreprocessed -fsanitize=../x -DWHO=3 -g -Wall -o x -MD -MF d "
+                   "-march=../x -std=@x --sysroot=sub -mllvm=-load=x.so")
+        commands = ["gcc -c a.c", "gcc -DX -c a.c", "gcc %s -c a.c" % options, "clang-14 -c a.c", "gcc %s -c a.c" % refused]
+        tokens, _ = self.tokens(commands)
+        self.assertEqual([unit[-1] for unit in tokens], ["1", "1", "1", "2", "3"])
+        asked = sorted(self.asked())
+        self.assertEqual(sorted(set(asked)), asked)
+        wanted = ["clang-14 -E -v -x c -", "gcc -E -v -x c -", "gcc -E -v -x c %s -" % options, "gcc -E -v -x c --sysroot=%s/sub -" % self.top]
+        self.assertEqual([line for line in asked if " -v " in line], sorted(wanted))
+
+    def test_programs_in_front_of_a_compiler(self):
+        self.compiler("bin/gcc")
+        self.compiler("bin/ccache", "#!/bin/sh\ntouch %(top)s/ran\n")
+        fronts = "ccache", "distcc ccache", "env A=b ccache", "/usr/bin/ccache", "sccache"
+        self.assertEqual(self.tokens([front + " gcc -c a.c" for front in fronts])[0], [["int", "sys", ";", "1"]] * len(fronts))
+        self.assertFalse(os.path.exists(self.path("ran")))
+
+    def test_arguments(self):
+        self.compiler("bin/gcc")
+        self.assertEqual(self.tokens([["ccache", "gcc", "-DWHO=x y", "-c", "a.c"]])[0], [["int", "sys", ";", "x", "y"]])
+
+    def test_compilers_that_are_not_there(self):
+        for word in "nowhere-gcc", "/usr/nowhere/gcc", "", "./gcc":
+            tokens, said = self.tokens([["%s" % word, "-Isys", "-c", "a.c"]], status=1)
+            self.assertEqual(tokens, [["int", "sys", ";", "WHO"]])
+            self.assertIn("this compiler isn't asked: there is no such program", said[0])
+
+    def test_what_is_run_is_what_is_trusted(self):
+        """Other names, relative paths, paths elsewhere; each is run where --query-driver says so."""
+        self.compiler("bin/nocc")
+        self.compiler("here/gcc")
+        self.compiler("bin/gcc; touch x")
+        for word, reason in (("nocc", "its name is none"), ("here/gcc", "its path is relative"), ("gcc; touch x", "its name is none"),
+                             (self.path("here/gcc"), "neither on PATH nor below /usr or /opt"),
+                             ("/usr/../%s/here/gcc" % self.top, "neither on PATH")):
+            tokens, said = self.tokens([[word, "-Isys", "-c", "a.c"]], status=1)
+            self.assertEqual(tokens, [["int", "sys", ";", "WHO"]])
+            self.assertEqual((reason in said[0], "--query-driver" in said[0], self.asked()), (True, True, []), said)
+        self.assertEqual(self.tokens([["here/gcc", "-c", "a.c"]], "--query-driver", self.path("here/*"))[0], [["int", "sys", ";", "1"]])
+        self.assertNotEqual(self.asked(), [])
+        self.assertFalse(os.path.exists(self.path("x")))
+
+    def test_words_that_are_no_text(self):
+        for words in ["\ud800/gcc"], ["g\0cc"], ["gcc", "--sysroot=\ud800"], ["gcc", "-isysroot", "\0"], ["gcc", "-o", "\ud800"]:
+            self.compiler("bin/gcc")
+            said = self.build("deps", [[*words, "-Isys", "-c", "a.c"]], status=1)[1]
+            self.assertRegex(said[0], "this compiler isn't asked: its name is no text|no answer|no text")
+
+    def test_a_path_that_path_has(self):
+        path = self.compiler("bin/arm-none-eabi-gcc-12.2")
+        self.assertEqual(self.tokens([[path, "-c", "a.c"]])[0], [["int", "sys", ";", "1"]])
+
+    def test_compilers_that_hang(self):
+        self.compiler("bin/gcc", "#!/bin/sh\necho $$ >> %(top)s/numbers\nsleep 100 &\necho $! >> %(top)s/numbers\nwait\n")
+        began = time.monotonic()
+        tokens, said = self.tokens(["gcc -O%d -Isys -c a.c" % (n % 4) for n in range(8)], "--seconds", "0.3", status=1)
+        self.assertLess(time.monotonic() - began, 10)
+        self.assertEqual(tokens, [["int", "sys", ";", "WHO"]] * 8)
+        self.assertIn("no answer: it takes more than 0.3 seconds", said[0])
+        with open(self.path("numbers")) as file:
+            numbers = file.read().split()
+        self.assertEqual([number for number in numbers if self.runs(number)], [])
+
+    def runs(self, number):
+        try:
+            with open("/proc/%s/stat" % number) as file:
+                return file.read().split()[2] != "Z"
+        except OSError:
+            return False
+
+    def test_compilers_that_answer_nonsense(self):
+        folders = "printf '#include <...> search starts here:\\n /none\\n relative\\nEnd of search list.\\n\\377' >&2; "
+        for text, reason in (("echo nonsense", "it names no folders"), ("exit 3", "it says: nothing"), ("kill -9 $$", "it names no folders"),
+                             ("echo '#define 1' >&2; echo '#define 1'", "it names no folders"), (folders + "echo '#define 1'", "it names no macros"),
+                             ("cat /dev/zero; cat /dev/zero >&2", "no answer: it ")):
+            self.compiler("bin/gcc", "#!/bin/sh\n%s\n" % text)
+            tokens, said = self.tokens(["gcc -Isys -c a.c"], "--seconds", "3", status=1)
+            self.assertEqual((tokens, reason in said[0]), ([["int", "sys", ";", "WHO"]], True), said)
+        self.compiler("bin/gcc", "#!")
+        self.assertIn("no answer", self.tokens(["gcc -Isys -c a.c"], status=1)[1][0])
+
+    def test_a_folder_that_stands_twice(self):
+        """As gcc has it: a folder of the system stays where the system's are, links are the folders that they lead to."""
+        self.compiler("bin/gcc")
+        write(self.top, {"a.c": "#include <h.h>\n", "one/h.h": "one\n#include_next <h.h>\n", "sys/h.h": "sys\n#include_next <h.h>\n",
+                         "late/h.h": "late\n"})
+        os.symlink("one", self.path("link"))
+        for options in "-Isys -Ione -Ilink -I one -idirafter late", "-iquote one -I link -isystem sys -idirafter late -idirafter sys":
+            self.assertEqual(self.tokens(["gcc %s -c a.c" % options])[0], [["one", "sys", "late"]], options)
+
+
+class Lists(Builds):
+    """Which files are on the list."""
+
+    def setUp(self):
+        super().setUp()
+        self.compiler("bin/gcc")
+
+    def names(self, commands, *words, **more):
+        """The tokens of units, and the names on the list."""
+        tokens, said = self.tokens(commands, "--list", self.path("list.json"), *words, **more)
+        with open(self.path("list.json")) as file:
+            listed = json.load(file)
+        return tokens, sorted("/" + row["name"] for row in listed["files"]), said
+
+    def check(self, commands, wanted, names):
+        tokens, listed, said = self.names(commands)
+        self.assertEqual(tokens, wanted)
+        self.assertEqual([os.path.relpath(name, self.top) for name in listed], sorted(names))
+        self.assertEqual(len(said), 1, said)
+
+    def test_every_file_that_a_name_may_be(self):
+        write(self.top, {"a.c": '#include <h.h>\n#include "b/q.h"\n', "one/h.h": "#include_next <h.h>\n", "two/h.h": "two\n", "two/b/q.h": "no\n",
+                         "b/q.h": '#include "r.h"\n', "b/r.h": "#if __has_include(<k.h>) && !__has_include(<none.h>)\nk\n#endif\n",
+                         "two/k.h": "", "two/other.h": "", "one/r.h": "", "b/h.h": ""})
+        self.check(["gcc -Ione -Itwo -c a.c"], [["two", "k"]],
+                   ["a.c", "one/h.h", "two/h.h", "two/b/q.h", "b/q.h", "b/r.h", "one/r.h", "two/k.h"])
+
+    def test_folders_for_names_in_quotes_alone(self):
+        """They are told where a name in angle brackets is found there, and only there."""
+        write(self.top, {"a.c": "#include <h.h>\n", "b/b.c": '#include "h.h"\n', "q/h.h": "q\n", "i/h.h": "i\n"})
+        self.check(["gcc -iquote q -Ii -c a.c"], [["i"]], ["a.c", "i/h.h"])
+        said = self.names(["gcc -iquote q -Ii -c a.c", ("gcc -iquote q -c b/b.c", "b/b.c")], status=1)[2]
+        self.assertEqual(said[0], "build.py: %s/a.c: <h.h> is found in an -iquote folder, as %s/q/h.h" % (self.top, self.top))
+
+    def test_whether_there_is_a_next_file(self):
+        """As clang's headers ask it: a definition says it where all answers of a unit are the same."""
+        asks = "#if 1 && __has_include_next(<%s.h>)\n#include_next <%s.h>\n#endif\n%s\n"
+        write(self.top, {"a.c": "#include <h.h>\n", "b.c": "#include <k.h>\n", "c.c": "#include <h.h>\n#include <k.h>\n", "two/h.h": "two\n",
+                         **{"one/%s.h" % name: asks % (name, name, name) for name in "hk"}})
+        commands = [("gcc -Ione -Itwo -c %s.c" % name, "%s.c" % name) for name in "ab"]
+        self.assertEqual(self.names(commands)[0], [["two", "h"], ["k"]])
+        self.names([("gcc -Ione -Itwo -c c.c", "c.c")], status=1)
+
+    def test_names_that_macros_make(self):
+        """Each round finds more; no folder is taken as a whole, and a comment is no include line."""
+        write(self.top, {"a.c": "#define STR(x) #x\n#include FIRST\n#include STR(sub/third.h)\n", "inc/sub/third.h": "third\n",
+                         "inc/first.h": '#define S "second.h"\n#include S\nfirst\n', "inc/never.h": "", "inc/sub/never.h": "",
+                         "inc/second.h": "second\n/* this is\n   #include what_is not\n*/\n"})
+        self.check(["gcc -Iinc '-DFIRST=<first.h>' -c a.c"], [["second", "first", "third"]],
+                   ["a.c", "inc/first.h", "inc/second.h", "inc/sub/third.h"])
+
+    def test_a_name_that_a_macro_makes_is_found_where_the_compiler_finds_it(self):
+        """Another unit has a file of this name on the list, which stands behind the right one."""
+        write(self.top, {"a.c": "#include X\n", "b.c": "#include <x.h>\n", "sub/c.c": "#define X \"x.h\"\n#include X\n", "sub/x.h": "sub\n",
+                         "one/x.h": "one\n", "two/x.h": "two\n"})
+        self.check(["gcc -Ione -Itwo '-DX=<x.h>' -c a.c", ("gcc -Itwo -c b.c", "b.c"), ("gcc -Itwo -c sub/c.c", "sub/c.c")],
+                   [["one"], ["two"], ["sub"]], ["a.c", "b.c", "sub/c.c", "one/x.h", "two/x.h", "sub/x.h"])
+
+    def test_units_that_ask_for_the_same_and_then_for_others(self):
+        write(self.top, {"a.c": '#include "both.h"\n', "inc/first.h": "first\n",
+                         "both.h": "#define FIRST <first.h>\n#include FIRST\n#include SECOND\n#include THIRD\n",
+                         **{"inc/%s%d.h" % (name, n): "%s%d\n" % (name, n) for name in ("second", "third") for n in range(4)}})
+        commands = [["gcc", "-Iinc", "-DSECOND=<second%d.h>" % n, "-DTHIRD=\"third%d.h\"" % (n // 2), "-c", "a.c"] for n in range(3)]
+        self.check(commands, [["first", "second%d" % n, "third%d" % (n // 2)] for n in range(3)],
+                   ["a.c", "both.h", "inc/first.h", "inc/second0.h", "inc/second1.h", "inc/second2.h", "inc/third0.h", "inc/third1.h"])
+
+    def test_rounds_end(self):
+        """A unit that asks for ever more."""
+        files = {"inc/%d.h" % n: "#define N <%d.h>\n#include N\n#undef N\n" % (n + 1) for n in range(70)}
+        write(self.top, {"a.c": "#include <0.h>\n", "inc/70.h": "", **files})
+        printed, said = self.build("faults", ["gcc -Iinc -c a.c"], status=1)
+        self.assertIn("1 units ask for ever more names that macros make: no more than 64 rounds are gone", said[0])
+        self.assertIn("inc/64.h:2:1: error: no such file: 65.h [fault 31]\n    2 | #include N\n", printed)
+
+    def test_names_that_are_not_there_are_told_where_a_unit_faults(self):
+        write(self.top, {"a.c": "#if 0\n#include <none.h>\n#endif\n", "b.c": "\n#include \"gone%d.h\"\n"})
+        printed, said = self.build("faults", ["gcc -c a.c", ("gcc -c b.c", "b.c")], status=1)
+        self.assertEqual(printed.splitlines()[:2], ["b.c:2:1: error: no such file: gone%d.h [fault 31]", "    2 | #include \"gone%d.h\""])
+        self.assertRegex("\n".join(said), r"^build.py: 2 units, 1 with a fault, 2 files \(2 on the list\), \S+ seconds$")
+
+    def test_the_lines_above_a_fault(self):
+        """Also where a file is included first, and in the form for programs."""
+        write(self.top, {"a.c": "int a;\n#include \"own.h\"\n", "own.h": "#error no\n", "first.h": "#error first\n", "good.h": ""})
+        commands = [["gcc", "-include", name, "-c", "a.c"] for name in ("good.h", "first.h")]
+        printed, _ = self.build("faults", commands, status=1)
+        places = [line for line in printed.splitlines() if ":" in line and not line.startswith("note: ")]
+        self.assertEqual(places, ["In file included from a.c:2:", "own.h:1:1: error: #error no [fault 34]",
+                                  "In file included from <command line>:1:", "first.h:1:1: error: #error first [fault 34]"])
+        printed, _ = self.build("faults", commands, "--format", "json", status=1)
+        found = [json.loads(line) for line in printed.splitlines()]
+        self.assertEqual([(fault["path"], fault["source"], fault["chain"][0]["path"]) for fault in found],
+                         [("own.h", "a.c", "a.c"), ("first.h", "a.c", "<command line>")])
+
+    def test_a_file_that_is_included_first(self):
+        write(self.top, {"cfg.h": "cfg\n", "a.c": "WHO\n"})
+        tokens, said = self.tokens(["gcc -include cfg.h -c a.c"], "--list", "list.json")
+        self.assertEqual((tokens, len(said)), ([["cfg", "1"]], 1))
+        with open(self.path("list.json"), "rb") as file:
+            self.assertIn(b" i+ cfg\n", cppunits("dump", stdin=file).stdout)
+        self.build("deps", ["gcc -include cfg.h -o x.o -c a.c"])
+        with open(self.path("cppunits-deps/a.c.d")) as file:
+            self.assertEqual(file.read(), "x.o: \\\n  a.c \\\n  cfg.h\n")
+
+    def test_dependency_files(self):
+        """Names are relative where the command's are, and targets are what it says; a further unit of a file has its number."""
+        write(self.top, {"src/a.c": '#include <sys.h>\n#include "own.h"\n#include <inc.h>\n', "src/own.h": "", "inc/inc.h": ""})
+        whole = self.path("src/a.c")
+        commands = [("gcc -Iinc -o a.o -c src/a.c", "src/a.c"), (["gcc", "-Iinc", "-c", whole], whole)]
+        self.build("deps", commands, "--into", "d", "--phony")
+        for name, front, target in ("a.c.d", "", "a.o"), ("a.c.1.d", self.top + "/", "a.o"):
+            names = [front + "src/a.c", self.path("sys/sys.h"), front + "src/own.h", "inc/inc.h"]
+            with open(self.path("d/" + name)) as file:
+                self.assertEqual(file.read(), " \\\n  ".join([target + ":", *names]) + "\n" + "".join(name + ":\n" for name in names[1:]))
+
+    def test_commands_that_are_left_out(self):
+        tokens, said = self.tokens([("g++ -c b.cc", "b.cc"), ("g++ -c c.cc", "c.cc"), "gcc -c a.c", ("gcc -c none.c", "none.c")])
+        self.assertEqual(len(tokens), 1)
+        self.assertEqual(said[:2], ["build.py: 2 commands are left out: no C file",
+                                    "build.py: 1 commands are left out: there is no such file (is it made by the build?)"])
+
+    def test_list_from_build_asks_the_program(self):
+        write(self.top, {"a.c": "#include X\n", "x/x.h": "x\n", "x/y.h": ""})
+        write(self.top, {"c.json": json.dumps([{"directory": self.top, "file": "a.c", "command": "gcc -Ix '-DX=<x.h>' -c a.c"}])})
+        command = [sys.executable, os.path.join(TOP, "scripts", "list_from_build.py"), "--program", program(), self.path("c.json")]
+        for words in [], ["--inline"]:
+            listed = json.loads(well([*command, *words]))
+            self.assertEqual([row["name"] for row in listed["files"]], ["a.c", "x/x.h"])
+
+    def test_five_thousand_commands(self):
+        files = {"src/%d.c" % n: '#include "%d.h"\n#include <sys.h>\nint f;\n' % (n % 100) for n in range(5000)}
+        files.update({"inc/%d.h" % n: "#include <%d.h>\n" % (n // 2) if n else "" for n in range(100)})
+        write(self.top, files)
+        began = time.monotonic()
+        commands = [("gcc -O%d -DN=%d -Iinc -o %d.o -c src/%d.c" % (n % 3, n, n, n), "src/%d.c" % n) for n in range(5000)]
+        printed, said = self.build("faults", commands)
+        self.assertLess(time.monotonic() - began, 60)
+        self.assertEqual((printed, len(self.asked())), ("", 9))
+        self.assertIn("5000 units, 0 with a fault, 5101 files", said[0])
+
+
+class Runs(Builds):
+    """How it runs: terminals, interrupts, refusals."""
+
+    def setUp(self):
+        super().setUp()
+        self.compiler("bin/gcc")
+
+    def test_progress_stands_on_terminals_alone(self):
+        write(self.top, {"compile_commands.json": json.dumps([{"directory": self.top, "file": "a.c", "command": "gcc -c a.c"}])})
+        ours, theirs = pty.openpty()
+        done = subprocess.run(self.words("faults"), cwd=self.top, env=self.environment(), stdout=subprocess.PIPE, stderr=theirs, check=False)
+        os.close(theirs)
+        said = os.read(ours, 65536).decode()
+        os.close(ours)
+        self.assertEqual(done.returncode, 0)
+        self.assertIn("\r\x1b[Krunning 1 units over 2 files", said)
+        self.assertRegex(said, "\r\x1b\\[Kbuild.py: 1 units, 0 with a fault")
+
+    def test_interrupts_leave_nothing(self):
+        """Where compilers or the program are waited for; the files that stood there stay as they were."""
+        write(self.top, {"compile_commands.json": json.dumps([{"directory": self.top, "file": "a.c", "command": "gcc -c a.c"}]), "out": "as it was"})
+        slow = "#!/bin/sh\ntouch %(top)s/begun\nprintf 'unit 0 '\nexec sleep 30\n"
+        self.compiler("bin/slow", slow)
+        for number in signal.SIGINT, signal.SIGTERM:
+            for compiler, word in (COMPILER, self.path("bin/slow")), (slow, program()):
+                self.compiler("bin/gcc", compiler)
+                for task, more in ("dump", ["--output", "out"]), ("deps", ["--into", "d"]):
+                    with self.subTest(number=number, word=word, task=task):
+                        self.interrupted([sys.executable, BUILD, task, "--program", word, *more], number)
+        with open(self.path("out")) as file:
+            self.assertEqual(file.read(), "as it was")
+
+    def interrupted(self, words, number):
+        # a shell that runs these tests in the background has them ignore SIGINT
+        process = subprocess.Popen(words, cwd=self.top, env=self.environment(), stdout=subprocess.PIPE, stderr=subprocess.PIPE,
+                                   preexec_fn=lambda: signal.signal(signal.SIGINT, signal.SIG_DFL))
+        while not os.path.exists(self.path("begun")) and process.poll() is None:
+            time.sleep(0.02)
+        os.unlink(self.path("begun"))
+        process.send_signal(number)
+        printed = process.communicate(timeout=10)
+        self.assertEqual((process.returncode, printed), (130, (b"", b"")))
+        there = {"a.c", "bin", "compile_commands.json", "out", "sys", "tmp"}
+        self.assertEqual(set(os.listdir(self.top)) - {"asked"}, there)
+        self.assertEqual(os.listdir(self.path("tmp")), ["x"])
+
+    def test_programs_that_fail(self):
+        for text, reason in (("exit 3", "it refuses the list"), ("exit 4", "it is out of memory"), ("exit 77", "status 77"),
+                             ("kill -9 $$", "status -9"), ("echo no >&2; exit 5", "it can't read or write: no")):
+            self.compiler("bin/cppunits", "#!/bin/sh\n%s\n" % text)
+            _, said = self.build("deps", ["gcc -c a.c"], "--program", self.path("bin/cppunits"), status=3)
+            self.assertEqual(said, ["build.py: %s: %s" % (self.path("bin/cppunits"), reason)])
+        self.assertIn("there is no such program (--program names one)", self.build("deps", ["gcc -c a.c"], "--program", "none", status=3)[1][0])
+        self.compiler("bin/cppunits", "#!/bin/sh\necho nonsense\n")
+        self.build("deps", ["gcc -c a.c"], "--program", self.path("bin/cppunits"), status=3)
+
+    def test_what_is_no_build(self):
+        for text, status in (("[", 3), ("{}", 3), ('[{"file":"a.c"}]', 3), ("[]", 0),
+                             ('[{"directory":1,"file":"a","arguments":[]}]', 3), ('[{"directory":".","file":"a.c","command":"gcc \\""}]', 3),
+                             ('[{"directory":".","file":"a.c","command":"gcc","output":7}]', 3)):
+            write(self.top, {"c.json": text})
+            done = run(self.words("faults", "c.json"), cwd=self.top, env=self.environment())
+            self.assertEqual((done.returncode, done.stderr.count(b"\n")), (status, 1), text)
+        self.assertEqual(run(self.words("faults", "none.json"), cwd=self.top).returncode, 5)
+        for words in ["--none"], [], ["dump", "--workers", "0"], ["deps", "--workers", "65"], ["deps", "--seconds", "x"]:
+            self.assertEqual(run([sys.executable, BUILD, *words]).returncode, 2, words)
+        for words in ["--help"], ["deps", "--help"]:
+            self.assertEqual(run([sys.executable, BUILD, *words]).returncode, 0)
+
+
+class Real(Builds):
+    """The machine's gcc, and its headers."""
+
+    def setUp(self):
+        super().setUp()
+        missed("gcc")
+        if run(["gcc", "-E", "-x", "c", "-"], input="".join("#include <%s>\n" % name for name in HEADERS.split()).encode()).returncode:
+            raise unittest.SkipTest("the headers of the C library are missing (Debian package libc6-dev)")
+        write(self.top, REAL)
+
+    def test_tokens_and_dependencies_are_those_of_gcc(self):
+        named = "-DNAMED=<named/first.h> -DSECOND=\"second.h\"".split()
+        options = [["-O2", "-D_FORTIFY_SOURCE=2"], ["-std=c99", "-m64"], ["-std=gnu89", "-D_GNU_SOURCE", "-pthread"],
+                   ["-std=c11", "-fPIC", "-D_POSIX_C_SOURCE=200809L"]]
+        commands = [(["gcc", *more, *named, "-Iinc", "-c", "src/a.c"], "src/a.c") for more in options[:2] + options[3:]]
+        commands += [(["gcc", *more, "-Iinc", "-c", "src/b.c"], "src/b.c") for more in options]
+        tokens, said = self.tokens(commands, "--list", "list.json")
+        for (words, file), found in zip(commands, tokens):
+            text = re.sub("(?m)^#pragma.*", "", well([*words, "-E", "-P"], cwd=self.top).decode())
+            self.assertTrue(found == TOKEN.findall(text), words)
+        self.build("deps", commands)
+        numbers = {}
+        for number, (words, file) in enumerate(commands):
+            name = "cppunits-deps/%s%s.d" % (file[4:], ".%d" % number if file in numbers else "")
+            numbers[file] = number
+            with open(self.path(name)) as rule:
+                found = names_of(rule.read())
+            wanted = names_of(well([*words, "-M"], cwd=self.top).decode())
+            self.assertEqual(found, wanted, words)
+        self.assertEqual(len(said), 1, said)
+        with open(self.path("list.json")) as file:
+            self.assertNotIn(self.path("inc/never.h")[1:], file.read())
+
+
+def names_of(rule):
+    """The names of a rule's prerequisites, but for the header that gcc includes unasked."""
+    names = rule.split(":", 1)[1].replace("\\\n", " ").split()
+    return [name for name in names if not name.endswith("/stdc-predef.h")]
+
+
+if __name__ == "__main__":
+    main()
