@@ -1,0 +1,15 @@
+"""Cuts text that is preprocessed into the spellings of its preprocessing tokens (C11 6.4); made for comparisons, and no part of cppunits."""
+import re
+
+UNIVERSAL = r"\\(?:u[0-9A-Fa-f]{4}|U[0-9A-Fa-f]{8})"
+NAME = r"(?:[A-Za-z_$\x80-\xff]|%s)(?:[\w$\x80-\xff]|%s)*" % (UNIVERSAL, UNIVERSAL)
+NUMBER = r"\.?[0-9](?:[eEpP][+-]|[\w.$\x80-\xff]|%s)*" % UNIVERSAL
+LITERAL = r"(?:u8|[uUL])?\"(?:\\.|[^\"\\\n])*\"|[uUL]?'(?:\\.|[^'\\\n])+'"
+PUNCTUATOR = (r"%:%:|\.\.\.|<<=|>>=|->|\+\+|--|<<|>>|<=|>=|==|!=|&&|\|\||[*/%+&^|-]=|##|<:|:>|<%|%>|%:"
+              r"|[\[\](){}.&*+~!/%<>^|?:;=,#-]")
+TOKEN = re.compile(("(?:%s)|(?:%s)|(?:%s)|(?:%s)|[^ \\t\\v\\f\\r\\n]" % (LITERAL, NAME, NUMBER, PUNCTUATOR)).encode("latin-1"), re.ASCII)
+
+
+def spellings(text):
+    """The spellings of a text's tokens, as bytes."""
+    return TOKEN.findall(text)

@@ -1,0 +1,289 @@
+#!/usr/bin/env python3
+"""Compares cppunits with a build's own compiler, over projects with a compile_commands.json, and writes a table.
+
+    bench/projects.py [--program FILE] [--jobs N] [--output FILE] DIR..
+
+For example:  bench/projects.py --program crates/cppunits/out/cppunits "zlib 1.2.13=../zlib-1.2.13/build"
+
+For each folder scripts/build.py makes the list and runs cppunits, and the compiler is run on each unit with the words of its own command
+and -E -P, and once more with -M.  A row tells how many units there are, how many of them the compiler takes, and of these: how many are
+ok, have the compiler's tokens, and its dependencies in its order.  A cutter of its own (bench/cutter.py) makes spellings of the compiler's text.
+Left out of the comparison are stdc-predef.h, which gcc includes unasked, #ident lines, pragmas that gcc obeys and doesn't print, as
+#pragma once, and how __FILE__ names a file: the list names it from /.  Standard error names each unit that differs, with the first place where it does.
+
+Status: 0 all units that the compiler takes are the same, 1 some differ, 2 the command line isn't right, 3 build.py ended badly.
+"""
+import argparse
+import collections
+import json
+import os
+import re
+import shlex
+import subprocess
+import sys
+import tempfile
+import time
+from concurrent.futures import ThreadPoolExecutor
+
+from cutter import spellings
+
+TOP = os.path.dirname(os.path.dirname(os.path.abspath(__file__)))
+sys.path.insert(0, os.path.join(TOP, "scripts"))
+from common import plain, units  # noqa: E402
+
+# words of a command that say where to write, and those whose next word does
+WRITING, WRITING_WORD = ("-c", "-S", "-MD", "-MMD", "-MP", "-MG", "-M", "-MM"), ("-o", "-MF", "-MT", "-MQ", "-MJ")
+COMPILER = re.compile(r"(?:.*-)?(?:cc|gcc|clang)(?:-[\d.]+)?$")
+MADE = re.compile(r"cppunits-generated/\d+/")
+UNASKED = b"/stdc-predef.h"
+# what gcc obeys and doesn't print, and what cppunits doesn't print
+UNPRINTED = re.compile(rb"# ?(?:ident|sccs|pragma +(?:once|push_macro|pop_macro|GCC +(?:poison|system_header|warning|error|dependency)))\b")
+ENVIRONMENT = dict(os.environ, SOURCE_DATE_EPOCH="1707465903", LC_ALL="C")
+HEAD = ["Project", "Units", "Taken by the compiler", "ok", "Same tokens", "Same dependencies", "Seconds: build.py dump",
+        "Seconds: compiler -E -P", "The rest"]
+
+
+class Entry:
+    """A command of the build: its file, and the words that ask the compiler for what a preprocessor gives."""
+
+    def __init__(self, entry):
+        self.directory = entry["directory"]
+        self.file = os.path.normpath(os.path.join(self.directory, entry["file"]))
+        words = list(entry["arguments"]) if "arguments" in entry else shlex.split(entry["command"])
+        first = next((at for at, word in enumerate(words) if COMPILER.match(os.path.basename(word))), len(words))
+        self.words, skipped = [], False
+        for word in words[first:]:
+            if not skipped and word not in WRITING + WRITING_WORD and not word.startswith(("-Wp,-MD", "-Wp,-MMD")):
+                self.words.append(word)
+            skipped = not skipped and word in WRITING_WORD
+
+    def run(self, *more):
+        """What the compiler prints, or None where it refuses the unit or isn't there, and the seconds that it took."""
+        began, null = time.monotonic(), subprocess.DEVNULL
+        if not self.words:
+            return None, 0.0
+        try:
+            done = subprocess.run([*self.words, *more], cwd=self.directory, env=ENVIRONMENT, stdin=null, stdout=subprocess.PIPE, stderr=null,
+                                  check=False)
+        except OSError:
+            return None, 0.0
+        return None if done.returncode else done.stdout, time.monotonic() - began
+
+
+def entries(path):
+    """The commands of a build by the files that they compile."""
+    found = collections.defaultdict(list)
+    with open(path, "rb") as file:
+        for entry in map(Entry, json.load(file)):
+            found[entry.file].append(entry)
+    return found
+
+
+# ---- tokens
+
+
+def tokens_of_compiler(text):
+    """The spellings of the text, without lines that only one of the two prints."""
+    return spellings(b"\n".join(line for line in text.split(b"\n") if not UNPRINTED.match(line)))
+
+
+def tokens_of_unit(unit):
+    """The spellings of a dump, the operator _Pragma as the line that a compiler makes of it."""
+    found, pragma = [], []
+    for line in unit.lines:
+        if pragma and not line.startswith(b"ptok "):
+            found += pragma_line(pragma)
+            pragma = []
+        if line.startswith((b"tok ", b"ptok ")):
+            word = line.split(b" ", 4)[4]
+            (pragma if line.startswith(b"p") else found).append(plain(word) if b"%" in word else word)
+        elif line.startswith(b"prag "):
+            pragma = [b"#", b"pragma"]
+    return without_operators(found + pragma_line(pragma))
+
+
+def pragma_line(tokens):
+    return [] if UNPRINTED.match(b" ".join(tokens)) else tokens
+
+
+def without_operators(tokens):
+    """The tokens with a line for each operator _Pragma."""
+    found, at = [], 0
+    while b"_Pragma" in tokens[at:]:
+        operator = tokens.index(b"_Pragma", at)
+        found += tokens[at:operator]
+        inner = tokens[operator + 2:operator + 3]
+        if tokens[operator + 1:operator + 4] == [b"(", *inner, b")"] and inner[0].endswith(b'"'):
+            text = re.sub(rb'\\(["\\])', rb"\1", inner[0][inner[0].index(b'"') + 1:-1])
+            found += pragma_line([b"#", b"pragma", *spellings(text)])
+            at = operator + 4
+        else:
+            found.append(b"_Pragma")
+            at = operator + 1
+    return found + tokens[at:]
+
+
+def difference(ours, theirs, entry):
+    """The first place where the tokens differ, in words, or None."""
+    for at, (mine, other) in enumerate(zip(ours, theirs)):
+        if mine != other and not same_file(mine, other, entry):
+            return "token %d: %s, and the compiler has %s" % (at, told(ours, at), told(theirs, at))
+    if len(ours) != len(theirs):
+        return "%d tokens, and the compiler has %d" % (len(ours), len(theirs))
+    return None
+
+
+def same_file(mine, other, entry):
+    """Whether two literals name one file, as __FILE__ does."""
+    if not (mine[:1] == other[:1] == b'"'):
+        return False
+    path = os.path.join(os.fsencode(entry.directory), other[1:-1])
+    return os.path.normpath(path) == b"/" + mine[1:-1]
+
+
+def told(tokens, at):
+    return b" ".join(tokens[max(0, at - 2):at + 3]).decode("utf-8", "replace")[:100]
+
+
+# ---- dependencies
+
+
+def dependencies_of_compiler(text, entry):
+    """The files of a rule in their order, by what they are on the disk."""
+    rule = text.replace(b"\\\n", b" ").split(b":", 1)[1]
+    names = re.findall(rb"(?:\\.|[^\s\\])+", rule)
+    names = [re.sub(rb"\\([ #:\\])", rb"\1", name).replace(b"$$", b"$") for name in names]
+    return real(os.path.join(os.fsencode(entry.directory), name) for name in names)
+
+
+def dependencies_of_unit(unit):
+    """The unit's, its source first as with a compiler, and without the file that was made for it."""
+    names = [name for name in unit.dependencies() if not MADE.match(os.fsdecode(name))]
+    if unit.source in names:
+        names.insert(0, names.pop(names.index(unit.source)))
+    return real(b"/" + name for name in names)
+
+
+def real(paths):
+    """Each file once; one that gcc includes unasked is left out."""
+    return list(dict.fromkeys(path for path in map(os.path.realpath, paths) if not path.endswith(UNASKED)))
+
+
+def order_difference(ours, theirs):
+    if ours == theirs:
+        return None
+    for at, (mine, other) in enumerate(zip(ours, theirs)):
+        if mine != other:
+            return "dependency %d: %s, and the compiler has %s" % (at, os.fsdecode(mine), os.fsdecode(other))
+    return "%d dependencies, and the compiler has %d" % (len(ours), len(theirs))
+
+
+# ---- a project
+
+
+class Row:
+    """What came of a project."""
+
+    def __init__(self, name):
+        self.name, self.units, self.taken, self.ok, self.tokens, self.dependencies = name, 0, 0, 0, 0, 0
+        self.ours = self.theirs = 0.0
+        self.rest = collections.Counter()
+
+    def cells(self):
+        rest = ["%s: %d" % pair for pair in sorted(self.rest.items())]
+        counts = [self.units, self.taken, self.ok, self.tokens, self.dependencies]
+        return [self.name, *map(str, counts), "%.1f" % self.ours, "%.1f" % self.theirs, ", ".join(rest) or "none"]
+
+    def add(self, name, seconds, faults):
+        """Counts a unit: the compiler's seconds, and what differs, by kind; None where the compiler refuses it."""
+        self.units += 1
+        self.theirs += seconds
+        if faults is None:
+            self.rest["refused by the compiler"] += 1
+            return
+        self.taken += 1
+        self.ok += "fault" not in faults
+        self.tokens += not faults.keys() & {"fault", "tokens"}
+        self.dependencies += not faults.keys() & {"fault", "dependencies"}
+        for kind, text in faults.items():
+            self.rest["fault %s" % text.split(" ")[0] if kind == "fault" else kind] += 1
+            print("%s, %s: %s: %s" % (self.name, name, kind, text), file=sys.stderr)
+
+    def same(self):
+        return self.taken == self.tokens == self.dependencies
+
+
+def compared(unit, entry):
+    """A unit's name, the seconds of the compiler, and what differs, by kind."""
+    text, seconds = entry.run("-E", "-P")
+    if text is None:
+        return entry.file, seconds, None
+    if unit.fault is not None:
+        return entry.file, seconds, {"fault": unit.fault}
+    faults = {"tokens": difference(tokens_of_unit(unit), tokens_of_compiler(text), entry)}
+    rule, _ = entry.run("-M")
+    theirs = [] if rule is None else dependencies_of_compiler(rule, entry)
+    faults["dependencies"] = order_difference(dependencies_of_unit(unit), theirs)
+    return entry.file, seconds, {kind: told for kind, told in faults.items() if told is not None}
+
+
+def pairs(output, by_file):
+    """Each unit with its command; units of one file are in the order of their commands."""
+    used = collections.Counter()
+    for unit in units(output):
+        file = "/" + os.fsdecode(unit.source)
+        yield unit, by_file[file][used[file]]
+        used[file] += 1
+
+
+def project(folder, asked, work):
+    """The row of a project."""
+    build, output = os.path.join(folder, "compile_commands.json"), os.path.join(work, "dump")
+    row = Row(os.path.basename(os.path.abspath(folder)) if asked.name is None else asked.name)
+    words = [sys.executable, os.path.join(TOP, "scripts", "build.py"), "dump", build, "--output", output]
+    words += ["--program", asked.program] if asked.program else []
+    began = time.monotonic()
+    status = subprocess.run(words, env=ENVIRONMENT, check=False).returncode
+    row.ours = time.monotonic() - began
+    if status not in (0, 1):
+        print("projects.py: %s: build.py ended with status %d" % (folder, status), file=sys.stderr)
+        sys.exit(3)
+    found = pairs(output, entries(build))
+    with ThreadPoolExecutor(asked.jobs) as pool:
+        while some := [pair for _, pair in zip(range(8 * asked.jobs), found)]:
+            for done in pool.map(lambda pair: compared(*pair), some):
+                row.add(*done)
+    return row
+
+
+def table(rows):
+    lines = [HEAD, ["---"] + ["---:"] * (len(HEAD) - 2) + ["---"], *(row.cells() for row in rows)]
+    return "".join("| %s |\n" % " | ".join(cells) for cells in lines)
+
+
+def main():
+    form = argparse.RawDescriptionHelpFormatter
+    asked = argparse.ArgumentParser(description=__doc__, formatter_class=form)
+    asked.add_argument("folders", metavar="DIR", nargs="+", help="a folder with a compile_commands.json; NAME=DIR names its row")
+    asked.add_argument("--program", metavar="FILE", help="the program (default: cppunits on PATH)")
+    asked.add_argument("--jobs", metavar="N", type=int, default=1, help="how many compilers at once (default: 1)")
+    asked.add_argument("--output", metavar="FILE", help="write the table here (default: standard output)")
+    words, asked = asked, asked.parse_args()
+    if not 1 <= asked.jobs <= 64:
+        words.error("--jobs is a number from 1 to 64")
+    rows = []
+    for word in asked.folders:
+        name, sign, folder = word.partition("=")
+        asked.name = name if sign else None
+        with tempfile.TemporaryDirectory(prefix="projects.") as work:
+            rows.append(project(folder if sign else word, asked, work))
+    if asked.output:
+        with open(asked.output, "w", encoding="utf-8") as file:
+            file.write(table(rows))
+    else:
+        print(table(rows), end="")
+    return 0 if all(row.same() for row in rows) else 1
+
+
+if __name__ == "__main__":
+    sys.exit(main())

@@ -1,0 +1,375 @@
+#!/usr/bin/env python3
+"""Tests of scripts/faults.py: places, lines, carets, include chains, both forms, colours, and the table of advices.
+
+    tests/faults_tests.py [PROGRAM] [-k NAME]
+
+The chains are compared with those of gcc, over files that include each other at random.
+"""
+import io
+import json
+import os
+import pty
+import random
+import re
+import subprocess
+import sys
+import time
+import unittest
+
+from counted import LIST, TOP, Folder, cppunits, main, missed, run, script, write
+
+sys.path.insert(0, os.path.join(TOP, "scripts"))
+import faults  # noqa: E402
+from fault_texts import FAULTS, message  # noqa: E402
+
+FIRST = re.compile(r"^(.+):(\d+):(\d+): error: (.*) \[fault (\d+)\]$", re.M)
+
+
+class Faults(Folder):
+    def listed(self, files, units=None, inside=False, **more):
+        """A list over files, which are written below the folder or, with `inside`, stand in the list."""
+        write(self.top, {} if inside else files)
+        rows = [{"name": name, "text": text} if inside else {"name": name} for name, text in files.items()]
+        return dict(LIST, files=rows, units=units or [{"file": rows[0]["name"]}], **more)
+
+    def printed(self, listed):
+        """What the program prints of a list."""
+        words = [] if "text" in listed["files"][0] else ["--root", self.top]
+        done = cppunits(*words, "deps", input=json.dumps(listed).encode())
+        self.assertEqual(done.stderr, b"")
+        return done.stdout
+
+    def told(self, files, *words, status=1, **more):
+        """What the script writes of a list's faults."""
+        listed = self.listed(files, **more)
+        return self.said(listed, self.printed(listed), *words, status=status)
+
+    def said(self, listed, output, *words, status=1, **more):
+        write(self.top, {"list.json": json.dumps(listed)})
+        done = script("faults.py", "list.json", *words, input=output, cwd=self.top, **more)
+        self.assertEqual((done.returncode, done.stderr), (status, b""))
+        return done.stdout.decode()
+
+    def members(self, files, **more):
+        return [json.loads(line) for line in self.told(files, "--format", "json", **more).splitlines()]
+
+
+class Text(Faults):
+    def test_all_lines(self):
+        files = {"src/a.c": "int x;\n#include <low.h>\n", "inc/low.h": "\n  # include \"gone.h\"\n"}
+        self.assertEqual(self.told(files, search=["inc"]), """\
+In file included from src/a.c:2:
+inc/low.h:2:3: error: no such file: gone.h [fault 31]
+    2 |   # include "gone.h"
+      |   ^
+note: Give the folder that has it: by `-I` in a build's command, by `search` in a list, whose `files` name it.
+""")
+
+    def test_first_lines_are_read_as_those_of_gcc(self):
+        missed("gcc")
+        for text in ("#error no way\n", "int a;\n#include \"none.h\"\n", "#if 1\n#endif\n#endif\n", "#if 1/0\n#endif\n"):
+            ours = FIRST.search(self.told({"a.c": text}))
+            theirs = run(["gcc", "-E", "-P", "a.c"], cwd=self.top, env=dict(os.environ, LC_ALL="C")).stderr.decode()
+            theirs = re.search(r"^(.+):(\d+):(\d+): (?:fatal )?error: ", theirs, re.M)
+            self.assertEqual(ours.groups()[:2], theirs.groups()[:2])
+
+    def test_a_unit_without_a_fault(self):
+        self.assertEqual(self.told({"a.c": "x\n"}, status=0), "")
+        self.assertEqual(self.told({"a.c": "x\n"}, "--format", "json", status=0), "")
+
+    def test_each_unit_has_its_own(self):
+        units = [{"file": "a.c"}, {"file": "b.c"}, {"file": "a.c", "define": ["X 1"]}]
+        text = self.told({"a.c": "#if X\n#error first\n#endif\n", "b.c": "#error second\n"}, units=units)
+        self.assertEqual([found[1:] for found in FIRST.findall(text)], [("1", "1", "#error second", "34"), ("2", "1", "#error first", "34")])
+
+    def test_a_definition(self):
+        units = [{"file": "a.c", "define": ["A 1", "B+1"]}]
+        text = self.told({"a.c": ""}, units=units)
+        self.assertEqual(text.splitlines()[:4], ["In unit a.c:", "<command line>:2:1: error: no space behind the macro name B [fault 12]",
+                                                 "    2 | #define B+1", "      | ^"])
+
+    def test_paths(self):
+        files = {"in/src/a.c": "#error x\n"}
+        listed = self.listed(files)
+        output = self.printed(listed)
+        write(self.top, {"in/list.json": json.dumps(listed), "in/src/list.json": json.dumps(listed), "other/list.json": json.dumps(listed)})
+        for where, path in ("in", "src/a.c"), ("in/src", "a.c"), ("other", self.path("in/src/a.c")):
+            done = script("faults.py", "--root", self.top, "list.json", input=output, cwd=self.path(where))
+            self.assertEqual(FIRST.match(done.stdout.decode())[1], path)
+            self.assertIn(b" | #error x\n", done.stdout)
+
+    def test_contents_in_the_list(self):
+        files = {"a.c": "#include \"h.h\"\n", "h.h": "#error \u00e9\n"}
+        text = self.told(files, inside=True)
+        self.assertIn("h.h:1:1: error: #error \u00e9 [fault 34]\n    1 | #error \u00e9\n      | ^\n", text)
+        self.assertEqual(os.listdir(self.top), ["list.json"])
+
+    def test_the_output_as_a_file(self):
+        listed = self.listed({"a.c": "#error x\n"})
+        write(self.top, {"out": self.printed(listed)})
+        self.assertIn("a.c:1:1: error: ", self.said(listed, b"", "out"))
+
+
+class Lines(Faults):
+    def lines(self, text, **more):
+        """The source's line and the caret's, without what stands before them."""
+        told = self.told({"a.c": text}, **more).splitlines()
+        at = next(at for at, line in enumerate(told) if FIRST.match(line))
+        found = told[at + 1:-1]
+        return [line[8:] for line in found]
+
+    def test_tabs_are_kept(self):
+        self.assertEqual(self.lines("#define f(a) a\n\tx\tf(1, 2)\n"), ["\tx\tf(1, 2)", "\t \t^"])
+
+    def test_letters_by_their_width(self):
+        # the last has a letter of two places and one that stands over another
+        for before, spaces in ("\u00e9\u00e9 ", 3), ("\u6f22\u5b57 ", 5), ("e\u0301 ", 2):
+            self.assertEqual(self.lines("#define f(a) a\n%sf(1, 2)\n" % before), [before + "f(1, 2)", " " * spaces + "^"])
+
+    def test_columns_count_bytes(self):
+        found = self.members({"a.c": "#define f(a) a\n\t\u00e9 f(1, 2)\n"})[0]
+        self.assertEqual((found["line"], found["column"]), (2, 5))
+
+    def test_what_a_terminal_would_obey_or_not_show(self):
+        found = self.lines("#define f(a) a\n\"\x1b[2J\u202e\" f(1, 2)\n")
+        self.assertEqual(found, ["\"<U+001B>[2J<U+202E>\" f(1, 2)", " " * 22 + "^"])
+        self.assertIn("#error %1B[2J [fault 34]", self.told({"a.c": "#error \x1b[2J\n"}))
+
+    def test_bytes_that_are_no_text(self):
+        self.assertEqual(self.lines(b"#define f(a) a\n\xff f(1, 2)\n"), ["<FF> f(1, 2)", "     ^"])
+
+    def test_a_byte_order_mark_and_carriage_returns(self):
+        self.assertEqual(self.lines(b"\xef\xbb\xbf#error x\r\n"), ["#error x", "^"])
+
+    def test_a_long_line_is_cut(self):
+        text, caret = self.lines("#define f(a) a\n%sf(1, 2)%s\n" % ("x " * 500, " y" * 500))
+        self.assertEqual((text[:3], text[-3:], len(text)), ("...", "...", 206))
+        self.assertEqual(text[len(caret) - 1:].split()[0], "f(1,")
+
+    def test_lines_that_are_joined(self):
+        self.assertEqual(self.lines("x \\\n y\n /* \n */ #error z\n"), [" */ #error z", "    ^"])
+
+    def test_a_file_that_changed_or_is_gone(self):
+        listed = self.listed({"a.c": "int x;\n#error x\n"})
+        output, short = self.printed(listed), ["a.c:2:1: error: #error x [fault 34]", "note: " + FAULTS[34][2]]
+        for text in ("int x;\n", "int x;\nerror\n", "", "x\n\n", None):
+            os.unlink(self.path("a.c"))
+            write(self.top, {} if text is None else {"a.c": text})
+            self.assertEqual(self.said(listed, output).splitlines(), short)
+            write(self.top, {"a.c": ""})
+        os.unlink(self.path("a.c"))
+        os.mkfifo(self.path("a.c"))
+        self.assertEqual(self.said(listed, output).splitlines(), short)
+
+
+class Chains(Faults):
+    def chain(self, files, **more):
+        found = self.members(files, inside=True, **more)[0]["chain"]
+        return None if found is None else [(place["path"], place["line"]) for place in found]
+
+    def test_the_text_of_a_chain(self):
+        text = self.told({"a.c": "\n#include \"b.h\"\n", "b.h": "#include \"c.h\"\n", "c.h": "\n\n#include \"d.h\"\n", "d.h": "#error x\n"})
+        self.assertTrue(text.startswith("In file included from c.h:3,\n                 from b.h:1,\n                 from a.c:2:\nd.h:1:1: "))
+
+    def test_a_guarded_header_that_many_include(self):
+        guarded = "#ifndef %s\n#define %s\n%s#endif\n"
+        files = {"a.c": "#include \"x.h\"\n#include \"y.h\"\n#include \"base.h\"\n", "x.h": guarded % ("X", "X", "int x;\n"),
+                 "y.h": guarded % ("Y", "Y", "#include \"base.h\"\n"), "base.h": guarded % ("B", "B", "#include \"x.h\"\n#error\n")}
+        self.assertEqual(self.chain(files), [("y.h", 3), ("a.c", 2)])
+
+    def test_what_is_not_certain_is_left_out(self):
+        # whichever of the two lines opens it, the dependencies are the same
+        files = {"a.c": "#ifdef A\n#include \"h.h\"\n#else\n#include \"h.h\"\n#endif\n", "h.h": "#error x\n"}
+        self.assertIsNone(self.chain(files))
+        self.assertTrue(self.told(files).startswith("In unit a.c:\nh.h:1:1: error: "))
+
+    def test_definitions_count(self):
+        files = {"a.c": "#include \"h.h\"\n#include \"k.h\"\n", "h.h": "#ifndef G\n#define G\n#include \"k.h\"\n#endif\n",
+                 "k.h": "#define N 1\n#error x\n"}
+        self.assertEqual(self.chain(files, units=[{"file": "a.c", "define": ["N 1"]}]), [("h.h", 3), ("a.c", 1)])
+        # where the guard is a macro from the beginning, h.h may do nothing
+        self.assertIsNone(self.chain(files, units=[{"file": "a.c", "define": ["G"]}]))
+
+    def test_a_guard_with_a_second_branch(self):
+        """As of gcc's limits.h: a file that is opened again goes on behind #else."""
+        files = {"a.c": "#include <limits.h>\n", "one/limits.h": "#ifndef G\n#define G\n#include \"again.h\"\n#else\n#include_next <limits.h>\n#endif\n",
+                 "one/again.h": "#include_next <limits.h>\n", "two/limits.h": "#error x\n"}
+        above = [("one/limits.h", 5), ("one/again.h", 1), ("one/limits.h", 3), ("a.c", 1)]
+        self.assertEqual(self.chain(files, search=["one", "two"], profile="gnu"), above)
+
+    def test_many_files_take_no_long_time(self):
+        files = {"a.c": "".join("#ifndef X\n#include \"%d.h\"\n#endif\n" % n for n in range(1000)), "999.h": "#error x\n"}
+        files = {**{"%d.h" % n: "#if X\n#include \"%d.h\"\n#include \"%d.h\"\n#endif\n" % (n * 7 % 1000, n) for n in range(999)}, **files}
+        began = time.monotonic()
+        self.assertIsNone(self.chain(files, units=[{"file": "a.c"}]))
+        self.assertLess(time.monotonic() - began, 10)
+
+    def test_names_that_macros_make_and_next_files(self):
+        files = {"a.c": "#define H <h.h>\n#include H\n", "one/h.h": "#ifndef O\n#define O\n#include_next <h.h>\n#endif\n",
+                 "two/h.h": "#error x\n"}
+        self.assertEqual(self.chain(files, search=["one", "two"], profile="gnu"), [("one/h.h", 3), ("a.c", 2)])
+
+    def test_a_file_of_which_nothing_is_processed(self):
+        files = {"a.c": "#include \"h.h\"\n", "h.h": "#include \"k.h\"\n#if 1\n", "k.h": ""}
+        self.assertEqual(self.chain(files), [("a.c", 1)])
+
+    def test_a_file_that_is_gone(self):
+        listed = self.listed({"a.c": "#include \"b.h\"\n", "b.h": "#include \"c.h\"\n", "c.h": ""})
+        os.unlink(self.path("c.h"))
+        text = self.said(listed, self.printed(listed))
+        self.assertTrue(text.startswith("In file included from a.c:1:\nb.h:1:1: error: the file can't be read: c.h [fault 6]\n    1 | #inc"), text)
+
+    def test_includes_without_an_end(self):
+        self.assertIsNone(self.chain({"a.c": "#include \"a.c\"\n"}))
+
+    def test_the_file_that_is_made_for_a_unit(self):
+        made = "cppunits-generated/0/src/a.c"
+        text = "#include \"../../../first.h\"\n#include \"../../../src/a.c\"\n"
+        files = {made: text, "first.h": "#ifdef F\n#error first\n#endif\n", "src/a.c": "#include \"k.h\"\n", "src/k.h": "#error k\n"}
+        units = [{"file": made}, {"file": made, "define": ["F"]}]
+        last, first = self.members(files, inside=True, units=units)
+        self.assertEqual(last["chain"], [{"path": "src/a.c", "line": 1}])
+        self.assertEqual(first["chain"], [{"path": "<command line>", "line": 1}])
+        self.assertEqual((last["source"], first["source"]), ("src/a.c", "src/a.c"))
+
+    def test_by_gcc_over_files_at_random(self):
+        missed("gcc")
+        counts = [0, 0]
+        for seed in range(60):
+            files = at_random(random.Random(seed))
+            listed = self.listed(files, inside=True, profile="gnu")
+            output, to = self.printed(listed), io.StringIO()
+            if faults.print_faults(listed, io.BytesIO(output), ".", to, form="json"):
+                self.compare(files, json.loads(to.getvalue()), counts)
+        self.assertGreater(counts[1], 5)
+        self.assertGreater(counts[0], 2 * counts[1] // 3)
+
+    def compare(self, files, found, counts):
+        """The chain is gcc's, where one is told."""
+        write(self.top, files)
+        done = run(["gcc", "-E", "-P", "a.c"], cwd=self.top, env=dict(os.environ, LC_ALL="C"))
+        head = done.stderr.decode().split(": error: ")[0]
+        above = re.findall(r"from ([\w.]+):(\d+)[,:]", head)
+        self.assertEqual(head.split("\n")[-1].split(":")[:2], [found["path"], str(found["line"])])
+        counts[1] += 1
+        if found["chain"] is not None:
+            counts[0] += 1
+            self.assertEqual([(place["path"], str(place["line"])) for place in found["chain"]], above, files)
+
+
+def at_random(choice):
+    """Files that include those behind them, some of them guarded, and end in an error somewhere."""
+    count = choice.randint(3, 8)
+    names, files = ["a.c"] + ["h%d.h" % at for at in range(1, count)], {}
+    for at, name in enumerate(names):
+        lines = []
+        for _ in range(choice.randint(1, 4)):
+            include = "#include \"%s\"" % choice.choice(names[at + 1:]) if at < count - 1 else "int x;"
+            asked = "#ifdef X%d" % choice.randint(0, 2)
+            lines += choice.choice([[include], [include], [asked, include, "#endif"], ["#define X%d" % choice.randint(0, 2)],
+                                    [asked, "#error x", "#endif"], ["#if 0 /*", "*/", include, "#endif"]])
+        if at and choice.random() < 0.8:
+            lines = ["#ifndef G%d" % at, "#define G%d" % at, *lines, "#endif"]
+        files[name] = "\n".join(lines) + ("\n#error last\n" if at == count - 1 else "\n")
+    return files
+
+
+class Forms(Faults):
+    def test_an_object_for_each_fault(self):
+        files = {"a.c": "#include \"b.h\"\n", "b.h": "#undef\n"}
+        self.assertEqual(self.members(files), [{
+            "path": "b.h", "line": 1, "column": 1, "number": 9, "message": "#undef wants one name, and nothing behind it",
+            "advice": "Write the name; take away what follows it.", "text": "undef", "unit": 0, "source": "a.c",
+            "chain": [{"path": "a.c", "line": 1}]}])
+
+    def test_colours(self):
+        listed = self.listed({"a.c": "#error x\n"})
+        output = self.printed(listed)
+        plain = self.said(listed, output)
+        coloured = self.said(listed, output, "--color", "always")
+        self.assertNotIn("\33", plain + self.said(listed, output, "--color", "never"))
+        self.assertTrue(coloured.startswith("\33[1ma.c:1:1:\33[0m \33[1;31merror:\33[0m #error x"))
+        self.assertEqual(re.sub("\33\\[[0-9;]*m", "", coloured), plain)
+
+    def test_colours_on_a_terminal_alone(self):
+        listed = self.listed({"a.c": "#error x\n"})
+        write(self.top, {"list.json": json.dumps(listed), "out": self.printed(listed)})
+        command = [sys.executable, os.path.join(TOP, "scripts", "faults.py"), "list.json", "out"]
+        for change, wanted in ({"TERM": "xterm"}, True), ({"TERM": "dumb"}, False), ({"TERM": "xterm", "NO_COLOR": "1"}, False):
+            environment = {name: value for name, value in os.environ.items() if name != "NO_COLOR"}
+            ours, theirs = pty.openpty()
+            done = subprocess.run(command, cwd=self.top, stdout=theirs, env={**environment, **change})
+            os.close(theirs)
+            found = os.read(ours, 65536)
+            os.close(ours)
+            self.assertEqual((done.returncode, b"\33[1m" in found), (1, wanted))
+
+    def test_any_encoding_of_the_output(self):
+        listed = self.listed({"a.c": "#error \u00e9\n"})
+        environment = dict(os.environ, PYTHONIOENCODING="ascii")
+        self.assertIn("#error \u00e9", self.said(listed, self.printed(listed), env=environment))
+
+
+class Refusals(Faults):
+    def test_what_is_wrong_is_said_in_a_line(self):
+        good = json.dumps(self.listed({"a.c": "#error x\n"}))
+        unit = "unit 0 a.c\ndep 0 a.c\n"
+        write(self.top, {"list": good, "none": "{}", "odd": '{"files":[{"name":1}],"units":[]}', "word": '{"files":[],"units":["a.c"]}',
+                         "search": '{"files":[],"units":[],"search":3}', "define": '{"files":[],"units":[{"file":"a","define":[1]}]}',
+                         "good": unit + "fault 34 0:1:1 x\n", "cut": unit, "row": unit + "fault 34 1:1:1 x\n",
+                         "other": "unit 0 b.c\ndep 0 a.c\nfault 34 0:1:1 x\n", "dep": "unit 0 a.c\ndep 0 b.c\nfault 34 0:1:1 x\n",
+                         "far": "unit 0 a.c\ndep %s a.c\nfault 34 0:1:1 x\n" % ("9" * 5000), "words": unit + "fault x\n",
+                         "long": unit + "fault 34 0:%s:1 x\n" % ("9" * 5000), "text": "words\n"})
+        cases = [(listed, "good", 3) for listed in ("none", "odd", "word", "search", "define", "text")]
+        cases += [("list", output, 3) for output in ("cut", "row", "other", "dep", "far", "words", "long", "text")]
+        cases += [("list", "absent", 5), ("absent", "good", 5), ("-", "-", 2), ("--color", "blue", 2), ("--format", "xml", 2)]
+        for *words, status in cases:
+            done = script("faults.py", *words, cwd=self.top, stdin=subprocess.DEVNULL)
+            found = done.returncode, done.stderr.count(b"\n"), done.stdout
+            self.assertEqual(found, (status, 1, b""), (words, done.stderr))
+            self.assertTrue(done.stderr.startswith(b"faults.py: "), done.stderr)
+
+    def test_places_that_are_nowhere(self):
+        listed = self.listed({"a.c": "#error x\n"})
+        for place in ("0:9:1", "0:1:99", "0:0:1", "65535:1:1"):
+            text = self.said(listed, b"unit 0 a.c\ndep 0 a.c\nfault 34 %s x\n" % place.encode())
+            self.assertEqual(len(FIRST.findall(text)), 1)
+            self.assertNotIn(" | ", text)
+
+    def test_a_number_that_is_not_known(self):
+        text = self.said(self.listed({"a.c": "#error x\n"}), b"unit 0 a.c\ndep 0 a.c\nfault 99 0:1:1 x\n")
+        self.assertEqual(text, "a.c:1:1: error: x [fault 99]\n    1 | #error x\n      | ^\n")
+
+    def test_help(self):
+        done = script("faults.py", "--help")
+        self.assertEqual((done.returncode, done.stderr), (0, b""))
+        self.assertIn(b"status:\n  0  done\n", done.stdout)
+        self.assertIn(b"Example:", done.stdout)
+
+
+class Table(unittest.TestCase):
+    def test_numbers_and_advices_are_those_of_the_document(self):
+        with open(os.path.join(TOP, "docs", "FAULTS.md")) as file:
+            parts = re.split(r"^### Fault (\d+): ", file.read().split("\n## Refusals")[0], flags=re.M)[1:]
+        told = {int(number): " ".join(part.split("*What to do:* ")[1].split()) for number, part in zip(parts[::2], parts[1::2])}
+        self.assertEqual(list(told), list(FAULTS))
+        for number, (with_text, without, advice) in FAULTS.items():
+            self.assertTrue(told[number].startswith(advice), number)
+            self.assertEqual("%s" in with_text, without is not None, number)
+            self.assertNotIn("%s", message(number, "text") + message(number, ""))
+
+    def test_each_example_of_the_document_is_told(self):
+        with open(os.path.join(TOP, "docs", "FAULTS.md")) as file:
+            found = re.findall(r"^```json\n(.*)\n```\n\n`cppunits dump` prints.*\n\n```\n((?:.*\n)*?fault .*\n)```", file.read(), re.M)
+        self.assertGreater(len(found), 30)
+        for listed, output in found:
+            to = io.StringIO()
+            faults.print_faults(json.loads(listed), io.BytesIO(output.encode()), ".", to)
+            number = re.search(r"^fault (\d+) ", output, re.M)[1]
+            self.assertEqual(FIRST.search(to.getvalue())[5], number)
+            # what the caret is under is there, but where no file can be read
+            self.assertEqual(" | " in to.getvalue(), number not in ("6", "35"), to.getvalue())
+
+
+if __name__ == "__main__":
+    main()

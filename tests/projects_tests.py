@@ -1,0 +1,93 @@
+#!/usr/bin/env python3
+"""Tests of bench/projects.py and its cutter: a small project over the machine's own headers, beside the machine's gcc.
+
+    tests/projects_tests.py [PROGRAM] [-k NAME]
+"""
+import json
+import os
+import sys
+import unittest
+
+from counted import TOP, Folder, main, missed, program, run, well, write
+
+sys.path.insert(0, os.path.join(TOP, "bench"))
+from cutter import spellings  # noqa: E402
+
+SYSTEM = "#include <stdio.h>\n#include <limits.h>\n#include <stdint.h>\n#include <errno.h>\n#include <sys/socket.h>\n"
+MAIN = SYSTEM + """#include "own.h"
+_Pragma("GCC diagnostic ignored \\"-Wunused\\"")
+#pragma GCC diagnostic push
+#ident "a name"
+const char *where = __FILE__, *when = __DATE__ " " __TIME__;
+int line = __LINE__, most = INT_MAX, stopped = EINTR;
+int64_t wide = INT64_MAX;
+LOG("%d", line) LOG("none")
+"""
+OWN = "#pragma once\n#define LOG(format, ...) log(format, ##__VA_ARGS__);\nint log(const char *, ...);\nconst char *own = __FILE__;\n"
+
+
+class Projects(Folder):
+    def compared(self, files, commands, *words):
+        """The cells of the project's row, what was said of its units, and the status."""
+        missed("gcc")
+        write(self.top, {**files, "p/compile_commands.json": json.dumps(
+            [{"directory": self.path("p"), "file": file, "command": command} for file, command in commands])})
+        done = run([sys.executable, os.path.join(TOP, "bench", "projects.py"), "--program", program(), *words, self.path("p")])
+        lines = done.stdout.decode().splitlines()
+        self.assertEqual(len(lines), 3, done.stderr.decode())
+        said = [line for line in done.stderr.decode().splitlines() if not line.startswith("build.py: ")]
+        cells = [cell.strip() for cell in lines[2].strip("|").split("|")]
+        return cells[:6] + cells[8:], said, done.returncode
+
+    def test_headers_of_the_system(self):
+        files = {"p/main.c": MAIN, "p/inc/own.h": OWN, "p/first.h": "#define FIRST\n"}
+        commands = [("main.c", "gcc -O2 -Iinc -c main.c -o main.o"), ("main.c", "gcc -std=c11 -Iinc -MD -MF x.d -c main.c"),
+                    ("main.c", "gcc -D_GNU_SOURCE -include first.h -Iinc -c main.c")]
+        cells, said, status = self.compared(files, commands)
+        self.assertEqual((cells, said, status), (["p", "3", "3", "3", "3", "3", "none"], [], 0))
+
+    def test_what_differs_is_told(self):
+        files = {"p/count.c": "int a, b = __COUNTER__;\n", "p/same.c": "int a;\n", "p/fault.c": "#if 'ab'\n#endif\n",
+                 "p/wrong.c": "#error no\n"}
+        cells, said, status = self.compared(files, [(name[2:], "gcc -c " + name[2:]) for name in files], "--jobs", "2")
+        self.assertEqual((cells[1:6], status), (["4", "3", "2", "1", "2"], 1))
+        self.assertEqual(cells[6], "fault 25: 1, refused by the compiler: 1, tokens: 1")
+        self.assertEqual([line.split(": ", 1)[1] for line in said],
+                         ["tokens: token 5: b = __COUNTER__ ;, and the compiler has b = 0 ;", "fault: 25 %d:1:1 'ab'" % self.row(said)])
+
+    def row(self, said):
+        return int(said[1].split("fault: 25 ")[1].split(":")[0])
+
+    def test_dependencies_in_another_order(self):
+        sys.path.insert(0, os.path.join(TOP, "scripts"))
+        import projects
+        self.assertIsNone(projects.order_difference([b"a", b"b"], [b"a", b"b"]))
+        self.assertIn("dependency 1: b, and the compiler has c", projects.order_difference([b"a", b"b", b"c"], [b"a", b"c", b"b"]))
+        self.assertIn("1 dependencies, and the compiler has 2", projects.order_difference([b"a"], [b"a", b"b"]))
+
+    def test_names_in_a_rule(self):
+        import projects
+        entry = projects.Entry({"directory": "/d", "file": "a.c", "command": "ccache gcc -c a.c -o 'a b.o' -MF x -DX"})
+        self.assertEqual(entry.words, ["gcc", "a.c", "-DX"])
+        names = projects.dependencies_of_compiler(b"a.o: a.c \\\n b\\ c.h e$$.h \\#.h /usr/include/stdc-predef.h\n", entry)
+        self.assertEqual(names, [b"/d/a.c", b"/d/b c.h", b"/d/e$.h", b"/d/#.h"])
+
+
+class Cutter(unittest.TestCase):
+    def test_tokens(self):
+        rows = [("a+++b", "a ++ + b"), ("x->y...z", "x -> y ... z"), ("1e+5f .5.x 0x1p-3+1", "1e+5f .5.x 0x1p-3 + 1"), ("%:%:<:%>", "%:%: <: %>"),
+                ("u8\"a\\\"b\" L'\\'' 'x'y", "u8\"a\\\"b\" L'\\'' 'x' y"), ("a<<=b>>c", "a <<= b >> c"), ("\u00e9$1 @ `", "\u00e9$1 @ `"),
+                ("don't", "don ' t"), ("a.b..c", "a . b . . c"), ("\\u00e9x \\q", "\\u00e9x \\ q"), ("*/ /=", "* / /=")]
+        for text, wanted in rows:
+            self.assertEqual([one.decode() for one in spellings(text.encode())], wanted.split(" "), text)
+
+    def test_as_the_program_cuts(self):
+        missed("gcc")
+        text = well(["gcc", "-E", "-P", "-x", "c", "-"], input=SYSTEM.encode())
+        listed = {"date": "Feb  9 2024", "time": "08:05:03", "files": [{"name": "a.c", "text": text.decode()}], "units": [{"file": "a.c"}]}
+        lines = well([program(), "dump"], input=json.dumps(listed).encode()).split(b"\n")
+        self.assertEqual([line.split(b" ", 4)[4].replace(b"%25", b"%") for line in lines if line.startswith(b"tok ")], spellings(text))
+
+
+if __name__ == "__main__":
+    main()
