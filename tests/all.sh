@@ -94,7 +94,10 @@ if has python3 "the tests of the scripts and documents"; then
     begin python3 tests/token_tests.py
     begin python3 tests/phase_tests.py
     begin python3 tests/list_tests.py
+    begin python3 tests/build_tests.py
     begin python3 tests/scripts_tests.py
+    begin python3 tests/faults_tests.py
+    begin python3 tests/projects_tests.py
     begin python3 tests/docs_examples.py
     begin python3 tests/serving_tests.py
     begin python3 tests/truncated.py
