@@ -262,7 +262,7 @@ def shared(word):
     word.add_argument("--workers", metavar="N", type=lambda text: number(text, 1, 64, int), help="how many units at once, for cppunits")
     word.add_argument("--list", metavar="FILE", help="keep the list here, with names below / (and with contents where -include made files)")
     word.add_argument("--query-driver", metavar="GLOB", action="append", default=[],
-                      help="let compilers whose paths match be run, as '/home/me/cross/bin/*-gcc' (may be repeated)")
+                      help="let compilers whose paths match be run, as '/srv/cross/bin/*-gcc' (may be repeated)")
     word.add_argument("--seconds", metavar="N", type=lambda text: number(text, 0.1, 3600, float), default=SECONDS,
                       help="how long each question to a compiler may take (default: %d)" % SECONDS)
     word.add_argument("--system", metavar="DIR", action="append", default=[], help="a folder that each unit searches behind its compiler's")
