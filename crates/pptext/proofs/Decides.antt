@@ -25,7 +25,7 @@ pub record Tests (P : List ℕ → Type 0) (p : List ℕ → Bool) : Type 0 wher
 pub exactly : (text : List ℕ) → Tests (Exactly text) (exactly_test text)
 exactly text = record { at = λ s. bytes_eq-Decides s text }
 
-one : (test : ℕ → Bool) → Tests (One test) (one_test test)
+pub one : (test : ℕ → Bool) → Tests (One test) (one_test test)
 one test = record { at = at }
   where
     at : (s : List ℕ) → Decides (one_test test s) (One test s)
@@ -66,7 +66,7 @@ then_at P Q p q of_p of_q (c ∷ s) =
     let later = then_test (λ a. p (c ∷ a)) q s in
     Decides-like (here || later) (unsplit P Q c s) (split P Q c s) (Decides-or here later (Decides-and (p []) (q (c ∷ s)) (of_p.at []) (of_q.at (c ∷ s))) (then_at (λ a. P (c ∷ a)) Q (λ a. p (c ∷ a)) q (behind c of_p) of_q s))
 
-followed : {P Q : List ℕ → Type 0} {p q : List ℕ → Bool} → Tests P p → Tests Q q → Tests (Then P Q) (then_test p q)
+pub followed : {P Q : List ℕ → Type 0} {p q : List ℕ → Bool} → Tests P p → Tests Q q → Tests (Then P Q) (then_test p q)
 followed {P} {Q} {p} {q} of_p of_q = record { at = then_at P Q p q of_p of_q }
 
 run : (n : ℕ) (test : ℕ → Bool) → Tests (IsRun n test) (run_test n test)
@@ -99,7 +99,7 @@ then_repeated_at P Q p q of_p of_q (c ∷ s) =
 behind_nothing : (P : List ℕ → Type 0) (s : List ℕ) → Then (Exactly []) P s → P s
 behind_nothing P s (a, b, e, none, p) = subst P (sym (e ∙ ap (λ z. z ++ b) none)) p
 
-repeated : {P : List ℕ → Type 0} {p : List ℕ → Bool} → Tests P p → Tests (Repeated P) (repeated_test p)
+pub repeated : {P : List ℕ → Type 0} {p : List ℕ → Bool} → Tests P p → Tests (Repeated P) (repeated_test p)
 repeated {P} {p} of_p = record {
   at = λ s. Decides-like (repeated_test p s) (behind_nothing (Repeated P) s) (λ h. ([], s, refl, refl, h)) (then_repeated_at (Exactly []) P (exactly_test []) p (exactly []) of_p s);
 }

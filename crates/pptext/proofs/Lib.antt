@@ -90,3 +90,5 @@ pub mod Carrying
 pub mod Lengths
 -- What a walk over the lines of a file knows of the next branch lines.
 pub mod Walks
+-- Each text is cut, or a comment in it is not closed; each file reads in some way.
+pub mod SomeReading

@@ -1,13 +1,14 @@
 // Laws of the definitions: functions that do nothing, whose contracts are the laws.
 ghost use Rattle.std.specs.Prelude.{◌≡◌, ◌≢◌, ◌↔◌, ◌++◌, ℕ, List, [], None, Result, Ok, Contains};
 ghost use Rattle.pptext.specs.declared.tokens.Fault.{Fault};
+ghost use Rattle.pptext.specs.declared.tokens.Place.{Place};
 ghost use Rattle.pptext.specs.declared.sources.Profile.{Profile};
 ghost use Rattle.pptext.specs.declared.tokens.Kind.{Kind};
 ghost use Rattle.pptext.specs.declared.tokens.Kind.TheVariants.{Header};
 ghost use Rattle.pptext.specs.declared.characters.Char.{Char};
 ghost use Rattle.pptext.specs.Carrying.{CarriesOn};
 ghost use Rattle.pptext.specs.Clean.{cleaned, codes_of};
-ghost use Rattle.pptext.specs.Cut.{Piece, Spelled, Cut};
+ghost use Rattle.pptext.specs.Cut.{Piece, Spelled, Cut, Unclosed};
 ghost use Rattle.pptext.specs.Laws.{spellings_of};
 ghost use Rattle.pptext.specs.Lexing.{HasOneLexer};
 ghost use Rattle.pptext.specs.Lines.{LogicalLine, lines_of};
@@ -20,9 +21,19 @@ pub fn one_cut()
     ensures { (profile : Profile) (cs : List Char) (a b : List Piece) → Cut profile cs a → Cut profile cs b → a ≡ b }
 {}
 
+/// A text has a cut exactly where no comment in it is unclosed, for all characters.
+pub fn cut_unless_unclosed()
+    ensures { (profile : Profile) (chars : List Char) → ((pieces : List Piece) × Cut profile chars pieces) ↔ ((at : Place) → ¬ Unclosed profile chars at) }
+{}
+
 /// Reading a file gives these lines or this fault, and nothing else.
 pub fn one_reading()
     ensures { (profile : Profile) (file : ℕ) (bytes : List ℕ) (a b : Result (List LogicalLine) Fault) → Reads profile file bytes a → Reads profile file bytes b → a ≡ b }
+{}
+
+/// Each file reads in some way: as lines, or as its first fault.
+pub fn some_reading()
+    ensures { (profile : Profile) (file : ℕ) (bytes : List ℕ) → (r : Result (List LogicalLine) Fault) × Reads profile file bytes r }
 {}
 
 /// Each token of a file stands on one of its lines, since a text behind phase 2 ends in a new-line (5.1.1.2).
