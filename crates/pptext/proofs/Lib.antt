@@ -92,3 +92,5 @@ pub mod Lengths
 pub mod Walks
 -- Each text is cut, or a comment in it is not closed; each file reads in some way.
 pub mod SomeReading
+-- Which fault lines without a tree have, by trees alone.
+pub mod GroupFaults

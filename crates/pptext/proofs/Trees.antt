@@ -8,7 +8,7 @@ use Rattle.pptext.specs.Tree.{branch_lines, BeginsRun, AreParts, AreBranches, Tr
 
 -- a tree has no fault
 
-one_line : (os : List Open) (r : LogicalLine) (rs : List LogicalLine) (s : Role) → role r ≡ s → group_fault os (r ∷ rs) ≡ fault_or r (opened s r os).0 (group_fault (opened s r os).1 rs)
+pub one_line : (os : List Open) (r : LogicalLine) (rs : List LogicalLine) (s : Role) → role r ≡ s → group_fault os (r ∷ rs) ≡ fault_or r (opened s r os).0 (group_fault (opened s r os).1 rs)
 one_line os r rs s e = ap (λ (z : Role). fault_or r (opened z r os).0 (group_fault (opened z r os).1 rs)) e
 
 text_lines : (os : List Open) (rs rest : List LogicalLine) → AllByRecursion (λ r. role r ≡ TextLine) rs → group_fault os (rs ++ rest) ≡ group_fault os rest
@@ -22,7 +22,7 @@ pub branch_line : (r : LogicalLine) (ps : Parts) (bs : Branches) (rest : List Lo
 branch_line r ps bs rest = ap (λ (z : List LogicalLine). r ∷ z) (append_assoc (part_lines ps) (branch_lines bs) rest)
 
 mutual
-  parts_pass : (ps : Parts) (os : List Open) (rest : List LogicalLine) → AreParts ps → group_fault os (part_lines ps ++ rest) ≡ group_fault os rest
+  pub parts_pass : (ps : Parts) (os : List Open) (rest : List LogicalLine) → AreParts ps → group_fault os (part_lines ps ++ rest) ≡ group_fault os rest
   parts_pass Done os rest are = refl
   parts_pass (Run rs ps) os rest are =
       ap (group_fault os) (append_assoc rs (part_lines ps) rest) ∙ text_lines os rs (part_lines ps ++ rest) are.1 ∙ parts_pass ps os rest are.3
@@ -43,7 +43,7 @@ mutual
       ∙ parts_pass ps ((o, final) ∷ os) (branch_lines bs ++ rest) parts
       ∙ branches_pass bs o final os rest more
 
-no_fault : (lines : List LogicalLine) (parts : Parts) → Tree lines parts → group_fault [] lines ≡ None
+pub no_fault : (lines : List LogicalLine) (parts : Parts) → Tree lines parts → group_fault [] lines ≡ None
 no_fault lines parts tree =
     ap (group_fault []) (sym tree.whole ∙ sym (append-nil (part_lines parts))) ∙ parts_pass parts [] [] tree.each
 
@@ -60,7 +60,7 @@ abbrev Behind : List Open → List LogicalLine → Type 0
 Behind [] rest = rest ≡ []
 Behind (o ∷ os) rest = (bs : Branches) × (more : List LogicalLine) × AreBranches o.1 bs × (branch_lines bs ++ more ≡ rest) × Front (Behind os) more
 
-with_text : (r : LogicalLine) (ps : Parts) → role r ≡ TextLine → AreParts ps → (qs : Parts) × AreParts qs × (part_lines qs ≡ r ∷ part_lines ps)
+pub with_text : (r : LogicalLine) (ps : Parts) → role r ≡ TextLine → AreParts ps → (qs : Parts) × AreParts qs × (part_lines qs ≡ r ∷ part_lines ps)
 with_text r Done is are = (Run (r ∷ []) Done, ((λ (e : r ∷ [] ≡ []). cc), (is, tt), (λ (e : ⊥). e), tt), refl)
 with_text r (Run rs ps) is are = (Run (r ∷ rs) ps, ((λ (e : r ∷ rs ≡ []). cc), (is, are.1), are.2, are.3), refl)
 with_text r (Control q ps) is are = (Run (r ∷ []) (Control q ps), ((λ (e : r ∷ [] ≡ []). cc), (is, tt), (λ (e : ⊥). e), are), refl)

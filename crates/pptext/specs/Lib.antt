@@ -12,6 +12,7 @@ pub mod Profiles
 pub mod Cut
 pub mod Lines
 pub mod Tree
+pub mod GroupFaults
 pub mod Guard
 pub mod Sources
 pub mod Stops

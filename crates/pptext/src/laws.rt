@@ -1,5 +1,5 @@
 // Laws of the definitions: functions that do nothing, whose contracts are the laws.
-ghost use Rattle.std.specs.Prelude.{◌≡◌, ◌≢◌, ◌↔◌, ◌++◌, ℕ, List, [], None, Result, Ok, Contains};
+ghost use Rattle.std.specs.Prelude.{◌≡◌, ◌≢◌, ◌↔◌, ◌++◌, ℕ, List, [], None, Some, Result, Ok, Contains};
 ghost use Rattle.pptext.specs.declared.tokens.Fault.{Fault};
 ghost use Rattle.pptext.specs.declared.tokens.Place.{Place};
 ghost use Rattle.pptext.specs.declared.sources.Profile.{Profile};
@@ -9,6 +9,7 @@ ghost use Rattle.pptext.specs.declared.characters.Char.{Char};
 ghost use Rattle.pptext.specs.Carrying.{CarriesOn};
 ghost use Rattle.pptext.specs.Clean.{cleaned, codes_of};
 ghost use Rattle.pptext.specs.Cut.{Piece, Spelled, Cut, Unclosed};
+ghost use Rattle.pptext.specs.GroupFaults.{IsGroupFault};
 ghost use Rattle.pptext.specs.Laws.{spellings_of};
 ghost use Rattle.pptext.specs.Lexing.{HasOneLexer};
 ghost use Rattle.pptext.specs.Lines.{LogicalLine, lines_of};
@@ -65,4 +66,10 @@ pub fn one_tree()
 /// The kind of the one token that each text is (6.4) can be told, and in one way.
 pub fn one_lexer()
     ensures { HasOneLexer }
+{}
+
+/// Lines without a tree of groups (6.10) have fault 3 or 4 at the first line with which the lines so far begin no list that has a tree: 3 where no
+/// section is open before it, 4 where one is. Where they begin such a list to their end, they have fault 5 at the innermost open section.
+pub fn which_group_fault()
+    ensures { (lines : List LogicalLine) (fault : Fault) → (group_fault [] lines ≡ Some fault) ↔ IsGroupFault lines fault }
 {}

@@ -1,0 +1,39 @@
+-- Which fault lines without a tree have (6.10), by trees alone.
+use Rattle.std.specs.Prelude.{◌≡◌, List, [], ◌∷◌, ◌++◌}
+use Rattle.pptext.specs.declared.tokens.Fault.{Fault}
+use Rattle.pptext.specs.Lines.{LogicalLine}
+use Rattle.pptext.specs.Tree.{Parts, Branches, Done, Section, Tree, Closes, role, fault_at}
+
+abbrev pub HasTree : List LogicalLine → Type 0
+HasTree lines = (parts : Parts) × Tree lines parts
+
+-- some list of lines that begins with these has a tree
+abbrev pub BeginsTree : List LogicalLine → Type 0
+BeginsTree front = (rest : List LogicalLine) × HasTree (front ++ rest)
+
+-- This line opens the innermost section that is open behind the lines: with one `#endif` more, the lines from it on are one if-section.
+pub record Innermost (lines : List LogicalLine) (opening : LogicalLine) : Type 0 where
+  pub before : List LogicalLine
+  pub rest : List LogicalLine
+  pub whole : lines ≡ before ++ opening ∷ rest
+  pub end : LogicalLine
+  pub closes : role end ≡ Closes
+  pub parts : Parts
+  pub branches : Branches
+  pub section : Tree (opening ∷ rest ++ end ∷ []) (Section opening parts branches Done)
+
+-- With this line, the first such, the lines so far begin no list that has a tree.
+pub record Breaks (lines before : List LogicalLine) (line : LogicalLine) : Type 0 where
+  pub rest : List LogicalLine
+  pub whole : lines ≡ before ++ line ∷ rest
+  pub begins : BeginsTree before
+  pub breaks : ¬ BeginsTree (before ++ line ∷ [])
+
+-- the fault of lines that have no tree
+pub data IsGroupFault (lines : List LogicalLine) : Fault → Type 0 where
+  -- no section is open before the line
+  no_section : {before : List LogicalLine} {line : LogicalLine} → Breaks lines before line → HasTree before → IsGroupFault lines (fault_at 3 line)
+  -- a section is open there: its `#else` has come
+  after_else : {before : List LogicalLine} {line : LogicalLine} → Breaks lines before line → (¬ HasTree before) → IsGroupFault lines (fault_at 4 line)
+  -- the lines begin a list that has a tree, and have none
+  unclosed : {opening : LogicalLine} → BeginsTree lines → (¬ HasTree lines) → Innermost lines opening → IsGroupFault lines (fault_at 5 opening)
