@@ -8,7 +8,7 @@ use Rattle.pptext.specs.Lines.{LogicalLine, directive_of, IsDirected}
 use Rattle.pptext.specs.Tree.{Role, TextLine, ControlLine, Opens, Elses, Closes, Parts, Done, Run, Control, Section, Branches, End, Branch, part_lines, branch_lines, AreParts, AreBranches, role, role_by, branch_behind, group_fault}
 use Rattle.pptext.specs.Guard.{IsBlankLine, AreBlank, guard_name, GuardedParts, GuardedBy}
 use Rattle.pptext.specs.Grouping.{AreDirected, ClosedAtOnce, FlatGuard}
-use Rattle.pptext.proofs.Trees.{section_lines, branch_line, a_tree}
+use Rattle.pptext.proofs.Trees.{section_lines, branch_line, a_tree, at_most_one}
 
 -- the next branch line behind parts stands behind their lines
 
@@ -167,3 +167,15 @@ guarded_by_flat lines x directed e flat =
 pub flat_by_guarded : (lines : List LogicalLine) (x : List ℕ) → GuardedBy lines x → FlatGuard 0 lines x
 flat_by_guarded lines x (parts, tree, guarded) =
     subst (λ (z : List LogicalLine). FlatGuard 0 z x) tree.whole (guarded_flat parts x 0 tree.each guarded)
+
+-- a file has one guard at the most
+
+one_name : (ps : Parts) (x y : List ℕ) → GuardedParts ps x → GuardedParts ps y → x ≡ y
+one_name Done x y g h = absurd g
+one_name (Run rs ps) x y g h = one_name ps x y g.1 h.1
+one_name (Control r ps) x y g h = absurd g
+one_name (Section r ps (End e) qs) x y g h = let same : Some x ≡ Some y = sym g.0 ∙ h.0 in cc
+one_name (Section r ps (Branch e ps' bs) qs) x y g h = absurd g
+
+pub one_guard : (lines : List LogicalLine) (x y : List ℕ) → GuardedBy lines x → GuardedBy lines y → x ≡ y
+one_guard lines x y (a, first, g) (b, second, h) = one_name b x y (subst (λ (z : Parts). GuardedParts z x) (at_most_one lines a b first second) g) h

@@ -94,3 +94,5 @@ pub mod Walks
 pub mod SomeReading
 -- Which fault lines without a tree have, by trees alone.
 pub mod GroupFaults
+-- The next branch line of each line is the one that the tree shows.
+pub mod NextBranches

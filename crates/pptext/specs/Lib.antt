@@ -15,6 +15,7 @@ pub mod Tree
 pub mod GroupFaults
 pub mod Guard
 pub mod Sources
+pub mod NextBranches
 pub mod Stops
 pub mod Answers
 pub mod Finds

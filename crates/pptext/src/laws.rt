@@ -1,5 +1,5 @@
 // Laws of the definitions: functions that do nothing, whose contracts are the laws.
-ghost use Rattle.std.specs.Prelude.{◌≡◌, ◌≢◌, ◌↔◌, ◌++◌, ℕ, List, [], None, Some, Result, Ok, Contains};
+ghost use Rattle.std.specs.Prelude.{◌≡◌, ◌≢◌, ◌↔◌, ◌++◌, ℕ, List, [], map, None, Some, Result, Ok, Contains};
 ghost use Rattle.pptext.specs.declared.tokens.Fault.{Fault};
 ghost use Rattle.pptext.specs.declared.tokens.Place.{Place};
 ghost use Rattle.pptext.specs.declared.sources.Profile.{Profile};
@@ -10,10 +10,12 @@ ghost use Rattle.pptext.specs.Carrying.{CarriesOn};
 ghost use Rattle.pptext.specs.Clean.{cleaned, codes_of};
 ghost use Rattle.pptext.specs.Cut.{Piece, Spelled, Cut, Unclosed};
 ghost use Rattle.pptext.specs.GroupFaults.{IsGroupFault};
+ghost use Rattle.pptext.specs.Guard.{GuardedBy};
 ghost use Rattle.pptext.specs.Laws.{spellings_of};
 ghost use Rattle.pptext.specs.Lexing.{HasOneLexer};
 ghost use Rattle.pptext.specs.Lines.{LogicalLine, lines_of};
-ghost use Rattle.pptext.specs.Sources.{Reads, tokens_of, IsOneToken};
+ghost use Rattle.pptext.specs.NextBranches.{part_branches};
+ghost use Rattle.pptext.specs.Sources.{Reads, tokens_of, spans, IsOneToken};
 ghost use Rattle.pptext.specs.Tokens.{spelled};
 ghost use Rattle.pptext.specs.Tree.{group_fault, Parts, Tree};
 
@@ -72,4 +74,14 @@ pub fn one_lexer()
 /// section is open before it, 4 where one is. Where they begin such a list to their end, they have fault 5 at the innermost open section.
 pub fn which_group_fault()
     ensures { (lines : List LogicalLine) (fault : Fault) → (group_fault [] lines ≡ Some fault) ↔ IsGroupFault lines fault }
+{}
+
+/// In the tree of groups (6.10) the next branch line of a line is the one that follows its group: the next branch of its section, or `#endif`.
+pub fn next_branches()
+    ensures { (lines : List LogicalLine) (parts : Parts) → Tree lines parts → map (λ l. l.next_branch) (spans 0 0 lines) ≡ part_branches 0 parts }
+{}
+
+/// A file has at most one guard.
+pub fn one_guard()
+    ensures { (lines : List LogicalLine) (a b : List ℕ) → GuardedBy lines a → GuardedBy lines b → a ≡ b }
 {}

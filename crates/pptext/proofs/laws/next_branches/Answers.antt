@@ -1,0 +1,5 @@
+use Rattle.pptext.proofs.NextBranches.{next_branches}
+use Rattle.pptext.proofs.laws.next_branches.Goals as goal
+
+pub returns : goal.returns
+returns c = next_branches
