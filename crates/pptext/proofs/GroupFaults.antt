@@ -7,7 +7,7 @@ use Rattle.pptext.specs.declared.sources.Directive.TheVariants.{Endif}
 use Rattle.pptext.specs.Lines.{LogicalLine}
 use Rattle.pptext.specs.Tree.{Role, TextLine, ControlLine, Opens, Elses, Closes, Parts, Done, Control, Section, Branches, End, Branch, part_lines}
 use Rattle.pptext.specs.Tree.{branch_lines, AreParts, AreBranches, role, Open, opened, fault_at, fault_or, group_fault}
-use Rattle.pptext.specs.GroupFaults.{HasTree, BeginsTree, Innermost, Breaks, IsGroupFault, no_section, after_else, unclosed}
+use Rattle.pptext.specs.GroupFaults.{HasTree, BeginsTree, Innermost, FirstWrong, IsGroupFault, no_section, after_else, open_section}
 use Rattle.pptext.proofs.Trees.{a_tree, no_fault, parts_pass, one_line, with_text, section_lines}
 
 -- ---- a walk over the lines
@@ -76,8 +76,8 @@ walk_begins : {last : List Open} {front : List LogicalLine} → Walk [] front la
 walk_begins {last} {front} w = (endings last, a_tree (front ++ endings last) (walk_fault (endings last) w ∙ all_closed last))
 
 -- with a line that has a fault, the lines begin no list that has a tree
-stopped_breaks : (last : List Open) (front : List LogicalLine) (r : LogicalLine) (n : ℕ) → Walk [] front last → (opened (role r) r last).0 ≡ Some n → ¬ BeginsTree (front ++ r ∷ [])
-stopped_breaks last front r n w e (rest, (parts, tree)) =
+stopped_wrong : (last : List Open) (front : List LogicalLine) (r : LogicalLine) (n : ℕ) → Walk [] front last → (opened (role r) r last).0 ≡ Some n → ¬ BeginsTree (front ++ r ∷ [])
+stopped_wrong last front r n w e (rest, (parts, tree)) =
     let none : group_fault [] (front ++ (r ∷ rest)) ≡ None = ap (group_fault []) (sym (append_assoc front (r ∷ []) rest)) ∙ no_fault _ parts tree in
     let later = group_fault (opened (role r) r last).1 rest in
     let some : group_fault [] (front ++ (r ∷ rest)) ≡ Some (fault_at n r) = walk_fault (r ∷ rest) w ∙ ap (λ (z : Option ℕ). fault_or r z later) e in
@@ -91,12 +91,12 @@ begins_walk front begins = cases (outcome [] front) begins
     cases (inl w) b = w
     cases (inr s) (rest, tree) =
         let split : front ++ rest ≡ (s.before ++ s.line ∷ []) ++ (s.rest ++ rest) = ap (λ (z : List LogicalLine). z ++ rest) s.whole ∙ simp append_assoc in
-        absurd (stopped_breaks s.last s.before s.line s.number s.walk s.fault (s.rest ++ rest, subst HasTree split tree))
+        absurd (stopped_wrong s.last s.before s.line s.number s.walk s.fault (s.rest ++ rest, subst HasTree split tree))
 
 tree_begins : (lines : List LogicalLine) → HasTree lines → BeginsTree lines
 tree_begins lines tree = ([], subst HasTree (sym (append-nil lines)) tree)
 
--- behind lines that have a tree no section is open, and behind others one is
+-- after lines that have a tree no section is open, and after others one is
 tree_closed : (last : List Open) (lines : List LogicalLine) → Walk [] lines last → HasTree lines → last ≡ []
 tree_closed [] lines w tree = refl
 tree_closed (o ∷ os) lines w (parts, tree) =
@@ -126,17 +126,17 @@ stopped_fault lines s =
     ∙ walk_fault (s.line ∷ s.rest) s.walk
     ∙ ap (λ (z : Option ℕ). fault_or s.line z (group_fault (opened (role s.line) s.line s.last).1 s.rest)) s.fault
 
-breaks_there : (lines : List LogicalLine) (s : Stopped [] lines) → Breaks lines s.before s.line
-breaks_there lines s = record { rest = s.rest; whole = s.whole; begins = walk_begins s.walk; breaks = stopped_breaks s.last s.before s.line s.number s.walk s.fault }
+wrong_there : (lines : List LogicalLine) (s : Stopped [] lines) → FirstWrong lines s.before s.line
+wrong_there lines s = record { rest = s.rest; whole = s.whole; begins = walk_begins s.walk; wrong = stopped_wrong s.last s.before s.line s.number s.walk s.fault }
 
 stopped_is : (lines : List LogicalLine) (s : Stopped [] lines) → IsGroupFault lines (fault_at s.number s.line)
 stopped_is lines s = cases (which_number (role s.line) s.line s.last s.number s.fault)
   where
     cases : ((s.last ≡ []) × (s.number ≡ 3)) ⊎ ((s.last ≢ []) × (s.number ≡ 4)) → IsGroupFault lines (fault_at s.number s.line)
     cases (inl (none, three)) =
-        subst (λ n. IsGroupFault lines (fault_at n s.line)) (sym three) (no_section (breaks_there lines s) (closed_tree (subst (λ (z : List Open). Walk [] s.before z) none s.walk)))
+        subst (λ n. IsGroupFault lines (fault_at n s.line)) (sym three) (no_section (wrong_there lines s) (closed_tree (subst (λ (z : List Open). Walk [] s.before z) none s.walk)))
     cases (inr (some, four)) =
-        subst (λ n. IsGroupFault lines (fault_at n s.line)) (sym four) (after_else (breaks_there lines s) (λ tree. some (tree_closed s.last s.before s.walk tree)))
+        subst (λ n. IsGroupFault lines (fault_at n s.line)) (sym four) (after_else (wrong_there lines s) (λ tree. some (tree_closed s.last s.before s.walk tree)))
 
 -- ---- fault 5
 
@@ -193,7 +193,7 @@ data Lands : List Open → List LogicalLine → LogicalLine → Type 0 where
   here : {o : LogicalLine} {b : Bool} {os : List Open} {rs : List LogicalLine} → Within b rs → Lands ((o, b) ∷ os) rs o
   past : {x o : LogicalLine} {c : Bool} {os : List Open} (e : LogicalLine) {inner rs : List LogicalLine} → Within c inner → role e ≡ Closes → Lands os rs o → Lands ((x, c) ∷ os) (inner ++ (e ∷ rs)) o
 
--- The line opens a section among the lines, and it is open behind them.
+-- The line opens a section among the lines, and it is open after them.
 record Opening (lines : List LogicalLine) (o : LogicalLine) : Type 0 where
   before : List LogicalLine
   rest : List LogicalLine
@@ -237,7 +237,7 @@ lands_over (Elses final) ((x, false) ∷ os) next rs o r is e l =
 lands_over Closes [] next rs o r is e l = let f = ap (λ (z : Option ℕ × List Open). z.0) e in cc
 lands_over Closes ((x, c) ∷ os) next rs o r is e l = let same : next ≡ os = sym (ap (λ (z : Option ℕ × List Open). z.1) e) in inl (past r none is (subst (λ (z : List Open). Lands z rs o) same l))
 
--- the innermost section that is open behind the lines was open before, or a line among them opened it
+-- the innermost section that is open after the lines was open before, or a line among them opened it
 landed : (os last : List Open) (o : Open) (lines : List LogicalLine) → Walk os lines (o ∷ last) → Lands os lines o.0 ⊎ Opening lines o.0
 landed _ last o _ stay = inl (here none)
 landed os last o _ (over {next = next} {r = r} {rs = rs} e w) = cases (landed next last o rs w)
@@ -268,22 +268,22 @@ walk_innermost lines o last w = cases (landed [] last o lines w)
     cases (inl l) = absurd (lands_somewhere [] lines o.0 l refl)
     cases (inr i) = opening_innermost lines o.0 i
 
-walk_unclosed : (lines : List LogicalLine) (last : List Open) → Walk [] lines last → (fault : Fault) → group_fault [] lines ≡ Some fault → IsGroupFault lines fault
-walk_unclosed lines [] w fault e =
+walk_open : (lines : List LogicalLine) (last : List Open) → Walk [] lines last → (fault : Fault) → group_fault [] lines ≡ Some fault → IsGroupFault lines fault
+walk_open lines [] w fault e =
     let none : group_fault [] (lines ++ []) ≡ None = walk_fault [] w in
     let same = ap (group_fault []) (append-nil lines) in
     cc
-walk_unclosed lines (o ∷ last) w fault e =
+walk_open lines (o ∷ last) w fault e =
     let five : group_fault [] lines ≡ Some (fault_at 5 o.0) = ap (group_fault []) (sym (append-nil lines)) ∙ walk_fault [] w in
     let same : fault_at 5 o.0 ≡ fault = cc in
     subst (IsGroupFault lines) same
-    (unclosed (walk_begins w) (λ tree. let none = tree_closed (o ∷ last) lines w tree in cc) (walk_innermost lines o last w))
+    (open_section (walk_begins w) (λ tree. let none = tree_closed (o ∷ last) lines w tree in cc) (walk_innermost lines o last w))
 
 fault_is : (lines : List LogicalLine) (fault : Fault) → group_fault [] lines ≡ Some fault → IsGroupFault lines fault
 fault_is lines fault e = cases (outcome [] lines)
   where
     cases : ((last : List Open) × Walk [] lines last) ⊎ Stopped [] lines → IsGroupFault lines fault
-    cases (inl (last, w)) = walk_unclosed lines last w fault e
+    cases (inl (last, w)) = walk_open lines last w fault e
     cases (inr s) =
         let there = stopped_fault lines s in
         let same : fault_at s.number s.line ≡ fault = cc in
@@ -348,34 +348,34 @@ innermost_fault lines o (more, tree) i = of_walk (begins_walk i.before (o ∷ i.
         ∙ parts_pass i.parts ((o, false) ∷ last) (u.lines ++ []) i.section.each.1
         ∙ u.passes o last []
 
-breaks_fault : (lines before : List LogicalLine) (line : LogicalLine) (n : ℕ)
-    → (b : Breaks lines before line)
+wrong_fault : (lines before : List LogicalLine) (line : LogicalLine) (n : ℕ)
+    → (b : FirstWrong lines before line)
     → ((last : List Open) → Walk [] before last → (m : ℕ) → ((last ≡ []) × (m ≡ 3)) ⊎ ((last ≢ []) × (m ≡ 4)) → m ≡ n)
     → group_fault [] lines ≡ Some (fault_at n line)
-breaks_fault lines before line n b number = of_walk (begins_walk before b.begins)
+wrong_fault lines before line n b number = of_walk (begins_walk before b.begins)
   where
     of_walk : (last : List Open) × Walk [] before last → group_fault [] lines ≡ Some (fault_at n line)
     of_walk (last, w) = cases (opened (role line) line last) refl
       where
         cases : (step : Option ℕ × List Open) → opened (role line) line last ≡ step → group_fault [] lines ≡ Some (fault_at n line)
-        cases (None, next) e = absurd (b.breaks (walk_begins (walk_more line w e)))
+        cases (None, next) e = absurd (b.wrong (walk_begins (walk_more line w e)))
         cases (Some m, next) e =
             let fault : (opened (role line) line last).0 ≡ Some m = ap (λ (z : Option ℕ × List Open). z.0) e in
             let s : Stopped [] lines = record { before = before; line = line; rest = b.rest; last = last; number = m; whole = b.whole; walk = w; fault = fault } in
             stopped_fault lines s ∙ ap (λ z. Some (fault_at z line)) (number last w m (which_number (role line) line last m fault))
 
 has_fault : (lines : List LogicalLine) (fault : Fault) → IsGroupFault lines fault → group_fault [] lines ≡ Some fault
-has_fault lines _ (no_section {before = before} {line = line} b tree) = breaks_fault lines before line 3 b number
+has_fault lines _ (no_section {before = before} {line = line} b tree) = wrong_fault lines before line 3 b number
   where
     number : (last : List Open) → Walk [] before last → (m : ℕ) → ((last ≡ []) × (m ≡ 3)) ⊎ ((last ≢ []) × (m ≡ 4)) → m ≡ 3
     number last w m (inl h) = h.1
     number last w m (inr h) = absurd (h.0 (tree_closed last before w tree))
-has_fault lines _ (after_else {before = before} {line = line} b no_tree) = breaks_fault lines before line 4 b number
+has_fault lines _ (after_else {before = before} {line = line} b no_tree) = wrong_fault lines before line 4 b number
   where
     number : (last : List Open) → Walk [] before last → (m : ℕ) → ((last ≡ []) × (m ≡ 3)) ⊎ ((last ≢ []) × (m ≡ 4)) → m ≡ 4
     number last w m (inl h) = absurd (no_tree (closed_tree (subst (λ (z : List Open). Walk [] before z) h.0 w)))
     number last w m (inr h) = h.1
-has_fault lines _ (unclosed {opening = opening} begins no_tree i) = innermost_fault lines opening begins i
+has_fault lines _ (open_section {opening = opening} begins no_tree i) = innermost_fault lines opening begins i
 
 pub which_group_fault : (lines : List LogicalLine) (fault : Fault) → (group_fault [] lines ≡ Some fault) ↔ IsGroupFault lines fault
 which_group_fault lines fault = (fault_is lines fault, has_fault lines fault)

@@ -11,7 +11,7 @@ HasTree lines = (parts : Parts) × Tree lines parts
 abbrev pub BeginsTree : List LogicalLine → Type 0
 BeginsTree front = (rest : List LogicalLine) × HasTree (front ++ rest)
 
--- This line opens the innermost section that is open behind the lines: with one `#endif` more, the lines from it on are one if-section.
+-- This line opens the innermost section that is open after the lines: with one `#endif` more, the lines from it on are one if-section.
 pub record Innermost (lines : List LogicalLine) (opening : LogicalLine) : Type 0 where
   pub before : List LogicalLine
   pub rest : List LogicalLine
@@ -23,17 +23,17 @@ pub record Innermost (lines : List LogicalLine) (opening : LogicalLine) : Type 0
   pub section : Tree (opening ∷ rest ++ end ∷ []) (Section opening parts branches Done)
 
 -- With this line, the first such, the lines so far begin no list that has a tree.
-pub record Breaks (lines before : List LogicalLine) (line : LogicalLine) : Type 0 where
+pub record FirstWrong (lines before : List LogicalLine) (line : LogicalLine) : Type 0 where
   pub rest : List LogicalLine
   pub whole : lines ≡ before ++ line ∷ rest
   pub begins : BeginsTree before
-  pub breaks : ¬ BeginsTree (before ++ line ∷ [])
+  pub wrong : ¬ BeginsTree (before ++ line ∷ [])
 
 -- the fault of lines that have no tree
 pub data IsGroupFault (lines : List LogicalLine) : Fault → Type 0 where
   -- no section is open before the line
-  no_section : {before : List LogicalLine} {line : LogicalLine} → Breaks lines before line → HasTree before → IsGroupFault lines (fault_at 3 line)
+  no_section : {before : List LogicalLine} {line : LogicalLine} → FirstWrong lines before line → HasTree before → IsGroupFault lines (fault_at 3 line)
   -- a section is open there: its `#else` has come
-  after_else : {before : List LogicalLine} {line : LogicalLine} → Breaks lines before line → (¬ HasTree before) → IsGroupFault lines (fault_at 4 line)
+  after_else : {before : List LogicalLine} {line : LogicalLine} → FirstWrong lines before line → (¬ HasTree before) → IsGroupFault lines (fault_at 4 line)
   -- the lines begin a list that has a tree, and have none
-  unclosed : {opening : LogicalLine} → BeginsTree lines → (¬ HasTree lines) → Innermost lines opening → IsGroupFault lines (fault_at 5 opening)
+  open_section : {opening : LogicalLine} → BeginsTree lines → (¬ HasTree lines) → Innermost lines opening → IsGroupFault lines (fault_at 5 opening)
