@@ -104,7 +104,7 @@ repeated {P} {p} of_p = record {
   at = λ s. Decides-like (repeated_test p s) (behind_nothing (Repeated P) s) (λ h. ([], s, refl, refl, h)) (then_repeated_at (Exactly []) P (exactly_test []) p (exactly []) of_p s);
 }
 
-among : (texts : List (List ℕ)) → Tests (Contains texts) (among_test texts)
+pub among : (texts : List (List ℕ)) → Tests (Contains texts) (among_test texts)
 among texts = record { at = at texts }
   where
     parts : (t : List ℕ) (ts : List (List ℕ)) (s : List ℕ) → Contains (t ∷ ts) s → (t ≡ s) ⊎ Contains ts s
@@ -121,28 +121,28 @@ among texts = record { at = at texts }
 
 -- ---- the kinds' spellings
 
-universal : Tests IsUniversal universal_test
+pub universal : Tests IsUniversal universal_test
 universal = either (followed (exactly (92 ∷ 117 ∷ [])) (run 4 is_hex)) (followed (exactly (92 ∷ 85 ∷ [])) (run 8 is_hex))
 
-nondigit : Tests IsNondigit nondigit_test
+pub nondigit : Tests IsNondigit nondigit_test
 nondigit = either (one is_nondigit) universal
 
-ident : Tests IsIdent ident_test
+pub ident : Tests IsIdent ident_test
 ident = followed nondigit (repeated (either nondigit (one is_digit)))
 
-number_part : Tests IsNumberPart number_part_test
+pub number_part : Tests IsNumberPart number_part_test
 number_part = either nondigit (either (one (λ c. is_digit c || c == 46)) (followed (one is_exponent) (one is_sign)))
 
-number : Tests IsNumber number_test
+pub number : Tests IsNumber number_test
 number = followed (either (one is_digit) (followed (exactly (46 ∷ [])) (one is_digit))) (repeated number_part)
 
-element : (quote : ℕ) → Tests (IsElement quote) (element_test quote)
+pub element : (quote : ℕ) → Tests (IsElement quote) (element_test quote)
 element quote = either (one (λ c. not (c == quote || (c == 92 || c == 10)))) (followed (exactly (92 ∷ [])) (one (λ c. not (c == 10))))
 
-char_const : Tests IsCharConst char_const_test
+pub char_const : Tests IsCharConst char_const_test
 char_const = followed (among char_prefixes) (followed (exactly (39 ∷ [])) (followed (element 39) (followed (repeated (element 39)) (exactly (39 ∷ [])))))
 
-str : Tests IsStr str_test
+pub str : Tests IsStr str_test
 str = followed (among str_prefixes) (followed (exactly (34 ∷ [])) (followed (repeated (element 34)) (exactly (34 ∷ []))))
 
 punct : Tests IsPunct is_punctuator
@@ -151,7 +151,7 @@ punct = record { at = λ s. (λ e. e, λ e. e) }
 visible : Tests (One (λ c. not (is_blank c || c == 10))) (one_test (λ c. not (is_blank c || c == 10)))
 visible = one (λ c. not (is_blank c || c == 10))
 
-other : Tests IsOther other_test
+pub other : Tests IsOther other_test
 other = record { at = at }
   where
     at : (s : List ℕ) → Decides (other_test s) (IsOther s)

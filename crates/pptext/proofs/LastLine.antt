@@ -15,8 +15,7 @@ use Rattle.pptext.specs.Spellings.{is_blank, IsHeader, Spells}
 use Rattle.pptext.specs.Cut.{Piece, Sort, NewLine, Blank, Comment, Spelled, StandsAt, CommentAt, EachStands, Cut, laid, with_piece, BeginsWith}
 use Rattle.pptext.specs.Lines.{lines_of, lines_behind, lines_ended, leaves_space, tokens_after, token_of}
 use Rattle.pptext.specs.Sources.{tokens_of}
-use Rattle.pptext.specs.Tokens.{spelled}
-use Rattle.pptext.specs.Laws.{spelling_of, spellings_of}
+use Rattle.pptext.specs.Laws.{token_in, tokens_in}
 use Rattle.pptext.proofs.Carrying.{last_at}
 use Rattle.pptext.proofs.OneKind.{last-append, spelling_last}
 use Rattle.pptext.proofs.OnePiece.{some_piece, between}
@@ -182,30 +181,25 @@ pieces_end profile line (p ∷ q ∷ ps) each e =
     ap last_of (map-append (λ (c : Char). c.code) p.chars (laid (q ∷ ps))) ∙ last-append (codes_of p.chars) (codes_of (laid (q ∷ ps))) (omega arith) in
     pieces_end profile (with_piece line p p.sort) (q ∷ ps) each.1 (sym split ∙ e)
 
-spelled-append : (a b : List Token) → spelled (a ++ b) ≡ spelled a ++ spelled b
-spelled-append [] b = refl
-spelled-append (t ∷ a) b = ap (λ z. t.text ∷ z) (spelled-append a b)
-
 kept_one : (profile : Profile) (space : Bool) (ts : List Token) (chars : List Char) (s : Sort)
     → s ≡ NewLine
-    → spelled (tokens_of (lines_ended profile ts chars s ++ lines_behind profile (leaves_space s) (tokens_after space ts chars s) []))
-    ≡ spelled ts ++ (spelling_of chars s ++ [])
-kept_one profile space ts chars NewLine e = ap spelled (append-nil ts) ∙ sym (append-nil (spelled ts))
+    → tokens_of (lines_ended profile ts chars s ++ lines_behind profile (leaves_space s) (tokens_after space ts chars s) []) ≡ ts ++ (token_in space chars s ++ [])
+kept_one profile space ts chars NewLine e = refl
 kept_one profile space ts chars Blank e = cc
 kept_one profile space ts chars Comment e = cc
 kept_one profile space ts chars (Spelled k) e = cc
 
 kept_more : (profile : Profile) (space : Bool) (ts : List Token) (chars : List Char) (s : Sort) (ps : List Piece)
-    → ((after : Bool) (us : List Token) → spelled (tokens_of (lines_behind profile after us ps)) ≡ spelled us ++ spellings_of ps)
-    → spelled (tokens_of (lines_ended profile ts chars s ++ lines_behind profile (leaves_space s) (tokens_after space ts chars s) ps))
-    ≡ spelled ts ++ (spelling_of chars s ++ spellings_of ps)
-kept_more profile space ts chars NewLine ps later = spelled-append ts (tokens_of (lines_behind profile true [] ps)) ∙ ap (λ z. spelled ts ++ z) (later true [])
+    → ((after : Bool) (us : List Token) → tokens_of (lines_behind profile after us ps) ≡ us ++ tokens_in after ps)
+    → tokens_of (lines_ended profile ts chars s ++ lines_behind profile (leaves_space s) (tokens_after space ts chars s) ps)
+    ≡ ts ++ (token_in space chars s ++ tokens_in (leaves_space s) ps)
+kept_more profile space ts chars NewLine ps later = ap (λ (z : List Token). ts ++ z) (later true [])
 kept_more profile space ts chars Blank ps later = later true ts
 kept_more profile space ts chars Comment ps later = later true ts
 kept_more profile space ts chars (Spelled k) ps later =
-    later false (ts ++ token_of k space chars ∷ []) ∙ ap (λ z. z ++ spellings_of ps) (spelled-append ts (token_of k space chars ∷ [])) ∙ append_assoc (spelled ts) (codes_of chars ∷ []) (spellings_of ps)
+    later false (ts ++ token_of k space chars ∷ []) ∙ append_assoc ts (token_of k space chars ∷ []) (tokens_in false ps)
 
-kept : (profile : Profile) (space : Bool) (ts : List Token) (ps : List Piece) → EndsLine ps → spelled (tokens_of (lines_behind profile space ts ps)) ≡ spelled ts ++ spellings_of ps
+kept : (profile : Profile) (space : Bool) (ts : List Token) (ps : List Piece) → EndsLine ps → tokens_of (lines_behind profile space ts ps) ≡ ts ++ tokens_in space ps
 kept profile space ts [] e = absurd e
 kept profile space ts (p ∷ []) e = kept_one profile space ts p.chars p.sort e
 kept profile space ts (p ∷ q ∷ ps) e = kept_more profile space ts p.chars p.sort (q ∷ ps) (λ after us. kept profile after us (q ∷ ps) e)
@@ -213,7 +207,7 @@ kept profile space ts (p ∷ q ∷ ps) e = kept_more profile space ts p.chars p.
 pub keeps_every_token : (profile : Profile) (file : ℕ) (bytes : List ℕ) (chars : List Char) (pieces : List Piece)
     → cleaned file bytes ≡ Ok chars
     → Cut profile chars pieces
-    → spelled (tokens_of (lines_of profile pieces)) ≡ spellings_of pieces
+    → tokens_of (lines_of profile pieces) ≡ tokens_in true pieces
 keeps_every_token profile file bytes chars [] clean cut = refl
 keeps_every_token profile file bytes chars (p ∷ ps) clean cut = cases (cleaned_end file bytes chars clean)
   where
@@ -226,6 +220,6 @@ keeps_every_token profile file bytes chars (p ∷ ps) clean cut = cases (cleaned
     same : laid (p ∷ ps) ≡ chars
     same = sym (append-nil (laid (p ∷ ps))) ∙ cut.whole
 
-    cases : Ended chars → spelled (tokens_of (lines_of profile (p ∷ ps))) ≡ spellings_of (p ∷ ps)
+    cases : Ended chars → tokens_of (lines_of profile (p ∷ ps)) ≡ tokens_in true (p ∷ ps)
     cases (inl e) = let none = ap length (same ∙ e) in absurd (omega (arith, some))
     cases (inr e) = kept profile true [] (p ∷ ps) (pieces_end profile [] (p ∷ ps) cut.each (ap (λ (z : List Char). last_of (codes_of z)) same ∙ e))

@@ -96,3 +96,5 @@ pub mod SomeReading
 pub mod GroupFaults
 -- The next branch line of each line is the one that the tree shows.
 pub mod NextBranches
+-- Each test of `Kinds` is the language of its name; what the kind of a text says.
+pub mod KindTests

@@ -1,14 +1,16 @@
 -- Words of the laws.
-use Rattle.std.specs.Prelude.{ℕ, List, [], ◌∷◌}
-use Rattle.std.specs.List.{flat_map}
+use Rattle.std.specs.Prelude.{List, [], ◌∷◌, ◌++◌, Bool}
 use Rattle.pptext.specs.declared.characters.Char.{Char}
-use Rattle.pptext.specs.Clean.{codes_of}
+use Rattle.pptext.specs.declared.tokens.Token.{Token}
 use Rattle.pptext.specs.Cut.{Piece, Sort, Spelled}
+use Rattle.pptext.specs.Lines.{token_of, leaves_space}
 
-abbrev pub spelling_of : List Char → Sort → List (List ℕ)
-spelling_of chars (Spelled k) = codes_of chars ∷ []
-spelling_of chars s = []
+-- the token of a piece, if it is one
+abbrev pub token_in : Bool → List Char → Sort → List Token
+token_in space chars (Spelled k) = token_of k space chars ∷ []
+token_in space chars s = []
 
--- the spellings of the tokens among the pieces
-abbrev pub spellings_of : List Piece → List (List ℕ)
-spellings_of ps = flat_map (λ p. spelling_of p.chars p.sort) ps
+-- the tokens of the pieces; space says whether white space or a line's beginning stands before them
+abbrev pub tokens_in : Bool → List Piece → List Token
+tokens_in space [] = []
+tokens_in space (p ∷ ps) = token_in space p.chars p.sort ++ tokens_in (leaves_space p.sort) ps

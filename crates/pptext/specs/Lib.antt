@@ -22,4 +22,5 @@ pub mod Finds
 pub mod Laws
 pub mod Grouping
 pub mod Lexing
+pub mod KindTests
 pub mod Hashed

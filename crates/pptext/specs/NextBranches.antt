@@ -1,4 +1,4 @@
--- The next branch lines by the tree (6.10): where the group behind an opening line or a branch ends.
+-- The next branch lines by the tree (6.10): the line after the group that an opening line or a branch begins.
 use Rattle.std.specs.Prelude.{ℕ, ◌+◌, List, [], ◌∷◌, ◌++◌, map, length, Option, None, Some}
 use Rattle.pptext.specs.Tree.{Parts, Done, Run, Control, Section, Branches, End, Branch, part_lines, branch_lines}
 

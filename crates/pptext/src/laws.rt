@@ -1,5 +1,5 @@
 // Laws of the definitions: functions that do nothing, whose contracts are the laws.
-ghost use Rattle.std.specs.Prelude.{◌≡◌, ◌≢◌, ◌↔◌, ◌++◌, ℕ, List, [], map, None, Some, Result, Ok, Contains};
+ghost use Rattle.std.specs.Prelude.{◌≡◌, ◌≢◌, ◌↔◌, ◌++◌, ℕ, true, List, [], map, None, Some, Result, Ok, Contains};
 ghost use Rattle.pptext.specs.declared.tokens.Fault.{Fault};
 ghost use Rattle.pptext.specs.declared.tokens.Place.{Place};
 ghost use Rattle.pptext.specs.declared.sources.Profile.{Profile};
@@ -11,12 +11,14 @@ ghost use Rattle.pptext.specs.Clean.{cleaned, codes_of};
 ghost use Rattle.pptext.specs.Cut.{Piece, Spelled, Cut, Unclosed};
 ghost use Rattle.pptext.specs.GroupFaults.{IsGroupFault};
 ghost use Rattle.pptext.specs.Guard.{GuardedBy};
-ghost use Rattle.pptext.specs.Laws.{spellings_of};
+ghost use Rattle.pptext.specs.KindTests.{OpensComment, TestsAreLanguages};
+ghost use Rattle.pptext.specs.Kinds.{kind_of};
+ghost use Rattle.pptext.specs.Laws.{tokens_in};
 ghost use Rattle.pptext.specs.Lexing.{HasOneLexer};
 ghost use Rattle.pptext.specs.Lines.{LogicalLine, lines_of};
 ghost use Rattle.pptext.specs.NextBranches.{part_branches};
-ghost use Rattle.pptext.specs.Sources.{Reads, tokens_of, spans, IsOneToken};
-ghost use Rattle.pptext.specs.Tokens.{spelled};
+ghost use Rattle.pptext.specs.Sources.{Reads, tokens_of, spans, IsLoneQuote, IsOneToken};
+ghost use Rattle.pptext.specs.Spellings.{Spells};
 ghost use Rattle.pptext.specs.Tree.{group_fault, Parts, Tree};
 
 /// A text is cut into comments, white space, new-lines and tokens in one way (5.1.1.2, 6.4).
@@ -24,7 +26,7 @@ pub fn one_cut()
     ensures { (profile : Profile) (cs : List Char) (a b : List Piece) → Cut profile cs a → Cut profile cs b → a ≡ b }
 {}
 
-/// A text has a cut exactly where no comment in it is unclosed, for all characters.
+/// A text has a cut exactly where no comment in it is unclosed, whatever its characters, so that whoever cuts a text has tokens or fault 1.
 pub fn cut_unless_unclosed()
     ensures { (profile : Profile) (chars : List Char) → ((pieces : List Piece) × Cut profile chars pieces) ↔ ((at : Place) → ¬ Unclosed profile chars at) }
 {}
@@ -34,14 +36,15 @@ pub fn one_reading()
     ensures { (profile : Profile) (file : ℕ) (bytes : List ℕ) (a b : Result (List LogicalLine) Fault) → Reads profile file bytes a → Reads profile file bytes b → a ≡ b }
 {}
 
-/// Each file reads in some way: as lines, or as its first fault.
+/// Each file reads in some way, as lines or as its first fault, whatever its bytes, so that whoever opens it has an answer.
 pub fn some_reading()
     ensures { (profile : Profile) (file : ℕ) (bytes : List ℕ) → (r : Result (List LogicalLine) Fault) × Reads profile file bytes r }
 {}
 
-/// Each token of a file stands on one of its lines, since a text behind phase 2 ends in a new-line (5.1.1.2).
+/// The tokens on a file's lines are those of its pieces, each with its kind, spelling, place and space mark, in their order, and no others, since a
+/// text after phase 2 ends in a new-line (5.1.1.2).
 pub fn keeps_every_token()
-    ensures { (profile : Profile) (file : ℕ) (bytes : List ℕ) (chars : List Char) (pieces : List Piece) → cleaned file bytes ≡ Ok chars → Cut profile chars pieces → spelled (tokens_of (lines_of profile pieces)) ≡ spellings_of pieces }
+    ensures { (profile : Profile) (file : ℕ) (bytes : List ℕ) (chars : List Char) (pieces : List Piece) → cleaned file bytes ≡ Ok chars → Cut profile chars pieces → tokens_of (lines_of profile pieces) ≡ tokens_in true pieces }
 {}
 
 /// Each token of a text but a header name (6.4.7) is the one token of its spelling, so that `relex` finds its kind again,
@@ -70,18 +73,32 @@ pub fn one_lexer()
     ensures { HasOneLexer }
 {}
 
-/// Lines without a tree of groups (6.10) have fault 3 or 4 at the first line with which the lines so far begin no list that has a tree: 3 where no
-/// section is open before it, 4 where one is. Where they begin such a list to their end, they have fault 5 at the innermost open section.
+/// The writer of a file whose lines have no tree of groups (6.10) is told the first line with which the lines so far begin no list that has a tree, by
+/// fault 3 where no section is open before it and by 4 where one is; and where there is no such line, by fault 5 the line of the innermost open section.
 pub fn which_group_fault()
     ensures { (lines : List LogicalLine) (fault : Fault) → (group_fault [] lines ≡ Some fault) ↔ IsGroupFault lines fault }
 {}
 
-/// In the tree of groups (6.10) the next branch line of a line is the one that follows its group: the next branch of its section, or `#endif`.
+/// In the tree of groups (6.10) the next branch line of a line is the one that follows its group, the next branch of its section or its `#endif`, so
+/// that whoever passes over the group goes on there.
 pub fn next_branches()
     ensures { (lines : List LogicalLine) (parts : Parts) → Tree lines parts → map (λ l. l.next_branch) (spans 0 0 lines) ≡ part_branches 0 parts }
 {}
 
-/// A file has at most one guard.
+/// A file has at most one guard, so that the name that `Source::guard` tells is the only one.
 pub fn one_guard()
     ensures { (lines : List LogicalLine) (a b : List ℕ) → GuardedBy lines a → GuardedBy lines b → a ≡ b }
+{}
+
+/// A text passes a test of `Kinds` exactly where it is in the language of the test's name: of identifiers (6.4.2), numbers (6.4.8), character
+/// constants (6.4.4.4), string literals (6.4.5), punctuators (6.4.6), other characters, and of their parts; so a reader of `kind_of` may read it as
+/// the grammar.
+pub fn tests_are_languages()
+    ensures { TestsAreLanguages }
+{}
+
+/// `kind_of`, by which pasted and stringized texts are judged, gives a kind exactly where the text is one of the kind's spellings (6.4), is no lone
+/// quote and opens no comment.
+pub fn kind_by_language()
+    ensures { (text : List ℕ) (k : Kind) → (kind_of text ≡ Some k) ↔ (Spells k text × (¬ IsLoneQuote text) × (¬ OpensComment text)) }
 {}

@@ -21,9 +21,9 @@ mod tokens;
 pub use characters::Char;
 pub use hashing::Hashing;
 pub use laws::{
-    carried_on, cut_unless_unclosed, keeps_every_token, next_branches, one_cut, one_guard,
-    one_lexer, one_reading, one_tree, relexes_what_is_cut, some_reading, tree_unless_fault,
-    which_group_fault,
+    carried_on, cut_unless_unclosed, keeps_every_token, kind_by_language, next_branches, one_cut,
+    one_guard, one_lexer, one_reading, one_tree, relexes_what_is_cut, some_reading,
+    tests_are_languages, tree_unless_fault, which_group_fault,
 };
 pub use reading::{read_lines, read_source, relex};
 pub use scanning::carrying::carries_on;

@@ -1,0 +1,5 @@
+use Rattle.pptext.proofs.KindTests.{tests_are_languages}
+use Rattle.pptext.proofs.laws.tests_are_languages.Goals as goal
+
+pub returns : goal.returns
+returns c = tests_are_languages
