@@ -18,7 +18,7 @@ use crate::texts::Text;
 use crate::tokenizing::token_at;
 use crate::tokens::{Kind, Place, Spelling, Token};
 use memchr::{memchr, memmem};
-use std::alloc::{AllocError, Global};
+use std::alloc::AllocError;
 use std::marker::Model;
 
 /// What begins a text: a piece, with its length, or a comment that isn't closed.
@@ -207,7 +207,6 @@ pub(crate) fn next_piece(text: &[u8], line: &[Token], profile: Profile) -> Found
 /// Puts the token that the first n bytes of the text spell behind the others.
 #[inline(always)]
 fn push_token(
-    alloc: Global,
     text: &[u8],
     tokens: &mut Vec<Token>,
     n: usize,
@@ -226,16 +225,15 @@ fn push_token(
             at: place,
             used: place,
         })?),
-        None => push_long_token(alloc, tokens, text, n, kind, space, place),
+        None => push_long_token(text, tokens, n, kind, space, place),
     }
 }
 
 /// The same for the few tokens that are long or stand near the end of the text.
 #[inline(never)]
 fn push_long_token(
-    alloc: Global,
-    tokens: &mut Vec<Token>,
     text: &[u8],
+    tokens: &mut Vec<Token>,
     n: usize,
     kind: Kind,
     space: bool,
@@ -244,7 +242,7 @@ fn push_long_token(
     requires { n ≤ length text.now }
     ensures { OnOk result (tokens.new.items ≡ tokens.old.items ++ record { text = take n text.now; at = place; used = place; kind = kind; space = space } ∷ []) }
 {
-    let text = Spelling::front(alloc, text, n)?;
+    let text = Spelling::front(*tokens.allocator(), text, n)?;
     tokens.push(Token {
         kind,
         text,
@@ -271,7 +269,6 @@ fn draft_line(profile: Profile, tokens: &[Token], start: usize, number: u32) -> 
 
 /// Cuts a text into lines of tokens, each without its next branch line, or answers where a comment opens that isn't closed.
 pub(crate) fn cut_lines(
-    alloc: Global,
     text: &Text<'_>,
     tokens: &mut Vec<Token>,
     lines: &mut Vec<Line>,
@@ -310,7 +307,7 @@ pub(crate) fn cut_lines(
             Front::Unclosed => return Ok(Err(places.place(at, line))),
             Front::Token(kind, n) => {
                 let place = places.place(at, line);
-                push_token(alloc, &codes[at..], tokens, n, kind, space, place)?;
+                push_token(&codes[at..], tokens, n, kind, space, place)?;
                 at += n;
                 space = false;
             }

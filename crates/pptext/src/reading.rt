@@ -66,7 +66,7 @@ pub fn read_source(
     // Room for about as many as ordinary C has, so that they seldom move while they grow.
     let mut tokens = Vec::with_capacity(alloc, bytes.len() / 5)?;
     let mut lines = Vec::with_capacity(alloc, bytes.len() / 20)?;
-    if let Err(place) = cut_lines(alloc, &text, &mut tokens, &mut lines, profile)? {
+    if let Err(place) = cut_lines(&text, &mut tokens, &mut lines, profile)? {
         return Err(fault_at(1, place));
     }
     drop(text);
