@@ -1,9 +1,11 @@
 -- The lemmas of this crate, by file; the proofs of its functions stand in a folder for each file of the sources.
 
--- That replacement by hide sets ends, as a fact about the lists of hide sets alone.
+-- That replacement by hide sets ends, as a fact about the lists of hide sets alone: fronts end.
 pub mod Termination
 -- A turn that goes on is a step on the hide sets of the list.
 pub mod Steps
+-- A turn that leads on is a step on hide sets, and what it puts into a front hides one name more.
+pub mod Fronts
 -- Each list has an outcome: expansion ends.
 pub mod Total
 -- A list has one outcome at most, after one number of turns.

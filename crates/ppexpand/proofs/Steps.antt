@@ -1,13 +1,11 @@
 -- A turn that goes on is a step on the hide sets of the list.
-use Rattle.std.proofs.Common.{◌≡◌, ℕ, zero, suc, ◌⊎◌, inl, inr, Bool, true, false, ◌||◌, ◌&&◌, List, [], ◌∷◌, ◌++◌, map, Option, Some, None}
-use Rattle.std.proofs.Common.{Result, Ok, Err, if◌then◌else◌, refl, sym, ap, ◌∙◌, subst, true≢false, is_some}
+use Rattle.std.proofs.Common.{◌≡◌, ℕ, zero, suc, Bool, true, false, ◌||◌, ◌&&◌, List, [], ◌∷◌, ◌++◌, map, Option, Some, None}
+use Rattle.std.proofs.Common.{Result, Ok, Err, if◌then◌else◌, refl, sym, ap, ◌∙◌, subst, is_some}
 use Rattle.std.specs.FinSet as set
 use Rattle.std.specs.FinMap as table
-use Rattle.std.specs.List.{list_any}
+use Rattle.std.specs.List.{AllByRecursion}
 use Rattle.std.proofs.lemmas.Bool.{or_right}
 use Rattle.std.proofs.lemmas.Cmp.{eq_by_cmp_equiv, nat_list_cmp_total}
-use Rattle.std.proofs.lemmas.Map.Lookups.{exact_bytes}
-use Rattle.std.proofs.lemmas.Map.Views.{tells_apart}
 use Rattle.pptext.specs.declared.tokens.Token.{Token}
 use Rattle.pptext.specs.declared.tokens.Fault.{Fault}
 use Rattle.pptext.specs.declared.tokens.Place.{Place}
@@ -27,12 +25,8 @@ use Rattle.ppexpand.specs.Turn.{Call, Turn, Done, Refused, Passes, Failed, Repla
 use Rattle.ppexpand.specs.Budget.{over, within}
 use Rattle.ppexpand.specs.Turn.{macro_of}
 use Rattle.ppexpand.specs.Expansion.{turn_within}
-use Rattle.ppexpand.proofs.Termination.{Each, Among, Step, object, function}
-
--- the hide sets of a list
-abbrev pub hides : List Hiding → List HideSet
-hides [] = []
-hides (t ∷ ts) = t.hide ∷ hides ts
+use Rattle.ppexpand.specs.Ending.{hides, Holds, Gains, IsOutside, Step}
+use Rattle.ppexpand.specs.Ending as ending
 
 pub hides-append : (xs ys : List Hiding) → hides (xs ++ ys) ≡ hides xs ++ hides ys
 hides-append [] ys = refl
@@ -45,36 +39,28 @@ hides-mark_next false xs = refl
 
 -- what the gain is contained in
 abbrev pub HasGain : HideSet → Hiding → Type 0
-HasGain gain t = (q : Name) → set.contains gain q ≡ true → set.contains t.hide q ≡ true
+HasGain gain t = Holds gain t.hide
 
-all_gained : (gain : HideSet) (used : Place) (ts : List Hiding) → Each (HasGain gain) (map (gained gain used) ts)
+all_gained : (gain : HideSet) (used : Place) (ts : List Hiding) → AllByRecursion (HasGain gain) (map (gained gain used) ts)
 all_gained gain used [] = tt
 all_gained gain used (t ∷ ts) = ((λ q e. set.contains-union nat_list_cmp_total t.hide gain q ∙ ap (λ b. set.contains t.hide q || b) e ∙ or_right _ true refl), all_gained gain used ts)
 
-gained_after : (r : Result Marked Fault) (gain : HideSet) (used : Place) (m : Marked) → after_ok r (λ m. Ok (record m { tokens = map (gained gain used) m.tokens })) ≡ Ok m → Each (HasGain gain) m.tokens
+gained_after : (r : Result Marked Fault) (gain : HideSet) (used : Place) (m : Marked) → after_ok r (λ m. Ok (record m { tokens = map (gained gain used) m.tokens })) ≡ Ok m → AllByRecursion (HasGain gain) m.tokens
 gained_after (Ok n) gain used m e =
     let tokens : map (gained gain used) n.tokens ≡ m.tokens = ap (λ m. m.tokens) (let inner : record n { tokens = map (gained gain used) n.tokens } ≡ m = cc in inner) in
-    subst (Each (HasGain gain)) tokens (all_gained gain used n.tokens)
+    subst (AllByRecursion (HasGain gain)) tokens (all_gained gain used n.tokens)
 gained_after (Err f) gain used m e = absurd (cc)
 
-pub substituted_gain : (d : Definition) (args : Arguments) (gain : HideSet) (used : Place) (space : Bool) (m : Marked) → substituted d args gain used space ≡ Ok m → Each (HasGain gain) m.tokens
+pub substituted_gain : (d : Definition) (args : Arguments) (gain : HideSet) (used : Place) (space : Bool) (m : Marked) → substituted d args gain used space ≡ Ok m → AllByRecursion (HasGain gain) m.tokens
 substituted_gain d args gain used space m e = gained_after (chains_tokens args used space true (chains_of d)) gain used m e
 
-among_any : (k : Name) (names : List Name) → list_any (same_name k) names ≡ true → Among k names
-among_any k [] e = true≢false (sym e)
-among_any k (n ∷ ns) e =
-    elim (same_name k n) as (λ a. same_name k n ≡ a → (a || list_any (same_name k) ns) ≡ true → (n ≡ k) ⊎ Among k ns) [
-      | true ↦ λ here _. inl (sym (tells_apart exact_bytes k n here))
-      | false ↦ λ _ more. inr (among_any k ns more)
-    ] refl e
-
--- a name with a macro is among the table's names
-pub among_names : (macros : Macros) (k : Name) (d : Definition) → table.get macros k ≡ Some d → Among k (table.keys macros)
-among_names macros k d e = among_any k (table.keys macros) (sym (table.contains_key-keys macros k) ∙ ap is_some e)
+-- a name with a macro is a name of the table's
+pub among_names : (macros : Macros) (k : Name) (d : Definition) → table.get macros k ≡ Some d → table.contains_key macros k ≡ true
+among_names macros k d e = ap is_some e
 
 -- what a name means, where it means something
-pub among_meaning : (macros : Macros) (t : Token) (d : Definition) → macro_of macros t ≡ Some d → Among t.text (table.keys macros)
-among_meaning macros t d = elim (is_identifier t) as (λ b. (if b then table.get macros t.text else None) ≡ Some d → Among t.text (table.keys macros)) [
+pub among_meaning : (macros : Macros) (t : Token) (d : Definition) → macro_of macros t ≡ Some d → table.contains_key macros t.text ≡ true
+among_meaning macros t d = elim (is_identifier t) as (λ b. (if b then table.get macros t.text else None) ≡ Some d → table.contains_key macros t.text ≡ true) [
   | true ↦ λ e. among_names macros t.text d e
   | false ↦ λ e. absurd (cc)
 ]
@@ -121,15 +107,14 @@ gathered_stands (t ∷ ts) depth commas =
 
 module _ (macros : Macros) (env : Env) where
   abbrev pub HideStep : List HideSet → List HideSet → Type 0
-  HideStep = Step set.contains same_name (table.keys macros)
+  HideStep = Step macros
 
   -- where a call was found in a list
   pub record Found (list : List Hiding) (call : Call) : Type 0 where
     pub inside : List Hiding
     pub close : Hiding
     pub is : list ≡ call.head ∷ (inside ++ close ∷ call.behind)
-    pub named : Among call.head.token.text (table.keys macros)
-    pub free : set.contains call.head.hide call.head.token.text ≡ false
+    pub outside : IsOutside macros call.head.token.text call.head.hide
     pub gains : call.gain ≡ gain_of call.head.hide close.hide call.head.token.text
 
   -- what a turn says of the list
@@ -145,29 +130,29 @@ module _ (macros : Macros) (env : Env) where
   gains_sets : (h h' : HideSet) (k : Name) (gain : HideSet)
       → gain ≡ gain_of h h' k
       → (ts : List Hiding)
-      → Each (HasGain gain) ts
-      → Each (λ r. ((q : Name) → set.contains h q ≡ true → set.contains h' q ≡ true → set.contains r q ≡ true) × (set.contains r k ≡ true)) (hides ts)
+      → AllByRecursion (HasGain gain) ts
+      → AllByRecursion (Gains h h' k) (hides ts)
   gains_sets h h' k gain is [] all = tt
   gains_sets h h' k gain is (t ∷ ts) all =
       let both = set.intersection h h' in
       let in_both : (q : Name) → set.contains h q ≡ true → set.contains h' q ≡ true → set.contains both q ≡ true =
       λ q in_h in_h'. set.contains-intersection nat_list_cmp_total h h' q ∙ (λ i. in_h i && in_h' i) in (
-        (
-          λ q in_h in_h'. all.0 q (rw is (set.contains-insert nat_list_cmp_total both k q ∙ ap (λ b. same_name q k || b) (in_both q in_h in_h') ∙ or_right _ true refl)),
-          all.0 k (rw is (set.contains-insert nat_list_cmp_total both k k ∙ ap (λ b. b || set.contains both k) ((eq_by_cmp_equiv nat_list_cmp_total).refl k))),
-        ),
+        record {
+          common = λ q in_h in_h'. all.0 q (rw is (set.contains-insert nat_list_cmp_total both k q ∙ ap (λ b. same_name q k || b) (in_both q in_h in_h') ∙ or_right _ true refl));
+          own = all.0 k (rw is (set.contains-insert nat_list_cmp_total both k k ∙ ap (λ b. b || set.contains both k) ((eq_by_cmp_equiv nat_list_cmp_total).refl k)));
+        },
         gains_sets h h' k gain is ts all.1,
       )
 
   gains_object : (h : HideSet) (k : Name) (ts : List Hiding)
-      → Each (HasGain (set.insert h k)) ts
-      → Each (λ r. ((q : Name) → set.contains h q ≡ true → set.contains h q ≡ true → set.contains r q ≡ true) × (set.contains r k ≡ true)) (hides ts)
+      → AllByRecursion (HasGain (set.insert h k)) ts
+      → AllByRecursion (Gains h h k) (hides ts)
   gains_object h k [] all = tt
   gains_object h k (t ∷ ts) all = (
-    (
-      λ q in_h _. all.0 q (set.contains-insert nat_list_cmp_total h k q ∙ ap (λ b. same_name q k || b) in_h ∙ or_right _ true refl),
-      all.0 k (set.contains-insert nat_list_cmp_total h k k ∙ ap (λ b. b || set.contains h k) ((eq_by_cmp_equiv nat_list_cmp_total).refl k)),
-    ),
+    record {
+      common = λ q in_h _. all.0 q (set.contains-insert nat_list_cmp_total h k q ∙ ap (λ b. same_name q k || b) in_h ∙ or_right _ true refl);
+      own = all.0 k (set.contains-insert nat_list_cmp_total h k k ∙ ap (λ b. b || set.contains h k) ((eq_by_cmp_equiv nat_list_cmp_total).refl k));
+    },
     gains_object h k ts all.1,
   )
 
@@ -175,54 +160,51 @@ module _ (macros : Macros) (env : Env) where
   hides-followed_by behind m = hides-append m.tokens (mark_next m.pending behind) ∙ ap (λ hs. hides m.tokens ++ hs) (hides-mark_next m.pending behind)
 
   object_steps : (t : Hiding) (rest : List Hiding)
-      → Among t.token.text (table.keys macros)
-      → set.contains t.hide t.token.text ≡ false
+      → IsOutside macros t.token.text t.hide
       → (r : Result Marked Fault)
-      → ((m : Marked) → r ≡ Ok m → Each (HasGain (set.insert t.hide t.token.text)) m.tokens)
+      → ((m : Marked) → r ≡ Ok m → AllByRecursion (HasGain (set.insert t.hide t.token.text)) m.tokens)
       → StepsTo (t ∷ rest) (replaced_by r rest)
-  object_steps t rest named free (Ok m) gain = object t.token.text named free (hides m.tokens) (gains_object t.hide t.token.text m.tokens (gain m refl)) (hides-followed_by rest m)
-  object_steps t rest named free (Err f) gain = tt
+  object_steps t rest out (Ok m) gain = ending.replaced t.token.text out (hides m.tokens) (gains_object t.hide t.token.text m.tokens (gain m refl)) (hides-followed_by rest m)
+  object_steps t rest out (Err f) gain = tt
 
   call_steps : (t p : Hiding) (rest : List Hiding)
-      → Among t.token.text (table.keys macros)
-      → set.contains t.hide t.token.text ≡ false
+      → IsOutside macros t.token.text t.hide
       → (d : Definition) (names : List Name) (variadic : Variadic) (g : Gathered)
       → Stands rest g
       → StepsTo (t ∷ (p ∷ rest)) (invoked t d names variadic g)
-  call_steps t p rest named free d names variadic (Closed as' close behind) stands = by_count (fitted names variadic as')
+  call_steps t p rest out d names variadic (Closed as' close behind) stands = by_count (fitted names variadic as')
     where
       by_count : (o : Option (List (List Hiding))) → StepsTo (t ∷ (p ∷ rest)) (called t d o close behind)
-      by_count (Some bs) = record { inside = p ∷ stands.0; close = close; is = ap (λ xs. t ∷ (p ∷ xs)) stands.1; named = named; free = free; gains = refl }
+      by_count (Some bs) = record { inside = p ∷ stands.0; close = close; is = ap (λ xs. t ∷ (p ∷ xs)) stands.1; outside = out; gains = refl }
       by_count None = tt
-  call_steps t p rest named free d names variadic (Quoted q) stands = tt
-  call_steps t p rest named free d names variadic Unclosed stands = tt
+  call_steps t p rest out d names variadic (Quoted q) stands = tt
+  call_steps t p rest out d names variadic Unclosed stands = tt
 
   function_steps : (t : Hiding) (rest : List Hiding)
-      → Among t.token.text (table.keys macros)
-      → set.contains t.hide t.token.text ≡ false
+      → IsOutside macros t.token.text t.hide
       → (d : Definition) (names : List Name) (variadic : Variadic)
       → StepsTo (t ∷ rest) (function_turn t d names variadic rest)
-  function_steps t [] named free d names variadic = refl
-  function_steps t (p ∷ rest) named free d names variadic =
+  function_steps t [] out d names variadic = refl
+  function_steps t (p ∷ rest) out d names variadic =
       elim (is_open p.token) as (λ b. StepsTo (t ∷ (p ∷ rest)) (if b then invoked t d names variadic (gather 0 (separators names variadic) rest) else Passes t (p ∷ rest))) [
-        | true ↦ call_steps t p rest named free d names variadic _ (gathered_stands rest 0 (separators names variadic))
+        | true ↦ call_steps t p rest out d names variadic _ (gathered_stands rest 0 (separators names variadic))
         | false ↦ refl
       ]
 
-  macro_steps : (t : Hiding) (rest : List Hiding) → Among t.token.text (table.keys macros) → set.contains t.hide t.token.text ≡ false → (d : Definition) (shape : Shape) → StepsTo (t ∷ rest) (macro_turn env t rest d shape)
-  macro_steps t rest named free d (Predefined b) = object t.token.text named free (set.insert t.hide t.token.text ∷ []) (
-    (
-      (λ q in_h _. set.contains-insert nat_list_cmp_total t.hide t.token.text q ∙ ap (λ b. same_name q t.token.text || b) in_h ∙ or_right _ true refl),
-      set.contains-insert nat_list_cmp_total t.hide t.token.text t.token.text ∙ ap (λ b. b || set.contains t.hide t.token.text) ((eq_by_cmp_equiv nat_list_cmp_total).refl t.token.text),
-    ),
+  macro_steps : (t : Hiding) (rest : List Hiding) → IsOutside macros t.token.text t.hide → (d : Definition) (shape : Shape) → StepsTo (t ∷ rest) (macro_turn env t rest d shape)
+  macro_steps t rest out d (Predefined b) = ending.replaced t.token.text out (set.insert t.hide t.token.text ∷ []) (
+    record {
+      common = λ q in_h _. set.contains-insert nat_list_cmp_total t.hide t.token.text q ∙ ap (λ b. same_name q t.token.text || b) in_h ∙ or_right _ true refl;
+      own = set.contains-insert nat_list_cmp_total t.hide t.token.text t.token.text ∙ ap (λ b. b || set.contains t.hide t.token.text) ((eq_by_cmp_equiv nat_list_cmp_total).refl t.token.text);
+    },
     tt,
   ) refl
-  macro_steps t rest named free d ObjectLike = object_steps t rest named free _ (λ m e. substituted_gain d _ _ _ _ m e)
-  macro_steps t rest named free d (FunctionLike names variadic) = function_steps t rest named free d names variadic
+  macro_steps t rest out d ObjectLike = object_steps t rest out _ (λ m e. substituted_gain d _ _ _ _ m e)
+  macro_steps t rest out d (FunctionLike names variadic) = function_steps t rest out d names variadic
 
   named_steps : (t : Hiding) (rest : List Hiding) → set.contains t.hide t.token.text ≡ false → (o : Option Definition) → macro_of macros t.token ≡ o → StepsTo (t ∷ rest) (named_turn env t rest o)
   named_steps t rest free None e = refl
-  named_steps t rest free (Some d) e = macro_steps t rest (among_meaning macros t.token d e) free d d.shape
+  named_steps t rest free (Some d) e = macro_steps t rest (record { macro = among_meaning macros t.token d e; outside = free }) d d.shape
 
   pub turn_steps : (list : List Hiding) → StepsTo list (turn macros env list)
   unfolding turn
@@ -259,11 +241,11 @@ module _ (macros : Macros) (env : Env) where
   FinishesTo list (Failed fault) = Unit {0}
   FinishesTo list _ = ⊥
 
-  finishes : (list : List Hiding) (call : Call) → Found list call → (r : Result Marked Fault) → ((m : Marked) → r ≡ Ok m → Each (HasGain call.gain) m.tokens) → FinishesTo list (replaced_by r call.behind)
+  finishes : (list : List Hiding) (call : Call) → Found list call → (r : Result Marked Fault) → ((m : Marked) → r ≡ Ok m → AllByRecursion (HasGain call.gain) m.tokens) → FinishesTo list (replaced_by r call.behind)
   finishes list call found (Ok m) gain =
       let lists : hides list ≡ call.head.hide ∷ (hides found.inside ++ found.close.hide ∷ hides call.behind) = ap hides found.is ∙ ap (λ hs. call.head.hide ∷ hs) (hides-append found.inside (found.close ∷ call.behind)) in
       subst (λ hs. HideStep hs (hides (followed_by call.behind m))) (sym lists)
-      (function call.head.token.text found.named found.free (hides found.inside) found.close.hide (hides call.behind) refl (hides m.tokens)
+      (ending.invoked call.head.token.text found.outside (hides found.inside) found.close.hide (hides call.behind) refl (hides m.tokens)
       (gains_sets call.head.hide found.close.hide call.head.token.text call.gain found.gains m.tokens (gain m refl)) (hides-followed_by call.behind m))
   finishes list call found (Err f) gain = tt
 

@@ -1,20 +1,15 @@
 -- Each list has an outcome: expansion ends.
 use Rattle.std.proofs.Common.{◌≡◌, ℕ, zero, suc, ◌+◌, ◌<◌, ◌≤◌, List, [], ◌∷◌, Option, Some, None, Ok, Err, refl, subst, arith}
-use Rattle.std.specs.FinSet as set
-use Rattle.std.specs.FinMap as table
-use Rattle.std.proofs.lemmas.Cmp.{eq_by_cmp_equiv, nat_list_cmp_total}
-use Rattle.std.proofs.lemmas.Map.Lookups.{exact_bytes}
-use Rattle.std.proofs.lemmas.Map.Views.{tells_apart}
 use Rattle.pptext.specs.declared.tokens.Fault.{Fault}
 use Rattle.ppmacro.specs.Names.{HideSet, Macros}
 use Rattle.ppmacro.specs.HideSets.{Hiding}
-use Rattle.ppmacro.specs.Members.{same_name}
 use Rattle.ppexpand.specs.declared.env.Env.{Env}
 use Rattle.ppexpand.specs.Turn.{Call, Turn, Done, Refused, Passes, Failed, Replaced, Called, wanted, finished, fault_at_use, ExpandedArguments, with_expanded}
 use Rattle.ppexpand.specs.Budget.{less_one}
 use Rattle.ppexpand.specs.Expansion.{Outcome, turn_within, Expands, done, refused, passes, failed, replaced, argument_refused, call_failed, call_replaced, ExpandsArguments, none, unused, too_deep, used}
 use Rattle.ppexpand.specs.Expansion.{used_refused}
-use Rattle.ppexpand.proofs.Termination as ending
+use Rattle.ppexpand.specs.Ending as ending
+use Rattle.ppexpand.proofs.Termination as fronts
 use Rattle.ppexpand.proofs.Steps as steps
 use native.Mathlib.Decide.{dec_lt}
 
@@ -50,10 +45,10 @@ module _ (macros : Macros) (env : Env) where
       ]
 
   Ends : List HideSet → Type 0
-  Ends = ending.Ends set.contains same_name (table.keys macros)
+  Ends = ending.Ends macros
 
   abbrev Later : ℕ → List Hiding → Type 0
-  Later level list = (left : Option ℕ) (next : List Hiding) → steps.HideStep macros env (steps.hides list) (steps.hides next) → HasOutcome level left next
+  Later level list = (left : Option ℕ) (next : List Hiding) → ending.Step macros (ending.hides list) (ending.hides next) → HasOutcome level left next
 
   after_call : (level : ℕ) (left : Option ℕ) (list : List Hiding)
       → Later level list
@@ -80,7 +75,7 @@ module _ (macros : Macros) (env : Env) where
   by_turn level deeper left list later Done e h = (0, record { tokens = []; fault = None; left = left }, done e)
   by_turn level deeper left list later (Refused fault) e h = (0, record { tokens = []; fault = Some fault; left = left }, refused e)
   by_turn level deeper left list later (Passes t rest) e h =
-      let step : steps.HideStep macros env (steps.hides list) (steps.hides rest) = rw h ending.passes in
+      let step : ending.Step macros (ending.hides list) (ending.hides rest) = rw h ending.passes in
       let more : HasOutcome level left rest = later left rest step in
       (suc more.0, record { tokens = t ∷ more.1.tokens; fault = more.1.fault; left = more.1.left }, passes e more.2)
   by_turn level deeper left list later (Failed fault) e h = (0, record { tokens = []; fault = Some fault; left = less_one left }, failed e)
@@ -91,21 +86,21 @@ module _ (macros : Macros) (env : Env) where
       let as' : HasExpanded level call (less_one left) (wanted call) = arguments_total level deeper call (less_one left) (wanted call) in
       after_call level left list later call e as'.0 as'.1 as'.2 (λ bs. steps.finished_steps macros env list call bs h)
 
-  list_total : (level : ℕ) → Deeper level → (hs : List HideSet) → Ends hs → (left : Option ℕ) (list : List Hiding) → steps.hides list ≡ hs → HasOutcome level left list
+  list_total : (level : ℕ) → Deeper level → (hs : List HideSet) → Ends hs → (left : Option ℕ) (list : List Hiding) → ending.hides list ≡ hs → HasOutcome level left list
   unfolding Ends
   list_total level deeper hs (ending.ends more) left list e =
       by_turn level deeper left list
-      (λ after next step. list_total level deeper (steps.hides next)
-      (more (steps.hides next) (subst (λ x. steps.HideStep macros env x (steps.hides next)) e step)) after next refl)
+      (λ after next step. list_total level deeper (ending.hides next)
+      (more (ending.hides next) (subst (λ x. ending.Step macros x (ending.hides next)) e step)) after next refl)
       (turn_within macros env left list) refl (steps.turn_within_steps macros env left list)
 
-  all_end : (xs : List Hiding) → Ends (steps.hides xs)
+  all_end : (xs : List Hiding) → Ends (ending.hides xs)
   unfolding Ends
-  all_end xs = ending.all_end set.contains same_name (table.keys macros) (tells_apart exact_bytes) (eq_by_cmp_equiv nat_list_cmp_total).refl (steps.hides xs)
+  all_end xs = fronts.all_end macros (ending.hides xs)
 
   by_levels : (room level : ℕ) → 256 ≤ level + room → (left : Option ℕ) (list : List Hiding) → HasOutcome level left list
-  by_levels zero level h left list = list_total level (λ low. absurd (omega arith)) (steps.hides list) (all_end list) left list refl
-  by_levels (suc room) level h left list = list_total level (λ low. by_levels room (suc level) (omega arith)) (steps.hides list) (all_end list) left list refl
+  by_levels zero level h left list = list_total level (λ low. absurd (omega arith)) (ending.hides list) (all_end list) left list refl
+  by_levels (suc room) level h left list = list_total level (λ low. by_levels room (suc level) (omega arith)) (ending.hides list) (all_end list) left list refl
 
   pub total : (level : ℕ) (left : Option ℕ) (list : List Hiding) → HasOutcome level left list
   total level left list = by_levels 256 level (omega arith) left list

@@ -5,6 +5,7 @@ pub mod Expansion
 pub mod Standard
 pub mod Next
 pub mod Shown
+pub mod Ending
 pub mod Laws
 pub mod Lists
 pub mod Pieces

@@ -1,8 +1,9 @@
 // Laws of the definitions: functions that do nothing, whose contracts are the laws.
-ghost use Rattle.std.specs.Prelude.{◌≡◌, ◌↔◌, ℕ, List, Option, Some, None};
+ghost use Rattle.std.specs.Prelude.{◌≡◌, ◌↔◌, ◌<◌, ℕ, List, Option, Some, None};
+ghost use Rattle.std.specs.FinSet as set;
 ghost use Rattle.std.specs.List.{AllPass};
 ghost use Rattle.pptext.specs.declared.tokens.Token.{Token};
-ghost use Rattle.ppmacro.specs.Names.{Macros};
+ghost use Rattle.ppmacro.specs.Names.{Name, HideSet, Macros};
 ghost use Rattle.ppmacro.specs.HideSets.{Hiding};
 ghost use Rattle.ppexpand.specs.declared.env.Env.{Env};
 ghost use Rattle.ppexpand.specs.Arguments.{Closed, Quoted, Unclosed, gather};
@@ -11,7 +12,8 @@ ghost use Rattle.ppexpand.specs.declared.expansion.Expanded.{Expanded};
 ghost use Rattle.ppexpand.specs.Expansion.{Outcome, turn_within, Expands, ExpandsTo, IsExpansion, count};
 ghost use Rattle.ppexpand.specs.Standard.{StandardExpands, IsStandardExpansion};
 ghost use Rattle.ppexpand.specs.Laws.{HasOneOutcome, HasOneExpansion, EndsWithin, plus, IsCapped, OnlyBudgetsRefuse, is_settled, IsInvocation};
-ghost use Rattle.ppexpand.specs.Laws.{IsQuoted, NeverClosed};
+ghost use Rattle.ppexpand.specs.Laws.{IsQuoted, NeverClosed, Leads};
+ghost use Rattle.ppexpand.specs.Ending.{hides, Holds, Gains, names_left, IsOutside, Step, Ends, FrontEnds};
 
 /// With any macros, each list of tokens with hide sets has exactly one outcome, at each level of arguments.
 pub fn one_outcome()
@@ -27,6 +29,18 @@ pub fn one_expansion()
 pub fn expansion_ends()
     ensures { (macros : Macros) (env : Env) (level : ℕ) (left : Option ℕ) (list : List Hiding)
         → (most : ℕ) × EndsWithin macros env level most left list }
+{}
+
+/// Why expansion ends (6.10.3.4): each turn is a step on the hide sets of the list alone; what it puts into a front that hides some names hides one more,
+/// so that fewer macros' names are left to replace there; hence each front ends before what ends, and each list is a front.
+pub fn fronts_end()
+    ensures turns { (macros : Macros) (env : Env) (level : ℕ) (left after : Option ℕ) (list next : List Hiding)
+        → Leads macros env level left list after next
+        → Step macros (hides list) (hides next) }
+    ensures gains { (hidden one two whole : HideSet) (name : Name) → Holds hidden one → Holds hidden two → Gains one two name whole → Holds (set.insert hidden name) whole }
+    ensures fewer { (macros : Macros) (hidden : HideSet) (name : Name) → IsOutside macros name hidden → names_left macros (set.insert hidden name) < names_left macros hidden }
+    ensures fronts { (macros : Macros) (hidden : HideSet) (front : List HideSet) → FrontEnds macros hidden front }
+    ensures lists { (macros : Macros) (list : List HideSet) → Ends macros list }
 {}
 
 /// A token that comes out of expansion is no lone quote, and no name of an object-like or predefined macro outside its hide set (6.10.3.4).

@@ -20,7 +20,7 @@ mod turn;
 pub use env::Env;
 pub use expansion::{Expanded, expand};
 pub use laws::{
-    budget_caps, budget_is_spent, expansion_ends, finds_arguments, finds_no_arguments,
+    budget_caps, budget_is_spent, expansion_ends, finds_arguments, finds_no_arguments, fronts_end,
     leaves_settled_tokens, one_expansion, one_outcome, only_budgets_refuse, without_a_budget,
 };
 pub use passed::{Piece, Run};

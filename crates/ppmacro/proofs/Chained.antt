@@ -25,18 +25,18 @@ identifier_by false o i e = absurd (cc)
 parameter_identifier : (shape : Shape) (t : Token) (i : ℕ) → parameter_of shape t ≡ Some i → is_identifier t ≡ true
 parameter_identifier shape t i e = identifier_by (is_identifier t) (parameter_named shape t.text) i e
 
-parameter_no_paste : (shape : Shape) (t : Token) (i : ℕ) → parameter_of shape t ≡ Some i → is_paste t ≡ false
+pub parameter_no_paste : (shape : Shape) (t : Token) (i : ℕ) → parameter_of shape t ≡ Some i → is_paste t ≡ false
 parameter_no_paste shape t i e =
     let is : is_identifier t ≡ true = parameter_identifier shape t i e in
     rw (no_punct (codes "##") t is, no_punct (codes "%:%:") t is) refl
 
-parameter_no_hash : (shape : Shape) (t : Token) (i : ℕ) → parameter_of shape t ≡ Some i → is_operator_hash shape t ≡ false
+pub parameter_no_hash : (shape : Shape) (t : Token) (i : ℕ) → parameter_of shape t ≡ Some i → is_operator_hash shape t ≡ false
 parameter_no_hash shape t i e =
     let is : is_identifier t ≡ true = parameter_identifier shape t i e in
     let no_hash : is_hash t ≡ false = rw (no_punct (codes "#") t is, no_punct (codes "%:") t is) refl in
     and_right (is_function_like shape) (is_hash t) no_hash
 
-hash_no_paste : (shape : Shape) (t : Token) → is_operator_hash shape t ≡ true → is_paste t ≡ false
+pub hash_no_paste : (shape : Shape) (t : Token) → is_operator_hash shape t ≡ true → is_paste t ≡ false
 hash_no_paste shape t e = by_spelling (is_punct (codes "#") t) refl (and_parts (is_function_like shape) (is_hash t) e).1
   where
     by_spelling : (b : Bool) → is_punct (codes "#") t ≡ b → (b || is_punct (codes "%:") t) ≡ true → is_paste t ≡ false

@@ -42,6 +42,8 @@ pub mod Layouts
 pub mod Lenient
 -- The chains of a replacement list, laid end to end, are the list.
 pub mod Chained
+-- What is laid out as chains has its operators in place.
+pub mod Placed
 -- Chains of a token alone, as they are where no `##` stands.
 pub mod Lonely
 -- Chains of an entry alone, as they are where neither `#` nor `##` stands.

@@ -20,10 +20,12 @@ pub fn reads_headings()
 {}
 
 /// The chains of a replacement list, laid end to end with `##` between their operands, are the list, where its operators stand in
-/// place (6.10.3.2, 6.10.3.3); and no other chains are.
+/// place (6.10.3.2, 6.10.3.3); and no other chains are. They stand in place exactly where some chains are the list, so that the faults 13 and 14
+/// refuse no list that is laid out.
 pub fn lays_out_chains()
     ensures laid_out { (definition : Definition) → places_operators definition ≡ true → AreChains definition.shape definition.body (chains_of definition) }
     ensures only { (definition : Definition) (chains : List Chain) → AreChains definition.shape definition.body chains → chains_of definition ≡ chains }
+    ensures exactly { (definition : Definition) → (places_operators definition ≡ true) ↔ ((chains : List Chain) × AreChains definition.shape definition.body chains) }
 {}
 
 /// Without the rules of GNU C no variable argument of a macro that is defined may be absent; and no chain of a macro without such an

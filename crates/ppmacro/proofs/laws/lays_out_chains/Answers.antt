@@ -1,4 +1,5 @@
 use Rattle.ppmacro.proofs.Chained.{lays_out, only_chains}
+use Rattle.ppmacro.proofs.Placed as placed
 use Rattle.ppmacro.proofs.laws.lays_out_chains.Goals as goal
 
 pub returns-clause-laid_out : goal.returns-clause-laid_out
@@ -6,3 +7,6 @@ returns-clause-laid_out c = lays_out
 
 pub returns-clause-only : goal.returns-clause-only
 returns-clause-only c = only_chains
+
+pub returns-clause-exactly : goal.returns-clause-exactly
+returns-clause-exactly c = placed.exactly

@@ -1,0 +1,28 @@
+-- A turn that leads from a list to the next is a step on their hide sets, and what a replacement puts into a front hides one name more.
+use Rattle.std.proofs.Common.{◌≡◌, ℕ, Bool, true, List, ◌∷◌, Option, Ok, refl, sym, ap, subst}
+use Rattle.std.specs.FinSet as set
+use Rattle.ppmacro.specs.Names.{Name, HideSet, Macros}
+use Rattle.ppmacro.specs.HideSets.{Hiding}
+use Rattle.ppexpand.specs.declared.env.Env.{Env}
+use Rattle.ppexpand.specs.Turn.{Turn, Passes, Replaced, Called, finished}
+use Rattle.ppexpand.specs.Ending.{hides, Holds, Gains, Step, passes}
+use Rattle.ppexpand.specs.Laws.{Leads, by_passing, by_replacing, by_invoking}
+use Rattle.ppexpand.specs.Expansion.{turn_within}
+use Rattle.ppexpand.proofs.Steps.{StepsTo, FinishesTo, Found, turn_within_steps, finished_steps}
+use Rattle.ppexpand.proofs.Termination.{extended}
+
+module _ (macros : Macros) (env : Env) (level : ℕ) where
+  by_turn : (left : Option ℕ) (list : List Hiding) (t : Turn) → turn_within macros env left list ≡ t → StepsTo macros env list t
+  by_turn left list t e = subst (StepsTo macros env list) e (turn_within_steps macros env left list)
+
+  passing : (list next : List Hiding) (t : Hiding) → list ≡ t ∷ next → Step macros (hides list) (hides next)
+  passing list next t e = subst (λ xs. Step macros (hides xs) (hides next)) (sym e) passes
+
+  pub leads_step : {left after : Option ℕ} {list next : List Hiding} → Leads macros env level left list after next → Step macros (hides list) (hides next)
+  leads_step {left = left} {list = list} {next = next} (by_passing {t = t} e) = passing list next t (by_turn left list (Passes t next) e)
+  leads_step {left = left} {list = list} {next = next} (by_replacing e) = by_turn left list (Replaced next) e
+  leads_step {left = left} {list = list} {next = next} (by_invoking {call = call} {expanded = expanded} e a f) =
+      subst (FinishesTo macros env list) f (finished_steps macros env list call expanded (by_turn left list (Called call) e))
+
+pub gained_more : (hidden one two whole : HideSet) (name : Name) → Holds hidden one → Holds hidden two → Gains one two name whole → Holds (set.insert hidden name) whole
+gained_more hidden one two whole name first second g = extended hidden name whole (λ q h. g.common q (first q h) (second q h)) g.own
