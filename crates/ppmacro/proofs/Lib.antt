@@ -50,3 +50,5 @@ pub mod Lonely
 pub mod Patterned
 -- Chains whose last operand may be the rest.
 pub mod Resting
+-- Where each token of a replacement comes from, what hides it and its mark.
+pub mod Originating

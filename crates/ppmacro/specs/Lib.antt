@@ -19,4 +19,5 @@ pub mod Lexing
 pub mod Substitution
 pub mod Substituting
 pub mod Flying
+pub mod Origins
 pub mod Laws

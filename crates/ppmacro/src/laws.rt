@@ -1,16 +1,19 @@
 // Laws of the definitions: functions that do nothing, whose contracts are the laws.
-ghost use Rattle.std.specs.Prelude.{◌≡◌, ◌↔◌, List, None, Some, Ok, true, false};
-ghost use Rattle.std.specs.List.{list_any};
+ghost use Rattle.std.specs.Prelude.{◌≡◌, ◌↔◌, Bool, List, None, Some, Ok, true, false};
+ghost use Rattle.std.specs.List.{list_any, AllByRecursion};
 ghost use Rattle.pptext.specs.declared.sources.Profile.{Profile};
 ghost use Rattle.pptext.specs.declared.tokens.Place.{Place};
 ghost use Rattle.pptext.specs.declared.tokens.Token.{Token};
 ghost use Rattle.pptext.specs.Profiles.{is_gnu};
-ghost use Rattle.ppmacro.specs.Names.{Macros};
+ghost use Rattle.ppmacro.specs.Names.{Macros, HideSet};
+ghost use Rattle.ppmacro.specs.HideSets.{Hiding};
 ghost use Rattle.ppmacro.specs.Headings.{Heading};
 ghost use Rattle.ppmacro.specs.Define.{Named, parameter_list, judged};
 ghost use Rattle.ppmacro.specs.Chains.{lenient_parameter, chains_of};
 ghost use Rattle.ppmacro.specs.declared.macros.Definition.{Definition};
 ghost use Rattle.ppmacro.specs.declared.macros.Chain.{Chain};
+ghost use Rattle.ppmacro.specs.Substitution.{Arguments, Marked, chain_tokens, substituted_by};
+ghost use Rattle.ppmacro.specs.Origins.{ComesFrom, Waits, IsReplacing};
 ghost use Rattle.ppmacro.specs.Laws.{IsHeading, AreChains, places_operators, holds_rest};
 
 /// A heading is read exactly where it is laid out: names with commas between them, then `...` or not, then `)` (6.10.3); in GNU C also names and `...`
@@ -33,4 +36,19 @@ pub fn lays_out_chains()
 pub fn lenient_in_gnu_alone()
     ensures strict { (profile : Profile) (macros : Macros) (at : Place) (line : List Token) (named : Named) → is_gnu profile ≡ false → judged profile macros at line ≡ Ok named → lenient_parameter named.definition.shape ≡ None }
     ensures pasted { (definition : Definition) → lenient_parameter definition.shape ≡ None → list_any holds_rest (chains_of definition) ≡ false }
+{}
+
+/// Each token of a replacement is one that a chain stands for, a token of the list, of an argument, of a `#` or of `##`; what hides it is what hid that one, of
+/// a paste what hid both its parts, with what the invocation gives; and whether white space stands before it is told by the chains before it (6.10.3.1
+/// to 6.10.3.4).
+pub fn tells_origins()
+    ensures replaces { (chains : List Chain) (args : Arguments) (gain : HideSet) (used : Place) (space : Bool) (whole : Marked)
+        → substituted_by chains args gain used space ≡ Ok whole
+        → AllByRecursion (IsReplacing chains args gain used space) whole.tokens }
+    ensures waits { (chains : List Chain) (args : Arguments) (gain : HideSet) (used : Place) (space : Bool) (whole : Marked)
+        → substituted_by chains args gain used space ≡ Ok whole
+        → Waits args used space chains whole.pending }
+    ensures comes { (args : Arguments) (used : Place) (chain : Chain) (tokens : List Hiding)
+        → chain_tokens args used chain ≡ Ok tokens
+        → AllByRecursion (ComesFrom args used chain.operands) tokens }
 {}

@@ -21,7 +21,7 @@ pub use borrowed::{Body, Leaf};
 pub use defining::{define, undef};
 pub use flying::{Expansion, Hidden};
 pub use hide_sets::{HideSets, Set};
-pub use laws::{lays_out_chains, lenient_in_gnu_alone, reads_headings};
+pub use laws::{lays_out_chains, lenient_in_gnu_alone, reads_headings, tells_origins};
 pub use macros::{
     Builtin, Chain, Chains, Definition, Macro, Names, Operand, Operands, Shape, Variadic,
 };

@@ -1,0 +1,11 @@
+use Rattle.ppmacro.proofs.Originating.{chain_each, replaced_each}
+use Rattle.ppmacro.proofs.laws.tells_origins.Goals as goal
+
+pub returns-clause-replaces : goal.returns-clause-replaces
+returns-clause-replaces c = λ chains args gain used space whole e. (replaced_each args gain used space chains whole e).0
+
+pub returns-clause-waits : goal.returns-clause-waits
+returns-clause-waits c = λ chains args gain used space whole e. (replaced_each args gain used space chains whole e).1
+
+pub returns-clause-comes : goal.returns-clause-comes
+returns-clause-comes c = chain_each
