@@ -5,11 +5,12 @@ use Rattle.std.proofs.Common.{true≢false, if◌then◌else◌, ◌⊎◌, inl,
 use Rattle.std.proofs.lemmas.List.{get_or_append_left}
 use Rattle.std.proofs.lemmas.Bool.{eqb-true, eq-eqb, cases_lt, and_parts}
 use Rattle.std.proofs.lemmas.List.Folds.{list_any_at}
+use Rattle.std.proofs.lemmas.List.Quantifiers.{position-Some}
 use Rattle.std.proofs.lemmas.Nat.{and_le_l, and_le_r, or_comm, or_disjoint}
 use Rattle.std.proofs.lemmas.Nat.Bits.{bit_at_or, bit_at_and, bit_at-zero, bit_at-lt, bit_at-pow_same, bit_at-pow_other, same_from_bits, same_from_bits_below}
 use Rattle.std.specs.Int.{bit_at}
 use Rattle.std.specs.Int.RustNames.{bit_or, bit_and}
-use Rattle.std.specs.List.{list_any}
+use Rattle.std.specs.List.{list_any, position}
 use Rattle.std.specs.Bool.{Decides}
 use Rattle.indexmap.specs.IndexSet.{insert_key}
 use Rattle.ppmacro.specs.Operations.{Operation, Union, Meet, joined, joined_word}
@@ -655,3 +656,19 @@ pool-first = record {
 
 pub bounded-first : IsBounded 0 first
 bounded-first = record { each = λ n x l e. let z : n ≡ 0 = omega (arith, l) in absurd (true≢false (sym e ∙ (λ i. member first (z i) x) ∙ member-none first x refl)) }
+
+-- ---- a node that is there
+
+any-node : (ns : List Node) (node : Node) (n : ℕ) → n < length ns → node_at ns n ≡ node → list_any (same_node node) ns ≡ true
+any-node ns node n l e = list_any_at (same_node node) ns n no_node l ((same_node-Decides node (node_at ns n)).1 (sym e))
+
+-- it changes nothing
+pub inserted-there : (ns : List Node) (node : Node) (n : ℕ) → n < length ns → node_at ns n ≡ node → insert_key same_node ns node ≡ ns
+inserted-there ns node n l e = ap (λ b. if b then ns else ns ++ node ∷ []) (any-node ns node n l e)
+
+pub never-absent : (ns : List Node) (node : Node) (n : ℕ) → n < length ns → node_at ns n ≡ node → list_any (same_node node) ns ≡ false → ⊥
+never-absent ns node n l e absent = true≢false (sym (any-node ns node n l e) ∙ absent)
+
+-- the search for a node
+pub searched : (ns : List Node) (node : Node) (k : ℕ) → position (same_node node) ns ≡ Some k → (k < length ns) × (node_at ns k ≡ node)
+searched ns node k e = let h = position-Some (same_node node) ns k no_node e in (h.0, sym (same_node-true node (node_at ns k) h.1))

@@ -68,3 +68,8 @@ first = no_node ∷ []
 -- a word with this bit alone, and the others without one
 abbrev pub word_with : ℕ → ℕ → ℕ → ℕ
 word_with index bit w = if nat_eq w index then 2 ^ bit else 0
+
+-- a node with this number is there, below the limit of 4,294,967,295 nodes
+pub record IsNumbered (ns : List Node) (n : ℕ) : Type 0 where
+  pub there : n < length ns
+  pub below : n < 4294967295

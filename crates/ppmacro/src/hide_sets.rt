@@ -117,7 +117,8 @@ impl HideSets {
         }
     }
 
-    /// A set with one name more. Fails only for want of memory, which more sets than can be numbered count as; then every set is what it was.
+    /// A set with one name more. Fails only for want of memory, which more sets than can be numbered count as, but none that is there; then every set is
+    /// what it was.
     pub fn with(&mut self, hide: Set, name: &[u8]) -> Result<Set, Memory>
         requires { IsKnown self.old hide }
         ensures set { IfOk result (λ s. set_at self.new s ≡ set.insert (set_at self.old hide) name.now) }

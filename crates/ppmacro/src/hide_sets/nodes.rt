@@ -2,7 +2,7 @@
 // they have in common.
 ghost use Rattle.std.specs.Prelude.{◌≡◌, Some, None, Ok, ◌<◌, ◌||◌, ◌+◌, ◌*◌, ℕ, IfOk, IfSome, OnErr, ◌≤◌, [], length, nat_eq};
 ghost use Rattle.std.specs.Int.RustNames.{bit_or};
-ghost use Rattle.ppmacro.specs.Nodes.{node_at, word, word_with, member, IsPool, Keeps, IsWithin, IsBounded, first};
+ghost use Rattle.ppmacro.specs.Nodes.{node_at, word, word_with, member, IsPool, Keeps, IsWithin, IsBounded, IsNumbered, first};
 ghost use Rattle.ppmacro.specs.Operations.{joined, joined_word, known};
 ghost use Rattle.ppmacro.specs.Pairs.{union_known, meet_known, KeepsPairs};
 ghost use Rattle.ppmacro.specs.Remembered.{AreAnswers};
@@ -16,7 +16,7 @@ use std::marker::Model;
 /// How many numbers a word of members has: the number n is bit n % 64 of the word n / 64.
 const WORD: usize = 64;
 
-/// How many nodes may be numbered; more are refused as want of memory is.
+/// How many nodes may be numbered; one more is refused as want of memory is, but not one that is there.
 const MOST: usize = 0xFFFF_FFFF;
 
 /// A set of numbers. Its word 0 is `here`; its word 2w + 1 is the word w of the set with the number `left`, its word 2w + 2 the word w of the
@@ -103,6 +103,22 @@ fn read(nodes: &IndexSet<Node, Hashing>, number: u32) -> Node
     nodes.as_slice()[number as usize]
 }
 
+// The number of a node that is there, where no other is numbered any more.
+#[inline(never)]
+fn number_among(nodes: &IndexSet<Node, Hashing>, node: Node) -> Result<u32, AllocError>
+    ensures known { IfOk result (λ n. n < length nodes.now.keys) }
+    ensures is { IfOk result (λ n. node_at nodes.now.keys n ≡ node) }
+    ensures there { (n : ℕ) → IsPool nodes.now.keys → IsNumbered nodes.now.keys n → node_at nodes.now.keys n ≡ node → result ≡ Ok n }
+{
+    let Some(number) = nodes.get_index_of(&node) else {
+        return Err(AllocError);
+    };
+    if number >= MOST {
+        return Err(AllocError);
+    }
+    Ok(number as u32)
+}
+
 // The number of a node, which joins the others unless it is among them.
 fn number_for(nodes: &mut IndexSet<Node, Hashing>, node: Node) -> Result<u32, AllocError>
     requires pool { IsPool nodes.old.keys }
@@ -113,9 +129,10 @@ fn number_for(nodes: &mut IndexSet<Node, Hashing>, node: Node) -> Result<u32, Al
     ensures is { IfOk result (λ n. node_at nodes.new.keys n ≡ node) }
     ensures fresh { IfOk result (λ m. (n : ℕ) → length nodes.old.keys ≤ n → n < length nodes.new.keys → n ≡ m) }
     ensures err { OnErr result (nodes.new.keys ≡ nodes.old.keys) }
+    ensures there { (n : ℕ) → IsNumbered nodes.old.keys n → node_at nodes.old.keys n ≡ node → (result ≡ Ok n) × (nodes.new.keys ≡ nodes.old.keys) }
 {
     if nodes.len() >= MOST {
-        return Err(AllocError);
+        return number_among(nodes, node);
     }
     let Ok((number, _)) = nodes.insert_full(node) else {
         return Err(AllocError);

@@ -1,6 +1,6 @@
-use Rattle.std.proofs.Common.{◌≡◌, ◌∙◌, ◌<◌, length, sym, subst}
+use Rattle.std.proofs.Common.{◌≡◌, ◌∙◌, ◌<◌, length, sym, subst, ap, Ok}
 use Rattle.ppmacro.specs.Nodes.{IsPool, Keeps, node_at}
-use Rattle.ppmacro.proofs.Tries.{pool-after, keeps-insert_node, at-got, same_node-true, fresh-after}
+use Rattle.ppmacro.proofs.Tries.{pool-after, keeps-insert_node, at-got, same_node-true, fresh-after, inserted-there}
 use Rattle.ppmacro.proofs.hide_sets.nodes.number_for.Goals as goal
 
 pub returns-clause-pool : goal.returns-clause-pool
@@ -19,3 +19,11 @@ returns-clause-fresh c = λ n a l.
     let same : node_at new n ≡ c.args.node = (λ i. node_at (k i) n) ∙ fresh-after c.args.nodes.now.keys c.args.node n a (subst (λ ns. n < length ns) k l) in
     let p : IsPool new = returns-clause-pool c in
     p.different n c.in-Ok.number l c.in-Ok.ensures.within (same ∙ sym (returns-clause-is c))
+
+pub returns-clause-there : goal.returns-clause-there
+returns-clause-there c = λ n k e.
+    let ns = c.args.nodes.now.keys in
+    let same = c.in-Ok.ensures.keys ∙ inserted-there ns c.args.node n k.there e in
+    let within = subst (λ xs. c.in-Ok.number < length xs) same c.in-Ok.ensures.within in
+    let is = subst (λ xs. node_at xs c.in-Ok.number ≡ c.args.node) same (returns-clause-is c) in
+    (ap Ok (c.requires.pool.different c.in-Ok.number n within k.there (is ∙ sym e)), same)
