@@ -1,6 +1,5 @@
-use Rattle.std.proofs.Common.{◌≡◌, ◌∙◌, ◌<◌, ℕ, length, sym, ap, arith, Ok}
-use Rattle.ppmacro.specs.Nodes.{IsPool, node_at}
-use Rattle.ppmacro.proofs.Tries.{searched, never-absent}
+use Rattle.std.proofs.Common.{◌∙◌, sym, ap, arith, Ok}
+use Rattle.ppmacro.proofs.Tries.{searched}
 use Rattle.ppmacro.proofs.hide_sets.nodes.number_among.Goals as goal
 
 pub returns-then-number-ge-MOST-clause-there : goal.returns-then-number-ge-MOST-clause-there
