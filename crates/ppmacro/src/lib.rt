@@ -6,6 +6,7 @@ mod chains;
 mod defining;
 mod flying;
 mod hide_sets;
+mod invoked;
 mod keys;
 mod laws;
 mod macros;
@@ -21,6 +22,7 @@ pub use borrowed::{Body, Leaf};
 pub use defining::{define, undef};
 pub use flying::{Expansion, Hidden};
 pub use hide_sets::{HideSets, Set};
+pub use invoked::{Arguments, MacroName};
 pub use laws::{lays_out_chains, lenient_in_gnu_alone, reads_headings, tells_origins};
 pub use macros::{
     Builtin, Chain, Chains, Definition, Macro, Names, Operand, Operands, Shape, Variadic,

@@ -22,8 +22,9 @@ pub use self::lexing::tells_each_kind;
 use self::operands::{expansion, operands_tokens};
 pub use self::pasting::paste;
 pub use self::stringizing::{push_escaped, stringize};
-use crate::flying::{Expansion, Hidden};
-use crate::hide_sets::{HideSets, Set};
+use crate::flying::Hidden;
+use crate::hide_sets::HideSets;
+use crate::invoked::{Arguments, MacroName};
 use crate::macros::{Chain, Operand};
 use pptext::{Fault, Memory, Place, Stop, Token, settled};
 use std::alloc::{AllocError, Global};
@@ -73,22 +74,21 @@ fn lay_rest<'a>(
 fn chain_tokens<'x, 'a: 'x>(
     alloc: Global,
     sets: &mut HideSets,
-    given: &[Vec<Hidden<'x>>],
-    expanded: &[Expansion<'x>],
+    arguments: Arguments<'_, 'x>,
     used: Place,
     chain: &Chain<'a>,
 ) -> Result<Vec<Hidden<'x>>, Stop>
-    requires { ArgumentsKnown sets.old given.now expanded.now }
-    ensures is { Answers result (λ v. hidings sets.new v.items) (chain_tokens (arguments_in sets.old given.now expanded.now) used chain.now) }
+    requires { ArgumentsKnown sets.old arguments.given.now arguments.expanded.now }
+    ensures is { Answers result (λ v. hidings sets.new v.items) (chain_tokens (arguments_in sets.old arguments.entry.given.now arguments.entry.expanded.now) used chain.now) }
     ensures known { IfOk result (λ v. AllKnown sets.new v.items) }
     ensures keeps { Keeps sets.old sets.new }
 {
     let operands = chain.operands.as_slice();
     let beside = is_joined(operands);
     let (front, rest) = split_rest(operands);
-    let lists = operands_tokens(alloc, sets, beside, given, expanded, used, front)?;
+    let lists = operands_tokens(alloc, sets, beside, arguments, used, front)?;
     let mut tokens = join_all(alloc, sets, lists.as_slice(), used)?;
-    lay_rest(&mut tokens, given, rest)?;
+    lay_rest(&mut tokens, arguments.given, rest)?;
     Ok(tokens)
 }
 
@@ -137,19 +137,17 @@ fn push_token<'a>(
 
 // Puts the tokens of a chain behind the others, the first with this mark. The mark that is pending then, or fault 19 or 20.
 fn push_chain_tokens<'x, 'a: 'x>(
-    alloc: Global,
     sets: &mut HideSets,
-    given: &[Vec<Hidden<'x>>],
-    expanded: &[Expansion<'x>],
+    arguments: Arguments<'_, 'x>,
     used: Place,
     mark: bool,
     chain: &Chain<'a>,
     tokens: &mut Vec<Hidden<'x>>,
 ) -> Result<bool, Stop>
-    requires arguments { ArgumentsKnown sets.old given.now expanded.now }
+    requires arguments { ArgumentsKnown sets.old arguments.given.now arguments.expanded.now }
     requires tokens { AllKnown sets.old tokens.old.items }
     ensures is { Answers result (left_with sets.new tokens.new.items)
-        (pushed (hidings sets.old tokens.old.items) mark (chain_tokens (arguments_in sets.old given.now expanded.now) used chain.now)) }
+        (pushed (hidings sets.old tokens.old.items) mark (chain_tokens (arguments_in sets.old arguments.entry.given.now arguments.entry.expanded.now) used chain.now)) }
     ensures known { OnOk result (AllKnown sets.new tokens.new.items) }
     ensures keeps { Keeps sets.old sets.new }
 {
@@ -161,13 +159,18 @@ fn push_chain_tokens<'x, 'a: 'x>(
                 return Ok(false);
             }
             Operand::Param(index) => {
-                let pending = push_chain(tokens, mark, expansion(given, expanded, *index))?;
+                let pending = push_chain(
+                    tokens,
+                    mark,
+                    expansion(arguments.given, arguments.expanded, *index),
+                )?;
                 return Ok(pending);
             }
             Operand::Str(_, _) | Operand::Rest(_) => {}
         }
     }
-    let more = chain_tokens(alloc, sets, given, expanded, used, chain)?;
+    let alloc = *tokens.allocator();
+    let more = chain_tokens(alloc, sets, arguments, used, chain)?;
     let pending = push_chain(tokens, mark, more.as_slice())?;
     Ok(pending)
 }
@@ -183,15 +186,14 @@ fn mark_before(pending: bool, first: bool, own: bool) -> bool
 fn chains_tokens<'x, 'a: 'x>(
     alloc: Global,
     sets: &mut HideSets,
-    given: &[Vec<Hidden<'x>>],
-    expanded: &[Expansion<'x>],
+    arguments: Arguments<'_, 'x>,
     used: Place,
     space: bool,
     chains: &[Chain<'a>],
 ) -> Result<(Vec<Hidden<'x>>, bool), Stop>
-    requires { ArgumentsKnown sets.old given.now expanded.now }
+    requires { ArgumentsKnown sets.old arguments.given.now arguments.expanded.now }
     ensures is { Answers result (λ m. left_with sets.new m.0.items m.1)
-        (chains_tokens (arguments_in sets.old given.now expanded.now) used space true chains.now) }
+        (chains_tokens (arguments_in sets.old arguments.entry.given.now arguments.entry.expanded.now) used space true chains.now) }
     ensures known { IfOk result (λ m. AllKnown sets.new m.0.items) }
     ensures keeps { Keeps sets.old sets.new }
 {
@@ -200,7 +202,7 @@ fn chains_tokens<'x, 'a: 'x>(
     let mut first = true;
     for chain in chains {
         let mark = mark_before(pending, first, chain.mark);
-        pending = push_chain_tokens(alloc, sets, given, expanded, used, mark, chain, &mut tokens)?;
+        pending = push_chain_tokens(sets, arguments, used, mark, chain, &mut tokens)?;
         first = false;
     }
     Ok((tokens, pending))
@@ -220,47 +222,41 @@ fn substituted_by<'x, 'a: 'x>(
     alloc: Global,
     sets: &mut HideSets,
     chains: &[Chain<'a>],
-    given: &[Vec<Hidden<'x>>],
-    expanded: &[Expansion<'x>],
-    base: Set,
-    name: &[u8],
-    used: Place,
-    space: bool,
+    arguments: Arguments<'_, 'x>,
+    head: &MacroName,
 ) -> Result<(Vec<Hidden<'x>>, bool), Stop>
-    requires arguments { ArgumentsKnown sets.old given.now expanded.now }
-    requires base { IsKnown sets.old base }
+    requires arguments { ArgumentsKnown sets.old arguments.given.now arguments.expanded.now }
+    requires base { IsKnown sets.old head.now.base }
     ensures is { Answers result (λ m. left_with sets.new m.0.items m.1)
-        (substituted_by chains.now (arguments_in sets.old given.now expanded.now) (set.insert (set_at sets.old base) name.now) used space) }
+        (substituted_by chains.now (arguments_in sets.old arguments.entry.given.now arguments.entry.expanded.now) (set.insert (set_at sets.old head.now.base) head.now.name.now) head.now.used head.now.space) }
     ensures known { IfOk result (λ m. AllKnown sets.new m.0.items) }
     ensures keeps { Keeps sets.old sets.new }
 {
-    let (mut tokens, pending) = chains_tokens(alloc, sets, given, expanded, used, space, chains)?;
+    let MacroName {
+        base,
+        name,
+        used,
+        space,
+    } = *head;
+    let (mut tokens, pending) = chains_tokens(alloc, sets, arguments, used, space, chains)?;
     gain_names(sets, &mut tokens, base, name, used)?;
     Ok((tokens, pending))
 }
 
-/// What an invocation is replaced by (6.10.3.1 to 6.10.3.3), and the space mark that waits for the token behind it; or the first of the
-/// faults 19, with both spellings as its text, and 20, each at `used`. `chains` are the macro's, `given` the arguments, `expanded` the
-/// expansions of those that stand away from `#` and `##`; the names of `base` and `name` are what each token gains, `used` is the place of
-/// the macro's name, `space` its mark.
+/// What an invocation is replaced by (6.10.3.1 to 6.10.3.3), and whether white space is left for the token after it; or the first of the
+/// faults 19, with both spellings as its text, and 20, each at the macro's name. `chains` are the macro's.
 pub fn substitute<'x, 'a: 'x>(
     alloc: Global,
     chains: &[Chain<'a>],
-    given: &[Vec<Hidden<'x>>],
-    expanded: &[Expansion<'x>],
-    base: Set,
-    name: &[u8],
-    used: Place,
-    space: bool,
+    arguments: Arguments<'_, 'x>,
+    head: &MacroName,
     sets: &mut HideSets,
 ) -> Result<Result<(Vec<Hidden<'x>>, bool), Fault>, Memory>
-    requires arguments { ArgumentsKnown sets.old given.now expanded.now }
-    requires base { IsKnown sets.old base }
-    ensures is { IfOk result (λ r. marked_in sets.new r ≡ substituted_by chains.now (arguments_in sets.old given.now expanded.now) (set.insert (set_at sets.old base) name.now) used space) }
+    requires arguments { ArgumentsKnown sets.old arguments.given.now arguments.expanded.now }
+    requires base { IsKnown sets.old head.now.base }
+    ensures is { IfOk result (λ r. marked_in sets.new r ≡ substituted_by chains.now (arguments_in sets.old arguments.entry.given.now arguments.entry.expanded.now) (set.insert (set_at sets.old head.now.base) head.now.name.now) head.now.used head.now.space) }
     ensures known { IfOk result (λ r. IfOk r (λ m. AllKnown sets.new m.0.items)) }
     ensures keeps { Keeps sets.old sets.new }
 {
-    settled(substituted_by(
-        alloc, sets, chains, given, expanded, base, name, used, space,
-    ))
+    settled(substituted_by(alloc, sets, chains, arguments, head))
 }

@@ -7,13 +7,14 @@ ghost use Rattle.ppmacro.specs.Patterns.{entry_chain, listed};
 ghost use Rattle.ppmacro.specs.Substitution.{chain_tokens, chains_tokens, substituted_by};
 ghost use Rattle.ppmacro.specs.Substituting.{ArgumentsKnown, arguments_in, marked_in, pushed, left_with};
 
-use crate::flying::{Expansion, Hidden};
-use crate::hide_sets::{HideSets, Set};
+use crate::flying::Hidden;
+use crate::hide_sets::HideSets;
+use crate::invoked::{Arguments, MacroName};
 use crate::patterns::{Entry, Pattern};
 use crate::substituting::gains::gain_names;
 use crate::substituting::operands::expansion;
 use crate::substituting::{mark_before, push_chain, push_token, substitute};
-use pptext::{Fault, Memory, Place};
+use pptext::{Fault, Memory};
 use std::alloc::{AllocError, Global};
 
 // The space mark of an entry.
@@ -27,18 +28,18 @@ fn mark_of(entry: &Entry) -> bool
 }
 
 // How many tokens come of an entry.
-fn count_of(given: &[Vec<Hidden>], expanded: &[Expansion], entry: &Entry) -> usize {
+fn count_of(arguments: Arguments, entry: &Entry) -> usize {
     match entry {
         Entry::Tok(_) => 1,
-        Entry::Param(_, index) => expansion(given, expanded, *index).len(),
+        Entry::Param(_, index) => expansion(arguments.given, arguments.expanded, *index).len(),
     }
 }
 
 // How many tokens come of all.
-fn count_all(given: &[Vec<Hidden>], expanded: &[Expansion], entries: &[Entry]) -> usize {
+fn count_all(arguments: Arguments, entries: &[Entry]) -> usize {
     let mut count: usize = 0;
     for entry in entries {
-        count = count.saturating_add(count_of(given, expanded, entry));
+        count = count.saturating_add(count_of(arguments, entry));
     }
     count
 }
@@ -46,16 +47,15 @@ fn count_all(given: &[Vec<Hidden>], expanded: &[Expansion], entries: &[Entry]) -
 // Puts the tokens of an entry behind the others, the first with this mark. The mark that is pending then.
 fn push_entry<'x, 'a: 'x>(
     sets: &HideSets,
-    given: &[Vec<Hidden<'x>>],
-    expanded: &[Expansion<'x>],
+    arguments: Arguments<'_, 'x>,
     mark: bool,
     entry: &Entry<'a>,
     tokens: &mut Vec<Hidden<'x>>,
 ) -> Result<bool, AllocError>
-    requires arguments { ArgumentsKnown sets.now given.now expanded.now }
+    requires arguments { ArgumentsKnown sets.now arguments.given.now arguments.expanded.now }
     requires tokens { AllKnown sets.now tokens.old.items }
     ensures is { IfOk result (λ pending. (used : Place) → Ok (left_with sets.now tokens.new.items pending)
-        ≡ pushed (hidings sets.now tokens.old.items) mark (chain_tokens (arguments_in sets.now given.now expanded.now) used (entry_chain entry.now))) }
+        ≡ pushed (hidings sets.now tokens.old.items) mark (chain_tokens (arguments_in sets.now arguments.entry.given.now arguments.entry.expanded.now) used (entry_chain entry.now))) }
     ensures known { OnOk result (AllKnown sets.now tokens.new.items) }
 {
     match entry {
@@ -64,7 +64,11 @@ fn push_entry<'x, 'a: 'x>(
             Ok(false)
         }
         Entry::Param(_, index) => {
-            let pending = push_chain(tokens, mark, expansion(given, expanded, *index))?;
+            let pending = push_chain(
+                tokens,
+                mark,
+                expansion(arguments.given, arguments.expanded, *index),
+            )?;
             Ok(pending)
         }
     }
@@ -74,22 +78,21 @@ fn push_entry<'x, 'a: 'x>(
 fn entries_tokens<'x, 'a: 'x>(
     alloc: Global,
     sets: &HideSets,
-    given: &[Vec<Hidden<'x>>],
-    expanded: &[Expansion<'x>],
+    arguments: Arguments<'_, 'x>,
     space: bool,
     entries: &[Entry<'a>],
 ) -> Result<(Vec<Hidden<'x>>, bool), AllocError>
-    requires { ArgumentsKnown sets.now given.now expanded.now }
+    requires { ArgumentsKnown sets.now arguments.given.now arguments.expanded.now }
     ensures is { IfOk result (λ m. (used : Place) → Ok (left_with sets.now m.0.items m.1)
-        ≡ chains_tokens (arguments_in sets.now given.now expanded.now) used space true (map entry_chain entries.now)) }
+        ≡ chains_tokens (arguments_in sets.now arguments.entry.given.now arguments.entry.expanded.now) used space true (map entry_chain entries.now)) }
     ensures known { IfOk result (λ m. AllKnown sets.now m.0.items) }
 {
-    let mut tokens = Vec::with_capacity(alloc, count_all(given, expanded, entries))?;
+    let mut tokens = Vec::with_capacity(alloc, count_all(arguments, entries))?;
     let mut pending = space;
     let mut first = true;
     for entry in entries {
         let mark = mark_before(pending, first, mark_of(entry));
-        pending = push_entry(sets, given, expanded, mark, entry, &mut tokens)?;
+        pending = push_entry(sets, arguments, mark, entry, &mut tokens)?;
         first = false;
     }
     Ok((tokens, pending))
@@ -99,22 +102,24 @@ fn entries_tokens<'x, 'a: 'x>(
 fn substitute_entries<'x, 'a: 'x>(
     alloc: Global,
     entries: &[Entry<'a>],
-    given: &[Vec<Hidden<'x>>],
-    expanded: &[Expansion<'x>],
-    base: Set,
-    name: &[u8],
-    used: Place,
-    space: bool,
+    arguments: Arguments<'_, 'x>,
+    head: &MacroName,
     sets: &mut HideSets,
 ) -> Result<(Vec<Hidden<'x>>, bool), Memory>
-    requires arguments { ArgumentsKnown sets.old given.now expanded.now }
-    requires base { IsKnown sets.old base }
+    requires arguments { ArgumentsKnown sets.old arguments.given.now arguments.expanded.now }
+    requires base { IsKnown sets.old head.now.base }
     ensures is { IfOk result (λ m. Ok (left_with sets.new m.0.items m.1)
-        ≡ substituted_by (map entry_chain entries.now) (arguments_in sets.old given.now expanded.now) (set.insert (set_at sets.old base) name.now) used space) }
+        ≡ substituted_by (map entry_chain entries.now) (arguments_in sets.old arguments.entry.given.now arguments.entry.expanded.now) (set.insert (set_at sets.old head.now.base) head.now.name.now) head.now.used head.now.space) }
     ensures known { IfOk result (λ m. AllKnown sets.new m.0.items) }
     ensures keeps { Keeps sets.old sets.new }
 {
-    let (mut tokens, pending) = entries_tokens(alloc, sets, given, expanded, space, entries)?;
+    let MacroName {
+        base,
+        name,
+        used,
+        space,
+    } = *head;
+    let (mut tokens, pending) = entries_tokens(alloc, sets, arguments, space, entries)?;
     gain_names(sets, &mut tokens, base, name, used)?;
     Ok((tokens, pending))
 }
@@ -123,33 +128,25 @@ fn substitute_entries<'x, 'a: 'x>(
 pub fn substitute_pattern<'x, 'a: 'x>(
     alloc: Global,
     pattern: &Pattern<'a>,
-    given: &[Vec<Hidden<'x>>],
-    expanded: &[Expansion<'x>],
-    base: Set,
-    name: &[u8],
-    used: Place,
-    space: bool,
+    arguments: Arguments<'_, 'x>,
+    head: &MacroName,
     sets: &mut HideSets,
 ) -> Result<Result<(Vec<Hidden<'x>>, bool), Fault>, Memory>
-    requires arguments { ArgumentsKnown sets.old given.now expanded.now }
-    requires base { IsKnown sets.old base }
-    ensures is { IfOk result (λ r. marked_in sets.new r ≡ substituted_by (listed pattern.now) (arguments_in sets.old given.now expanded.now) (set.insert (set_at sets.old base) name.now) used space) }
+    requires arguments { ArgumentsKnown sets.old arguments.given.now arguments.expanded.now }
+    requires base { IsKnown sets.old head.now.base }
+    ensures is { IfOk result (λ r. marked_in sets.new r ≡ substituted_by (listed pattern.now) (arguments_in sets.old arguments.entry.given.now arguments.entry.expanded.now) (set.insert (set_at sets.old head.now.base) head.now.name.now) head.now.used head.now.space) }
     ensures known { IfOk result (λ r. IfOk r (λ m. AllKnown sets.new m.0.items)) }
     ensures keeps { Keeps sets.old sets.new }
 {
     match pattern {
         Pattern::Alone(entries) => {
             let entries = entries.as_slice();
-            let made = substitute_entries(
-                alloc, entries, given, expanded, base, name, used, space, sets,
-            )?;
+            let made = substitute_entries(alloc, entries, arguments, head, sets)?;
             Ok(Ok(made))
         }
         Pattern::Joined(chains) => {
             let chains = chains.as_slice();
-            substitute(
-                alloc, chains, given, expanded, base, name, used, space, sets,
-            )
+            substitute(alloc, chains, arguments, head, sets)
         }
     }
 }

@@ -7,6 +7,7 @@ ghost use Rattle.ppmacro.specs.Substituting.{lists_of, option_of, options_of, Ar
 
 use crate::flying::{Expansion, Hidden};
 use crate::hide_sets::HideSets;
+use crate::invoked::Arguments;
 use crate::macros::Operand;
 use crate::substituting::stringizing::stringized;
 use pptext::{Place, Stop, Token};
@@ -93,16 +94,16 @@ pub(crate) fn operand_tokens<'x, 'a: 'x>(
     alloc: Global,
     sets: &HideSets,
     beside: bool,
-    given: &[Vec<Hidden<'x>>],
-    expanded: &[Expansion<'x>],
+    arguments: Arguments<'_, 'x>,
     used: Place,
     operand: &Operand<'a>,
 ) -> Result<Vec<Hidden<'x>>, Stop>
-    requires { ArgumentsKnown sets.now given.now expanded.now }
+    requires { ArgumentsKnown sets.now arguments.given.now arguments.expanded.now }
     ensures is { Answers result (λ v. hidings sets.now v.items)
-        (operand_tokens beside (arguments_in sets.now given.now expanded.now) used operand.now) }
+        (operand_tokens beside (arguments_in sets.now arguments.entry.given.now arguments.entry.expanded.now) used operand.now) }
     ensures known { IfOk result (λ v. AllKnown sets.now v.items) }
 {
+    let Arguments { given, expanded } = arguments;
     match operand {
         Operand::Tok(token) => Ok(plain(alloc, sets, token.token())?),
         Operand::Str(index, at) => literal(alloc, sets, argument(given, *index), *at, used),
@@ -132,19 +133,18 @@ pub(crate) fn operands_tokens<'x, 'a: 'x>(
     alloc: Global,
     sets: &HideSets,
     beside: bool,
-    given: &[Vec<Hidden<'x>>],
-    expanded: &[Expansion<'x>],
+    arguments: Arguments<'_, 'x>,
     used: Place,
     operands: &[Operand<'a>],
 ) -> Result<Vec<Vec<Hidden<'x>>>, Stop>
-    requires { ArgumentsKnown sets.now given.now expanded.now }
+    requires { ArgumentsKnown sets.now arguments.given.now arguments.expanded.now }
     ensures is { Answers result (λ v. map (hidings sets.now) (lists_of v.items))
-        (operands_tokens beside (arguments_in sets.now given.now expanded.now) used operands.now) }
+        (operands_tokens beside (arguments_in sets.now arguments.entry.given.now arguments.entry.expanded.now) used operands.now) }
     ensures known { IfOk result (λ v. ListsKnown sets.now v.items) }
 {
     let mut lists = Vec::new(alloc);
     for operand in operands {
-        let tokens = operand_tokens(alloc, sets, beside, given, expanded, used, operand)?;
+        let tokens = operand_tokens(alloc, sets, beside, arguments, used, operand)?;
         push_list(&mut lists, tokens)?;
     }
     Ok(lists)

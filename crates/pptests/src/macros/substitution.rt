@@ -8,8 +8,8 @@ use super::{HASH, has, is_hidden_by, macro_of, push_spelled, set_of, sources_of,
 use crate::defining::{direct, source_of};
 use crate::showing::{assert_shown, push_fault, push_fields};
 use ppmacro::{
-    Chain, Expansion, Hidden, HideSets, Macro, Pattern, Set, Table, paste, stringize, substitute,
-    substitute_pattern, tells_each_kind,
+    Arguments, Chain, Expansion, Hidden, HideSets, Macro, MacroName, Pattern, Set, Table, paste,
+    stringize, substitute, substitute_pattern, tells_each_kind,
 };
 use pptext::{Fault, Memory, Place, Profile, Source, Token};
 use std::alloc::{AllocError, Global};
@@ -44,7 +44,7 @@ fn hidden<'a>(
 }
 
 /// Arguments of these tokens, each with this hide set.
-fn arguments<'a>(
+fn lists_of<'a>(
     alloc: Global,
     sets: &HideSets,
     hide: Set,
@@ -79,25 +79,31 @@ fn substituted<'x, 'a: 'x>(
     rt: &impl Abort,
     alloc: Global,
     chains: &[Chain<'a>],
-    given: &[Vec<Hidden<'x>>],
-    expanded: &[Expansion<'x>],
-    base: Set,
-    space: bool,
+    arguments: Arguments<'_, 'x>,
+    head: &MacroName,
     sets: &mut HideSets,
 ) -> Result<Replaced<'x>, Memory>
-    requires arguments { ArgumentsKnown sets.old given.now expanded.now }
-    requires base { IsKnown sets.old base }
+    requires arguments { ArgumentsKnown sets.old arguments.given.now arguments.expanded.now }
+    requires base { IsKnown sets.old head.now.base }
 {
-    let name = b"f";
-    let Ok(answer) = substitute(
-        alloc, chains, given, expanded, base, name, USED, space, sets,
-    ) else {
+    let base = head.base;
+    let Ok(answer) = substitute(alloc, chains, arguments, head, sets) else {
         assert!(rt; has(rt, sets, base, b"b") && !has(rt, sets, base, b"f"));
-        return substitute(
-            alloc, chains, given, expanded, base, name, USED, space, sets,
-        );
+        return substitute(alloc, chains, arguments, head, sets);
     };
     Ok(answer)
+}
+
+/// The name `f` in an invocation.
+fn named_f(base: Set, space: bool) -> MacroName<'static>
+    ensures { result.base ≡ base }
+{
+    MacroName {
+        base,
+        name: b"f",
+        used: USED,
+        space,
+    }
 }
 
 /// What an invocation is replaced by, and the mark that is left pending. No argument names a macro; each argument's tokens
@@ -111,10 +117,11 @@ fn replaced_by<'x, 'a: 'x>(
     (hide, base, space): (Set, Set, bool),
 ) -> Result<Replaced<'x>, Memory> {
     assert!(rt; sets.knows(hide) && sets.knows(base));
-    let given = arguments(alloc, sets, hide, texts)?;
-    let expanded = as_they_are(alloc, arguments(alloc, sets, hide, texts)?)?;
+    let given = lists_of(alloc, sets, hide, texts)?;
+    let expanded = as_they_are(alloc, lists_of(alloc, sets, hide, texts)?)?;
     let (given, expanded) = (given.as_slice(), expanded.as_slice());
-    substituted(rt, alloc, chains, given, expanded, base, space, sets)
+    let arguments = Arguments { given, expanded };
+    substituted(rt, alloc, chains, arguments, &named_f(base, space), sets)
 }
 
 /// The same by `substitute_pattern`.
@@ -127,12 +134,11 @@ fn replaced_by_pattern<'x, 'a: 'x>(
     (hide, base, space): (Set, Set, bool),
 ) -> Result<Replaced<'x>, Memory> {
     assert!(rt; sets.knows(hide) && sets.knows(base));
-    let given = arguments(alloc, sets, hide, texts)?;
-    let expanded = as_they_are(alloc, arguments(alloc, sets, hide, texts)?)?;
+    let given = lists_of(alloc, sets, hide, texts)?;
+    let expanded = as_they_are(alloc, lists_of(alloc, sets, hide, texts)?)?;
     let (given, expanded) = (given.as_slice(), expanded.as_slice());
-    substitute_pattern(
-        alloc, pattern, given, expanded, base, b"f", USED, space, sets,
-    )
+    let arguments = Arguments { given, expanded };
+    substitute_pattern(alloc, pattern, arguments, &named_f(base, space), sets)
 }
 
 /// What of a macro an invocation is replaced by.

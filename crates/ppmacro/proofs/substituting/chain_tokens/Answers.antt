@@ -8,8 +8,8 @@ use Rattle.ppmacro.proofs.substituting.chain_tokens.Goals as goal
 pub returns-clause-is : goal.returns-clause-is
 returns-clause-is c =
     let s = c.args.sets.now in
-    let given = c.args.given.now in
-    let expanded = c.args.expanded.now in
+    let given = c.args.arguments.given.now in
+    let expanded = c.args.arguments.expanded.now in
     let used = c.args.used in
     let chain = c.args.chain.now in
     let args = arguments_in s given expanded in
@@ -29,5 +29,5 @@ returns-clause-is c =
 
 pub returns-clause-known : goal.returns-clause-known
 returns-clause-known c =
-    rest-laid-known c.args.given.now c.args.expanded.now c.split_rest-rest.result.1 c.in_ok-tokens.tokens.items c.lay_rest.new.tokens.items
+    rest-laid-known c.args.arguments.given.now c.args.arguments.expanded.now c.split_rest-rest.result.1 c.in_ok-tokens.tokens.items c.lay_rest.new.tokens.items
     c.in_ok-tokens.ensures.keeps c.requires c.in_ok-lay_rest.ensures c.in_ok-tokens.ensures.known

@@ -17,7 +17,7 @@ returns-clause-is c =
     let front = c.args.tokens.now.items in
     let more = c.in_ok-more.more.items in
     let mark = c.args.mark in
-    let args = arguments_in s c.args.given.now c.args.expanded.now in
+    let args = arguments_in s c.args.arguments.given.now c.args.arguments.expanded.now in
     let made : Ok (hidings u more) ≡ chain_tokens args c.args.used c.args.chain.now = c.in_ok-more.ensures.is in
     let tokens : hidings u c.push_chain-2.new.tokens.items ≡ hidings s front ++ (mark_first mark (hidings u more)).tokens =
     c.in_ok-pending.ensures.tokens u ∙ (λ i. hidings-keeps front c.in_ok-more.ensures.keeps c.requires.tokens i ++ (mark_first mark (hidings u (c.as_slice-2.ensures.value i))).tokens) in

@@ -17,7 +17,7 @@ loop-entry-preserved c =
     let first = c.loop-entry.first in
     let front = hidings s c.loop-entry.tokens.items in
     let new = c.push_entry.new.tokens.items in
-    let args = arguments_in s c.args.given.now c.args.expanded.now in
+    let args = arguments_in s c.args.arguments.given.now c.args.arguments.expanded.now in
     let mark = c.mark_before-mark.ensures ∙ ap (λ own. pending || (not first && own)) c.mark_of.ensures in
     let next : drop i es ≡ entry ∷ drop (i + 1) es = drop-item es i entry c.loop-entry-test.true c.entry-item.is in
     record {

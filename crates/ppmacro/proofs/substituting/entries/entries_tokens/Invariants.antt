@@ -10,7 +10,7 @@ use Rattle.ppmacro.proofs.substituting.entries.entries_tokens.Given as goal
 abbrev pub invariant-loop-entry : goal.invariant-loop-entry
 invariant-loop-entry l = record {
   same : (used : Place) → marked_behind (hidings l.sets l.tokens.items)
-      (chains_tokens (arguments_in l.sets l.given l.expanded) used l.pending l.first (map entry_chain (drop l.entry-index l.entries)))
-      ≡ chains_tokens (arguments_in l.sets l.given l.expanded) used l.space true (map entry_chain l.entries);
+      (chains_tokens (arguments_in l.sets l.arguments.given.now l.arguments.expanded.now) used l.pending l.first (map entry_chain (drop l.entry-index l.entries)))
+      ≡ chains_tokens (arguments_in l.sets l.arguments.given.now l.arguments.expanded.now) used l.space true (map entry_chain l.entries);
   tokens_known : AllKnown l.sets l.tokens.items;
 }

@@ -35,7 +35,7 @@ loop-operand-preserved c =
     let vs = c.loop-operand.lists.items in
     let front = map (hidings s) (lists_of vs) in
     let tokens = c.in_ok-tokens.tokens in
-    let args = arguments_in s c.args.given.now c.args.expanded.now in
+    let args = arguments_in s c.args.arguments.given.now c.args.arguments.expanded.now in
     let rest = operands_tokens c.args.beside args c.args.used (drop (i + 1) os) in
     record {
       same =
@@ -54,7 +54,7 @@ returns-in_err-tokens-clause-is c =
     let os = c.args.operands.now in
     let o = c.operand-item.result in
     let front = map (hidings s) (lists_of c.loop-operand.lists.items) in
-    let args = arguments_in s c.args.given.now c.args.expanded.now in
+    let args = arguments_in s c.args.arguments.given.now c.args.arguments.expanded.now in
     let rest = operands_tokens c.args.beside args c.args.used (drop (i + 1) os) in
     stops _ _ _ _ _ _ c.from_residual.ensures.1 c.in_err-tokens.ensures.is (λ fault e.
     ap (λ q. behind front (after_ok q (λ us. after_ok rest (λ more. Ok (us ∷ more))))) e

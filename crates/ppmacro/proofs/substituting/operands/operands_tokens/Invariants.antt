@@ -8,7 +8,7 @@ use Rattle.ppmacro.proofs.substituting.operands.operands_tokens.Given as goal
 abbrev pub invariant-loop-operand : goal.invariant-loop-operand
 invariant-loop-operand l = record {
   same : behind (map (hidings l.sets) (lists_of l.lists.items))
-      (operands_tokens l.beside (arguments_in l.sets l.given l.expanded) l.used (drop l.operand-index l.operands))
-      ≡ operands_tokens l.beside (arguments_in l.sets l.given l.expanded) l.used l.operands;
+      (operands_tokens l.beside (arguments_in l.sets l.arguments.given.now l.arguments.expanded.now) l.used (drop l.operand-index l.operands))
+      ≡ operands_tokens l.beside (arguments_in l.sets l.arguments.given.now l.arguments.expanded.now) l.used l.operands;
   known : ListsKnown l.sets l.lists.items;
 }

@@ -4,5 +4,5 @@ use Rattle.pptests.proofs.macros.substitution.replaced_by_pattern.Goals as goal
 
 pub substitute_pattern-requires-clause-arguments : goal.substitute_pattern-requires-clause-arguments
 substitute_pattern-requires-clause-arguments g c =
-    all-known c.in_ok-given.given.items c.in_ok-arguments.field-0.items c.as_slice-given.result.now c.as_slice-expanded.result.now
-    c.as_slice-given.ensures.value (c.as_slice-expanded.ensures.value ∙ c.in_ok-expanded.ensures) c.in_ok-given.ensures c.in_ok-arguments.ensures
+    all-known c.in_ok-given.given.items c.in_ok-lists_of.field-0.items c.as_slice-given.result.now c.as_slice-expanded.result.now
+    c.as_slice-given.ensures.value (c.as_slice-expanded.ensures.value ∙ c.in_ok-expanded.ensures) c.in_ok-given.ensures c.in_ok-lists_of.ensures
