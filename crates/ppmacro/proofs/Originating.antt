@@ -1,5 +1,5 @@
 -- Where each token of a replacement comes from, what hides it and its mark.
-use Rattle.std.proofs.Common.{◌≡◌, ℕ, zero, suc, ◌<◌, ◌-◌, Bool, true, false, not, ◌&&◌, ◌||◌, List, [], ◌∷◌, ◌++◌, map, take, length, Option, Some, None, Result, Ok, Err}
+use Rattle.std.proofs.Common.{◌+◌, length-append, ◌≡◌, ℕ, zero, suc, ◌<◌, ◌-◌, Bool, true, false, not, ◌&&◌, ◌||◌, List, [], ◌∷◌, ◌++◌, map, take, length, Option, Some, None, Result, Ok, Err}
 use Rattle.std.proofs.Common.{if◌then◌else◌, refl, sym, ap, ◌∙◌, subst, unwrap_or, slice_get, slice_index_or, append-nil, append_assoc, arith}
 use Rattle.std.specs.List.{AllByRecursion, Contains}
 use Rattle.pptext.specs.declared.tokens.Place.{Place}
@@ -12,7 +12,7 @@ use Rattle.ppmacro.specs.Lexing.{kind_of}
 use Rattle.ppmacro.specs.Substitution.{Arguments, Marked, argument_at, expanded_at, stringized, is_string_literal, string_text, string_token, pasted, pasted_as, after_ok, join, join_all}
 use Rattle.ppmacro.specs.Substitution.{operand_tokens, operands_tokens, is_joined, before_rest, rest_of, rest_behind_comma, with_rest_tokens, chain_tokens, mark_first, chains_tokens}
 use Rattle.ppmacro.specs.Substitution.{gained, substituted_by}
-use Rattle.ppmacro.specs.Origins.{ComesFrom, listed, expanded, given, rest, literal, paste, own_mark, Waits, at_front, behind_tokens, behind_none, IsMarked, leads, follows, IsReplacing}
+use Rattle.ppmacro.specs.Origins.{ComesFrom, listed, expanded, given, rest, literal, paste, own_mark, Waits, at_front, behind_tokens, behind_none, IsReplacing}
 use Rattle.ppmacro.specs.declared.macros.Chain.{Chain}
 use Rattle.ppmacro.specs.declared.macros.Operand.{Operand}
 use Rattle.ppmacro.specs.declared.macros.Operand.TheVariants.{Tok, Param, Str, Rest}
@@ -173,16 +173,33 @@ mark_is : (first : Bool) (before : List Chain) (c : Chain) → first ≡ is_nil 
 mark_is first [] c e = rw e refl
 mark_is first (b ∷ bs) c e = rw e refl
 
+-- each element with its index, which counts from n
+abbrev pub Numbered : {X : Type 0} → (ℕ → X → Type 0) → ℕ → List X → Type 0
+Numbered P n [] = Unit {0}
+Numbered P n (x ∷ xs) = P n x × Numbered P (suc n) xs
+
+numbered-append : {X : Type 0} (P : ℕ → X → Type 0) (n : ℕ) (xs ys : List X) → Numbered P n xs → Numbered P (n + length xs) ys → Numbered P n (xs ++ ys)
+numbered-append P n [] ys h k = subst (λ m. Numbered P m ys) (omega arith) k
+numbered-append P n (x ∷ xs) ys h k = (h.0, numbered-append P (suc n) xs ys h.1 (subst (λ m. Numbered P m ys) (omega arith) k))
+
+numbered-at : {X : Type 0} (P : ℕ → X → Type 0) (n : ℕ) (front : List X) (x : X) (behind : List X) → Numbered P n (front ++ x ∷ behind) → P (n + length front) x
+numbered-at P n [] x behind h = subst (λ m. P m x) (omega arith) h.0
+numbered-at P n (y ∷ front) x behind h = subst (λ m. P m x) (omega arith) (numbered-at P (suc n) front x behind h.1)
+
 module _ (args : Arguments) (gain : HideSet) (used : Place) (space : Bool) where
-  abbrev Replacing : List Chain → Hiding → Type 0
-  Replacing cs t = IsReplacing cs args gain used space (gained gain used t)
+  abbrev Replacing : List Chain → ℕ → Hiding → Type 0
+  Replacing cs n t = IsReplacing cs args gain used space n (gained gain used t)
 
   -- the tokens of a chain behind its first
-  later_each : (before : List Chain) (c : Chain) (behind : List Chain) (t : Hiding) (ts us : List Hiding)
+  later_each : (before : List Chain) (c : Chain) (behind : List Chain) (count : ℕ) (waiting : Bool)
+      → Waits args used space before count waiting
+      → (t : Hiding) (ts us : List Hiding)
       → chain_tokens args used c ≡ Ok ((t ∷ ts) ++ us)
-      → AllByRecursion (Replacing (before ++ c ∷ behind)) us
-  later_each before c behind t ts [] e = tt
-  later_each before c behind t ts (u ∷ us) e = (
+      → (n : ℕ)
+      → n ≡ count + length (t ∷ ts)
+      → Numbered (Replacing (before ++ c ∷ behind)) n us
+  later_each before c behind count waiting w t ts [] e n at = tt
+  later_each before c behind count waiting w t ts (u ∷ us) e n at = (
     record {
       before = before;
       chain = c;
@@ -192,22 +209,28 @@ module _ (args : Arguments) (gain : HideSet) (used : Place) (space : Bool) where
       own = u;
       more = us;
       gives = e;
-      marked = follows;
+      count = count;
+      waiting = waiting;
+      waits = w;
+      stands = at;
       token = refl;
       hide = refl;
     },
-    later_each before c behind t (ts ++ u ∷ []) us (e ∙ ap (λ xs. Ok (t ∷ xs)) (sym (append_assoc ts (u ∷ []) us))),
+    later_each before c behind count waiting w t (ts ++ u ∷ []) us (e ∙ ap (λ xs. Ok (t ∷ xs)) (sym (append_assoc ts (u ∷ []) us))) (suc n) (omega (arith, at, length-append ts (u ∷ []))),
   )
 
   -- the tokens of a chain, and what waits behind it
-  chain_replacing : (before : List Chain) (c : Chain) (behind : List Chain) (waiting mark : Bool)
-      → Waits args used space before waiting
+  chain_replacing : (before : List Chain) (c : Chain) (behind : List Chain) (count : ℕ) (waiting mark : Bool)
+      → Waits args used space before count waiting
       → mark ≡ (waiting || own_mark before c)
       → (ts : List Hiding)
       → chain_tokens args used c ≡ Ok ts
-      → AllByRecursion (Replacing (before ++ c ∷ behind)) (mark_first mark ts).tokens × Waits args used space (before ++ c ∷ []) (mark_first mark ts).pending
-  chain_replacing before c behind waiting mark w m [] e = (tt, subst (Waits args used space (before ++ c ∷ [])) (sym m) (behind_none before c w e))
-  chain_replacing before c behind waiting mark w m (t ∷ ts) e = (
+      → Numbered (Replacing (before ++ c ∷ behind)) count (mark_first mark ts).tokens
+      × Waits args used space (before ++ c ∷ []) (count + length (mark_first mark ts).tokens) (mark_first mark ts).pending
+  chain_replacing before c behind count waiting mark w m [] e =
+      let none : count ≡ count + 0 = omega arith in
+      (tt, subst (λ n. Waits args used space (before ++ c ∷ []) n mark) none (subst (Waits args used space (before ++ c ∷ []) count) (sym m) (behind_none before c w e)))
+  chain_replacing before c behind count waiting mark w m (t ∷ ts) e = (
     (
       record {
         before = before;
@@ -218,47 +241,74 @@ module _ (args : Arguments) (gain : HideSet) (used : Place) (space : Bool) where
         own = t;
         more = ts;
         gives = e;
-        marked = subst (IsMarked args used space before c t []) (sym m) (leads w);
-        token = refl;
+        count = count;
+        waiting = waiting;
+        waits = w;
+        stands = omega arith;
+        token = ap (λ b. record t.token { used = used; space = b }) m;
         hide = refl;
       },
-      later_each before c behind t [] ts e,
+      later_each before c behind count waiting w t [] ts e (suc count) (omega arith),
     ),
-    behind_tokens before c e,
+    behind_tokens before c w e,
   )
 
-  abbrev Walked : List Chain → Marked → Type 0
-  Walked cs m = AllByRecursion (Replacing cs) m.tokens × Waits args used space cs m.pending
+  abbrev Walked : List Chain → ℕ → Marked → Type 0
+  Walked cs count m = Numbered (Replacing cs) count m.tokens × Waits args used space cs (count + length m.tokens) m.pending
 
-  walk : (before : List Chain) (waiting first : Bool) (cs : List Chain) (m : Marked)
+  walk : (before : List Chain) (count : ℕ) (waiting first : Bool) (cs : List Chain) (m : Marked)
       → first ≡ is_nil before
-      → Waits args used space before waiting
+      → Waits args used space before count waiting
       → chains_tokens args used waiting first cs ≡ Ok m
-      → AllByRecursion (Replacing (before ++ cs)) m.tokens × Waits args used space (before ++ cs) m.pending
-  walk before waiting first [] m f w e =
+      → Walked (before ++ cs) count m
+  walk before count waiting first [] m f w e =
       let is : record { tokens = []; pending = waiting } ≡ m = ok-same _ m e in
-      subst (Walked (before ++ [])) is (tt, subst (λ cs. Waits args used space cs waiting) (sym (append-nil before)) w)
-  walk before waiting first (c ∷ cs) m f w e =
+      let none : count ≡ count + 0 = omega arith in
+      subst (Walked (before ++ []) count) is (tt, subst (λ n. Waits args used space (before ++ []) n waiting) none (subst (λ cs. Waits args used space cs count waiting) (sym (append-nil before)) w))
+  walk before count waiting first (c ∷ cs) m f w e =
       let one = after (chain_tokens args used c) (λ ts.
       let at : Marked = mark_first (waiting || (not first && c.mark)) ts in
       after_ok (chains_tokens args used at.pending false cs) (λ more. Ok (record { tokens = at.tokens ++ more.tokens; pending = more.pending }))) m e in
       let at : Marked = mark_first (waiting || (not first && c.mark)) one.0 in
       let others = after (chains_tokens args used at.pending false cs) (λ more. Ok (record { tokens = at.tokens ++ more.tokens; pending = more.pending })) m one.2 in
       let is : record { tokens = at.tokens ++ others.0.tokens; pending = others.0.pending } ≡ m = ok-same _ m others.2 in
-      let own = chain_replacing before c cs waiting (waiting || (not first && c.mark)) w (ap (λ b. waiting || b) (mark_is first before c f)) one.0 one.1 in
-      let more = walk (before ++ c ∷ []) at.pending false cs others.0 (not_nil before c) own.1 others.1 in
-      let all : Walked (before ++ c ∷ cs) others.0 = subst (λ xs. Walked xs others.0) (append_assoc before (c ∷ []) cs) more in
-      subst (Walked (before ++ c ∷ cs)) is (all-append (Replacing (before ++ c ∷ cs)) at.tokens others.0.tokens own.0 all.0, all.1)
+      let own = chain_replacing before c cs count waiting (waiting || (not first && c.mark)) w (ap (λ b. waiting || b) (mark_is first before c f)) one.0 one.1 in
+      let more = walk (before ++ c ∷ []) (count + length at.tokens) at.pending false cs others.0 (not_nil before c) own.1 others.1 in
+      let all : Walked (before ++ c ∷ cs) (count + length at.tokens) others.0 = subst (λ xs. Walked xs (count + length at.tokens) others.0) (append_assoc before (c ∷ []) cs) more in
+      let total : count + length at.tokens + length others.0.tokens ≡ count + length (at.tokens ++ others.0.tokens) = omega (arith, length-append at.tokens others.0.tokens) in
+      subst (Walked (before ++ c ∷ cs) count) is (
+        numbered-append (Replacing (before ++ c ∷ cs)) count at.tokens others.0.tokens own.0 all.0,
+        subst (λ n. Waits args used space (before ++ c ∷ cs) n others.0.pending) total all.1,
+      )
 
-  all-gained : (cs : List Chain) (ts : List Hiding) → AllByRecursion (Replacing cs) ts → AllByRecursion (IsReplacing cs args gain used space) (map (gained gain used) ts)
-  all-gained cs [] h = tt
-  all-gained cs (t ∷ ts) h = (h.0, all-gained cs ts h.1)
+  all-gained : (cs : List Chain) (n : ℕ) (ts : List Hiding) → Numbered (Replacing cs) n ts → Numbered (IsReplacing cs args gain used space) n (map (gained gain used) ts)
+  all-gained cs n [] h = tt
+  all-gained cs n (t ∷ ts) h = (h.0, all-gained cs (suc n) ts h.1)
+
+  length-gained : (ts : List Hiding) → length ts ≡ length (map (gained gain used) ts)
+  length-gained [] = refl
+  length-gained (t ∷ ts) = ap suc (length-gained ts)
+
+  replaced_all : (cs : List Chain) (m : Marked)
+      → substituted_by cs args gain used space ≡ Ok m
+      → Numbered (IsReplacing cs args gain used space) 0 m.tokens × Waits args used space cs (length m.tokens) m.pending
+  replaced_all cs m e =
+      let made = after (chains_tokens args used space true cs) (λ n. Ok (record n { tokens = map (gained gain used) n.tokens })) m e in
+      let is : record made.0 { tokens = map (gained gain used) made.0.tokens } ≡ m = ok-same _ m made.2 in
+      let all = walk [] 0 space true cs made.0 refl at_front made.1 in
+      let total : 0 + length made.0.tokens ≡ length (map (gained gain used) made.0.tokens) = omega (arith, length-gained made.0.tokens) in
+      subst (λ n. Numbered (IsReplacing cs args gain used space) 0 n.tokens × Waits args used space cs (length n.tokens) n.pending) is
+      (all-gained cs 0 made.0.tokens all.0, subst (λ n. Waits args used space cs n made.0.pending) total all.1)
 
   pub replaced_each : (cs : List Chain) (m : Marked)
       → substituted_by cs args gain used space ≡ Ok m
-      → AllByRecursion (IsReplacing cs args gain used space) m.tokens × Waits args used space cs m.pending
-  replaced_each cs m e =
-      let made = after (chains_tokens args used space true cs) (λ n. Ok (record n { tokens = map (gained gain used) n.tokens })) m e in
-      let is : record made.0 { tokens = map (gained gain used) made.0.tokens } ≡ m = ok-same _ m made.2 in
-      let all = walk [] space true cs made.0 refl at_front made.1 in
-      subst (λ n. AllByRecursion (IsReplacing cs args gain used space) n.tokens × Waits args used space cs n.pending) is (all-gained cs made.0.tokens all.0, all.1)
+      → (front : List Hiding) (t : Hiding) (behind : List Hiding)
+      → m.tokens ≡ front ++ t ∷ behind
+      → IsReplacing cs args gain used space (length front) t
+  replaced_each cs m e front t behind is =
+      let same : 0 + length front ≡ length front = omega arith in
+      subst (λ n. IsReplacing cs args gain used space n t) same
+      (numbered-at (IsReplacing cs args gain used space) 0 front t behind (subst (Numbered (IsReplacing cs args gain used space) 0) is (replaced_all cs m e).0))
+
+  pub waits_behind : (cs : List Chain) (m : Marked) → substituted_by cs args gain used space ≡ Ok m → Waits args used space cs (length m.tokens) m.pending
+  waits_behind cs m e = (replaced_all cs m e).1

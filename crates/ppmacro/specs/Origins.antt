@@ -1,5 +1,5 @@
 -- Where each token of a replacement comes from, what hides it, and whether white space stands before it (6.10.3.1 to 6.10.3.4), by the chains.
-use Rattle.std.specs.Prelude.{◌≡◌, ℕ, Bool, true, false, ◌||◌, List, [], ◌∷◌, ◌++◌, map, Some, Ok}
+use Rattle.std.specs.Prelude.{◌+◌, length, ◌≡◌, ℕ, Bool, true, false, ◌||◌, List, [], ◌∷◌, ◌++◌, map, Some, Ok}
 use Rattle.std.specs.FinSet as set
 use Rattle.std.specs.List.{Contains}
 use Rattle.pptext.specs.declared.tokens.Place.{Place}
@@ -52,28 +52,27 @@ abbrev pub own_mark : List Chain → Chain → Bool
 own_mark [] c = false
 own_mark (b ∷ bs) c = c.mark
 
--- Whether white space waits for the next token behind these chains. Before the first it is that before the macro's name; a chain without tokens leaves
--- what waits, and its own, to the next.
-pub data Waits (args : Arguments) (used : Place) (space : Bool) : List Chain → Bool → Type 0 where
-  at_front : Waits args used space [] space
-  behind_tokens : (before : List Chain) (c : Chain) {t : Hiding} {ts : List Hiding}
+-- How many tokens these chains stand for, and whether white space waits for the next one behind them. Before the first it is that before the macro's
+-- name; a chain without tokens leaves what waits, and its own, to the next.
+pub data Waits (args : Arguments) (used : Place) (space : Bool) : List Chain → ℕ → Bool → Type 0 where
+  at_front : Waits args used space [] 0 space
+  behind_tokens : (before : List Chain) (c : Chain) {count : ℕ} {waiting : Bool} {t : Hiding} {ts : List Hiding}
+      → Waits args used space before count waiting
       → chain_tokens args used c ≡ Ok (t ∷ ts)
-      → Waits args used space (before ++ c ∷ []) false
-  behind_none : (before : List Chain) (c : Chain) {waiting : Bool}
-      → Waits args used space before waiting
+      → Waits args used space (before ++ c ∷ []) (count + length (t ∷ ts)) false
+  behind_none : (before : List Chain) (c : Chain) {count : ℕ} {waiting : Bool}
+      → Waits args used space before count waiting
       → chain_tokens args used c ≡ Ok []
-      → Waits args used space (before ++ c ∷ []) (waiting || own_mark before c)
+      → Waits args used space (before ++ c ∷ []) count (waiting || own_mark before c)
 
--- the mark of a token of this chain, which stands behind these chains and these tokens of its own: on the first what waits or the chain's, on another its own
-pub data IsMarked (args : Arguments) (used : Place) (space : Bool) (before : List Chain) (c : Chain) (own : Hiding) : List Hiding → Bool → Type 0 where
-  leads : {waiting : Bool}
-      → Waits args used space before waiting
-      → IsMarked args used space before c own [] (waiting || own_mark before c)
-  follows : {t : Hiding} {ts : List Hiding} → IsMarked args used space before c own (t ∷ ts) own.token.space
+-- the mark of a token that stands behind these of its own chain: on the first what waits or the chain's, on another its own
+abbrev pub mark_behind : Bool → List Hiding → Hiding → Bool
+mark_behind leading [] t = leading
+mark_behind leading (f ∷ fs) t = t.token.space
 
--- a token of the replacement of these chains: one that a chain stands for, used where the macro's name is, with its mark, and hidden by what hid it and by
--- what the invocation gives
-pub record IsReplacing (chains : List Chain) (args : Arguments) (gain : HideSet) (used : Place) (space : Bool) (t : Hiding) : Type 0 where
+-- The token of this index in the replacement of these chains: one that a chain stands for, behind those of the chains before and of its own, used where the
+-- macro's name is, with its mark, and hidden by what hid it and by what the invocation gives.
+pub record IsReplacing (chains : List Chain) (args : Arguments) (gain : HideSet) (used : Place) (space : Bool) (index : ℕ) (t : Hiding) : Type 0 where
   pub before : List Chain
   pub chain : Chain
   pub behind : List Chain
@@ -82,6 +81,9 @@ pub record IsReplacing (chains : List Chain) (args : Arguments) (gain : HideSet)
   pub own : Hiding
   pub more : List Hiding
   pub gives : chain_tokens args used chain ≡ Ok (front ++ own ∷ more)
-  pub marked : IsMarked args used space before chain own front t.token.space
-  pub token : t.token ≡ record own.token { used = used; space = t.token.space }
+  pub count : ℕ
+  pub waiting : Bool
+  pub waits : Waits args used space before count waiting
+  pub stands : index ≡ count + length front
+  pub token : t.token ≡ record own.token { used = used; space = mark_behind (waiting || own_mark before chain) front own }
   pub hide : t.hide ≡ set.union own.hide gain

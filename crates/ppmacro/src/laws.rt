@@ -1,5 +1,5 @@
 // Laws of the definitions: functions that do nothing, whose contracts are the laws.
-ghost use Rattle.std.specs.Prelude.{◌≡◌, ◌↔◌, Bool, List, None, Some, Ok, true, false};
+ghost use Rattle.std.specs.Prelude.{◌≡◌, ◌↔◌, ◌∷◌, ◌++◌, length, Bool, List, None, Some, Ok, true, false};
 ghost use Rattle.std.specs.List.{list_any, AllByRecursion};
 ghost use Rattle.pptext.specs.declared.sources.Profile.{Profile};
 ghost use Rattle.pptext.specs.declared.tokens.Place.{Place};
@@ -44,10 +44,12 @@ pub fn lenient_in_gnu_alone()
 pub fn tells_origins()
     ensures replaces { (chains : List Chain) (args : Arguments) (gain : HideSet) (used : Place) (space : Bool) (whole : Marked)
         → substituted_by chains args gain used space ≡ Ok whole
-        → AllByRecursion (IsReplacing chains args gain used space) whole.tokens }
+        → (front : List Hiding) (token : Hiding) (behind : List Hiding)
+        → whole.tokens ≡ front ++ token ∷ behind
+        → IsReplacing chains args gain used space (length front) token }
     ensures waits { (chains : List Chain) (args : Arguments) (gain : HideSet) (used : Place) (space : Bool) (whole : Marked)
         → substituted_by chains args gain used space ≡ Ok whole
-        → Waits args used space chains whole.pending }
+        → Waits args used space chains (length whole.tokens) whole.pending }
     ensures comes { (args : Arguments) (used : Place) (chain : Chain) (tokens : List Hiding)
         → chain_tokens args used chain ≡ Ok tokens
         → AllByRecursion (ComesFrom args used chain.operands) tokens }
