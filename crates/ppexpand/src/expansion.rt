@@ -112,67 +112,6 @@ fn keep_arguments<'x>(
     }
 }
 
-/// Takes the next turn of a list, whose next token names the macro `named`, up to an invocation of a function-like macro: that becomes
-/// `call`, and is still to be followed. What passes is put behind `passed`, the list becomes what is behind it, and `left` what is left of
-/// the budget. Whether the list goes on; where a fault ended it, `fault` becomes that.
-#[inline(never)]
-fn take_turn<'t, 'x, 'a: 'x>(
-    supply: &mut Supply<'x>,
-    table: &'t Table<'a>,
-    env: &Env,
-    left: &mut Option<u64>,
-    sets: &mut HideSets,
-    named: Option<&'t Macro<'a>>,
-    list: &mut Cursor<'x>,
-    passed: &mut Passed<'x>,
-    fault: &mut Option<Fault>,
-    call: &mut Option<Invocation<'t, 'x, 'a>>,
-) -> Result<bool, Memory>
-    requires named { option_copied named ≡ next_macro table.now (tokens_of list.old) }
-    requires no_fault { fault.old ≡ None }
-    requires no_call { call.old ≡ None }
-    requires list_known { AllKnown sets.old list.old }
-    requires passed_known { AllKnown sets.old passed.old }
-    ensures on { IfOk result (λ goes. MatchOption call.new
-        ((level : ℕ) → HasTaken table.now env.now level left.old (hidings sets.old list.old) (hidings sets.old passed.old)
-        goes fault.new left.new (hidings sets.new list.new) (hidings sets.new passed.new))
-        (λ c. HasCalled table.now env.now left.old (hidings sets.old list.old) (hidings sets.old passed.old)
-        (call_in sets.new c.head c.replaced.now c.arguments.items c.both list.new)
-        fault.new left.new (hidings sets.new passed.new))) }
-    ensures call_known { OnOk result (IfSome call.new (λ c. CallKnown sets.new c.head c.arguments.items c.both × AllKnown sets.new list.new)) }
-    ensures list_known { IfOk result (λ goes. goes ≡ true → AllKnown sets.new list.new) }
-    ensures passed_known { OnOk result (AllKnown sets.new passed.new) }
-    ensures keeps { Keeps sets.old sets.new }
-{
-    let next = next_turn(supply, table, env, *left, sets, named, list)?;
-    let step = next.step;
-    match step {
-        Step::Done => Ok(false),
-        Step::Refused(found) => {
-            *fault = Some(found);
-            Ok(false)
-        }
-        Step::Passes(head) => {
-            passed.push_single(head)?;
-            Ok(true)
-        }
-        Step::Failed(found) => {
-            *left = less_one(*left);
-            *fault = Some(found);
-            Ok(false)
-        }
-        Step::Replaced => {
-            *left = less_one(*left);
-            Ok(true)
-        }
-        Step::Called(found) => {
-            *left = less_one(*left);
-            *call = Some(found);
-            Ok(true)
-        }
-    }
-}
-
 /// The expansion of an argument that came to these tokens; or none where a fault was raised.
 #[inline(never)]
 fn made<'x>(
@@ -189,53 +128,6 @@ fn made<'x>(
     Ok(Some(Expansion::Made(passed.into_vec(alloc)?)))
 }
 
-/// The expansion of an argument; or none where a fault was raised, 21 where it is too deep, which `fault` becomes. `left` becomes what
-/// it leaves.
-#[cycle(expansion)]
-fn expand_argument<'x, 'a: 'x>(
-    supply: &mut Supply<'x>,
-    table: &Table<'a>,
-    env: &Env,
-    level: u32,
-    left: &mut Option<u64>,
-    sets: &mut HideSets,
-    head: &Hidden<'x>,
-    argument: &[Hidden<'x>],
-    fault: &mut Option<Fault>,
-) -> Result<Option<Expansion<'x>>, Memory>
-    requires level { level ≤ 256 }
-    requires known { AllKnown sets.old argument.now }
-    requires no_fault { fault.old ≡ None }
-    ensures is { IfOk result (λ r. MatchOption r
-        (Raises fault.new (λ f. ExpandsArgument table.now env.now level head.now.token left.old (hidings sets.old argument.now) left.new (Err f)))
-        (λ e. (fault.new ≡ None) × HasExpanded table.now env.now level head.now.token left.old left.new sets.old sets.new argument.now e)) }
-    ensures known { IfOk result (λ r. IfSome r (λ e. AllKnown sets.new (held e))) }
-    ensures keeps { Keeps sets.old sets.new }
-{
-    if level >= DEEPEST {
-        return raise_depth(head, fault);
-    }
-    // Most arguments name no macro, and are what they are expanded to: saves 6 % of the instructions of Boost.Preprocessor's `seq.c`.
-    if all_pass(table, argument) {
-        return Ok(Some(Expansion::AsGiven));
-    }
-    let mut list = Cursor::of_clones(supply.alloc(), argument, sets.empty())?;
-    // An argument mostly comes to about as many tokens as it has.
-    let mut passed = Passed::with_room(supply.alloc(), argument.len())?;
-    expand_list(
-        supply,
-        table,
-        env,
-        level + 1,
-        left,
-        sets,
-        &mut list,
-        &mut passed,
-        fault,
-    )?;
-    made(supply.alloc(), passed, fault)
-}
-
 /// The argument of a parameter: no tokens, where it is absent.
 fn argument_of<'c, 'x>(arguments: &'c [Vec<Hidden<'x>>], parameter: usize) -> &'c [Hidden<'x>]
     ensures { result.now ≡ argument_at (lists_of arguments.now) parameter }
@@ -247,179 +139,269 @@ fn argument_of<'c, 'x>(arguments: &'c [Vec<Hidden<'x>>], parameter: usize) -> &'
     tokens.as_slice()
 }
 
-/// Makes `expanded` the expansions of the arguments that stand away from `#` and `##` in this list, which is the macro's, each by its
-/// parameter; or `fault` becomes the fault that one raised. `left` becomes what they leave.
-#[cycle(expansion)]
-fn expand_arguments<'x, 'a: 'x>(
-    supply: &mut Supply<'x>,
-    table: &Table<'a>,
-    env: &Env,
-    level: u32,
-    left: &mut Option<u64>,
-    sets: &mut HideSets,
-    call: &Invocation<'_, 'x, 'a>,
-    pattern: &Pattern<'a>,
-    expanded: &mut Vec<Expansion<'x>>,
-    fault: &mut Option<Fault>,
-) -> Result<(), Memory>
-    requires level { level ≤ 256 }
-    requires known { CallKnown sets.old call.now.head call.now.arguments.items call.now.both }
-    requires chains { listed pattern.now ≡ chains_of call.now.replaced.now }
-    requires none { expanded.old.items ≡ [] }
-    requires no_fault { fault.old ≡ None }
-    ensures is { OnOk result (MatchOption fault.new
-        ((behind : List Hidden) → ExpandsWanted table.now env.now level
-        (call_in sets.old call.now.head call.now.replaced.now call.now.arguments.items call.now.both behind) left.old left.new
-        (Ok (expanded_in sets.new call.now.arguments.items expanded.new.items)))
-        (λ f. (behind : List Hidden) → ExpandsWanted table.now env.now level
-        (call_in sets.old call.now.head call.now.replaced.now call.now.arguments.items call.now.both behind) left.old left.new (Err f))) }
-    ensures known { OnOk result (fault.new ≡ None → ExpansionsKnown sets.new expanded.new.items) }
-    ensures keeps { Keeps sets.old sets.new }
-{
-    let used = used_alone(supply.alloc(), call.replaced, pattern)?;
-    for (parameter, alone) in used.iter().enumerate() {
-        if !*alone {
-            put(expanded, Expansion::Unused)?;
-            continue;
-        }
-        let head = &call.head;
-        let tokens = argument_of(call.arguments.as_slice(), parameter);
-        match expand_argument(supply, table, env, level, left, sets, head, tokens, fault)? {
-            Some(expansion) => put(expanded, expansion)?,
-            None => return Ok(()),
-        }
-    }
-    Ok(())
-}
-
-/// Replaces an invocation before the rest of its list, its arguments expanded first; or `fault` becomes the first fault. `left` becomes what
-/// is left of the budget.
-#[cycle(expansion)]
-fn follow<'x, 'a: 'x>(
-    supply: &mut Supply<'x>,
-    table: &Table<'a>,
-    env: &Env,
-    level: u32,
-    left: &mut Option<u64>,
-    sets: &mut HideSets,
-    call: &Invocation<'_, 'x, 'a>,
-    list: &mut Cursor<'x>,
-    fault: &mut Option<Fault>,
-) -> Result<(), Memory>
-    requires level { level ≤ 256 }
-    requires call_known { CallKnown sets.old call.now.head call.now.arguments.items call.now.both }
-    requires list_known { AllKnown sets.old list.old }
-    requires no_fault { fault.old ≡ None }
-    ensures is { OnOk result (ComesTo table.now env.now level
-        (call_in sets.old call.now.head call.now.replaced.now call.now.arguments.items call.now.both list.old) left.old left.new
-        (finished_in sets.new list.new fault.new)) }
-    ensures known { OnOk result (fault.new ≡ None → AllKnown sets.new list.new) }
-    ensures keeps { Keeps sets.old sets.new }
-{
-    let pattern = call.replaced.pattern(supply.alloc(), table.hashing())?;
-    let mut expanded = Vec::with_capacity(supply.alloc(), parameters_of(call.replaced))?;
-    expand_arguments(
-        supply,
-        table,
-        env,
-        level,
-        left,
-        sets,
-        call,
-        &pattern,
-        &mut expanded,
-        fault,
-    )?;
-    if fault.is_some() {
-        return Ok(());
-    }
-    finish(
-        supply.alloc(),
-        sets,
-        call,
-        &pattern,
-        expanded.as_slice(),
-        list,
-        fault,
-    )
-}
-
-/// One turn, of a list whose next token names the macro `named`: what passes is put behind `passed`, the list becomes what is behind it,
-/// and `left` what is left of the budget. Whether the list goes on; where a fault ended it, `fault` becomes that. `call` is room for an
-/// invocation.
-#[cycle(expansion)]
-fn advance<'t, 'x, 'a: 'x>(
-    supply: &mut Supply<'x>,
+/// What the expansion of a list reads.
+#[derive(Drop)]
+struct Context<'t, 'a> {
     table: &'t Table<'a>,
-    env: &Env,
+    env: &'t Env,
+    /// How many arguments the list is inside of.
     level: u32,
-    left: &mut Option<u64>,
-    sets: &mut HideSets,
-    named: Option<&'t Macro<'a>>,
-    list: &mut Cursor<'x>,
-    passed: &mut Passed<'x>,
-    fault: &mut Option<Fault>,
-    call: &mut Option<Invocation<'t, 'x, 'a>>,
-) -> Result<bool, Memory>
-    requires level { level ≤ 256 }
-    requires named { option_copied named ≡ next_macro table.now (tokens_of list.old) }
-    requires list_known { AllKnown sets.old list.old }
-    requires passed_known { AllKnown sets.old passed.old }
-    requires no_fault { fault.old ≡ None }
-    requires no_call { call.old ≡ None }
-    ensures on { IfOk result (λ goes.
-        HasTaken table.now env.now level left.old (hidings sets.old list.old) (hidings sets.old passed.old)
-        goes fault.new left.new (hidings sets.new list.new) (hidings sets.new passed.new)) }
-    ensures list_known { IfOk result (λ goes. goes ≡ true → AllKnown sets.new list.new) }
-    ensures passed_known { OnOk result (AllKnown sets.new passed.new) }
-    ensures keeps { Keeps sets.old sets.new }
-{
-    let goes = take_turn(
-        supply, table, env, left, sets, named, list, passed, fault, call,
-    )?;
-    let Some(found) = &*call else {
-        return Ok(goes);
-    };
-    follow(supply, table, env, level, left, sets, found, list, fault)?;
-    keep_arguments(supply, call)?;
-    Ok(fault.is_none())
 }
 
-/// Expands a list: what passes is put behind `passed`, and `left` becomes what is left of the budget. Where a fault ended it, `fault` becomes
-/// that.
-#[cycle(expansion)]
-fn expand_list<'x, 'a: 'x>(
-    supply: &mut Supply<'x>,
-    table: &Table<'a>,
-    env: &Env,
-    level: u32,
-    left: &mut Option<u64>,
-    sets: &mut HideSets,
-    list: &mut Cursor<'x>,
-    passed: &mut Passed<'x>,
-    fault: &mut Option<Fault>,
-) -> Result<(), Memory>
-    requires level { level ≤ 256 }
-    requires known { AllKnown sets.old list.old }
-    requires none { passed.old ≡ [] }
-    requires no_fault { fault.old ≡ None }
-    ensures outcome { OnOk result (ExpandsTo table.now env.now level left.old (hidings sets.old list.old)
-        (record { tokens = hidings sets.new passed.new; fault = fault.new; left = left.new })) }
-    ensures known { OnOk result (AllKnown sets.new passed.new) }
-    ensures keeps { Keeps sets.old sets.new }
-{
-    loop {
-        // Saves 18 % of the instructions of `deps` on Redis.
-        let named = skip(table, list, passed)?;
-        // An invocation is done with when its turn is.
-        let goes = {
-            let mut call = None;
-            advance(
-                supply, table, env, level, left, sets, named, list, passed, fault, &mut call,
-            )
+/// What the expansion of lists changes, at every level.
+#[derive(Drop)]
+struct Expander<'x> {
+    supply: Supply<'x>,
+    /// What is left of the budget.
+    left: Option<u64>,
+    sets: HideSets,
+    /// The fault that ended a list, if one did.
+    fault: Option<Fault>,
+}
+
+impl<'x> Expander<'x> {
+    /// Takes the next turn of a list, whose next token names the macro `named`, up to an invocation of a function-like macro: that becomes
+    /// `call`, and is still to be followed. What passes is put after `passed`, and the list becomes what is left of it. Whether the list goes
+    /// on; where a fault ended it, the fault is kept.
+    #[inline(never)]
+    fn take_turn<'t, 'a: 'x>(
+        &mut self,
+        context: &Context<'t, 'a>,
+        named: Option<&'t Macro<'a>>,
+        list: &mut Cursor<'x>,
+        passed: &mut Passed<'x>,
+        call: &mut Option<Invocation<'t, 'x, 'a>>,
+    ) -> Result<bool, Memory>
+        requires named { option_copied named ≡ next_macro context.now.table.now (tokens_of list.old) }
+        requires no_fault { self.old.fault ≡ None }
+        requires no_call { call.old ≡ None }
+        requires list_known { AllKnown self.old.sets list.old }
+        requires passed_known { AllKnown self.old.sets passed.old }
+        ensures on { IfOk result (λ goes. MatchOption call.new
+            ((level : ℕ) → HasTaken context.now.table.now context.now.env.now level self.old.left (hidings self.old.sets list.old)
+            (hidings self.old.sets passed.old) goes self.new.fault self.new.left (hidings self.new.sets list.new) (hidings self.new.sets passed.new))
+            (λ c. HasCalled context.now.table.now context.now.env.now self.old.left (hidings self.old.sets list.old)
+            (hidings self.old.sets passed.old) (call_in self.new.sets c.head c.replaced.now c.arguments.items c.both list.new)
+            self.new.fault self.new.left (hidings self.new.sets passed.new))) }
+        ensures call_known { OnOk result (IfSome call.new (λ c. CallKnown self.new.sets c.head c.arguments.items c.both × AllKnown self.new.sets list.new)) }
+        ensures list_known { IfOk result (λ goes. goes ≡ true → AllKnown self.new.sets list.new) }
+        ensures passed_known { OnOk result (AllKnown self.new.sets passed.new) }
+        ensures keeps { Keeps self.old.sets self.new.sets }
+    {
+        let next = next_turn(
+            &mut self.supply,
+            context.table,
+            context.env,
+            self.left,
+            &mut self.sets,
+            named,
+            list,
+        )?;
+        let step = next.step;
+        match step {
+            Step::Done => Ok(false),
+            Step::Refused(found) => {
+                self.fault = Some(found);
+                Ok(false)
+            }
+            Step::Passes(head) => {
+                passed.push_single(head)?;
+                Ok(true)
+            }
+            Step::Failed(found) => {
+                self.left = less_one(self.left);
+                self.fault = Some(found);
+                Ok(false)
+            }
+            Step::Replaced => {
+                self.left = less_one(self.left);
+                Ok(true)
+            }
+            Step::Called(found) => {
+                self.left = less_one(self.left);
+                *call = Some(found);
+                Ok(true)
+            }
+        }
+    }
+
+    /// The expansion of an argument; or none where a fault was raised, 21 where it is too deep, which is kept.
+    #[cycle(expansion)]
+    fn expand_argument<'a: 'x>(
+        &mut self,
+        context: &Context<'_, 'a>,
+        head: &Hidden<'x>,
+        argument: &[Hidden<'x>],
+    ) -> Result<Option<Expansion<'x>>, Memory>
+        requires level { context.now.level ≤ 256 }
+        requires known { AllKnown self.old.sets argument.now }
+        requires no_fault { self.old.fault ≡ None }
+        ensures is { IfOk result (λ r. MatchOption r
+            (Raises self.new.fault (λ f. ExpandsArgument context.now.table.now context.now.env.now context.now.level head.now.token
+            self.old.left (hidings self.old.sets argument.now) self.new.left (Err f)))
+            (λ e. (self.new.fault ≡ None) × HasExpanded context.now.table.now context.now.env.now context.now.level head.now.token
+            self.old.left self.new.left self.old.sets self.new.sets argument.now e)) }
+        ensures known { IfOk result (λ r. IfSome r (λ e. AllKnown self.new.sets (held e))) }
+        ensures keeps { Keeps self.old.sets self.new.sets }
+    {
+        if context.level >= DEEPEST {
+            return raise_depth(head, &mut self.fault);
+        }
+        // Most arguments name no macro, and are what they are expanded to: saves 6 % of the instructions of Boost.Preprocessor's `seq.c`.
+        if all_pass(context.table, argument) {
+            return Ok(Some(Expansion::AsGiven));
+        }
+        let mut list = Cursor::of_clones(self.supply.alloc(), argument, self.sets.empty())?;
+        // An argument mostly comes to about as many tokens as it has.
+        let mut passed = Passed::with_room(self.supply.alloc(), argument.len())?;
+        let deeper = Context {
+            table: context.table,
+            env: context.env,
+            level: context.level + 1,
         };
-        if !goes? {
+        self.expand_list(&deeper, &mut list, &mut passed)?;
+        made(self.supply.alloc(), passed, &self.fault)
+    }
+
+    /// Makes `expanded` the expansions of the arguments that stand away from `#` and `##` in this list, which is the macro's, each by its
+    /// parameter; or keeps the fault that one raised.
+    #[cycle(expansion)]
+    fn expand_arguments<'a: 'x>(
+        &mut self,
+        context: &Context<'_, 'a>,
+        call: &Invocation<'_, 'x, 'a>,
+        pattern: &Pattern<'a>,
+        expanded: &mut Vec<Expansion<'x>>,
+    ) -> Result<(), Memory>
+        requires level { context.now.level ≤ 256 }
+        requires known { CallKnown self.old.sets call.now.head call.now.arguments.items call.now.both }
+        requires chains { listed pattern.now ≡ chains_of call.now.replaced.now }
+        requires none { expanded.old.items ≡ [] }
+        requires no_fault { self.old.fault ≡ None }
+        ensures is { OnOk result (MatchOption self.new.fault
+            ((behind : List Hidden) → ExpandsWanted context.now.table.now context.now.env.now context.now.level
+            (call_in self.old.sets call.now.head call.now.replaced.now call.now.arguments.items call.now.both behind) self.old.left self.new.left
+            (Ok (expanded_in self.new.sets call.now.arguments.items expanded.new.items)))
+            (λ f. (behind : List Hidden) → ExpandsWanted context.now.table.now context.now.env.now context.now.level
+            (call_in self.old.sets call.now.head call.now.replaced.now call.now.arguments.items call.now.both behind) self.old.left self.new.left
+            (Err f))) }
+        ensures known { OnOk result (self.new.fault ≡ None → ExpansionsKnown self.new.sets expanded.new.items) }
+        ensures keeps { Keeps self.old.sets self.new.sets }
+    {
+        let used = used_alone(self.supply.alloc(), call.replaced, pattern)?;
+        for (parameter, alone) in used.iter().enumerate() {
+            if !*alone {
+                put(expanded, Expansion::Unused)?;
+                continue;
+            }
+            let head = &call.head;
+            let tokens = argument_of(call.arguments.as_slice(), parameter);
+            match self.expand_argument(context, head, tokens)? {
+                Some(expansion) => put(expanded, expansion)?,
+                None => return Ok(()),
+            }
+        }
+        Ok(())
+    }
+
+    /// Replaces an invocation before the rest of its list, its arguments expanded first; or keeps the first fault.
+    #[cycle(expansion)]
+    fn follow<'a: 'x>(
+        &mut self,
+        context: &Context<'_, 'a>,
+        call: &Invocation<'_, 'x, 'a>,
+        list: &mut Cursor<'x>,
+    ) -> Result<(), Memory>
+        requires level { context.now.level ≤ 256 }
+        requires call_known { CallKnown self.old.sets call.now.head call.now.arguments.items call.now.both }
+        requires list_known { AllKnown self.old.sets list.old }
+        requires no_fault { self.old.fault ≡ None }
+        ensures is { OnOk result (ComesTo context.now.table.now context.now.env.now context.now.level
+            (call_in self.old.sets call.now.head call.now.replaced.now call.now.arguments.items call.now.both list.old) self.old.left self.new.left
+            (finished_in self.new.sets list.new self.new.fault)) }
+        ensures known { OnOk result (self.new.fault ≡ None → AllKnown self.new.sets list.new) }
+        ensures keeps { Keeps self.old.sets self.new.sets }
+    {
+        let pattern = call
+            .replaced
+            .pattern(self.supply.alloc(), context.table.hashing())?;
+        let mut expanded = Vec::with_capacity(self.supply.alloc(), parameters_of(call.replaced))?;
+        self.expand_arguments(context, call, &pattern, &mut expanded)?;
+        if self.fault.is_some() {
             return Ok(());
+        }
+        finish(
+            self.supply.alloc(),
+            &mut self.sets,
+            call,
+            &pattern,
+            expanded.as_slice(),
+            list,
+            &mut self.fault,
+        )
+    }
+
+    /// One turn, of a list whose next token names the macro `named`: what passes is put after `passed`, and the list becomes what is left
+    /// of it. Whether the list goes on; where a fault ended it, the fault is kept. `call` is room for an invocation.
+    #[cycle(expansion)]
+    fn advance<'t, 'a: 'x>(
+        &mut self,
+        context: &Context<'t, 'a>,
+        named: Option<&'t Macro<'a>>,
+        list: &mut Cursor<'x>,
+        passed: &mut Passed<'x>,
+        call: &mut Option<Invocation<'t, 'x, 'a>>,
+    ) -> Result<bool, Memory>
+        requires level { context.now.level ≤ 256 }
+        requires named { option_copied named ≡ next_macro context.now.table.now (tokens_of list.old) }
+        requires list_known { AllKnown self.old.sets list.old }
+        requires passed_known { AllKnown self.old.sets passed.old }
+        requires no_fault { self.old.fault ≡ None }
+        requires no_call { call.old ≡ None }
+        ensures on { IfOk result (λ goes.
+            HasTaken context.now.table.now context.now.env.now context.now.level self.old.left (hidings self.old.sets list.old)
+            (hidings self.old.sets passed.old) goes self.new.fault self.new.left (hidings self.new.sets list.new) (hidings self.new.sets passed.new)) }
+        ensures list_known { IfOk result (λ goes. goes ≡ true → AllKnown self.new.sets list.new) }
+        ensures passed_known { OnOk result (AllKnown self.new.sets passed.new) }
+        ensures keeps { Keeps self.old.sets self.new.sets }
+    {
+        let goes = self.take_turn(context, named, list, passed, call)?;
+        let Some(found) = &*call else {
+            return Ok(goes);
+        };
+        self.follow(context, found, list)?;
+        keep_arguments(&mut self.supply, call)?;
+        Ok(self.fault.is_none())
+    }
+
+    /// Expands a list: what passes is put after `passed`. Where a fault ended the list, it is kept.
+    #[cycle(expansion)]
+    fn expand_list<'a: 'x>(
+        &mut self,
+        context: &Context<'_, 'a>,
+        list: &mut Cursor<'x>,
+        passed: &mut Passed<'x>,
+    ) -> Result<(), Memory>
+        requires level { context.now.level ≤ 256 }
+        requires known { AllKnown self.old.sets list.old }
+        requires none { passed.old ≡ [] }
+        requires no_fault { self.old.fault ≡ None }
+        ensures outcome { OnOk result (ExpandsTo context.now.table.now context.now.env.now context.now.level self.old.left (hidings self.old.sets list.old)
+            (record { tokens = hidings self.new.sets passed.new; fault = self.new.fault; left = self.new.left })) }
+        ensures known { OnOk result (AllKnown self.new.sets passed.new) }
+        ensures keeps { Keeps self.old.sets self.new.sets }
+    {
+        loop {
+            // Saves 18 % of the instructions of `deps` on Redis.
+            let named = skip(context.table, list, passed)?;
+            // An invocation is done with when its turn is.
+            let goes = {
+                let mut call = None;
+                self.advance(context, named, list, passed, &mut call)
+            };
+            if !goes? {
+                return Ok(());
+            }
         }
     }
 }
@@ -433,36 +415,30 @@ pub struct Expanded<'a> {
     pub left: Option<u64>,
 }
 
-/// Expands tokens of a file, without names that are hidden at first: what passes is put behind `passed`, and `left` becomes what is left of
-/// the budget. Where a fault ended the list, `fault` becomes that.
+/// Expands tokens of a file, without names that are hidden at first: what passes is put after `passed`. What is left of the budget, and the
+/// fault that ended the list, if one did.
 fn expand_tokens<'x, 'a: 'x>(
     alloc: Global,
-    table: &Table<'a>,
-    env: &Env,
-    left: &mut Option<u64>,
+    context: &Context<'_, 'a>,
+    left: Option<u64>,
     tokens: &'x [Token],
     passed: &mut Passed<'x>,
-    fault: &mut Option<Fault>,
-) -> Result<(), Memory>
+) -> Result<(Option<u64>, Option<Fault>), Memory>
+    requires level { context.now.level ≡ 0 }
     requires none { passed.old ≡ [] }
-    requires no_fault { fault.old ≡ None }
-    ensures { OnOk result ((sets : Numbered) × ExpandsTo table.now env.now 0 left.old (map plain tokens.now)
-        (record { tokens = hidings sets passed.new; fault = fault.new; left = left.new })) }
+    ensures { IfOk result (λ r. (sets : Numbered) × ExpandsTo context.now.table.now context.now.env.now 0 left (map plain tokens.now)
+        (record { tokens = hidings sets passed.new; fault = r.1; left = r.0 })) }
 {
-    let mut sets = HideSets::with_hasher(alloc, table.hashing())?;
-    let mut supply = Supply::new(alloc);
+    let sets = HideSets::with_hasher(alloc, context.table.hashing())?;
     let mut list = Cursor::over(alloc, tokens, sets.empty());
-    expand_list(
-        &mut supply,
-        table,
-        env,
-        0,
+    let mut expander = Expander {
+        supply: Supply::new(alloc),
         left,
-        &mut sets,
-        &mut list,
-        passed,
-        fault,
-    )
+        sets,
+        fault: None,
+    };
+    expander.expand_list(context, &mut list, passed)?;
+    Ok((expander.left, expander.fault))
 }
 
 /// Expands a list of tokens of which the first are known to pass.
@@ -478,10 +454,13 @@ fn expand_rest<'x, 'a: 'x>(
     requires plain { AllByRecursion (λ t. is_plain table.now t ≡ true) front.now }
     ensures { IfOk result (λ e. IsExpansion table.now env.now left (front.now ++ rest.now) e) }
 {
+    let context = Context {
+        table,
+        env,
+        level: 0,
+    };
     let mut passed = Passed::with_room(alloc, ROOM)?;
-    let mut left = left;
-    let mut fault = None;
-    expand_tokens(alloc, table, env, &mut left, rest, &mut passed, &mut fault)?;
+    let (left, fault) = expand_tokens(alloc, &context, left, rest, &mut passed)?;
     passed.fit()?;
     Ok(Expanded {
         tokens: Run::new(front, passed),

@@ -8,11 +8,11 @@ use Rattle.ppexpand.proofs.expansion.expand_rest.Goals as goal
 
 pub returns : goal.returns
 returns c =
-    let t = c.in_ok-expand_tokens.ensures.0 in
+    let t = c.in_ok-left.ensures.0 in
     let passed = c.expand_tokens.new.passed in
-    let whole : Outcome = record { tokens = hidings t passed; fault = c.expand_tokens.new.fault; left = c.expand_tokens.new.left } in
+    let whole : Outcome = record { tokens = hidings t passed; fault = c.in_ok-left.fault; left = c.in_ok-left.left } in
     expansion-behind c.args.table.now c.args.env.now c.args.left (c.args.front.now ++ c.args.rest.now) c.args.front.now c.args.rest.now _ whole refl c.requires.plain
-    c.in_ok-expand_tokens.ensures.1
+    c.in_ok-left.ensures.1
     (c.new.ensures ∙ (λ i. c.args.front.now ++ tokens_of (c.in_ok-fit.ensures i)) ∙ (λ i. c.args.front.now ++ tokens-in t passed i))
     refl
     refl

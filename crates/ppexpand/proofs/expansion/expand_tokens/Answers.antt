@@ -1,5 +1,4 @@
 use Rattle.std.proofs.Common.{◌≡◌, ◌∙◌, sym, ap, subst, map}
-use Rattle.std.proofs.lemmas.Result.{on_ok_weaker}
 use Rattle.ppmacro.specs.HideSets.{hidings, AllKnown}
 use Rattle.ppmacro.specs.Substitution.{plain}
 use Rattle.ppexpand.specs.Expansion.{Outcome, ExpandsTo}
@@ -14,10 +13,9 @@ expand_list-requires-clause-known c =
 pub returns : goal.returns
 returns c =
     let s = c.in_ok-sets.sets in
-    let t = c.expand_list.new.sets in
+    let t = c.expand_list.new.self.sets in
     let rest = c.args.tokens.now in
-    let whole : Outcome = record { tokens = hidings t c.expand_list.new.passed; fault = c.expand_list.new.fault; left = c.expand_list.new.left } in
+    let context = c.args.context.now in
+    let whole : Outcome = record { tokens = hidings t c.expand_list.new.passed; fault = c.expand_list.new.self.fault; left = c.expand_list.new.self.left } in
     let start : hidings s c.over-list.result ≡ map plain rest = ap (hidings s) c.over-list.ensures ∙ hidings-with_set s c.empty.result rest c.empty.ensures.set in
-    on_ok_weaker c.expand_list.result
-    (λ to. (t, subst (λ l. ExpandsTo c.args.table.now c.args.env.now 0 c.args.left.now l whole) start to))
-    c.expand_list.ensures.outcome
+    (t, subst (λ l. ExpandsTo context.table.now context.env.now 0 c.args.left l whole) start (subst (λ n. ExpandsTo context.table.now context.env.now n c.args.left (hidings s c.over-list.result) whole) c.requires.level c.in_ok-expand_list.ensures.outcome))

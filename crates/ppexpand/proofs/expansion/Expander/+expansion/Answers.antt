@@ -16,12 +16,12 @@ use Rattle.ppexpand.proofs.Keeping.{call_of, call_of-keeps, call_known-keeps, gi
 use Rattle.ppexpand.proofs.ArgumentLemmas.{arguments_first, raised_some, raised_none, raised_not, argument_expands, argument_outcome, argument_known, argument-known, follows_unused, follows_used, follows_refused, follows_all, marked-alone}
 use Rattle.ppexpand.proofs.Skipping.{plain-expands, next-known, more-known, follows_skip, skip_falls}
 use Rattle.ppexpand.proofs.Follows.{more_follows, more_falls, end_follows, call_taken}
-use Rattle.ppexpand.proofs.expansion.+expansion.Goals as goal
+use Rattle.ppexpand.proofs.expansion.Expander.+expansion.Goals as goal
 
 -- ---- one turn
 
 pub advance-returns-in_default-clause-on : goal.advance-returns-in_default-clause-on
-advance-returns-in_default-clause-on m c = (rw c.in_default.is at c.in_ok-goes.ensures.on) c.args.level
+advance-returns-in_default-clause-on m c = (rw c.in_default.is at c.in_ok-goes.ensures.on) c.args.context.now.level
 
 pub advance-follow-requires : goal.advance-follow-requires
 advance-follow-requires m c =
@@ -33,13 +33,13 @@ advance-follow-requires m c =
 
 pub advance-returns-clause-on : goal.advance-returns-clause-on
 advance-returns-clause-on m c =
-    let s = c.take_turn.new.sets in
-    let t = c.follow.new.sets in
+    let s = c.take_turn.new.self.sets in
+    let t = c.follow.new.self.sets in
     let called = rw c.in-Some.is at c.in_ok-goes.ensures.on in
     let call = call_of s c.in-Some.found c.take_turn.new.list in
-    let invokes : ComesTo c.args.table.now c.args.env.now c.args.level call _ c.follow.new.left (finished_in t c.follow.new.list c.follow.new.fault) =
-    subst (λ l. ComesTo c.args.table.now c.args.env.now c.args.level call l c.follow.new.left (finished_in t c.follow.new.list c.follow.new.fault)) called.2 c.in_ok-follow.ensures.is in
-    call_taken c.args.table.now c.args.env.now c.args.level c.args.left.now (hidings c.args.sets.now c.args.list.now) call called.0 t c.follow.new.list _ _ c.follow.new.fault c.follow.new.left _ c.is_none.ensures
+    let invokes : ComesTo c.args.context.now.table.now c.args.context.now.env.now c.args.context.now.level call _ c.follow.new.self.left (finished_in t c.follow.new.list c.follow.new.self.fault) =
+    subst (λ l. ComesTo c.args.context.now.table.now c.args.context.now.env.now c.args.context.now.level call l c.follow.new.self.left (finished_in t c.follow.new.list c.follow.new.self.fault)) called.2 c.in_ok-follow.ensures.is in
+    call_taken c.args.context.now.table.now c.args.context.now.env.now c.args.context.now.level c.args.self.now.left (hidings c.args.self.now.sets c.args.list.now) call called.0 t c.follow.new.list _ _ c.follow.new.self.fault c.follow.new.self.left _ c.is_none.ensures
     (hidings-keeps _ c.in_ok-follow.ensures.keeps c.in_ok-goes.ensures.passed_known ∙ called.3)
     invokes
 
@@ -47,48 +47,48 @@ pub advance-returns-clause-passed_known : goal.advance-returns-clause-passed_kno
 advance-returns-clause-passed_known m c = known-keeps _ c.in_ok-follow.ensures.keeps c.in_ok-goes.ensures.passed_known
 
 pub advance-returns-clause-list_known : goal.advance-returns-clause-list_known
-advance-returns-clause-list_known m c = λ goes. c.in_ok-follow.ensures.known (raised_none c.follow.new.fault (rw goes at c.is_none.ensures))
+advance-returns-clause-list_known m c = λ goes. c.in_ok-follow.ensures.known (raised_none c.follow.new.self.fault (rw goes at c.is_none.ensures))
 
 -- ---- an invocation
 
 pub follow-returns-then-is_some-clause-is : goal.follow-returns-then-is_some-clause-is
 follow-returns-then-is_some-clause-is m c =
-    let raised = raised_some c.expand_arguments.new.fault (sym c.is_some.ensures ∙ c.if-is_some.true) in
+    let raised = raised_some c.expand_arguments.new.self.fault (sym c.is_some.ensures ∙ c.if-is_some.true) in
     rw raised.1 (refuses {f = raised.0} ((rw raised.1 at c.in_ok-expand_arguments.ensures.is) c.args.list.now))
 
 pub follow-returns-then-is_some-clause-known : goal.follow-returns-then-is_some-clause-known
 follow-returns-then-is_some-clause-known m c =
-    let raised = raised_some c.expand_arguments.new.fault (sym c.is_some.ensures ∙ c.if-is_some.true) in
-    raised_not c.expand_arguments.new.fault raised.0 raised.1
+    let raised = raised_some c.expand_arguments.new.self.fault (sym c.is_some.ensures ∙ c.if-is_some.true) in
+    raised_not c.expand_arguments.new.self.fault raised.0 raised.1
 
 pub follow-finish-requires-clause-call : goal.follow-finish-requires-clause-call
 follow-finish-requires-clause-call m c = call_known-keeps c.args.call.now c.in_ok-expand_arguments.ensures.keeps c.requires.call_known
 
 pub follow-finish-requires-clause-expanded : goal.follow-finish-requires-clause-expanded
 follow-finish-requires-clause-expanded m c =
-    subst (ExpansionsKnown c.expand_arguments.new.sets) (sym c.as_slice.ensures.value)
-    (c.in_ok-expand_arguments.ensures.known (raised_none c.expand_arguments.new.fault (sym c.is_some.ensures ∙ c.if-is_some.false)))
+    subst (ExpansionsKnown c.expand_arguments.new.self.sets) (sym c.as_slice.ensures.value)
+    (c.in_ok-expand_arguments.ensures.known (raised_none c.expand_arguments.new.self.fault (sym c.is_some.ensures ∙ c.if-is_some.false)))
 
 pub follow-finish-requires-clause-list : goal.follow-finish-requires-clause-list
 follow-finish-requires-clause-list m c = known-keeps c.args.list.now c.in_ok-expand_arguments.ensures.keeps c.requires.list_known
 
 pub follow-finish-requires-clause-no_fault : goal.follow-finish-requires-clause-no_fault
-follow-finish-requires-clause-no_fault m c = raised_none c.expand_arguments.new.fault (sym c.is_some.ensures ∙ c.if-is_some.false)
+follow-finish-requires-clause-no_fault m c = raised_none c.expand_arguments.new.self.fault (sym c.is_some.ensures ∙ c.if-is_some.false)
 
 pub follow-returns-clause-is : goal.follow-returns-clause-is
 follow-returns-clause-is m c =
-    let s = c.args.sets.now in
+    let s = c.args.self.now.sets in
     let list = c.args.list.now in
-    let u = c.expand_arguments.new.sets in
+    let u = c.expand_arguments.new.self.sets in
     let v = c.finish.new.sets in
     let made = c.expand_arguments.new.expanded.items in
     let call = call_of s c.args.call.now list in
-    let none = raised_none c.expand_arguments.new.fault (sym c.is_some.ensures ∙ c.if-is_some.false) in
-    let args : ExpandsArguments c.args.table.now c.args.env.now c.args.level call c.args.left.now (wanted call) c.expand_arguments.new.left (Ok (expanded_in u c.args.call.now.arguments.items made)) =
+    let none = raised_none c.expand_arguments.new.self.fault (sym c.is_some.ensures ∙ c.if-is_some.false) in
+    let args : ExpandsArguments c.args.context.now.table.now c.args.context.now.env.now c.args.context.now.level call c.args.self.now.left (wanted call) c.expand_arguments.new.self.left (Ok (expanded_in u c.args.call.now.arguments.items made)) =
     (rw none at c.in_ok-expand_arguments.ensures.is) list in
     let same = call_of-keeps c.args.call.now list c.in_ok-expand_arguments.ensures.keeps c.requires.call_known c.requires.list_known in
     on_ok_weaker c.finish.result
-    (λ e. subst (ComesTo c.args.table.now c.args.env.now c.args.level call c.args.left.now c.expand_arguments.new.left)
+    (λ e. subst (ComesTo c.args.context.now.table.now c.args.context.now.env.now c.args.context.now.level call c.args.self.now.left c.expand_arguments.new.self.left)
     (sym (e ∙ (λ i. finished (same i) (expanded_in u c.args.call.now.arguments.items (c.as_slice.ensures.value i)))))
     (finishes args))
     c.finish.ensures.is
@@ -98,44 +98,44 @@ follow-returns-clause-keeps m c = keeps-after c.in_ok-expand_arguments.ensures.k
 
 -- ---- an argument
 
-pub expand_argument-returns-then-level-ge-DEEPEST-clause-is : goal.expand_argument-returns-then-level-ge-DEEPEST-clause-is
-expand_argument-returns-then-level-ge-DEEPEST-clause-is m c =
-    IfOk-weaker c.raise_depth.result _ _ (λ r raised. rw raised.0 (_, raised.1, deep (omega (arith, c.if-level-ge-DEEPEST.true)))) c.raise_depth.ensures
+pub expand_argument-returns-then-context-ge-DEEPEST-clause-is : goal.expand_argument-returns-then-context-ge-DEEPEST-clause-is
+expand_argument-returns-then-context-ge-DEEPEST-clause-is m c =
+    IfOk-weaker c.raise_depth.result _ _ (λ r raised. rw raised.0 (_, raised.1, deep (omega (arith, c.if-context-ge-DEEPEST.true)))) c.raise_depth.ensures
 
-pub expand_argument-returns-then-level-ge-DEEPEST-clause-known : goal.expand_argument-returns-then-level-ge-DEEPEST-clause-known
-expand_argument-returns-then-level-ge-DEEPEST-clause-known m c = IfOk-weaker c.raise_depth.result _ _ (λ r raised. rw raised.0 tt) c.raise_depth.ensures
+pub expand_argument-returns-then-context-ge-DEEPEST-clause-known : goal.expand_argument-returns-then-context-ge-DEEPEST-clause-known
+expand_argument-returns-then-context-ge-DEEPEST-clause-known m c = IfOk-weaker c.raise_depth.result _ _ (λ r raised. rw raised.0 tt) c.raise_depth.ensures
 
 pub expand_argument-returns-then-all_pass-clause-is : goal.expand_argument-returns-then-all_pass-clause-is
 expand_argument-returns-then-all_pass-clause-is m c =
-    let s = c.args.sets.now in
+    let s = c.args.self.now.sets in
     let list = c.args.argument.now in (
       c.requires.no_fault,
       (
         hidings s list,
         refl,
-        argument_expands c.args.table.now c.args.env.now c.args.level c.args.head.now.token c.args.left.now c.args.left.now (hidings s list) (hidings s list) None
-            (omega (arith, c.if-level-ge-DEEPEST.false)) refl (plain-expands c.args.table.now c.args.env.now (c.args.level + 1) c.args.left.now s list (c.all_pass.ensures c.if-all_pass.true)),
+        argument_expands c.args.context.now.table.now c.args.context.now.env.now c.args.context.now.level c.args.head.now.token c.args.self.now.left c.args.self.now.left (hidings s list) (hidings s list) None
+            (omega (arith, c.if-context-ge-DEEPEST.false)) refl (plain-expands c.args.context.now.table.now c.args.context.now.env.now (c.args.context.now.level + 1) c.args.self.now.left s list (c.all_pass.ensures c.if-all_pass.true)),
       ),
     )
 
 pub expand_argument-expand_list-requires : goal.expand_argument-expand_list-requires
 expand_argument-expand_list-requires m c = (
-  omega (arith, c.if-level-ge-DEEPEST.false),
-  (omega (arith, c.if-level-ge-DEEPEST.false), (subst (AllKnown c.args.sets.now) (sym c.in_ok-list.ensures) c.requires.known, (c.in_ok-passed.ensures, c.requires.no_fault))),
+  omega (arith, c.if-context-ge-DEEPEST.false),
+  (omega (arith, c.if-context-ge-DEEPEST.false), (subst (AllKnown c.args.self.now.sets) (sym c.in_ok-list.ensures) c.requires.known, (c.in_ok-passed.ensures, c.requires.no_fault))),
 )
 
 pub expand_argument-returns-clause-is : goal.expand_argument-returns-clause-is
 expand_argument-returns-clause-is m c =
     IfOk-weaker c.made.result _ _
-    (argument_outcome c.args.table.now c.args.env.now c.args.level c.args.head.now.token c.args.left.now c.expand_list.new.left c.args.sets.now c.expand_list.new.sets
-    c.args.argument.now c.in_ok-list.list c.expand_list.new.passed c.expand_list.new.fault (omega (arith, c.if-level-ge-DEEPEST.false)) c.in_ok-list.ensures c.in_ok-expand_list.ensures.outcome)
+    (argument_outcome c.args.context.now.table.now c.args.context.now.env.now c.args.context.now.level c.args.head.now.token c.args.self.now.left c.expand_list.new.self.left c.args.self.now.sets c.expand_list.new.self.sets
+    c.args.argument.now c.in_ok-list.list c.expand_list.new.passed c.expand_list.new.self.fault (omega (arith, c.if-context-ge-DEEPEST.false)) c.in_ok-list.ensures c.in_ok-expand_list.ensures.outcome)
     c.made.ensures
 
 pub expand_argument-returns-clause-known : goal.expand_argument-returns-clause-known
 expand_argument-returns-clause-known m c =
     IfOk-weaker c.made.result _ _
-    (argument_known c.args.table.now c.args.env.now c.args.level c.args.head.now.token c.args.left.now c.expand_list.new.left c.args.sets.now c.expand_list.new.sets
-    c.args.argument.now c.in_ok-list.list c.expand_list.new.passed c.expand_list.new.fault c.in_ok-expand_list.ensures.known)
+    (argument_known c.args.context.now.table.now c.args.context.now.env.now c.args.context.now.level c.args.head.now.token c.args.self.now.left c.expand_list.new.self.left c.args.self.now.sets c.expand_list.new.self.sets
+    c.args.argument.now c.in_ok-list.list c.expand_list.new.passed c.expand_list.new.self.fault c.in_ok-expand_list.ensures.known)
     c.made.ensures
 
 pub expand_arguments-loop-parameter-init : goal.expand_arguments-loop-parameter-init
@@ -144,14 +144,14 @@ expand_arguments-loop-parameter-init m c = record {
   count = ap length c.requires.none;
   no_fault = c.requires.no_fault;
   known = rw c.requires.none (record { each = tt });
-  keeps = keeps-all c.args.sets.now;
-  follows = λ behind. rw c.requires.none (arguments_first c.args.table.now c.args.env.now c.args.level (call_of c.args.sets.now c.args.call.now behind) c.args.left.now);
+  keeps = keeps-all c.args.self.now.sets;
+  follows = λ behind. rw c.requires.none (arguments_first c.args.context.now.table.now c.args.context.now.env.now c.args.context.now.level (call_of c.args.self.now.sets c.args.call.now behind) c.args.self.now.left);
 }
 
 pub expand_arguments-loop-parameter-preserved-then-not-alone : goal.expand_arguments-loop-parameter-preserved-then-not-alone
 expand_arguments-loop-parameter-preserved-then-not-alone m c =
-    let s = c.args.sets.now in
-    let u = c.loop-parameter.sets in
+    let s = c.args.self.now.sets in
+    let u = c.loop-parameter.self.sets in
     let i = c.loop-parameter.parameter in
     let vs = c.args.call.now.arguments.items in
     let cs = chains_of c.args.call.now.replaced.now in
@@ -169,13 +169,13 @@ expand_arguments-loop-parameter-preserved-then-not-alone m c =
       keeps = c.loop-parameter.invariant.keeps;
       follows = λ behind.
           (let call = call_of s c.args.call.now behind in
-          follows_unused c.args.table.now c.args.env.now c.args.level c.args.left.now c.loop-parameter.left c.loop-parameter.left s u u vs cs names i done c.put.new.items.items call (wanted call)
+          follows_unused c.args.context.now.table.now c.args.context.now.env.now c.args.context.now.level c.args.self.now.left c.loop-parameter.self.left c.loop-parameter.self.left s u u vs cs names i done c.put.new.items.items call (wanted call)
           less c.loop-parameter.invariant.count unused made (c.loop-parameter.invariant.follows behind));
     }
 
 pub expand_arguments-expand_argument-requires : goal.expand_arguments-expand_argument-requires
 expand_arguments-expand_argument-requires m c =
-    let u = c.loop-parameter.sets in
+    let u = c.loop-parameter.self.sets in
     let i = c.loop-parameter.parameter in
     let vs = c.args.call.now.arguments.items in
     let tokens_are : c.argument_of-tokens.result.now ≡ argument_at (lists_of vs) i = c.argument_of-tokens.ensures ∙ ap (λ gs. argument_at (lists_of gs) i) c.as_slice.ensures.value in
@@ -186,8 +186,8 @@ expand_arguments-expand_argument-requires m c =
 
 pub expand_arguments-returns-in-None-clause-is : goal.expand_arguments-returns-in-None-clause-is
 expand_arguments-returns-in-None-clause-is m c =
-    let s = c.args.sets.now in
-    let u = c.loop-parameter.sets in
+    let s = c.args.self.now.sets in
+    let u = c.loop-parameter.self.sets in
     let i = c.loop-parameter.parameter in
     let vs = c.args.call.now.arguments.items in
     let cs = chains_of c.args.call.now.replaced.now in
@@ -200,22 +200,22 @@ expand_arguments-returns-in-None-clause-is m c =
     let argument : hidings u c.argument_of-tokens.result.now ≡ hidings s (argument_at (lists_of vs) i) =
     ap (hidings u) tokens_are ∙ hidings-keeps (argument_at (lists_of vs) i) c.loop-parameter.invariant.keeps (argument-known s vs i c.requires.known.arguments) in
     let raised = rw c.in-None.is at c.in_ok-expansion.ensures.is in
-    let one : ExpandsArgument c.args.table.now c.args.env.now c.args.level c.args.call.now.head.token c.loop-parameter.left (hidings s (argument_at (lists_of vs) i)) c.expand_argument.new.left (Err raised.0) =
-    subst (λ l. ExpandsArgument c.args.table.now c.args.env.now c.args.level c.args.call.now.head.token c.loop-parameter.left l c.expand_argument.new.left (Err raised.0)) argument raised.2 in
+    let one : ExpandsArgument c.args.context.now.table.now c.args.context.now.env.now c.args.context.now.level c.args.call.now.head.token c.loop-parameter.self.left (hidings s (argument_at (lists_of vs) i)) c.expand_argument.new.self.left (Err raised.0) =
+    subst (λ l. ExpandsArgument c.args.context.now.table.now c.args.context.now.env.now c.args.context.now.level c.args.call.now.head.token c.loop-parameter.self.left l c.expand_argument.new.self.left (Err raised.0)) argument raised.2 in
     rw raised.1 (λ behind.
     let call = call_of s c.args.call.now behind in
-    follows_refused c.args.table.now c.args.env.now c.args.level c.args.left.now c.loop-parameter.left c.expand_argument.new.left s u u vs cs names i done done call (wanted call)
+    follows_refused c.args.context.now.table.now c.args.context.now.env.now c.args.context.now.level c.args.self.now.left c.loop-parameter.self.left c.expand_argument.new.self.left s u u vs cs names i done done call (wanted call)
     raised.0 less is_used one (c.loop-parameter.invariant.follows behind))
 
 pub expand_arguments-returns-in-None-clause-known : goal.expand_arguments-returns-in-None-clause-known
 expand_arguments-returns-in-None-clause-known m c =
     let raised = rw c.in-None.is at c.in_ok-expansion.ensures.is in
-    raised_not c.expand_argument.new.fault raised.0 raised.1
+    raised_not c.expand_argument.new.self.fault raised.0 raised.1
 
 pub expand_arguments-loop-parameter-preserved : goal.expand_arguments-loop-parameter-preserved
 expand_arguments-loop-parameter-preserved m c =
-    let s = c.args.sets.now in
-    let u = c.loop-parameter.sets in
+    let s = c.args.self.now.sets in
+    let u = c.loop-parameter.self.sets in
     let i = c.loop-parameter.parameter in
     let vs = c.args.call.now.arguments.items in
     let cs = chains_of c.args.call.now.replaced.now in
@@ -225,15 +225,15 @@ expand_arguments-loop-parameter-preserved m c =
     let is_used : uses_alone i cs ≡ true = marked-alone c.in_ok-used.used.items c.deref-alone-items.result.now (length names) i (listed c.args.pattern.now) cs true
     c.deref-alone-items.ensures.value c.requires.chains c.in_ok-used.ensures.used less c.if-not-alone.false in
     let tokens_are : c.argument_of-tokens.result.now ≡ argument_at (lists_of vs) i = c.argument_of-tokens.ensures ∙ ap (λ gs. argument_at (lists_of gs) i) c.as_slice.ensures.value in
-    let w = c.expand_argument.new.sets in
+    let w = c.expand_argument.new.self.sets in
     let keeps = c.in_ok-expansion.ensures.keeps in
     let argument : hidings u c.argument_of-tokens.result.now ≡ hidings s (argument_at (lists_of vs) i) =
     ap (hidings u) tokens_are ∙ hidings-keeps (argument_at (lists_of vs) i) c.loop-parameter.invariant.keeps (argument-known s vs i c.requires.known.arguments) in
     let made_is = rw c.in-Some.is at c.in_ok-expansion.ensures.is in
     let e = c.in-Some.expansion in
     let tokens = made_is.1.0 in
-    let one : ExpandsArgument c.args.table.now c.args.env.now c.args.level c.args.call.now.head.token c.loop-parameter.left (hidings s (argument_at (lists_of vs) i)) c.expand_argument.new.left (Ok tokens) =
-    subst (λ l. ExpandsArgument c.args.table.now c.args.env.now c.args.level c.args.call.now.head.token c.loop-parameter.left l c.expand_argument.new.left (Ok tokens)) argument made_is.1.2 in
+    let one : ExpandsArgument c.args.context.now.table.now c.args.context.now.env.now c.args.context.now.level c.args.call.now.head.token c.loop-parameter.self.left (hidings s (argument_at (lists_of vs) i)) c.expand_argument.new.self.left (Ok tokens) =
+    subst (λ l. ExpandsArgument c.args.context.now.table.now c.args.context.now.env.now c.args.context.now.level c.args.call.now.head.token c.loop-parameter.self.left l c.expand_argument.new.self.left (Ok tokens)) argument made_is.1.2 in
     let here_is : option_map (hidings w) (option_of (argument_at (lists_of vs) i) e) ≡ Some tokens =
     subst (λ g. option_map (hidings w) (option_of g e) ≡ Some tokens) tokens_are made_is.1.1 in
     let tokens_known : AllKnown w (held e) = rw c.in-Some.is at c.in_ok-expansion.ensures.known in
@@ -247,14 +247,14 @@ expand_arguments-loop-parameter-preserved m c =
       keeps = keeps-after c.loop-parameter.invariant.keeps keeps;
       follows = λ behind.
           (let call = call_of s c.args.call.now behind in
-          follows_used c.args.table.now c.args.env.now c.args.level c.args.left.now c.loop-parameter.left c.expand_argument.new.left s u w vs cs names i done c.put-in-Some.new.items.items call (wanted call)
+          follows_used c.args.context.now.table.now c.args.context.now.env.now c.args.context.now.level c.args.self.now.left c.loop-parameter.self.left c.expand_argument.new.self.left s u w vs cs names i done c.put-in-Some.new.items.items call (wanted call)
           e tokens less c.loop-parameter.invariant.count is_used made keeps given_known c.loop-parameter.invariant.known here_is one (c.loop-parameter.invariant.follows behind));
     }
 
 pub expand_arguments-returns-clause-is : goal.expand_arguments-returns-clause-is
 expand_arguments-returns-clause-is m c =
-    let s = c.args.sets.now in
-    let u = c.loop-parameter.sets in
+    let s = c.args.self.now.sets in
+    let u = c.loop-parameter.self.sets in
     let i = c.loop-parameter.parameter in
     let vs = c.args.call.now.arguments.items in
     let names = names_in c.args.call.now.replaced.now.shape in
@@ -263,7 +263,7 @@ expand_arguments-returns-clause-is m c =
     subst (λ n. n ≤ i) (ap length c.deref-alone-items.ensures.value ∙ c.in_ok-used.ensures.len) (omega (arith, c.loop-parameter-test.false)) in
     rw c.loop-parameter.invariant.no_fault (λ behind.
     let call = call_of s c.args.call.now behind in
-    follows_all c.args.table.now c.args.env.now c.args.level c.args.left.now c.loop-parameter.left s u vs (chains_of c.args.call.now.replaced.now) names
+    follows_all c.args.context.now.table.now c.args.context.now.env.now c.args.context.now.level c.args.self.now.left c.loop-parameter.self.left s u vs (chains_of c.args.call.now.replaced.now) names
     i done call (wanted call) end (c.loop-parameter.invariant.follows behind))
 
 pub expand_arguments-returns-clause-known : goal.expand_arguments-returns-clause-known
@@ -277,13 +277,13 @@ expand_list-loop-named-init m c = record {
   list_known = c.requires.known;
   passed_known = rw c.requires.none (record { each = tt });
   no_fault = c.requires.no_fault;
-  keeps = keeps-all c.args.sets.now;
+  keeps = keeps-all c.args.self.now.sets;
   follows = λ n out d. rw c.requires.none (n, d);
 }
 
 pub expand_list-advance-goes-requires : goal.expand_list-advance-goes-requires
 expand_list-advance-goes-requires m c =
-    let sets = c.loop-named.sets in
+    let sets = c.loop-named.self.sets in
     let skipped = c.in_ok-named.ensures.skipped in
     let list_known = next-known sets _ _ _ _ skipped c.loop-named.invariant.list_known in
     let passed_known = more-known sets _ _ _ _ skipped c.loop-named.invariant.list_known c.loop-named.invariant.passed_known in (
@@ -293,38 +293,38 @@ expand_list-advance-goes-requires m c =
 
 pub expand_list-returns-then-not-branch-clause-outcome : goal.expand_list-returns-then-not-branch-clause-outcome
 expand_list-returns-then-not-branch-clause-outcome m c =
-    let sets = c.loop-named.sets in
-    let start = hidings c.args.sets.now c.args.list.now in
+    let sets = c.loop-named.self.sets in
+    let start = hidings c.args.self.now.sets c.args.list.now in
     let list = c.skip.new.list in
     let passed = c.skip.new.passed in
-    let here = follows_skip c.args.table.now c.args.env.now c.args.level c.loop-named.left sets c.args.left.now start c.loop-named.list c.loop-named.passed list passed c.in_ok-named.ensures.skipped c.loop-named.invariant.follows in
-    end_follows c.args.table.now c.args.env.now c.args.level c.args.left.now start (hidings sets passed) c.loop-named.left (hidings sets list) c.advance-goes.new.fault c.advance-goes.new.left
-    (hidings c.advance-goes.new.sets c.advance-goes.new.passed) here (rw c.if-not-branch.true at c.in_ok-goes.ensures.on)
+    let here = follows_skip c.args.context.now.table.now c.args.context.now.env.now c.args.context.now.level c.loop-named.self.left sets c.args.self.now.left start c.loop-named.list c.loop-named.passed list passed c.in_ok-named.ensures.skipped c.loop-named.invariant.follows in
+    end_follows c.args.context.now.table.now c.args.context.now.env.now c.args.context.now.level c.args.self.now.left start (hidings sets passed) c.loop-named.self.left (hidings sets list) c.advance-goes.new.self.fault c.advance-goes.new.self.left
+    (hidings c.advance-goes.new.self.sets c.advance-goes.new.passed) here (rw c.if-not-branch.true at c.in_ok-goes.ensures.on)
 
 pub expand_list-loop-named-preserved : goal.expand_list-loop-named-preserved
 expand_list-loop-named-preserved m c =
-    let sets = c.loop-named.sets in
-    let start = hidings c.args.sets.now c.args.list.now in
+    let sets = c.loop-named.self.sets in
+    let start = hidings c.args.self.now.sets c.args.list.now in
     let list = c.skip.new.list in
     let passed = c.skip.new.passed in
     let taken = rw c.if-not-branch.false at c.in_ok-goes.ensures.on in
-    let here = follows_skip c.args.table.now c.args.env.now c.args.level c.loop-named.left sets c.args.left.now start c.loop-named.list c.loop-named.passed list passed c.in_ok-named.ensures.skipped c.loop-named.invariant.follows in
+    let here = follows_skip c.args.context.now.table.now c.args.context.now.env.now c.args.context.now.level c.loop-named.self.left sets c.args.self.now.left start c.loop-named.list c.loop-named.passed list passed c.in_ok-named.ensures.skipped c.loop-named.invariant.follows in
     record {
       low = c.loop-named.invariant.low;
       list_known = c.in_ok-goes.ensures.list_known c.if-not-branch.false;
       passed_known = c.in_ok-goes.ensures.passed_known;
       no_fault = taken.0;
       keeps = keeps-after c.loop-named.invariant.keeps c.in_ok-goes.ensures.keeps;
-      follows = more_follows c.args.table.now c.args.env.now c.args.level c.args.left.now start (hidings sets passed) c.loop-named.left (hidings sets list) c.advance-goes.new.left
-          (hidings c.advance-goes.new.sets c.advance-goes.new.list) (hidings c.advance-goes.new.sets c.advance-goes.new.passed) here taken.1;
+      follows = more_follows c.args.context.now.table.now c.args.context.now.env.now c.args.context.now.level c.args.self.now.left start (hidings sets passed) c.loop-named.self.left (hidings sets list) c.advance-goes.new.self.left
+          (hidings c.advance-goes.new.self.sets c.advance-goes.new.list) (hidings c.advance-goes.new.self.sets c.advance-goes.new.passed) here taken.1;
     }
 
 pub expand_list-loop-named-smaller : goal.expand_list-loop-named-smaller
 expand_list-loop-named-smaller m c =
-    let sets = c.loop-named.sets in
+    let sets = c.loop-named.self.sets in
     let list = c.skip.new.list in
     let passed = c.skip.new.passed in
-    let after = more_falls c.args.table.now c.args.env.now c.args.level c.loop-named.left (hidings sets list) (hidings sets passed) c.advance-goes.new.left
-    (hidings c.advance-goes.new.sets c.advance-goes.new.list) (hidings c.advance-goes.new.sets c.advance-goes.new.passed) (rw c.if-not-branch.false at c.in_ok-goes.ensures.on).1 in
-    let skipped = skip_falls c.args.table.now c.args.env.now c.args.level c.loop-named.left sets c.loop-named.list c.loop-named.passed list passed c.in_ok-named.ensures.skipped in
+    let after = more_falls c.args.context.now.table.now c.args.context.now.env.now c.args.context.now.level c.loop-named.self.left (hidings sets list) (hidings sets passed) c.advance-goes.new.self.left
+    (hidings c.advance-goes.new.self.sets c.advance-goes.new.list) (hidings c.advance-goes.new.self.sets c.advance-goes.new.passed) (rw c.if-not-branch.false at c.in_ok-goes.ensures.on).1 in
+    let skipped = skip_falls c.args.context.now.table.now c.args.context.now.env.now c.args.context.now.level c.loop-named.self.left sets c.loop-named.list c.loop-named.passed list passed c.in_ok-named.ensures.skipped in
     omega (arith, after, skipped)

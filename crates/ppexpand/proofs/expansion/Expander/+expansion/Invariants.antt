@@ -1,0 +1,51 @@
+use Rattle.std.proofs.Common.{◌≡◌, None, ◌≤◌, ◌-◌, ◌+◌, ◌*◌, List, drop, length}
+use Rattle.ppmacro.specs.HideSets.{hidings, AllKnown, Keeps}
+use Rattle.ppmacro.specs.Chains.{names_in, chains_of}
+use Rattle.ppmacro.specs.declared.flying.Hidden.{Hidden}
+use Rattle.ppexpand.specs.Turn.{wanted, to_expand}
+use Rattle.ppexpand.specs.Shown.{given_in, expanded_in, ExpansionsKnown}
+use Rattle.ppexpand.proofs.Keeping.{call_of}
+use Rattle.ppexpand.proofs.Follows.{Follows, ArgumentsFollow, turns_left}
+use Rattle.ppexpand.proofs.expansion.Expander.+expansion.Given as goal
+
+-- levels left, and then the order in which the five call one another
+abbrev pub decreases-expand_list : goal.decreases-expand_list
+decreases-expand_list l = 5 * (257 - l.context.now.level) + 4
+
+abbrev pub decreases-advance : goal.decreases-advance
+decreases-advance l = 5 * (257 - l.context.now.level) + 3
+
+abbrev pub decreases-follow : goal.decreases-follow
+decreases-follow l = 5 * (257 - l.context.now.level) + 2
+
+abbrev pub decreases-expand_arguments : goal.decreases-expand_arguments
+decreases-expand_arguments l = 5 * (257 - l.context.now.level) + 1
+
+abbrev pub decreases-expand_argument : goal.decreases-expand_argument
+decreases-expand_argument l = 5 * (257 - l.context.now.level)
+
+abbrev pub invariant-expand_list-loop-named : goal.invariant-expand_list-loop-named
+invariant-expand_list-loop-named l = record {
+  low : l.context.level ≤ 256;
+  list_known : AllKnown l.self.sets l.list;
+  passed_known : AllKnown l.self.sets l.passed;
+  no_fault : l.self.fault ≡ None;
+  keeps : Keeps l.fn.self.sets l.self.sets;
+  follows : Follows l.context.table.now l.context.env.now l.context.level l.fn.self.left (hidings l.fn.self.sets l.fn.list) (hidings l.self.sets l.passed) l.self.left (hidings l.self.sets l.list);
+}
+
+abbrev pub decreases-expand_list-loop-named : goal.decreases-expand_list-loop-named
+decreases-expand_list-loop-named l = turns_left l.context.table.now l.context.env.now l.context.level l.self.left (hidings l.self.sets l.list)
+
+abbrev pub invariant-expand_arguments-loop-parameter : goal.invariant-expand_arguments-loop-parameter
+invariant-expand_arguments-loop-parameter l = record {
+  low : l.context.level ≤ 256;
+  known : ExpansionsKnown l.self.sets l.expanded.items;
+  count : length l.expanded.items ≡ l.parameter;
+  no_fault : l.self.fault ≡ None;
+  keeps : Keeps l.fn.self.sets l.self.sets;
+  follows : (behind : List Hidden)
+      → ArgumentsFollow l.context.table.now l.context.env.now l.context.level (call_of l.fn.self.sets l.call behind) l.fn.self.left (wanted (call_of l.fn.self.sets l.call behind))
+      (expanded_in l.self.sets l.call.arguments.items l.expanded.items) l.self.left
+      (to_expand l.parameter (chains_of l.call.replaced.now) (drop l.parameter (names_in l.call.replaced.now.shape)) (given_in l.fn.self.sets l.call.arguments.items));
+}
