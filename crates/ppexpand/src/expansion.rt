@@ -17,6 +17,7 @@ ghost use Rattle.ppexpand.specs.Shown.{expanded_in, ExpansionsKnown, call_in, Ca
 ghost use Rattle.ppexpand.specs.Shown.{ExpandsWanted, ComesTo, HasTaken, HasCalled};
 
 use crate::alone::{parameters_of, used_alone};
+use crate::context::Context;
 use crate::cursor::{Ahead, Cursor};
 use crate::env::Env;
 use crate::lists::put;
@@ -25,7 +26,7 @@ use crate::spellings::at_use;
 use crate::spending::less_one;
 use crate::stretch::{is_plain, split_plain};
 use crate::supply::Supply;
-use crate::turn::{Invocation, Step, finish, next_turn};
+use crate::turn::{Invocation, Replacer, Step};
 use ppmacro::{Expansion, Hidden, HideSets, Macro, Pattern, Table};
 use pptext::{Fault, Memory, Token};
 use std::alloc::{AllocError, Global};
@@ -139,22 +140,12 @@ fn argument_of<'c, 'x>(arguments: &'c [Vec<Hidden<'x>>], parameter: usize) -> &'
     tokens.as_slice()
 }
 
-/// What the expansion of a list reads.
-#[derive(Drop)]
-struct Context<'t, 'a> {
-    table: &'t Table<'a>,
-    env: &'t Env,
-    /// How many arguments the list is inside of.
-    level: u32,
-}
-
 /// What the expansion of lists changes, at every level.
 #[derive(Drop)]
 struct Expander<'x> {
-    supply: Supply<'x>,
+    replacer: Replacer<'x>,
     /// What is left of the budget.
     left: Option<u64>,
-    sets: HideSets,
     /// The fault that ended a list, if one did.
     fault: Option<Fault>,
 }
@@ -175,28 +166,20 @@ impl<'x> Expander<'x> {
         requires named { option_copied named ≡ next_macro context.now.table.now (tokens_of list.old) }
         requires no_fault { self.old.fault ≡ None }
         requires no_call { call.old ≡ None }
-        requires list_known { AllKnown self.old.sets list.old }
-        requires passed_known { AllKnown self.old.sets passed.old }
+        requires list_known { AllKnown self.old.replacer.sets list.old }
+        requires passed_known { AllKnown self.old.replacer.sets passed.old }
         ensures on { IfOk result (λ goes. MatchOption call.new
-            ((level : ℕ) → HasTaken context.now.table.now context.now.env.now level self.old.left (hidings self.old.sets list.old)
-            (hidings self.old.sets passed.old) goes self.new.fault self.new.left (hidings self.new.sets list.new) (hidings self.new.sets passed.new))
-            (λ c. HasCalled context.now.table.now context.now.env.now self.old.left (hidings self.old.sets list.old)
-            (hidings self.old.sets passed.old) (call_in self.new.sets c.head c.replaced.now c.arguments.items c.both list.new)
-            self.new.fault self.new.left (hidings self.new.sets passed.new))) }
-        ensures call_known { OnOk result (IfSome call.new (λ c. CallKnown self.new.sets c.head c.arguments.items c.both × AllKnown self.new.sets list.new)) }
-        ensures list_known { IfOk result (λ goes. goes ≡ true → AllKnown self.new.sets list.new) }
-        ensures passed_known { OnOk result (AllKnown self.new.sets passed.new) }
-        ensures keeps { Keeps self.old.sets self.new.sets }
+            ((level : ℕ) → HasTaken context.now.table.now context.now.env.now level self.old.left (hidings self.old.replacer.sets list.old)
+            (hidings self.old.replacer.sets passed.old) goes self.new.fault self.new.left (hidings self.new.replacer.sets list.new) (hidings self.new.replacer.sets passed.new))
+            (λ c. HasCalled context.now.table.now context.now.env.now self.old.left (hidings self.old.replacer.sets list.old)
+            (hidings self.old.replacer.sets passed.old) (call_in self.new.replacer.sets c.head c.replaced.now c.arguments.items c.both list.new)
+            self.new.fault self.new.left (hidings self.new.replacer.sets passed.new))) }
+        ensures call_known { OnOk result (IfSome call.new (λ c. CallKnown self.new.replacer.sets c.head c.arguments.items c.both × AllKnown self.new.replacer.sets list.new)) }
+        ensures list_known { IfOk result (λ goes. goes ≡ true → AllKnown self.new.replacer.sets list.new) }
+        ensures passed_known { OnOk result (AllKnown self.new.replacer.sets passed.new) }
+        ensures keeps { Keeps self.old.replacer.sets self.new.replacer.sets }
     {
-        let next = next_turn(
-            &mut self.supply,
-            context.table,
-            context.env,
-            self.left,
-            &mut self.sets,
-            named,
-            list,
-        )?;
+        let next = self.replacer.next_turn(context, self.left, named, list)?;
         let step = next.step;
         match step {
             Step::Done => Ok(false),
@@ -234,15 +217,15 @@ impl<'x> Expander<'x> {
         argument: &[Hidden<'x>],
     ) -> Result<Option<Expansion<'x>>, Memory>
         requires level { context.now.level ≤ 256 }
-        requires known { AllKnown self.old.sets argument.now }
+        requires known { AllKnown self.old.replacer.sets argument.now }
         requires no_fault { self.old.fault ≡ None }
         ensures is { IfOk result (λ r. MatchOption r
             (Raises self.new.fault (λ f. ExpandsArgument context.now.table.now context.now.env.now context.now.level head.now.token
-            self.old.left (hidings self.old.sets argument.now) self.new.left (Err f)))
+            self.old.left (hidings self.old.replacer.sets argument.now) self.new.left (Err f)))
             (λ e. (self.new.fault ≡ None) × HasExpanded context.now.table.now context.now.env.now context.now.level head.now.token
-            self.old.left self.new.left self.old.sets self.new.sets argument.now e)) }
-        ensures known { IfOk result (λ r. IfSome r (λ e. AllKnown self.new.sets (held e))) }
-        ensures keeps { Keeps self.old.sets self.new.sets }
+            self.old.left self.new.left self.old.replacer.sets self.new.replacer.sets argument.now e)) }
+        ensures known { IfOk result (λ r. IfSome r (λ e. AllKnown self.new.replacer.sets (held e))) }
+        ensures keeps { Keeps self.old.replacer.sets self.new.replacer.sets }
     {
         if context.level >= DEEPEST {
             return raise_depth(head, &mut self.fault);
@@ -251,16 +234,20 @@ impl<'x> Expander<'x> {
         if all_pass(context.table, argument) {
             return Ok(Some(Expansion::AsGiven));
         }
-        let mut list = Cursor::of_clones(self.supply.alloc(), argument, self.sets.empty())?;
+        let mut list = Cursor::of_clones(
+            self.replacer.supply.alloc(),
+            argument,
+            self.replacer.sets.empty(),
+        )?;
         // An argument mostly comes to about as many tokens as it has.
-        let mut passed = Passed::with_room(self.supply.alloc(), argument.len())?;
+        let mut passed = Passed::with_room(self.replacer.supply.alloc(), argument.len())?;
         let deeper = Context {
             table: context.table,
             env: context.env,
             level: context.level + 1,
         };
         self.expand_list(&deeper, &mut list, &mut passed)?;
-        made(self.supply.alloc(), passed, &self.fault)
+        made(self.replacer.supply.alloc(), passed, &self.fault)
     }
 
     /// Makes `expanded` the expansions of the arguments that stand away from `#` and `##` in this list, which is the macro's, each by its
@@ -274,21 +261,21 @@ impl<'x> Expander<'x> {
         expanded: &mut Vec<Expansion<'x>>,
     ) -> Result<(), Memory>
         requires level { context.now.level ≤ 256 }
-        requires known { CallKnown self.old.sets call.now.head call.now.arguments.items call.now.both }
+        requires known { CallKnown self.old.replacer.sets call.now.head call.now.arguments.items call.now.both }
         requires chains { listed pattern.now ≡ chains_of call.now.replaced.now }
         requires none { expanded.old.items ≡ [] }
         requires no_fault { self.old.fault ≡ None }
         ensures is { OnOk result (MatchOption self.new.fault
             ((behind : List Hidden) → ExpandsWanted context.now.table.now context.now.env.now context.now.level
-            (call_in self.old.sets call.now.head call.now.replaced.now call.now.arguments.items call.now.both behind) self.old.left self.new.left
-            (Ok (expanded_in self.new.sets call.now.arguments.items expanded.new.items)))
+            (call_in self.old.replacer.sets call.now.head call.now.replaced.now call.now.arguments.items call.now.both behind) self.old.left self.new.left
+            (Ok (expanded_in self.new.replacer.sets call.now.arguments.items expanded.new.items)))
             (λ f. (behind : List Hidden) → ExpandsWanted context.now.table.now context.now.env.now context.now.level
-            (call_in self.old.sets call.now.head call.now.replaced.now call.now.arguments.items call.now.both behind) self.old.left self.new.left
+            (call_in self.old.replacer.sets call.now.head call.now.replaced.now call.now.arguments.items call.now.both behind) self.old.left self.new.left
             (Err f))) }
-        ensures known { OnOk result (self.new.fault ≡ None → ExpansionsKnown self.new.sets expanded.new.items) }
-        ensures keeps { Keeps self.old.sets self.new.sets }
+        ensures known { OnOk result (self.new.fault ≡ None → ExpansionsKnown self.new.replacer.sets expanded.new.items) }
+        ensures keeps { Keeps self.old.replacer.sets self.new.replacer.sets }
     {
-        let used = used_alone(self.supply.alloc(), call.replaced, pattern)?;
+        let used = used_alone(self.replacer.supply.alloc(), call.replaced, pattern)?;
         for (parameter, alone) in used.iter().enumerate() {
             if !*alone {
                 put(expanded, Expansion::Unused)?;
@@ -313,32 +300,29 @@ impl<'x> Expander<'x> {
         list: &mut Cursor<'x>,
     ) -> Result<(), Memory>
         requires level { context.now.level ≤ 256 }
-        requires call_known { CallKnown self.old.sets call.now.head call.now.arguments.items call.now.both }
-        requires list_known { AllKnown self.old.sets list.old }
+        requires call_known { CallKnown self.old.replacer.sets call.now.head call.now.arguments.items call.now.both }
+        requires list_known { AllKnown self.old.replacer.sets list.old }
         requires no_fault { self.old.fault ≡ None }
         ensures is { OnOk result (ComesTo context.now.table.now context.now.env.now context.now.level
-            (call_in self.old.sets call.now.head call.now.replaced.now call.now.arguments.items call.now.both list.old) self.old.left self.new.left
-            (finished_in self.new.sets list.new self.new.fault)) }
-        ensures known { OnOk result (self.new.fault ≡ None → AllKnown self.new.sets list.new) }
-        ensures keeps { Keeps self.old.sets self.new.sets }
+            (call_in self.old.replacer.sets call.now.head call.now.replaced.now call.now.arguments.items call.now.both list.old) self.old.left self.new.left
+            (finished_in self.new.replacer.sets list.new self.new.fault)) }
+        ensures known { OnOk result (self.new.fault ≡ None → AllKnown self.new.replacer.sets list.new) }
+        ensures keeps { Keeps self.old.replacer.sets self.new.replacer.sets }
     {
         let pattern = call
             .replaced
-            .pattern(self.supply.alloc(), context.table.hashing())?;
-        let mut expanded = Vec::with_capacity(self.supply.alloc(), parameters_of(call.replaced))?;
+            .pattern(self.replacer.supply.alloc(), context.table.hashing())?;
+        let mut expanded = Vec::with_capacity(
+            self.replacer.supply.alloc(),
+            parameters_of(call.replaced),
+        )?;
         self.expand_arguments(context, call, &pattern, &mut expanded)?;
         if self.fault.is_some() {
             return Ok(());
         }
-        finish(
-            self.supply.alloc(),
-            &mut self.sets,
-            call,
-            &pattern,
-            expanded.as_slice(),
-            list,
-            &mut self.fault,
-        )
+        let expanded = expanded.as_slice();
+        self.replacer
+            .finish(call, &pattern, expanded, list, &mut self.fault)
     }
 
     /// One turn, of a list whose next token names the macro `named`: what passes is put after `passed`, and the list becomes what is left
@@ -354,23 +338,23 @@ impl<'x> Expander<'x> {
     ) -> Result<bool, Memory>
         requires level { context.now.level ≤ 256 }
         requires named { option_copied named ≡ next_macro context.now.table.now (tokens_of list.old) }
-        requires list_known { AllKnown self.old.sets list.old }
-        requires passed_known { AllKnown self.old.sets passed.old }
+        requires list_known { AllKnown self.old.replacer.sets list.old }
+        requires passed_known { AllKnown self.old.replacer.sets passed.old }
         requires no_fault { self.old.fault ≡ None }
         requires no_call { call.old ≡ None }
         ensures on { IfOk result (λ goes.
-            HasTaken context.now.table.now context.now.env.now context.now.level self.old.left (hidings self.old.sets list.old)
-            (hidings self.old.sets passed.old) goes self.new.fault self.new.left (hidings self.new.sets list.new) (hidings self.new.sets passed.new)) }
-        ensures list_known { IfOk result (λ goes. goes ≡ true → AllKnown self.new.sets list.new) }
-        ensures passed_known { OnOk result (AllKnown self.new.sets passed.new) }
-        ensures keeps { Keeps self.old.sets self.new.sets }
+            HasTaken context.now.table.now context.now.env.now context.now.level self.old.left (hidings self.old.replacer.sets list.old)
+            (hidings self.old.replacer.sets passed.old) goes self.new.fault self.new.left (hidings self.new.replacer.sets list.new) (hidings self.new.replacer.sets passed.new)) }
+        ensures list_known { IfOk result (λ goes. goes ≡ true → AllKnown self.new.replacer.sets list.new) }
+        ensures passed_known { OnOk result (AllKnown self.new.replacer.sets passed.new) }
+        ensures keeps { Keeps self.old.replacer.sets self.new.replacer.sets }
     {
         let goes = self.take_turn(context, named, list, passed, call)?;
         let Some(found) = &*call else {
             return Ok(goes);
         };
         self.follow(context, found, list)?;
-        keep_arguments(&mut self.supply, call)?;
+        keep_arguments(&mut self.replacer.supply, call)?;
         Ok(self.fault.is_none())
     }
 
@@ -383,13 +367,13 @@ impl<'x> Expander<'x> {
         passed: &mut Passed<'x>,
     ) -> Result<(), Memory>
         requires level { context.now.level ≤ 256 }
-        requires known { AllKnown self.old.sets list.old }
+        requires known { AllKnown self.old.replacer.sets list.old }
         requires none { passed.old ≡ [] }
         requires no_fault { self.old.fault ≡ None }
-        ensures outcome { OnOk result (ExpandsTo context.now.table.now context.now.env.now context.now.level self.old.left (hidings self.old.sets list.old)
-            (record { tokens = hidings self.new.sets passed.new; fault = self.new.fault; left = self.new.left })) }
-        ensures known { OnOk result (AllKnown self.new.sets passed.new) }
-        ensures keeps { Keeps self.old.sets self.new.sets }
+        ensures outcome { OnOk result (ExpandsTo context.now.table.now context.now.env.now context.now.level self.old.left (hidings self.old.replacer.sets list.old)
+            (record { tokens = hidings self.new.replacer.sets passed.new; fault = self.new.fault; left = self.new.left })) }
+        ensures known { OnOk result (AllKnown self.new.replacer.sets passed.new) }
+        ensures keeps { Keeps self.old.replacer.sets self.new.replacer.sets }
     {
         loop {
             // Saves 18 % of the instructions of `deps` on Redis.
@@ -432,9 +416,11 @@ fn expand_tokens<'x, 'a: 'x>(
     let sets = HideSets::with_hasher(alloc, context.table.hashing())?;
     let mut list = Cursor::over(alloc, tokens, sets.empty());
     let mut expander = Expander {
-        supply: Supply::new(alloc),
+        replacer: Replacer {
+            supply: Supply::new(alloc),
+            sets,
+        },
         left,
-        sets,
         fault: None,
     };
     expander.expand_list(context, &mut list, passed)?;

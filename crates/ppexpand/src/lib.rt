@@ -3,6 +3,7 @@
 
 mod alone;
 mod arguments;
+mod context;
 mod cursor;
 mod env;
 mod expansion;

@@ -1,8 +1,9 @@
 // What the next token of a list calls for (6.10.3, 6.10.3.4).
-ghost use Rattle.std.specs.Prelude.{◌≡◌, IfOk, OnOk, ◌∷◌, ◌++◌, Some, None, map};
+ghost use Rattle.std.specs.Prelude.{◌≡◌, IfOk, OnOk, List, ◌∷◌, ◌++◌, Some, None, map};
 ghost use Rattle.std.specs.Option.{option_copied};
 ghost use Rattle.std.specs.FinSet as set;
 ghost use Rattle.ppmacro.specs.Numbered.{Numbered};
+ghost use Rattle.ppmacro.specs.declared.flying.Hidden.{Hidden};
 ghost use Rattle.ppmacro.specs.HideSets.{set_at, IsKnown, HasSets, hide_of, hiding, hidings, AllKnown, Keeps};
 ghost use Rattle.ppmacro.specs.Substituting.{ArgumentsKnown, arguments_in, tokens_of};
 ghost use Rattle.ppmacro.specs.Chains.{chains_of};
@@ -22,6 +23,7 @@ ghost use Rattle.ppexpand.specs.Next as next;
 ghost use Rattle.pptext.specs.Tokens.{fault as fault_at};
 
 use crate::arguments::{Gathered, fit, gather, separators};
+use crate::context::Context;
 use crate::cursor::Cursor;
 use crate::env::Env;
 use crate::predefined::predefined_value;
@@ -86,6 +88,23 @@ impl<'t, 'x, 'a> Model for Next<'t, 'x, 'a> {
     ] };
 }
 
+/// The arguments of an invocation.
+#[derive(Drop)]
+struct CallArguments<'c, 'x> {
+    /// An argument for each parameter but a variable argument that is absent.
+    given: &'c [Vec<Hidden<'x>>],
+    /// An expansion for each parameter.
+    expanded: &'c [Expansion<'x>],
+}
+
+/// What replaces macros' names in lists.
+#[derive(Drop)]
+pub(crate) struct Replacer<'x> {
+    pub(crate) supply: Supply<'x>,
+    /// The hide sets of the tokens in the lists.
+    pub(crate) sets: HideSets,
+}
+
 /// The macro that a token names.
 #[inline(always)]
 pub(crate) fn macro_at<'t, 'a>(table: &'t Table<'a>, token: &Token) -> Option<&'t Macro<'a>>
@@ -98,62 +117,11 @@ pub(crate) fn macro_at<'t, 'a>(table: &'t Table<'a>, token: &Token) -> Option<&'
     }
 }
 
-/// Puts what an invocation of the macro with this replacement list is replaced by before the rest of the list, or raises fault 19 or 20.
-/// Each token gains the names of `base` and that of the macro.
-fn replace<'x, 'a: 'x>(
-    alloc: Global,
-    sets: &mut HideSets,
-    pattern: &Pattern<'a>,
-    given: &[Vec<Hidden<'x>>],
-    expanded: &[Expansion<'x>],
-    base: Set,
-    head: &Hidden,
-    list: &mut Cursor<'x>,
-) -> Result<Result<(), Fault>, Memory>
-    requires arguments { ArgumentsKnown sets.old given.now expanded.now }
-    requires base { IsKnown sets.old base }
-    requires list { AllKnown sets.old list.old }
-    ensures is { IfOk result (λ r. replaced_in sets.new list.new r
-        ≡ replaced_by (substituted_by (listed pattern.now) (arguments_in sets.old given.now expanded.now)
-        (set.insert (set_at sets.old base) head.now.token.text) head.now.token.used head.now.token.space)
-        (hidings sets.old list.old)) }
-    ensures known { IfOk result (λ r. OnOk r (AllKnown sets.new list.new)) }
-    ensures keeps { Keeps sets.old sets.new }
-{
-    match substitute_pattern(
-        alloc,
-        pattern,
-        given,
-        expanded,
-        base,
-        head.text(),
-        head.used(),
-        head.space(),
-        sets,
-    )? {
-        Ok((tokens, pending)) => {
-            list.mark_next(pending);
-            list.push_all(tokens)?;
-            Ok(Ok(()))
-        }
-        Err(fault) => Ok(Err(fault)),
-    }
-}
-
 /// A token of a replacement list, with this mark, the names that it gains, and its place of use.
-fn gained_token<'a>(
-    sets: &HideSets,
-    token: &'a Token,
-    mark: bool,
-    gain: Set,
-    used: Place,
-) -> Hidden<'a>
-    requires { IsKnown sets.now gain }
-    ensures is { hiding sets.now result ≡ gained (set_at sets.now gain) used (with_mark mark (plain token.now)) }
-    ensures known { HasSets sets.now result }
+fn gained_token<'a>(token: &'a Token, mark: bool, gain: Set, used: Place) -> Hidden<'a>
+    ensures is { (sets : Numbered) → hiding sets result ≡ gained (set_at sets gain) used (with_mark mark (plain token.now)) }
+    ensures known { (sets : Numbered) → IsKnown sets gain → HasSets sets result }
 {
-    // The contract alone speaks of them.
-    let _numbered = sets;
     let mut hidden = Hidden::new(token, gain);
     hidden.mark(mark);
     hidden.turn(used, gain);
@@ -162,21 +130,18 @@ fn gained_token<'a>(
 
 /// Puts tokens of a replacement list before the rest of the list, each with its own mark.
 fn push_gained<'x, 'a: 'x>(
-    sets: &HideSets,
     body: &'a [Token],
     gain: Set,
     used: Place,
     list: &mut Cursor<'x>,
 ) -> Result<(), AllocError>
-    requires gain { IsKnown sets.now gain }
-    requires list { AllKnown sets.now list.old }
-    ensures is { OnOk result (hidings sets.now list.new
-        ≡ map (λ t. gained (set_at sets.now gain) used (plain t)) body.now ++ hidings sets.now list.old) }
-    ensures known { OnOk result (AllKnown sets.now list.new) }
+    ensures is { OnOk result ((sets : Numbered) → hidings sets list.new
+        ≡ map (λ t. gained (set_at sets gain) used (plain t)) body.now ++ hidings sets list.old) }
+    ensures known { OnOk result ((sets : Numbered) → IsKnown sets gain → AllKnown sets list.old → AllKnown sets list.new) }
 {
     let mut rest = body;
     while let Some((last, others)) = rest.split_last() {
-        list.push(gained_token(sets, last, last.space, gain, used))?;
+        list.push(gained_token(last, last.space, gain, used))?;
         rest = others;
     }
     Ok(())
@@ -204,89 +169,9 @@ fn replace_by<'x, 'a: 'x>(
         return Ok(());
     };
     let gain = sets.with(base, head.text())?;
-    push_gained(sets, others, gain, head.used(), list)?;
-    list.push(gained_token(sets, first, head.space(), gain, head.used()))?;
+    push_gained(others, gain, head.used(), list)?;
+    list.push(gained_token(first, head.space(), gain, head.used()))?;
     Ok(())
-}
-
-/// The turn of a predefined name.
-fn predefined_turn<'t, 'x, 'a: 'x>(
-    alloc: Global,
-    env: &Env,
-    sets: &mut HideSets,
-    head: &Hidden<'x>,
-    builtin: Builtin,
-    list: &mut Cursor<'x>,
-) -> Result<Next<'t, 'x, 'a>, Memory>
-    requires head { HasSets sets.old head.now }
-    requires list { AllKnown sets.old list.old }
-    ensures is { IfOk result (λ n. turn_in sets.new list.new n
-        ≡ Replaced (predefined_value builtin env.now (hiding sets.old head.now)
-        (set.insert (hide_of sets.old head.now) head.now.token.text) ∷ hidings sets.old list.old)) }
-    ensures known { IfOk result (λ n. NextKnown sets.new list.new n) }
-    ensures keeps { Keeps sets.old sets.new }
-{
-    let gain = sets.with_own(head)?;
-    list.push(predefined_value(alloc, builtin, env, head, gain)?)?;
-    Ok(Next {
-        step: Step::Replaced,
-    })
-}
-
-/// Replaces an object-like macro's name, or raises fault 19. Each token of the replacement gains the names of `base` and that of the macro.
-fn replace_object<'x, 'a: 'x>(
-    alloc: Global,
-    sets: &mut HideSets,
-    base: Set,
-    head: &Hidden<'x>,
-    replaced: &Macro<'a>,
-    list: &mut Cursor<'x>,
-) -> Result<Result<(), Fault>, Memory>
-    requires base { IsKnown sets.old base }
-    requires list { AllKnown sets.old list.old }
-    ensures is { IfOk result (λ r. replaced_in sets.new list.new r
-        ≡ replaced_by (substituted replaced.now no_arguments
-        (set.insert (set_at sets.old base) head.now.token.text) head.now.token.used head.now.token.space)
-        (hidings sets.old list.old)) }
-    ensures known { IfOk result (λ r. OnOk r (AllKnown sets.new list.new)) }
-    ensures keeps { Keeps sets.old sets.new }
-{
-    // Saves 5 % of the instructions of `deps` on Redis.
-    if let Some(body) = replaced.lone_tokens() {
-        replace_by(sets, body, base, head, list)?;
-        return Ok(Ok(()));
-    }
-    let chains = replaced.chains(alloc)?;
-    let pattern = Pattern::Joined(chains);
-    replace(alloc, sets, &pattern, &[], &[], base, head, list)
-}
-
-/// The turn of an object-like macro's name.
-fn object_turn<'t, 'x, 'a: 'x>(
-    alloc: Global,
-    sets: &mut HideSets,
-    head: &Hidden<'x>,
-    replaced: &Macro<'a>,
-    list: &mut Cursor<'x>,
-) -> Result<Next<'t, 'x, 'a>, Memory>
-    requires head { HasSets sets.old head.now }
-    requires list { AllKnown sets.old list.old }
-    ensures is { IfOk result (λ n. turn_in sets.new list.new n
-        ≡ replaced_by (substituted replaced.now no_arguments
-        (set.insert (hide_of sets.old head.now) head.now.token.text) head.now.token.used head.now.token.space)
-        (hidings sets.old list.old)) }
-    ensures known { IfOk result (λ n. NextKnown sets.new list.new n) }
-    ensures keeps { Keeps sets.old sets.new }
-{
-    let base = sets.settled(head)?;
-    match replace_object(alloc, sets, base, head, replaced, list)? {
-        Ok(()) => Ok(Next {
-            step: Step::Replaced,
-        }),
-        Err(fault) => Ok(Next {
-            step: Step::Failed(fault),
-        }),
-    }
 }
 
 /// The turn of a macro's name whose replacement fails with this fault, at the place where the name is used.
@@ -305,20 +190,16 @@ fn called<'t, 'x, 'a: 'x>(
     replaced: &'t Macro<'a>,
     arguments: Option<Vec<Vec<Hidden<'x>>>>,
     close: &Hidden,
-    list: &Cursor,
 ) -> Result<Next<'t, 'x, 'a>, Memory>
     requires head { HasSets sets.old head }
     requires arguments { FittingKnown sets.old arguments }
     requires close { HasSets sets.old close.now }
-    requires list { AllKnown sets.old list.now }
-    ensures is { IfOk result (λ n. turn_in sets.new list.now n
+    ensures is { IfOk result (λ n. (rest : List Hidden) → AllKnown sets.old rest → turn_in sets.new rest n
         ≡ called (hiding sets.old head.entry) replaced.now (fitting_in sets.old arguments.entry) (hiding sets.old close.now)
-        (hidings sets.old list.now)) }
-    ensures known { IfOk result (λ n. NextKnown sets.new list.now n) }
+        (hidings sets.old rest)) }
+    ensures known { IfOk result (λ n. (rest : List Hidden) → AllKnown sets.old rest → NextKnown sets.new rest n) }
     ensures keeps { Keeps sets.old sets.new }
 {
-    // The contract alone speaks of it.
-    let _behind = list;
     let Some(arguments) = arguments else {
         return failed_at(18, &head);
     };
@@ -340,98 +221,6 @@ fn failed_quote<'t, 'x, 'a>(quote: &Hidden) -> Result<Next<'t, 'x, 'a>, Memory>
     Ok(Next {
         step: Step::Failed(lone_quote(quote)?),
     })
-}
-
-/// The turn of a function-like macro's name, behind which `(` stands.
-fn invoked<'t, 'x, 'a: 'x>(
-    supply: &mut Supply<'x>,
-    sets: &mut HideSets,
-    head: Hidden<'x>,
-    replaced: &'t Macro<'a>,
-    names: &[Spelling],
-    variadic: Variadic,
-    list: &mut Cursor<'x>,
-) -> Result<Next<'t, 'x, 'a>, Memory>
-    requires head { HasSets sets.old head }
-    requires list { AllKnown sets.old list.old }
-    ensures is { IfOk result (λ n. turn_in sets.new list.new n
-        ≡ invoked (hiding sets.old head.entry) replaced.now names.now variadic
-        (gather 0 (separators names.now variadic) (hidings sets.old list.old))) }
-    ensures known { IfOk result (λ n. NextKnown sets.new list.new n) }
-    ensures keeps { Keeps sets.old sets.new }
-{
-    match gather(supply, list, separators(names, variadic))? {
-        Gathered::Closed(arguments, close) => {
-            let fitting = fit(supply.alloc(), arguments, names, variadic);
-            called(sets, head, replaced, fitting, &close, list)
-        }
-        Gathered::Quoted(quote) => failed_quote(&quote),
-        Gathered::Unclosed => failed_at(17, &head),
-    }
-}
-
-/// The turn of a function-like macro's name.
-fn function_turn<'t, 'x, 'a: 'x>(
-    supply: &mut Supply<'x>,
-    sets: &mut HideSets,
-    head: Hidden<'x>,
-    replaced: &'t Macro<'a>,
-    names: &[Spelling],
-    variadic: Variadic,
-    list: &mut Cursor<'x>,
-) -> Result<Next<'t, 'x, 'a>, Memory>
-    requires head { HasSets sets.old head }
-    requires list { AllKnown sets.old list.old }
-    ensures is { IfOk result (λ n. turn_in sets.new list.new n
-        ≡ function_turn (hiding sets.old head.entry) replaced.now names.now variadic (hidings sets.old list.old)) }
-    ensures known { IfOk result (λ n. NextKnown sets.new list.new n) }
-    ensures keeps { Keeps sets.old sets.new }
-{
-    let Some(next) = list.next() else {
-        return Ok(Next {
-            step: Step::Passes(head),
-        });
-    };
-    if !is_open(&next) {
-        list.push(next)?;
-        return Ok(Next {
-            step: Step::Passes(head),
-        });
-    }
-    // The `(` is done with before there is a turn.
-    drop(next);
-    invoked(supply, sets, head, replaced, names, variadic, list)
-}
-
-/// The turn of a macro's name.
-fn macro_turn<'t, 'x, 'a: 'x>(
-    supply: &mut Supply<'x>,
-    env: &Env,
-    sets: &mut HideSets,
-    head: Hidden<'x>,
-    replaced: &'t Macro<'a>,
-    list: &mut Cursor<'x>,
-) -> Result<Next<'t, 'x, 'a>, Memory>
-    requires head { HasSets sets.old head }
-    requires list { AllKnown sets.old list.old }
-    ensures is { IfOk result (λ n. turn_in sets.new list.new n
-        ≡ macro_turn env.now (hiding sets.old head.entry) (hidings sets.old list.old) replaced.now replaced.now.shape) }
-    ensures known { IfOk result (λ n. NextKnown sets.new list.new n) }
-    ensures keeps { Keeps sets.old sets.new }
-{
-    match &replaced.definition().shape {
-        Shape::Predefined(builtin) => {
-            predefined_turn(supply.alloc(), env, sets, &head, *builtin, list)
-        }
-        Shape::ObjectLike => object_turn(supply.alloc(), sets, &head, replaced, list),
-        Shape::FunctionLike {
-            parameters,
-            variadic,
-        } => {
-            let names = parameters.as_slice();
-            function_turn(supply, sets, head, replaced, names, *variadic, list)
-        }
-    }
 }
 
 /// The turn of a macro's name where nothing is left of the budget: a name that is to be replaced is refused, and nothing is done for it.
@@ -473,77 +262,285 @@ fn refused_quote<'t, 'x, 'a>(quote: &Hidden) -> Result<Next<'t, 'x, 'a>, Memory>
     })
 }
 
-/// Takes the next token of a list, which names the macro `named`, and what belongs to its invocation; a replacement is put before
-/// the rest. Where nothing is left of the budget, a name that is to be replaced is refused.
-pub(crate) fn next_turn<'t, 'x, 'a: 'x>(
-    supply: &mut Supply<'x>,
-    table: &Table<'a>,
-    env: &Env,
-    left: Option<u64>,
-    sets: &mut HideSets,
-    named: Option<&'t Macro<'a>>,
-    list: &mut Cursor<'x>,
-) -> Result<Next<'t, 'x, 'a>, Memory>
-    requires named { option_copied named ≡ next_macro table.now (tokens_of list.old) }
-    requires known { AllKnown sets.old list.old }
-    ensures is { IfOk result (λ n. turn_in sets.new list.new n ≡ turn_within table.now env.now left (hidings sets.old list.old)) }
-    ensures known { IfOk result (λ n. NextKnown sets.new list.new n) }
-    ensures keeps { Keeps sets.old sets.new }
-{
-    // The contract alone speaks of it.
-    let _macros = table;
-    let Some(head) = list.next() else {
-        return Ok(Next { step: Step::Done });
-    };
-    if is_quote(&head) {
-        return refused_quote(&head);
+impl<'x> Replacer<'x> {
+    /// Puts what an invocation of the macro with this replacement list is replaced by before the rest of the list, or raises fault 19 or 20.
+    /// Each token gains the names of `base` and that of the macro.
+    fn replace<'a: 'x>(
+        &mut self,
+        pattern: &Pattern<'a>,
+        arguments: &CallArguments<'_, 'x>,
+        base: Set,
+        head: &Hidden,
+        list: &mut Cursor<'x>,
+    ) -> Result<Result<(), Fault>, Memory>
+        requires arguments { ArgumentsKnown self.old.sets arguments.now.given.now arguments.now.expanded.now }
+        requires base { IsKnown self.old.sets base }
+        requires list { AllKnown self.old.sets list.old }
+        ensures is { IfOk result (λ r. replaced_in self.new.sets list.new r
+            ≡ replaced_by (substituted_by (listed pattern.now) (arguments_in self.old.sets arguments.now.given.now arguments.now.expanded.now)
+            (set.insert (set_at self.old.sets base) head.now.token.text) head.now.token.used head.now.token.space)
+            (hidings self.old.sets list.old)) }
+        ensures known { IfOk result (λ r. OnOk r (AllKnown self.new.sets list.new)) }
+        ensures keeps { Keeps self.old.sets self.new.sets }
+    {
+        match substitute_pattern(
+            self.supply.alloc(),
+            pattern,
+            arguments.given,
+            arguments.expanded,
+            base,
+            head.text(),
+            head.used(),
+            head.space(),
+            &mut self.sets,
+        )? {
+            Ok((tokens, pending)) => {
+                list.mark_next(pending);
+                list.push_all(tokens)?;
+                Ok(Ok(()))
+            }
+            Err(fault) => Ok(Err(fault)),
+        }
     }
-    let Some(replaced) = named else {
-        return Ok(Next {
-            step: Step::Passes(head),
-        });
-    };
-    if sets.hides(&head) {
-        return Ok(Next {
-            step: Step::Passes(head),
-        });
-    }
-    if is_spent(left) {
-        return spent_turn(head, replaced, list);
-    }
-    macro_turn(supply, env, sets, head, replaced, list)
-}
 
-/// Replaces an invocation whose arguments are expanded, before the rest of the list; or `fault` becomes the fault. The replacement list is
-/// its macro's.
-#[inline(never)]
-pub(crate) fn finish<'x, 'a: 'x>(
-    alloc: Global,
-    sets: &mut HideSets,
-    call: &Invocation<'_, 'x, 'a>,
-    pattern: &Pattern<'a>,
-    expanded: &[Expansion<'x>],
-    list: &mut Cursor<'x>,
-    fault: &mut Option<Fault>,
-) -> Result<(), Memory>
-    requires call { CallKnown sets.old call.now.head call.now.arguments.items call.now.both }
-    requires chains { listed pattern.now ≡ chains_of call.now.replaced.now }
-    requires expanded { ExpansionsKnown sets.old expanded.now }
-    requires list { AllKnown sets.old list.old }
-    requires no_fault { fault.old ≡ None }
-    ensures is { OnOk result (finished_in sets.new list.new fault.new
-        ≡ finished (call_in sets.old call.now.head call.now.replaced.now call.now.arguments.items call.now.both list.old)
-        (expanded_in sets.old call.now.arguments.items expanded.now)) }
-    ensures known { OnOk result (fault.new ≡ None → AllKnown sets.new list.new) }
-    ensures keeps { Keeps sets.old sets.new }
-{
-    let given = call.arguments.as_slice();
-    let head = &call.head;
-    match replace(alloc, sets, pattern, given, expanded, call.both, head, list)? {
-        Ok(()) => Ok(()),
-        Err(found) => {
-            *fault = Some(found);
-            Ok(())
+    /// The turn of a predefined name.
+    fn predefined_turn<'t, 'a: 'x>(
+        &mut self,
+        env: &Env,
+        head: &Hidden<'x>,
+        builtin: Builtin,
+        list: &mut Cursor<'x>,
+    ) -> Result<Next<'t, 'x, 'a>, Memory>
+        requires head { HasSets self.old.sets head.now }
+        requires list { AllKnown self.old.sets list.old }
+        ensures is { IfOk result (λ n. turn_in self.new.sets list.new n
+            ≡ Replaced (predefined_value builtin env.now (hiding self.old.sets head.now)
+            (set.insert (hide_of self.old.sets head.now) head.now.token.text) ∷ hidings self.old.sets list.old)) }
+        ensures known { IfOk result (λ n. NextKnown self.new.sets list.new n) }
+        ensures keeps { Keeps self.old.sets self.new.sets }
+    {
+        let gain = self.sets.with_own(head)?;
+        let alloc = self.supply.alloc();
+        list.push(predefined_value(alloc, builtin, env, head, gain)?)?;
+        Ok(Next {
+            step: Step::Replaced,
+        })
+    }
+
+    /// Replaces an object-like macro's name, or raises fault 19. Each token of the replacement gains the names of `base` and that of the macro.
+    fn replace_object<'a: 'x>(
+        &mut self,
+        base: Set,
+        head: &Hidden<'x>,
+        replaced: &Macro<'a>,
+        list: &mut Cursor<'x>,
+    ) -> Result<Result<(), Fault>, Memory>
+        requires base { IsKnown self.old.sets base }
+        requires list { AllKnown self.old.sets list.old }
+        ensures is { IfOk result (λ r. replaced_in self.new.sets list.new r
+            ≡ replaced_by (substituted replaced.now no_arguments
+            (set.insert (set_at self.old.sets base) head.now.token.text) head.now.token.used head.now.token.space)
+            (hidings self.old.sets list.old)) }
+        ensures known { IfOk result (λ r. OnOk r (AllKnown self.new.sets list.new)) }
+        ensures keeps { Keeps self.old.sets self.new.sets }
+    {
+        // Saves 5 % of the instructions of `deps` on Redis.
+        if let Some(body) = replaced.lone_tokens() {
+            replace_by(&mut self.sets, body, base, head, list)?;
+            return Ok(Ok(()));
+        }
+        let chains = replaced.chains(self.supply.alloc())?;
+        let pattern = Pattern::Joined(chains);
+        let none = CallArguments {
+            given: &[],
+            expanded: &[],
+        };
+        self.replace(&pattern, &none, base, head, list)
+    }
+
+    /// The turn of an object-like macro's name.
+    fn object_turn<'t, 'a: 'x>(
+        &mut self,
+        head: &Hidden<'x>,
+        replaced: &Macro<'a>,
+        list: &mut Cursor<'x>,
+    ) -> Result<Next<'t, 'x, 'a>, Memory>
+        requires head { HasSets self.old.sets head.now }
+        requires list { AllKnown self.old.sets list.old }
+        ensures is { IfOk result (λ n. turn_in self.new.sets list.new n
+            ≡ replaced_by (substituted replaced.now no_arguments
+            (set.insert (hide_of self.old.sets head.now) head.now.token.text) head.now.token.used head.now.token.space)
+            (hidings self.old.sets list.old)) }
+        ensures known { IfOk result (λ n. NextKnown self.new.sets list.new n) }
+        ensures keeps { Keeps self.old.sets self.new.sets }
+    {
+        let base = self.sets.settled(head)?;
+        match self.replace_object(base, head, replaced, list)? {
+            Ok(()) => Ok(Next {
+                step: Step::Replaced,
+            }),
+            Err(fault) => Ok(Next {
+                step: Step::Failed(fault),
+            }),
+        }
+    }
+
+    /// The turn of a function-like macro's name, after which `(` stands.
+    fn invoked<'t, 'a: 'x>(
+        &mut self,
+        head: Hidden<'x>,
+        replaced: &'t Macro<'a>,
+        names: &[Spelling],
+        variadic: Variadic,
+        list: &mut Cursor<'x>,
+    ) -> Result<Next<'t, 'x, 'a>, Memory>
+        requires head { HasSets self.old.sets head }
+        requires list { AllKnown self.old.sets list.old }
+        ensures is { IfOk result (λ n. turn_in self.new.sets list.new n
+            ≡ invoked (hiding self.old.sets head.entry) replaced.now names.now variadic
+            (gather 0 (separators names.now variadic) (hidings self.old.sets list.old))) }
+        ensures known { IfOk result (λ n. NextKnown self.new.sets list.new n) }
+        ensures keeps { Keeps self.old.sets self.new.sets }
+    {
+        match gather(&mut self.supply, list, separators(names, variadic))? {
+            Gathered::Closed(arguments, close) => {
+                let fitting = fit(self.supply.alloc(), arguments, names, variadic);
+                called(&mut self.sets, head, replaced, fitting, &close)
+            }
+            Gathered::Quoted(quote) => failed_quote(&quote),
+            Gathered::Unclosed => failed_at(17, &head),
+        }
+    }
+
+    /// The turn of a function-like macro's name.
+    fn function_turn<'t, 'a: 'x>(
+        &mut self,
+        head: Hidden<'x>,
+        replaced: &'t Macro<'a>,
+        names: &[Spelling],
+        variadic: Variadic,
+        list: &mut Cursor<'x>,
+    ) -> Result<Next<'t, 'x, 'a>, Memory>
+        requires head { HasSets self.old.sets head }
+        requires list { AllKnown self.old.sets list.old }
+        ensures is { IfOk result (λ n. turn_in self.new.sets list.new n
+            ≡ function_turn (hiding self.old.sets head.entry) replaced.now names.now variadic (hidings self.old.sets list.old)) }
+        ensures known { IfOk result (λ n. NextKnown self.new.sets list.new n) }
+        ensures keeps { Keeps self.old.sets self.new.sets }
+    {
+        let Some(next) = list.next() else {
+            return Ok(Next {
+                step: Step::Passes(head),
+            });
+        };
+        if !is_open(&next) {
+            list.push(next)?;
+            return Ok(Next {
+                step: Step::Passes(head),
+            });
+        }
+        // The `(` is done with before there is a turn.
+        drop(next);
+        self.invoked(head, replaced, names, variadic, list)
+    }
+
+    /// The turn of a macro's name.
+    fn macro_turn<'t, 'a: 'x>(
+        &mut self,
+        env: &Env,
+        head: Hidden<'x>,
+        replaced: &'t Macro<'a>,
+        list: &mut Cursor<'x>,
+    ) -> Result<Next<'t, 'x, 'a>, Memory>
+        requires head { HasSets self.old.sets head }
+        requires list { AllKnown self.old.sets list.old }
+        ensures is { IfOk result (λ n. turn_in self.new.sets list.new n
+            ≡ macro_turn env.now (hiding self.old.sets head.entry) (hidings self.old.sets list.old) replaced.now replaced.now.shape) }
+        ensures known { IfOk result (λ n. NextKnown self.new.sets list.new n) }
+        ensures keeps { Keeps self.old.sets self.new.sets }
+    {
+        match &replaced.definition().shape {
+            Shape::Predefined(builtin) => { self.predefined_turn(env, &head, *builtin, list) }
+            Shape::ObjectLike => self.object_turn(&head, replaced, list),
+            Shape::FunctionLike {
+                parameters,
+                variadic,
+            } => {
+                let names = parameters.as_slice();
+                self.function_turn(head, replaced, names, *variadic, list)
+            }
+        }
+    }
+
+    /// Takes the next token of a list, which names the macro `named`, and what belongs to its invocation; a replacement is put before
+    /// the rest. Where nothing is left of the budget, a name that is to be replaced is refused.
+    pub(crate) fn next_turn<'t, 'a: 'x>(
+        &mut self,
+        context: &Context<'_, 'a>,
+        left: Option<u64>,
+        named: Option<&'t Macro<'a>>,
+        list: &mut Cursor<'x>,
+    ) -> Result<Next<'t, 'x, 'a>, Memory>
+        requires named { option_copied named ≡ next_macro context.now.table.now (tokens_of list.old) }
+        requires known { AllKnown self.old.sets list.old }
+        ensures is { IfOk result (λ n. turn_in self.new.sets list.new n ≡ turn_within context.now.table.now context.now.env.now left (hidings self.old.sets list.old)) }
+        ensures known { IfOk result (λ n. NextKnown self.new.sets list.new n) }
+        ensures keeps { Keeps self.old.sets self.new.sets }
+    {
+        let Some(head) = list.next() else {
+            return Ok(Next { step: Step::Done });
+        };
+        if is_quote(&head) {
+            return refused_quote(&head);
+        }
+        let Some(replaced) = named else {
+            return Ok(Next {
+                step: Step::Passes(head),
+            });
+        };
+        if self.sets.hides(&head) {
+            return Ok(Next {
+                step: Step::Passes(head),
+            });
+        }
+        if is_spent(left) {
+            return spent_turn(head, replaced, list);
+        }
+        self.macro_turn(context.env, head, replaced, list)
+    }
+
+    /// Replaces an invocation whose arguments are expanded, before the rest of the list; or `fault` becomes the fault. The replacement list is
+    /// its macro's.
+    #[inline(never)]
+    pub(crate) fn finish<'a: 'x>(
+        &mut self,
+        call: &Invocation<'_, 'x, 'a>,
+        pattern: &Pattern<'a>,
+        expanded: &[Expansion<'x>],
+        list: &mut Cursor<'x>,
+        fault: &mut Option<Fault>,
+    ) -> Result<(), Memory>
+        requires call { CallKnown self.old.sets call.now.head call.now.arguments.items call.now.both }
+        requires chains { listed pattern.now ≡ chains_of call.now.replaced.now }
+        requires expanded { ExpansionsKnown self.old.sets expanded.now }
+        requires list { AllKnown self.old.sets list.old }
+        requires no_fault { fault.old ≡ None }
+        ensures is { OnOk result (finished_in self.new.sets list.new fault.new
+            ≡ finished (call_in self.old.sets call.now.head call.now.replaced.now call.now.arguments.items call.now.both list.old)
+            (expanded_in self.old.sets call.now.arguments.items expanded.now)) }
+        ensures known { OnOk result (fault.new ≡ None → AllKnown self.new.sets list.new) }
+        ensures keeps { Keeps self.old.sets self.new.sets }
+    {
+        let arguments = CallArguments {
+            given: call.arguments.as_slice(),
+            expanded,
+        };
+        match self.replace(pattern, &arguments, call.both, &call.head, list)? {
+            Ok(()) => Ok(()),
+            Err(found) => {
+                *fault = Some(found);
+                Ok(())
+            }
         }
     }
 }

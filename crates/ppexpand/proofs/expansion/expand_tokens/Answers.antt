@@ -13,7 +13,7 @@ expand_list-requires-clause-known c =
 pub returns : goal.returns
 returns c =
     let s = c.in_ok-sets.sets in
-    let t = c.expand_list.new.self.sets in
+    let t = c.expand_list.new.self.replacer.sets in
     let rest = c.args.tokens.now in
     let context = c.args.context.now in
     let whole : Outcome = record { tokens = hidings t c.expand_list.new.passed; fault = c.expand_list.new.self.fault; left = c.expand_list.new.self.left } in

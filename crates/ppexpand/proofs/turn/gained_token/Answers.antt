@@ -5,8 +5,7 @@ use Rattle.ppmacro.proofs.Hiding.{union-none}
 use Rattle.ppexpand.proofs.turn.gained_token.Goals as goal
 
 pub returns-clause-is : goal.returns-clause-is
-returns-clause-is c =
-    let s = c.args.sets.now in
+returns-clause-is c s =
     let token = placed c.args.token.now c.args.used c.args.mark in
     let flying : InFlight = record { token = token; hide = c.args.gain; also = None } in
     let made : c.turn.new.self ≡ flying = search rules in

@@ -24,9 +24,6 @@ returns-in_default-clause-is c arguments =
 pub returns-in_default-clause-known : goal.returns-in_default-clause-known
 returns-in_default-clause-known c = subst (AllKnown c.args.sets.now) (sym c.mark_next.ensures) (known-marked c.args.sets.now c.space.result c.args.list.now c.requires.list)
 
-pub push_gained-requires-clause-list : goal.push_gained-requires-clause-list
-push_gained-requires-clause-list c = known-keeps c.args.list.now c.in_ok-gain.ensures.keeps c.requires.list
-
 pub returns-clause-is : goal.returns-clause-is
 returns-clause-is c arguments =
     let s = c.args.sets.now in
@@ -42,9 +39,9 @@ returns-clause-is c arguments =
     let gain : set_at t c.in_ok-gain.gain ≡ names = c.in_ok-gain.ensures.set ∙ (λ i. set.insert (set_at s c.args.base) (c.text.ensures i)) in
     let kept : hidings t list ≡ hidings s list = hidings-keeps list c.in_ok-gain.ensures.keeps c.requires.list in
     let behind : hidings t c.push_gained.new.list ≡ map (λ x. gained names used (plain x)) others ++ hidings s list =
-    c.in_ok-push_gained.ensures.is ∙ (λ i. map (λ x. gained (gain i) (c.used.ensures i) (plain x)) others ++ kept i) in
+    c.in_ok-push_gained.ensures.is t ∙ (λ i. map (λ x. gained (gain i) (c.used.ensures i) (plain x)) others ++ kept i) in
     let here : hiding t c.gained_token.result ≡ gained names used (with_mark space (plain first)) =
-    c.gained_token.ensures.is ∙ (λ i. gained (gain i) (c.used-2.ensures i) (with_mark (c.space-2.ensures i) (plain first))) in
+    c.gained_token.ensures.is t ∙ (λ i. gained (gain i) (c.used-2.ensures i) (with_mark (c.space-2.ensures i) (plain first))) in
     let all : hidings t c.push.new.self ≡ gained names used (with_mark space (plain first)) ∷ (map (λ x. gained names used (plain x)) others ++ hidings s list) =
     ap (hidings t) c.in_ok-push.ensures ∙ (λ i. here i ∷ behind i) in
     ap Replaced all
@@ -53,4 +50,6 @@ returns-clause-is c arguments =
 pub returns-clause-known : goal.returns-clause-known
 returns-clause-known c =
     let t = c.with.new.self in
-    subst (AllKnown t) (sym c.in_ok-push.ensures) (record { each = (c.gained_token.ensures.known, c.in_ok-push_gained.ensures.known.each) })
+    let gain = c.in_ok-gain.ensures.known in
+    let rest = c.in_ok-push_gained.ensures.known t gain (known-keeps c.args.list.now c.in_ok-gain.ensures.keeps c.requires.list) in
+    subst (AllKnown t) (sym c.in_ok-push.ensures) (record { each = (c.gained_token.ensures.known t gain, rest.each) })

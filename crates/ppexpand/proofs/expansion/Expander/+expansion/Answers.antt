@@ -33,13 +33,13 @@ advance-follow-requires m c =
 
 pub advance-returns-clause-on : goal.advance-returns-clause-on
 advance-returns-clause-on m c =
-    let s = c.take_turn.new.self.sets in
-    let t = c.follow.new.self.sets in
+    let s = c.take_turn.new.self.replacer.sets in
+    let t = c.follow.new.self.replacer.sets in
     let called = rw c.in-Some.is at c.in_ok-goes.ensures.on in
     let call = call_of s c.in-Some.found c.take_turn.new.list in
     let invokes : ComesTo c.args.context.now.table.now c.args.context.now.env.now c.args.context.now.level call _ c.follow.new.self.left (finished_in t c.follow.new.list c.follow.new.self.fault) =
     subst (λ l. ComesTo c.args.context.now.table.now c.args.context.now.env.now c.args.context.now.level call l c.follow.new.self.left (finished_in t c.follow.new.list c.follow.new.self.fault)) called.2 c.in_ok-follow.ensures.is in
-    call_taken c.args.context.now.table.now c.args.context.now.env.now c.args.context.now.level c.args.self.now.left (hidings c.args.self.now.sets c.args.list.now) call called.0 t c.follow.new.list _ _ c.follow.new.self.fault c.follow.new.self.left _ c.is_none.ensures
+    call_taken c.args.context.now.table.now c.args.context.now.env.now c.args.context.now.level c.args.self.now.left (hidings c.args.self.now.replacer.sets c.args.list.now) call called.0 t c.follow.new.list _ _ c.follow.new.self.fault c.follow.new.self.left _ c.is_none.ensures
     (hidings-keeps _ c.in_ok-follow.ensures.keeps c.in_ok-goes.ensures.passed_known ∙ called.3)
     invokes
 
@@ -66,7 +66,7 @@ follow-finish-requires-clause-call m c = call_known-keeps c.args.call.now c.in_o
 
 pub follow-finish-requires-clause-expanded : goal.follow-finish-requires-clause-expanded
 follow-finish-requires-clause-expanded m c =
-    subst (ExpansionsKnown c.expand_arguments.new.self.sets) (sym c.as_slice.ensures.value)
+    subst (ExpansionsKnown c.expand_arguments.new.self.replacer.sets) (sym c.as_slice-expanded.ensures.value)
     (c.in_ok-expand_arguments.ensures.known (raised_none c.expand_arguments.new.self.fault (sym c.is_some.ensures ∙ c.if-is_some.false)))
 
 pub follow-finish-requires-clause-list : goal.follow-finish-requires-clause-list
@@ -77,10 +77,10 @@ follow-finish-requires-clause-no_fault m c = raised_none c.expand_arguments.new.
 
 pub follow-returns-clause-is : goal.follow-returns-clause-is
 follow-returns-clause-is m c =
-    let s = c.args.self.now.sets in
+    let s = c.args.self.now.replacer.sets in
     let list = c.args.list.now in
-    let u = c.expand_arguments.new.self.sets in
-    let v = c.finish.new.sets in
+    let u = c.expand_arguments.new.self.replacer.sets in
+    let v = c.finish.new.self.sets in
     let made = c.expand_arguments.new.expanded.items in
     let call = call_of s c.args.call.now list in
     let none = raised_none c.expand_arguments.new.self.fault (sym c.is_some.ensures ∙ c.if-is_some.false) in
@@ -89,7 +89,7 @@ follow-returns-clause-is m c =
     let same = call_of-keeps c.args.call.now list c.in_ok-expand_arguments.ensures.keeps c.requires.call_known c.requires.list_known in
     on_ok_weaker c.finish.result
     (λ e. subst (ComesTo c.args.context.now.table.now c.args.context.now.env.now c.args.context.now.level call c.args.self.now.left c.expand_arguments.new.self.left)
-    (sym (e ∙ (λ i. finished (same i) (expanded_in u c.args.call.now.arguments.items (c.as_slice.ensures.value i)))))
+    (sym (e ∙ (λ i. finished (same i) (expanded_in u c.args.call.now.arguments.items (c.as_slice-expanded.ensures.value i)))))
     (finishes args))
     c.finish.ensures.is
 
@@ -107,7 +107,7 @@ expand_argument-returns-then-context-ge-DEEPEST-clause-known m c = IfOk-weaker c
 
 pub expand_argument-returns-then-all_pass-clause-is : goal.expand_argument-returns-then-all_pass-clause-is
 expand_argument-returns-then-all_pass-clause-is m c =
-    let s = c.args.self.now.sets in
+    let s = c.args.self.now.replacer.sets in
     let list = c.args.argument.now in (
       c.requires.no_fault,
       (
@@ -121,20 +121,20 @@ expand_argument-returns-then-all_pass-clause-is m c =
 pub expand_argument-expand_list-requires : goal.expand_argument-expand_list-requires
 expand_argument-expand_list-requires m c = (
   omega (arith, c.if-context-ge-DEEPEST.false),
-  (omega (arith, c.if-context-ge-DEEPEST.false), (subst (AllKnown c.args.self.now.sets) (sym c.in_ok-list.ensures) c.requires.known, (c.in_ok-passed.ensures, c.requires.no_fault))),
+  (omega (arith, c.if-context-ge-DEEPEST.false), (subst (AllKnown c.args.self.now.replacer.sets) (sym c.in_ok-list.ensures) c.requires.known, (c.in_ok-passed.ensures, c.requires.no_fault))),
 )
 
 pub expand_argument-returns-clause-is : goal.expand_argument-returns-clause-is
 expand_argument-returns-clause-is m c =
     IfOk-weaker c.made.result _ _
-    (argument_outcome c.args.context.now.table.now c.args.context.now.env.now c.args.context.now.level c.args.head.now.token c.args.self.now.left c.expand_list.new.self.left c.args.self.now.sets c.expand_list.new.self.sets
+    (argument_outcome c.args.context.now.table.now c.args.context.now.env.now c.args.context.now.level c.args.head.now.token c.args.self.now.left c.expand_list.new.self.left c.args.self.now.replacer.sets c.expand_list.new.self.replacer.sets
     c.args.argument.now c.in_ok-list.list c.expand_list.new.passed c.expand_list.new.self.fault (omega (arith, c.if-context-ge-DEEPEST.false)) c.in_ok-list.ensures c.in_ok-expand_list.ensures.outcome)
     c.made.ensures
 
 pub expand_argument-returns-clause-known : goal.expand_argument-returns-clause-known
 expand_argument-returns-clause-known m c =
     IfOk-weaker c.made.result _ _
-    (argument_known c.args.context.now.table.now c.args.context.now.env.now c.args.context.now.level c.args.head.now.token c.args.self.now.left c.expand_list.new.self.left c.args.self.now.sets c.expand_list.new.self.sets
+    (argument_known c.args.context.now.table.now c.args.context.now.env.now c.args.context.now.level c.args.head.now.token c.args.self.now.left c.expand_list.new.self.left c.args.self.now.replacer.sets c.expand_list.new.self.replacer.sets
     c.args.argument.now c.in_ok-list.list c.expand_list.new.passed c.expand_list.new.self.fault c.in_ok-expand_list.ensures.known)
     c.made.ensures
 
@@ -144,14 +144,14 @@ expand_arguments-loop-parameter-init m c = record {
   count = ap length c.requires.none;
   no_fault = c.requires.no_fault;
   known = rw c.requires.none (record { each = tt });
-  keeps = keeps-all c.args.self.now.sets;
-  follows = λ behind. rw c.requires.none (arguments_first c.args.context.now.table.now c.args.context.now.env.now c.args.context.now.level (call_of c.args.self.now.sets c.args.call.now behind) c.args.self.now.left);
+  keeps = keeps-all c.args.self.now.replacer.sets;
+  follows = λ behind. rw c.requires.none (arguments_first c.args.context.now.table.now c.args.context.now.env.now c.args.context.now.level (call_of c.args.self.now.replacer.sets c.args.call.now behind) c.args.self.now.left);
 }
 
 pub expand_arguments-loop-parameter-preserved-then-not-alone : goal.expand_arguments-loop-parameter-preserved-then-not-alone
 expand_arguments-loop-parameter-preserved-then-not-alone m c =
-    let s = c.args.self.now.sets in
-    let u = c.loop-parameter.self.sets in
+    let s = c.args.self.now.replacer.sets in
+    let u = c.loop-parameter.self.replacer.sets in
     let i = c.loop-parameter.parameter in
     let vs = c.args.call.now.arguments.items in
     let cs = chains_of c.args.call.now.replaced.now in
@@ -175,7 +175,7 @@ expand_arguments-loop-parameter-preserved-then-not-alone m c =
 
 pub expand_arguments-expand_argument-requires : goal.expand_arguments-expand_argument-requires
 expand_arguments-expand_argument-requires m c =
-    let u = c.loop-parameter.self.sets in
+    let u = c.loop-parameter.self.replacer.sets in
     let i = c.loop-parameter.parameter in
     let vs = c.args.call.now.arguments.items in
     let tokens_are : c.argument_of-tokens.result.now ≡ argument_at (lists_of vs) i = c.argument_of-tokens.ensures ∙ ap (λ gs. argument_at (lists_of gs) i) c.as_slice.ensures.value in
@@ -186,8 +186,8 @@ expand_arguments-expand_argument-requires m c =
 
 pub expand_arguments-returns-in-None-clause-is : goal.expand_arguments-returns-in-None-clause-is
 expand_arguments-returns-in-None-clause-is m c =
-    let s = c.args.self.now.sets in
-    let u = c.loop-parameter.self.sets in
+    let s = c.args.self.now.replacer.sets in
+    let u = c.loop-parameter.self.replacer.sets in
     let i = c.loop-parameter.parameter in
     let vs = c.args.call.now.arguments.items in
     let cs = chains_of c.args.call.now.replaced.now in
@@ -214,8 +214,8 @@ expand_arguments-returns-in-None-clause-known m c =
 
 pub expand_arguments-loop-parameter-preserved : goal.expand_arguments-loop-parameter-preserved
 expand_arguments-loop-parameter-preserved m c =
-    let s = c.args.self.now.sets in
-    let u = c.loop-parameter.self.sets in
+    let s = c.args.self.now.replacer.sets in
+    let u = c.loop-parameter.self.replacer.sets in
     let i = c.loop-parameter.parameter in
     let vs = c.args.call.now.arguments.items in
     let cs = chains_of c.args.call.now.replaced.now in
@@ -225,7 +225,7 @@ expand_arguments-loop-parameter-preserved m c =
     let is_used : uses_alone i cs ≡ true = marked-alone c.in_ok-used.used.items c.deref-alone-items.result.now (length names) i (listed c.args.pattern.now) cs true
     c.deref-alone-items.ensures.value c.requires.chains c.in_ok-used.ensures.used less c.if-not-alone.false in
     let tokens_are : c.argument_of-tokens.result.now ≡ argument_at (lists_of vs) i = c.argument_of-tokens.ensures ∙ ap (λ gs. argument_at (lists_of gs) i) c.as_slice.ensures.value in
-    let w = c.expand_argument.new.self.sets in
+    let w = c.expand_argument.new.self.replacer.sets in
     let keeps = c.in_ok-expansion.ensures.keeps in
     let argument : hidings u c.argument_of-tokens.result.now ≡ hidings s (argument_at (lists_of vs) i) =
     ap (hidings u) tokens_are ∙ hidings-keeps (argument_at (lists_of vs) i) c.loop-parameter.invariant.keeps (argument-known s vs i c.requires.known.arguments) in
@@ -253,8 +253,8 @@ expand_arguments-loop-parameter-preserved m c =
 
 pub expand_arguments-returns-clause-is : goal.expand_arguments-returns-clause-is
 expand_arguments-returns-clause-is m c =
-    let s = c.args.self.now.sets in
-    let u = c.loop-parameter.self.sets in
+    let s = c.args.self.now.replacer.sets in
+    let u = c.loop-parameter.self.replacer.sets in
     let i = c.loop-parameter.parameter in
     let vs = c.args.call.now.arguments.items in
     let names = names_in c.args.call.now.replaced.now.shape in
@@ -277,13 +277,13 @@ expand_list-loop-named-init m c = record {
   list_known = c.requires.known;
   passed_known = rw c.requires.none (record { each = tt });
   no_fault = c.requires.no_fault;
-  keeps = keeps-all c.args.self.now.sets;
+  keeps = keeps-all c.args.self.now.replacer.sets;
   follows = λ n out d. rw c.requires.none (n, d);
 }
 
 pub expand_list-advance-goes-requires : goal.expand_list-advance-goes-requires
 expand_list-advance-goes-requires m c =
-    let sets = c.loop-named.self.sets in
+    let sets = c.loop-named.self.replacer.sets in
     let skipped = c.in_ok-named.ensures.skipped in
     let list_known = next-known sets _ _ _ _ skipped c.loop-named.invariant.list_known in
     let passed_known = more-known sets _ _ _ _ skipped c.loop-named.invariant.list_known c.loop-named.invariant.passed_known in (
@@ -293,18 +293,18 @@ expand_list-advance-goes-requires m c =
 
 pub expand_list-returns-then-not-branch-clause-outcome : goal.expand_list-returns-then-not-branch-clause-outcome
 expand_list-returns-then-not-branch-clause-outcome m c =
-    let sets = c.loop-named.self.sets in
-    let start = hidings c.args.self.now.sets c.args.list.now in
+    let sets = c.loop-named.self.replacer.sets in
+    let start = hidings c.args.self.now.replacer.sets c.args.list.now in
     let list = c.skip.new.list in
     let passed = c.skip.new.passed in
     let here = follows_skip c.args.context.now.table.now c.args.context.now.env.now c.args.context.now.level c.loop-named.self.left sets c.args.self.now.left start c.loop-named.list c.loop-named.passed list passed c.in_ok-named.ensures.skipped c.loop-named.invariant.follows in
     end_follows c.args.context.now.table.now c.args.context.now.env.now c.args.context.now.level c.args.self.now.left start (hidings sets passed) c.loop-named.self.left (hidings sets list) c.advance-goes.new.self.fault c.advance-goes.new.self.left
-    (hidings c.advance-goes.new.self.sets c.advance-goes.new.passed) here (rw c.if-not-branch.true at c.in_ok-goes.ensures.on)
+    (hidings c.advance-goes.new.self.replacer.sets c.advance-goes.new.passed) here (rw c.if-not-branch.true at c.in_ok-goes.ensures.on)
 
 pub expand_list-loop-named-preserved : goal.expand_list-loop-named-preserved
 expand_list-loop-named-preserved m c =
-    let sets = c.loop-named.self.sets in
-    let start = hidings c.args.self.now.sets c.args.list.now in
+    let sets = c.loop-named.self.replacer.sets in
+    let start = hidings c.args.self.now.replacer.sets c.args.list.now in
     let list = c.skip.new.list in
     let passed = c.skip.new.passed in
     let taken = rw c.if-not-branch.false at c.in_ok-goes.ensures.on in
@@ -316,15 +316,15 @@ expand_list-loop-named-preserved m c =
       no_fault = taken.0;
       keeps = keeps-after c.loop-named.invariant.keeps c.in_ok-goes.ensures.keeps;
       follows = more_follows c.args.context.now.table.now c.args.context.now.env.now c.args.context.now.level c.args.self.now.left start (hidings sets passed) c.loop-named.self.left (hidings sets list) c.advance-goes.new.self.left
-          (hidings c.advance-goes.new.self.sets c.advance-goes.new.list) (hidings c.advance-goes.new.self.sets c.advance-goes.new.passed) here taken.1;
+          (hidings c.advance-goes.new.self.replacer.sets c.advance-goes.new.list) (hidings c.advance-goes.new.self.replacer.sets c.advance-goes.new.passed) here taken.1;
     }
 
 pub expand_list-loop-named-smaller : goal.expand_list-loop-named-smaller
 expand_list-loop-named-smaller m c =
-    let sets = c.loop-named.self.sets in
+    let sets = c.loop-named.self.replacer.sets in
     let list = c.skip.new.list in
     let passed = c.skip.new.passed in
     let after = more_falls c.args.context.now.table.now c.args.context.now.env.now c.args.context.now.level c.loop-named.self.left (hidings sets list) (hidings sets passed) c.advance-goes.new.self.left
-    (hidings c.advance-goes.new.self.sets c.advance-goes.new.list) (hidings c.advance-goes.new.self.sets c.advance-goes.new.passed) (rw c.if-not-branch.false at c.in_ok-goes.ensures.on).1 in
+    (hidings c.advance-goes.new.self.replacer.sets c.advance-goes.new.list) (hidings c.advance-goes.new.self.replacer.sets c.advance-goes.new.passed) (rw c.if-not-branch.false at c.in_ok-goes.ensures.on).1 in
     let skipped = skip_falls c.args.context.now.table.now c.args.context.now.env.now c.args.context.now.level c.loop-named.self.left sets c.loop-named.list c.loop-named.passed list passed c.in_ok-named.ensures.skipped in
     omega (arith, after, skipped)

@@ -27,25 +27,25 @@ decreases-expand_argument l = 5 * (257 - l.context.now.level)
 abbrev pub invariant-expand_list-loop-named : goal.invariant-expand_list-loop-named
 invariant-expand_list-loop-named l = record {
   low : l.context.level ≤ 256;
-  list_known : AllKnown l.self.sets l.list;
-  passed_known : AllKnown l.self.sets l.passed;
+  list_known : AllKnown l.self.replacer.sets l.list;
+  passed_known : AllKnown l.self.replacer.sets l.passed;
   no_fault : l.self.fault ≡ None;
-  keeps : Keeps l.fn.self.sets l.self.sets;
-  follows : Follows l.context.table.now l.context.env.now l.context.level l.fn.self.left (hidings l.fn.self.sets l.fn.list) (hidings l.self.sets l.passed) l.self.left (hidings l.self.sets l.list);
+  keeps : Keeps l.fn.self.replacer.sets l.self.replacer.sets;
+  follows : Follows l.context.table.now l.context.env.now l.context.level l.fn.self.left (hidings l.fn.self.replacer.sets l.fn.list) (hidings l.self.replacer.sets l.passed) l.self.left (hidings l.self.replacer.sets l.list);
 }
 
 abbrev pub decreases-expand_list-loop-named : goal.decreases-expand_list-loop-named
-decreases-expand_list-loop-named l = turns_left l.context.table.now l.context.env.now l.context.level l.self.left (hidings l.self.sets l.list)
+decreases-expand_list-loop-named l = turns_left l.context.table.now l.context.env.now l.context.level l.self.left (hidings l.self.replacer.sets l.list)
 
 abbrev pub invariant-expand_arguments-loop-parameter : goal.invariant-expand_arguments-loop-parameter
 invariant-expand_arguments-loop-parameter l = record {
   low : l.context.level ≤ 256;
-  known : ExpansionsKnown l.self.sets l.expanded.items;
+  known : ExpansionsKnown l.self.replacer.sets l.expanded.items;
   count : length l.expanded.items ≡ l.parameter;
   no_fault : l.self.fault ≡ None;
-  keeps : Keeps l.fn.self.sets l.self.sets;
+  keeps : Keeps l.fn.self.replacer.sets l.self.replacer.sets;
   follows : (behind : List Hidden)
-      → ArgumentsFollow l.context.table.now l.context.env.now l.context.level (call_of l.fn.self.sets l.call behind) l.fn.self.left (wanted (call_of l.fn.self.sets l.call behind))
-      (expanded_in l.self.sets l.call.arguments.items l.expanded.items) l.self.left
-      (to_expand l.parameter (chains_of l.call.replaced.now) (drop l.parameter (names_in l.call.replaced.now.shape)) (given_in l.fn.self.sets l.call.arguments.items));
+      → ArgumentsFollow l.context.table.now l.context.env.now l.context.level (call_of l.fn.self.replacer.sets l.call behind) l.fn.self.left (wanted (call_of l.fn.self.replacer.sets l.call behind))
+      (expanded_in l.self.replacer.sets l.call.arguments.items l.expanded.items) l.self.left
+      (to_expand l.parameter (chains_of l.call.replaced.now) (drop l.parameter (names_in l.call.replaced.now.shape)) (given_in l.fn.self.replacer.sets l.call.arguments.items));
 }

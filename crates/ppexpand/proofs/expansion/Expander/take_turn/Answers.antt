@@ -12,8 +12,8 @@ use Rattle.ppexpand.proofs.expansion.Expander.take_turn.Goals as goal
 
 pub returns-in-Done-clause-on : goal.returns-in-Done-clause-on
 returns-in-Done-clause-on c =
-    let t : turn_within c.args.context.now.table.now c.args.context.now.env.now c.args.self.now.left (hidings c.args.self.now.sets c.args.list.now) ≡ Done =
-    sym (ap (turn_in c.next_turn.new.sets c.next_turn.new.list) (sym (stepped c.next.inside c.next.view_is c.in-Done.is)) ∙ c.in_ok-next.ensures.is) in
+    let t : turn_within c.args.context.now.table.now c.args.context.now.env.now c.args.self.now.left (hidings c.args.self.now.replacer.sets c.args.list.now) ≡ Done =
+    sym (ap (turn_in c.next_turn.new.self.sets c.next_turn.new.list) (sym (stepped c.next.inside c.next.view_is c.in-Done.is)) ∙ c.in_ok-next.ensures.is) in
     rw (c.requires.no_call, c.requires.no_fault) (λ level. (done t, hidings-keeps _ c.in_ok-next.ensures.keeps c.requires.passed_known))
 
 pub returns-in-Done-clause-passed_known : goal.returns-in-Done-clause-passed_known
@@ -21,8 +21,8 @@ returns-in-Done-clause-passed_known c = known-keeps _ c.in_ok-next.ensures.keeps
 
 pub returns-in-Refused-clause-on : goal.returns-in-Refused-clause-on
 returns-in-Refused-clause-on c =
-    let t : turn_within c.args.context.now.table.now c.args.context.now.env.now c.args.self.now.left (hidings c.args.self.now.sets c.args.list.now) ≡ Refused c.in-Refused.found =
-    sym (ap (turn_in c.next_turn.new.sets c.next_turn.new.list) (sym (stepped c.next.inside c.next.view_is c.in-Refused.is)) ∙ c.in_ok-next.ensures.is) in
+    let t : turn_within c.args.context.now.table.now c.args.context.now.env.now c.args.self.now.left (hidings c.args.self.now.replacer.sets c.args.list.now) ≡ Refused c.in-Refused.found =
+    sym (ap (turn_in c.next_turn.new.self.sets c.next_turn.new.list) (sym (stepped c.next.inside c.next.view_is c.in-Refused.is)) ∙ c.in_ok-next.ensures.is) in
     rw c.requires.no_call (λ level. (refused t, hidings-keeps _ c.in_ok-next.ensures.keeps c.requires.passed_known))
 
 pub returns-in-Refused-clause-passed_known : goal.returns-in-Refused-clause-passed_known
@@ -30,9 +30,9 @@ returns-in-Refused-clause-passed_known c = known-keeps _ c.in_ok-next.ensures.ke
 
 pub returns-in-Failed-clause-on : goal.returns-in-Failed-clause-on
 returns-in-Failed-clause-on c =
-    let s = c.args.self.now.sets in
+    let s = c.args.self.now.replacer.sets in
     let t : turn_within c.args.context.now.table.now c.args.context.now.env.now c.args.self.now.left (hidings s c.args.list.now) ≡ Failed c.in-Failed.found =
-    sym (ap (turn_in c.next_turn.new.sets c.next_turn.new.list) (sym (stepped c.next.inside c.next.view_is c.in-Failed.is)) ∙ c.in_ok-next.ensures.is) in
+    sym (ap (turn_in c.next_turn.new.self.sets c.next_turn.new.list) (sym (stepped c.next.inside c.next.view_is c.in-Failed.is)) ∙ c.in_ok-next.ensures.is) in
     rw c.requires.no_call (λ level. (
       subst (EndsWith c.args.context.now.table.now c.args.context.now.env.now level c.args.self.now.left (hidings s c.args.list.now) (Some c.in-Failed.found)) (sym c.less_one-self.ensures) (failed t),
       hidings-keeps _ c.in_ok-next.ensures.keeps c.requires.passed_known,
@@ -43,25 +43,25 @@ returns-in-Failed-clause-passed_known c = known-keeps _ c.in_ok-next.ensures.kee
 
 pub returns-in_ok-push_single-in-Passes-clause-on : goal.returns-in_ok-push_single-in-Passes-clause-on
 returns-in_ok-push_single-in-Passes-clause-on c =
-    let s = c.next_turn.new.sets in
+    let s = c.next_turn.new.self.sets in
     let passed = c.args.passed.now in
     let head = c.in-Passes.head in
-    let t : turn_within c.args.context.now.table.now c.args.context.now.env.now c.args.self.now.left (hidings c.args.self.now.sets c.args.list.now) ≡ Passes (hiding s head) (hidings s c.next_turn.new.list) =
+    let t : turn_within c.args.context.now.table.now c.args.context.now.env.now c.args.self.now.left (hidings c.args.self.now.replacer.sets c.args.list.now) ≡ Passes (hiding s head) (hidings s c.next_turn.new.list) =
     sym (ap (turn_in s c.next_turn.new.list) (sym (stepped c.next.inside c.next.view_is c.in-Passes.is)) ∙ c.in_ok-next.ensures.is) in
-    let shown : hidings s c.push_single.new.self ≡ hidings c.args.self.now.sets passed ++ hiding s head ∷ [] =
+    let shown : hidings s c.push_single.new.self ≡ hidings c.args.self.now.replacer.sets passed ++ hiding s head ∷ [] =
     ap (hidings s) c.in_ok-push_single-in-Passes.ensures ∙ map-append (hiding s) passed (head ∷ []) ∙ ap (λ hs. hs ++ hiding s head ∷ []) (hidings-keeps passed c.in_ok-next.ensures.keeps c.requires.passed_known) in
     rw c.requires.no_call (λ level. (c.requires.no_fault, (hiding s head ∷ [], shown, record { turn = λ n out d. passes t d })))
 
 pub returns-in_ok-push_single-in-Passes-clause-passed_known : goal.returns-in_ok-push_single-in-Passes-clause-passed_known
 returns-in_ok-push_single-in-Passes-clause-passed_known c =
-    let s = c.next_turn.new.sets in
+    let s = c.next_turn.new.self.sets in
     let known = subst (NextKnown s c.next_turn.new.list) (stepped c.next.inside c.next.view_is c.in-Passes.is) c.in_ok-next.ensures.known in
     subst (AllKnown s) (sym c.in_ok-push_single-in-Passes.ensures) (known-append c.args.passed.now (c.in-Passes.head ∷ []) (known-keeps _ c.in_ok-next.ensures.keeps c.requires.passed_known) (record { each = (known.0, tt) }))
 
 pub returns-in-Replaced-clause-on : goal.returns-in-Replaced-clause-on
 returns-in-Replaced-clause-on c =
-    let s = c.next_turn.new.sets in
-    let t : turn_within c.args.context.now.table.now c.args.context.now.env.now c.args.self.now.left (hidings c.args.self.now.sets c.args.list.now) ≡ Replaced (hidings s c.next_turn.new.list) =
+    let s = c.next_turn.new.self.sets in
+    let t : turn_within c.args.context.now.table.now c.args.context.now.env.now c.args.self.now.left (hidings c.args.self.now.replacer.sets c.args.list.now) ≡ Replaced (hidings s c.next_turn.new.list) =
     sym (ap (turn_in s c.next_turn.new.list) (sym (stepped c.next.inside c.next.view_is c.in-Replaced.is)) ∙ c.in_ok-next.ensures.is) in
     let same = hidings-keeps _ c.in_ok-next.ensures.keeps c.requires.passed_known ∙ sym (append-nil _) in
     rw c.requires.no_call (λ level. (
@@ -81,9 +81,9 @@ returns-in-Replaced-clause-passed_known c = known-keeps _ c.in_ok-next.ensures.k
 
 pub returns-in-Called-clause-on : goal.returns-in-Called-clause-on
 returns-in-Called-clause-on c =
-    let s = c.next_turn.new.sets in
+    let s = c.next_turn.new.self.sets in
     let list = c.next_turn.new.list in
-    let t : turn_within c.args.context.now.table.now c.args.context.now.env.now c.args.self.now.left (hidings c.args.self.now.sets c.args.list.now) ≡ Called (call_of s c.in-Called.found list) =
+    let t : turn_within c.args.context.now.table.now c.args.context.now.env.now c.args.self.now.left (hidings c.args.self.now.replacer.sets c.args.list.now) ≡ Called (call_of s c.in-Called.found list) =
     sym (ap (turn_in s list) (sym (stepped c.next.inside c.next.view_is c.in-Called.is)) ∙ c.in_ok-next.ensures.is) in
     (t, c.requires.no_fault, c.less_one-self-in-Called.ensures, hidings-keeps _ c.in_ok-next.ensures.keeps c.requires.passed_known)
 

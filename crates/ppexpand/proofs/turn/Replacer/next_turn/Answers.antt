@@ -15,7 +15,7 @@ use Rattle.ppexpand.specs.Expansion.{turn_within}
 use Rattle.ppexpand.specs.Lists.{next_macro}
 use Rattle.ppexpand.specs.Shown.{turn_in, NextKnown}
 use Rattle.ppexpand.proofs.TurnLemmas.{turn-quote, turn-hidden, turn-named, turn-unnamed, done-within, refused-within, passes-within, free-within, nothing_left}
-use Rattle.ppexpand.proofs.turn.next_turn.Goals as goal
+use Rattle.ppexpand.proofs.turn.Replacer.next_turn.Goals as goal
 
 -- the turn of a macro's name that isn't hidden
 named : (macros : Macros) (env : Env) (left : Option ℕ) (t : Hiding) (rest : List Hiding) (d : Definition) → is_lone_quote t.token ≡ false → set.contains t.hide t.token.text ≡ false → macro_of macros t.token ≡ Some d
@@ -30,71 +30,71 @@ named_next macros h rest list is named = ap (λ l. next_macro macros (tokens_of 
 pub returns-in_default-clause-is : goal.returns-in_default-clause-is
 unfolding turn
 returns-in_default-clause-is c =
-    sym (done-within c.args.left []) ∙ ap (λ l. turn_within c.args.table.now c.args.env.now c.args.left (hidings c.args.sets.now l)) (sym c.in_default.ensures.0)
+    sym (done-within c.args.left []) ∙ ap (λ l. turn_within c.args.context.now.table.now c.args.context.now.env.now c.args.left (hidings c.args.self.now.sets l)) (sym c.in_default.ensures.0)
 
 pub returns-then-is_quote-clause-is : goal.returns-then-is_quote-clause-is
 returns-then-is_quote-clause-is c =
-    let s = c.args.sets.now in
+    let s = c.args.self.now.sets in
     let t = hiding s c.in-Some.head in
     let rest = hidings s c.next.new.self in
     let quote : is_lone_quote c.in-Some.head.token ≡ true = sym c.is_quote.ensures ∙ c.if-is_quote.true in
-    let whole : Refused (quote_fault t) ≡ turn_within c.args.table.now c.args.env.now c.args.left (hidings s c.args.list.now) =
-    sym (ap (within c.args.left (t ∷ rest)) (turn-quote c.args.table.now c.args.env.now t rest quote) ∙ refused-within c.args.left (t ∷ rest) (quote_fault t))
-    ∙ ap (λ l. turn_within c.args.table.now c.args.env.now c.args.left (hidings s l)) (sym c.in-Some.ensures) in
+    let whole : Refused (quote_fault t) ≡ turn_within c.args.context.now.table.now c.args.context.now.env.now c.args.left (hidings s c.args.list.now) =
+    sym (ap (within c.args.left (t ∷ rest)) (turn-quote c.args.context.now.table.now c.args.context.now.env.now t rest quote) ∙ refused-within c.args.left (t ∷ rest) (quote_fault t))
+    ∙ ap (λ l. turn_within c.args.context.now.table.now c.args.context.now.env.now c.args.left (hidings s l)) (sym c.in-Some.ensures) in
     IfOk-weaker c.refused_quote.result _ _ (λ n is. ap (turn_in s c.next.new.self) is ∙ whole) c.refused_quote.ensures
 
 pub returns-then-is_quote-clause-known : goal.returns-then-is_quote-clause-known
-returns-then-is_quote-clause-known c = IfOk-weaker c.refused_quote.result _ _ (λ n is. subst (NextKnown c.args.sets.now c.next.new.self) (sym is) tt) c.refused_quote.ensures
+returns-then-is_quote-clause-known c = IfOk-weaker c.refused_quote.result _ _ (λ n is. subst (NextKnown c.args.self.now.sets c.next.new.self) (sym is) tt) c.refused_quote.ensures
 
 pub returns-then-hides-clause-is : goal.returns-then-hides-clause-is
 returns-then-hides-clause-is c =
-    let s = c.args.sets.now in
+    let s = c.args.self.now.sets in
     let t = hiding s c.in-Some.head in
     let rest = hidings s c.next.new.self in
     let quote : is_lone_quote c.in-Some.head.token ≡ false = sym c.is_quote.ensures ∙ c.if-is_quote.false in
     let hidden : set.contains (hide_of s c.in-Some.head) c.in-Some.head.token.text ≡ true = sym c.hides.ensures ∙ c.if-hides.true in
-    sym (ap (within c.args.left (t ∷ rest)) (turn-hidden c.args.table.now c.args.env.now t rest quote hidden) ∙ passes-within c.args.left (t ∷ rest) t rest)
-    ∙ ap (λ l. turn_within c.args.table.now c.args.env.now c.args.left (hidings s l)) (sym c.in-Some.ensures)
+    sym (ap (within c.args.left (t ∷ rest)) (turn-hidden c.args.context.now.table.now c.args.context.now.env.now t rest quote hidden) ∙ passes-within c.args.left (t ∷ rest) t rest)
+    ∙ ap (λ l. turn_within c.args.context.now.table.now c.args.context.now.env.now c.args.left (hidings s l)) (sym c.in-Some.ensures)
 
 pub returns-in_default-named-clause-is : goal.returns-in_default-named-clause-is
 returns-in_default-named-clause-is c =
-    let s = c.args.sets.now in
+    let s = c.args.self.now.sets in
     let t = hiding s c.in-Some.head in
     let rest = hidings s c.next.new.self in
     let quote : is_lone_quote c.in-Some.head.token ≡ false = sym c.is_quote.ensures ∙ c.if-is_quote.false in
-    let none : macro_of c.args.table.now c.in-Some.head.token ≡ None = named_next c.args.table.now _ _ c.args.list.now c.in-Some.ensures c.requires.named ∙ ap option_copied c.in_default-named.is in
-    sym (ap (within c.args.left (t ∷ rest)) (turn-unnamed c.args.table.now c.args.env.now t rest quote none) ∙ passes-within c.args.left (t ∷ rest) t rest)
-    ∙ ap (λ l. turn_within c.args.table.now c.args.env.now c.args.left (hidings s l)) (sym c.in-Some.ensures)
+    let none : macro_of c.args.context.now.table.now c.in-Some.head.token ≡ None = named_next c.args.context.now.table.now _ _ c.args.list.now c.in-Some.ensures c.requires.named ∙ ap option_copied c.in_default-named.is in
+    sym (ap (within c.args.left (t ∷ rest)) (turn-unnamed c.args.context.now.table.now c.args.context.now.env.now t rest quote none) ∙ passes-within c.args.left (t ∷ rest) t rest)
+    ∙ ap (λ l. turn_within c.args.context.now.table.now c.args.context.now.env.now c.args.left (hidings s l)) (sym c.in-Some.ensures)
 
 pub returns-then-is_spent-clause-is : goal.returns-then-is_spent-clause-is
 returns-then-is_spent-clause-is c =
-    let s = c.args.sets.now in
+    let s = c.args.self.now.sets in
     let t = hiding s c.in-Some.head in
     let rest = hidings s c.next.new.self in
     let none : c.args.left ≡ Some 0 = nothing_left c.args.left (sym c.is_spent.ensures ∙ c.if-is_spent.true) in
     let quote = sym c.is_quote.ensures ∙ c.if-is_quote.false in
     let hidden = sym c.hides.ensures ∙ c.if-hides.false in
-    let macro = named_next c.args.table.now _ _ c.args.list.now c.in-Some.ensures c.requires.named ∙ ap option_copied c.in-Some-named.is in
-    let whole = sym (named c.args.table.now c.args.env.now (Some 0) t rest _ quote hidden macro)
-    ∙ (λ i. turn_within c.args.table.now c.args.env.now (sym none i) (hidings s (sym c.in-Some.ensures i))) in
-    IfOk-weaker c.spent_turn.result _ _ (λ n is. is s c.args.env.now ∙ whole) c.spent_turn.ensures.is
+    let macro = named_next c.args.context.now.table.now _ _ c.args.list.now c.in-Some.ensures c.requires.named ∙ ap option_copied c.in-Some-named.is in
+    let whole = sym (named c.args.context.now.table.now c.args.context.now.env.now (Some 0) t rest _ quote hidden macro)
+    ∙ (λ i. turn_within c.args.context.now.table.now c.args.context.now.env.now (sym none i) (hidings s (sym c.in-Some.ensures i))) in
+    IfOk-weaker c.spent_turn.result _ _ (λ n is. is s c.args.context.now.env.now ∙ whole) c.spent_turn.ensures.is
 
 pub returns-then-is_spent-clause-known : goal.returns-then-is_spent-clause-known
 returns-then-is_spent-clause-known c =
-    let s = c.args.sets.now in
+    let s = c.args.self.now.sets in
     let known : AllKnown s (c.in-Some.head ∷ c.next.new.self) = subst (AllKnown s) c.in-Some.ensures c.requires.known in
     IfOk-weaker c.spent_turn.result _ _ (λ n all. all s known.each.0 (record { each = known.each.1 })) c.spent_turn.ensures.known
 
 pub returns-clause-is : goal.returns-clause-is
 returns-clause-is c =
-    let s = c.args.sets.now in
+    let s = c.args.self.now.sets in
     let t = hiding s c.in-Some.head in
     let rest = hidings s c.next.new.self in
     let some = sym c.is_spent.ensures ∙ c.if-is_spent.false in
     let quote = sym c.is_quote.ensures ∙ c.if-is_quote.false in
     let hidden = sym c.hides.ensures ∙ c.if-hides.false in
-    let macro = named_next c.args.table.now _ _ c.args.list.now c.in-Some.ensures c.requires.named ∙ ap option_copied c.in-Some-named.is in
+    let macro = named_next c.args.context.now.table.now _ _ c.args.list.now c.in-Some.ensures c.requires.named ∙ ap option_copied c.in-Some-named.is in
     let whole = sym (free-within c.args.left (t ∷ rest) _ some)
-    ∙ sym (named c.args.table.now c.args.env.now c.args.left t rest _ quote hidden macro)
-    ∙ ap (λ l. turn_within c.args.table.now c.args.env.now c.args.left (hidings s l)) (sym c.in-Some.ensures) in
-    subst (λ u. IfOk c.macro_turn.result (λ n. turn_in c.macro_turn.new.sets c.macro_turn.new.list n ≡ u)) whole c.macro_turn.ensures.is
+    ∙ sym (named c.args.context.now.table.now c.args.context.now.env.now c.args.left t rest _ quote hidden macro)
+    ∙ ap (λ l. turn_within c.args.context.now.table.now c.args.context.now.env.now c.args.left (hidings s l)) (sym c.in-Some.ensures) in
+    subst (λ u. IfOk c.macro_turn.result (λ n. turn_in c.macro_turn.new.self.sets c.macro_turn.new.list n ≡ u)) whole c.macro_turn.ensures.is

@@ -3,11 +3,11 @@ use Rattle.std.specs.FinSet as set
 use Rattle.ppmacro.specs.HideSets.{IsKnown, HasSets, hide_of, hiding, hidings, AllKnown}
 use Rattle.ppmacro.proofs.KeepLemmas.{hiding-keeps, hidings-keeps, known-keeps}
 use Rattle.ppexpand.specs.Turn.{Replaced, predefined_value}
-use Rattle.ppexpand.proofs.turn.predefined_turn.Goals as goal
+use Rattle.ppexpand.proofs.turn.Replacer.predefined_turn.Goals as goal
 
 pub returns-clause-is : goal.returns-clause-is
 returns-clause-is c =
-    let s = c.args.sets.now in
+    let s = c.args.self.now.sets in
     let t = c.with_own.new.self in
     let keeps = c.in_ok-gain.ensures.keeps in
     let value : hiding t c.in_ok-predefined_value.field-0 ≡ predefined_value c.args.builtin c.args.env.now (hiding s c.args.head.now) (set.insert (hide_of s c.args.head.now) c.args.head.now.token.text) =
