@@ -1,5 +1,5 @@
 // The expansion of a list.
-ghost use Rattle.std.specs.Prelude.{◌≡◌, ℕ, ◌≤◌, ◌++◌, ◌∷◌, [], List, map, true, false, is_some, Some, None, Ok, Err, IfOk, OnOk, MatchOption, IfSome};
+ghost use Rattle.std.specs.Prelude.{◌≡◌, ℕ, ◌≤◌, ◌++◌, [], List, map, true, false, is_some, Some, None, Ok, Err, IfOk, OnOk, MatchOption, IfSome};
 ghost use Rattle.ppmacro.specs.Chains.{chains_of};
 ghost use Rattle.ppmacro.specs.Patterns.{listed};
 ghost use Rattle.std.specs.Option.{option_copied};

@@ -35,7 +35,7 @@ use ppmacro::{
     substitute_pattern,
 };
 use pptext::{Fault, Memory, Place, Spelling, Token};
-use std::alloc::{AllocError, Global};
+use std::alloc::AllocError;
 use std::marker::Model;
 
 /// An invocation of a function-like macro, which is taken out of its list.
