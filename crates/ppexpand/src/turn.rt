@@ -31,8 +31,8 @@ use crate::spellings::{at_use, is_open, is_quote, lone_quote, over_budget};
 use crate::spending::is_spent;
 use crate::supply::Supply;
 use ppmacro::{
-    Builtin, Expansion, Hidden, HideSets, Macro, Pattern, Set, Shape, Table, Variadic,
-    substitute_pattern,
+    Arguments, Builtin, Expansion, Hidden, HideSets, Macro, MacroName, Pattern, Set, Shape, Table,
+    Variadic, substitute_pattern,
 };
 use pptext::{Fault, Memory, Place, Spelling, Token};
 use std::alloc::AllocError;
@@ -86,15 +86,6 @@ impl<'t, 'x, 'a> Model for Next<'t, 'x, 'a> {
       | Replaced ↦ next.Replaced
       | Called c ↦ next.Called c.head c.replaced.now c.arguments.items c.both
     ] };
-}
-
-/// The arguments of an invocation.
-#[derive(Drop)]
-struct CallArguments<'c, 'x> {
-    /// An argument for each parameter but a variable argument that is absent.
-    given: &'c [Vec<Hidden<'x>>],
-    /// An expansion for each parameter.
-    expanded: &'c [Expansion<'x>],
 }
 
 /// What replaces macros' names in lists.
@@ -268,32 +259,29 @@ impl<'x> Replacer<'x> {
     fn replace<'a: 'x>(
         &mut self,
         pattern: &Pattern<'a>,
-        arguments: &CallArguments<'_, 'x>,
+        arguments: Arguments<'_, 'x>,
         base: Set,
         head: &Hidden,
         list: &mut Cursor<'x>,
     ) -> Result<Result<(), Fault>, Memory>
-        requires arguments { ArgumentsKnown self.old.sets arguments.now.given.now arguments.now.expanded.now }
+        requires arguments { ArgumentsKnown self.old.sets arguments.given.now arguments.expanded.now }
         requires base { IsKnown self.old.sets base }
         requires list { AllKnown self.old.sets list.old }
         ensures is { IfOk result (λ r. replaced_in self.new.sets list.new r
-            ≡ replaced_by (substituted_by (listed pattern.now) (arguments_in self.old.sets arguments.now.given.now arguments.now.expanded.now)
+            ≡ replaced_by (substituted_by (listed pattern.now) (arguments_in self.old.sets arguments.entry.given.now arguments.entry.expanded.now)
             (set.insert (set_at self.old.sets base) head.now.token.text) head.now.token.used head.now.token.space)
             (hidings self.old.sets list.old)) }
         ensures known { IfOk result (λ r. OnOk r (AllKnown self.new.sets list.new)) }
         ensures keeps { Keeps self.old.sets self.new.sets }
     {
-        match substitute_pattern(
-            self.supply.alloc(),
-            pattern,
-            arguments.given,
-            arguments.expanded,
+        let alloc = self.supply.alloc();
+        let name = MacroName {
             base,
-            head.text(),
-            head.used(),
-            head.space(),
-            &mut self.sets,
-        )? {
+            name: head.text(),
+            used: head.used(),
+            space: head.space(),
+        };
+        match substitute_pattern(alloc, pattern, arguments, &name, &mut self.sets)? {
             Ok((tokens, pending)) => {
                 list.mark_next(pending);
                 list.push_all(tokens)?;
@@ -351,11 +339,11 @@ impl<'x> Replacer<'x> {
         }
         let chains = replaced.chains(self.supply.alloc())?;
         let pattern = Pattern::Joined(chains);
-        let none = CallArguments {
+        let none = Arguments {
             given: &[],
             expanded: &[],
         };
-        self.replace(&pattern, &none, base, head, list)
+        self.replace(&pattern, none, base, head, list)
     }
 
     /// The turn of an object-like macro's name.
@@ -531,11 +519,11 @@ impl<'x> Replacer<'x> {
         ensures known { OnOk result (fault.new ≡ None → AllKnown self.new.sets list.new) }
         ensures keeps { Keeps self.old.sets self.new.sets }
     {
-        let arguments = CallArguments {
+        let arguments = Arguments {
             given: call.arguments.as_slice(),
             expanded,
         };
-        match self.replace(pattern, &arguments, call.both, &call.head, list)? {
+        match self.replace(pattern, arguments, call.both, &call.head, list)? {
             Ok(()) => Ok(()),
             Err(found) => {
                 *fault = Some(found);

@@ -17,7 +17,7 @@ returns-in_ok-push_all-in-Ok-clause-is c =
     let list = c.args.list.now in
     let tokens = c.in-Ok.tokens.items in
     let made = ap (marked_in t) (sym c.in-Ok.is) ∙ c.in_ok-tokens.ensures.is
-    ∙ (λ i. substituted_by (listed c.args.pattern.now) (arguments_in s c.args.arguments.now.given.now c.args.arguments.now.expanded.now)
+    ∙ (λ i. substituted_by (listed c.args.pattern.now) (arguments_in s c.args.arguments.given.now c.args.arguments.expanded.now)
     (set.insert (set_at s c.args.base) (c.text.ensures i)) (c.used.ensures i) (c.space.ensures i)) in
     let marked : hidings t c.mark_next.new.self ≡ mark_next c.in-Ok.pending (hidings s list) =
     ap (hidings t) c.mark_next.ensures ∙ hidings-marked t c.in-Ok.pending list ∙ ap (mark_next c.in-Ok.pending) (hidings-keeps list c.in_ok-tokens.ensures.keeps c.requires.list) in
@@ -36,6 +36,6 @@ pub returns-in-Err-clause-is : goal.returns-in-Err-clause-is
 returns-in-Err-clause-is c =
     let s = c.args.self.now.sets in
     let made = ap (marked_in c.substitute_pattern.new.sets) (sym c.in-Err.is) ∙ c.in_ok-tokens.ensures.is
-    ∙ (λ i. substituted_by (listed c.args.pattern.now) (arguments_in s c.args.arguments.now.given.now c.args.arguments.now.expanded.now)
+    ∙ (λ i. substituted_by (listed c.args.pattern.now) (arguments_in s c.args.arguments.given.now c.args.arguments.expanded.now)
     (set.insert (set_at s c.args.base) (c.text.ensures i)) (c.used.ensures i) (c.space.ensures i)) in
     ap (λ r. replaced_by r (hidings s c.args.list.now)) made
