@@ -1,10 +1,12 @@
 -- The first of several names that a shelf has.
-use Rattle.std.proofs.Common.{◌≡◌, ℕ, ◌+◌, zero, suc, ◌<◌, ◌≤◌, List, [], ◌∷◌, ◌++◌, length, get_or, take, drop, drop-cons, append_assoc, Option, Some, None}
+use Rattle.std.proofs.Common.{◌≡◌, ◌≢◌, ℕ, Bool, true, false, ◌+◌, zero, suc, ◌<◌, ◌≤◌, List, [], ◌∷◌, ◌++◌, length, get_or, take, drop, drop-cons, append_assoc, Option, Some, None}
 use Rattle.std.proofs.Common.{IfSome, refl, sym, ap, ◌∙◌, subst, arith, inl, inr}
 use Rattle.std.specs.Option.{option_map}
+use Rattle.std.specs.Str.{bytes_eq}
 use Rattle.std.proofs.lemmas.Grind.{common_steps}
 use Rattle.std.proofs.lemmas.Bool.{cases_lt}
 use Rattle.std.proofs.lemmas.Option.{none-some}
+use Rattle.std.proofs.lemmas.Slice.Eq.{bytes_eq-Decides}
 use Rattle.ppshelf.specs.Names.{AreNames, IsRowOf}
 use Rattle.ppshelf.specs.Search.{Path, Candidate, IsFirstRow, IsRowAt, IsEndOf, candidate, candidates, candidates_behind, inside, lead}
 use Rattle.ppshelf.specs.declared.search.Form.TheVariants.{Angle}
@@ -131,3 +133,28 @@ above names (folder ∷ more) text k found h =
 -- so a search behind a folder finds what it finds in a later one
 pub found_behind : (names unit setting : List (List ℕ)) (text : List ℕ) (j row folder : ℕ) → IsFirstRow names (candidates_behind j unit setting text) (Some (row, folder)) → j < folder
 found_behind names unit setting text j row folder h = let l = above names (drop j (unit ++ setting)) text (suc j) (row, folder) h in omega arith
+
+-- ---- a search has an answer
+
+none_here : (n : List ℕ) (names : List (List ℕ)) (name : List ℕ) → n ≢ name → IsRowOf names name None → IsRowOf (n ∷ names) name None
+none_here n names name other none zero h = other
+none_here n names name other none (suc row) h = none row (omega arith)
+
+row_here : (n : List ℕ) (names : List (List ℕ)) (name : List ℕ) (b : Bool) → bytes_eq n name ≡ b → (row : Option ℕ) → IsRowOf names name row → (found : Option ℕ) × IsRowOf (n ∷ names) name found
+row_here n names name true e row h = (Some 0, (omega arith, (bytes_eq-Decides n name).0 e))
+row_here n names name false e None h = (None, none_here n names name (λ same. let no : bytes_eq n name ≡ true = (bytes_eq-Decides n name).1 same in cc) h)
+row_here n names name false e (Some r) h = (Some (suc r), (omega arith, h.1))
+
+-- a name stands among the names or doesn't
+some_row_of : (names : List (List ℕ)) (name : List ℕ) → (row : Option ℕ) × IsRowOf names name row
+some_row_of [] name = (None, λ row h. absurd (omega arith))
+some_row_of (n ∷ names) name = row_here n names name (bytes_eq n name) refl (some_row_of names name).0 (some_row_of names name).1
+
+first_or : (names : List (List ℕ)) (c : Candidate) (cs : List Candidate) (row : Option ℕ) → IsRowOf names c.name row → (later : Option (ℕ × ℕ)) → IsFirstRow names cs later → (found : Option (ℕ × ℕ)) × IsFirstRow names (c ∷ cs) found
+first_or names c cs None h later k = (later, inr (h, k))
+first_or names c cs (Some r) h later k = (Some (r, c.folder), inl (r, (refl, h)))
+
+-- so each list of candidates has an answer, whatever the names
+pub some_first : (names : List (List ℕ)) (cs : List Candidate) → (found : Option (ℕ × ℕ)) × IsFirstRow names cs found
+some_first names [] = (None, refl)
+some_first names (c ∷ cs) = first_or names c cs (some_row_of names c.name).0 (some_row_of names c.name).1 (some_first names cs).0 (some_first names cs).1

@@ -11,6 +11,11 @@ pub fn one_row()
         → IsFirstRow names candidates a → IsFirstRow names candidates b → a ≡ b }
 {}
 
+/// A law: a search has an answer, whatever names there are and whatever is looked for (6.10.2).
+pub fn some_row()
+    ensures { (names : List (List ℕ)) (candidates : List Candidate) → (r : Option (ℕ × ℕ)) × IsFirstRow names candidates r }
+{}
+
 /// A law: what `#include_next` looks for behind a folder is the end of what `#include <..>` looks for.
 pub fn next_ends_search()
     ensures { (from text : List ℕ) (unit setting : List (List ℕ)) (number : ℕ)
