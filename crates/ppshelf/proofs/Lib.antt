@@ -2,7 +2,7 @@
 
 -- What a pass knows at a row.
 pub mod Files
--- Whatever happens to a shelf, what its callers have learnt is what its rows keep.
+-- Whatever happens to a shelf and a desk, what callers have learnt is what rows keep, and what they claimed are the blocks below the next one.
 pub mod Events
 -- What a fill keeps from row to row.
 pub mod Filling

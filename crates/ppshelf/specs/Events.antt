@@ -1,60 +1,122 @@
--- What happens to a shelf into which several callers look: its shared state, and the two events that change it.
-use Rattle.std.specs.Prelude.{◌≡◌, ℕ, ◌<◌, List, [], ◌∷◌, length, replicate, Some, None, slice_index_or, slice_set}
+-- What happens to a shelf and a desk that several callers use: their shared state, and the three events that change it.
+use Rattle.std.specs.Prelude.{◌≡◌, ℕ, suc, ◌+◌, ◌<◌, ◌≤◌, ◌==◌, nat_lt, min, if◌then◌else◌, Bool, true, false, List, [], ◌∷◌, ◌++◌, length, replicate, Some, None, slice_index_or, slice_set}
 use Rattle.ppshelf.specs.Content.{Content}
 use Rattle.ppshelf.specs.Files.{Files, file_at, Extends, Agree}
 
--- What the rows keep, and what each caller has learnt
+-- A caller: what it has learnt of the shelf, the blocks that it claimed at the desk, in order, and whether it found no block left
+pub record Caller : Type 0 where
+  pub learnt : Files
+  pub claims : List ℕ
+  pub found_empty : Bool
+
+-- one that there is not
+abbrev pub nobody : Caller
+nobody = record { learnt = []; claims = []; found_empty = false }
+
+-- What the rows keep, the number of the next block, and the callers
 pub record Shared : Type 0 where
   pub kept : Files
-  pub learnt : List Files
+  pub block : ℕ
+  pub callers : List Caller
+
+abbrev pub caller_at : Shared → ℕ → Caller
+caller_at shared caller = slice_index_or shared.callers caller nobody
 
 abbrev pub learnt_by : Shared → ℕ → Files
-learnt_by shared caller = slice_index_or shared.learnt caller []
+learnt_by shared caller = (caller_at shared caller).learnt
+
+-- a caller is changed so
+abbrev pub changing : Shared → ℕ → (Caller → Caller) → Shared
+changing shared caller change = record shared { callers = slice_set shared.callers caller (change (caller_at shared caller)) }
 
 -- a caller learns the content of a row
 abbrev pub learning : Shared → ℕ → ℕ → Content → Shared
-learning shared caller row c = record shared { learnt = slice_set shared.learnt caller (slice_set (learnt_by shared caller) row (Some c)) }
+learning shared caller row c = changing shared caller (λ (k : Caller). record k { learnt = slice_set k.learnt row (Some c) })
 
 -- a row keeps a content
 abbrev pub keeping : Shared → ℕ → Content → Shared
 keeping shared row c = record shared { kept = slice_set shared.kept row (Some c) }
 
--- A caller's look keeps the first content of a row, or a later look reads what is kept
+-- a caller has the next block
+abbrev pub with_block : ℕ → Caller → Caller
+with_block block k = record k { claims = k.claims ++ block ∷ [] }
+
+-- a caller has found that none is left
+abbrev pub with_none : Caller → Caller
+with_none k = record k { found_empty = true }
+
+-- the next block is another
+abbrev pub advancing : Shared → Shared
+advancing shared = record shared { block = suc shared.block }
+
+-- A caller's look keeps the first content of a row; a later look reads what is kept; a caller claims a block
 pub data Event : Type 0 where
   Keep : ℕ → ℕ → Content → Event
   Read : ℕ → ℕ → Event
+  Claim : ℕ → Event
 
--- Keep: a row that keeps nothing gets a content, and the caller learns it. Read: the caller learns what the row keeps.
-pub data Happens : Shared → Event → Shared → Type 0 where
+-- By a caller that is there, over a desk with so many blocks. Keep: a row that keeps nothing gets a content, and the caller learns it. Read: the
+-- caller learns what the row keeps. Claim: the caller gets the next block where there is one, and otherwise finds that none is left; the number of the
+-- next block rises by one.
+pub data Happens (blocks : ℕ) : Shared → Event → Shared → Type 0 where
   keeps : {shared : Shared} {caller row : ℕ} {c : Content}
+      → caller < length shared.callers
       → row < length shared.kept
       → file_at shared.kept row ≡ None
-      → Happens shared (Keep caller row c) (learning (keeping shared row c) caller row c)
+      → Happens blocks shared (Keep caller row c) (learning (keeping shared row c) caller row c)
   reads : {shared : Shared} {caller row : ℕ} {c : Content}
+      → caller < length shared.callers
       → file_at shared.kept row ≡ Some c
-      → Happens shared (Read caller row) (learning shared caller row c)
+      → Happens blocks shared (Read caller row) (learning shared caller row c)
+  claims : {shared : Shared} {caller : ℕ}
+      → caller < length shared.callers
+      → shared.block < blocks
+      → Happens blocks shared (Claim caller) (advancing (changing shared caller (with_block shared.block)))
+  finds_none : {shared : Shared} {caller : ℕ}
+      → caller < length shared.callers
+      → blocks ≤ shared.block
+      → Happens blocks shared (Claim caller) (advancing (changing shared caller with_none))
 
 -- one event after another
-pub data Happen : Shared → List Event → Shared → Type 0 where
-  none : {shared : Shared} → Happen shared [] shared
-  next : {shared then after : Shared} {event : Event} {events : List Event}
-      → Happens shared event then
-      → Happen then events after
-      → Happen shared (event ∷ events) after
+pub data Happen (blocks : ℕ) : Shared → List Event → Shared → Type 0 where
+  none : {shared : Shared} → Happen blocks shared [] shared
+  next : {shared between after : Shared} {event : Event} {events : List Event}
+      → Happens blocks shared event between
+      → Happen blocks between events after
+      → Happen blocks shared (event ∷ events) after
 
--- no row keeps anything, and no caller has learnt anything
+-- no row keeps anything, the next block is the first, and no caller has learnt or claimed anything
 abbrev pub beginning : ℕ → ℕ → Shared
-beginning rows callers = record { kept = replicate rows None; learnt = replicate callers (replicate rows None) }
+beginning rows callers = record { kept = replicate rows None; block = 0; callers = replicate callers (record nobody { learnt = replicate rows None }) }
 
 -- What a caller has learnt stays, whatever happens.
 abbrev pub LearntStays : Type 0
 LearntStays =
-    (rows callers : ℕ) (events more : List Event) (shared after : Shared)
-    → Happen (beginning rows callers) events shared → Happen shared more after
+    (blocks rows callers : ℕ) (events more : List Event) (shared after : Shared)
+    → Happen blocks (beginning rows callers) events shared → Happen blocks shared more after
     → (caller : ℕ) → Extends (learnt_by after caller) (learnt_by shared caller)
 
 -- Callers agree at every row of which both have learnt.
 abbrev pub CallersAgree : Type 0
 CallersAgree =
-    (rows callers : ℕ) (events : List Event) (shared : Shared) → Happen (beginning rows callers) events shared
+    (blocks rows callers : ℕ) (events : List Event) (shared : Shared) → Happen blocks (beginning rows callers) events shared
     → (one two : ℕ) → Agree (learnt_by shared one) (learnt_by shared two)
+
+-- ---- claims
+
+-- how often a number stands in the list
+abbrev pub times : ℕ → List ℕ → ℕ
+times x [] = 0
+times x (y ∷ ys) = (if y == x then 1 else 0) + times x ys
+
+-- what callers claimed, one after another
+abbrev pub claims_of : List Caller → List ℕ
+claims_of [] = []
+claims_of (k ∷ ks) = k.claims ++ claims_of ks
+
+-- What callers claimed are the blocks below the next one, each once; and where one of them found that none is left, that is every block.
+abbrev pub EachBlockOnce : Type 0
+EachBlockOnce =
+    (blocks rows callers : ℕ) (events : List Event) (shared : Shared) → Happen blocks (beginning rows callers) events shared
+    → ((x : ℕ) → times x (claims_of shared.callers) ≡ (if nat_lt x (min shared.block blocks) then 1 else 0))
+    × ((caller : ℕ) → (caller_at shared caller).found_empty ≡ true → blocks ≤ shared.block)

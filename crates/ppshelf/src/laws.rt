@@ -1,6 +1,6 @@
 // Laws of the definitions: functions that do nothing, whose contracts are the laws.
 ghost use Rattle.std.specs.Prelude.{◌≡◌, ◌<◌, ℕ, List, Option, Some, IsTrue, ◌↔◌};
-ghost use Rattle.ppshelf.specs.Events.{LearntStays, CallersAgree};
+ghost use Rattle.ppshelf.specs.Events.{LearntStays, CallersAgree, EachBlockOnce};
 ghost use Rattle.ppshelf.specs.Names.{AreNames, are_names};
 ghost use Rattle.ppshelf.specs.Search.{Candidate, IsEndOf, IsFirstRow, candidates, candidates_behind};
 ghost use Rattle.ppshelf.specs.declared.search.Form.TheVariants.{Angle};
@@ -36,6 +36,11 @@ pub fn learnt_stays()
 /// A law: callers of a shelf agree at every row of which both have learnt.
 pub fn callers_agree()
     ensures { CallersAgree }
+{}
+
+/// A law: what callers claimed at a desk are the blocks below the next one, each once, and all blocks where one of them found none left.
+pub fn each_block_once()
+    ensures { EachBlockOnce }
 {}
 
 /// A law: the test of names passes exactly where they are in normal form, each once.

@@ -17,7 +17,8 @@ pub use disk::{Disk, ReadFault};
 pub use folder_disk::FolderDisk;
 pub use index::Index;
 pub use laws::{
-    callers_agree, learnt_stays, names_decide, next_ends_search, next_goes_on, one_row, some_row,
+    callers_agree, each_block_once, learnt_stays, names_decide, next_ends_search, next_goes_on,
+    one_row, some_row,
 };
 pub use loaded::Loaded;
 pub use memory_disk::{File, MemoryDisk};
