@@ -11,6 +11,7 @@ use Rattle.std.proofs.lemmas.Option.{none-some, same_Some}
 use Rattle.ppshelf.specs.Content.{Content, Lawful}
 use Rattle.ppshelf.specs.Names.{name_in}
 use Rattle.ppshelf.specs.Files.{Files, Stock, file_at, AllLawful, or_else, Agree, Joined, Extends}
+use Rattle.pptext.specs.declared.hashing.Hashing.{Hashing}
 use Rattle.pptext.specs.declared.sources.Profile.{Profile}
 use Rattle.ppshelf.specs.Shelved.{Held, Spot, Sight, IsPlaced, FitsRow, Placed, IsPass, files_of, names_of, base_of, cells_of, stock_of, spot_at, no_sight, no_spot}
 
@@ -70,8 +71,8 @@ spot_by s profile row name base cell named based celled p =
     ∙ ap (λ (k : ℕ). record { name = name; base = option_map (held profile row name) base; cell = k }) (sym celled)))
 
 -- what a row is, callers see
-pub spot_is : (profile : Profile) (rows : List Spot) (row : ℕ) (spot : Spot) → Placed profile rows → row < length rows → spot ≡ get_or rows row spot → spot ≡ spot_at (stock_of profile rows) row
-spot_is profile rows row spot placed within read =
+pub spot_is : (profile : Profile) (hashing : Hashing) (rows : List Spot) (row : ℕ) (spot : Spot) → Placed profile rows → row < length rows → spot ≡ get_or rows row spot → spot ≡ spot_at (stock_of profile hashing rows) row
+spot_is profile hashing rows row spot placed within read =
     let name : Spot → List ℕ = λ s. s.name in
     let base : Spot → Option Content = λ s. option_map (λ (h : Held). h.content) s.base in
     let cell : Spot → ℕ = λ s. s.cell in
@@ -161,8 +162,8 @@ unseen_more stock sights n spot s u within read cell shown = let len = u.len in 
       ∙ (ap (λ (o : Option Held). replicate n None ++ option_map (λ (h : Held). h.content) o ∷ []) shown ∙ replicate_more n None));
 }
 
-pub unseen_pass : (may : List ℕ → Content → Type 0) (profile : Profile) (rows : List Spot) (sights : List Sight) → Unseen rows sights (length rows) → IsPass may (stock_of profile rows) sights
-unseen_pass may profile rows sights u =
+pub unseen_pass : (may : List ℕ → Content → Type 0) (profile : Profile) (hashing : Hashing) (rows : List Spot) (sights : List Sight) → Unseen rows sights (length rows) → IsPass may (stock_of profile hashing rows) sights
+unseen_pass may profile hashing rows sights u =
     let count : length (names_of rows) ≡ length rows = length-map rows (λ (s : Spot). s.name) in
     record {
       len = u.len ∙ sym count;
@@ -202,35 +203,35 @@ pass_set may stock sights n spot s is w at fits = record {
 
 -- ---- a row of a shelf that is looked at
 
-pub fits_at : (may : List ℕ → Content → Type 0) (profile : Profile) (rows : List Spot) (stock : Stock) (sights : List Sight) (row : ℕ) (spot : Spot) (s : Sight)
+pub fits_at : (may : List ℕ → Content → Type 0) (profile : Profile) (hashing : Hashing) (rows : List Spot) (stock : Stock) (sights : List Sight) (row : ℕ) (spot : Spot) (s : Sight)
     → Placed profile rows
-    → stock ≡ stock_of profile rows
+    → stock ≡ stock_of profile hashing rows
     → row < length rows
     → spot ≡ get_or rows row spot
     → IsPass may stock sights
     → s ≡ get_or sights row s → FitsRow may profile row spot s
-fits_at may profile rows stock sights row spot s placed same w read is mine =
+fits_at may profile hashing rows stock sights row spot s placed same w read is mine =
     let count : length (names_of rows) ≡ length rows = length-map rows (λ (x : Spot). x.name) in
     let long : length stock.names ≡ length (names_of rows) = ap (λ (x : Stock). length x.names) same in
     let len = is.len in
-    let at : spot ≡ spot_at stock row = spot_is profile rows row spot placed w read ∙ ap (λ (x : Stock). spot_at x row) (sym same) in
+    let at : spot ≡ spot_at stock row = spot_is profile hashing rows row spot placed w read ∙ ap (λ (x : Stock). spot_at x row) (sym same) in
     let P : Sight → Type 0 = λ x. FitsRow may profile row spot x in
     let Q : Spot → Type 0 = λ x. FitsRow may profile row x (get_or sights row no_sight) in
     let R : Profile → Type 0 = λ p. FitsRow may p row (spot_at stock row) (get_or sights row no_sight) in
     subst P (sym (get_or_read sights row s (omega arith) mine no_sight)) (subst Q (sym at) (subst R (ap (λ (x : Stock). x.profile) same) (is.rows row (omega arith))))
 
-pub shown_pass : (may : List ℕ → Content → Type 0) (profile : Profile) (rows : List Spot) (stock : Stock) (sights : List Sight) (row : ℕ) (spot : Spot)
+pub shown_pass : (may : List ℕ → Content → Type 0) (profile : Profile) (hashing : Hashing) (rows : List Spot) (stock : Stock) (sights : List Sight) (row : ℕ) (spot : Spot)
     (s : Sight)
     → Placed profile rows
-    → stock ≡ stock_of profile rows
+    → stock ≡ stock_of profile hashing rows
     → row < length rows
     → spot ≡ get_or rows row spot
     → IsPass may stock sights
     → FitsRow may profile row spot s → IsPass may stock (set sights row s)
-shown_pass may profile rows stock sights row spot s placed same w read is fits =
+shown_pass may profile hashing rows stock sights row spot s placed same w read is fits =
     let count : length (names_of rows) ≡ length rows = length-map rows (λ (x : Spot). x.name) in
     let long : length stock.names ≡ length (names_of rows) = ap (λ (x : Stock). length x.names) same in
-    pass_set may stock sights row spot s is (omega arith) (spot_is profile rows row spot placed w read ∙ ap (λ (x : Stock). spot_at x row) (sym same))
+    pass_set may stock sights row spot s is (omega arith) (spot_is profile hashing rows row spot placed w read ∙ ap (λ (x : Stock). spot_at x row) (sym same))
     (let R : Profile → Type 0 = λ p. FitsRow may p row spot s in subst R (ap (λ (x : Stock). x.profile) (sym same)) fits)
 
 -- two passes have met at the rows from n on

@@ -6,7 +6,9 @@ use Rattle.std.proofs.lemmas.Option.{none-some}
 use Rattle.ppshelf.specs.Content.{Content, readable, Lawful}
 use Rattle.std.specs.Option.{option_map}
 use Rattle.ppshelf.specs.Names.{name_in}
+use Rattle.ppshelf.specs.Indexed.{IndexOfNames}
 use Rattle.ppshelf.specs.Files.{Stock, IsFull, Filled, file_at, bytes_at}
+use Rattle.pptext.specs.declared.hashing.Hashing.{Hashing}
 use Rattle.pptext.specs.declared.sources.Profile.{Profile}
 use Rattle.ppshelf.specs.Shelved.{Held, Spot, FilledRow, Placed, IsShelf, names_of, base_of, cells_of, stock_of, no_spot}
 
@@ -126,15 +128,17 @@ filled_row gives profile row old new f =
 -- what a fill makes of a shelf, as callers see it
 pub record Fills (gives : ℕ → List ℕ → Content → Type 0) (old new : Stock) : Type 0 where
   pub shelf : (new.names ≡ old.names) × (new.profile ≡ old.profile) × (new.cells ≡ old.cells)
+  pub hashing : new.hashing ≡ old.hashing
   pub base : (row : ℕ) → row < length old.names → Filled (gives row (name_in old.names row)) (file_at old.base row) (file_at new.base row)
   pub len : length new.base ≡ length old.names
 
-fills_turned : (profile : Profile) (gives : ℕ → List ℕ → Content → Type 0) (old new : List Spot) → Turned profile gives old new → Fills gives (stock_of profile old) (stock_of profile new)
-fills_turned profile gives old new t =
+fills_turned : (profile : Profile) (hashing : Hashing) (gives : ℕ → List ℕ → Content → Type 0) (old new : List Spot) → Turned profile gives old new → Fills gives (stock_of profile hashing old) (stock_of profile hashing new)
+fills_turned profile hashing gives old new t =
     let name : Spot → List ℕ = λ s. s.name in
     let base : Spot → Option Content = λ s. option_map (λ (h : Held). h.content) s.base in
     record {
       shelf = (names_turned profile gives old new t, refl, cells_turned profile gives old new t);
+      hashing = refl;
       base = λ row below.
           let before : row < length old = let l = length-map old name in omega arith in
           let within : row < length new = let l = t.len in omega arith in
@@ -153,8 +157,8 @@ some_content None some = some
 some_content (Some h) some = refl
 
 -- at the end each row is filled
-pub full_turned : (profile : Profile) (gives : ℕ → List ℕ → Content → Type 0) (old new : List Spot) (n : ℕ) → length old ≤ n → Filling profile gives old new n → IsFull (stock_of profile new)
-full_turned profile gives old new n past f row below =
+pub full_turned : (profile : Profile) (hashing : Hashing) (gives : ℕ → List ℕ → Content → Type 0) (old new : List Spot) (n : ℕ) → length old ≤ n → Filling profile gives old new n → IsFull (stock_of profile hashing new)
+full_turned profile hashing gives old new n past f row below =
     let base : Spot → Option Content = λ s. option_map (λ (h : Held). h.content) s.base in
     let within : row < length new = let l = length-map new (λ (s : Spot). s.name) in omega arith in
     let P : Option Content → Type 0 = λ o. IsSome o in
@@ -169,25 +173,26 @@ shelf_turned profile gives names old new s t = record {
 }
 
 -- a fill leaves a shelf where it began at one, since the profile and the index stay
-pub shelf_kept : {gives : ℕ → List ℕ → Content → Type 0} {names index : List (List ℕ)} {was is : Profile} {old new : List Spot}
+pub shelf_kept : {gives : ℕ → List ℕ → Content → Type 0} {before index : IndexOfNames} {was is : Profile} {old new : List Spot}
     → is ≡ was
-    → index ≡ names
-    → IsShelf was names old
+    → index ≡ before
+    → IsShelf was before.names old
     → Turned was gives old new
-    → IsShelf is index new
-shelf_kept {gives = gives} {names = names} {was = was} {old = old} {new = new} profile index s t = rw (profile, index) (shelf_turned was gives names old new s t)
+    → IsShelf is index.names new
+shelf_kept {gives = gives} {before = before} {was = was} {old = old} {new = new} profile index s t = rw (profile, index) (shelf_turned was gives before.names old new s t)
 
 -- and fills what callers see
-pub fills_kept : {gives : ℕ → List ℕ → Content → Type 0} {was is : Profile} {old new : List Spot} {now : Stock}
+pub fills_kept : {gives : ℕ → List ℕ → Content → Type 0} {before index : IndexOfNames} {was is : Profile} {old new : List Spot} {now : Stock}
     → is ≡ was
-    → stock_of was old ≡ now
+    → index ≡ before
+    → stock_of was before.hashing old ≡ now
     → Turned was gives old new
-    → Fills gives now (stock_of is new)
-fills_kept {gives = gives} {was = was} {old = old} {new = new} profile view t = rw (profile, ← view) (fills_turned was gives old new t)
+    → Fills gives now (stock_of is index.hashing new)
+fills_kept {gives = gives} {before = before} {was = was} {old = old} {new = new} profile index view t = rw (profile, index, ← view) (fills_turned was before.hashing gives old new t)
 
 -- the rows are as many as the names that callers see
-pub rows_counted : (profile : Profile) (rows : List Spot) {now : Stock} → stock_of profile rows ≡ now → length rows ≡ length now.names
-rows_counted profile rows view = sym (length-map rows (λ (s : Spot). s.name)) ∙ ap (λ (s : Stock). length s.names) view
+pub rows_counted : (profile : Profile) (hashing : Hashing) (rows : List Spot) {now : Stock} → stock_of profile hashing rows ≡ now → length rows ≡ length now.names
+rows_counted profile hashing rows view = sym (length-map rows (λ (s : Spot). s.name)) ∙ ap (λ (s : Stock). length s.names) view
 
 -- what a shelf that is filled with contents holds in each row
 abbrev pub given : List (Vec ℕ Global) → ℕ → List ℕ → Content → Type 0

@@ -1,6 +1,7 @@
 -- Files by row: what a shelf holds, and what a caller knows of it.
 use Rattle.std.specs.Prelude.{◌≡◌, ℕ, ◌<◌, List, [], length, map, Option, Some, None, IsSome, slice_index_or}
 use Rattle.std.specs.declared.vec.Vec.{Vec}
+use Rattle.pptext.specs.declared.hashing.Hashing.{Hashing}
 use Rattle.pptext.specs.declared.sources.Profile.{Profile}
 use Rattle.ppshelf.specs.Content.{Content, Lawful}
 use Rattle.ppshelf.specs.Names.{name_in}
@@ -36,12 +37,13 @@ Joined one two both = (row : ℕ) → file_at both row ≡ or_else (file_at one 
 abbrev pub AllLawful : (List ℕ → Content → Type 0) → List (List ℕ) → Files → Type 0
 AllLawful may names files = (row : ℕ) (c : Content) → file_at files row ≡ Some c → Lawful may (name_in names row) c
 
--- A shelf: the names of its rows, the files that fill put there, the profile by which all are read, and which shelf it is: no other
--- shelf with a row has its cells
+-- A shelf: the names of its rows, the files that fill put there, the profile by which all are read, how names are hashed, and which shelf it is:
+-- no other shelf with a row has its cells
 pub record Stock : Type 0 where
   pub names : List (List ℕ)
   pub base : Files
   pub profile : Profile
+  pub hashing : Hashing
   pub cells : List ℕ
 
 -- The shelf that a pass belongs to, and what the pass knows

@@ -1,6 +1,16 @@
--- The names that an index holds.
+-- What an index holds.
 use Rattle.std.specs.Prelude.{ℕ, List, map}
+use Rattle.std.specs.HashSet.{HashSet, hasher_of}
 use Rattle.std.specs.declared.vec.Vec.{Vec}
+use Rattle.pptext.specs.declared.hashing.Hashing.{Hashing}
+
+-- What callers see of an index: its names, and how they are hashed
+pub record IndexOfNames : Type 0 where
+  pub names : List (List ℕ)
+  pub hashing : Hashing
 
 abbrev pub keys_of : {A : Type 0} → List (Vec ℕ A) → List (List ℕ)
 keys_of keys = map (λ key. key.items) keys
+
+abbrev pub indexed : {A : Type 0} → HashSet (Vec ℕ A) Hashing → IndexOfNames
+indexed set = record { names = keys_of set.keys; hashing = hasher_of set }

@@ -1,6 +1,7 @@
 -- What the rows of a shelf and the notes of a pass hold. Only this crate cites it.
 use Rattle.std.specs.Prelude.{◌≡◌, ℕ, ◌<◌, ◌≤◌, List, [], length, map, Option, Some, None, slice_index_or, ◌⊎◌}
 use Rattle.std.specs.Option.{option_map}
+use Rattle.pptext.specs.declared.hashing.Hashing.{Hashing}
 use Rattle.pptext.specs.declared.sources.Profile.{Profile}
 use Rattle.ppshelf.specs.Content.{Content, Lawful}
 use Rattle.ppshelf.specs.Names.{AreNames, name_in}
@@ -32,8 +33,8 @@ abbrev pub cells_of : List Spot → List ℕ
 cells_of rows = map (λ (s : Spot). s.cell) rows
 
 -- What callers see of rows
-abbrev pub stock_of : Profile → List Spot → Stock
-stock_of profile rows = record { names = names_of rows; base = base_of rows; profile = profile; cells = cells_of rows }
+abbrev pub stock_of : Profile → Hashing → List Spot → Stock
+stock_of profile hashing rows = record { names = names_of rows; base = base_of rows; profile = profile; hashing = hashing; cells = cells_of rows }
 
 -- A row of what callers see
 abbrev pub spot_at : Stock → ℕ → Spot

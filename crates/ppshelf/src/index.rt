@@ -1,5 +1,5 @@
 // The rows of names.
-ghost use Rattle.std.specs.Prelude.{◌≡◌, [], map, IfErr, IfOk};
+ghost use Rattle.std.specs.Prelude.{◌≡◌, [], map, IfErr, IfOk, OnErr};
 ghost use Rattle.std.specs.String.{string_bytes};
 ghost use Rattle.ppshelf.specs.Faults.{IsShelfFault};
 ghost use Rattle.ppshelf.specs.Names.{AreNames, IsPut, IsRowOf, row_among};
@@ -11,7 +11,7 @@ use pptext::{Hashing, Memory};
 use std::alloc::Global;
 use std::marker::Model;
 
-/// Names, each once. The row of a name is its place among them. Contracts see their list.
+/// Names, each once. The row of a name is its place among them. Contracts see their list, and how they are hashed.
 #[derive(Drop)]
 pub struct Index {
     alloc: Global,
@@ -19,18 +19,18 @@ pub struct Index {
 }
 
 impl Model for Index {
-    ghost use Rattle.std.specs.Prelude.{ℕ, List};
-    ghost use Rattle.ppshelf.specs.Indexed.{keys_of};
+    ghost use Rattle.ppshelf.specs.Indexed.{IndexOfNames, indexed};
 
-    ghost Value = { List (List ℕ) };
+    ghost Value = { IndexOfNames };
 
-    ghost view = { λ i. keys_of i.names.keys };
+    ghost view = { λ i. indexed i.names };
 }
 
 impl Index {
     /// An index without names, which are hashed so. Takes no memory.
     pub fn new(alloc: Global, hashing: Hashing) -> Index
-        ensures { result ≡ [] }
+        ensures empty { result.names ≡ [] }
+        ensures hashing { result.hashing ≡ hashing }
     {
         Index {
             alloc,
@@ -40,7 +40,8 @@ impl Index {
 
     // The same with room for so many names.
     fn with_capacity(alloc: Global, count: usize, hashing: Hashing) -> Result<Index, Memory>
-        ensures { IfOk result (λ i. i ≡ []) }
+        ensures empty { IfOk result (λ i. i.names ≡ []) }
+        ensures hashing { IfOk result (λ i. i.hashing ≡ hashing) }
     {
         Ok(Index {
             alloc,
@@ -49,21 +50,25 @@ impl Index {
     }
 
     /// How names are hashed. Takes no memory.
-    pub fn hashing(&self) -> Hashing {
+    pub fn hashing(&self) -> Hashing
+        ensures { result ≡ self.now.hashing }
+    {
         *self.names.hasher()
     }
 
     /// The row of a name. Takes no memory.
     pub fn row_of(&self, name: &[u8]) -> Option<usize>
-        ensures row { IsRowOf self.now name.now result }
-        ensures first { result ≡ row_among name.now self.now }
+        ensures row { IsRowOf self.now.names name.now result }
+        ensures first { result ≡ row_among name.now self.now.names }
     {
         self.names.get_index_of(name)
     }
 
-    /// Puts a name behind the others, unless it is among them, and tells whether it was new.
+    /// Puts a name after the others, unless it is among them, and tells whether it was new. Where memory runs out, the index is as it was.
     pub fn push(&mut self, name: &[u8]) -> Result<bool, Memory>
-        ensures { IfOk result (λ new. IsPut self.old name.now new self.new) }
+        ensures put { IfOk result (λ new. IsPut self.old.names name.now new self.new.names) }
+        ensures hashing { self.new.hashing ≡ self.old.hashing }
+        ensures err { OnErr result (self.new ≡ self.old) }
     {
         let name = Vec::from_slice(self.alloc, name)?;
         let Ok(new) = self.names.insert(name) else {
@@ -79,8 +84,9 @@ pub(crate) fn index_names(
     names: &[String],
     hashing: Hashing,
 ) -> Result<Index, ShelfFault>
-    ensures all { IfOk result (λ i. i ≡ map string_bytes names.now) }
-    ensures form { IfOk result (λ i. AreNames i) }
+    ensures all { IfOk result (λ i. i.names ≡ map string_bytes names.now) }
+    ensures form { IfOk result (λ i. AreNames i.names) }
+    ensures hashing { IfOk result (λ i. i.hashing ≡ hashing) }
     ensures fault { IfErr result (λ e. IsShelfFault e (map string_bytes names.now)) }
 {
     let Ok(mut index) = Index::with_capacity(alloc, names.len(), hashing) else {

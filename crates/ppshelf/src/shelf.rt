@@ -23,8 +23,8 @@ pub const MOST_ROWS: usize = 65_535;
 /// Files by row, from 0, all read by one profile. A row has one content for all callers: what a fill put there, or else what the first
 /// look kept. Looks at the same time may each read the disk; one of these readings is kept.
 ///
-/// Contracts see the names of its rows, the files that `fill` put there, its profile, and which shelf it is: no two shelves
-/// with a row are equal.
+/// Contracts see the names of its rows, the files that `fill` put there, its profile, how its names are hashed, and which shelf it is: no two
+/// shelves with a row are equal.
 pub struct Shelf<D: Disk> {
     alloc: Global,
     profile: Profile,
@@ -38,9 +38,9 @@ impl<D: Disk> Model for Shelf<D> {
 
     ghost Value = { Stock };
 
-    ghost view = { λ s. stock_of s.profile s.rows.items };
+    ghost view = { λ s. stock_of s.profile s.index.hashing s.rows.items };
 
-    ghost invariant = { λ s. IsShelf s.profile s.index s.rows.items };
+    ghost invariant = { λ s. IsShelf s.profile s.index.names s.rows.items };
 }
 
 impl<D: Disk> Drop for Shelf<D> {
@@ -120,6 +120,7 @@ impl<D: Disk> Shelf<D> {
         requires { vec_len names ≤ most_rows }
         ensures names { IfOk result (λ s. s.names ≡ map string_bytes names.items) }
         ensures profile { IfOk result (λ s. s.profile ≡ profile) }
+        ensures hashing { IfOk result (λ s. s.hashing ≡ hashing) }
         ensures form { OnOk result (AreNames (map string_bytes names.items)) }
         ensures empty { IfOk result (λ s. s.base ≡ replicate (length names.items) None) }
         ensures fault { IfErr result (λ e. IsShelfFault e (map string_bytes names.items)) }
@@ -152,7 +153,9 @@ impl<D: Disk> Shelf<D> {
     }
 
     /// How names are hashed. Takes no memory.
-    pub fn hashing(&self) -> Hashing {
+    pub fn hashing(&self) -> Hashing
+        ensures { result ≡ self.now.hashing }
+    {
         self.index.hashing()
     }
 
@@ -183,6 +186,7 @@ impl<D: Disk> Shelf<D> {
     /// Reads each row that no earlier fill read, whatever a look kept. Where memory runs out, the rows that were read stay.
     pub fn fill(&mut self, disk: &D) -> Result<(), Memory>
         ensures shelf { (self.new.names ≡ self.old.names) × (self.new.profile ≡ self.old.profile) × (self.new.cells ≡ self.old.cells) }
+        ensures hashing { self.new.hashing ≡ self.old.hashing }
         ensures base { (row : ℕ) → row < length self.old.names
             → Filled (Lawful (D.gives disk.now) (name_in self.old.names row)) (file_at self.old.base row) (file_at self.new.base row) }
         ensures len { length self.new.base ≡ length self.old.names }
@@ -202,6 +206,7 @@ impl<D: Disk> Shelf<D> {
         requires lawful { (row : ℕ) → row < length self.old.names
             → Lawful D.may (name_in self.old.names row) (readable (bytes_at contents.items row)) }
         ensures shelf { (self.new.names ≡ self.old.names) × (self.new.profile ≡ self.old.profile) × (self.new.cells ≡ self.old.cells) }
+        ensures hashing { self.new.hashing ≡ self.old.hashing }
         ensures base { (row : ℕ) → row < length self.old.names
             → Filled (λ c. c ≡ readable (bytes_at contents.items row)) (file_at self.old.base row) (file_at self.new.base row) }
         ensures len { length self.new.base ≡ length self.old.names }

@@ -46,7 +46,7 @@ fn rows_and_profile(
     draft: &Draft,
     hashing: Hashing,
 ) -> Result<(Index, Profile), ListFault>
-    ensures names { IfOk result (λ r. r.0 ≡ spec.names_of draft.now.files) }
+    ensures names { IfOk result (λ r. r.0.names ≡ spec.names_of draft.now.files) }
     ensures profile { IfOk result (λ r. r.1 ≡ spec.profile_of draft.now.setting) }
     ensures fits { OnOk result (spec.commands_fit draft.now.units ≡ true) }
     ensures ok { OnOk result ((inline : Bool) → judged inline draft.now ≡ accepted (spec.listed inline draft.now)) }
@@ -61,7 +61,7 @@ fn rows_and_profile(
 
 /// The profile of a draft whose names hold, or the number of its refusal.
 fn sound_profile(draft: &Draft, index: &Index) -> Result<Profile, u8>
-    requires names { index.now ≡ spec.names_of draft.now.files }
+    requires names { index.now.names ≡ spec.names_of draft.now.files }
     requires hold { spec.names_hold draft.now.files ≡ true }
     ensures profile { IfOk result (λ p. p ≡ spec.profile_of draft.now.setting) }
     ensures fits { OnOk result (spec.commands_fit draft.now.units ≡ true) }
@@ -116,7 +116,7 @@ fn chosen_profile(draft: &Draft) -> Result<Profile, u8>
 ///
 /// `Bad(3)` where a name is out of form or stands twice, and `Memory`.
 fn index_files(alloc: Global, files: &[DraftFile], hashing: Hashing) -> Result<Index, ListFault>
-    ensures all { IfOk result (λ i. i ≡ spec.names_of files.now) }
+    ensures all { IfOk result (λ i. i.names ≡ spec.names_of files.now) }
     ensures ok { OnOk result (spec.names_hold files.now ≡ true) }
     ensures err { IfErr result (RefusedFor 3 (spec.names_hold files.now ≡ false)) }
 {
@@ -206,7 +206,7 @@ fn listed(
     profile: Profile,
     inline: bool,
 ) -> Result<List, ListFault>
-    requires names { index.now ≡ spec.names_of draft.files }
+    requires names { index.now.names ≡ spec.names_of draft.files }
     requires profile { profile ≡ spec.profile_of draft.setting }
     requires fits { spec.commands_fit draft.units ≡ true }
     ensures ok { IfOk result (λ l. l ≡ spec.listed inline draft) }
@@ -254,7 +254,7 @@ fn listed_units(
     units: Sequence<DraftUnit>,
 ) -> Result<Units, Memory>
     requires { spec.commands_fit units ≡ true }
-    ensures { IfOk result (λ us. us ≡ map (spec.listed_unit profile index.now) units) }
+    ensures { IfOk result (λ us. us ≡ map (spec.listed_unit profile index.now.names) units) }
 {
     let mut listed = Vec::new(alloc);
     for unit in units.into_vec() {
@@ -267,7 +267,7 @@ fn listed_units(
 }
 
 fn files_are_known(index: &Index, units: &[DraftUnit]) -> bool
-    ensures { result ≡ spec.are_known index.now units.now }
+    ensures { result ≡ spec.are_known index.now.names units.now }
 {
     units.iter().all(|unit| index.row_of(unit.file.as_str().as_bytes()).is_some())
 }
@@ -279,7 +279,7 @@ fn listed_unit(
     unit: DraftUnit,
 ) -> Result<Unit, Memory>
     requires { length (command_text unit.defines) ≤ longest }
-    ensures { IfOk result (λ u. u ≡ spec.listed_unit profile index.now unit) }
+    ensures { IfOk result (λ u. u ≡ spec.listed_unit profile index.now.names unit) }
 {
     let DraftUnit {
         file,
@@ -299,7 +299,7 @@ fn split_files(
     files: Sequence<DraftFile>,
     inline: bool,
 ) -> Result<(Texts, Contents), AllocError>
-    ensures names { IfOk result (λ r. r.0 ≡ spec.names_of files) }
+    ensures names { IfOk result (λ r. r.0.names ≡ spec.names_of files) }
     ensures contents { IfOk result (λ r. r.1 ≡ (if inline then spec.contents_of files else [])) }
 {
     let mut names = Vec::new(alloc);

@@ -12,5 +12,6 @@ loop-row-preserved c =
     let at : name_in names c.loop-row.row ≡ c.as_bytes-in-loop-row.result.now =
     get_or-map string_bytes c.args.names.now c.loop-row.row c.index-names-row.result [] within ∙ (ap string_bytes (sym c.index-names-row.is) ∙ sym c.as_bytes-in-loop-row.ensures.value) in
     let form : is_name c.as_bytes-in-loop-row.result.now ≡ true = ap is_name (c.as_bytes-in-loop-row.ensures.value ∙ sym c.as_bytes.ensures.value) ∙ sym c.if-not-is_name.ensures in
-    next_name names c.loop-row.row c.as_bytes-in-loop-row.result.now c.loop-row.index c.push.new.self c.loop-row.invariant
-    (let l = length-map c.args.names.now string_bytes in omega arith) at form c.in-Ok-push.new c.if-not-new.false c.in-Ok-push.ensures
+    let more = next_name names c.loop-row.row c.as_bytes-in-loop-row.result.now c.loop-row.index.names c.push.new.self.names c.loop-row.invariant.indexed
+    (let l = length-map c.args.names.now string_bytes in omega arith) at form c.in-Ok-push.new c.if-not-new.false c.in-Ok-push.ensures.put in
+    record { indexed = more; hashing_is = c.push.ensures.hashing ∙ c.loop-row.invariant.hashing_is }

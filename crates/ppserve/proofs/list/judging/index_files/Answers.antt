@@ -13,7 +13,7 @@ pub returns-then-not-is_name-clause-err : goal.returns-then-not-is_name-clause-e
 returns-then-not-is_name-clause-err c =
     let files = c.args.files.now in
     let row = c.loop-file.file-index in
-    let index = c.loop-file.index in
+    let index = c.loop-file.index.names in
     let name = c.as_bytes-name.result.now in
     let t : Turn files row index name = turn files row index c.file-item.result name c.loop-file-test.true c.file-item.is (c.as_bytes-name.ensures.value ∙ (c.as_str.ensures ∙ ap name_of c.file.view_is)) c.loop-file.invariant in
     inr (refl, test_fails (names_of files) row t.within (bad_form (names_of files) row name t.name_is (sym c.is_name.ensures ∙ c.if-not-is_name.true)))
@@ -22,19 +22,19 @@ pub returns-then-not-new-clause-err : goal.returns-then-not-new-clause-err
 returns-then-not-new-clause-err c =
     let files = c.args.files.now in
     let row = c.loop-file.file-index in
-    let index = c.loop-file.index in
+    let index = c.loop-file.index.names in
     let name = c.as_bytes-name.result.now in
     let t : Turn files row index name = turn files row index c.file-item.result name c.loop-file-test.true c.file-item.is (c.as_bytes-name.ensures.value ∙ (c.as_str.ensures ∙ ap name_of c.file.view_is)) c.loop-file.invariant in
-    inr (refl, test_fails (names_of files) row t.within (put_fails (names_of files) row name index c.push.new.self t.names t.within t.name_is c.in_ok-new.new c.if-not-new.true c.in_ok-new.ensures))
+    inr (refl, test_fails (names_of files) row t.within (put_fails (names_of files) row name index c.push.new.self.names t.names t.within t.name_is c.in_ok-new.new c.if-not-new.true c.in_ok-new.ensures.put))
 
 pub loop-file-preserved : goal.loop-file-preserved
 loop-file-preserved c =
     let files = c.args.files.now in
     let row = c.loop-file.file-index in
-    let index = c.loop-file.index in
+    let index = c.loop-file.index.names in
     let name = c.as_bytes-name.result.now in
     let t : Turn files row index name = turn files row index c.file-item.result name c.loop-file-test.true c.file-item.is (c.as_bytes-name.ensures.value ∙ (c.as_str.ensures ∙ ap name_of c.file.view_is)) c.loop-file.invariant in
-    next_name (names_of files) row name index c.push.new.self t.names t.within t.name_is (sym c.is_name.ensures ∙ c.if-not-is_name.false) c.in_ok-new.new c.if-not-new.false c.in_ok-new.ensures
+    next_name (names_of files) row name index c.push.new.self.names t.names t.within t.name_is (sym c.is_name.ensures ∙ c.if-not-is_name.false) c.in_ok-new.new c.if-not-new.false c.in_ok-new.ensures.put
 
 pub returns-clause-ok : goal.returns-clause-ok
 returns-clause-ok c =

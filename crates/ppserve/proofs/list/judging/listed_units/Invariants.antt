@@ -3,4 +3,4 @@ use Rattle.ppserve.specs.Listing.{listed_unit}
 use Rattle.ppserve.proofs.list.judging.listed_units.Given as goal
 
 abbrev pub invariant-loop-unit : goal.invariant-loop-unit
-invariant-loop-unit l = l.listed.items ≡ map (listed_unit l.profile l.index) l.yielded
+invariant-loop-unit l = l.listed.items ≡ map (listed_unit l.profile l.index.names) l.yielded

@@ -13,11 +13,11 @@ join-requires-clause-theirs g c =
     let n = c.len-row.ensures in
     let last : c.in-Some.theirs ≡ get_or c.other.inside.rows.items c.len-row.result no_sight =
     popped_last c.other.inside.rows.items c.loop-theirs.rows.items (vec_len c.loop-theirs.rows) c.len-row.result c.in-Some.theirs k.2 (same_Some _ _ (h.value no_sight (omega arith))) (omega arith) in
-    let stock : c.other.inside.shelf.now ≡ stock_of c.shelf.inside.profile c.shelf.inside.rows.items = ap (λ (x : Known). x.shelf) c.other.view_is ∙ (c.requires.theirs ∙ sym c.shelf.view_is) in
+    let stock : c.other.inside.shelf.now ≡ stock_of c.shelf.inside.profile c.shelf.inside.index.hashing c.shelf.inside.rows.items = ap (λ (x : Known). x.shelf) c.other.view_is ∙ (c.requires.theirs ∙ sym c.shelf.view_is) in
     let P : Stock → Type 0 = λ s. IsPass g.D.Disk.may s c.other.inside.rows.items in
     let count : length (names_of c.shelf.inside.rows.items) ≡ length c.shelf.inside.rows.items = length-map c.shelf.inside.rows.items (λ (s : Spot). s.name) in
-    let at = spot_is c.shelf.inside.profile c.shelf.inside.rows.items c.len-row.result c.index.result.now c.shelf.invariant.placed (omega arith) c.index.ensures in
-    fits_read g.D.Disk.may (stock_of c.shelf.inside.profile c.shelf.inside.rows.items) c.other.inside.rows.items c.len-row.result c.index.result.now c.in-Some.theirs (subst P stock c.other.invariant) (omega arith) at last
+    let at = spot_is c.shelf.inside.profile c.shelf.inside.index.hashing c.shelf.inside.rows.items c.len-row.result c.index.result.now c.shelf.invariant.placed (omega arith) c.index.ensures in
+    fits_read g.D.Disk.may (stock_of c.shelf.inside.profile c.shelf.inside.index.hashing c.shelf.inside.rows.items) c.other.inside.rows.items c.len-row.result c.index.result.now c.in-Some.theirs (subst P stock c.other.invariant) (omega arith) at last
 
 pub join-requires-clause-mine : goal.join-requires-clause-mine
 join-requires-clause-mine g c =
@@ -26,7 +26,7 @@ join-requires-clause-mine g c =
     let n = c.len-row.ensures in
     let is = k.3.is in
     let count : length (names_of c.shelf.inside.rows.items) ≡ length c.shelf.inside.rows.items = length-map c.shelf.inside.rows.items (λ (s : Spot). s.name) in
-    fits_at g.D.Disk.may c.shelf.inside.profile c.shelf.inside.rows.items (stock_of c.shelf.inside.profile c.shelf.inside.rows.items)
+    fits_at g.D.Disk.may c.shelf.inside.profile c.shelf.inside.index.hashing c.shelf.inside.rows.items (stock_of c.shelf.inside.profile c.shelf.inside.index.hashing c.shelf.inside.rows.items)
     c.loop-theirs.self-inside.rows.items c.len-row.result c.index.result.now c.index_mut.result.now c.shelf.invariant.placed refl (omega arith)
     c.index.ensures is c.index_mut.ensures.value
 
@@ -37,17 +37,17 @@ loop-theirs-preserved g c =
     let n = c.len-row.ensures in
     let last : c.in-Some.theirs ≡ get_or c.other.inside.rows.items c.len-row.result no_sight =
     popped_last c.other.inside.rows.items c.loop-theirs.rows.items (vec_len c.loop-theirs.rows) c.len-row.result c.in-Some.theirs k.2 (same_Some _ _ (h.value no_sight (omega arith))) (omega arith) in
-    let M : ℕ → Type 0 = λ m. Met g.D.Disk.may (stock_of c.shelf.inside.profile c.shelf.inside.rows.items) c.self.inside.rows.items c.other.inside.rows.items c.loop-theirs.self-inside.rows.items m in
-    let N : ℕ → Type 0 = λ m. Met g.D.Disk.may (stock_of c.shelf.inside.profile c.shelf.inside.rows.items) c.self.inside.rows.items c.other.inside.rows.items
+    let M : ℕ → Type 0 = λ m. Met g.D.Disk.may (stock_of c.shelf.inside.profile c.shelf.inside.index.hashing c.shelf.inside.rows.items) c.self.inside.rows.items c.other.inside.rows.items c.loop-theirs.self-inside.rows.items m in
+    let N : ℕ → Type 0 = λ m. Met g.D.Disk.may (stock_of c.shelf.inside.profile c.shelf.inside.index.hashing c.shelf.inside.rows.items) c.self.inside.rows.items c.other.inside.rows.items
     (set c.loop-theirs.self-inside.rows.items c.len-row.result c.join.new.self) m in
     let before : vec_len c.loop-theirs.rows ≡ c.len-row.result + 1 = omega arith in
     let count : length (names_of c.shelf.inside.rows.items) ≡ length c.shelf.inside.rows.items = length-map c.shelf.inside.rows.items (λ (s : Spot). s.name) in
-    let at = spot_is c.shelf.inside.profile c.shelf.inside.rows.items c.len-row.result c.index.result.now c.shelf.invariant.placed (omega arith) c.index.ensures in (
+    let at = spot_is c.shelf.inside.profile c.shelf.inside.index.hashing c.shelf.inside.rows.items c.len-row.result c.index.result.now c.shelf.invariant.placed (omega arith) c.index.ensures in (
       k.0,
       omega arith,
       popped_rest c.other.inside.rows.items c.loop-theirs.rows.items c.pop.new.self.items (vec_len c.loop-theirs.rows) (vec_len c.pop.new.self) k.2 h.rest (omega arith),
       subst N n
-          (met_more g.D.Disk.may (stock_of c.shelf.inside.profile c.shelf.inside.rows.items) c.self.inside.rows.items c.other.inside.rows.items
+          (met_more g.D.Disk.may (stock_of c.shelf.inside.profile c.shelf.inside.index.hashing c.shelf.inside.rows.items) c.self.inside.rows.items c.other.inside.rows.items
           c.loop-theirs.self-inside.rows.items c.len-row.result c.index.result.now c.index_mut.result.now c.in-Some.theirs c.join.new.self
           (subst M before k.3) (omega arith) at c.index_mut.ensures.value last c.join.ensures.fits c.join.ensures.shown c.join.ensures.agree),
     )
@@ -55,11 +55,11 @@ loop-theirs-preserved g c =
 pub returns-clause-agree : goal.returns-clause-agree
 returns-clause-agree g c =
     let k = c.loop-theirs.invariant in
-    let M : ℕ → Type 0 = λ m. Met g.D.Disk.may (stock_of c.shelf.inside.profile c.shelf.inside.rows.items) c.self.inside.rows.items c.other.inside.rows.items c.loop-theirs.self-inside.rows.items m in
+    let M : ℕ → Type 0 = λ m. Met g.D.Disk.may (stock_of c.shelf.inside.profile c.shelf.inside.index.hashing c.shelf.inside.rows.items) c.self.inside.rows.items c.other.inside.rows.items c.loop-theirs.self-inside.rows.items m in
     let met = subst M c.in_default.ensures.cases.0 k.3 in
     let mine : files_of c.self.inside.rows.items ≡ c.args.self.now.files = ap (λ (x : Known). x.files) c.self.view_is in
     let theirs : files_of c.other.inside.rows.items ≡ c.args.other.files = ap (λ (x : Known). x.files) c.other.view_is in
-    let stock : c.self.inside.shelf.now ≡ stock_of c.shelf.inside.profile c.shelf.inside.rows.items = ap (λ (x : Known). x.shelf) c.self.view_is ∙ (c.requires.mine ∙ sym c.shelf.view_is) in
+    let stock : c.self.inside.shelf.now ≡ stock_of c.shelf.inside.profile c.shelf.inside.index.hashing c.shelf.inside.rows.items = ap (λ (x : Known). x.shelf) c.self.view_is ∙ (c.requires.mine ∙ sym c.shelf.view_is) in
     let a : Agree (files_of c.self.inside.rows.items) (files_of c.other.inside.rows.items) = met_agree g.D.Disk.may _ _ _ _ met (c.self.invariant.len ∙ ap (λ (s : Stock). length s.names) stock) in
     let P : Files → Type 0 = λ f. Agree f c.args.other.files in
     let Q : Files → Type 0 = λ f. Agree (files_of c.self.inside.rows.items) f in
@@ -68,12 +68,12 @@ returns-clause-agree g c =
 pub returns-clause-joined : goal.returns-clause-joined
 returns-clause-joined g c =
     let k = c.loop-theirs.invariant in
-    let M : ℕ → Type 0 = λ m. Met g.D.Disk.may (stock_of c.shelf.inside.profile c.shelf.inside.rows.items) c.self.inside.rows.items c.other.inside.rows.items c.loop-theirs.self-inside.rows.items m in
+    let M : ℕ → Type 0 = λ m. Met g.D.Disk.may (stock_of c.shelf.inside.profile c.shelf.inside.index.hashing c.shelf.inside.rows.items) c.self.inside.rows.items c.other.inside.rows.items c.loop-theirs.self-inside.rows.items m in
     let met = subst M c.in_default.ensures.cases.0 k.3 in
     let mine : files_of c.self.inside.rows.items ≡ c.args.self.now.files = ap (λ (x : Known). x.files) c.self.view_is in
     let theirs : files_of c.other.inside.rows.items ≡ c.args.other.files = ap (λ (x : Known). x.files) c.other.view_is in
-    let stock : c.self.inside.shelf.now ≡ stock_of c.shelf.inside.profile c.shelf.inside.rows.items = ap (λ (x : Known). x.shelf) c.self.view_is ∙ (c.requires.mine ∙ sym c.shelf.view_is) in
-    let stock2 : c.other.inside.shelf.now ≡ stock_of c.shelf.inside.profile c.shelf.inside.rows.items = ap (λ (x : Known). x.shelf) c.other.view_is ∙ (c.requires.theirs ∙ sym c.shelf.view_is) in
+    let stock : c.self.inside.shelf.now ≡ stock_of c.shelf.inside.profile c.shelf.inside.index.hashing c.shelf.inside.rows.items = ap (λ (x : Known). x.shelf) c.self.view_is ∙ (c.requires.mine ∙ sym c.shelf.view_is) in
+    let stock2 : c.other.inside.shelf.now ≡ stock_of c.shelf.inside.profile c.shelf.inside.index.hashing c.shelf.inside.rows.items = ap (λ (x : Known). x.shelf) c.other.view_is ∙ (c.requires.theirs ∙ sym c.shelf.view_is) in
     let a : Joined (files_of c.self.inside.rows.items) (files_of c.other.inside.rows.items) (files_of c.loop-theirs.self-inside.rows.items) =
     met_joined g.D.Disk.may _ _ _ _ met (c.self.invariant.len ∙ ap (λ (s : Stock). length s.names) stock)
     (c.other.invariant.len ∙ ap (λ (s : Stock). length s.names) stock2) in

@@ -17,8 +17,8 @@ look-requires-clause-fits g c =
     let rows = c.shelf.inside.rows.items in
     let count : length (names_of rows) ≡ length rows = length-map rows (λ (s : Spot). s.name) in
     let w : c.args.row < length rows = let e = ap (λ (s : Stock). length s.names) c.shelf.view_is in let r = c.requires.row in omega arith in
-    let same : c.self.inside.shelf.now ≡ stock_of c.shelf.inside.profile rows = ap (λ (k : Known). k.shelf) c.self.view_is ∙ (c.requires.shelf ∙ sym c.shelf.view_is) in
-    fits_at g.D.Disk.may c.shelf.inside.profile rows c.self.inside.shelf.now c.self.inside.rows.items c.args.row c.index.result.now c.index_mut-seen.result.now
+    let same : c.self.inside.shelf.now ≡ stock_of c.shelf.inside.profile c.shelf.inside.index.hashing rows = ap (λ (k : Known). k.shelf) c.self.view_is ∙ (c.requires.shelf ∙ sym c.shelf.view_is) in
+    fits_at g.D.Disk.may c.shelf.inside.profile c.shelf.inside.index.hashing rows c.self.inside.shelf.now c.self.inside.rows.items c.args.row c.index.result.now c.index_mut-seen.result.now
     c.shelf.invariant.placed same w c.index.ensures c.self.invariant c.index_mut-seen.ensures.value
 
 pub invariant_of-self : goal.invariant_of-self
@@ -26,16 +26,16 @@ invariant_of-self g c =
     let rows = c.shelf.inside.rows.items in
     let count : length (names_of rows) ≡ length rows = length-map rows (λ (s : Spot). s.name) in
     let w : c.args.row < length rows = let e = ap (λ (s : Stock). length s.names) c.shelf.view_is in let r = c.requires.row in omega arith in
-    let same : c.self.inside.shelf.now ≡ stock_of c.shelf.inside.profile rows = ap (λ (k : Known). k.shelf) c.self.view_is ∙ (c.requires.shelf ∙ sym c.shelf.view_is) in
-    shown_pass g.D.Disk.may c.shelf.inside.profile rows c.self.inside.shelf.now c.self.inside.rows.items c.args.row c.index.result.now c.look.new.seen c.shelf.invariant.placed same w c.index.ensures c.self.invariant c.look.ensures.fits
+    let same : c.self.inside.shelf.now ≡ stock_of c.shelf.inside.profile c.shelf.inside.index.hashing rows = ap (λ (k : Known). k.shelf) c.self.view_is ∙ (c.requires.shelf ∙ sym c.shelf.view_is) in
+    shown_pass g.D.Disk.may c.shelf.inside.profile c.shelf.inside.index.hashing rows c.self.inside.shelf.now c.self.inside.rows.items c.args.row c.index.result.now c.look.new.seen c.shelf.invariant.placed same w c.index.ensures c.self.invariant c.look.ensures.fits
 
 pub invariant_of-self-2 : goal.invariant_of-self-2
 invariant_of-self-2 g c =
     let rows = c.shelf.inside.rows.items in
     let count : length (names_of rows) ≡ length rows = length-map rows (λ (s : Spot). s.name) in
     let w : c.args.row < length rows = let e = ap (λ (s : Stock). length s.names) c.shelf.view_is in let r = c.requires.row in omega arith in
-    let same : c.self.inside.shelf.now ≡ stock_of c.shelf.inside.profile rows = ap (λ (k : Known). k.shelf) c.self.view_is ∙ (c.requires.shelf ∙ sym c.shelf.view_is) in
-    shown_pass g.D.Disk.may c.shelf.inside.profile rows c.self.inside.shelf.now c.self.inside.rows.items c.args.row c.index.result.now c.look.new.seen c.shelf.invariant.placed same w c.index.ensures c.self.invariant c.look.ensures.fits
+    let same : c.self.inside.shelf.now ≡ stock_of c.shelf.inside.profile c.shelf.inside.index.hashing rows = ap (λ (k : Known). k.shelf) c.self.view_is ∙ (c.requires.shelf ∙ sym c.shelf.view_is) in
+    shown_pass g.D.Disk.may c.shelf.inside.profile c.shelf.inside.index.hashing rows c.self.inside.shelf.now c.self.inside.rows.items c.args.row c.index.result.now c.look.new.seen c.shelf.invariant.placed same w c.index.ensures c.self.invariant c.look.ensures.fits
 
 pub returns-clause-known : goal.returns-clause-known
 returns-clause-known g c =

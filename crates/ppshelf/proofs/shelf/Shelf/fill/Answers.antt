@@ -23,10 +23,10 @@ invariant_of-self-in_err-fill g c =
 pub returns : goal.returns
 returns g c =
     let puts : ℕ → List ℕ → Content → Type 0 = λ _. Lawful (g.D.Disk.gives c.args.disk.now) in
-    let fills = fills_kept c.loop-row.invariant.profile_is c.self.view_is c.loop-row.invariant.filling.turned in
-    record { shelf = fills.shelf; base = fills.base; len = fills.len; full = full_turned c.self.inside.profile puts _ _ c.loop-row.row (omega arith) c.loop-row.invariant.filling }
+    let fills = fills_kept c.loop-row.invariant.profile_is c.loop-row.invariant.index_is c.self.view_is c.loop-row.invariant.filling.turned in
+    record { shelf = fills.shelf; hashing = fills.hashing; base = fills.base; len = fills.len; full = full_turned c.self.inside.profile c.self.inside.index.hashing puts _ _ c.loop-row.row (omega arith) c.loop-row.invariant.filling }
 
 pub returns-in_err-fill : goal.returns-in_err-fill
 returns-in_err-fill g c =
-    let fills = fills_kept c.loop-row.invariant.profile_is c.self.view_is (turned g (goal.at.returns-in_err-fill g c).After-fill) in
-    record { shelf = fills.shelf; base = fills.base; len = fills.len; full = search rules }
+    let fills = fills_kept c.loop-row.invariant.profile_is c.loop-row.invariant.index_is c.self.view_is (turned g (goal.at.returns-in_err-fill g c).After-fill) in
+    record { shelf = fills.shelf; hashing = fills.hashing; base = fills.base; len = fills.len; full = search rules }

@@ -23,7 +23,7 @@ here g c =
     c.next.ensures.steps) in
     let below = turn.0 in
     let count = c.requires.count in
-    let rows = rows_counted c.self.inside.profile c.self.inside.rows.items c.self.view_is in
+    let rows = rows_counted c.self.inside.profile c.self.inside.index.hashing c.self.inside.rows.items c.self.view_is in
     (omega arith, omega arith, turn.1)
 
 -- what the put makes of that row, and of the rows, whether or not it succeeds
@@ -60,8 +60,8 @@ pub returns-in_err-put : goal.returns-in_err-put
 returns-in_err-put g c =
     let at = goal.at.returns-in_err-put g c in
     let turn = here g at.In-Some in
-    let fills = fills_kept c.loop-bytes.invariant.profile_is c.self.view_is (turned g at.After-put turn.1 turn.2) in
-    record { shelf = fills.shelf; base = fills.base; len = fills.len; full = search rules }
+    let fills = fills_kept c.loop-bytes.invariant.profile_is c.loop-bytes.invariant.index_is c.self.view_is (turned g at.After-put turn.1 turn.2) in
+    record { shelf = fills.shelf; hashing = fills.hashing; base = fills.base; len = fills.len; full = search rules }
 
 pub loop-bytes-preserved : goal.loop-bytes-preserved
 loop-bytes-preserved g c =
@@ -81,7 +81,7 @@ returns g c =
     let gives = c.into_iter-bytes-iterator.ensures.into_iter_gives in
     let yields = YieldsList-from_vec {s = c.into_iter-bytes-iterator.result} contents gives.0 (gives.1 ∙ c.args.contents.ok.0) in
     let all : length c.loop-bytes.yielded ≡ length contents = (YieldsList-end yields c.loop-bytes.yielded c.loop-bytes.bytes-iterator c.loop-bytes.yielded_by c.next.result c.next.new.self c.in-None.is c.next.ensures.steps).1 in
-    let rows = rows_counted c.self.inside.profile c.self.inside.rows.items c.self.view_is in
+    let rows = rows_counted c.self.inside.profile c.self.inside.index.hashing c.self.inside.rows.items c.self.view_is in
     let done : length c.self.inside.rows.items ≤ c.loop-bytes.row = let m = c.requires.count in let r = c.loop-bytes.invariant.row_is in omega arith in
-    let fills = fills_kept c.loop-bytes.invariant.profile_is c.self.view_is c.loop-bytes.invariant.filling.turned in
-    record { shelf = fills.shelf; base = fills.base; len = fills.len; full = full_turned c.self.inside.profile (given contents) _ _ c.loop-bytes.row done c.loop-bytes.invariant.filling }
+    let fills = fills_kept c.loop-bytes.invariant.profile_is c.loop-bytes.invariant.index_is c.self.view_is c.loop-bytes.invariant.filling.turned in
+    record { shelf = fills.shelf; hashing = fills.hashing; base = fills.base; len = fills.len; full = full_turned c.self.inside.profile c.self.inside.index.hashing (given contents) _ _ c.loop-bytes.row done c.loop-bytes.invariant.filling }
