@@ -36,7 +36,17 @@ pub mod OneCondition
 pub mod SomeCondition
 -- A value has the type of its expression.
 pub mod Types
+-- A value lies in the range of its type.
+pub mod Ranges
+-- So does each constant, and the value of each expression of tokens.
+pub mod RangedTokens
+-- Integer constants are read exactly where they are laid out.
+pub mod ReadIntegers
+-- Character constants are read exactly where they are laid out.
+pub mod ReadCharacters
 -- The condition of a guard (6.10.1) whose name is a macro's.
 pub mod GuardConditions
 -- Conditions within a budget beside conditions within a larger one or without one.
 pub mod Capped
+-- A condition within a budget is the one without, or fault 35.
+pub mod CappedLaw

@@ -9,9 +9,11 @@ pub mod Pending
 pub mod Reading
 pub mod Integers
 pub mod Characters
+pub mod Constants
 pub mod Asking
 pub mod Tokens
 pub mod Nesting
 pub mod Direct
 pub mod Conditions
+pub mod Laws
 pub mod Definitions

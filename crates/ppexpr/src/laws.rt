@@ -1,24 +1,44 @@
 // Laws of the definitions: functions that do nothing, whose contracts are the laws.
-ghost use Rattle.std.specs.Prelude.{◌≡◌, ℕ, List, Option, None, Ok};
+ghost use Rattle.std.specs.Prelude.{◌≡◌, ◌≢◌, ◌↔◌, ℕ, List, Option, Some, None, Ok, Err};
 ghost use Rattle.pptext.specs.declared.tokens.Place.{Place};
 ghost use Rattle.pptext.specs.declared.tokens.Token.{Token};
+ghost use Rattle.pptext.specs.declared.tokens.Fault.{Fault};
+ghost use Rattle.pptext.specs.Spellings.{IsCharConst};
 ghost use Rattle.ppmacro.specs.Names.{Macros};
 ghost use Rattle.ppexpand.specs.declared.env.Env.{Env};
+ghost use Rattle.ppexpand.specs.Laws.{plus};
 ghost use Rattle.ppexpr.specs.Symbols.{Symbol};
 ghost use Rattle.ppexpr.specs.Trees.{Tree};
 ghost use Rattle.ppexpr.specs.Outcomes.{Value};
 ghost use Rattle.ppexpr.specs.Values.{has_unsigned_type, outcome_of};
+ghost use Rattle.ppexpr.specs.Integers.{integer_of};
+ghost use Rattle.ppexpr.specs.Characters.{character_of};
+ghost use Rattle.ppexpr.specs.Constants.{IsInteger, IsCharacterConstant};
+ghost use Rattle.ppexpr.specs.Tokens.{symbols_of};
 ghost use Rattle.ppexpr.specs.Grammar.{Parses};
-ghost use Rattle.ppexpr.specs.Conditions.{Condition, IsCondition};
+ghost use Rattle.ppexpr.specs.Conditions.{Condition, IsCondition, count_condition};
+ghost use Rattle.ppexpr.specs.Laws.{IsCapped, IsInRange};
 
 /// An expression has at most one tree (6.5).
 pub fn one_tree()
     ensures { (s : List Symbol) (t u : Tree) → Parses s t → Parses s u → t ≡ u }
 {}
 
-/// The value of an expression, where it has one, is of the expression's type.
+/// The value of an expression, where it has one, is of the expression's type, and in its range where the expression is one of tokens: a signed one from
+/// -2^63 to 2^63 - 1, an unsigned one below 2^64; and so is each constant (6.10.1p4).
 pub fn value_has_its_type()
-    ensures { (t : Tree) (v : Value) → (outcome_of t).value ≡ Ok v → has_unsigned_type v ≡ (outcome_of t).unsigned }
+    ensures type_is { (t : Tree) (v : Value) → (outcome_of t).value ≡ Ok v → has_unsigned_type v ≡ (outcome_of t).unsigned }
+    ensures range { (at : Place) (tokens : List Token) (s : List Symbol) (t : Tree) (v : Value)
+        → symbols_of at tokens ≡ Ok s → Parses s t → (outcome_of t).value ≡ Ok v → IsInRange v }
+    ensures integers { (s : List ℕ) (v : Value) → integer_of s ≡ Some v → IsInRange v }
+    ensures characters { (s : List ℕ) (v : Value) → character_of s ≡ Some v → IsInRange v }
+{}
+
+/// A constant is read, with its value, exactly where it is laid out as the standard has it: an integer constant whatever the text is (6.4.4.1), the
+/// constant of one character where the text is spelled as a character constant (6.4.4.4).
+pub fn reads_constants()
+    ensures integers { (s : List ℕ) (v : Value) → (integer_of s ≡ Some v) ↔ IsInteger s v }
+    ensures characters { (s : List ℕ) (v : Value) → IsCharConst s → (character_of s ≡ Some v) ↔ IsCharacterConstant s v }
 {}
 
 /// A condition is taken, not taken or has one fault, and no two of these; and it leaves one thing of a budget.
@@ -40,4 +60,26 @@ pub fn without_a_budget()
     ensures { (macros : Macros) (env : Env) (at : Place) (tokens : List Token) (c : Condition) (after : Option ℕ)
         → IsCondition macros env at tokens None c after
         → after ≡ None }
+{}
+
+/// What a condition costs and what it leaves make up the budget.
+pub fn budget_is_spent()
+    ensures { (macros : Macros) (env : Env) (at : Place) (tokens : List Token) (left after : Option ℕ) (c : Condition)
+        → (d : IsCondition macros env at tokens left c after)
+        → left ≡ plus (count_condition d) after }
+{}
+
+/// A condition within a budget is the one without, where that costs no more; otherwise it ends in fault 35 and leaves nothing.
+pub fn budget_caps()
+    ensures { (macros : Macros) (env : Env) (at : Place) (tokens : List Token) (whole : Condition) (rest : Option ℕ)
+        → (d : IsCondition macros env at tokens None whole rest) (b : ℕ) (c : Condition) (after : Option ℕ)
+        → IsCondition macros env at tokens (Some b) c after
+        → IsCapped b (count_condition d) whole c after }
+{}
+
+/// Without a budget no condition ends in fault 35.
+pub fn only_budgets_refuse()
+    ensures { (macros : Macros) (env : Env) (at : Place) (tokens : List Token) (f : Fault) (after : Option ℕ)
+        → IsCondition macros env at tokens None (Err f) after
+        → f.number ≢ 35 }
 {}

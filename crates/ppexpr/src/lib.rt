@@ -16,4 +16,7 @@ mod tokens;
 mod values;
 
 pub use conditions::evaluate;
-pub use laws::{one_condition, one_tree, some_condition, value_has_its_type, without_a_budget};
+pub use laws::{
+    budget_caps, budget_is_spent, one_condition, one_tree, only_budgets_refuse, reads_constants,
+    some_condition, value_has_its_type, without_a_budget,
+};
