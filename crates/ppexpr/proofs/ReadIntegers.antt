@@ -41,7 +41,7 @@ pub begin : (base m : ℕ) (s : List ℕ) → Continues base m (take (digits_len
 begin base m [] = done
 begin base m (c ∷ s) = begin_by base m c s (is_digit c base) refl (begin base (step base m c) s)
 
--- what stands behind digits begins with none
+-- what stands after digits begins with none
 abbrev pub NoDigit : ℕ → List ℕ → Type 0
 NoDigit base [] = Unit {0}
 NoDigit base (c ∷ s) = is_digit c base ≡ false

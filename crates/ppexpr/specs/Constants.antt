@@ -28,7 +28,7 @@ abbrev pub is_decimal : Base → Bool
 is_decimal Decimal = true
 is_decimal _ = false
 
--- the `x` behind the 0 of a hexadecimal constant
+-- the `x` after the 0 of a hexadecimal constant
 pub data IsX : ℕ → Type 0 where
   small_x : IsX 120
   large_x : IsX 88
@@ -51,7 +51,7 @@ pub data IsLongSuffix : List ℕ → Type 0 where
   small_ll : IsLongSuffix (codes "ll")
   large_ll : IsLongSuffix (codes "LL")
 
--- what stands behind the digits, and whether there is a `u` or `U` in it
+-- what stands after the digits, and whether there is a `u` or `U` in it
 pub data IsSuffix : Bool → List ℕ → Type 0 where
   no_suffix : IsSuffix false []
   long : {l : List ℕ} → IsLongSuffix l → IsSuffix false l
@@ -80,7 +80,7 @@ pub record IsInteger (text : List ℕ) (v : Value) : Type 0 where
 
 -- ---- character constants (6.4.4.4)
 
--- what stands behind the backslash of a simple escape sequence, and its value: `'` `"` `?` `\` `a` `b` `f` `n` `r` `t` `v`
+-- what stands after the backslash of a simple escape sequence, and its value: `'` `"` `?` `\` `a` `b` `f` `n` `r` `t` `v`
 pub data IsSimpleEscape : ℕ → ℕ → Type 0 where
   single_quote : IsSimpleEscape 39 39
   double_quote : IsSimpleEscape 34 34
