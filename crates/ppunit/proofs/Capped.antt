@@ -1,14 +1,17 @@
 -- What a unit gives within a budget is a beginning of what it gives without one.
-use Rattle.std.proofs.Common.{◌≡◌, ℕ, ◌-◌, ◌<◌, ◌≤◌, List, Option, Some, None, refl, sym, ap, ◌∙◌, subst, arith, inl, inr}
+use Rattle.std.proofs.Common.{◌≡◌, ℕ, ◌-◌, ◌<◌, ◌≤◌, List, length, Option, Some, None, refl, sym, ap, ◌∙◌, subst, arith, inl, inr}
 use Rattle.pptext.specs.declared.tokens.Fault.{Fault}
 use Rattle.ppexpand.specs.Laws.{IsBeginning}
 use Rattle.ppexpand.proofs.Budget.{Covers, without, larger}
+use Rattle.ppshelf.specs.Names.{AreNames}
+use Rattle.ppshelf.specs.Files.{Files, Extends}
+use Rattle.ppunit.specs.declared.units.Unit.{Unit as UnitOfList}
 use Rattle.ppunit.specs.declared.units.Setting.{Setting}
 use Rattle.ppunit.specs.declared.units.UnitOut.{UnitOut}
 use Rattle.ppunit.specs.States.{State, Surroundings, Reached, stopped, with_left, given}
 use Rattle.ppunit.specs.Unit.{beginning, surroundings, Translates, IsUnit, count}
-use Rattle.ppunit.specs.Laws.{HasOneValue, Grows}
-use Rattle.ppunit.specs.Capped.{HasFault, AtMost, IsCapped, unlimited, BudgetCaps, OnlyBudgetsRefuse, with_budget, GivesNoLess, LargerBudgetsGiveNoLess}
+use Rattle.ppunit.specs.Laws.{KnowsAll, HasOneValue, HasSomeValue, Grows}
+use Rattle.ppunit.specs.Capped.{HasFault, AtMost, IsCapped, unlimited, HasWhole, BudgetCaps, OnlyBudgetsRefuse, with_budget, GivesNoLess, HasNoLess, LargerBudgetsGiveNoLess}
 use Rattle.ppunit.proofs.Kept.{same_beginning}
 use Rattle.ppunit.proofs.EnoughForLines.{holding}
 use Rattle.ppunit.proofs.Enough.{unit_suffices}
@@ -45,8 +48,16 @@ came_through b c whole out same most =
     })
 
 -- a unit with a budget has one value, over more files too, and only a budget makes fault 35
-pub unit_capped : HasOneValue → Grows → OnlyBudgetsRefuse → BudgetCaps
-unit_capped one grows only names files setting unit out are p b more whole budget extends q =
+unit_caps : HasOneValue → Grows → OnlyBudgetsRefuse
+    → (names : List (List ℕ)) (files : Files) (setting : Setting) (unit : UnitOfList) (out : UnitOut)
+    → AreNames names
+    → IsUnit names files setting unit out
+    → (b : ℕ) (more : Files) (whole : UnitOut)
+    → setting.budget ≡ Some b
+    → Extends more files
+    → (p : IsUnit names more (unlimited setting) unit whole)
+    → IsCapped b (count p) whole out
+unit_caps one grows only names files setting unit out are p b more whole budget extends q =
     let around : Surroundings = surroundings names more setting unit in
     let texts : List (List ℕ) = unit.defines.texts in
     let start : State = beginning (unlimited setting) in
@@ -68,6 +79,16 @@ unit_capped one grows only names files setting unit out are p b more whole budge
           came_through b c whole out (q.gives ∙ same (holding n q.reached) (unit_suffices around b without q.translates n (omega arith))) (omega arith))
     ]
 
+-- and over files that are all known there is a whole
+pub unit_capped : HasOneValue → HasSomeValue → Grows → OnlyBudgetsRefuse → BudgetCaps
+unit_capped one some grows only names files setting unit out are p =
+    record {
+      each = unit_caps one grows only names files setting unit out are p;
+      some = λ b more budget extends knows within.
+          let w = some names more (unlimited setting) unit knows within in
+          record { whole = w.0; value = w.1; capped = unit_caps one grows only names files setting unit out are p b more w.0 budget extends w.1 };
+    }
+
 -- ---- budgets of two sizes
 
 covers_at_most : (wide : Option ℕ) (b : ℕ) → AtMost wide b → Covers wide b
@@ -75,8 +96,14 @@ covers_at_most None b h = without
 covers_at_most (Some c) b h = larger h
 
 -- a unit with a budget has one value, and with a larger budget it gives no less
-pub unit_gives_no_less : HasOneValue → LargerBudgetsGiveNoLess
-unit_gives_no_less one names files setting unit b wide out more are most p q =
+no_less_here : HasOneValue
+    → (names : List (List ℕ)) (files : Files) (setting : Setting) (unit : UnitOfList) (b : ℕ) (wide : Option ℕ) (out more : UnitOut)
+    → AreNames names
+    → AtMost wide b
+    → IsUnit names files (with_budget setting (Some b)) unit out
+    → IsUnit names files (with_budget setting wide) unit more
+    → GivesNoLess out more
+no_less_here one names files setting unit b wide out more are most p q =
     let around : Surroundings = surroundings names files setting unit in
     let here : Setting = with_budget setting (Some b) in
     let c : ℕ = count q in
@@ -97,3 +124,24 @@ unit_gives_no_less one names files setting unit b wide out more are most p q =
           let whole : more ≡ out = q.gives ∙ same (holding n q.reached) (unit_suffices around b covers q.translates n (omega arith)) in
           subst (λ o. GivesNoLess o more) whole (record { items = same_beginning more.items; deps = same_beginning more.deps; same = inl refl }))
     ]
+
+no_less_over : HasOneValue → Grows
+    → (names : List (List ℕ)) (files : Files) (setting : Setting) (unit : UnitOfList) (b : ℕ) (wide : Option ℕ) (out : UnitOut)
+    → AreNames names
+    → AtMost wide b
+    → IsUnit names files (with_budget setting (Some b)) unit out
+    → (wider : Files) (more : UnitOut)
+    → Extends wider files
+    → IsUnit names wider (with_budget setting wide) unit more
+    → GivesNoLess out more
+no_less_over one grows names files setting unit b wide out are most p wider more extends q =
+    no_less_here one names wider setting unit b wide out more are most (grows names files wider (with_budget setting (Some b)) unit out extends p).0 q
+
+pub unit_gives_no_less : HasOneValue → HasSomeValue → Grows → LargerBudgetsGiveNoLess
+unit_gives_no_less one some grows names files setting unit b wide out are most p =
+    record {
+      each = no_less_over one grows names files setting unit b wide out are most p;
+      some = λ wider extends knows within.
+          let w = some names wider (with_budget setting wide) unit knows within in
+          record { more = w.0; value = w.1; no_less = no_less_over one grows names files setting unit b wide out are most p wider w.0 extends w.1 };
+    }

@@ -92,3 +92,5 @@ pub mod RefusingLines
 pub mod Refusing
 -- The directives of the control lines that open no file and do not refuse.
 pub mod ControlKinds
+-- Over files of which each is known, a unit gives something.
+pub mod SomeUnit

@@ -1,5 +1,5 @@
 -- A unit with a budget beside the same unit without one.
-use Rattle.std.specs.Prelude.{◌≡◌, ◌↔◌, ◌⊎◌, ℕ, ◌<◌, ◌≤◌, List, Option, None, Some}
+use Rattle.std.specs.Prelude.{◌≡◌, ◌↔◌, ◌⊎◌, ℕ, ◌<◌, ◌≤◌, List, length, Option, None, Some}
 use Rattle.pptext.specs.declared.tokens.Fault.{Fault}
 use Rattle.ppexpand.specs.Laws.{IsBeginning}
 use Rattle.ppshelf.specs.Names.{AreNames}
@@ -8,6 +8,7 @@ use Rattle.ppunit.specs.declared.units.Unit.{Unit as UnitOfList}
 use Rattle.ppunit.specs.declared.units.Setting.{Setting}
 use Rattle.ppunit.specs.declared.units.UnitOut.{UnitOut}
 use Rattle.ppunit.specs.Unit.{IsUnit, count}
+use Rattle.ppunit.specs.Laws.{KnowsAll}
 
 -- the unit's fault has this number
 abbrev pub HasFault : ℕ → UnitOut → Type 0
@@ -33,14 +34,25 @@ AtMost (Some b) n = n ≤ b
 abbrev pub IsWithin : List (List ℕ) → Files → Setting → UnitOfList → UnitOut → Type 0
 IsWithin names files setting unit out = (p : IsUnit names files setting unit out) → AtMost setting.budget (count p)
 
--- Over these files and any more: where the unit has a value without a budget, that is the whole of this one.
-abbrev pub IsCappedOver : List (List ℕ) → Files → Setting → UnitOfList → UnitOut → Type 0
-IsCappedOver names files setting unit out =
-    (b : ℕ) (more : Files) (whole : UnitOut)
-    → setting.budget ≡ Some b
-    → Extends more files
-    → (p : IsUnit names more (unlimited setting) unit whole)
-    → IsCapped b (count p) whole out
+-- over these files the unit has a value without a budget, and this is what the budget b lets through of it
+pub record HasWhole (b : ℕ) (names : List (List ℕ)) (files : Files) (setting : Setting) (unit : UnitOfList) (out : UnitOut) : Type 0 where
+  pub whole : UnitOut
+  pub value : IsUnit names files (unlimited setting) unit whole
+  pub capped : IsCapped b (count value) whole out
+
+-- Over these files and any more: each value that the unit has without a budget is the whole of this one, and where they know each file, it has one.
+pub record IsCappedOver (names : List (List ℕ)) (files : Files) (setting : Setting) (unit : UnitOfList) (out : UnitOut) : Type 0 where
+  pub each : (b : ℕ) (more : Files) (whole : UnitOut)
+      → setting.budget ≡ Some b
+      → Extends more files
+      → (p : IsUnit names more (unlimited setting) unit whole)
+      → IsCapped b (count p) whole out
+  pub some : (b : ℕ) (more : Files)
+      → setting.budget ≡ Some b
+      → Extends more files
+      → KnowsAll names more
+      → unit.file < length names
+      → HasWhole b names more setting unit out
 
 -- ---- laws
 
@@ -77,12 +89,29 @@ pub record GivesNoLess (out more : UnitOut) : Type 0 where
 abbrev pub with_budget : Setting → Option ℕ → Setting
 with_budget setting budget = record setting { budget = budget }
 
+-- over these files the unit has a value with this budget, or with none, and it is no less than this one
+pub record HasNoLess (larger : Option ℕ) (names : List (List ℕ)) (files : Files) (setting : Setting) (unit : UnitOfList) (out : UnitOut) : Type 0 where
+  pub more : UnitOut
+  pub value : IsUnit names files (with_budget setting larger) unit more
+  pub no_less : GivesNoLess out more
+
+-- Over these files and any more: each value that the unit has with this budget, or with none, is no less, and where they know each file, it has one.
+pub record GivesNoLessOver (larger : Option ℕ) (names : List (List ℕ)) (files : Files) (setting : Setting) (unit : UnitOfList) (out : UnitOut) : Type 0 where
+  pub each : (wider : Files) (more : UnitOut)
+      → Extends wider files
+      → IsUnit names wider (with_budget setting larger) unit more
+      → GivesNoLess out more
+  pub some : (wider : Files)
+      → Extends wider files
+      → KnowsAll names wider
+      → unit.file < length names
+      → HasNoLess larger names wider setting unit out
+
 -- with a larger budget, or with none, a unit gives no less
 abbrev pub LargerBudgetsGiveNoLess : Type 0
 LargerBudgetsGiveNoLess =
-    (names : List (List ℕ)) (files : Files) (setting : Setting) (unit : UnitOfList) (b : ℕ) (larger : Option ℕ) (out more : UnitOut)
+    (names : List (List ℕ)) (files : Files) (setting : Setting) (unit : UnitOfList) (b : ℕ) (larger : Option ℕ) (out : UnitOut)
     → AreNames names
     → AtMost larger b
     → IsUnit names files (with_budget setting (Some b)) unit out
-    → IsUnit names files (with_budget setting larger) unit more
-    → GivesNoLess out more
+    → GivesNoLessOver larger names files setting unit out

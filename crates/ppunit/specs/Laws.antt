@@ -1,7 +1,7 @@
 -- Laws of units.
-use Rattle.std.specs.Prelude.{◌≡◌, ℕ, List}
+use Rattle.std.specs.Prelude.{◌≡◌, ℕ, ◌<◌, List, length, IsSome}
 use Rattle.ppshelf.specs.Names.{AreNames}
-use Rattle.ppshelf.specs.Files.{Files, Extends}
+use Rattle.ppshelf.specs.Files.{Files, file_at, Extends}
 use Rattle.ppunit.specs.declared.units.Unit.{Unit as UnitOfList}
 use Rattle.ppunit.specs.declared.units.Setting.{Setting}
 use Rattle.ppunit.specs.declared.units.UnitOut.{UnitOut}
@@ -22,3 +22,15 @@ Grows =
     → Extends more files
     → (p : IsUnit names files setting unit out)
     → (q : IsUnit names more setting unit out) × (count q ≡ count p)
+
+-- each file's content is known
+abbrev pub KnowsAll : List (List ℕ) → Files → Type 0
+KnowsAll names files = (row : ℕ) → row < length names → IsSome (file_at files row)
+
+-- where each file's content is known, a unit whose file is one of them gives something, whatever its budget is, and without one
+abbrev pub HasSomeValue : Type 0
+HasSomeValue =
+    (names : List (List ℕ)) (files : Files) (setting : Setting) (unit : UnitOfList)
+    → KnowsAll names files
+    → unit.file < length names
+    → (out : UnitOut) × IsUnit names files setting unit out

@@ -28,7 +28,7 @@ pub use guards::guard_changes_nothing;
 pub use items::{ItemRef, ItemsIter};
 pub use laws::{
     budget_caps_units, growth, larger_budgets_give_no_less, one_value, only_budgets_refuse,
-    stays_within,
+    some_value, stays_within,
 };
 pub use lists::{Items, Part, Rows, Text, Texts};
 pub use preprocessing::preprocess;

@@ -1,0 +1,439 @@
+-- Over files of which each row is known, a unit gives something.
+use Rattle.std.proofs.Common.{◌≡◌, ◌≢◌, ℕ, zero, suc, ◌+◌, ◌<◌, ◌≤◌, ◌⊎◌, inl, inr, Bool, true, false, List, [], ◌∷◌, length, IsSome, map, Option, Some, None, Result, Ok, Err, refl, ap, ◌∙◌, arith}
+use Rattle.std.proofs.lemmas.Bool.{cases_lt}
+use Rattle.pptext.specs.declared.tokens.Place.{Place}
+use Rattle.pptext.specs.declared.tokens.Token.{Token}
+use Rattle.pptext.specs.declared.tokens.Fault.{Fault}
+use Rattle.pptext.specs.declared.sources.Profile.{Profile}
+use Rattle.pptext.specs.declared.sources.Directive.{Directive}
+use Rattle.pptext.specs.declared.sources.Directive.TheVariants.{If, Ifdef, Ifndef, Elif, Elifdef, Elifndef, Else, Endif, Include, IncludeNext, Define, Undef, Line, Error, Pragma, Null, Ignored, Unknown}
+use Rattle.pptext.specs.Lines.{LogicalLine}
+use Rattle.pptext.specs.Sources.{Reads, IsSource}
+use Rattle.pptext.specs.Tokens.{fault}
+use Rattle.pptext.specs.Tree.{sign_place, ControlLine, Opens, Elses, role, role_by, Parts, Done, Run, Control, Section, Branches, End, Branch, AreParts, AreBranches, Tree, group_fault}
+use Rattle.ppmacro.specs.Names.{Macros}
+use Rattle.ppmacro.specs.Define.{after_define, after_undef}
+use Rattle.ppexpand.specs.declared.env.Env.{Env}
+use Rattle.ppexpand.specs.declared.expansion.Expanded.{Expanded}
+use Rattle.ppexpand.specs.Expansion.{IsExpansion}
+use Rattle.ppexpand.specs.Budget.{is_spent}
+use Rattle.ppexpr.specs.Conditions.{IsCondition}
+use Rattle.ppshelf.specs.Content.{Content, unreadable, readable}
+use Rattle.ppshelf.specs.Files.{Files, file_at}
+use Rattle.ppshelf.specs.Names.{name_in}
+use Rattle.ppshelf.specs.Search.{Candidate, IsFirstRow}
+use Rattle.ppshelf.proofs.Finds.{first_within}
+use Rattle.ppunit.specs.Dependencies.{is_among}
+use Rattle.ppunit.specs.declared.units.Unit.{Unit as UnitOfList}
+use Rattle.ppunit.specs.declared.units.Setting.{Setting}
+use Rattle.ppunit.specs.declared.units.UnitOut.{UnitOut}
+use Rattle.ppunit.specs.declared.units.Item.TheVariants as item
+use Rattle.ppunit.specs.States.{State, Search, Surroundings, search_of, Reached, going, stopped, given, passed, with_left, depending, entering, leaving, paying}
+use Rattle.ppunit.specs.Lines.{operands, line_fault, named_fault, one_identifier, run_tokens}
+use Rattle.ppunit.specs.Quotes.{lone_quote}
+use Rattle.ppunit.specs.LineControl.{presumed}
+use Rattle.ppunit.specs.Including.{Asked, begins_with_header, header_asked, asked_or, asked_behind, if_somewhere}
+use Rattle.ppunit.specs.Probing.{condition_tokens}
+use Rattle.ppunit.specs.Conditions.{Decides, DecidesFreely, DecidesOf, DecidesBy, DecidesUnless, IsConditional, by_name}
+use Rattle.ppunit.specs.Directives.{RunGives, LineGives, renumbered_by, with_macros, pragma_passed, ControlBy, Asks, AsksBy, looked_for, Finds, message, looks_at_quotes}
+use Rattle.ppunit.specs.Group.{deepest, Group, Branched, Controls, Includes, Opened}
+use Rattle.ppunit.specs.Laws.{KnowsAll, HasSomeValue}
+use Rattle.ppunit.specs.Unit.{Defines, unread, processed, Translates, undefined, translated, command_file, command_text, first_place, surroundings, beginning}
+
+abbrev pub SomeExpansion : Type 0
+SomeExpansion = (macros : Macros) (env : Env) (left : Option ℕ) (tokens : List Token) → (e : Expanded) × IsExpansion macros env left tokens e
+
+abbrev pub SomeDecision : Type 0
+SomeDecision =
+    (macros : Macros) (env : Env) (at : Place) (tokens : List Token) (left : Option ℕ)
+    → (c : Result Bool Fault) × (after : Option ℕ) × IsCondition macros env at tokens left c after
+
+abbrev pub SomeReading : Type 0
+SomeReading = (profile : Profile) (file : ℕ) (bytes : List ℕ) → (r : Result (List LogicalLine) Fault) × Reads profile file bytes r
+
+abbrev pub SomeRow : Type 0
+SomeRow = (names : List (List ℕ)) (cs : List Candidate) → (found : Option (ℕ × ℕ)) × IsFirstRow names cs found
+
+abbrev pub SomeTree : Type 0
+SomeTree = (lines : List LogicalLine) → group_fault [] lines ≡ None → (parts : Parts) × Tree lines parts
+
+-- ---- what a line is by its role
+
+abbrev HasCondition : Option Directive → Type 0
+HasCondition None = ⊥
+HasCondition (Some d) = IsConditional d
+
+opens_conditional : (d : Option Directive) → role_by d ≡ Opens → HasCondition d
+opens_conditional None e = absurd (cc)
+opens_conditional (Some If) e = tt
+opens_conditional (Some Ifdef) e = tt
+opens_conditional (Some Ifndef) e = tt
+opens_conditional (Some Elif) e = absurd (cc)
+opens_conditional (Some Elifdef) e = absurd (cc)
+opens_conditional (Some Elifndef) e = absurd (cc)
+opens_conditional (Some Else) e = absurd (cc)
+opens_conditional (Some Endif) e = absurd (cc)
+opens_conditional (Some Include) e = absurd (cc)
+opens_conditional (Some IncludeNext) e = absurd (cc)
+opens_conditional (Some Define) e = absurd (cc)
+opens_conditional (Some Undef) e = absurd (cc)
+opens_conditional (Some Line) e = absurd (cc)
+opens_conditional (Some Error) e = absurd (cc)
+opens_conditional (Some Pragma) e = absurd (cc)
+opens_conditional (Some Null) e = absurd (cc)
+opens_conditional (Some Ignored) e = absurd (cc)
+opens_conditional (Some Unknown) e = absurd (cc)
+
+elif_conditional : (d : Option Directive) → role_by d ≡ Elses false → HasCondition d
+elif_conditional None e = absurd (cc)
+elif_conditional (Some If) e = absurd (cc)
+elif_conditional (Some Ifdef) e = absurd (cc)
+elif_conditional (Some Ifndef) e = absurd (cc)
+elif_conditional (Some Elif) e = tt
+elif_conditional (Some Elifdef) e = tt
+elif_conditional (Some Elifndef) e = tt
+elif_conditional (Some Else) e = absurd (cc)
+elif_conditional (Some Endif) e = absurd (cc)
+elif_conditional (Some Include) e = absurd (cc)
+elif_conditional (Some IncludeNext) e = absurd (cc)
+elif_conditional (Some Define) e = absurd (cc)
+elif_conditional (Some Undef) e = absurd (cc)
+elif_conditional (Some Line) e = absurd (cc)
+elif_conditional (Some Error) e = absurd (cc)
+elif_conditional (Some Pragma) e = absurd (cc)
+elif_conditional (Some Null) e = absurd (cc)
+elif_conditional (Some Ignored) e = absurd (cc)
+elif_conditional (Some Unknown) e = absurd (cc)
+
+is_else : (d : Option Directive) → role_by d ≡ Elses true → d ≡ Some Else
+is_else None e = absurd (cc)
+is_else (Some If) e = absurd (cc)
+is_else (Some Ifdef) e = absurd (cc)
+is_else (Some Ifndef) e = absurd (cc)
+is_else (Some Elif) e = absurd (cc)
+is_else (Some Elifdef) e = absurd (cc)
+is_else (Some Elifndef) e = absurd (cc)
+is_else (Some Else) e = refl
+is_else (Some Endif) e = absurd (cc)
+is_else (Some Include) e = absurd (cc)
+is_else (Some IncludeNext) e = absurd (cc)
+is_else (Some Define) e = absurd (cc)
+is_else (Some Undef) e = absurd (cc)
+is_else (Some Line) e = absurd (cc)
+is_else (Some Error) e = absurd (cc)
+is_else (Some Pragma) e = absurd (cc)
+is_else (Some Null) e = absurd (cc)
+is_else (Some Ignored) e = absurd (cc)
+is_else (Some Unknown) e = absurd (cc)
+
+no_else : (d : Option Directive) → role_by d ≡ Elses false → d ≢ Some Else
+no_else d e is = let here : role_by d ≡ Elses true = ap role_by is in cc
+
+-- ---- lines
+
+module _ (expansions : SomeExpansion) (decisions : SomeDecision) where
+  some_run : (s : State) (tokens : List Token) → (m : Reached) × RunGives s tokens m
+  some_run s tokens =
+      let e = expansions s.macros s.env s.left tokens in
+      (record { state = passed (with_left s e.0.left) (map item.Token e.0.tokens); fault = e.0.fault }, record { expanded = e.0; expands = e.1; is = refl })
+
+  some_renumbering : (s : State) (line : LogicalLine) → (m : Reached) × LineGives s line m
+  some_renumbering s line =
+      let e = expansions s.macros s.env s.left (operands line.tokens) in
+      (renumbered_by (with_left s e.0.left) line e.0.fault (presumed e.0.tokens), record { expanded = e.0; expands = e.1; is = refl })
+
+  asks_by : (header : Bool) (s : State) (line : List Token) → (asked : Result Asked Fault) × (after : Option ℕ) × AsksBy header s line after asked
+  asks_by true s line = (asked_or (line_fault 30 line []) (if_somewhere (header_asked (operands line))), s.left, (refl, refl))
+  asks_by false s line =
+      let e = expansions s.macros s.env s.left (operands line) in
+      (asked_behind (line_fault 30 line []) e.0.fault e.0.tokens, e.0.left, record { expanded = e.0; expands = e.1; leaves = refl; is = refl })
+
+  some_asking : (s : State) (line : List Token) → (asked : Result Asked Fault) × (after : Option ℕ) × Asks s line after asked
+  some_asking s line = asks_by (begins_with_header (operands line)) s line
+
+  decides_freely : (s : State) (answer : Result Bool Fault) → (taken : Result Bool Fault) × (after : Option ℕ) × DecidesFreely s answer after taken
+  decides_freely s answer = (answer, s.left, (refl, refl))
+
+  decides_of : (tokens : Result (List Token) Fault) (s : State) (at : Place) → (taken : Result Bool Fault) × (after : Option ℕ) × DecidesOf tokens s at after taken
+  decides_of (Err f) s at = decides_freely s (Err f)
+  decides_of (Ok tokens) s at = decisions s.macros s.env at tokens s.left
+
+  decides_by : (search : Search) (row : ℕ) (d : Option Directive) (s : State) (line : List Token)
+      → HasCondition d
+      → (taken : Result Bool Fault) × (after : Option ℕ) × DecidesBy search row d s line after taken
+  decides_by search row None s line has = absurd has
+  decides_by search row (Some If) s line has = decides_of (condition_tokens search row line) s (sign_place line)
+  decides_by search row (Some Ifdef) s line has = decides_freely s (by_name true s.macros line (one_identifier (operands line)))
+  decides_by search row (Some Ifndef) s line has = decides_freely s (by_name false s.macros line (one_identifier (operands line)))
+  decides_by search row (Some Elif) s line has = decides_of (condition_tokens search row line) s (sign_place line)
+  decides_by search row (Some Elifdef) s line has = decides_freely s (by_name true s.macros line (one_identifier (operands line)))
+  decides_by search row (Some Elifndef) s line has = decides_freely s (by_name false s.macros line (one_identifier (operands line)))
+  decides_by search row (Some Else) s line has = absurd has
+  decides_by search row (Some Endif) s line has = absurd has
+  decides_by search row (Some Include) s line has = absurd has
+  decides_by search row (Some IncludeNext) s line has = absurd has
+  decides_by search row (Some Define) s line has = absurd has
+  decides_by search row (Some Undef) s line has = absurd has
+  decides_by search row (Some Line) s line has = absurd has
+  decides_by search row (Some Error) s line has = absurd has
+  decides_by search row (Some Pragma) s line has = absurd has
+  decides_by search row (Some Null) s line has = absurd has
+  decides_by search row (Some Ignored) s line has = absurd has
+  decides_by search row (Some Unknown) s line has = absurd has
+
+  decides_unless : (search : Search) (row : ℕ) (q : Option Fault) (d : Option Directive) (s : State) (line : List Token)
+      → HasCondition d
+      → (taken : Result Bool Fault) × (after : Option ℕ) × DecidesUnless search row q d s line after taken
+  decides_unless search row None d s line has = decides_by search row d s line has
+  decides_unless search row (Some f) d s line has = decides_freely s (Err f)
+
+  some_deciding : (search : Search) (row : ℕ) (s : State) (line : LogicalLine)
+      → HasCondition line.directive
+      → (taken : Result Bool Fault) × (after : Option ℕ) × Decides search row s line after taken
+  some_deciding search row s line has = decides_unless search row (lone_quote line.tokens) line.directive s line.tokens has
+
+  data Sort (profile : Profile) (row : ℕ) (d : Option Directive) : Type 0 where
+    refuses : d ≡ Some Error → Sort profile row d
+    does_nothing : d ≡ Some Ignored → Sort profile row d
+    asks : looks_at_quotes d ≡ true → d ≡ Some Include → Sort profile row d
+    asks_next : looks_at_quotes d ≡ true → d ≡ Some IncludeNext → Sort profile row d
+    does : looks_at_quotes d ≡ true → ((s : State) (line : LogicalLine) → (m : Reached) × ControlBy profile row d s line m) → Sort profile row d
+
+  sort_of : (profile : Profile) (row : ℕ) (d : Option Directive) → role_by d ≡ ControlLine → Sort profile row d
+  sort_of profile row None e = absurd (cc)
+  sort_of profile row (Some If) e = absurd (cc)
+  sort_of profile row (Some Ifdef) e = absurd (cc)
+  sort_of profile row (Some Ifndef) e = absurd (cc)
+  sort_of profile row (Some Elif) e = absurd (cc)
+  sort_of profile row (Some Elifdef) e = absurd (cc)
+  sort_of profile row (Some Elifndef) e = absurd (cc)
+  sort_of profile row (Some Else) e = absurd (cc)
+  sort_of profile row (Some Endif) e = absurd (cc)
+  sort_of profile row (Some Include) e = asks refl refl
+  sort_of profile row (Some IncludeNext) e = asks_next refl refl
+  sort_of profile row (Some Define) e = does refl (λ s line. (with_macros s (after_define profile s.macros (sign_place line.tokens) (operands line.tokens)), refl))
+  sort_of profile row (Some Undef) e = does refl (λ s line. (with_macros s (after_undef profile s.macros (sign_place line.tokens) (operands line.tokens)), refl))
+  sort_of profile row (Some Line) e = does refl (λ s line. some_renumbering s line)
+  sort_of profile row (Some Error) e = refuses refl
+  sort_of profile row (Some Pragma) e = does refl (λ s line. (going (pragma_passed profile row s line.tokens), refl))
+  sort_of profile row (Some Null) e = does refl (λ s line. (going s, refl))
+  sort_of profile row (Some Ignored) e = does_nothing refl
+  sort_of profile row (Some Unknown) e = does refl (λ s line. (stopped s (named_fault 8 line.tokens), refl))
+
+  module _ (readings : SomeReading) (trees : SomeTree) (rows : SomeRow) (around : Surroundings) (known : KnowsAll around.names around.files) where
+    abbrev SomeOpened : ℕ → Type 0
+    SomeOpened depth =
+        (at : Place) (s : State) (row : ℕ) (folder : Option ℕ)
+        → row < length around.names
+        → (m : Reached) × Opened around depth at s row folder m
+
+    module _ (depth : ℕ) (deeper : SomeOpened (suc depth)) where
+      finding : (row : ℕ) (from : Option ℕ) (s : State) (line : LogicalLine) (after : Option ℕ) (a : Asked)
+          → Asks s line.tokens after (Ok a)
+          → (found : Option (ℕ × ℕ))
+          → Finds around row from a found
+          → (m : Reached) × Includes around depth row from s line m
+      finding row from s line after a asking None finds =
+          (stopped (with_left s after) (line_fault 31 line.tokens a.name), Includes.missing a asking finds)
+      finding row from s line after a asking (Some found) finds =
+          let within : found.0 < length around.names = first_within around.names (looked_for around row from a) (Some found) finds in
+          let o = deeper (sign_place line.tokens) (with_left s after) found.0 (Some found.1) within in
+          (o.0, Includes.included a found asking finds o.1)
+
+      including : (row : ℕ) (from : Option ℕ) (s : State) (line : LogicalLine) (after : Option ℕ) (asked : Result Asked Fault)
+          → Asks s line.tokens after asked
+          → (m : Reached) × Includes around depth row from s line m
+      including row from s line after (Err f) asking = (stopped (with_left s after) f, Includes.misnamed asking)
+      including row from s line after (Ok a) asking =
+          let r = rows around.names (looked_for around row from a) in
+          finding row from s line after a asking r.0 r.1
+
+      some_include : (row : ℕ) (from : Option ℕ) (s : State) (line : LogicalLine) → (m : Reached) × Includes around depth row from s line m
+      some_include row from s line = let a = some_asking s line.tokens in including row from s line a.1 a.0 a.2
+
+      control_by : (row : ℕ) (s : State) (line : LogicalLine) (q : Option Fault)
+          → lone_quote line.tokens ≡ q
+          → Sort around.profile row line.directive
+          → (m : Reached) × Controls around depth row s line m
+      control_by row s line q e (refuses is) = (stopped s (line_fault 34 line.tokens (message (operands line.tokens))), Controls.error is)
+      control_by row s line q e (does_nothing is) = (going s, Controls.ignored is)
+      control_by row s line (Some f) e (asks looks is) = (stopped s f, Controls.quote looks e)
+      control_by row s line (Some f) e (asks_next looks is) = (stopped s f, Controls.quote looks e)
+      control_by row s line (Some f) e (does looks by) = (stopped s f, Controls.quote looks e)
+      control_by row s line None e (asks looks is) = let i = some_include row None s line in (i.0, Controls.include is e i.1)
+      control_by row s line None e (asks_next looks is) = let i = some_include row s.folder s line in (i.0, Controls.include_next is e i.1)
+      control_by row s line None e (does looks by) = let m = by s line in (m.0, Controls.other e m.1)
+
+      some_control : (row : ℕ) (s : State) (line : LogicalLine) → role line ≡ ControlLine → (m : Reached) × Controls around depth row s line m
+      some_control row s line is = control_by row s line (lone_quote line.tokens) refl (sort_of around.profile row line.directive is)
+
+      -- after a state or a fault
+      abbrev SomeGroup : ℕ → Reached → Parts → Type 0
+      SomeGroup row r ps = (m : Reached) × Group around depth row r ps m
+
+      abbrev SomeBranched : ℕ → State → Branches → Type 0
+      SomeBranched row s bs = (m : Reached) × Branched around depth row s bs m
+
+      goes_on_by : (row : ℕ) (ps : Parts) → ((s : State) → SomeGroup row (going s) ps) → (s : State) (f : Option Fault) → SomeGroup row (record { state = s; fault = f }) ps
+      goes_on_by row ps all s None = all s
+      goes_on_by row ps all s (Some f) = (stopped s f, Group.stays)
+
+      goes_on : (row : ℕ) (ps : Parts) → ((s : State) → SomeGroup row (going s) ps) → (r : Reached) → SomeGroup row r ps
+      goes_on row ps all r = goes_on_by row ps all r.state r.fault
+
+      at_run : (row : ℕ) (s : State) (lines : List LogicalLine) (ps : Parts) → ((t : State) → SomeGroup row (going t) ps) → SomeGroup row (going s) (Run lines ps)
+      at_run row s lines ps rest =
+          let m = some_run s (run_tokens lines) in
+          let g = goes_on row ps rest m.0 in
+          (g.0, Group.run m.1 g.1)
+
+      at_control : (row : ℕ) (s : State) (line : LogicalLine) (ps : Parts) → role line ≡ ControlLine → ((t : State) → SomeGroup row (going t) ps) → SomeGroup row (going s) (Control line ps)
+      at_control row s line ps is rest =
+          let m = some_control row s line is in
+          let g = goes_on row ps rest m.0 in
+          (g.0, Group.control m.1 g.1)
+
+      at_section : (row : ℕ) (s : State) (line : LogicalLine) (ps qs : Parts) (bs : Branches) (taken : Result Bool Fault) (after : Option ℕ)
+          → Decides (search_of around) row s line after taken
+          → ((t : State) → SomeGroup row (going t) ps)
+          → ((t : State) → SomeBranched row t bs)
+          → ((t : State) → SomeGroup row (going t) qs)
+          → SomeGroup row (going s) (Section line ps bs qs)
+      at_section row s line ps qs bs (Err f) after decides here branches rest = (stopped (with_left s after) f, Group.refused decides)
+      at_section row s line ps qs bs (Ok true) after decides here branches rest =
+          let m = here (with_left s after) in
+          let g = goes_on row qs rest m.0 in
+          (g.0, Group.taken decides m.1 g.1)
+      at_section row s line ps qs bs (Ok false) after decides here branches rest =
+          let m = branches (with_left s after) in
+          let g = goes_on row qs rest m.0 in
+          (g.0, Group.skipped decides m.1 g.1)
+
+      at_elif : (row : ℕ) (s : State) (line : LogicalLine) (ps : Parts) (bs : Branches) (taken : Result Bool Fault) (after : Option ℕ)
+          → line.directive ≢ Some Else
+          → Decides (search_of around) row s line after taken
+          → ((t : State) → SomeGroup row (going t) ps)
+          → ((t : State) → SomeBranched row t bs)
+          → SomeBranched row s (Branch line ps bs)
+      at_elif row s line ps bs (Err f) after is decides here more = (stopped (with_left s after) f, Branched.branch_refused is decides)
+      at_elif row s line ps bs (Ok true) after is decides here more = let m = here (with_left s after) in (m.0, Branched.branch_taken is decides m.1)
+      at_elif row s line ps bs (Ok false) after is decides here more = let m = more (with_left s after) in (m.0, Branched.branch_skipped is decides m.1)
+
+      at_branch : (row : ℕ) (s : State) (line : LogicalLine) (ps : Parts) (bs : Branches) (final : Bool)
+          → role line ≡ Elses final
+          → ((t : State) → SomeGroup row (going t) ps)
+          → ((t : State) → SomeBranched row t bs)
+          → SomeBranched row s (Branch line ps bs)
+      at_branch row s line ps bs true is here more = let m = here s in (m.0, Branched.otherwise (is_else line.directive is) m.1)
+      at_branch row s line ps bs false is here more =
+          let d = some_deciding (search_of around) row s line (elif_conditional line.directive is) in
+          at_elif row s line ps bs d.0 d.1 (no_else line.directive is) d.2 here more
+
+      opening_line : (row : ℕ) (s : State) (line : LogicalLine) (ps qs : Parts) (bs : Branches)
+          → role line ≡ Opens
+          → ((t : State) → SomeGroup row (going t) ps)
+          → ((t : State) → SomeBranched row t bs)
+          → ((t : State) → SomeGroup row (going t) qs)
+          → SomeGroup row (going s) (Section line ps bs qs)
+      opening_line row s line ps qs bs is here branches rest =
+          let d = some_deciding (search_of around) row s line (opens_conditional line.directive is) in
+          at_section row s line ps qs bs d.0 d.1 d.2 here branches rest
+
+      mutual
+        some_group : (ps : Parts) → AreParts ps → (row : ℕ) (s : State) → SomeGroup row (going s) ps
+        some_group Done good row s = (going s, Group.done)
+        some_group (Run lines ps) good row s = at_run row s lines ps (λ t. some_group ps good.3 row t)
+        some_group (Control line ps) good row s = at_control row s line ps good.0 (λ t. some_group ps good.1 row t)
+        some_group (Section line ps bs qs) good row s =
+            opening_line row s line ps qs bs good.0 (λ t. some_group ps good.1 row t) (λ t. some_branches bs false good.2 row t) (λ t. some_group qs good.3 row t)
+
+        some_branches : (bs : Branches) (last : Bool) → AreBranches last bs → (row : ℕ) (s : State) → SomeBranched row s bs
+        some_branches (End line) last good row s = (going s, Branched.ended)
+        some_branches (Branch line ps bs) last (first, final, is, parts, more) row s =
+            at_branch row s line ps bs final is (λ t. some_group ps parts row t) (λ t. some_branches bs final more row t)
+
+      -- ---- a file
+
+      tree_of : (profile : Profile) (row : ℕ) (bytes : List ℕ) (lines : List LogicalLine) → IsSource profile row bytes lines → (parts : Parts) × Tree lines parts
+      tree_of profile row bytes lines is = trees lines (ap (λ x. group_fault [] x) is.same ∙ is.grouped)
+
+      reading_file : (at : Place) (s : State) (row : ℕ) (folder : Option ℕ) (bytes : List ℕ)
+          → depth ≤ deepest
+          → is_spent s.left ≡ false
+          → is_among row s.once ≡ false
+          → file_at around.files row ≡ Some (readable bytes)
+          → (r : Result (List LogicalLine) Fault)
+          → Reads around.profile row bytes r
+          → (m : Reached) × Opened around depth at s row folder m
+      reading_file at s row folder bytes fits some new is (Err f) reads = (stopped (depending (paying s) row) f, Opened.faulty fits some new is reads)
+      reading_file at s row folder bytes fits some new is (Ok lines) reads =
+          let t = tree_of around.profile row bytes lines reads in
+          let g = some_group t.0 t.1.each row (entering around (paying s) row folder) in
+          (leaving s g.0, Opened.read fits some new is reads t.1 g.1)
+
+      at_content : (at : Place) (s : State) (row : ℕ) (folder : Option ℕ)
+          → depth ≤ deepest
+          → is_spent s.left ≡ false
+          → is_among row s.once ≡ false
+          → (c : Option Content)
+          → file_at around.files row ≡ c
+          → IsSome c
+          → (m : Reached) × Opened around depth at s row folder m
+      at_content at s row folder fits some new None is there = absurd (cc)
+      at_content at s row folder fits some new (Some unreadable) is there =
+          (stopped (depending (paying s) row) (fault 6 at (name_in around.names row)), Opened.not_readable fits some new is)
+      at_content at s row folder fits some new (Some (readable bytes)) is there =
+          let r = readings around.profile row bytes in
+          reading_file at s row folder bytes fits some new is r.0 r.1
+
+      at_once : (at : Place) (s : State) (row : ℕ) (folder : Option ℕ) → row < length around.names
+          → depth ≤ deepest
+          → is_spent s.left ≡ false
+          → (b : Bool)
+          → is_among row s.once ≡ b
+          → (m : Reached) × Opened around depth at s row folder m
+      at_once at s row folder within fits some true e = (going (depending (paying s) row), Opened.known fits some e)
+      at_once at s row folder within fits some false e = at_content at s row folder fits some e (file_at around.files row) refl (known row within)
+
+      at_budget : (at : Place) (s : State) (row : ℕ) (folder : Option ℕ) → row < length around.names → depth ≤ deepest → (b : Bool) → is_spent s.left ≡ b → (m : Reached) × Opened around depth at s row folder m
+      at_budget at s row folder within fits true e = (stopped s (fault 35 at []), Opened.over fits e)
+      at_budget at s row folder within fits false e = at_once at s row folder within fits e (is_among row s.once) refl
+
+      at_depth : (at : Place) (s : State) (row : ℕ) (folder : Option ℕ) → row < length around.names → (deepest < depth) ⊎ (depth ≤ deepest) → (m : Reached) × Opened around depth at s row folder m
+      at_depth at s row folder within (inl deep) = (stopped s (fault 32 at (name_in around.names row)), Opened.too_deep deep)
+      at_depth at s row folder within (inr fits) = at_budget at s row folder within fits (is_spent s.left) refl
+
+      some_opened : SomeOpened depth
+      some_opened at s row folder within = at_depth at s row folder within (cases_lt deepest depth)
+
+    -- what is left of the depth falls
+    opening : (n depth : ℕ) → 201 ≤ n + depth → SomeOpened depth
+    opening zero depth h at s row folder within = (stopped s (fault 32 at (name_in around.names row)), Opened.too_deep (omega arith))
+    opening (suc n) depth h at s row folder within = some_opened depth (opening n (suc depth) (omega arith)) at s row folder within
+
+    -- ---- a unit
+
+    deeper_ones : SomeOpened 1
+    deeper_ones = opening 200 1 (omega arith)
+
+    defining : (defines : List (List ℕ)) (s : State) (r : Result (List LogicalLine) Fault) → Reads around.profile command_file (command_text defines) r → (m : Reached) × Defines around defines s m
+    defining defines s (Err f) reads = (stopped s f, unread reads)
+    defining defines s (Ok lines) reads =
+        let t = tree_of 0 deeper_ones around.profile command_file (command_text defines) lines reads in
+        let g = some_group 0 deeper_ones t.0 t.1.each command_file s in
+        (g.0, processed reads t.1 g.1)
+
+    after_defines : (defines : List (List ℕ)) (row : ℕ) → row < length around.names → (s t : State) (f : Option Fault) → Defines around defines s (record { state = t; fault = f }) → (m : Reached) × Translates around defines row s m
+    after_defines defines row within s t (Some f) d = (stopped t f, undefined d)
+    after_defines defines row within s t None d = let o = opening 201 0 (omega arith) (first_place row) t row None within in (o.0, translated d o.1)
+
+    some_translation : (defines : List (List ℕ)) (row : ℕ) → row < length around.names → (s : State) → (m : Reached) × Translates around defines row s m
+    some_translation defines row within s =
+        let r = readings around.profile command_file (command_text defines) in
+        let d = defining defines s r.0 r.1 in
+        after_defines defines row within s d.0.state d.0.fault d.1
+
+  pub some_unit : SomeReading → SomeTree → SomeRow → HasSomeValue
+  some_unit readings trees rows names files setting unit known within =
+      let t = some_translation readings trees rows (surroundings names files setting unit) known unit.defines.texts unit.file within (beginning setting) in
+      (given t.0, record { reached = t.0; translates = t.1; gives = refl })
