@@ -1,8 +1,9 @@
 -- Seats that are handed in one after the other, from the last.
 use Rattle.std.proofs.Common.{max, suc, ◌-◌, ℕ, ◌≡◌, ◌<◌, ◌≤◌, ◌+◌, ◌++◌, ap, sym, ◌∙◌, arith, List, [], ◌∷◌, refl}
-use Rattle.std.proofs.Common.{Bool, true, false, ◌||◌, if◌then◌else◌, All, length, get_or, length-append}
+use Rattle.std.proofs.Common.{Bool, true, false, ◌||◌, ◌&&◌, nat_eq, if◌then◌else◌, All, length, get_or, length-append}
 use Rattle.std.proofs.lemmas.Grind.{common_steps}
 use Rattle.std.proofs.lemmas.Bool.{false≢true}
+use Rattle.std.proofs.lemmas.Bool.Decides.{nat_tests}
 use Rattle.pppool.specs.Desk.{DeskId, SeatView, times, claims_of, any_empty}
 use Rattle.pppool.proofs.Totals.{times-append}
 
@@ -75,6 +76,18 @@ joined_times n all rest x mine theirs both sum e is at before =
     let b = times-append n mine theirs in
     let c = ap (times n) e in
     omega arith
+
+-- where all seats were told that no block is left, some seat was
+all_told : (seats : List SeatView) → 0 < length seats → All (λ s. s.found_empty ≡ true) seats → any_empty seats ≡ true
+all_told [] some all = absurd (omega arith)
+all_told (s ∷ rest) some all = rw (all 0 s (omega arith)) refl
+
+-- all seats of a desk that were all told so close it
+pub closes : (seats : List SeatView) (count : ℕ) → length seats ≡ count → 0 < count → All (λ s. s.found_empty ≡ true) seats → (nat_eq (length seats) count && any_empty seats) ≡ true
+closes seats count same some all =
+    let told = all_told seats (omega arith) all in
+    let counted : nat_eq (length seats) count ≡ true = grind (arith, nat_tests) in
+    rw (counted, told) refl
 
 -- one more than the greatest claim
 abbrev pub next_claim : List ℕ → ℕ

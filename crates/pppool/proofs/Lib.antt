@@ -12,3 +12,5 @@ pub mod Kept
 pub mod Answering
 -- Answers that are put into their units' slots.
 pub mod Placing
+-- What happens to the state that callers share.
+pub mod Events

@@ -1,5 +1,5 @@
 -- Answers that are put into their units' slots.
-use Rattle.std.proofs.Common.{ℕ, suc, zero, ◌≡◌, ◌<◌, ◌/◌, List, [], ◌∷◌, ◌++◌, length, get_or, set, map, replicate, All, Option, Some}
+use Rattle.std.proofs.Common.{ℕ, suc, zero, ◌≡◌, ◌<◌, ◌/◌, List, [], ◌∷◌, ◌++◌, length, length-append, get_or, set, map, true, replicate, All, Option, Some}
 use Rattle.std.proofs.Common.{None, IsSome, IfSome, Result, Ok, Err, IfOk, refl, sym, ap, ◌∙◌, subst, arith, inl, inr}
 use Rattle.std.specs.List.{AllZip}
 use Rattle.std.proofs.lemmas.Bool.{cases_lt, cases_eq}
@@ -157,6 +157,13 @@ filled_none count block seats slots is i w h = let e = ap (λ l. times (i / bloc
 
 pub none_at : (desk : DeskId) (seats : List SeatView) → seats ≡ [] → All (λ s. s.desk ≡ desk) seats
 none_at desk seats is k d w = let e = ap length is in absurd (omega arith)
+
+pub none_told : (seats : List SeatView) → seats ≡ [] → All (λ s. s.found_empty ≡ true) seats
+none_told seats is k d w = let e = ap length is in absurd (omega arith)
+
+-- one element more in each of two lists
+pub one_more : {A B : Type 0} (xs more : List A) (x : A) (ys : List B) (y : B) → more ≡ xs ++ x ∷ [] → length xs ≡ length ys → length more ≡ length (ys ++ y ∷ [])
+one_more xs more x ys y is same = let a = ap length is in let b = length-append xs (x ∷ []) in let c = length-append ys (y ∷ []) in omega arith
 
 -- what follows where a result is Ok
 pub if_ok_then : {T E : Type 0} (r : Result T E) {P Q : T → Type 0} → IfOk r P → ((x : T) → P x → Q x) → IfOk r Q

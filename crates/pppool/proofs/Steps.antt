@@ -225,6 +225,14 @@ at_most_once p s id v d at x =
     let o = once_le x (min (get_or s.words 0 0) p.blocks) in
     omega arith
 
+-- the claims of a view are blocks
+pub claims_blocks : (p : Plan) (s : State ℕ Hand) (id : ℕ) (v : Hand) → Dealt p s → get_elem? s.views id ≡ some v → (x : ℕ) → 0 < times x v.claims → x < p.blocks
+claims_blocks p s id v d at x claimed =
+    let e = total_at (λ k. times x k.claims) s.views id v at in
+    let c = d.claims x in
+    let m : x < min (get_or s.words 0 0) p.blocks = below_once x (min (get_or s.words 0 0) p.blocks) (omega arith) in
+    omega arith
+
 once_zero : (x : ℕ) → once_below x 0 ≡ 0
 once_zero x = grind (arith, nat_tests)
 

@@ -5,7 +5,7 @@ use Rattle.ppunit.specs.declared.units.Unit.{Unit as UnitOfList}
 use Rattle.ppunit.specs.declared.units.Setting.{Setting}
 use Rattle.ppunit.specs.declared.units.UnitOut.{UnitOut}
 use Rattle.ppunit.specs.Unit.{IsUnit}
-use Rattle.ppunit.specs.Units.{AreUnits}
+use Rattle.ppunit.specs.Units.{AreUnits, AreWithin, AreCapped}
 use Rattle.pppool.specs.declared.keeping.Keep.{Keep}
 use Rattle.pppool.specs.declared.keeping.Keep.TheVariants.{Whole, Bare}
 
@@ -30,3 +30,15 @@ pub record AreKept (keep : Keep) (names : List (List ℕ)) (files : Files) (sett
   pub wholes : List UnitOut
   pub values : AreUnits names files setting units wholes
   pub same : outs ≡ map (kept keep) wholes
+
+-- these are what is kept of the units' values, each of which replaces and opens no more than the budget allows
+pub record AreKeptWithin (keep : Keep) (names : List (List ℕ)) (files : Files) (setting : Setting)
+    (units : List UnitOfList) (outs : List UnitOut) : Type 0 where
+  pub kept : AreKept keep names files setting units outs
+  pub within : AreWithin names files setting units kept.wholes
+
+-- these are what is kept of the units' values, each of which is what its unit gives within the budget
+pub record AreKeptCapped (keep : Keep) (names : List (List ℕ)) (files : Files) (setting : Setting)
+    (units : List UnitOfList) (outs : List UnitOut) : Type 0 where
+  pub kept : AreKept keep names files setting units outs
+  pub capped : AreCapped names files setting units kept.wholes

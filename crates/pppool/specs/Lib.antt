@@ -1,4 +1,5 @@
 pub mod Kept
 pub mod Desk
 pub mod Workers
+pub mod Events
 pub mod Laws

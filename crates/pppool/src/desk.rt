@@ -99,10 +99,11 @@ impl Desk {
     }
 
     /// Whether all seats of the desk are handed in and one of them was told that no block is left. Then each block was claimed, by one
-    /// of them, once. Whatever is answered, no block was claimed twice. Takes no memory.
+    /// of them, once. Whatever is answered, each claim is a block of the desk, and no block was claimed twice. Takes no memory.
     pub fn close(self, mut seats: Vec<DeskSeat>) -> bool
         requires { All (λ s. s.desk ≡ self) seats.items }
         ensures apart { (x : ℕ) → times x (claims_of seats.items) ≤ 1 }
+        ensures blocks { All (λ b. b < self.plan.blocks) (claims_of seats.items) }
         ensures answer { result ≡ ((length seats.items == self.plan.seats) && any_empty seats.items) }
         ensures whole { IsTrue result → (x : ℕ) → times x (claims_of seats.items) ≡ once_below x self.plan.blocks }
     {

@@ -1,10 +1,10 @@
 // All units of a list.
-ghost use Rattle.std.specs.Prelude.{◌≡◌, ℕ, ◌<◌, ◌≤◌, ◌/◌, [], length, All, IfOk, IsSome, Some, None, slice_index_or};
+ghost use Rattle.std.specs.Prelude.{◌≡◌, ℕ, ◌<◌, ◌≤◌, ◌/◌, [], length, All, IfOk, IsSome, Some, None, true, slice_index_or};
 ghost use Rattle.ppshelf.specs.Files.{most_rows, Extends, Agree, AllLawful};
 ghost use Rattle.ppunit.specs.Unit.{IsUnitOf};
 ghost use Rattle.ppunit.specs.Units.{AreUnits, AreWithin, AreCapped};
 ghost use Rattle.pppool.specs.Desk.{most_blocks, new_seat, times, claims_of};
-ghost use Rattle.pppool.specs.Kept.{AreKept};
+ghost use Rattle.pppool.specs.Kept.{AreKept, AreKeptWithin, AreKeptCapped};
 ghost use Rattle.pppool.specs.Workers.{AllFilled, FitSlots, IsDone};
 
 use crate::desk::{Desk, DeskSeat};
@@ -75,7 +75,7 @@ pub fn run<'a, R: Threads + Sync, D: Disk + Send + Sync, G: Gate + Sync>(
 }
 
 /// Preprocesses the units of a list as `run` does, and keeps so much of each unit's value: what isn't kept is let go as soon as the unit is
-/// done.
+/// done. The values of which so much is kept are within their budget as those that `run` answers.
 ///
 /// Fails only for want of memory, and then the pass knows at least what it knew.
 pub fn run_keeping<'a, R: Threads + Sync, D: Disk + Send + Sync, G: Gate + Sync>(
@@ -100,6 +100,8 @@ pub fn run_keeping<'a, R: Threads + Sync, D: Disk + Send + Sync, G: Gate + Sync>
     ensures shelf { pass.new.shelf ≡ shelf.now }
     ensures grows { Extends pass.new.files pass.old.files }
     ensures kept { IfOk result (λ outs. AreKept keep shelf.now.names pass.new.files setting.now units.now outs.items) }
+    ensures within { IfOk result (λ outs. AreKeptWithin keep shelf.now.names pass.new.files setting.now units.now outs.items) }
+    ensures capped { IfOk result (λ outs. AreKeptCapped keep shelf.now.names pass.new.files setting.now units.now outs.items) }
     ensures lawful { AllLawful D.may shelf.now.names pass.new.files }
     ensures filled { Agree shelf.now.base pass.new.files }
 {
@@ -123,13 +125,13 @@ pub fn run_keeping<'a, R: Threads + Sync, D: Disk + Send + Sync, G: Gate + Sync>
     );
     pass.lawful();
     shelf.lawful();
+    // For proofs: what a budget does.
+    stays_within();
+    budget_caps_units();
     let (seats, slots) = gathered?;
-    // Each seat is handed in and was told that no block is left, so this holds always; no contract says that of it.
-    if desk.close(seats) {
-        all_of(alloc, slots)
-    } else {
-        Err(Memory)
-    }
+    let whole = desk.close(seats);
+    prove!(whole);
+    all_of(alloc, slots)
 }
 
 // How many blocks there are. The last may have fewer units than the others.
@@ -158,6 +160,8 @@ fn gather<'a, R: Threads + Sync, D: Disk + Send + Sync, G: Gate + Sync>(
     ensures shelf { pass.new.shelf ≡ job.now.shelf.now }
     ensures grows { Extends pass.new.files pass.old.files }
     ensures seats { IfOk result (λ r. All (λ s. s.desk ≡ job.now.desk.now) r.0.items) }
+    ensures told { IfOk result (λ r. All (λ s. s.found_empty ≡ true) r.0.items) }
+    ensures count { IfOk result (λ r. length r.0.items ≡ length seats.items) }
     ensures slots { IfOk result (λ r. FitSlots job.now.keep job.now.shelf.now pass.new.files job.now.setting.now job.now.units.now r.1.items) }
     ensures full { IfOk result (λ r. AllFilled (length job.now.units.now) job.now.block (claims_of r.0.items) r.1.items) }
 {
@@ -185,6 +189,8 @@ fn collect<'a, D: Disk, G: Gate>(
     ensures shelf { pass.new.shelf ≡ job.now.shelf.now }
     ensures grows { Extends pass.new.files pass.old.files }
     ensures seats { IfOk result (λ r. All (λ s. s.desk ≡ job.now.desk.now) r.0.items) }
+    ensures told { IfOk result (λ r. All (λ s. s.found_empty ≡ true) r.0.items) }
+    ensures count { IfOk result (λ r. length r.0.items ≡ length done.entry.items) }
     ensures slots { IfOk result (λ r. FitSlots job.now.keep job.now.shelf.now pass.new.files job.now.setting.now job.now.units.now r.1.items) }
     ensures full { IfOk result (λ r. AllFilled (length job.now.units.now) job.now.block (claims_of r.0.items) r.1.items) }
 {
@@ -209,7 +215,7 @@ fn absorb<'a, D: Disk, G: Gate>(
     requires done { IsDone job.now.keep job.now.desk.now job.now.shelf.now job.now.setting.now
         job.now.units.now job.now.block worker.seat worker.pass worker.answers.items }
     requires slots { FitSlots job.now.keep job.now.shelf.now pass.old.files job.now.setting.now job.now.units.now slots.old.items }
-    ensures seat { result.desk ≡ job.now.desk.now }
+    ensures seat { (result.desk ≡ job.now.desk.now) × (result.found_empty ≡ true) }
     ensures shelf { pass.new.shelf ≡ job.now.shelf.now }
     ensures grows { Extends pass.new.files pass.old.files }
     ensures slots { FitSlots job.now.keep job.now.shelf.now pass.new.files job.now.setting.now job.now.units.now slots.new.items }

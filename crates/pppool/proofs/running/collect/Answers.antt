@@ -1,7 +1,7 @@
-use Rattle.std.proofs.Common.{◌≡◌, List, sym, subst, length, All}
+use Rattle.std.proofs.Common.{◌≡◌, List, sym, ap, subst, length, All, true}
 use Rattle.std.proofs.lemmas.List.Elements.{All-push}
 use Rattle.pppool.specs.Desk.{SeatView}
-use Rattle.pppool.proofs.Placing.{slots_empty, filled_none, filled_push, none_at}
+use Rattle.pppool.proofs.Placing.{slots_empty, filled_none, filled_push, none_at, none_told, one_more}
 use Rattle.pppool.proofs.running.collect.Goals as goal
 
 pub loop-one-init : goal.loop-one-init
@@ -14,6 +14,8 @@ loop-one-init g c =
       none_at job.desk.now c.new-seats.result.items none,
       slots_empty job.keep job.shelf.now c.args.pass.now.files job.setting.now job.units.now slots c.in_ok-slots.ensures,
       filled_none (length job.units.now) job.block c.new-seats.result.items slots none,
+      none_told c.new-seats.result.items none,
+      ap length none,
     )
 
 pub loop-one-preserved : goal.loop-one-preserved
@@ -23,10 +25,14 @@ loop-one-preserved g c =
     let e = c.absorb-seat.ensures in
     let pushed = c.in_ok-push.ensures.items in
     let At : SeatView → Type 0 = λ s. s.desk ≡ job.desk.now in
+    let Told : SeatView → Type 0 = λ s. s.found_empty ≡ true in
+    let Q : List SeatView → Type 0 = All Told in
     let P : List SeatView → Type 0 = All At in (
       e.shelf,
       (λ row x h. e.grows row x (k.1 row x h)),
-      subst P (sym pushed) (All-push At c.loop-one.seats.items c.absorb-seat.result k.2 e.seat),
+      subst P (sym pushed) (All-push At c.loop-one.seats.items c.absorb-seat.result k.2 e.seat.0),
       e.slots,
       filled_push (length job.units.now) job.block c.loop-one.seats.items c.push.new.self.items c.absorb-seat.result c.loop-one.slots.items c.absorb-seat.new.slots.items pushed k.4 e.stay e.put,
+      subst Q (sym pushed) (All-push Told c.loop-one.seats.items c.absorb-seat.result k.5 e.seat.1),
+      one_more _ _ _ _ _ pushed k.6,
     )

@@ -1,4 +1,4 @@
-use Rattle.std.proofs.Common.{◌≡◌, All, length}
+use Rattle.std.proofs.Common.{◌≡◌, All, length, true}
 use Rattle.ppshelf.specs.Files.{Extends}
 use Rattle.pppool.specs.Desk.{claims_of}
 use Rattle.pppool.specs.Workers.{AllFilled, FitSlots}
@@ -11,3 +11,5 @@ invariant-loop-one g l =
     × All (λ s. s.desk ≡ l.job.desk.now) l.seats.items
     × FitSlots l.job.keep l.job.shelf.now l.pass.files l.job.setting.now l.job.units.now l.slots.items
     × AllFilled (length l.job.units.now) l.job.block (claims_of l.seats.items) l.slots.items
+    × All (λ s. s.found_empty ≡ true) l.seats.items
+    × (length l.seats.items ≡ length l.yielded)

@@ -1,11 +1,21 @@
-use Rattle.std.proofs.Common.{ℕ, ◌<◌, ◌/◌, List, length, ap, sym, subst, Option}
+use Rattle.std.proofs.Common.{ℕ, ◌≡◌, ◌<◌, ◌/◌, ◌∙◌, List, length, ap, sym, subst, Option, arith}
+use Rattle.std.proofs.lemmas.Bool.{false≢true}
 use Rattle.ppshelf.specs.Files.{Agree, Stock}
 use Rattle.ppunit.specs.declared.units.UnitOut.{UnitOut}
 use Rattle.pppool.specs.declared.hand.Plan.{Plan}
 use Rattle.pppool.specs.Desk.{claims_of}
 use Rattle.pppool.specs.Workers.{FitSlots}
-use Rattle.pppool.proofs.Placing.{all_full, are_kept, if_ok_then}
+use Rattle.pppool.proofs.Closing.{closes}
+use Rattle.pppool.proofs.Placing.{all_full, are_kept, are_within, are_capped, if_ok_then}
 use Rattle.pppool.proofs.running.run_keeping.Goals as goal
+
+pub prove-unreachable-requires : goal.prove-unreachable-requires
+prove-unreachable-requires g c =
+    let seats = c.in_ok-seats.seats.items in
+    let plan = ap (λ (p : Plan). p.seats) c.in_ok-desk.ensures.plan in
+    let same : length seats ≡ c.in_ok-desk.desk.plan.seats = c.in_ok-seats.ensures.count ∙ (c.in_ok-desk.ensures.count ∙ sym plan) in
+    let closed = closes seats c.in_ok-desk.desk.plan.seats same (omega (arith, plan, c.requires.workers.0)) c.in_ok-seats.ensures.told in
+    false≢true (sym c.if-prove.true ∙ (c.close-whole.ensures.answer ∙ closed))
 
 pub all_of-requires : goal.all_of-requires
 all_of-requires g c =
@@ -13,20 +23,33 @@ all_of-requires g c =
     let Q : ℕ → Type 0 = λ n. (i : ℕ) → i < length c.args.units.now → i / c.args.block < n in
     let blocks = ap (λ (p : Plan). p.blocks) c.in_ok-desk.ensures.plan in
     all_full c.args.keep c.args.shelf.now c.gather-gathered.new.pass.files c.args.setting.now c.args.units.now c.args.block c.in_ok-desk.desk.plan.blocks (claims_of c.in_ok-seats.seats.items) c.in_ok-seats.slots.items
-    e.slots e.full (c.close.ensures.whole c.if-close.true) (subst Q (sym blocks) c.block_count.ensures.all)
+    e.slots e.full (c.close-whole.ensures.whole c.if-prove.false) (subst Q (sym blocks) c.block_count.ensures.all)
 
-pub returns-then-close-clause-kept : goal.returns-then-close-clause-kept
-returns-then-close-clause-kept g c =
+pub returns-clause-kept : goal.returns-clause-kept
+returns-clause-kept g c =
     let files = c.gather-gathered.new.pass.files in
     let P : List (Option UnitOut) → Type 0 = FitSlots c.args.keep c.args.shelf.now files c.args.setting.now c.args.units.now in
     if_ok_then c.all_of.result c.all_of.ensures (λ v is. are_kept c.args.keep c.args.shelf.now files c.args.setting.now c.args.units.now v.items (subst P is c.in_ok-seats.ensures.slots))
 
+pub returns-clause-within : goal.returns-clause-within
+returns-clause-within g c =
+    let files = c.gather-gathered.new.pass.files in
+    let names = c.args.shelf.now.names in
+    if_ok_then c.all_of.result (returns-clause-kept g c) (λ v kept. record {
+      kept = kept;
+      within = are_within c.stays_within.ensures names files c.args.setting.now c.args.units.now kept.wholes kept.values;
+    })
+
+pub returns-clause-capped : goal.returns-clause-capped
+returns-clause-capped g c =
+    let files = c.gather-gathered.new.pass.files in
+    let names = c.args.shelf.now.names in
+    if_ok_then c.all_of.result (returns-clause-kept g c) (λ v kept. record {
+      kept = kept;
+      capped = are_capped c.budget_caps_units.ensures names files c.args.setting.now c.args.units.now kept.wholes c.lawful-3.ensures.names kept.values;
+    })
+
 pub returns-clause-filled : goal.returns-clause-filled
 returns-clause-filled g c =
-    let P : Stock → Type 0 = λ s. Agree (s.base) c.gather-gathered.new.pass.files in
-    subst P c.gather-gathered.ensures.shelf c.lawful-2.ensures.filled
-
-pub returns-then-close-clause-filled : goal.returns-then-close-clause-filled
-returns-then-close-clause-filled g c =
     let P : Stock → Type 0 = λ s. Agree (s.base) c.gather-gathered.new.pass.files in
     subst P c.gather-gathered.ensures.shelf c.lawful-2.ensures.filled

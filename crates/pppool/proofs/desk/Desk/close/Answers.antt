@@ -1,10 +1,11 @@
-use Rattle.std.proofs.Common.{ℕ, ◌≡◌, ◌+◌, ap, sym, ◌∙◌, arith}
+use Rattle.std.proofs.Common.{ℕ, ◌≡◌, ◌+◌, ◌<◌, ap, sym, ◌∙◌, arith, get_or}
 use Rattle.atomic_table.specs.Table.{Me}
 use Rattle.pppool.specs.declared.hand.Hand.{Hand}
 use Rattle.pppool.specs.declared.hand.Plan.{Plan}
 use Rattle.std.proofs.lemmas.Bool.{eqb-true, false≢true}
-use Rattle.pppool.specs.Desk.{DeskId, once_below, any_empty}
-use Rattle.pppool.proofs.Steps.{joins, whole, at_most_once}
+use Rattle.pppool.specs.Desk.{DeskId, once_below, any_empty, claims_of, times}
+use Rattle.pppool.proofs.Steps.{joins, whole, at_most_once, claims_blocks}
+use Rattle.pppool.proofs.Totals.{times_at}
 use Rattle.pppool.proofs.Closing.{front_all, last_all, times_popped, joined_times, empty_popped, marked_now, or_when_true, or_when_false, none_claimed}
 use Rattle.pppool.proofs.desk.Desk.close.Goals.{then-found_empty-2, else-found_empty-2}
 use Rattle.pppool.proofs.desk.Desk.close.Goals as goal
@@ -87,6 +88,20 @@ returns-clause-apart c x =
     let a = at_most_once c.self.inside.table.shared.key v.0 c.loop-other.all.id c.loop-other.all.me.0 v.1.0 v.1.1 x in
     let none = none_claimed x c.loop-other.seats.items (omega (arith, c.in_default-pop.ensures.cases.0, c.loop-other.seats.ok.0)) in
     let e = k.5 x in
+    omega arith
+
+pub returns-clause-blocks : goal.returns-clause-blocks
+returns-clause-blocks c k e w =
+    let inv = c.loop-other.invariant in
+    let v = c.close_with.ensures.values.2 in
+    let claims = claims_of c.args.seats.items in
+    let x = get_or claims k e in
+    let none = none_claimed x c.loop-other.seats.items (omega (arith, c.in_default-pop.ensures.cases.0, c.loop-other.seats.ok.0)) in
+    let sum = inv.5 x in
+    let here : 0 < times x claims = times_at claims k e w in
+    let key : c.self.inside.table.shared.key ≡ c.args.self.plan = c.self.invariant.0 ∙ ap (λ (d : DeskId). d.plan) c.self.view_is in
+    let same : c.self.inside.table.shared.key.blocks ≡ c.args.self.plan.blocks = ap (λ (q : Plan). q.blocks) key in
+    let below = claims_blocks c.self.inside.table.shared.key v.0 c.loop-other.all.id c.loop-other.all.me.0 v.1.0 v.1.1 x (omega arith) in
     omega arith
 
 pub returns-clause-whole : goal.returns-clause-whole
