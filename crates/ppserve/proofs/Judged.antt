@@ -25,7 +25,7 @@ use Rattle.ppserve.specs.Listing.{are_known, times_hold, lines_hold, folders_hol
 use Rattle.ppserve.specs.declared.list.List.{List as CompilationList}
 use Rattle.ppserve.specs.Drafts.{Draft, DraftFile, DraftUnit}
 
-fits_test : (most n : ℕ) → n ≤ most → nat_lt most n ≡ false
+pub fits_test : (most n : ℕ) → n ≤ most → nat_lt most n ≡ false
 fits_test most n h = grind (arith, nat_tests)
 
 -- bytes that hold a value of a list's shape come to what its draft is judged

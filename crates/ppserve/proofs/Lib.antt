@@ -16,6 +16,10 @@ pub mod Hex
 pub mod JsonValue
 -- The steps to a list's outcome, and what an accepted list keeps to.
 pub mod Judged
+-- The refusal with the least number that applies.
+pub mod Refusing
+-- What a run's output depends on.
+pub mod OneOutput
 -- Known bytes over several reads and writes.
 pub mod Known
 -- The names of files, one after another.

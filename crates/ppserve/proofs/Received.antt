@@ -8,7 +8,7 @@ refused_where : (b : Bool) (o : Outcome) → b ≡ true → cond b (refused 1) o
 refused_where true o e = refl
 refused_where false o e = absurd (cc)
 
-too_many : (inline : Bool) (bytes : List ℕ) → most_input < length bytes → outcome_of inline bytes ≡ refused 1
+pub too_many : (inline : Bool) (bytes : List ℕ) → most_input < length bytes → outcome_of inline bytes ≡ refused 1
 too_many inline bytes h = refused_where (ltb most_input (length bytes)) _ (lt-ltb most_input (length bytes) h)
 
 decided_by : (test : Bool) (inline : Bool) (known bytes rest : List ℕ) → ltb most_input (length bytes) ≡ test → known ≡ bytes ++ rest → (length bytes ≤ most_input → rest ≡ [])

@@ -9,3 +9,4 @@ pub mod Output
 pub mod Serving
 pub mod Lines
 pub mod Printing
+pub mod Laws

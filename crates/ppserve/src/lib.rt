@@ -3,6 +3,7 @@
 
 mod beginning;
 mod ending;
+mod laws;
 mod list;
 mod output;
 mod page;
@@ -12,7 +13,8 @@ mod streams;
 mod writing;
 
 pub use ending::{status, words};
-pub use list::{Contents, List, ListFault, Units, read_list, shape_decides};
+pub use laws::{known_bytes_decide, one_output, refuses_by_the_least, shape_decides};
+pub use list::{Contents, List, ListFault, Units, read_list};
 pub use output::{Mode, deps, dump};
-pub use serving::{RunFault, known_bytes_decide, serve, serve_from};
+pub use serving::{RunFault, serve, serve_from};
 pub use streams::{Failed, Feed, ReaderFeed, Sink, SliceFeed, VecSink, WriterSink};

@@ -7,7 +7,6 @@ ghost use Rattle.ppserve.specs.declared.list.ListFault.TheVariants.{Bad, Memory 
 mod drafts;
 mod judging;
 
-pub use crate::list::drafts::shape_decides;
 use crate::list::drafts::{Draft, draft_of};
 use crate::list::judging::judge;
 use pptext::{Hashing, Memory, Sequence};

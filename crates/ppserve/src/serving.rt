@@ -4,7 +4,7 @@ ghost use Rattle.ppserve.specs.Contents.{StandIn, MayBe};
 ghost use Rattle.ppserve.specs.Listing.{IsRunnable};
 ghost use Rattle.ppserve.specs.declared.serving.RunFault.TheVariants.{List as ListRefused, Memory as OutOfMemory};
 ghost use Rattle.ppserve.specs.declared.serving.RunFault.TheVariants.{Read as ReadFailed, Write as WriteFailed};
-ghost use Rattle.ppserve.specs.Serving.{some_fault, Received, Comes, HandsOut, HandsOutFront, Serves, BreaksOff, Refuses, KnownBytesDecide};
+ghost use Rattle.ppserve.specs.Serving.{some_fault, Received, Comes, HandsOut, HandsOutFront, Serves, BreaksOff, Refuses};
 
 use crate::list::{Contents, List, ListFault, MOST_INPUT, read_list};
 use crate::output::{Mode, print};
@@ -294,8 +294,3 @@ fn any_fault(outs: &[UnitOut]) -> bool
     }
     false
 }
-
-/// Where the bytes of a reader are known, what came from it is the list that they all hold, or is refused as they are.
-pub fn known_bytes_decide()
-    ensures { KnownBytesDecide }
-{}

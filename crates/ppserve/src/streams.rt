@@ -1,5 +1,5 @@
 // Where a list's bytes come from, and where its output goes.
-ghost use Rattle.std.specs.Prelude.{◌≡◌, [], ◌<◌, ◌≤◌, ℕ, List, Bool, false, Option, Some, None, length, IfOk, ◌||◌, is_err};
+ghost use Rattle.std.specs.Prelude.{◌≡◌, [], ◌<◌, ◌≤◌, ℕ, List, Bool, false, Option, Some, length, IfOk, ◌||◌, is_err};
 ghost use Rattle.std.specs.Io.KnownBytes.{ReadConsumes, WriteAppends};
 
 use std::alloc::Global;
@@ -134,7 +134,7 @@ impl Sink for VecSink {
     }
 }
 
-/// A feed over a reader, of whose bytes nothing is claimed. Any error of the reader is a failure.
+/// A feed over a reader, whose bytes are those that the reader tells. Any error of the reader is a failure.
 #[derive(Drop)]
 pub struct ReaderFeed<R> {
     reader: R,
@@ -144,7 +144,8 @@ pub struct ReaderFeed<R> {
 impl<R: Read + Drop> ReaderFeed<R> {
     /// A feed of what the reader gives.
     pub fn new(reader: R) -> ReaderFeed<R>
-        ensures { ⟦<ReaderFeed<R> as Feed>⟧.has_failed result ≡ false }
+        ensures rest { ⟦<ReaderFeed<R> as Feed>⟧.rest result ≡ R.remaining reader }
+        ensures unfailed { ⟦<ReaderFeed<R> as Feed>⟧.has_failed result ≡ false }
     {
         ReaderFeed {
             reader,
@@ -154,7 +155,7 @@ impl<R: Read + Drop> ReaderFeed<R> {
 }
 
 impl<R: Read + Drop> Feed for ReaderFeed<R> {
-    ghost rest = { λ _. None };
+    ghost rest = { λ s. R.remaining s.reader };
 
     ghost has_failed = { λ s. s.failed };
 
@@ -171,7 +172,7 @@ impl<R: Read + Drop> Feed for ReaderFeed<R> {
     }
 }
 
-/// A sink over a writer, of whose bytes nothing is claimed. Any error of the writer is a failure, and so is a write that takes nothing.
+/// A sink over a writer, whose bytes are those that the writer tells. Any error of the writer is a failure, and so is a write that takes nothing.
 #[derive(Drop)]
 pub struct WriterSink<W> {
     writer: W,
@@ -181,7 +182,8 @@ pub struct WriterSink<W> {
 impl<W: Write + Drop> WriterSink<W> {
     /// A sink into the writer.
     pub fn new(writer: W) -> WriterSink<W>
-        ensures { ⟦<WriterSink<W> as Sink>⟧.has_failed result ≡ false }
+        ensures written { ⟦<WriterSink<W> as Sink>⟧.written result ≡ W.contents writer }
+        ensures unfailed { ⟦<WriterSink<W> as Sink>⟧.has_failed result ≡ false }
     {
         WriterSink {
             writer,
@@ -191,7 +193,7 @@ impl<W: Write + Drop> WriterSink<W> {
 }
 
 impl<W: Write + Drop> Sink for WriterSink<W> {
-    ghost written = { λ _. None };
+    ghost written = { λ s. W.contents s.writer };
 
     ghost has_failed = { λ s. s.failed };
 

@@ -5,7 +5,6 @@ ghost use Rattle.serde_json.specs.View.{view, members_view, items_view};
 ghost use Rattle.ppserve.specs.Listing.{RefusedFor};
 ghost use Rattle.ppserve.specs.Shape as shape;
 ghost use Rattle.ppserve.specs.Drafting as drafting;
-ghost use Rattle.ppserve.specs.Drafting.{ShapeDecides};
 
 use crate::list::ListFault;
 use pptext::Sequence;
@@ -137,11 +136,6 @@ pub(super) fn draft_of(alloc: Global, value: &Value, inline: bool) -> Result<Dra
         units,
     })
 }
-
-/// A law: a value gives a draft exactly where it has the shape of a list with it (`IsDraft`), member by member.
-pub fn shape_decides()
-    ensures { ShapeDecides }
-{}
 
 fn setting_of(alloc: Global, value: &Value) -> Result<DraftSetting, ListFault>
     ensures ok { IfOk result (λ s. drafting.draft_setting (view value.now) ≡ Some s) }

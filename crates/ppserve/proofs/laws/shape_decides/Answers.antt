@@ -1,5 +1,5 @@
 use Rattle.ppserve.proofs.Drafted.{decides}
-use Rattle.ppserve.proofs.list.drafts.shape_decides.Goals as goal
+use Rattle.ppserve.proofs.laws.shape_decides.Goals as goal
 
 pub returns : goal.returns
 returns c = decides

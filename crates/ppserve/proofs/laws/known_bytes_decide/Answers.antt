@@ -1,5 +1,5 @@
 use Rattle.ppserve.proofs.Received.{decided}
-use Rattle.ppserve.proofs.serving.known_bytes_decide.Goals as goal
+use Rattle.ppserve.proofs.laws.known_bytes_decide.Goals as goal
 
 pub returns : goal.returns
 returns c = decided

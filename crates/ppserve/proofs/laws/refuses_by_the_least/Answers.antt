@@ -1,0 +1,8 @@
+use Rattle.ppserve.proofs.Refusing as refusing
+use Rattle.ppserve.proofs.laws.refuses_by_the_least.Goals as goal
+
+pub returns-clause-refused : goal.returns-clause-refused
+returns-clause-refused c = refusing.refuses_by_the_least
+
+pub returns-clause-taken : goal.returns-clause-taken
+returns-clause-taken c = refusing.takes_the_rest

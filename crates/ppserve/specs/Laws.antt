@@ -1,0 +1,80 @@
+-- Laws of a run: which refusal a list has, and what a run's output depends on.
+use Rattle.std.specs.Prelude.{◌≡◌, ◌↔◌, ℕ, ◌<◌, ◌≤◌, Bool, true, false, List, length, Option, Some, None}
+use Rattle.serde_json.specs.Data.{Data}
+use Rattle.ppshelf.specs.Files.{Files, Agree}
+use Rattle.ppserve.specs.Contents.{StandIn}
+use Rattle.ppserve.specs.Drafts.{Draft}
+use Rattle.ppserve.specs.Listing.{json_value, most_input, names_of, names_hold, sizes_hold, are_known, times_hold, lines_hold, folders_hold}
+use Rattle.ppserve.specs.Listing.{profile_holds, budget_holds, listed, outcome_of, accepted, refused}
+use Rattle.ppserve.specs.Serving.{Serves}
+use Rattle.ppserve.specs.Shape.{IsDraft}
+use Rattle.ppserve.specs.declared.list.List.{List as CompilationList}
+use Rattle.ppserve.specs.declared.output.Mode.{Mode}
+
+-- ---- refusals
+
+-- the bytes hold a JSON value of a list's shape, with this draft
+pub record HoldsDraft (inline : Bool) (bytes : List ℕ) (x : Draft) : Type 0 where
+  pub value : Data
+  pub is_json : json_value bytes ≡ Some value
+  pub is_shaped : IsDraft inline value x
+
+-- The refusal with this number applies to the bytes. Those from 3 on are asked of bytes that hold a list's shape.
+pub data Applies (inline : Bool) (bytes : List ℕ) : ℕ → Type 0 where
+  too_long : most_input < length bytes → Applies inline bytes 1
+  no_json : json_value bytes ≡ None → Applies inline bytes 1
+  no_shape : {value : Data}
+      → json_value bytes ≡ Some value
+      → ((x : Draft) → ¬ IsDraft inline value x)
+      → Applies inline bytes 2
+  wrong_names : {x : Draft} → HoldsDraft inline bytes x → names_hold x.files ≡ false → Applies inline bytes 3
+  wrong_sizes : {x : Draft} → HoldsDraft inline bytes x → sizes_hold x ≡ false → Applies inline bytes 4
+  unknown_file : {x : Draft} → HoldsDraft inline bytes x → are_known (names_of x.files) x.units ≡ false → Applies inline bytes 5
+  wrong_times : {x : Draft} → HoldsDraft inline bytes x → times_hold x.setting ≡ false → Applies inline bytes 6
+  wrong_lines : {x : Draft} → HoldsDraft inline bytes x → lines_hold x.units ≡ false → Applies inline bytes 7
+  wrong_folders : {x : Draft} → HoldsDraft inline bytes x → folders_hold x ≡ false → Applies inline bytes 8
+  wrong_profile : {x : Draft} → HoldsDraft inline bytes x → profile_holds x.setting ≡ false → Applies inline bytes 9
+  wrong_budget : {x : Draft} → HoldsDraft inline bytes x → budget_holds x.setting ≡ false → Applies inline bytes 10
+
+-- P is true of this number, and of none that is less
+pub record IsLeast (P : ℕ → Type 0) (number : ℕ) : Type 0 where
+  pub is_so : P number
+  pub least : (other : ℕ) → P other → number ≤ other
+
+-- no refusal applies to the bytes, and the list is what stands in them
+pub record IsTaken (inline : Bool) (bytes : List ℕ) (list : CompilationList) : Type 0 where
+  pub draft : Draft
+  pub holds : HoldsDraft inline bytes draft
+  pub none : (number : ℕ) → ¬ Applies inline bytes number
+  pub is_list : list ≡ listed inline draft
+
+-- Bytes are refused with a number exactly where it is the least of those whose refusal applies.
+abbrev pub RefusesByTheLeast : Type 0
+RefusesByTheLeast =
+    (inline : Bool) (bytes : List ℕ) (number : ℕ)
+    → (outcome_of inline bytes ≡ refused number) ↔ IsLeast (Applies inline bytes) number
+
+-- Bytes are taken as a list exactly where no refusal applies.
+abbrev pub TakesTheRest : Type 0
+TakesTheRest =
+    (inline : Bool) (bytes : List ℕ) (list : CompilationList)
+    → (outcome_of inline bytes ≡ accepted list) ↔ IsTaken inline bytes list
+
+-- ---- what is printed
+
+-- Two runs over such files whose readers hold the same bytes, and whose files agree, print the same and answer the same.
+abbrev pub OneOutput : (CompilationList → Files → Type 0) → Type 0
+OneOutput Such =
+    (inline : Bool) (mode : Mode) (known given : List ℕ) (left right : Option (List ℕ)) (one two : List ℕ) (any other : Bool)
+    → (a : Serves inline Such mode (Some known) left (Some given) (Some one) any)
+    → (b : Serves inline Such mode (Some known) right (Some given) (Some two) other)
+    → Agree a.came.files b.came.files
+    → (one ≡ two) × (any ≡ other)
+
+-- Two runs whose readers hold the same bytes, in which the files stand, print the same and answer the same.
+abbrev pub OneOutputOfContents : Type 0
+OneOutputOfContents =
+    (mode : Mode) (known given : List ℕ) (left right : Option (List ℕ)) (one two : List ℕ) (any other : Bool)
+    → Serves true StandIn mode (Some known) left (Some given) (Some one) any
+    → Serves true StandIn mode (Some known) right (Some given) (Some two) other
+    → (one ≡ two) × (any ≡ other)
