@@ -13,6 +13,18 @@ const ROOM: usize = 32;
 /// The most bytes before a token's spelling: a word of 3, two places of 33, and 4 behind them.
 pub(crate) const MOST: usize = 73;
 
+/// What the line of a token says before its spelling.
+#[derive(Clone, Copy)]
+pub(crate) struct LineHead {
+    /// The place where the token is spelled.
+    pub at: Place,
+    /// The place where it is used.
+    pub used: Place,
+    pub kind: Kind,
+    /// Whether white space precedes the token.
+    pub space: bool,
+}
+
 /// How the places of one line of a file begin, which contracts see as its bytes.
 #[derive(Drop)]
 struct Start {
@@ -126,26 +138,18 @@ impl Beginning {
         }
     }
 
-    /// Puts what stands before the spelling of a token behind the first `end` bytes.
+    /// Puts what stands before the spelling of a token after the first `end` bytes.
     #[inline(always)]
-    pub(crate) fn put(
-        &mut self,
-        bytes: &mut [u8],
-        end: usize,
-        at: Place,
-        used: Place,
-        kind: Kind,
-        space: bool,
-    ) -> usize
+    pub(crate) fn put(&mut self, bytes: &mut [u8], end: usize, head: LineHead) -> usize
         requires { end + 73 ≤ length bytes.old }
-        ensures text { take result bytes.new ≡ take end bytes.old ++ codes "tok" ++ before_spelling at used kind space }
+        ensures text { take result bytes.new ≡ take end bytes.old ++ codes "tok" ++ before_spelling head.at head.used head.kind head.space }
         ensures within { result ≤ end + 73 }
     {
         let end = put_front(bytes, end, b"tok", 3);
-        let end = self.put_places(bytes, end, at, used);
+        let end = self.put_places(bytes, end, head.at, head.used);
         let end = put_byte(bytes, end, b' ');
-        let end = put_byte(bytes, end, letter(kind));
-        let end = put_byte(bytes, end, mark(space));
+        let end = put_byte(bytes, end, letter(head.kind));
+        let end = put_byte(bytes, end, mark(head.space));
         put_byte(bytes, end, b' ')
     }
 

@@ -13,13 +13,14 @@ ghost use Rattle.ppunit.specs.Parts.{part_items};
 ghost use Rattle.ppunit.specs.declared.units.Item.TheVariants as item;
 ghost use Rattle.ppserve.specs.Lines.{before_spelling, token_line};
 
+use crate::beginning::LineHead;
 use crate::list::List;
 use crate::page::Page;
 use crate::streams::{Failed, Sink, VecSink};
 use itoa::Buffer;
 use ppexpand::{Piece, Run};
 use ppmacro::Hidden;
-use pptext::{Fault, Kind, Memory, Place, Spelling, Token};
+use pptext::{Fault, Memory, Place, Spelling, Token};
 use ppunit::{Items, Part, Texts, Unit, UnitOut};
 use std::alloc::Global;
 
@@ -79,7 +80,7 @@ pub(crate) fn print<W: Sink>(
     ensures front { OnErr result ((n : ℕ) × Appends (W.written writer.old) (W.written writer.new)
         (take n (numbered (unit_lines mode names.now) 0 units.now outs.now))) }
 {
-    put_units(page, writer, mode, names, units, outs);
+    put_units(page, writer, Shown { mode, names }, units, outs);
     page.send(writer);
     if writer.failed() {
         return Err(Failed);
@@ -87,19 +88,26 @@ pub(crate) fn print<W: Sink>(
     Ok(())
 }
 
+/// What is printed of a list's units: how much of each, and the names of the files.
+#[derive(Clone, Copy)]
+struct Shown<'n> {
+    mode: Mode,
+    names: &'n Texts,
+}
+
 fn put_units<W: Sink>(
     page: &mut Page,
     writer: &mut W,
-    mode: Mode,
-    names: &Texts,
+    shown: Shown,
     units: &[Unit],
     outs: &[UnitOut],
 )
     requires { length outs.now ≡ length units.now }
-    ensures { Puts W.written W.has_failed writer.old writer.new page.old page.new (numbered (unit_lines mode names.now) 0 units.now outs.now) }
+    ensures { Puts W.written W.has_failed writer.old writer.new page.old page.new
+        (numbered (unit_lines shown.entry.mode shown.entry.names.now) 0 units.now outs.now) }
 {
     for (index, out) in outs.iter().enumerate() {
-        put_unit(page, writer, mode, names, index, &units[index], out);
+        put_unit(page, writer, shown, index, &units[index], out);
     }
 }
 
@@ -107,13 +115,13 @@ fn put_units<W: Sink>(
 fn put_unit<W: Sink>(
     page: &mut Page,
     writer: &mut W,
-    mode: Mode,
-    names: &Texts,
+    shown: Shown,
     index: usize,
     unit: &Unit,
     out: &UnitOut,
 )
-    ensures { Puts W.written W.has_failed writer.old writer.new page.old page.new (unit_lines mode names.now index unit.now out.now) }
+    ensures { Puts W.written W.has_failed writer.old writer.new page.old page.new
+        (unit_lines shown.entry.mode shown.entry.names.now index unit.now out.now) }
 {
     if writer.failed() {
         return;
@@ -121,10 +129,10 @@ fn put_unit<W: Sink>(
     page.put(writer, b"unit ");
     put_decimal(page, writer, index as u64);
     page.put(writer, b" ");
-    put_name(page, writer, names, unit.file);
+    put_name(page, writer, shown.names, unit.file);
     page.put(writer, b"\n");
-    put_shown(page, writer, mode, &out.items);
-    put_deps(page, writer, names, out.deps.as_slice());
+    put_shown(page, writer, shown.mode, &out.items);
+    put_deps(page, writer, shown.names, out.deps.as_slice());
     put_last(page, writer, &out.fault);
 }
 
@@ -225,42 +233,37 @@ fn put_hidden<W: Sink>(page: &mut Page, writer: &mut W, hidden: &Hidden)
     ensures { Puts W.written W.has_failed writer.old writer.new page.old page.new (token_line hidden.now.token) }
 {
     let word = hidden.word();
-    put_line(
-        page,
-        writer,
-        word.at,
-        hidden.used(),
-        word.kind,
-        hidden.space(),
-        &word.text,
-    );
+    let head = LineHead {
+        at: word.at,
+        used: hidden.used(),
+        kind: word.kind,
+        space: hidden.space(),
+    };
+    put_line(page, writer, head, &word.text);
 }
 
 #[inline(always)]
 fn put_token<W: Sink>(page: &mut Page, writer: &mut W, token: &Token)
     ensures { Puts W.written W.has_failed writer.old writer.new page.old page.new (token_line token.now) }
 {
-    let (at, used) = (token.at, token.used);
-    put_line(page, writer, at, used, token.kind, token.space, &token.text);
+    let head = LineHead {
+        at: token.at,
+        used: token.used,
+        kind: token.kind,
+        space: token.space,
+    };
+    put_line(page, writer, head, &token.text);
 }
 
 /// Puts a token's line. Most spellings are short and plain, and then the line is put in one turn.
 /// Saves half of the instructions of `dump` on Redis and SQLite.
 #[inline(always)]
-fn put_line<W: Sink>(
-    page: &mut Page,
-    writer: &mut W,
-    at: Place,
-    used: Place,
-    kind: Kind,
-    space: bool,
-    spelling: &Spelling,
-)
+fn put_line<W: Sink>(page: &mut Page, writer: &mut W, head: LineHead, spelling: &Spelling)
     ensures { Puts W.written W.has_failed writer.old writer.new page.old page.new
-        (codes "tok" ++ before_spelling at used kind space ++ escaped spelling.now ++ (10 ∷ [])) }
+        (codes "tok" ++ before_spelling head.at head.used head.kind head.space ++ escaped spelling.now ++ (10 ∷ [])) }
 {
     page.make_room(writer);
-    page.add_beginning(at, used, kind, space);
+    page.add_beginning(head);
     if let Some((room, len)) = spelling.in_place() {
         if page.add_end(room, len) {
             return;

@@ -4,10 +4,9 @@ ghost use Rattle.ppserve.specs.Lines.{before_spelling};
 ghost use Rattle.ppserve.specs.Output.{escaped};
 ghost use Rattle.ppserve.specs.Printing.{Puts};
 
-use crate::beginning::{Beginning, MOST};
+use crate::beginning::{Beginning, LineHead, MOST};
 use crate::streams::Sink;
 use crate::writing::{plain_front, put_byte, put_front};
-use pptext::{Kind, Place};
 use std::alloc::{AllocError, Global};
 use std::marker::Model;
 
@@ -74,13 +73,13 @@ impl Page {
 
     /// Adds what stands before the spelling of a token.
     #[inline(always)]
-    pub(crate) fn add_beginning(&mut self, at: Place, used: Place, kind: Kind, space: bool)
+    pub(crate) fn add_beginning(&mut self, head: LineHead)
         requires { length self.old + 73 ≤ 65_536 }
-        ensures text { self.new ≡ self.old ++ codes "tok" ++ before_spelling at used kind space }
+        ensures text { self.new ≡ self.old ++ codes "tok" ++ before_spelling head.at head.used head.kind head.space }
         ensures within { length self.new ≤ length self.old + 73 }
     {
         let bytes = self.bytes.as_mut_slice();
-        self.used = self.line.put(bytes, self.used, at, used, kind, space);
+        self.used = self.line.put(bytes, self.used, head);
     }
 
     /// Adds the spelling at the front of a room and the end of its line, where all its bytes stand for themselves. All of the room is

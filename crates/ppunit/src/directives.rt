@@ -9,7 +9,7 @@ ghost use Rattle.ppmacro.specs.Define.{after_define, after_undef};
 ghost use Rattle.ppunit.specs.States.{going};
 
 use crate::line_control::renumber;
-use crate::lines::{line_fault, name, operands, push_space, sign};
+use crate::lines::{DirectiveLine, line_fault, name, operands, push_space, sign};
 use crate::states::State;
 use ppexpand::expand;
 use ppmacro::{define, undef};
@@ -153,22 +153,19 @@ fn control_any<'x>(
     alloc: Global,
     state: &mut State<'x>,
     profile: Profile,
-    row: usize,
-    directive: Directive,
-    line: &'x [Token],
-    physical: u32,
+    line: DirectiveLine<'x>,
 ) -> Result<(), Stop>
-    requires { spec.IsControl directive }
+    requires { spec.IsControl line.directive }
     ensures { IfSettled result (λ r.
-        spec.ControlBy profile row (Some directive) state.old (spec_lines.directed directive line.now physical)
+        spec.ControlBy profile line.entry.row (Some line.entry.directive) state.old (spec_lines.directed line.entry.directive line.entry.tokens.now line.entry.number)
         (record { state = state.new; fault = result_err r })) }
 {
-    match directive {
-        Directive::Define => define_by(alloc, state, profile, line),
-        Directive::Undef => undef_by(alloc, state, profile, line),
-        Directive::Line => renumber(alloc, state, line, physical),
-        Directive::Pragma => pragma(state, profile, row, line),
-        Directive::Unknown => unknown(alloc, line),
+    match line.directive {
+        Directive::Define => define_by(alloc, state, profile, line.tokens),
+        Directive::Undef => undef_by(alloc, state, profile, line.tokens),
+        Directive::Line => renumber(alloc, state, line.tokens, line.number),
+        Directive::Pragma => pragma(state, profile, line.row, line.tokens),
+        Directive::Unknown => unknown(alloc, line.tokens),
         _ => Ok(()),
     }
 }
@@ -178,19 +175,16 @@ pub(crate) fn control<'x>(
     alloc: Global,
     state: &mut State<'x>,
     profile: Profile,
-    row: usize,
-    directive: Directive,
-    line: &'x [Token],
-    physical: u32,
+    line: DirectiveLine<'x>,
 ) -> Result<(), Stop>
-    requires { spec.IsControl directive }
+    requires { spec.IsControl line.directive }
     ensures { IfSettled result (λ r.
-        spec.ControlBy profile row (Some directive) state.old (spec_lines.directed directive line.now physical)
+        spec.ControlBy profile line.entry.row (Some line.entry.directive) state.old (spec_lines.directed line.entry.directive line.entry.tokens.now line.entry.number)
         (record { state = state.new; fault = result_err r })) }
 {
     // Most control lines define a macro.
-    if directive == Directive::Define {
-        return define_by(alloc, state, profile, line);
+    if line.directive == Directive::Define {
+        return define_by(alloc, state, profile, line.tokens);
     }
-    control_any(alloc, state, profile, row, directive, line, physical)
+    control_any(alloc, state, profile, line)
 }

@@ -8,8 +8,17 @@ ghost use Rattle.ppmacro.specs.Substitution.{spelled_space};
 ghost use Rattle.ppunit.specs.Lines as spec;
 ghost use Rattle.ppunit.specs.Quotes as quotes;
 
-use pptext::{Fault, Place, Stop, Token};
+use pptext::{Directive, Fault, Place, Stop, Token};
 use std::alloc::{AllocError, Global};
+
+/// A directive line of the file in a row: its tokens from the `#` on, and its number in that file, from 1.
+#[derive(Clone, Copy)]
+pub(crate) struct DirectiveLine<'x> {
+    pub row: usize,
+    pub directive: Directive,
+    pub tokens: &'x [Token],
+    pub number: u32,
+}
 
 /// The place of the `#`.
 pub(crate) fn sign(line: &[Token]) -> Place

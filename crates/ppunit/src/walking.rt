@@ -18,7 +18,7 @@ use crate::conditions::decide;
 use crate::directives::{control, error, run_text};
 use crate::including::ask;
 use crate::indexed::{count, line, tokens_at, tokens_between};
-use crate::lines::{line_fault, refuse_lone_quote, sign};
+use crate::lines::{DirectiveLine, line_fault, refuse_lone_quote, sign};
 use crate::opening::{Around, Entered, OpenFile, Opening, open, resolve_in};
 use crate::stack::Stack;
 use crate::states::State;
@@ -192,41 +192,43 @@ fn do_line<'x, 'a: 'x, D: Disk>(
     pass: &mut Pass<'a, D>,
     state: &mut State<'x>,
     depth: u32,
-    row: usize,
-    directive: Directive,
-    line: &'x [Token],
-    physical: u32,
+    line: DirectiveLine<'x>,
 ) -> Result<Option<Entered<'a>>, Stop>
     requires shelf { pass.old.shelf ≡ around.now.shelf }
     requires rows { 0 < length around.now.shelf.names }
     requires depth { depth ≤ 200 }
-    requires opens { opens_section directive ≡ false }
-    requires ends { ends_group directive ≡ false }
+    requires opens { opens_section line.directive ≡ false }
+    requires ends { ends_group line.directive ≡ false }
     ensures shelf { pass.new.shelf ≡ around.now.shelf }
     ensures grows { Extends pass.new.files pass.old.files }
     ensures control { IfSettled result (λ leads.
         Leads (surroundings_of around.now) pass.new.files (suc depth)
-        (λ (more : Files) (m : Reached). Controls (surroundings_of around.now more) depth row state.old (directed directive line.now physical) m)
+        (λ (more : Files) (m : Reached). Controls (surroundings_of around.now more) depth line.entry.row state.old (directed line.entry.directive line.entry.tokens.now line.entry.number) m)
         state.new leads) }
 {
+    let DirectiveLine {
+        row,
+        directive,
+        tokens,
+        number: _,
+    } = line;
     if directive == Directive::Error {
-        return Err(Stop::Fault(error(around.alloc, line)?));
+        return Err(Stop::Fault(error(around.alloc, tokens)?));
     }
     if directive == Directive::Ignored {
         return Ok(None);
     }
-    refuse_lone_quote(line)?;
+    refuse_lone_quote(tokens)?;
     if directive == Directive::Include {
         let from = Opening { row, folder: None };
-        return include(around, pass, state, depth, from, line);
+        return include(around, pass, state, depth, from, tokens);
     }
     if directive == Directive::IncludeNext {
         let folder = state.folder;
         let from = Opening { row, folder };
-        return include(around, pass, state, depth, from, line);
+        return include(around, pass, state, depth, from, tokens);
     }
-    let profile = around.profile();
-    control(around.alloc, state, profile, row, directive, line, physical)?;
+    control(around.alloc, state, around.profile(), line)?;
     Ok(None)
 }
 
@@ -286,7 +288,13 @@ fn step<'x, 'a: 'x, D: Disk>(
     }
     let tokens = tokens_at(source, index);
     let number = line(source, index).number;
-    let entered = do_line(around, pass, state, depth, row, directive, tokens, number)?;
+    let at = DirectiveLine {
+        row,
+        directive,
+        tokens,
+        number,
+    };
+    let entered = do_line(around, pass, state, depth, at)?;
     Ok(Next {
         line: index + 1,
         entered,

@@ -11,4 +11,4 @@ loop-index-preserved g c =
     let i = c.loop-index.index in
     let in_outs : i < length c.args.outs.now = c.loop-index-test.true in
     let in_units : i < length c.args.units.now = omega (arith, c.requires) in
-    puts_numbered (unit_lines c.args.mode c.args.names.now) c.args.units.now c.args.outs.now i _ _ in_units in_outs c.index-units-index.is c.index-outs-index.is c.loop-index.invariant c.put_unit.ensures
+    puts_numbered (unit_lines c.args.shown.mode c.args.shown.names.now) c.args.units.now c.args.outs.now i _ _ in_units in_outs c.index-units-index.is c.index-outs-index.is c.loop-index.invariant c.put_unit.ensures

@@ -15,4 +15,4 @@ returns-clause-text c =
       c.letter.ensures,
       c.mark.ensures,
     )
-    (four_joined _ _ _ _ _ ∙ places_joined (take c.args.end c.args.bytes.now ++ codes "tok") (file_line c.args.at.file c.args.at.line) (decimal c.args.at.col) (file_line c.args.used.file c.args.used.line) (decimal c.args.used.col) _)
+    (four_joined _ _ _ _ _ ∙ places_joined (take c.args.end c.args.bytes.now ++ codes "tok") (file_line c.args.head.at.file c.args.head.at.line) (decimal c.args.head.at.col) (file_line c.args.head.used.file c.args.head.used.line) (decimal c.args.head.used.col) _)
