@@ -12,5 +12,3 @@ pub mod Kept
 pub mod Answering
 -- Answers that are put into their units' slots.
 pub mod Placing
--- What happens to the state that callers share.
-pub mod Events

@@ -1,5 +1,4 @@
 pub mod Kept
 pub mod Desk
 pub mod Workers
-pub mod Events
 pub mod Laws

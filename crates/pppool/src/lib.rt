@@ -14,5 +14,5 @@ mod workers;
 pub use desk::{Desk, DeskSeat};
 pub use gate::Gate;
 pub use keeping::Keep;
-pub use laws::{joined_passes_agree, list_growth, shared_state};
+pub use laws::{joined_passes_agree, list_growth};
 pub use running::{run, run_keeping};
