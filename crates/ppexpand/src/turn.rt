@@ -9,7 +9,7 @@ ghost use Rattle.ppmacro.specs.Substituting.{ArgumentsKnown, arguments_in, token
 ghost use Rattle.ppmacro.specs.Chains.{chains_of};
 ghost use Rattle.ppmacro.specs.Lone.{lone_chain};
 ghost use Rattle.ppmacro.specs.Patterns.{listed};
-ghost use Rattle.ppmacro.specs.Substitution.{Arguments, plain, with_mark, gained, substituted, substituted_by};
+ghost use Rattle.ppmacro.specs.Substitution.{Arguments as ArgumentTokens, plain, with_mark, gained, substituted, substituted_by};
 ghost use Rattle.ppexpand.specs.Arguments.{gather, separators};
 ghost use Rattle.ppexpand.specs.declared.env.Env.{Env};
 ghost use Rattle.ppexpand.specs.Turn.{Replaced, macro_of, replaced_by, no_arguments, predefined_value, called, invoked, function_turn, macro_turn};
@@ -148,7 +148,7 @@ fn replace_by<'x, 'a: 'x>(
 ) -> Result<(), Memory>
     requires base { IsKnown sets.old base }
     requires list { AllKnown sets.old list.old }
-    ensures is { OnOk result ((arguments : Arguments) → Replaced (hidings sets.new list.new)
+    ensures is { OnOk result ((arguments : ArgumentTokens) → Replaced (hidings sets.new list.new)
         ≡ replaced_by (substituted_by (map lone_chain body.now) arguments
         (set.insert (set_at sets.old base) head.now.token.text) head.now.token.used head.now.token.space)
         (hidings sets.old list.old)) }
