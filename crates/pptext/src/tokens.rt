@@ -1,5 +1,5 @@
 // Places, preprocessing tokens and faults.
-ghost use Rattle.std.specs.Prelude.{◌≡◌, ◌<◌, ◌≤◌, List, ℕ, IfOk, IfSome, IfNone, OnOk, length, take, [], ◌++◌, Some, None};
+ghost use Rattle.std.specs.Prelude.{◌≡◌, ◌<◌, ◌≤◌, List, ℕ, IfOk, IfSome, IfNone, OnErr, OnOk, length, take, [], ◌++◌, Some, None};
 ghost use Rattle.std.specs.Str.{bytes_eq};
 ghost use Rattle.pptext.specs.Tokens.{is_identifier, is_name, is_punct, is_lone_quote, fault};
 
@@ -143,9 +143,10 @@ impl Spelling {
         }
     }
 
-    /// Puts bytes behind the others. Bytes of its own are moved seldom while they grow.
+    /// Puts bytes after the others. Bytes of its own are moved seldom while they grow. On an error the spelling is what it was.
     pub fn extend(&mut self, alloc: Global, more: &[u8]) -> Result<(), AllocError>
-        ensures { OnOk result (self.new ≡ self.old ++ more.now) }
+        ensures ok { OnOk result (self.new ≡ self.old ++ more.now) }
+        ensures err { OnErr result (self.new ≡ self.old) }
     {
         if let Bytes::Long(bytes) = &mut self.bytes {
             bytes.extend_from_slice(more)?;

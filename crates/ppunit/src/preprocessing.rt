@@ -3,7 +3,7 @@ ghost use Rattle.std.specs.Prelude.{◌≡◌, ◌<◌, IfOk, Ok, Option, None, 
 ghost use Rattle.std.specs.Result.{result_err};
 ghost use Rattle.pptext.specs.Stops.{IfSettled};
 ghost use Rattle.pptext.specs.declared.tokens.Fault.{Fault};
-ghost use Rattle.ppshelf.specs.Files.{Files, Extends};
+ghost use Rattle.ppshelf.specs.Files.{Files, Extends, Agree, AllLawful};
 ghost use Rattle.ppunit.specs.States.{Reached, surroundings_of, given};
 ghost use Rattle.ppunit.specs.Group.{Opened};
 ghost use Rattle.ppunit.specs.Unit.{IsUnit, IsUnitOf, Translates, beginning, first_place};
@@ -179,7 +179,8 @@ fn give<'x, 'a: 'x, D: Disk>(
 ///
 /// The unit's value is that over the files that the pass knows afterwards. With a budget the unit makes no more replacements and
 /// openings than that, and its value is a beginning of the one without: the whole of it exactly where the budget suffices, and
-/// otherwise with fault 35. Fails only for want of memory, and then the pass knows at least what it knew.
+/// otherwise with fault 35. What the pass knows afterwards is what `fill` put there, or what the disk may answer. Fails only if memory
+/// runs out, and then the pass knows at least what it knew.
 pub fn preprocess<'x, 'a: 'x, D: Disk>(
     alloc: Global,
     shelf: &'a Shelf<D>,
@@ -197,15 +198,19 @@ pub fn preprocess<'x, 'a: 'x, D: Disk>(
     ensures is { IfOk result (λ out. IsUnit shelf.now.names pass.new.files setting.now unit.now out) }
     ensures within { IfOk result (λ out. IsWithin shelf.now.names pass.new.files setting.now unit.now out) }
     ensures capped { IfOk result (λ out. IsCappedOver shelf.now.names pass.new.files setting.now unit.now out) }
+    ensures lawful { AllLawful D.may shelf.now.names pass.new.files }
+    ensures filled { Agree shelf.now.base pass.new.files }
 {
     let folders = Folders {
         unit: unit.search.as_slice(),
         setting: setting.search.as_slice(),
     };
     let around = Around::new(alloc, shelf, disk, folders);
-    // For proofs: no name stands twice, and what a budget does.
+    let given = give(&around, pass, setting, unit);
+    // For proofs: no name stands twice, what a pass knows is lawful, and what a budget does.
     shelf.lawful();
+    pass.lawful();
     stays_within();
     budget_caps_units();
-    give(&around, pass, setting, unit)
+    given
 }
