@@ -2,6 +2,7 @@
 ghost use Rattle.std.specs.Prelude.{◌≡◌, ◌≤◌, [], length, replicate, All, IfOk, None};
 ghost use Rattle.ppshelf.specs.Content.{longest};
 ghost use Rattle.ppshelf.specs.Files.{most_rows, IsFull};
+ghost use Rattle.ppshelf.specs.Names.{AreNames};
 ghost use Rattle.ppunit.specs.Unit.{IsUnitOf};
 ghost use Rattle.pppool.specs.Kept.{AreKept};
 ghost use Rattle.ppserve.specs.Contents.{files_of, GiveOverSome};
@@ -10,7 +11,7 @@ ghost use Rattle.ppserve.specs.Needed.{needed};
 use crate::list::Contents;
 use crate::output::Mode;
 use pppool::{Gate, Keep, list_growth, run_keeping};
-use ppshelf::{Disk, MemoryDisk, Shelf};
+use ppshelf::{Disk, MemoryDisk, Shelf, ShelfFault};
 use pptext::{Hashing, Memory, Profile};
 use ppunit::{Setting, Texts, Unit, UnitOut};
 use std::alloc::Global;
@@ -67,23 +68,25 @@ pub(crate) fn no_disk(alloc: Global) -> MemoryDisk
     }
 }
 
-/// A shelf of these names, hashed so, that reads by this profile, to whose rows nothing was moved.
+/// A shelf of these names, which are in normal form and each once, hashed so, that reads by this profile, to whose rows nothing was moved.
 pub(crate) fn empty_shelf<D: Disk>(
     alloc: Global,
     names: &Texts,
     profile: Profile,
     hashing: Hashing,
 ) -> Result<Shelf<D>, Memory>
+    requires form { AreNames names.now }
     requires few { length names.now ≤ most_rows }
     ensures names { IfOk result (λ s. s.names ≡ names.now) }
     ensures profile { IfOk result (λ s. s.profile ≡ profile) }
     ensures empty { IfOk result (λ s. s.base ≡ replicate (length names.now) None) }
 {
     let copies = Vec::from_clones(alloc, names.as_slice())?;
-    let Ok(shelf) = Shelf::with_hasher(alloc, copies, profile, hashing) else {
-        return Err(Memory);
-    };
-    Ok(shelf)
+    match Shelf::with_hasher(alloc, copies, profile, hashing) {
+        Ok(shelf) => Ok(shelf),
+        Err(ShelfFault::Memory) => Err(Memory),
+        Err(ShelfFault::Name(_)) => unreachable!(),
+    }
 }
 
 /// A shelf of these names, hashed so, to whose rows the contents are moved, which it reads by this profile.
@@ -94,6 +97,7 @@ pub(crate) fn filled_shelf(
     contents: Contents,
     hashing: Hashing,
 ) -> Result<Shelf<MemoryDisk>, Memory>
+    requires form { AreNames names.now }
     requires few { length names.now ≤ most_rows }
     requires count { length contents ≡ length names.now }
     requires small { All (λ bytes. length bytes ≤ longest) contents }
