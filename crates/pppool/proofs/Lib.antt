@@ -12,3 +12,5 @@ pub mod Kept
 pub mod Answering
 -- Answers that are put into their units' slots.
 pub mod Placing
+-- What units give over some files is the one thing that they give over any more; over files that are all known they give something.
+pub mod OneValue

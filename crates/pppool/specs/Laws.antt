@@ -1,10 +1,16 @@
 -- Laws of the values of a list.
-use Rattle.std.specs.Prelude.{ℕ, List}
+use Rattle.std.specs.Prelude.{◌≡◌, ◌↔◌, ℕ, ◌<◌, List, length, All}
+use Rattle.std.specs.List.{AllZip}
+use Rattle.ppshelf.specs.Names.{AreNames}
 use Rattle.ppshelf.specs.Files.{Files, Extends, Agree}
 use Rattle.ppunit.specs.declared.units.Unit.{Unit as UnitOfList}
 use Rattle.ppunit.specs.declared.units.Setting.{Setting}
 use Rattle.ppunit.specs.declared.units.UnitOut.{UnitOut}
+use Rattle.ppunit.specs.Unit.{IsUnit}
 use Rattle.ppunit.specs.Units.{AreUnits}
+use Rattle.ppunit.specs.Laws.{KnowsAll}
+use Rattle.pppool.specs.declared.keeping.Keep.{Keep}
+use Rattle.pppool.specs.Kept.{AreKept}
 
 -- what units give over some files, as those that one worker knows, they give over any more, as those that all workers know
 abbrev pub ListGrows : Type 0
@@ -15,3 +21,33 @@ ListGrows =
 -- two maps of files that were joined with others into one agree, however often that one was joined further
 abbrev pub JoinedAgree : Type 0
 JoinedAgree = (one two all : Files) → Extends all one → Extends all two → Agree one two
+
+-- over these files the unit gives this and nothing else
+abbrev pub IsOnlyValue : List (List ℕ) → Files → Setting → UnitOfList → UnitOut → Type 0
+IsOnlyValue names files setting unit out = (other : UnitOut) → IsUnit names files setting unit other ↔ (other ≡ out)
+
+-- What each unit gives over one set of files is the one thing that it gives over any that contains it.
+abbrev pub EachHasOneValue : Type 0
+EachHasOneValue =
+    (names : List (List ℕ)) (files more : Files) (setting : Setting) (units : List UnitOfList) (answers : List UnitOut)
+    → AreNames names
+    → AreUnits names files setting units answers
+    → Extends more files
+    → AllZip (λ unit out. IsOnlyValue names more setting unit out) units answers
+
+-- the same of what is kept of a list's values
+abbrev pub KeepsOneList : Type 0
+KeepsOneList =
+    (keep : Keep) (names : List (List ℕ)) (files more : Files) (setting : Setting) (units : List UnitOfList) (outs others : List UnitOut)
+    → AreNames names
+    → AreKept keep names files setting units outs
+    → Extends more files
+    → AreKept keep names more setting units others ↔ (others ≡ outs)
+
+-- where each file's content is known, units whose files are among them give something, with any budget and without
+abbrev pub HasSomeValues : Type 0
+HasSomeValues =
+    (names : List (List ℕ)) (files : Files) (setting : Setting) (units : List UnitOfList)
+    → KnowsAll names files
+    → All (λ unit. unit.file < length names) units
+    → (answers : List UnitOut) × AreUnits names files setting units answers

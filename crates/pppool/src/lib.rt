@@ -14,5 +14,5 @@ mod workers;
 pub use desk::{Desk, DeskSeat};
 pub use gate::Gate;
 pub use keeping::Keep;
-pub use laws::{joined_passes_agree, list_growth};
+pub use laws::{each_unit_has_one_value, joined_passes_agree, list_growth, some_values};
 pub use running::{run, run_keeping};
