@@ -6,8 +6,8 @@
 An example is a block of `json`, which is the list on standard input, or of `sh`, whose output is the list; then, each
 followed by a block, any of
 
-    `cppunits WORDS` prints, with status N,             (without `with status N`: 0; nothing stands on standard error)
-    `cppunits WORDS` ends with status N; on standard error stands
+    `cppunits WORDS` prints, with status N,             (without `with status N`: 0; standard error has nothing)
+    `cppunits WORDS` exits with status N; standard error has
     `cppunits WORDS < FILE` prints ..                   (FILE of the repository is the list)
     `FILE` holds                                        (FILE of the repository has exactly this text)
     - gcc: `WORDS`   or   - clang: `WORDS`              (the first error or warning on the list's file a.c, or: nothing)
@@ -17,7 +17,7 @@ Blocks of `console` are sessions, run by a shell in a copy of examples/demo, one
 `$ ` are commands (a line that ends in a backslash goes on in the next), the others what they print, whatever the seconds.
 cppunits and the scripts are on the path.
 
-Words of gcc and clang are compared where the installed one is of the version that docs/FAULTS.md names.
+Messages of gcc and clang are compared if the installed one has the version that docs/FAULTS.md names.
 """
 import contextlib
 import glob
@@ -32,11 +32,11 @@ import unittest
 from counted import PACKAGES, TOP, main, missed, program, run, well
 
 SENTENCE = re.compile(r"`(?:\S*/)?cppunits (?P<words>[^`<]+?)(?: < (?P<file>[^`]+))?` (?:"
-                      r"(?P<prints>prints)(?:,? with status (?P<status>\d))?|ends with status (?P<ends>\d); on standard error stands),?$")
+                      r"(?P<prints>prints)(?:,? with status (?P<status>\d))?|exits with status (?P<ends>\d); standard error has),?$")
 HOLDS = re.compile(r"`(?P<file>[\w./]+)` holds$")
 COMPILER = re.compile(r"- (?P<name>gcc|clang)(?P<gives> gives)?: (?:`(?P<words>.+)`|nothing)$")
 SECONDS = re.compile(r"\d+\.\d seconds")
-VERSIONS = {"gcc": r"words of gcc are those of (\S+),", "clang": r"words of clang those of (\S+),"}
+VERSIONS = {"gcc": r"messages\s+are\s+those\s+of\s+gcc\s+(\S+)", "clang": r"messages\s+are\s+those\s+of\s+gcc\s+\S+\s+and\s+clang\s+(\S+)"}
 DIAGNOSTIC = re.compile(r"(error|warning): ")
 
 

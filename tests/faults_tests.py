@@ -85,7 +85,7 @@ note: Give the folder that has it: by `-I` in a build's command, by `search` in 
     def test_a_definition(self):
         units = [{"file": "a.c", "define": ["A 1", "B+1"]}]
         text = self.told({"a.c": ""}, units=units)
-        self.assertEqual(text.splitlines()[:4], ["In unit a.c:", "<command line>:2:1: error: no space behind the macro name B [fault 12]",
+        self.assertEqual(text.splitlines()[:4], ["In unit a.c:", "<command line>:2:1: error: no white space after the macro name B [fault 12]",
                                                  "    2 | #define B+1", "      | ^"])
 
     def test_paths(self):
@@ -278,8 +278,8 @@ class Forms(Faults):
     def test_an_object_for_each_fault(self):
         files = {"a.c": "#include \"b.h\"\n", "b.h": "#undef\n"}
         self.assertEqual(self.members(files), [{
-            "path": "b.h", "line": 1, "column": 1, "number": 9, "message": "#undef wants one name, and nothing behind it",
-            "advice": "Write the name; take away what follows it.", "text": "undef", "unit": 0, "source": "a.c",
+            "path": "b.h", "line": 1, "column": 1, "number": 9, "message": "malformed #undef: one name is expected",
+            "advice": "Write the name, and remove what follows it.", "text": "undef", "unit": 0, "source": "a.c",
             "chain": [{"path": "a.c", "line": 1}]}])
 
     def test_colours(self):
@@ -351,7 +351,7 @@ class Table(unittest.TestCase):
     def test_numbers_and_advices_are_those_of_the_document(self):
         with open(os.path.join(TOP, "docs", "FAULTS.md")) as file:
             parts = re.split(r"^### Fault (\d+): ", file.read().split("\n## Refusals")[0], flags=re.M)[1:]
-        told = {int(number): " ".join(part.split("*What to do:* ")[1].split()) for number, part in zip(parts[::2], parts[1::2])}
+        told = {int(number): " ".join(part.split("*Remedy:* ")[1].split()) for number, part in zip(parts[::2], parts[1::2])}
         self.assertEqual(list(told), list(FAULTS))
         for number, (with_text, without, advice) in FAULTS.items():
             self.assertTrue(told[number].startswith(advice), number)
