@@ -119,7 +119,7 @@ def rows(program, folder, workers, runs):
 
 
 def at_once(program, folder, mode, count, runs):
-    """The seconds that so many runs with one worker take which are started together, and share nothing."""
+    """The seconds of this number of runs with one worker that are started together, and share nothing."""
     command = [program, "--workers", "1", "--root", folder, mode]
     least = None
     for _ in range(runs):

@@ -257,7 +257,7 @@ def excerpt(line, column):
 
 
 def letter(one):
-    """A letter as it may stand on a terminal: tabs are kept, what can't be seen is told by its number."""
+    """A letter as printed on a terminal: tabs stay, an invisible letter becomes its number."""
     if one == "\t" or one.isprintable():
         return one
     if "\udc80" <= one <= "\udcff":

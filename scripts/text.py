@@ -49,7 +49,7 @@ def joins(left, right):
 
 
 def destringized(spelling):
-    """The text of a string literal behind _Pragma (6.10.9)."""
+    """The text of a string literal after _Pragma (6.10.9)."""
     inner = spelling[spelling.index(b'"') + 1:-1]
     return re.sub(rb'\\(["\\])', rb"\1", inner)
 

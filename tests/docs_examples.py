@@ -13,7 +13,7 @@ followed by a block, any of
     - gcc: `WORDS`   or   - clang: `WORDS`              (the first error or warning on the list's file a.c, or: nothing)
     - gcc gives: `TEXT`   or   - clang gives: `TEXT`      (what stands in their output, each white space as one space)
 
-Blocks of `console` are sessions, run by a shell in a copy of examples/demo, one after the other for each document: lines behind
+Blocks of `console` are sessions, run by a shell in a copy of examples/demo, one after another for each document: lines after
 `$ ` are commands (a line that ends in a backslash goes on in the next), the others what they print, whatever the seconds.
 cppunits and the scripts are on the path.
 

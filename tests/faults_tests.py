@@ -191,7 +191,7 @@ class Chains(Faults):
         self.assertIsNone(self.chain(files, units=[{"file": "a.c", "define": ["G"]}]))
 
     def test_a_guard_with_a_second_branch(self):
-        """As of gcc's limits.h: a file that is opened again goes on behind #else."""
+        """Like gcc's limits.h: a file that is opened again goes on after #else."""
         files = {"a.c": "#include <limits.h>\n", "one/limits.h": "#ifndef G\n#define G\n#include \"again.h\"\n#else\n#include_next <limits.h>\n#endif\n",
                  "one/again.h": "#include_next <limits.h>\n", "two/limits.h": "#error x\n"}
         above = [("one/limits.h", 5), ("one/again.h", 1), ("one/limits.h", 3), ("a.c", 1)]
@@ -245,7 +245,7 @@ class Chains(Faults):
         self.assertGreater(counts[0], 2 * counts[1] // 3)
 
     def compare(self, files, found, counts):
-        """The chain is gcc's, where one is told."""
+        """The chain is gcc's, if one is printed."""
         write(self.top, files)
         done = run(["gcc", "-E", "-P", "a.c"], cwd=self.top, env=dict(os.environ, LC_ALL="C"))
         head = done.stderr.decode().split(": error: ")[0]
@@ -258,7 +258,7 @@ class Chains(Faults):
 
 
 def at_random(choice):
-    """Files that include those behind them, some of them guarded, and end in an error somewhere."""
+    """Files that include later ones, some of them guarded, and end in an error somewhere."""
     count = choice.randint(3, 8)
     names, files = ["a.c"] + ["h%d.h" % at for at in range(1, count)], {}
     for at, name in enumerate(names):

@@ -10,7 +10,7 @@
 #
 # Each part says what it did; its whole output is shown where it fell short.  Refused memory in the tests of a crate is a part
 # where `rt test` or `rt ci` left them, and else a line that says so.  It takes some minutes, more with these parts, up to 2 GB of
-# memory and 300 MB of a folder for temporary files, and leaves nothing behind.  It needs Python 3 and gcc.
+# memory and 300 MB of a folder for temporary files, and leaves no files.  It needs Python 3 and gcc.
 #
 # status:
 #   0  nothing fell short
