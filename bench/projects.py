@@ -1,18 +1,21 @@
 #!/usr/bin/env python3
-"""Compares cppunits with a build's own compiler, over projects with a compile_commands.json, and writes a table.
+"""Compare cppunits with the compiler of a build, over projects with a compile_commands.json, and write a table.
 
     bench/projects.py [--program FILE] [--jobs N] [--every N] [--seconds N] [--output FILE] DIR..
 
-For example:  bench/projects.py --program crates/cppunits/out/cppunits "zlib 1.2.13=../zlib-1.2.13/build"
+Example:  bench/projects.py --program crates/cppunits/out/cppunits "zlib 1.2.13=../zlib-1.2.13/build"
 
-For each folder scripts/build.py makes the list and runs cppunits, and the compiler is run on each unit with the words of its own command
-and -E -P -MD.  With --every 5 all this is done with each fifth command, which the row's name tells.  A compiler that takes more than --seconds
-for a unit is stopped, with what it started.  A row tells how many units there are, how many of them the compiler takes, and of these: how many are
-ok, have the compiler's tokens, and its dependencies in its order.  A cutter of its own (bench/cutter.py) makes spellings of the compiler's text.
-Left out of the comparison are stdc-predef.h, which gcc includes unasked, #ident lines, pragmas that gcc obeys and doesn't print, as
-#pragma once, and how __FILE__ names a file: the list names it from /.  Standard error names each unit that differs, with the first place where it does.
+For each directory scripts/build.py makes the list and runs cppunits, and the compiler is run on each unit with the words
+of its own command and -E -P -MD.  With --every 5 only each fifth command is used, and the name of the row says so.  A
+compiler that takes more than --seconds for a unit is stopped, with the processes that it started.  A row has the number
+of units, of those that the compiler takes, and of these: how many are ok, have the compiler's tokens, and have its
+dependencies in its order.  bench/cutter.py makes spellings of the compiler's text.
 
-Status: 0 all units that the compiler takes are the same, 1 some differ, 2 the command line isn't right, 3 build.py ended badly.
+The comparison leaves out stdc-predef.h, which gcc includes by itself, #ident lines, pragmas that gcc executes and doesn't
+print, like #pragma once, and how __FILE__ names a file: the list names it from /.  Standard error names each unit that
+differs, with the first location where it does.
+
+Status: 0 all units that the compiler takes are the same, 1 some differ, 2 the command line is wrong, 3 build.py failed.
 """
 import argparse
 import collections
@@ -304,11 +307,11 @@ def table(rows):
 def main():
     form = argparse.RawDescriptionHelpFormatter
     asked = argparse.ArgumentParser(description=__doc__, formatter_class=form)
-    asked.add_argument("folders", metavar="DIR", nargs="+", help="a folder with a compile_commands.json; NAME=DIR names its row")
-    asked.add_argument("--program", metavar="FILE", help="the program (default: cppunits on PATH)")
-    asked.add_argument("--jobs", metavar="N", type=int, default=1, help="how many compilers at once (default: 1)")
-    asked.add_argument("--every", metavar="N", type=int, default=1, help="take each N-th command alone (default: 1)")
-    asked.add_argument("--seconds", metavar="N", type=float, default=60, help="how long a compiler may take for a unit (default: 60)")
+    asked.add_argument("folders", metavar="DIR", nargs="+", help="use the compile_commands.json of this directory; NAME=DIR names its row")
+    asked.add_argument("--program", metavar="FILE", help="run this program (default: cppunits on PATH)")
+    asked.add_argument("--jobs", metavar="N", type=int, default=1, help="run N compilers in parallel (default: 1)")
+    asked.add_argument("--every", metavar="N", type=int, default=1, help="use only each N-th command (default: 1)")
+    asked.add_argument("--seconds", metavar="N", type=float, default=60, help="stop a compiler after N seconds for a unit (default: 60)")
     asked.add_argument("--output", metavar="FILE", help="write the table here (default: standard output)")
     words, asked = asked, asked.parse_args()
     if not 1 <= asked.jobs <= 64:
