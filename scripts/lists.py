@@ -71,16 +71,22 @@ class Builder:
 
     def note_next(self, members, found, search, quotes):
         """Notes what `__has_include_next` is for units over one search, for each by itself where files differ."""
-        answers = self.files.next_answers(found, search)
+        if not self.files.nexts:
+            return
+        answers = self.files.next_answers(found, search, set().union(*map(self.macros, members)))
         for command in members:
             if len(answers) > 1:
-                own = self.files.next_answers(self.files.reach(self.starts(command), search, quotes), search)
+                own = self.files.next_answers(self.files.reach(self.starts(command), search, quotes), search, self.macros(command))
             else:
                 own = answers
             self.nexts[command] = next(iter(own)) if len(own) == 1 else self.taken.get(command)
-            if len(own) > 1 or (self.files.nexts and command in self.computing):
+            if len(own) > 1 or command in self.computing:
                 # a name that a macro makes may be that of any file on the list
                 self.several.append(command)
+
+    def macros(self, command):
+        """The names that a unit's definitions define."""
+        return {*self.given.definitions(command), *command.definitions}
 
     def take_next(self, command, answer):
         """Takes an answer of `__has_include_next` for a unit whose files may have others; None is no answer."""

@@ -127,7 +127,7 @@ def decide(builder, program):
     for last in (False, True):
         differing = []
         for command, opened, _, _ in ran(builder, waiting, program) if waiting else ():
-            if builder.files.next_answers(opened, builder.search(command)[0]) - {builder.taken[command]}:
+            if builder.files.next_answers(opened, builder.search(command)[0], builder.macros(command)) - {builder.taken[command]}:
                 differing.append(command)
         for command in differing:
             builder.take_next(command, None if last else not builder.taken[command])

@@ -247,6 +247,13 @@ class Lists(Builds):
         self.assertEqual(self.names(commands)[0], [["two", "h"], ["k"]])
         self.names([("gcc -I. -Ione -Itwo '-DNAMED=<both.h>' -c d.c", "d.c")], status=1)
 
+    def test_what_is_asked_of_a_next_file_for_other_systems_alone(self):
+        asks = "#if (defined(__OTHER__) || defined _ELSE) && __has_include_next(<k.h>)\nno\n#endif\nk\n"
+        write(self.top, {"a.c": "#include <h.h>\n#include <k.h>\n", "two/h.h": "two\n", "one/k.h": asks,
+                         "one/h.h": "#if __has_include_next(<h.h>)\n#include_next <h.h>\n#endif\n"})
+        self.assertEqual(self.names(["gcc -Ione -Itwo -c a.c"])[0], [["two", "k"]])
+        self.names(["gcc -D_ELSE -Ione -Itwo -c a.c"], status=1)
+
     def test_names_that_macros_make(self):
         """Each round finds more; no folder is taken as a whole, and a comment is no include line."""
         write(self.top, {"a.c": "#define STR(x) #x\n#include FIRST\n#include STR(sub/third.h)\n", "inc/sub/third.h": "third\n",

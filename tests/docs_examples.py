@@ -2,6 +2,7 @@
 """Runs each example of README.md and docs/*.md, and compares what it prints with what stands there.
 
     tests/docs_examples.py [PROGRAM] [-k NAME]
+    tests/docs_examples.py --record DOCUMENT..     runs the sessions of these, and writes what they print into them
 
 An example is a block of `json`, which is the list on standard input, or of `sh`, whose output is the list; then, each
 followed by a block, any of
@@ -26,6 +27,7 @@ import os
 import re
 import shutil
 import subprocess
+import sys
 import tempfile
 import unittest
 
@@ -129,6 +131,33 @@ def commands(block):
         yield command, printed
 
 
+def printed_by(command, where, environment):
+    """What a command of a session prints."""
+    done = subprocess.run(["sh", "-c", command], cwd=where, env=environment, stdout=subprocess.PIPE, stderr=subprocess.STDOUT)
+    return done.stdout.decode()
+
+
+def same(found, printed):
+    """Whether they are the same, whatever the seconds."""
+    return SECONDS.sub("", found) == SECONDS.sub("", printed)
+
+
+def record(names):
+    """Writes the sessions of documents anew: their commands, with what these print now. Seconds alone change nothing."""
+    for name in names:
+        with demo() as (where, environment):
+            def recorded(block):
+                lines = []
+                for command, printed in commands(block[2]):
+                    found = printed_by(command, where, environment)
+                    lines.append("$ %s%s" % (command, printed if same(found, printed) else found))
+                return block[1] + "".join(lines) + block[3]
+
+            text = re.sub(r"^(```console\n)(.*?)(^```$)", recorded, text_of(name), flags=re.M | re.S)
+        with open(os.path.join(TOP, name), "w") as file:
+            file.write(text)
+
+
 @contextlib.contextmanager
 def demo():
     """A copy of examples/demo, and an environment whose path has cppunits and the scripts."""
@@ -187,9 +216,8 @@ class Documents(unittest.TestCase):
             missed("cc")
         missed(*[name for name in PACKAGES if re.search(r"^\$ (?:.*[|;&] )?%s " % name, block, re.M)])
         for command, printed in commands(block):
-            done = subprocess.run(["sh", "-c", command], cwd=where, env=environment, stdout=subprocess.PIPE,
-                                  stderr=subprocess.STDOUT)
-            self.assertEqual(SECONDS.sub("", done.stdout.decode()), SECONDS.sub("", printed), command)
+            found = printed_by(command, where, environment)
+            self.assertEqual(SECONDS.sub("", found), SECONDS.sub("", printed), command)
 
     def test_each_output_is_claimed(self):
         for name in documents():
@@ -240,4 +268,7 @@ for document in documents():
 
 
 if __name__ == "__main__":
-    main()
+    if sys.argv[1:2] == ["--record"]:
+        record(sys.argv[2:])
+    else:
+        main()
