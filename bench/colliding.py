@@ -39,7 +39,7 @@ def own(state, data):
 
 
 def block(state, data):
-    """The state of the kit's hash behind a block of 16 bytes of a longer text."""
+    """The state of the kit's hash after a block of 16 bytes of a longer text."""
     return folded(number(data[:8]) ^ state, number(data[8:]) ^ MULTIPLIER)
 
 
@@ -74,7 +74,7 @@ def colliding(made, hashed, write):
 
 # ---- under the program's own hash
 
-# Eight bytes, behind which the state is itself eight letters, digits and `_`: these stand next, and take the state away, so that it
+# Eight bytes, after which the state is itself eight letters, digits and `_`: these stand next, and take the state away, so that it
 # is 0. FIRST is so from the beginning of a text of 80 bytes, the others from 0; each takes a search of some 75,000 tries.
 FIRST = "aaaaabkD"
 OTHERS = (
@@ -94,7 +94,7 @@ PAIRS = (
 
 
 def taken_away(state, text):
-    """The text with the state behind it, in a name of 80 bytes."""
+    """The text with the state after it, in a name of 80 bytes."""
     return text + folded(state ^ number(text.encode()), MULTIPLIER ^ 80).to_bytes(8, "little").decode()
 
 
@@ -123,7 +123,7 @@ KIT_PAIRS = (
 
 
 def kit_macro_names(count):
-    """Identifiers of 32 bytes with the hash 0: the state behind the first 16 bytes stands as the next eight, which takes it away, and
+    """Identifiers of 32 bytes with the hash 0: the state after the first 16 bytes stands as the next eight, which takes it away, and
     0 stays whatever the last eight are."""
     for start in ("a%015d" % i for i in itertools.count()):
         state = block(SEED + 32, start.encode()).to_bytes(8, "little")

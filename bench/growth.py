@@ -1,32 +1,37 @@
 #!/usr/bin/env python3
-"""Shows whether the cost of cppunits grows as its work does.
+"""Measure whether the cost of cppunits grows as its work does.
 
     bench/growth.py [PROGRAM] [--shapes NAME ..] [--quick] [--runs N]
 
-PROGRAM is by default crates/cppunits/out/cppunits, which `rt ci` and `rt run` leave behind.  Each shape of shapes.py is made
-at three sizes, each twice the one before, and run by `cppunits --workers 1 dump` and, where there is one text,
-`gcc -E -std=c11 -pedantic-errors -x c`, both with their output thrown away.  Printed are the processor seconds and the most
-memory, each with the factor to the size before, for both programs: for cppunits the least of N runs (2 by default), for gcc
-those of one run.  A shape is measured again, up to 9 rounds of all its sizes, as long as it falls short: of each size the
-least time and the least memory of all rounds count, and the factors are those of these leasts, since a machine that others
-share makes a run slower, and none quicker.  A run is stopped that takes 30 seconds of the processor or 8 GB; gcc's are `-`
-where it doesn't end by itself.
+PROGRAM is crates/cppunits/out/cppunits by default, which `rt ci` and `rt run` build.  Each shape of shapes.py is made at
+three sizes, each twice the one before.  It is run by `cppunits --workers 1 dump` and, if it is a single text, by
+`gcc -E -std=c11 -pedantic-errors -x c`.  Their output is discarded.  The table has processor seconds and peak memory for
+both, each with the factor to the size before: for cppunits the least of N runs (2 by default), for gcc one run.  A run
+is stopped after 30 seconds of processor time or 8 GB; gcc's is then `-`.
 
-A shape falls short where time or memory grows more than 2.3 times a doubling, where memory passes 80 bytes a token (a line,
-where there are no tokens) of the shapes that count them, where a chain of 60,000 object-like macros takes more than a second
-or 200 MB, and where the status isn't the one that is due.  --shapes runs those whose name begins so; --quick takes smaller
-sizes, mostly a quarter.
+A shape fails if
 
-Less than 0.05 seconds and 32 MB count as these; a factor to a run below that floor is marked by `*`, since it isn't measured,
-or not all of it.  Below it lie, at each size, the time of the parameters and of the operands of `##`, which is measured where
-they are many, and the memory of these, of the object-like chain, of the budget, of the chain in an argument, of what goes
-through macros, of long names, empty lists and folders; by --quick also the time of the chain in an argument and of the floods,
-and the memory of all but the function-like chain, `#undef` and most of the bytes.
+- time or memory grows more than 2.3 times if the size doubles,
+- memory exceeds 80 bytes a token (a line, if there are no tokens) in the shapes that count them,
+- a chain of 60,000 object-like macros takes more than a second or 200 MB, or
+- the exit status isn't the expected one.
+
+A shape that fails is measured again, in up to 9 rounds of all its sizes.  The least time and memory of all rounds count,
+because other work on the machine makes a run slower, and never faster.
+
+Use --shapes to run the shapes whose names begin like this, and --quick for smaller sizes, mostly a quarter.
+
+Less than 0.05 seconds and 32 MB count as these.  `*` marks a factor to a run below that minimum, which isn't fully
+measured.  Some times and memories are below it at each size: the time of parameters and of the operands of `##`, which is
+measured where they are many, and the memory of these, of the object-like chain, of the budget, of the chain in an
+argument, of arguments through macros, of long names, empty lists and directories.  With --quick these are also the time
+of the chain in an argument and of the floods, and the memory of all but the function-like chain, `#undef` and most of
+the bytes.
 
 status:
-  0  no shape fell short
-  1  one did, and is named
-  2  the command line, or the program, isn't right
+  0  no shape failed
+  1  a shape failed, and is named
+  2  the command line or the program is wrong
 """
 import argparse
 import os
@@ -44,7 +49,7 @@ MOST_GROWTH = 2.3
 LEAST_SECONDS, LEAST_MEMORY = 0.05, 32 * MEGABYTE
 BYTES_A_THING = 80
 MOST_SECONDS, MOST_MEMORY = 30, 8_000 * MEGABYTE
-# so long a run needs no second; a shape that falls short is measured in so many rounds
+# a run of LONG_SECONDS is made once; a shape that fails is measured in at most MOST_ROUNDS rounds
 LONG_SECONDS, MOST_ROUNDS = 4, 9
 GCC = ["gcc", "-E", "-std=c11", "-pedantic-errors", "-x", "c", "-"]
 HEADING = ("shape", "size", "seconds", "factor", "MB", "factor", "gcc: seconds", "factor", "MB", "factor")
@@ -182,10 +187,10 @@ def compared(program, shape, sizes, runs):
 
 def main():
     parser = argparse.ArgumentParser(description=__doc__, formatter_class=argparse.RawDescriptionHelpFormatter)
-    parser.add_argument("program", nargs="?", default=PROGRAM)
-    parser.add_argument("--shapes", nargs="+", default=[""], metavar="NAME")
-    parser.add_argument("--quick", action="store_true")
-    parser.add_argument("--runs", type=int, default=2)
+    parser.add_argument("program", nargs="?", default=PROGRAM, help="measure this program")
+    parser.add_argument("--shapes", nargs="+", default=[""], metavar="NAME", help="run only shapes whose names begin like this")
+    parser.add_argument("--quick", action="store_true", help="use smaller sizes")
+    parser.add_argument("--runs", type=int, default=2, metavar="N", help="run each size N times (default: 2)")
     asked = parser.parse_args()
     program = os.path.abspath(asked.program)
     chosen = [shape for shape in SHAPES if shape.name.startswith(tuple(asked.shapes))]

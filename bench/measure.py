@@ -1,17 +1,17 @@
 #!/usr/bin/env python3
-"""Times `cppunits dump` beside `gcc -E -P -x c -` on texts that it makes itself.
+"""Time `cppunits dump` and `gcc -E -P -x c -` on generated texts.
 
     bench/measure.py [--program PROGRAM] [--megabytes 1,4,16] [--only NAME] [--runs N] [--limits]
 
-PROGRAM is by default crates/cppunits/out/cppunits, which `rt ci` and `rt run` leave behind.  The texts are the same on
-every machine: a small generator of its own, from a fixed seed, makes them.  Both programs read the text from a file on
-standard input (cppunits as the content of a list's one file) and have their output thrown away; each is run N times,
-3 by default, and the fastest run counts.  Printed are megabytes of source text a second, the ratio of the two (above
-1: cppunits is the faster), and the most memory that cppunits held, in all and for each byte of the text.
+PROGRAM is crates/cppunits/out/cppunits by default, which `rt ci` and `rt run` build.  A small generator makes the texts
+from a fixed seed, so they are the same on every machine.  Both programs read a text on standard input (cppunits as the
+content of a list's only file), and their output is discarded.  Each is run N times, 3 by default, and the fastest run
+counts.  The table has megabytes of source text a second, the ratio of the two (above 1: cppunits is faster), and the
+peak memory of cppunits, in total and for each byte of the text.
 
---limits reads texts that show that no loop is worse than linear: 100,000 nested `#if`, 2,000,000 short lines, a line of
-1,000,000 quotes that open no literal, and twice as much of each; and all depths at once: 200 includes, 256 nested
-invocations, parentheses and signs, and 100,000 nested `#if`.  Each runs in a stack of one megabyte.
+Use --limits to read texts that show that no loop is worse than linear: 100,000 nested `#if`, 2,000,000 short lines, a
+line of 1,000,000 unmatched quotes, and twice as much of each.  Another text has all depths at once: 200 includes, 256
+nested invocations, parentheses and signs, and 100,000 nested `#if`.  Each runs in a stack of one megabyte.
 """
 import argparse
 import json
@@ -186,11 +186,11 @@ def limits(program, folder):
 
 def main():
     parser = argparse.ArgumentParser(description=__doc__, formatter_class=argparse.RawDescriptionHelpFormatter)
-    parser.add_argument("--program", default=PROGRAM)
-    parser.add_argument("--megabytes", default="1,4,16")
-    parser.add_argument("--only")
-    parser.add_argument("--runs", type=int, default=3)
-    parser.add_argument("--limits", action="store_true")
+    parser.add_argument("--program", default=PROGRAM, metavar="FILE", help="measure this program")
+    parser.add_argument("--megabytes", default="1,4,16", metavar="N,N", help="use these sizes (default: 1,4,16)")
+    parser.add_argument("--only", metavar="NAME", help="use only this text")
+    parser.add_argument("--runs", type=int, default=3, metavar="N", help="run each N times (default: 3)")
+    parser.add_argument("--limits", action="store_true", help="read texts at the limits instead")
     asked = parser.parse_args()
     program = os.path.abspath(asked.program)
     with tempfile.TemporaryDirectory() as folder:

@@ -1,24 +1,30 @@
 #!/usr/bin/env python3
-"""Compares cppunits with a build's own compiler, over projects with a compile_commands.json, and writes a table.
+"""Compare cppunits with the compiler of a build, over projects with a compile_commands.json, and write a table.
 
-    bench/projects.py [--program FILE] [--jobs N] [--output FILE] DIR..
+    bench/projects.py [--program FILE] [--jobs N] [--every N] [--seconds N] [--output FILE] DIR..
 
-For example:  bench/projects.py --program crates/cppunits/out/cppunits "zlib 1.2.13=../zlib-1.2.13/build"
+Example:  bench/projects.py --program crates/cppunits/out/cppunits "zlib 1.2.13=../zlib-1.2.13/build"
 
-For each folder scripts/build.py makes the list and runs cppunits, and the compiler is run on each unit with the words of its own command
-and -E -P, and once more with -M.  A row tells how many units there are, how many of them the compiler takes, and of these: how many are
-ok, have the compiler's tokens, and its dependencies in its order.  A cutter of its own (bench/cutter.py) makes spellings of the compiler's text.
-Left out of the comparison are stdc-predef.h, which gcc includes unasked, #ident lines, pragmas that gcc obeys and doesn't print, as
-#pragma once, and how __FILE__ names a file: the list names it from /.  Standard error names each unit that differs, with the first place where it does.
+For each directory scripts/build.py makes the list and runs cppunits, and the compiler is run on each unit with the words
+of its own command and -E -P -MD.  With --every 5 only each fifth command is used, and the name of the row says so.  A
+compiler that takes more than --seconds for a unit is stopped, with the processes that it started.  A row has the number
+of units, of those that the compiler takes, and of these: how many are ok, have the compiler's tokens, and have its
+dependencies in its order.  bench/cutter.py makes spellings of the compiler's text.
 
-Status: 0 all units that the compiler takes are the same, 1 some differ, 2 the command line isn't right, 3 build.py ended badly.
+The comparison leaves out stdc-predef.h, which gcc includes by itself, #ident lines, pragmas that gcc executes and doesn't
+print, like #pragma once, and how __FILE__ names a file: the list names it from /.  Standard error names each unit that
+differs, with the first location where it does.
+
+Status: 0 all units that the compiler takes are the same, 1 some differ, 2 the command line is wrong, 3 build.py failed.
 """
 import argparse
 import collections
+import contextlib
 import json
 import os
 import re
 import shlex
+import signal
 import subprocess
 import sys
 import tempfile
@@ -57,17 +63,38 @@ class Entry:
                 self.words.append(word)
             skipped = not skipped and word in WRITING_WORD
 
-    def run(self, *more):
-        """What the compiler prints, or None where it refuses the unit or isn't there, and the seconds that it took."""
-        began, null = time.monotonic(), subprocess.DEVNULL
+    def preprocess(self, seconds):
+        """The compiler's text and the rule of its dependencies, or None where it refuses the unit or isn't there, and its seconds.
+
+        TimeoutExpired where it takes longer than it may."""
+        began = time.monotonic()
         if not self.words:
             return None, 0.0
-        try:
-            done = subprocess.run([*self.words, *more], cwd=self.directory, env=ENVIRONMENT, stdin=null, stdout=subprocess.PIPE, stderr=null,
-                                  check=False)
-        except OSError:
-            return None, 0.0
-        return None if done.returncode else done.stdout, time.monotonic() - began
+        with tempfile.TemporaryDirectory(prefix="projects.") as folder:
+            rule = os.path.join(folder, "rule")
+            text = answered([*self.words, "-E", "-P", "-MD", "-MF", rule], self.directory, seconds)
+            taken = time.monotonic() - began
+            if text is None or not os.path.exists(rule):
+                return None, taken
+            with open(rule, "rb") as file:
+                return (text, file.read()), taken
+
+
+def answered(words, directory, seconds):
+    """What a program prints, or None where it fails or isn't there; it is stopped after some seconds, with the programs that it started."""
+    null = subprocess.DEVNULL
+    try:
+        process = subprocess.Popen(words, cwd=directory, env=ENVIRONMENT, stdin=null, stdout=subprocess.PIPE, stderr=null, process_group=0)
+    except OSError:
+        return None
+    try:
+        text, _ = process.communicate(timeout=seconds)
+    except BaseException:
+        with contextlib.suppress(OSError):
+            os.killpg(process.pid, signal.SIGKILL)
+        process.communicate()
+        raise
+    return None if process.returncode else text
 
 
 def entries(path):
@@ -195,11 +222,11 @@ class Row:
         return [self.name, *map(str, counts), "%.1f" % self.ours, "%.1f" % self.theirs, ", ".join(rest) or "none"]
 
     def add(self, name, seconds, faults):
-        """Counts a unit: the compiler's seconds, and what differs, by kind; None where the compiler refuses it."""
+        """Counts a unit: the compiler's seconds, and what differs, by kind; words where the compiler gives nothing."""
         self.units += 1
         self.theirs += seconds
-        if faults is None:
-            self.rest["refused by the compiler"] += 1
+        if isinstance(faults, str):
+            self.rest[faults] += 1
             return
         self.taken += 1
         self.ok += "fault" not in faults
@@ -213,18 +240,20 @@ class Row:
         return self.taken == self.tokens == self.dependencies
 
 
-def compared(unit, entry):
-    """A unit's name, the seconds of the compiler, and what differs, by kind."""
-    text, seconds = entry.run("-E", "-P")
-    if text is None:
-        return entry.file, seconds, None
+def compared(unit, entry, seconds):
+    """A unit's name, the seconds of the compiler, and what differs, by kind; words where the compiler gives nothing."""
+    try:
+        found, taken = entry.preprocess(seconds)
+    except subprocess.TimeoutExpired:
+        return entry.file, seconds, "no answer of the compiler in %g seconds" % seconds
+    if found is None:
+        return entry.file, taken, "refused by the compiler"
     if unit.fault is not None:
-        return entry.file, seconds, {"fault": unit.fault}
-    faults = {"tokens": difference(tokens_of_unit(unit), tokens_of_compiler(text), entry)}
-    rule, _ = entry.run("-M")
-    theirs = [] if rule is None else dependencies_of_compiler(rule, entry)
-    faults["dependencies"] = order_difference(dependencies_of_unit(unit), theirs)
-    return entry.file, seconds, {kind: told for kind, told in faults.items() if told is not None}
+        return entry.file, taken, {"fault": unit.fault}
+    text, rule = found
+    faults = {"tokens": difference(tokens_of_unit(unit), tokens_of_compiler(text), entry),
+              "dependencies": order_difference(dependencies_of_unit(unit), dependencies_of_compiler(rule, entry))}
+    return entry.file, taken, {kind: told for kind, told in faults.items() if told is not None}
 
 
 def pairs(output, by_file):
@@ -236,10 +265,24 @@ def pairs(output, by_file):
         used[file] += 1
 
 
+def taken(folder, every, work):
+    """The path of the build's commands, or of those of them that are taken."""
+    path = os.path.join(folder, "compile_commands.json")
+    if every == 1:
+        return path
+    with open(path, "rb") as file:
+        some = json.load(file)[::every]
+    path = os.path.join(work, "compile_commands.json")
+    with open(path, "w", encoding="utf-8") as file:
+        json.dump(some, file)
+    return path
+
+
 def project(folder, asked, work):
     """The row of a project."""
-    build, output = os.path.join(folder, "compile_commands.json"), os.path.join(work, "dump")
-    row = Row(os.path.basename(os.path.abspath(folder)) if asked.name is None else asked.name)
+    build, output = taken(folder, asked.every, work), os.path.join(work, "dump")
+    row = Row((os.path.basename(os.path.abspath(folder)) if asked.name is None else asked.name)
+              + (", one command of %d" % asked.every if asked.every > 1 else ""))
     words = [sys.executable, os.path.join(TOP, "scripts", "build.py"), "dump", build, "--output", output]
     words += ["--program", asked.program] if asked.program else []
     began = time.monotonic()
@@ -251,7 +294,7 @@ def project(folder, asked, work):
     found = pairs(output, entries(build))
     with ThreadPoolExecutor(asked.jobs) as pool:
         while some := [pair for _, pair in zip(range(8 * asked.jobs), found)]:
-            for done in pool.map(lambda pair: compared(*pair), some):
+            for done in pool.map(lambda pair: compared(*pair, asked.seconds), some):
                 row.add(*done)
     return row
 
@@ -264,13 +307,17 @@ def table(rows):
 def main():
     form = argparse.RawDescriptionHelpFormatter
     asked = argparse.ArgumentParser(description=__doc__, formatter_class=form)
-    asked.add_argument("folders", metavar="DIR", nargs="+", help="a folder with a compile_commands.json; NAME=DIR names its row")
-    asked.add_argument("--program", metavar="FILE", help="the program (default: cppunits on PATH)")
-    asked.add_argument("--jobs", metavar="N", type=int, default=1, help="how many compilers at once (default: 1)")
+    asked.add_argument("folders", metavar="DIR", nargs="+", help="use the compile_commands.json of this directory; NAME=DIR names its row")
+    asked.add_argument("--program", metavar="FILE", help="run this program (default: cppunits on PATH)")
+    asked.add_argument("--jobs", metavar="N", type=int, default=1, help="run N compilers in parallel (default: 1)")
+    asked.add_argument("--every", metavar="N", type=int, default=1, help="use only each N-th command (default: 1)")
+    asked.add_argument("--seconds", metavar="N", type=float, default=60, help="stop a compiler after N seconds for a unit (default: 60)")
     asked.add_argument("--output", metavar="FILE", help="write the table here (default: standard output)")
     words, asked = asked, asked.parse_args()
     if not 1 <= asked.jobs <= 64:
         words.error("--jobs is a number from 1 to 64")
+    if asked.every < 1 or not 0 < asked.seconds <= 86400:
+        words.error("--every is a number from 1, --seconds one to 86400")
     rows = []
     for word in asked.folders:
         name, sign, folder = word.partition("=")

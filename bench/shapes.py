@@ -1,6 +1,6 @@
 """Texts whose work grows with a size, for growth.py.
 
-A shape makes a text of a size: so many macros, arguments, operands or bytes, or a list with so large a budget.  Doubling the
+A shape makes a text of a size N: N macros, arguments, operands or bytes, or a list with the budget N.  Doubling the
 size doubles the work that is asked for.  `things` counts what memory is measured by: tokens, and lines where a text has no
 tokens.
 """
@@ -51,7 +51,7 @@ def function_chain(count):
 
 
 def doubled(tokens):
-    """A chain whose last macro comes to so many tokens, a power of 2."""
+    """A chain whose last macro expands to this number of tokens, a power of 2."""
     depth = tokens.bit_length() - 1
     return lines("#define d0 x", ("#define d%d d%d d%d" % (i + 1, i, i) for i in range(depth)), "d%d" % depth)
 
@@ -75,7 +75,7 @@ def chain_in_argument(uses):
 
 
 def argument_through(tokens, macros, times=1):
-    """An argument of so many tokens, which is handed on from macro to macro, and that so often."""
+    """An argument of this number of tokens, which macros pass on this number of times."""
     chain = ("#define f%d(x) f%d(x)" % (i + 1, i) for i in range(macros - 1))
     return lines("#define f0(x) x", chain, ["f%d(%s)" % (macros - 1, "x " * tokens)] * times)
 
@@ -115,7 +115,7 @@ def pasted(count, first="a", rest=("a",)):
 
 
 def used_name(length, uses):
-    """A macro with a name of so many bytes, which another one stands for, so that each use of it is short in the text."""
+    """A macro with a name of this number of bytes, which another one expands to, so each use of it is short in the text."""
     return lines("#define %s" % ("n" * length), "#define u %s" % ("n" * length), "u " * uses)
 
 
@@ -125,7 +125,7 @@ def empty_list(places, uses):
 
 
 def searched(folders, includes):
-    """An empty header in the last of so many folders."""
+    """An empty header in the last of this number of directories."""
     files = [{"name": "a.c", "text": "#include <h>\n" * includes}, {"name": "d%d/h" % (folders - 1), "text": ""}]
     return dict(DATE, search=["d%d" % i for i in range(folders)], files=files, units=[{"file": "a.c"}])
 
@@ -138,7 +138,7 @@ def defined(made):
 
 
 def hidden(made):
-    """A chain of these names, the last of which is used: the hide set of what it comes to has them all."""
+    """A chain of these names, the last of which is used: the hide set of its expansion has them all."""
     return lines("#define %s x" % made[0], ("#define %s %s" % pair for pair in zip(made[1:], made)), made[-1])
 
 
@@ -155,9 +155,9 @@ SHORT = [
     Shape("parameters, unused", (5_000, 10_000, 20_000), parameters, quick=1),
     Shape("parameters, used", (5_000, 10_000, 20_000), parameters_used, quick=2),
     Shape("operands of ##", (10_000, 20_000, 40_000), pasted, quick=2),
-    Shape("periods behind ##", (10_000, 20_000, 40_000), lambda size: pasted(size, "0", (".",)), quick=2),
-    Shape("universal names behind ##", (10_000, 20_000, 40_000), lambda size: pasted(size, "a", ("\\u1234",)), quick=2),
-    Shape("signs behind ##", (10_000, 20_000, 40_000), lambda size: pasted(size, "0", ("e", "+")), quick=2),
+    Shape("periods after ##", (10_000, 20_000, 40_000), lambda size: pasted(size, "0", (".",)), quick=2),
+    Shape("universal names after ##", (10_000, 20_000, 40_000), lambda size: pasted(size, "a", ("\\u1234",)), quick=2),
+    Shape("signs after ##", (10_000, 20_000, 40_000), lambda size: pasted(size, "0", ("e", "+")), quick=2),
 ]
 
 

@@ -1,18 +1,18 @@
 #!/usr/bin/env python3
-"""Times cppunits on lists of real projects, beside gcc, clang and clang-scan-deps, and prints a table.
+"""Time cppunits, gcc, clang and clang-scan-deps on lists of real projects, and print a table.
 
     bench/table.py [--program PROGRAM] [--runs 3] [--svg FILE] NAME=LIST[@ROOT] ..
 
-LIST is a list as cppunits reads it; with @ROOT it holds names alone, and ROOT is the folder that they stand in
-(scripts/list_from_build.py makes both).  cppunits runs `dump` and `deps` with 1 and 4 workers.  gcc and clang run once
-for each unit, with the unit's definitions and folders, and neither macros nor folders of their own: `-E -P` beside
-`dump` and `-M` beside `deps`, one process after the other and four at once; clang-scan-deps reads the same commands.
-All have their output thrown away.  What isn't installed is left out, and said.
+LIST is a list for cppunits.  With @ROOT it has names only, and ROOT is the directory of the files
+(scripts/list_from_build.py makes such lists).  cppunits runs `dump` and `deps` with 1 and 4 workers.  gcc and clang run once
+for each unit, with the unit's definitions and directories, and neither macros nor directories of their own: `-E -P` is
+compared with `dump` and `-M` with `deps`, one process after another and four at once.  clang-scan-deps reads the same
+commands.  All output is discarded.  A program that isn't installed is left out, with a message.
 
-Each is run N times, and the fastest run counts.  Printed are the units and, for each program, seconds, how many times
-as long as cppunits with one worker it took, and the most memory that one of its processes held; what this script holds
-itself is the least that can be seen there, and stands above the table.  A unit at which gcc or clang ends with an error is
-counted.  --svg writes a picture of the seconds.
+Each is run N times, and the fastest run counts.  The table has the units and, for each program, seconds, the ratio to
+cppunits with one worker, and the peak memory of one of its processes.  The memory of this script is the least that can
+be measured, and is printed above the table.  A unit at which gcc or clang fails is counted.  Use --svg for a picture of
+the seconds.
 """
 import argparse
 import json
@@ -209,9 +209,9 @@ def write(path, text):
 
 def main():
     parser = argparse.ArgumentParser(description=__doc__, formatter_class=argparse.RawDescriptionHelpFormatter)
-    parser.add_argument("projects", metavar="NAME=LIST[@ROOT]", nargs="+")
-    parser.add_argument("--program", default=os.environ.get("CPPUNITS", PROGRAM))
-    parser.add_argument("--runs", type=int, default=3)
+    parser.add_argument("projects", metavar="NAME=LIST[@ROOT]", nargs="+", help="time this list, with this name in the table")
+    parser.add_argument("--program", default=os.environ.get("CPPUNITS", PROGRAM), metavar="FILE", help="time this program")
+    parser.add_argument("--runs", type=int, default=3, metavar="N", help="run each N times (default: 3)")
     parser.add_argument("--svg", metavar="FILE", help="write a picture here")
     asked = parser.parse_args()
     asked.program = os.path.abspath(asked.program)

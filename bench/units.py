@@ -1,19 +1,19 @@
 #!/usr/bin/env python3
-"""Times cppunits on a list of many units over shared headers, beside `gcc -E -P` once for each unit.
+"""Time cppunits on a list of many units over shared headers, and `gcc -E -P` once for each unit.
 
     bench/units.py [--program PROGRAM] [--units 300] [--headers 40] [--runs N] [--workers 1,2,4]
 
-The headers are guarded, include one another and define object-like and function-like macros that call one another; each
-unit includes some of them and invokes their macros, one within another.  All is made from a fixed seed, the same on every
-machine.  cppunits runs `dump` and `deps`, with each number of workers, over one list that holds all files and over a
-list of their names with --root; gcc reads the same files from a folder, with the same search folder, and without
-predefined macros and system folders.  All have their output thrown away.  Printed are the seconds, tokens a second (as
-`dump` counts them), the ratio to gcc's time (above 1: cppunits is the faster), how much faster than with the first
-number of workers it is, and the peak memory beside that of one gcc and of as many as there are units.
+The headers are guarded, include one another and define object-like and function-like macros that call one another.  Each
+unit includes some of them and invokes their macros, nested.  All texts come from a fixed seed, so they are the same on every
+machine.  cppunits runs `dump` and `deps`, with each number of workers, over a list that has all files and over a list of
+their names with --root.  gcc reads the same files from a directory, with the same search directory, and without predefined
+macros and system directories.  All output is discarded.  The table has the seconds, tokens a second (as `dump` counts
+them), the ratio to gcc's time (above 1: cppunits is faster), the speed compared with the first number of workers, and the
+peak memory compared with one gcc and with one for each unit.
 
-How much faster several workers can be is bounded by the machine, whose processors may share cores, caches and memory: so at
-last as many runs with one worker as there are workers are started at once, which share nothing, and the work that they do in
-that time is printed beside that of one run alone.
+The gain of several workers is limited by the machine, whose processors may share cores, caches and memory.  So last,
+as many runs with one worker as there are workers are started at once, which share nothing.  The work that they do in that
+time is printed next to that of one run alone.
 """
 import argparse
 import json
@@ -119,7 +119,7 @@ def rows(program, folder, workers, runs):
 
 
 def at_once(program, folder, mode, count, runs):
-    """The seconds that so many runs with one worker take which are started together, and share nothing."""
+    """The seconds of this number of runs with one worker that are started together, and share nothing."""
     command = [program, "--workers", "1", "--root", folder, mode]
     least = None
     for _ in range(runs):
@@ -137,11 +137,11 @@ def at_once(program, folder, mode, count, runs):
 
 def main():
     parser = argparse.ArgumentParser(description=__doc__, formatter_class=argparse.RawDescriptionHelpFormatter)
-    parser.add_argument("--program", default=PROGRAM)
-    parser.add_argument("--units", type=int, default=300)
-    parser.add_argument("--headers", type=int, default=40)
-    parser.add_argument("--runs", type=int, default=3)
-    parser.add_argument("--workers", default="1,2,4")
+    parser.add_argument("--program", default=PROGRAM, metavar="FILE", help="time this program")
+    parser.add_argument("--units", type=int, default=300, metavar="N", help="make N units (default: 300)")
+    parser.add_argument("--headers", type=int, default=40, metavar="N", help="make N headers (default: 40)")
+    parser.add_argument("--runs", type=int, default=3, metavar="N", help="run each N times (default: 3)")
+    parser.add_argument("--workers", default="1,2,4", metavar="N,N", help="use these numbers of workers (default: 1,2,4)")
     asked = parser.parse_args()
     program = os.path.abspath(asked.program)
     workers = [int(count) for count in asked.workers.split(",")]

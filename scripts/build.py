@@ -1,5 +1,5 @@
 #!/usr/bin/env python3
-"""From a build's compile_commands.json to dependency files, a dump or faults, by one command."""
+"""Makes dependency files, a dump or faults from a build's compile_commands.json."""
 import argparse
 import os
 import re
@@ -17,20 +17,20 @@ from lists import Builder, Given, bytes_of, list_of
 from runs import PIECE, Program, settled
 
 TEXT = """\
-Preprocesses a build's C units with cppunits, as its compile_commands.json has them.
+Preprocess the C units of a build, as its compile_commands.json has them.
 
-  build.py deps     writes a dependency file for each unit, as gcc -MD does: --into DIR
-  build.py dump     prints each unit's tokens and dependencies, as `cppunits dump` does
-  build.py faults   prints the first fault of each unit that has one, as faults.py does: by file, line and column
+  build.py deps     write a dependency file for each unit, like gcc -MD: --into DIR
+  build.py dump     print the tokens and dependencies of each unit, like `cppunits dump`
+  build.py faults   print the first fault of each unit that has one, like faults.py: by file, line and column
 
-For example, in a project's build folder:  build.py faults compile_commands.json
+Example, in a project's build directory:  build.py faults compile_commands.json
 
-The compilers of the commands are asked for their folders, macros and operators, under the options that change them.
-Only cc, gcc and clang, with a version or a target's name, are run, and only from PATH, /usr and /opt; --query-driver
-lets others be run.  All files that an include line can find are on cppunits' list; for names that macros make it is
-run until it asks for no more.
+The compilers of the commands are asked for their directories, macros and operators, under the options that change them.
+Only cc, gcc and clang, with a version or a target's name, are run, and only from PATH, /usr and /opt; use --query-driver
+to allow others.  The list has all files that an include line can find.  For names that macros make cppunits is run until
+it asks for no more files.
 
-The last line on standard error counts units, units with a fault, files and seconds."""
+The last line on standard error has the number of units, of units with a fault, of files, and the seconds."""
 FACTS = {"inline": False, "profile": "gnu", "budget": None, "date": None, "time": None, "root": "/"}
 DEPENDENCY = re.compile(rb"\ndep (\d+) ")
 
@@ -237,17 +237,17 @@ def number(word, least, most, kind):
 
 
 def options():
-    asked = parser(TEXT, "some unit has a fault, or something can't be expressed, which is said")
+    asked = parser(TEXT, "some unit has a fault, or something can't be expressed; standard error says what")
     words = asked.add_subparsers(required=True, metavar="deps|dump|faults")
     for name, task, text in (("deps", deps, "write dependency files"), ("dump", dump, "print tokens and dependencies"),
                              ("faults", faults, "print faults")):
         word = words.add_parser(name, help=text, description=text[0].upper() + text[1:] + ", as build.py --help says.")
         word.set_defaults(task=task)
         word.add_argument("build", metavar="FILE", nargs="?", default="compile_commands.json",
-                          help="the build's commands (default: compile_commands.json; -: standard input)")
+                          help="read these compile commands (default: compile_commands.json; -: standard input)")
         if task is deps:
-            word.add_argument("--into", metavar="DIR", default="cppunits-deps", help="the folder of the files (default: cppunits-deps)")
-            word.add_argument("--phony", action="store_true", help="a rule without prerequisites for each header, for make")
+            word.add_argument("--into", metavar="DIR", default="cppunits-deps", help="write the files to this directory (default: cppunits-deps)")
+            word.add_argument("--phony", action="store_true", help="add a rule without prerequisites for each header, for make")
         if task is dump:
             word.add_argument("--output", metavar="FILE", default="-", help="write here (default: standard output)")
         if task is faults:
@@ -258,16 +258,16 @@ def options():
 
 def shared(word):
     """The options that deps, dump and faults share."""
-    word.add_argument("--program", metavar="FILE", help="the program (default: cppunits on PATH)")
-    word.add_argument("--workers", metavar="N", type=lambda text: number(text, 1, 64, int), help="how many units at once, for cppunits")
-    word.add_argument("--list", metavar="FILE", help="keep the list here, with names below / (and with contents where -include made files)")
+    word.add_argument("--program", metavar="FILE", help="run this program (default: cppunits on PATH)")
+    word.add_argument("--workers", metavar="N", type=lambda text: number(text, 1, 64, int), help="preprocess N units in parallel")
+    word.add_argument("--list", metavar="FILE", help="write the list here, with names below / (and with contents if -include made files)")
     word.add_argument("--query-driver", metavar="GLOB", action="append", default=[],
-                      help="let compilers whose paths match be run, as '/srv/cross/bin/*-gcc' (may be repeated)")
+                      help="allow compilers whose paths match, like '/srv/cross/bin/*-gcc' (may be repeated)")
     word.add_argument("--seconds", metavar="N", type=lambda text: number(text, 0.1, 3600, float), default=SECONDS,
-                      help="how long each question to a compiler may take (default: %d)" % SECONDS)
-    word.add_argument("--system", metavar="DIR", action="append", default=[], help="a folder that each unit searches behind its compiler's")
+                      help="stop a question to a compiler after N seconds (default: %d)" % SECONDS)
+    word.add_argument("--system", metavar="DIR", action="append", default=[], help="search this directory in each unit after its compiler's")
     word.add_argument("--define", metavar="TEXT", action="append", default=[],
-                      help="a definition, as it stands behind #define, for each unit whose command says nothing of the name")
+                      help="add this definition, as after #define, to each unit whose command says nothing of the name")
 
 
 def main():

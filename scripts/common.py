@@ -57,7 +57,7 @@ def shown(character):
 def run(main):
     """Runs a script, and ends it with its status and at most one line for what went wrong."""
     try:
-        # ends as an interrupt does, so that nothing is left behind
+        # ends as an interrupt does, so that no file is left
         signal.signal(signal.SIGTERM, signal.default_int_handler)
         status = main()
         sys.stdout.flush()
@@ -145,7 +145,7 @@ def plain(word):
 
 
 class Unit:
-    """A unit of the output: its number, its name as it is printed, the lines behind that, and its last line."""
+    """A unit of the output: its number, its name as it is printed, the lines after that, and its last line."""
 
     def __init__(self, number, printed):
         self.number, self.printed, self.lines, self.last = number, printed, [], None
@@ -163,7 +163,7 @@ class Unit:
 
     @property
     def fault(self):
-        """The words of its fault behind `fault`, or None."""
+        """The words of its fault after `fault`, or None."""
         return None if self.last == b"ok" else self.last[6:].decode("ascii", "replace")
 
     def dependencies(self):

@@ -1,22 +1,22 @@
 #!/usr/bin/env python3
-"""Turns what `cppunits deps` prints into dependency files for make and ninja, one a unit."""
+"""Makes dependency files for make and ninja from the output of `cppunits deps`, one for each unit."""
 import os
 import re
 
 from common import DONE, GENERATED, PARTLY, Refused, opened, own_names, parser, run, say, units, written
 
 TEXT = """\
-Turns what `cppunits deps` (or `dump`) prints into dependency files, one a unit: DIR/NAME.d for the unit of the file
-NAME, and DIR/NAME.I.d where unit I is a further unit of that file.  Each holds one rule, escaped as ninja and GNU make
-read it (as gcc -MD writes it): the target, a colon, and the unit's dependencies.
+Make dependency files from the output of `cppunits deps` (or `dump`), one for each unit: DIR/NAME.d for the unit of the
+file NAME, and DIR/NAME.I.d if unit I is a further unit of that file.  Each has one rule, escaped for ninja and GNU make
+(as gcc -MD does): the target, a colon, and the unit's dependencies.
 
-For example:  cppunits --root . deps < list.json | depfile.py --into d
+Example:  cppunits --root . deps < list.json | depfile.py --into d
 
-The target is NAME with its last suffix replaced by `.o`; --targets names a file with a target for each unit, one a
-line, as list_from_build.py --targets writes it.  Names are relative to the list's root: --prefix puts the way from the
-build's folder to the root in front.  Files that list_from_build.py made are left out.
+The target is NAME with its last suffix replaced by `.o`.  Use --targets for other targets: a file with one on each
+line, as list_from_build.py --targets writes it.  Names are relative to the list's root.  Use --prefix to add the path
+from the build directory to the root.  Files that list_from_build.py generated are left out.
 
-A unit with a fault has dependencies up to the fault alone: its file isn't written, unless --partial asks for it."""
+A unit with a fault has its dependencies only up to the fault, so its file isn't written; use --partial to write it."""
 # what stands for itself in no way that both ninja and make read
 UNWRITABLE = re.compile(rb"[\x00-\x1f\x7f*;<>|^`]|\\$|\\ ")
 
@@ -56,14 +56,14 @@ def target_of(unit, targets):
 
 
 def main():
-    asked = parser(TEXT, "some unit has a fault and no file, one line on standard error each")
+    asked = parser(TEXT, "a unit has a fault and no file; one line on standard error for each")
     asked.add_argument("output", metavar="OUTPUT", nargs="?", default="-",
-                       help="what cppunits printed (default: standard input)")
-    asked.add_argument("--into", metavar="DIR", default=".", help="the folder of the files (default: this one)")
-    asked.add_argument("--prefix", metavar="TEXT", default="", help="stands before each dependency, as ../ does")
-    asked.add_argument("--targets", metavar="FILE", help="a line for each unit: its target; an empty one is NAME.o")
-    asked.add_argument("--phony", action="store_true", help="a rule without prerequisites for each header, for make")
-    asked.add_argument("--partial", action="store_true", help="write the file of a unit with a fault, too")
+                       help="read this output of cppunits (default: standard input)")
+    asked.add_argument("--into", metavar="DIR", default=".", help="write the files to this directory (default: the current one)")
+    asked.add_argument("--prefix", metavar="TEXT", default="", help="put this before each dependency, e.g. ../")
+    asked.add_argument("--targets", metavar="FILE", help="read the target of each unit from a line of this file; an empty line is NAME.o")
+    asked.add_argument("--phony", action="store_true", help="add a rule without prerequisites for each header, for make")
+    asked.add_argument("--partial", action="store_true", help="write the file of a unit with a fault too")
     asked = asked.parse_args()
     targets, prefix, made = targets_of(asked.targets), os.fsencode(asked.prefix), GENERATED.encode() + b"/"
     status = DONE

@@ -1,5 +1,5 @@
 #!/usr/bin/env python3
-"""Tells the faults that cppunits printed as compilers tell theirs: path, line, column, what it is and what to do."""
+"""Prints the faults of an output of cppunits as compilers do: path, line, column, message and remedy."""
 import os
 import re
 import sys
@@ -10,7 +10,7 @@ from common import DONE, GENERATED, PARTLY, Refused, compact, opened, parser, pl
 from fault_texts import advice, message
 
 TEXT = """\
-Tells the faults of what `cppunits deps` (or `dump`) printed as compilers tell theirs, one for each unit that has one:
+Print the faults of an output of `cppunits deps` (or `dump`) as compilers do, one for each unit that has one:
 
   In file included from src/main.c:2:
   lib/low.h:7:1: error: no such file: word.h [fault 31]
@@ -18,11 +18,11 @@ Tells the faults of what `cppunits deps` (or `dump`) printed as compilers tell t
         | ^
   note: Give the folder that has it: by `-I` in a build's command, by `search` in a list, whose `files` name it.
 
-LIST is the list that cppunits was given.  The include lines above a fault are told where the unit's dependencies and the
-sources leave one way alone; elsewhere the unit is named.  The line is told where it is as the fault says.  Columns count bytes, from 1.
-A path is relative to this folder where it lies below it.  The place <command line> is the unit's definitions, one a line.
+LIST is the input of cppunits.  The include lines above a fault are printed if the unit's dependencies and the sources
+allow only one way; otherwise the unit is named.  The source line is printed if it fits the fault.  Columns count bytes,
+from 1.  A path below the current directory is relative to it.  <command line> is the unit's definitions, one a line.
 
---format json writes an object a line for each fault: path, line, column, number, message, advice, text, unit (its
+Use --format json for a JSON object a line for each fault: path, line, column, number, message, advice, text, unit (its
 number), source (the path of its file) and chain (path and line of each include line, the innermost first, or null).
 
 Example:
@@ -257,7 +257,7 @@ def excerpt(line, column):
 
 
 def letter(one):
-    """A letter as it may stand on a terminal: tabs are kept, what can't be seen is told by its number."""
+    """A letter as printed on a terminal: tabs stay, an invisible letter becomes its number."""
     if one == "\t" or one.isprintable():
         return one
     if "\udc80" <= one <= "\udcff":
@@ -316,16 +316,16 @@ def wants_colour(word, to):
 def forms(asked):
     """The options that say in which form faults are told."""
     asked.add_argument("--color", "--colour", dest="colour", choices=("auto", "always", "never"), default="auto",
-                       help="whether to use colours (default: auto, where standard output is a terminal)")
+                       help="use colors (default: auto, if standard output is a terminal)")
     asked.add_argument("--format", dest="form", choices=("text", "json"), default="text",
-                       help="the form: text for readers and editors, or an object a line (default: text)")
+                       help="print text for readers and editors, or a JSON object a line (default: text)")
 
 
 def main():
-    asked = parser(TEXT, "some unit has a fault, as cppunits itself says it")
-    asked.add_argument("list", metavar="LIST", help="the list, of which cppunits printed; `-` is standard input")
-    asked.add_argument("output", metavar="OUTPUT", nargs="?", default="-", help="what it printed (default: standard input)")
-    asked.add_argument("--root", metavar="DIR", default=".", help="the folder of the list's names (default: this one)")
+    asked = parser(TEXT, "some unit has a fault, as for cppunits")
+    asked.add_argument("list", metavar="LIST", help="read this list, the input of cppunits; `-` is standard input")
+    asked.add_argument("output", metavar="OUTPUT", nargs="?", default="-", help="read this output of cppunits (default: standard input)")
+    asked.add_argument("--root", metavar="DIR", default=".", help="take the list's names relative to this directory (default: the current one)")
     forms(asked)
     words = asked.parse_args()
     if words.list == words.output == "-":

@@ -11,6 +11,9 @@ INCLUDE = re.compile(rb"[#%]:?" + BLANK + rb"include(_next)?(?![\w$])" + BLANK
                      + rb"(?:\"([^\"\n]+)\"|<([^>\n]+)>|([A-Za-z_$\\\x80-\xff]))")
 ASKED = re.compile(rb"\b__has_include" + BLANK + rb"\(" + BLANK + rb"(?:\"([^\"\n]+)\"|<([^>\n]+)>)")
 NEXT = re.compile(rb"\b__has_include_next" + BLANK + rb"\(" + BLANK + rb"(?:\"([^\"\n]+)\"|<([^>\n]+)>)")
+# what stands before it in a condition that is false wherever none of some names is a macro
+OTHERS = re.compile(rb"[ \t]*#[ \t]*(?:el)?if[ \t]*\(?[ \t]*(defined[ \t]*\(?[ \t]*_\w+[ \t]*\)?"
+                    rb"(?:[ \t]*\|\|[ \t]*defined[ \t]*\(?[ \t]*_\w+[ \t]*\)?)*)[ \t]*\)?[ \t]*&&(?![^\n]*\|\|)")
 # names that a compiler's operators may be asked for: by a macro whose name ends in the operator's, and by any in a condition
 OPERATOR = re.compile(rb"has_(?:attribute|c_attribute|cpp_attribute|builtin|feature|extension)[ \t]*\([ \t]*([A-Za-z_]\w*)[ \t]*\)", re.IGNORECASE)
 CONDITION = re.compile(rb"#[ \t]*(?:el)?if\b([^\n]*)")
@@ -52,20 +55,23 @@ class Files:
             self.lines[path] = unique(found)
             self.operators[path] = operators_in(text)
             if self.gnu and b"__has_include_next" in text:
-                self.nexts[path] = unique(os.fsdecode(asked[1] or asked[2]) for asked in NEXT.finditer(text))
+                self.nexts[path] = unique((os.fsdecode(asked[1] or asked[2]), names_before(text, asked.start())) for asked in NEXT.finditer(text))
         return self.lines[path]
 
     def computes(self, path):
         """Whether a macro makes the name of an include line of this file."""
         return (COMPUTED, "") in self.includes(path)
 
-    def next_answers(self, paths, search):
-        """What `__has_include_next` is where these files ask it: whether a folder behind the file's has the name.
+    def next_answers(self, paths, search, defined):
+        """What `__has_include_next` is where these files ask it: whether a folder after the file's has the name.
 
-        None is the answer for a file that is in no folder of the search."""
+        None is the answer for a file that is in no folder of the search.  What is asked for other systems alone, by names that aren't
+        `defined`, doesn't matter."""
         answers = set()
         for path in paths:
-            for name in self.nexts.get(path, ()):
+            for name, others in self.nexts.get(path, ()):
+                if others and not others & defined:
+                    continue
                 folder = os.path.dirname(path)
                 behind = search[search.index(folder) + 1:] if folder in search else ()
                 answers.add(any(self.is_file(joined(folder, name)) for folder in behind) if folder in search else None)
@@ -226,6 +232,14 @@ def form_and_name(found, gnu):
     if quoted is not None:
         return QUOTE, os.fsdecode(quoted)
     return (ANGLE, os.fsdecode(angled)) if angled is not None else (COMPUTED, "")
+
+
+def names_before(text, start):
+    """The names of which one has to be a macro, so that what stands in a condition from a place on matters; none where that isn't so."""
+    found = OTHERS.match(text, text.rfind(b"\n", 0, start) + 1)
+    if found is None or found.end() > start:
+        return frozenset()
+    return frozenset(name.decode("latin-1") for name in re.findall(rb"defined[ \t]*\(?[ \t]*(\w+)", found[1]))
 
 
 def uncommented(found):

@@ -3,7 +3,7 @@
 A unit's dependencies stand in the order of first opening.  Over the include lines of these files, every way to open them in
 this order is followed: a stack of files, each with the line that is being obeyed, for each way.  A line that no condition
 stands before is obeyed for certain; any other may be.  A file whose guard is never undefined does nothing when it is opened again.
-What all ways say at the place of the fault is certain; where they differ, nothing is told."""
+What all ways say at the location of the fault is certain; if they differ, nothing is printed."""
 import collections
 import re
 
@@ -34,7 +34,7 @@ class Source:
     def __init__(self, text):
         self.includes, self.errors, self.defined, self.undefined = [], [], {}, set()
         self.guard, self.once, self.dead, self.lines = None, False, [], 0
-        # the line of the guard's #else, behind which a file that is opened again goes on
+        # the line of the guard's #else, after which a file that is opened again goes on
         self.other = None
         self.closed = self.guarded = False
         for line, words in logical_lines(text):
@@ -49,7 +49,7 @@ class Source:
             return
         self.lines += 1
         if self.closed or (self.lines > 1 and not self.dead):
-            # something stands before or behind the section that would be the guard's
+            # something is before or after the if-section that would be the guard's
             self.guard = None
         if not found:
             return
@@ -151,7 +151,7 @@ class Names:
         return self.known[folder, name]
 
     def begins(self, row):
-        """The numbers behind each folder that a file may have been found by."""
+        """The numbers after each directory where a file may have been found."""
         return [at + 1 for at, folder in enumerate(self.search) if self.names[row].startswith("" if folder == "." else folder + "/")]
 
 
@@ -161,7 +161,7 @@ class Ways:
     def __init__(self, names, order, sources, defined, pragma_once):
         self.names, self.order, self.sources, self.defined = names, order, sources, defined
         self.opened, self.steps, self.bodies = set(order[:1]), 0, {}
-        # where `#include_next` of each file may begin to look: behind the folder by which it was found, or at the first
+        # where `#include_next` of each file may begin: after the directory where it was found, or at the first
         self.begins = {row: {0} if row == order[0] else set() for row in order}
         self.spent, self.again, self.split, self.to, self.sure = set(), {}, {}, {row: {} for row in order}, {}
         undefined = set().union(*(sources[row].undefined for row in order))

@@ -1,5 +1,5 @@
 #!/usr/bin/env python3
-"""Turns a compile_commands.json, as CMake, Meson, Bear and ninja write it, into a list for cppunits."""
+"""Makes a list for cppunits from a compile_commands.json of CMake, Meson, Bear or ninja."""
 import argparse
 import os
 import tempfile
@@ -10,21 +10,21 @@ from lists import Builder, Given, bytes_of, list_of
 from runs import Program, settled
 
 TEXT = """\
-Turns a compile_commands.json, as CMake, Meson, Bear and ninja write it, into a list for cppunits: the C units in their
-order, each with its definitions and folders, and the files that they can reach.
+Make a list for cppunits from a compile_commands.json of CMake, Meson, Bear or ninja: the C units in their order, each
+with its definitions and directories, and the files that they can reach.
 
-Read are -I, -iquote, -isystem, -idirafter, -D, -U, -include, -x, -o, -Wp and response files, of `command` or `arguments`.
-What -DX says is `X 1`, what -DX=v says is `X v`; of several for one name the last counts, as with gcc and clang.  Files
-are found by their include lines, also those in groups that are skipped; where an include line names a macro, every
-header below the folders is taken, or with --program those that cppunits asks for.  -include makes a file that includes
+These options of a command count: -I, -iquote, -isystem, -idirafter, -D, -U, -include, -x, -o, -Wp and response files.
+-DX becomes `X 1`, and -DX=v becomes `X v`; of several for one name the last counts, as for gcc and clang.  Files are
+found by their include lines, also in skipped groups.  If an include line names a macro, every header below the
+directories is listed, or with --program only the files that cppunits asks for.  -include generates a file that includes
 both, below cppunits-generated/.
 
-For example:  list_from_build.py --root . --output list.json
+Example:  list_from_build.py --root . --output list.json
 
-The folders and macros that a compiler has by itself are no part of a build's commands: give them by --system and
---define.  Names are relative to the root: --root, or the deepest folder that holds all files and folders.
+A compiler's own directories and macros are no part of a build's commands: give them by --system and --define.  Names
+are relative to the root: --root, or the deepest directory that contains all files and directories.
 
-What can't be expressed is said on standard error, a line each; the last line there counts it."""
+Standard error has a line for all that can't be expressed; its last line counts them."""
 MOST_BUDGET = 4294967295
 
 
@@ -38,33 +38,33 @@ def write_targets(path, pairs):
 def budget(word):
     number = int(word) if word.isdecimal() else -1
     if not 0 <= number <= MOST_BUDGET:
-        raise argparse.ArgumentTypeError("a number from 0 to %d is wanted" % MOST_BUDGET)
+        raise argparse.ArgumentTypeError("a number from 0 to %d is expected" % MOST_BUDGET)
     return number
 
 
 def options():
     asked = parser(TEXT, "the list is written, and something can't be expressed in it")
     asked.add_argument("build", metavar="FILE", nargs="?", default="compile_commands.json",
-                       help="the build's commands (default: compile_commands.json; -: standard input)")
+                       help="read these compile commands (default: compile_commands.json; -: standard input)")
     asked.add_argument("--output", metavar="LIST", default="-", help="write the list here (default: standard output)")
-    asked.add_argument("--root", metavar="DIR", help="the folder that names are relative to")
-    asked.add_argument("--inline", action="store_true", help="put the contents of the files in")
+    asked.add_argument("--root", metavar="DIR", help="make names relative to this directory")
+    asked.add_argument("--inline", action="store_true", help="put the contents of the files into the list")
     asked.add_argument("--generate", action="store_true", help="write the files for -include below the root")
     asked.add_argument("--system", metavar="DIR", action="append", default=[],
-                       help="a folder that each unit searches behind its own, before -idirafter (may be repeated)")
+                       help="search this directory in each unit after its own, before -idirafter (may be repeated)")
     asked.add_argument("--define", metavar="TEXT", action="append", default=[],
-                       help="a definition, as it stands behind #define, for each unit whose command neither defines nor"
+                       help="add this definition, as after #define, to each unit whose command neither defines nor"
                             " undefines the name (may be repeated)")
-    asked.add_argument("--date", metavar="TEXT", help="as 'Feb  9 2024' (default: SOURCE_DATE_EPOCH, or today)")
-    asked.add_argument("--time", metavar="TEXT", help="as 08:05:03 (default: SOURCE_DATE_EPOCH, or now)")
+    asked.add_argument("--date", metavar="TEXT", help="set __DATE__, like 'Feb  9 2024' (default: SOURCE_DATE_EPOCH, or today)")
+    asked.add_argument("--time", metavar="TEXT", help="set __TIME__, like 08:05:03 (default: SOURCE_DATE_EPOCH, or now)")
     asked.add_argument("--profile", choices=("c11", "later", "gnu"),
-                       help="which rules there are: gnu for headers of Linux, later for C23's branches and #pragma once (default: c11)")
+                       help="set the rules: gnu for headers of Linux, later for C23's branches and #pragma once (default: c11)")
     asked.add_argument("--budget", metavar="N", type=budget,
-                       help="how many replacements and openings each unit may make (default: any number)")
-    asked.add_argument("--targets", metavar="FILE", help="write what each unit is compiled to, a line each, for depfile.py")
+                       help="limit the replacements and openings of files of each unit (default: no limit)")
+    asked.add_argument("--targets", metavar="FILE", help="write the target of each unit to a line of this file, for depfile.py")
     asked.add_argument("--program", metavar="FILE",
-                       help="run this cppunits for the names that macros make, and take each file that a name may be, no folder as a whole")
-    asked.add_argument("--missing", action="store_true", help="print the names of headers that no folder has")
+                       help="run this cppunits to find the names that macros make, and list only files that a name may be, no whole directory")
+    asked.add_argument("--missing", action="store_true", help="print the names of headers that no directory has")
     return asked.parse_args()
 
 

@@ -32,6 +32,8 @@ class Builder:
         self.asked, self.said, self.given = asked, said, given
         self.files = Files(said, asked.profile == "gnu", every)
         self.made, self.root, self.paths, self.computing, self.searches, self.nexts = {}, None, [], set(), {}, {}
+        # units whose files may say different things of `__has_include_next`, and what is taken for those that were run
+        self.several, self.taken = [], {}
 
     def build(self, all_commands):
         """The rows of all files that were gathered, and these commands with their units."""
@@ -49,7 +51,7 @@ class Builder:
 
     def gather(self, all_commands):
         """Finds all files that the units reach, each once; `computing` are the units that reach a name which a macro makes."""
-        groups, reached = {}, {}
+        groups, reached, self.several = {}, {}, []
         for command in all_commands:
             groups.setdefault(self.search(command), []).append(command)
         self.computing = set()
@@ -68,14 +70,27 @@ class Builder:
         return [command.file, *(path for word in command.includes if (path := self.first_of(command, word)) is not None)]
 
     def note_next(self, members, found, search, quotes):
-        """Notes what `__has_include_next` is for units over one search, for each by itself where they differ."""
-        answers = self.files.next_answers(found, search)
+        """Notes what `__has_include_next` is for units over one search, for each by itself where files differ."""
+        if not self.files.nexts:
+            return
+        answers = self.files.next_answers(found, search, set().union(*map(self.macros, members)))
         for command in members:
             if len(answers) > 1:
-                own = self.files.next_answers(self.files.reach(self.starts(command), search, quotes), search)
+                own = self.files.next_answers(self.files.reach(self.starts(command), search, quotes), search, self.macros(command))
             else:
                 own = answers
-            self.nexts[command] = next(iter(own)) if len(own) == 1 else None
+            self.nexts[command] = next(iter(own)) if len(own) == 1 else self.taken.get(command)
+            if len(own) > 1 or command in self.computing:
+                # a name that a macro makes may be that of any file on the list
+                self.several.append(command)
+
+    def macros(self, command):
+        """The names that a unit's definitions define."""
+        return {*self.given.definitions(command), *command.definitions}
+
+    def take_next(self, command, answer):
+        """Takes an answer of `__has_include_next` for a unit whose files may have others; None is no answer."""
+        self.nexts[command] = self.taken[command] = answer
 
     def search(self, command):
         """A command's folders, and how many of them are for names in quotes alone."""

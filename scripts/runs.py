@@ -85,8 +85,13 @@ def settled(builder, all_commands, program, asked=lambda: None, progress=lambda 
 
     `asked` is called behind each gathering, as what compilers are asked depends on the files.  A name that cppunits doesn't find is looked for
     beside its includer and in each folder; so is each name that a unit with such lines found, since another file of it may stand before."""
-    builder.gather(all_commands)
-    asked()
+
+    def gather():
+        builder.gather(all_commands)
+        asked()
+        decide(builder, program)
+
+    gather()
     waiting = [command for command in all_commands if command in builder.computing]
     for number in range(1, MOST_ROUNDS + 1):
         if not waiting:
@@ -94,25 +99,46 @@ def settled(builder, all_commands, program, asked=lambda: None, progress=lambda 
         progress("round %d: %d units with names that macros make" % (number, len(waiting)))
         before = len(builder.paths)
         waiting = told(builder, waiting, program)
-        builder.gather(all_commands)
-        asked()
+        gather()
         if len(builder.paths) == before:
             return
     builder.said.add("%d units ask for ever more names that macros make: no more than %d rounds are gone" % (len(waiting), MOST_ROUNDS))
 
 
-def told(builder, waiting, program):
-    """Runs these units, and gives those that ask for files which aren't on the list."""
-    rows, pairs = builder.build(waiting)
+def ran(builder, some_commands, program):
+    """Runs these units, and gives each command with the paths that its unit opened, its fault, and the paths of the list."""
+    rows, pairs = builder.build(some_commands)
     listed = list_of(builder.asked, rows, pairs)
     names = [os.path.join(builder.root, row["name"]) for row in listed["files"]]
     path = os.path.join(program.folder, "deps")
     with open(path, "wb") as output:
         program.run("deps", listed, builder.root, output)
-    lacking, asking = Lacking(builder), []
     for unit, (command, _) in zip(units(path), pairs):
-        found = [names[int(line.split(b" ", 2)[1])] for line in unit.lines]
-        asked = lacking.asked(command, found) + lacking.faulted(command, unit.fault, names)
+        yield command, [names[int(line.split(b" ", 2)[1])] for line in unit.lines], unit.fault, names
+
+
+def decide(builder, program):
+    """Decides what `__has_include_next` is where the files that a unit may open differ: what all those say that it does open, if they agree.
+
+    A unit is run under an answer, and where a file that it opens says the other, under that; where one then still differs, there is no answer."""
+    waiting = builder.several
+    for command in waiting:
+        builder.take_next(command, builder.taken.get(command) is not False)
+    for last in (False, True):
+        differing = []
+        for command, opened, _, _ in ran(builder, waiting, program) if waiting else ():
+            if builder.files.next_answers(opened, builder.search(command)[0], builder.macros(command)) - {builder.taken[command]}:
+                differing.append(command)
+        for command in differing:
+            builder.take_next(command, None if last else not builder.taken[command])
+        waiting = differing
+
+
+def told(builder, waiting, program):
+    """Runs these units, and gives those that ask for files which aren't on the list."""
+    lacking, asking = Lacking(builder), []
+    for command, found, fault, names in ran(builder, waiting, program):
+        asked = lacking.asked(command, found) + lacking.faulted(command, fault, names)
         if asked:
             asking.append(command)
         for pair in asked:

@@ -1,5 +1,5 @@
 #!/usr/bin/env python3
-"""Cuts a list by its units, and puts the outputs of the parts together again."""
+"""Cuts a list by its units, and joins the outputs of the parts."""
 import argparse
 import os
 import re
@@ -7,16 +7,16 @@ import re
 from common import DONE, PARTLY, Refused, compact, parser, read_list, run, units, written
 
 TEXT = """\
-Cuts a list by its units, and puts the outputs of the parts together again.
+Cut a list by its units, and join the outputs of the parts.
 
-  shards.py cut N [--into DIR] LIST        writes DIR/000.json, DIR/001.json .. : N lists with the same files
-                                           and setting, each with a slice of the units, in their order
-  shards.py join [--list LIST] OUTPUT ..   writes to standard output what one run over the whole list prints, out of
-                                           the outputs of all parts, given in the order of the lists
+  shards.py cut N [--into DIR] LIST        write DIR/000.json, DIR/001.json ..: N lists with the same files and
+                                           setting, each with a part of the units, in order
+  shards.py join [--list LIST] OUTPUT ..   write to standard output what one run over the whole list prints, from
+                                           the outputs of all parts in the order of the lists
 
-For example:  shards.py cut 4 --into shards list.json
+Example:  shards.py cut 4 --into shards list.json
 
-With --list the units of the outputs are compared with those of the whole list, so that no part is left out.
+Use --list to compare the units of the outputs with those of the whole list, so that no part is missing.
 LIST may be `-`, standard input."""
 MOST = 65535
 
@@ -87,16 +87,16 @@ def number_of_parts(word):
 
 
 def main():
-    asked = parser(TEXT, "join: some unit has a fault, as cppunits itself says it")
+    asked = parser(TEXT, "join: some unit has a fault, as for cppunits")
     words = asked.add_subparsers(required=True, metavar="cut|join")
     word = words.add_parser("cut", help="cut a list into N lists")
-    word.add_argument("count", metavar="N", type=number_of_parts, help="how many lists, 1 to 65535")
-    word.add_argument("list", metavar="LIST", help="the list; `-` is standard input")
-    word.add_argument("--into", metavar="DIR", default="shards", help="the folder of the lists (default: shards)")
+    word.add_argument("count", metavar="N", type=number_of_parts, help="the number of lists, 1 to 65535")
+    word.add_argument("list", metavar="LIST", help="read this list; `-` is standard input")
+    word.add_argument("--into", metavar="DIR", default="shards", help="write the lists to this directory (default: shards)")
     word.set_defaults(task=cut)
-    word = words.add_parser("join", help="put the outputs together")
+    word = words.add_parser("join", help="join the outputs")
     word.add_argument("outputs", metavar="OUTPUT", nargs="+")
-    word.add_argument("--list", metavar="LIST", help="the whole list, to compare the units with")
+    word.add_argument("--list", metavar="LIST", help="compare the units with those of the whole list")
     word.add_argument("--output", metavar="FILE", default="-", help="write here (default: standard output)")
     word.set_defaults(task=join)
     asked = asked.parse_args()

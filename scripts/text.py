@@ -1,22 +1,22 @@
 #!/usr/bin/env python3
-"""Turns what `cppunits dump` prints into text that a compiler takes."""
+"""Makes text that a compiler takes from the output of `cppunits dump`."""
 import os
 import re
 
 from common import DONE, PARTLY, Refused, own_names, parser, plain, run, say, units, written
 
 TEXT = """\
-Turns what `cppunits dump` prints into C text, in the manner of `gcc -E -P`: tokens and pragmas, a space where a token
-has a mark or where two tokens would join, and a line break where the line of use changes.  A compiler takes it as text
-that is preprocessed: `gcc -x cpp-output -c`, or under a name that ends in `.i`.  The operator _Pragma with a string
-literal becomes a #pragma line.
+Make C text from the output of `cppunits dump`, like that of `gcc -E -P`: tokens and pragmas, with a space where a token
+has a leading space or where two tokens would join, and a line break where the line of the expansion location changes.
+A compiler takes it as preprocessed text: `gcc -x cpp-output -c`, or under a name that ends in `.i`.  The operator
+_Pragma with a string literal becomes a #pragma line.
 
-For example:  cppunits --root . dump < list.json | text.py --into text
+Example:  cppunits --root . dump < list.json | text.py --into text
 
-Without --into it writes one unit's text to standard output: that of --unit, or the first.  With --into it writes
-DIR/NAME.i for each unit, and DIR/NAME.I.i where unit I is a further unit of that file.
+Without --into, write one unit's text to standard output: that of --unit, or the first.  With --into, write DIR/NAME.i
+for each unit, and DIR/NAME.I.i if unit I is a further unit of that file.
 
-A unit with a fault has tokens up to the fault alone: its text isn't written, unless --partial asks for it."""
+A unit with a fault has its tokens only up to the fault, so its text isn't written; use --partial to write it."""
 PUNCTUATORS = [word.encode() for word in (
     "-> ++ -- << >> <= >= == != && || ... *= /= %= += -= <<= >>= &= ^= |= ## <: :> <% %> %: %:%: // /* ??").split()]
 BEGINNINGS = {word[:count] for word in PUNCTUATORS for count in range(2, len(word) + 1)}
@@ -49,7 +49,7 @@ def joins(left, right):
 
 
 def destringized(spelling):
-    """The text of a string literal behind _Pragma (6.10.9)."""
+    """The text of a string literal after _Pragma (6.10.9)."""
     inner = spelling[spelling.index(b'"') + 1:-1]
     return re.sub(rb'\\(["\\])', rb"\1", inner)
 
@@ -118,12 +118,12 @@ def text_of(unit):
 
 
 def main():
-    asked = parser(TEXT, "a unit has a fault and no text, one line on standard error each")
+    asked = parser(TEXT, "a unit has a fault and no text; one line on standard error for each")
     asked.add_argument("dump", metavar="DUMP", nargs="?", default="-",
-                       help="what cppunits printed (default: standard input)")
-    asked.add_argument("--unit", metavar="I", type=int, default=0, help="the unit's number (default: 0)")
-    asked.add_argument("--into", metavar="DIR", help="the folder of a file for each unit")
-    asked.add_argument("--partial", action="store_true", help="write the text of a unit with a fault, too")
+                       help="read this output of cppunits (default: standard input)")
+    asked.add_argument("--unit", metavar="I", type=int, default=0, help="write the text of this unit (default: 0)")
+    asked.add_argument("--into", metavar="DIR", help="write a file for each unit to this directory")
+    asked.add_argument("--partial", action="store_true", help="write the text of a unit with a fault too")
     asked = asked.parse_args()
     status, found = DONE, False
     for unit, own in own_names(units(asked.dump), ".i"):

@@ -1,5 +1,5 @@
 #!/bin/sh
-# The gate: `rt ci`, and then whether the crates' tests call each public function, and, over the program that it leaves behind, rows of
+# The full check: `rt ci`, and then whether the crates' tests call each public function, and, over the program that it builds, rows of
 # conditions, macro replacement, files, budgets and tokens, files beside plain passes of phases 1 and 2, the tests of the scripts, the examples of
 # the README and of docs/, cut texts and lists, the limits that take no seconds (names, contents of a folder, includes, conditions,
 # arguments, `#line`, options, units, files, contents of a list, definitions), which lists are refused and what is printed of the others, all

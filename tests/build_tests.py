@@ -234,13 +234,25 @@ class Lists(Builds):
         self.assertEqual(said[0], "build.py: %s/a.c: <h.h> is found in an -iquote folder, as %s/q/h.h" % (self.top, self.top))
 
     def test_whether_there_is_a_next_file(self):
-        """As clang's headers ask it: a definition says it where all answers of a unit are the same."""
+        """As clang's headers ask it: a definition says it where all files that a unit opens have the same answer."""
         asks = "#if 1 && __has_include_next(<%s.h>)\n#include_next <%s.h>\n#endif\n%s\n"
         write(self.top, {"a.c": "#include <h.h>\n", "b.c": "#include <k.h>\n", "c.c": "#include <h.h>\n#include <k.h>\n", "two/h.h": "two\n",
                          **{"one/%s.h" % name: asks % (name, name, name) for name in "hk"}})
         commands = [("gcc -Ione -Itwo -c %s.c" % name, "%s.c" % name) for name in "ab"]
         self.assertEqual(self.names(commands)[0], [["two", "h"], ["k"]])
         self.names([("gcc -Ione -Itwo -c c.c", "c.c")], status=1)
+        write(self.top, {"%s.c" % name: "#include NAMED\n#if 0\n#include <%s.h>\n#endif\n" % other for name, other in ("dk", "eh")})
+        write(self.top, {"both.h": "#include <h.h>\n#include <k.h>\n"})
+        commands = [("gcc -Ione -Itwo '-DNAMED=<%s.h>' -c %s.c" % (name, file), "%s.c" % file) for name, file in ("hd", "ke")]
+        self.assertEqual(self.names(commands)[0], [["two", "h"], ["k"]])
+        self.names([("gcc -I. -Ione -Itwo '-DNAMED=<both.h>' -c d.c", "d.c")], status=1)
+
+    def test_what_is_asked_of_a_next_file_for_other_systems_alone(self):
+        asks = "#if (defined(__OTHER__) || defined _ELSE) && __has_include_next(<k.h>)\nno\n#endif\nk\n"
+        write(self.top, {"a.c": "#include <h.h>\n#include <k.h>\n", "two/h.h": "two\n", "one/k.h": asks,
+                         "one/h.h": "#if __has_include_next(<h.h>)\n#include_next <h.h>\n#endif\n"})
+        self.assertEqual(self.names(["gcc -Ione -Itwo -c a.c"])[0], [["two", "k"]])
+        self.names(["gcc -D_ELSE -Ione -Itwo -c a.c"], status=1)
 
     def test_names_that_macros_make(self):
         """Each round finds more; no folder is taken as a whole, and a comment is no include line."""

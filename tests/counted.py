@@ -1,7 +1,7 @@
 """Runs of the program and the scripts, and a count of tests, for those that don't stand in the crates.
 
 The program is the first argument, or the environment variable CPPUNITS, or crates/cppunits/out/cppunits, which `rt ci` and
-`rt run` leave behind.  A test that needs a program which isn't there is missed: it counts as neither passed nor failed,
+`rt run` build.  A test that needs a program which isn't there is missed: it counts as neither passed nor failed,
 and the missing program is named with the Debian package that has it.
 """
 import json

@@ -2,22 +2,23 @@
 """Runs each example of README.md and docs/*.md, and compares what it prints with what stands there.
 
     tests/docs_examples.py [PROGRAM] [-k NAME]
+    tests/docs_examples.py --record DOCUMENT..     runs the sessions of these, and writes what they print into them
 
 An example is a block of `json`, which is the list on standard input, or of `sh`, whose output is the list; then, each
 followed by a block, any of
 
-    `cppunits WORDS` prints, with status N,             (without `with status N`: 0; nothing stands on standard error)
-    `cppunits WORDS` ends with status N; on standard error stands
+    `cppunits WORDS` prints, with status N,             (without `with status N`: 0; standard error has nothing)
+    `cppunits WORDS` exits with status N; standard error has
     `cppunits WORDS < FILE` prints ..                   (FILE of the repository is the list)
     `FILE` holds                                        (FILE of the repository has exactly this text)
     - gcc: `WORDS`   or   - clang: `WORDS`              (the first error or warning on the list's file a.c, or: nothing)
     - gcc gives: `TEXT`   or   - clang gives: `TEXT`      (what stands in their output, each white space as one space)
 
-Blocks of `console` are sessions, run by a shell in a copy of examples/demo, one after the other for each document: lines behind
+Blocks of `console` are sessions, run by a shell in a copy of examples/demo, one after another for each document: lines after
 `$ ` are commands (a line that ends in a backslash goes on in the next), the others what they print, whatever the seconds.
 cppunits and the scripts are on the path.
 
-Words of gcc and clang are compared where the installed one is of the version that docs/FAULTS.md names.
+Messages of gcc and clang are compared if the installed one has the version that docs/FAULTS.md names.
 """
 import contextlib
 import glob
@@ -26,17 +27,18 @@ import os
 import re
 import shutil
 import subprocess
+import sys
 import tempfile
 import unittest
 
 from counted import PACKAGES, TOP, main, missed, program, run, well
 
 SENTENCE = re.compile(r"`(?:\S*/)?cppunits (?P<words>[^`<]+?)(?: < (?P<file>[^`]+))?` (?:"
-                      r"(?P<prints>prints)(?:,? with status (?P<status>\d))?|ends with status (?P<ends>\d); on standard error stands),?$")
+                      r"(?P<prints>prints)(?:,? with status (?P<status>\d))?|exits with status (?P<ends>\d); standard error has),?$")
 HOLDS = re.compile(r"`(?P<file>[\w./]+)` holds$")
 COMPILER = re.compile(r"- (?P<name>gcc|clang)(?P<gives> gives)?: (?:`(?P<words>.+)`|nothing)$")
 SECONDS = re.compile(r"\d+\.\d seconds")
-VERSIONS = {"gcc": r"words of gcc are those of (\S+),", "clang": r"words of clang those of (\S+),"}
+VERSIONS = {"gcc": r"messages\s+are\s+those\s+of\s+gcc\s+(\S+)", "clang": r"messages\s+are\s+those\s+of\s+gcc\s+\S+\s+and\s+clang\s+(\S+)"}
 DIAGNOSTIC = re.compile(r"(error|warning): ")
 
 
@@ -129,6 +131,33 @@ def commands(block):
         yield command, printed
 
 
+def printed_by(command, where, environment):
+    """What a command of a session prints."""
+    done = subprocess.run(["sh", "-c", command], cwd=where, env=environment, stdout=subprocess.PIPE, stderr=subprocess.STDOUT)
+    return done.stdout.decode()
+
+
+def same(found, printed):
+    """Whether they are the same, whatever the seconds."""
+    return SECONDS.sub("", found) == SECONDS.sub("", printed)
+
+
+def record(names):
+    """Writes the sessions of documents anew: their commands, with what these print now. Seconds alone change nothing."""
+    for name in names:
+        with demo() as (where, environment):
+            def recorded(block):
+                lines = []
+                for command, printed in commands(block[2]):
+                    found = printed_by(command, where, environment)
+                    lines.append("$ %s%s" % (command, printed if same(found, printed) else found))
+                return block[1] + "".join(lines) + block[3]
+
+            text = re.sub(r"^(```console\n)(.*?)(^```$)", recorded, text_of(name), flags=re.M | re.S)
+        with open(os.path.join(TOP, name), "w") as file:
+            file.write(text)
+
+
 @contextlib.contextmanager
 def demo():
     """A copy of examples/demo, and an environment whose path has cppunits and the scripts."""
@@ -187,9 +216,8 @@ class Documents(unittest.TestCase):
             missed("cc")
         missed(*[name for name in PACKAGES if re.search(r"^\$ (?:.*[|;&] )?%s " % name, block, re.M)])
         for command, printed in commands(block):
-            done = subprocess.run(["sh", "-c", command], cwd=where, env=environment, stdout=subprocess.PIPE,
-                                  stderr=subprocess.STDOUT)
-            self.assertEqual(SECONDS.sub("", done.stdout.decode()), SECONDS.sub("", printed), command)
+            found = printed_by(command, where, environment)
+            self.assertEqual(SECONDS.sub("", found), SECONDS.sub("", printed), command)
 
     def test_each_output_is_claimed(self):
         for name in documents():
@@ -240,4 +268,7 @@ for document in documents():
 
 
 if __name__ == "__main__":
-    main()
+    if sys.argv[1:2] == ["--record"]:
+        record(sys.argv[2:])
+    else:
+        main()

@@ -41,7 +41,7 @@ def function_at(crate, path, line):
             found = re.match(r"\s*(?:pub(?:\(\w+\))? )?fn (\w+)", text)
             if found:
                 name = found.group(1)
-            # a goal of a function that has attributes is told at the first of these
+            # a goal of a function that has attributes is reported at the first of these
             if number >= line and not text.lstrip().startswith("#["):
                 break
     return name

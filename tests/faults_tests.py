@@ -85,7 +85,7 @@ note: Give the folder that has it: by `-I` in a build's command, by `search` in 
     def test_a_definition(self):
         units = [{"file": "a.c", "define": ["A 1", "B+1"]}]
         text = self.told({"a.c": ""}, units=units)
-        self.assertEqual(text.splitlines()[:4], ["In unit a.c:", "<command line>:2:1: error: no space behind the macro name B [fault 12]",
+        self.assertEqual(text.splitlines()[:4], ["In unit a.c:", "<command line>:2:1: error: no white space after the macro name B [fault 12]",
                                                  "    2 | #define B+1", "      | ^"])
 
     def test_paths(self):
@@ -191,7 +191,7 @@ class Chains(Faults):
         self.assertIsNone(self.chain(files, units=[{"file": "a.c", "define": ["G"]}]))
 
     def test_a_guard_with_a_second_branch(self):
-        """As of gcc's limits.h: a file that is opened again goes on behind #else."""
+        """Like gcc's limits.h: a file that is opened again goes on after #else."""
         files = {"a.c": "#include <limits.h>\n", "one/limits.h": "#ifndef G\n#define G\n#include \"again.h\"\n#else\n#include_next <limits.h>\n#endif\n",
                  "one/again.h": "#include_next <limits.h>\n", "two/limits.h": "#error x\n"}
         above = [("one/limits.h", 5), ("one/again.h", 1), ("one/limits.h", 3), ("a.c", 1)]
@@ -245,7 +245,7 @@ class Chains(Faults):
         self.assertGreater(counts[0], 2 * counts[1] // 3)
 
     def compare(self, files, found, counts):
-        """The chain is gcc's, where one is told."""
+        """The chain is gcc's, if one is printed."""
         write(self.top, files)
         done = run(["gcc", "-E", "-P", "a.c"], cwd=self.top, env=dict(os.environ, LC_ALL="C"))
         head = done.stderr.decode().split(": error: ")[0]
@@ -258,7 +258,7 @@ class Chains(Faults):
 
 
 def at_random(choice):
-    """Files that include those behind them, some of them guarded, and end in an error somewhere."""
+    """Files that include later ones, some of them guarded, and end in an error somewhere."""
     count = choice.randint(3, 8)
     names, files = ["a.c"] + ["h%d.h" % at for at in range(1, count)], {}
     for at, name in enumerate(names):
@@ -278,8 +278,8 @@ class Forms(Faults):
     def test_an_object_for_each_fault(self):
         files = {"a.c": "#include \"b.h\"\n", "b.h": "#undef\n"}
         self.assertEqual(self.members(files), [{
-            "path": "b.h", "line": 1, "column": 1, "number": 9, "message": "#undef wants one name, and nothing behind it",
-            "advice": "Write the name; take away what follows it.", "text": "undef", "unit": 0, "source": "a.c",
+            "path": "b.h", "line": 1, "column": 1, "number": 9, "message": "malformed #undef: one name is expected",
+            "advice": "Write the name, and remove what follows it.", "text": "undef", "unit": 0, "source": "a.c",
             "chain": [{"path": "a.c", "line": 1}]}])
 
     def test_colours(self):
@@ -351,7 +351,7 @@ class Table(unittest.TestCase):
     def test_numbers_and_advices_are_those_of_the_document(self):
         with open(os.path.join(TOP, "docs", "FAULTS.md")) as file:
             parts = re.split(r"^### Fault (\d+): ", file.read().split("\n## Refusals")[0], flags=re.M)[1:]
-        told = {int(number): " ".join(part.split("*What to do:* ")[1].split()) for number, part in zip(parts[::2], parts[1::2])}
+        told = {int(number): " ".join(part.split("*Remedy:* ")[1].split()) for number, part in zip(parts[::2], parts[1::2])}
         self.assertEqual(list(told), list(FAULTS))
         for number, (with_text, without, advice) in FAULTS.items():
             self.assertTrue(told[number].startswith(advice), number)

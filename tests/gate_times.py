@@ -100,7 +100,7 @@ def processor_times():
 
 
 def additions(count):
-    """The processor seconds that a loop of so many additions takes."""
+    """The processor seconds of a loop of this number of additions."""
     start, total = time.process_time(), 0
     for number in range(count):
         total += number
@@ -119,7 +119,7 @@ def loop_seconds_on_all():
 
 
 def watch(goes_on, loops):
-    """The checks that are seen while the gate goes on.  How long the loop takes meanwhile is put behind `loops`."""
+    """The checks that are seen while the gate goes on.  How long the loop takes meanwhile is appended to `loops`."""
     seen, turns, due = {}, {}, time.time() + 30
     while goes_on():
         if time.time() > due:

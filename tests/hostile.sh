@@ -1,20 +1,20 @@
 #!/bin/sh
-# What a service meets that preprocesses text from strangers: refused memory, cut texts and lists, limits, streams and files
-# that fail, small stacks, names chosen to collide, and cost that is to grow as the work does.  Of these the gate, tests/all.sh,
-# has the program's refused memory, cut texts and lists, limits that take no seconds, all depths at once in a small stack, and
-# streams and files that fail.
+# Test what untrusted input may do: out of memory, cut texts and lists, limits, streams and files that fail, small stacks,
+# names chosen to collide, and cost that must grow as the work does.  The full check, tests/all.sh, has these parts of it: the
+# program out of memory, cut texts and lists, limits that take no seconds, all depths at once in a small stack, and streams and
+# files that fail.
 #
 #     tests/hostile.sh [--full] [PROGRAM]     PROGRAM is by default crates/cppunits/out/cppunits
 #
-# --full measures the growth of cost at the sizes of bench/shapes.py, where else it is mostly at a quarter of them.
+# Use --full to measure the growth of cost at the sizes of bench/shapes.py; without it they are mostly a quarter.
 #
-# Each part says what it did; its whole output is shown where it fell short.  Refused memory in the tests of a crate is a part
-# where `rt test` or `rt ci` left them, and else a line that says so.  It takes some minutes, more with these parts, up to 2 GB of
-# memory and 300 MB of a folder for temporary files, and leaves nothing behind.  It needs Python 3 and gcc.
+# Each part prints what it did, and its whole output if it failed.  The tests of a crate run out of memory if `rt test` or
+# `rt ci` built them; otherwise a line says so.  It takes some minutes, more with these parts, up to 2 GB of memory and 300 MB
+# of a directory for temporary files, and leaves no files.  It needs Python 3 and gcc.
 #
 # status:
-#   0  nothing fell short
-#   1  something did, and is named at the end
+#   0  no part failed
+#   1  a part failed, and is named at the end
 #   2  the program isn't there
 sizes=--quick
 if [ "${1:-}" = --full ]; then
@@ -79,6 +79,6 @@ part "streams and files that fail" python3 tests/hostile_devices.py "$program"
 part "small stacks" python3 tests/hostile_stack.py "$program"
 part "names chosen to collide" python3 tests/hostile_floods.py "$program"
 part "growth of cost" python3 bench/growth.py ${sizes:+"$sizes"} "$program"
-sed 's/^/fell short: /' "$kept/short"
+sed 's/^/failed: /' "$kept/short"
 printf '%d passed, %d failed\n' "$passed" "$failed"
 [ "$failed" -eq 0 ]

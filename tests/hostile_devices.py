@@ -173,7 +173,7 @@ class Outputs(Streams):
 
 
     def test_help_and_version(self):
-        """What they print is the whole answer, so a write that fails is told."""
+        """What they print is the whole answer, so a write that fails is reported."""
         full = ["> /dev/full"] if os.path.exists("/dev/full") else []
         for words in "--help", "--version", "dump --help":
             self.assertEqual(shell("", b"", words), (0, b""), words)

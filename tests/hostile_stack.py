@@ -1,12 +1,12 @@
 #!/usr/bin/env python3
-"""Runs the program with a small stack, and where the system refuses it room while it runs.
+"""Runs the program with a small stack, and with limits of memory that it meets while it runs.
 
     tests/hostile_stack.py [PROGRAM] [-k NAME]
 
-All depths at once (200 includes, and in the last file 256 levels of arguments, and 256 parentheses, signs and conditional
-operators of a condition) and 127 arrays within one another are to do with a stack of 256 KB; where they don't, the least that
-does is told.  With each bound of the room for memory and stacks together (`ulimit -v`) a run gives the answer, or status 4 with
-nothing printed, and never ends by a signal.
+All depths at once must do with a stack of 256 KB: 200 includes, and in the last file 256 levels of arguments, and 256
+parentheses, signs and conditional operators of a condition.  So must 127 nested arrays.  If they don't, the least stack
+that does is printed.  With each limit of memory and stacks together (`ulimit -v`) a run prints the right output, or
+exits with 4 and prints nothing, and never ends by a signal.
 """
 import json
 import subprocess

@@ -29,7 +29,7 @@ class Char:
 
 
 def placed(data):
-    """Each byte behind a byte order mark, with its place."""
+    """Each byte after a byte order mark, with its location."""
     chars, line, col = [], 1, 1
     for code in data.removeprefix(MARK).decode("latin-1"):
         chars.append(Char(code, line, col))
@@ -47,7 +47,7 @@ def without_returns(chars):
 
 
 def terminated(chars):
-    """With a new-line behind the last character, where there is text without one."""
+    """With a new-line after the last character, if there is text without one."""
     if not chars or chars[-1].code == "\n":
         return chars
     return [*chars, Char("\n", chars[-1].line, chars[-1].col + 1)]
@@ -75,7 +75,7 @@ def without_splices(chars):
 
 
 def cleaned(data):
-    """The characters behind phase 2, or the place of the backslash that the file must not end in."""
+    """The characters after phase 2, or the place of the backslash that the file must not end in."""
     chars = without_trigraphs(terminated(without_returns(placed(data))))
     if stands(chars, len(chars) - 2, "\\\n"):
         return chars[-2].place
@@ -88,8 +88,8 @@ def blanks(chars):
     return re.match(r"(?:[\r\n]|//.*)*", text).end()
 
 
-def behind(token, chars):
-    """What stands behind a token, which is to be the first of these characters, in its place."""
+def rest_after(token, chars):
+    """What comes after a token, which is to be the first of these characters, in its place."""
     place, text = token
     rest = chars[blanks(chars):]
     if not stands(rest, 0, text) or rest[0].place != place:
@@ -163,7 +163,7 @@ class Phases(unittest.TestCase):
                     self.assertEqual(read, rest)
                     continue
                 for token in read:
-                    rest = behind(token, rest)
+                    rest = rest_after(token, rest)
                 self.assertEqual(blanks(rest), len(rest))
 
     def test_short_texts(self):
@@ -181,7 +181,7 @@ class Phases(unittest.TestCase):
                 self.assertEqual(read, [(cleaned(data)[-2].place, "@")])
 
     def test_numbers_of_lines(self):
-        """The line behind that in which the new-line of a `#line` stands has the number that it says (6.10.4p3)."""
+        """The line after the one with the new-line of a `#line` has the number that it says (6.10.4p3)."""
         texts = [b"#line 100 //" + text + b"\n\n__LINE__" for text in short_texts(b"?/\\\r\n")]
         for data, read in zip(texts, printed(texts), strict=True):
             with self.subTest(data=data):

@@ -55,6 +55,15 @@ class Projects(Folder):
         self.assertEqual([line.split(": ", 1)[1] for line in said],
                          ["tokens: token 5: b = __COUNTER__ ;, and the compiler has b = 0 ;", "fault: 25 %d:1:1 'ab'" % self.row(said)])
 
+    def test_a_compiler_that_hangs(self):
+        """It is stopped with the programs that it started, and its unit counts as one that the compiler doesn't take."""
+        write(self.top, {"bin/gcc": "#!/bin/sh\ncase $* in *slow.c*) sleep 1000; exit;; esac\nexec /usr/bin/gcc \"$@\"\n"})
+        os.chmod(self.path("bin/gcc"), 0o755)
+        files = {"p/slow.c": "int a;\n", "p/skipped.c": "int b;\n", "p/quick.c": "int c;\n"}
+        commands = [(name[2:], "%s -c %s" % (self.path("bin/gcc"), name[2:])) for name in files]
+        cells, said, _ = self.compared(files, commands, "--every", "2", "--seconds", "2")
+        self.assertEqual(cells, ["p, one command of 2", "2", "1", "1", "1", "1", "no answer of the compiler in 2 seconds: 1"], said)
+
     def row(self, said):
         return int(said[1].split("fault: 25 ")[1].split(":")[0])
 

@@ -6,8 +6,8 @@ import tempfile
 
 HERE = os.path.dirname(os.path.abspath(__file__))
 MOST_RUNS = 20_000
-# whether all behind a request are refused with it, and how that is told
-KINDS = {False: "each alone", True: "each with all behind it"}
+# whether all after a request are refused with it, and how that is printed
+KINDS = {False: "each alone", True: "each with all after it"}
 
 
 def refused(call, on):
@@ -34,7 +34,7 @@ def refusing_files():
 
 
 def run(command, library, call, data=None, on=False, error=None):
-    """The run in which this request is refused, with this error number, and with `on` all behind it, and whether it met the refusal."""
+    """The run in which this request is refused, with this error number, and with `on` all after it, and whether it met the refusal."""
     told, tells = os.pipe()
     environment = dict(os.environ, LD_PRELOAD=library, REFUSED_CALL=str(call), REFUSAL_FD=str(tells))
     if on:

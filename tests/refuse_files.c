@@ -1,5 +1,5 @@
 /* Preloaded `statx`, `open` and `read`, one call of which fails: the one whose number, from 1, is in REFUSED_CALL, with the error
- * whose number is in REFUSED_ERROR; and all behind it where REFUSED_ON is there. The standard streams are left alone, and not
+ * whose number is in REFUSED_ERROR; and all after it if REFUSED_ON is set. The standard streams are left alone, and not
  * counted.
  * When it first refuses, it writes one byte to the descriptor REFUSAL_FD, so that the caller knows that this run met it.
  * Built and used by refusals.py alone; it is no part of the program. */

@@ -1,4 +1,4 @@
-/* A preloaded malloc that refuses one request for memory: the one whose number, from 1, is in REFUSED_CALL; and all behind it
+/* A preloaded malloc that refuses one request for memory: the one whose number, from 1, is in REFUSED_CALL; and all after it
  * where REFUSED_ON is there.
  * When it first refuses, it writes one byte to the descriptor REFUSAL_FD, so that the caller knows that this run met it.
  * Built and used by refusals.py alone; it is no part of the program. */

@@ -1,13 +1,13 @@
 #!/usr/bin/env python3
-"""Refuses each request for memory of crates' built tests in turn, alone and with all behind it.
+"""Refuses each request for memory of crates' built tests in turn, alone and with all after it.
 
     tests/refused_in_tests.py [--each-up-to N] NAME..
 
-For each NAME the tests are crates/NAME/out/NAME_tests, which `rt test` leaves behind.  Each test runs with its 1st, 2nd,
+For each NAME the tests are crates/NAME/out/NAME_tests, which `rt test` builds.  Each test runs with its 1st, 2nd,
 3rd .. request refused, and with all refused from that one on, until a run meets no refusal.  A test that looks at what a
-refused call left, and calls again, passes where the second call gets what it asks for; in another the want of memory is the
+refused call left, and calls again, passes where the second call gets what it asks for; in another out of memory is the
 test's own error.  Whatever else fails is a problem, and so is a test that is there to call again (`CALLS_AGAIN` below) and passes
-over no refused request.  Of those each request is refused; of the others fewer and fewer behind the Nth, where N is by default
+over no refused request.  Of those each request is refused; of the others fewer and fewer after the Nth, where N is by default
 200, since threads that aren't made make some tests slow, and 20 in those of ppserve (`serving::` in ppruntests), which take long
 texts.  As many tests run side by side as there are processors.
 """

@@ -1,9 +1,9 @@
 #!/usr/bin/env python3
-"""Refuses each request for memory of the built program in turn, alone and with all behind it.
+"""Refuses each request for memory of the built program in turn, alone and with all after it.
 
     tests/refused_memory.py [PROGRAM]
 
-PROGRAM is by default crates/cppunits/out/cppunits, which `rt ci` and `rt run` leave behind.  For each list below the
+PROGRAM is by default crates/cppunits/out/cppunits, which `rt ci` and `rt run` build.  For each list below the
 program runs, with one worker and with more, over the list and over a folder, with its 1st, 2nd, 3rd .. request refused,
 and with all refused from that one on, until a run meets no refusal, which must give the answer.  Each run before must end
 with status 4, nothing on standard output and `cppunits: out of memory` on standard error, or with the answer: where a
@@ -57,7 +57,7 @@ SEARCHED = {"src/a.c": '#include "x.h"\n#include <x.h>\n#include "../inc/x.h"\n#
 # files and the items of units, where they have room to give back.  One that isn't fitted keeps its room.
 ROWS = {
     "one token": ({"a.c": "x\n"}, [{"file": "a.c"}], [], "unit 0 a.c\ntok 0:1:1 0:1:1 i+ x\ndep 0 a.c\nok\n", 3),
-    "an invocation that reaches behind what it is replaced by": (
+    "an invocation that reaches past its replacement": (
         INVOCATION, [{"file": "a.c"}], [],
         "unit 0 a.c\ntok 0:3:3 0:3:1 n+ 2\ntok 0:1:15 0:3:1 p- *\ntok 0:3:6 0:3:1 n- 9\ntok 0:1:15 0:3:1 p- *\ntok 0:1:16 0:3:1 i- g\n"
         "dep 0 a.c\nok\n", 3,

@@ -4,7 +4,7 @@
     tests/truncated.py [PROGRAM] [-k NAME]
 
 Examples 3, 4, 5 and 7 of the standard's 6.10.3.5 and the one of 6.10.3.3 are each cut to their first n bytes, for every n:
-a unit of each comes to `ok` or to a fault among 1 to 34, the same with 1 and 7 workers, and to fault 2 where the last byte
+a unit of each ends in `ok` or to a fault among 1 to 34, the same with 1 and 7 workers, and to fault 2 where the last byte
 is a backslash that a new-line followed.  A list of a guarded header, cut to every shorter length, is refused as no JSON (L1).  200 arrays within one
 another are refused as no JSON, 100 as a list of another shape (L2).
 """

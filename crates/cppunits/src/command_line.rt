@@ -39,18 +39,19 @@ const USAGE: u8 = 2;
 
 const VERSION: &str = "0.1.0";
 
-const ABOUT: &str = "Preprocesses the C11 translation units of the list on standard input";
+const ABOUT: &str = "Preprocess the C11 translation units of the list on standard input";
 
 const ABOUT_DUMP: &str =
-    "Prints each unit's tokens with their places, its pragmas, its dependencies and its first fault";
+    "Print each unit's tokens with their locations, its pragmas, its dependencies and its first fault";
 
-const ABOUT_DEPS: &str = "Prints each unit's dependencies and its first fault";
+const ABOUT_DEPS: &str = "Print each unit's dependencies and its first fault";
 
 const MORE: &str = "\
-The list comes from standard input: a JSON object with `date`, `time`, `files` and `units`. What is printed goes to standard output, once
-all units are done. docs/FORMAT.md of the sources has the form of both, docs/FAULTS.md what each number of a fault or a refusal means.
+The list is read from standard input: a JSON object with `date`, `time`, `files` and `units`. The output goes to standard output,
+when all units are done. docs/FORMAT.md of the sources has the format of both, docs/FAULTS.md explains the numbers of faults and
+refusals.
 Status: 0 no unit has a fault, 1 some unit has one, 2 usage, 3 the list is refused, 4 out of memory or of file descriptors,
-5 a read or write failed, or the system gives no random bytes.";
+5 a read or write failed, or the system has no random bytes.";
 
 /// Judges the program's words, and prints what there is to say of them. Fails where memory runs out, or where the help or
 /// the version can't be written.
@@ -145,7 +146,7 @@ fn workers_option<'a>(alloc: Global) -> Arg<'a> {
     Arg::new(alloc, "workers")
         .long("workers")
         .value_name("N")
-        .help("How many units are preprocessed at once, 1 to 64")
+        .help("Preprocess N units in parallel, 1 to 64")
         .default_value("4")
         .value_parser(clap::value_parser!(usize).range(1..=MOST_WORKERS as i64))
 }
@@ -154,14 +155,14 @@ fn block_option<'a>(alloc: Global) -> Arg<'a> {
     Arg::new(alloc, "block")
         .long("block")
         .value_name("K")
-        .help("The most units that a worker takes at a time, 1 to 1024")
+        .help("Give a worker at most K units at a time, 1 to 1024")
         .default_value("8")
         .value_parser(clap::value_parser!(usize).range(1..=MOST_BLOCK as i64))
 }
 
 fn root_option<'a>(alloc: Global) -> Arg<'a> {
     Arg::new(alloc, "root").long("root").value_name("DIR").help(
-        "Read each listed file below this folder; the list then holds names alone",
+        "Read each listed file below this directory; the list then has names only",
     )
 }
 
