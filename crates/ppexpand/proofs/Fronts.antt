@@ -1,14 +1,14 @@
 -- A turn that leads from a list to the next is a step on their hide sets, and what a replacement puts into a front hides one name more.
-use Rattle.std.proofs.Common.{◌≡◌, ℕ, Bool, true, List, ◌∷◌, Option, Ok, refl, sym, ap, subst}
+use Rattle.std.proofs.Common.{◌≡◌, ℕ, List, ◌∷◌, Option, sym, subst}
 use Rattle.std.specs.FinSet as set
 use Rattle.ppmacro.specs.Names.{Name, HideSet, Macros}
 use Rattle.ppmacro.specs.HideSets.{Hiding}
 use Rattle.ppexpand.specs.declared.env.Env.{Env}
-use Rattle.ppexpand.specs.Turn.{Turn, Passes, Replaced, Called, finished}
+use Rattle.ppexpand.specs.Turn.{Turn, Passes, Replaced, Called}
 use Rattle.ppexpand.specs.Ending.{hides, Holds, Gains, Step, passes}
 use Rattle.ppexpand.specs.Laws.{Leads, by_passing, by_replacing, by_invoking}
 use Rattle.ppexpand.specs.Expansion.{turn_within}
-use Rattle.ppexpand.proofs.Steps.{StepsTo, FinishesTo, Found, turn_within_steps, finished_steps}
+use Rattle.ppexpand.proofs.Steps.{StepsTo, FinishesTo, turn_within_steps, finished_steps}
 use Rattle.ppexpand.proofs.Termination.{extended}
 
 module _ (macros : Macros) (env : Env) (level : ℕ) where

@@ -15,9 +15,8 @@ use Rattle.ppserve.specs.Contents.{StandIn, files_of}
 use Rattle.ppserve.specs.Laws.{wrong_names, OneOutput, OneOutputOfContents}
 use Rattle.ppserve.specs.Listing.{outcome_of, accepted, names_hold, names_of}
 use Rattle.ppserve.specs.Output.{output_text}
-use Rattle.ppserve.specs.Serving.{some_fault, Comes, Serves}
+use Rattle.ppserve.specs.Serving.{some_fault, Comes}
 use Rattle.ppserve.specs.declared.list.List.{List as CompilationList}
-use Rattle.ppserve.specs.declared.output.Mode.{Mode}
 use Rattle.ppserve.proofs.Received.{decided}
 use Rattle.ppserve.proofs.Refusing.{takes_the_rest}
 

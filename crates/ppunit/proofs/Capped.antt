@@ -1,5 +1,5 @@
 -- What a unit gives within a budget is a beginning of what it gives without one.
-use Rattle.std.proofs.Common.{◌≡◌, ℕ, ◌-◌, ◌<◌, ◌≤◌, List, length, Option, Some, None, refl, sym, ap, ◌∙◌, subst, arith, inl, inr}
+use Rattle.std.proofs.Common.{◌≡◌, ℕ, ◌-◌, ◌<◌, ◌≤◌, List, Option, Some, None, refl, sym, ap, ◌∙◌, subst, arith, inl, inr}
 use Rattle.pptext.specs.declared.tokens.Fault.{Fault}
 use Rattle.ppexpand.specs.Laws.{IsBeginning}
 use Rattle.ppexpand.proofs.Budget.{Covers, without, larger}
@@ -10,8 +10,8 @@ use Rattle.ppunit.specs.declared.units.Setting.{Setting}
 use Rattle.ppunit.specs.declared.units.UnitOut.{UnitOut}
 use Rattle.ppunit.specs.States.{State, Surroundings, Reached, stopped, with_left, given}
 use Rattle.ppunit.specs.Unit.{beginning, surroundings, Translates, IsUnit, count}
-use Rattle.ppunit.specs.Laws.{KnowsAll, HasOneValue, HasSomeValue, Grows}
-use Rattle.ppunit.specs.Capped.{HasFault, AtMost, IsCapped, unlimited, HasWhole, BudgetCaps, OnlyBudgetsRefuse, with_budget, GivesNoLess, HasNoLess, LargerBudgetsGiveNoLess}
+use Rattle.ppunit.specs.Laws.{HasOneValue, HasSomeValue, Grows}
+use Rattle.ppunit.specs.Capped.{HasFault, AtMost, IsCapped, unlimited, BudgetCaps, OnlyBudgetsRefuse, with_budget, GivesNoLess, LargerBudgetsGiveNoLess}
 use Rattle.ppunit.proofs.Kept.{same_beginning}
 use Rattle.ppunit.proofs.EnoughForLines.{holding}
 use Rattle.ppunit.proofs.Enough.{unit_suffices}

@@ -1,5 +1,5 @@
 -- Over files of which each row is known, a unit gives something.
-use Rattle.std.proofs.Common.{◌≡◌, ◌≢◌, ℕ, zero, suc, ◌+◌, ◌<◌, ◌≤◌, ◌⊎◌, inl, inr, Bool, true, false, List, [], ◌∷◌, length, IsSome, map, Option, Some, None, Result, Ok, Err, refl, ap, ◌∙◌, arith}
+use Rattle.std.proofs.Common.{◌≡◌, ◌≢◌, ℕ, zero, suc, ◌+◌, ◌<◌, ◌≤◌, ◌⊎◌, inl, inr, Bool, true, false, List, [], length, IsSome, map, Option, Some, None, Result, Ok, Err, refl, ap, ◌∙◌, arith}
 use Rattle.std.proofs.lemmas.Bool.{cases_lt}
 use Rattle.pptext.specs.declared.tokens.Place.{Place}
 use Rattle.pptext.specs.declared.tokens.Token.{Token}
@@ -19,14 +19,11 @@ use Rattle.ppexpand.specs.Expansion.{IsExpansion}
 use Rattle.ppexpand.specs.Budget.{is_spent}
 use Rattle.ppexpr.specs.Conditions.{IsCondition}
 use Rattle.ppshelf.specs.Content.{Content, unreadable, readable}
-use Rattle.ppshelf.specs.Files.{Files, file_at}
+use Rattle.ppshelf.specs.Files.{file_at}
 use Rattle.ppshelf.specs.Names.{name_in}
 use Rattle.ppshelf.specs.Search.{Candidate, IsFirstRow}
 use Rattle.ppshelf.proofs.Finds.{first_within}
 use Rattle.ppunit.specs.Dependencies.{is_among}
-use Rattle.ppunit.specs.declared.units.Unit.{Unit as UnitOfList}
-use Rattle.ppunit.specs.declared.units.Setting.{Setting}
-use Rattle.ppunit.specs.declared.units.UnitOut.{UnitOut}
 use Rattle.ppunit.specs.declared.units.Item.TheVariants as item
 use Rattle.ppunit.specs.States.{State, Search, Surroundings, search_of, Reached, going, stopped, given, passed, with_left, depending, entering, leaving, paying}
 use Rattle.ppunit.specs.Lines.{operands, line_fault, named_fault, one_identifier, run_tokens}
