@@ -5,7 +5,7 @@ mod command_line;
 mod room;
 
 use command_line::Asked;
-use ppserve::{ReaderFeed, RunFault, WriterSink, serve, serve_from, status, words};
+use ppserve::{ReaderFeed, RunFault, RunOptions, WriterSink, serve, serve_from, status, words};
 use ppshelf::FolderDisk;
 use pptext::Hashing;
 use room::reserve;
@@ -40,32 +40,22 @@ fn main(rt: HostRuntime) -> ExitCode {
     };
     let mut reader = ReaderFeed::new(rt.stdin());
     let mut writer = WriterSink::new(rt.stdout());
-    let outcome = match (hashing(&rt), &options.root) {
-        (Err(fault), _) => Err(fault),
-        (Ok(hashing), None) => serve(
-            &rt,
-            rt.alloc(),
-            &mut reader,
-            &mut writer,
-            options.mode,
-            options.workers,
-            options.block,
-            hashing,
-        ),
-        (Ok(hashing), Some(folder)) => {
+    let hashing = match hashing(&rt) {
+        Ok(hashing) => hashing,
+        Err(fault) => return ended(&rt, &Err(fault)),
+    };
+    let run = RunOptions {
+        mode: options.mode,
+        workers: options.workers,
+        block: options.block,
+        hashing,
+    };
+    let outcome = match &options.root {
+        None => serve(&rt, rt.alloc(), &mut reader, &mut writer, run),
+        Some(folder) => {
             let (files, folder) = (&rt, folder.as_str());
             let disk = FolderDisk { files, folder };
-            serve_from(
-                &rt,
-                rt.alloc(),
-                &mut reader,
-                &mut writer,
-                &disk,
-                options.mode,
-                options.workers,
-                options.block,
-                hashing,
-            )
+            serve_from(&rt, rt.alloc(), &mut reader, &mut writer, &disk, run)
         }
     };
     ended(&rt, &outcome)

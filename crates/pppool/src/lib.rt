@@ -1,6 +1,7 @@
 //! Workers that preprocess the units of a list, and the desk at which they claim them.
 #![tactic(auto)]
 
+mod batch;
 mod dealing;
 mod desk;
 mod gate;
@@ -11,6 +12,7 @@ mod running;
 mod slots;
 mod workers;
 
+pub use batch::Batch;
 pub use desk::{Desk, DeskSeat};
 pub use gate::Gate;
 pub use keeping::Keep;

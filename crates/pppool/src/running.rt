@@ -7,20 +7,20 @@ ghost use Rattle.pppool.specs.Desk.{most_blocks, new_seat, times, claims_of};
 ghost use Rattle.pppool.specs.Kept.{AreKept, AreKeptWithin, AreKeptCapped};
 ghost use Rattle.pppool.specs.Workers.{AllFilled, FitSlots, IsDone};
 
+use crate::batch::Batch;
 use crate::desk::{Desk, DeskSeat};
 use crate::gate::Gate;
 use crate::keeping::Keep;
 use crate::slots::{all_of, empty_slots, place};
 use crate::workers::{Job, Worker};
-use ppshelf::{Disk, Pass, Shelf};
+use ppshelf::{Disk, Pass};
 use pptext::Memory;
-use ppunit::{Setting, Unit, UnitOut, budget_caps_units, growth, stays_within};
+use ppunit::{UnitOut, budget_caps_units, growth, stays_within};
 use std::alloc::Global;
 use std::thread;
 use std::thread::Threads;
 
-/// Preprocesses the units of a list, at most 65,535, by so many workers, 1 to 64, in blocks of 1 to 1024 units. The shelf and the
-/// units' definitions are read by the setting's profile.
+/// Preprocesses the units of a batch. The shelf and the units' definitions are read by the setting's profile.
 ///
 /// Each worker has a seat at a desk and a pass of its own, and claims blocks until none is left. Before each unit it enters the
 /// gate. Where no thread can be made the workers run in turn. In the end the pass has met all workers' passes, and the answers are
@@ -32,43 +32,25 @@ use std::thread::Threads;
 pub fn run<'a, R: Threads + Sync, D: Disk + Send + Sync, G: Gate + Sync>(
     threads: &R,
     alloc: Global,
-    shelf: &'a Shelf<D>,
     pass: &mut Pass<'a, D>,
-    disk: &D,
-    gate: &G,
-    setting: &Setting,
-    units: &'a [Unit],
-    workers: usize,
-    block: usize,
+    batch: &Batch<'a, '_, D, G>,
 ) -> Result<Vec<UnitOut<'a>>, Memory>
-    requires shelf { pass.old.shelf ≡ shelf.now }
-    requires workers { (1 ≤ workers) × (workers ≤ 64) }
-    requires block { (1 ≤ block) × (block ≤ 1024) }
-    requires count { length units.now ≤ most_rows }
-    requires profile { shelf.now.profile ≡ setting.now.profile }
-    requires rows { All (IsUnitOf (length shelf.now.names) setting.now.profile) units.now }
-    ensures shelf { pass.new.shelf ≡ shelf.now }
+    requires shelf { pass.old.shelf ≡ batch.now.shelf.now }
+    requires workers { (1 ≤ batch.now.workers) × (batch.now.workers ≤ 64) }
+    requires block { (1 ≤ batch.now.block) × (batch.now.block ≤ 1024) }
+    requires count { length batch.now.units.now ≤ most_rows }
+    requires profile { batch.now.shelf.now.profile ≡ batch.now.setting.now.profile }
+    requires rows { All (IsUnitOf (length batch.now.shelf.now.names) batch.now.setting.now.profile) batch.now.units.now }
+    ensures shelf { pass.new.shelf ≡ batch.now.shelf.now }
     ensures grows { Extends pass.new.files pass.old.files }
-    ensures value { IfOk result (λ outs. AreUnits shelf.now.names pass.new.files setting.now units.now outs.items) }
-    ensures within { IfOk result (λ outs. AreWithin shelf.now.names pass.new.files setting.now units.now outs.items) }
-    ensures capped { IfOk result (λ outs. AreCapped shelf.now.names pass.new.files setting.now units.now outs.items) }
-    ensures lawful { AllLawful D.may shelf.now.names pass.new.files }
-    ensures filled { Agree shelf.now.base pass.new.files }
+    ensures value { IfOk result (λ outs. AreUnits batch.now.shelf.now.names pass.new.files batch.now.setting.now batch.now.units.now outs.items) }
+    ensures within { IfOk result (λ outs. AreWithin batch.now.shelf.now.names pass.new.files batch.now.setting.now batch.now.units.now outs.items) }
+    ensures capped { IfOk result (λ outs. AreCapped batch.now.shelf.now.names pass.new.files batch.now.setting.now batch.now.units.now outs.items) }
+    ensures lawful { AllLawful D.may batch.now.shelf.now.names pass.new.files }
+    ensures filled { Agree batch.now.shelf.now.base pass.new.files }
 {
-    let outs = run_keeping(
-        threads,
-        alloc,
-        shelf,
-        pass,
-        disk,
-        gate,
-        setting,
-        units,
-        workers,
-        block,
-        Keep::Whole,
-    )?;
-    shelf.lawful();
+    let outs = run_keeping(threads, alloc, pass, batch, Keep::Whole)?;
+    batch.shelf.lawful();
     stays_within();
     budget_caps_units();
     Ok(outs)
@@ -81,30 +63,33 @@ pub fn run<'a, R: Threads + Sync, D: Disk + Send + Sync, G: Gate + Sync>(
 pub fn run_keeping<'a, R: Threads + Sync, D: Disk + Send + Sync, G: Gate + Sync>(
     threads: &R,
     alloc: Global,
-    shelf: &'a Shelf<D>,
     pass: &mut Pass<'a, D>,
-    disk: &D,
-    gate: &G,
-    setting: &Setting,
-    units: &'a [Unit],
-    workers: usize,
-    block: usize,
+    batch: &Batch<'a, '_, D, G>,
     keep: Keep,
 ) -> Result<Vec<UnitOut<'a>>, Memory>
-    requires shelf { pass.old.shelf ≡ shelf.now }
-    requires workers { (1 ≤ workers) × (workers ≤ 64) }
-    requires block { (1 ≤ block) × (block ≤ 1024) }
-    requires count { length units.now ≤ most_rows }
-    requires profile { shelf.now.profile ≡ setting.now.profile }
-    requires rows { All (IsUnitOf (length shelf.now.names) setting.now.profile) units.now }
-    ensures shelf { pass.new.shelf ≡ shelf.now }
+    requires shelf { pass.old.shelf ≡ batch.now.shelf.now }
+    requires workers { (1 ≤ batch.now.workers) × (batch.now.workers ≤ 64) }
+    requires block { (1 ≤ batch.now.block) × (batch.now.block ≤ 1024) }
+    requires count { length batch.now.units.now ≤ most_rows }
+    requires profile { batch.now.shelf.now.profile ≡ batch.now.setting.now.profile }
+    requires rows { All (IsUnitOf (length batch.now.shelf.now.names) batch.now.setting.now.profile) batch.now.units.now }
+    ensures shelf { pass.new.shelf ≡ batch.now.shelf.now }
     ensures grows { Extends pass.new.files pass.old.files }
-    ensures kept { IfOk result (λ outs. AreKept keep shelf.now.names pass.new.files setting.now units.now outs.items) }
-    ensures within { IfOk result (λ outs. AreKeptWithin keep shelf.now.names pass.new.files setting.now units.now outs.items) }
-    ensures capped { IfOk result (λ outs. AreKeptCapped keep shelf.now.names pass.new.files setting.now units.now outs.items) }
-    ensures lawful { AllLawful D.may shelf.now.names pass.new.files }
-    ensures filled { Agree shelf.now.base pass.new.files }
+    ensures kept { IfOk result (λ outs. AreKept keep batch.now.shelf.now.names pass.new.files batch.now.setting.now batch.now.units.now outs.items) }
+    ensures within { IfOk result (λ outs. AreKeptWithin keep batch.now.shelf.now.names pass.new.files batch.now.setting.now batch.now.units.now outs.items) }
+    ensures capped { IfOk result (λ outs. AreKeptCapped keep batch.now.shelf.now.names pass.new.files batch.now.setting.now batch.now.units.now outs.items) }
+    ensures lawful { AllLawful D.may batch.now.shelf.now.names pass.new.files }
+    ensures filled { Agree batch.now.shelf.now.base pass.new.files }
 {
+    let Batch {
+        shelf,
+        disk,
+        gate,
+        setting,
+        units,
+        workers,
+        block,
+    } = *batch;
     pass.lawful();
     let (desk, seats) = Desk::new(alloc, block_count(units.len(), block), workers)?;
     let gathered = gather(

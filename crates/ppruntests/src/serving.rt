@@ -1,10 +1,12 @@
 // Whole runs, from the bytes of a list to the bytes of its output.
+ghost use Rattle.std.specs.Prelude.{◌≡◌};
+
 mod answers;
 mod devices;
 mod streams;
 
 use devices::{Limits, Reader, UNLIMITED, Writer};
-use ppserve::{Feed, Mode, RunFault, Sink, serve, status, words};
+use ppserve::{Feed, Mode, RunFault, RunOptions, Sink, serve, status, words};
 use pptext::{Hashing, Memory};
 use std::process::Abort;
 use std::test::Fail;
@@ -18,6 +20,19 @@ struct RunEnd<'l> {
     writer: Writer,
 }
 
+/// Four workers, which print all.
+fn by_four() -> RunOptions
+    ensures workers { result.workers ≡ 4 }
+    ensures block { result.block ≡ 8 }
+{
+    RunOptions {
+        mode: Mode::Dump,
+        workers: 4,
+        block: 8,
+        hashing: Hashing::fixed(),
+    }
+}
+
 /// What four workers make of a list that holds its files, by a reader and a writer that are held to these limits.
 fn run_list<'l, R: Threads + AllocGlobal + Sync>(
     rt: &R,
@@ -27,17 +42,7 @@ fn run_list<'l, R: Threads + AllocGlobal + Sync>(
 ) -> RunEnd<'l> {
     let mut reader = Reader::new(list.as_bytes(), reading);
     let mut writer = Writer::new(rt.alloc(), writing);
-    let (alloc, hashing) = (rt.alloc(), Hashing::fixed());
-    let outcome = serve(
-        rt,
-        alloc,
-        &mut reader,
-        &mut writer,
-        Mode::Dump,
-        4,
-        8,
-        hashing,
-    );
+    let outcome = serve(rt, rt.alloc(), &mut reader, &mut writer, by_four());
     RunEnd {
         outcome,
         reader,

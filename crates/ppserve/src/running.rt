@@ -10,28 +10,30 @@ ghost use Rattle.ppserve.specs.Needed.{needed};
 
 use crate::list::Contents;
 use crate::output::Mode;
-use pppool::{Gate, Keep, list_growth, run_keeping};
+use pppool::{Batch, Gate, Keep, list_growth, run_keeping};
 use ppshelf::{Disk, MemoryDisk, Shelf, ShelfFault};
 use pptext::{Hashing, Memory, Profile};
 use ppunit::{Setting, Texts, Unit, UnitOut};
 use std::alloc::Global;
 use std::thread::Threads;
 
-/// How workers share the units of a list, and what for.
-#[derive(Clone, Copy, PartialEq, Eq)]
-pub(crate) struct Crew {
-    /// How many work at once, 1 to 64.
-    pub workers: usize,
-    /// The most units that one takes at a time, 1 to 1024.
-    pub block: usize,
-    /// What is printed of them.
+/// How a run goes about its list.
+#[derive(Clone, Copy)]
+pub struct RunOptions {
+    /// What is printed of each unit.
     pub mode: Mode,
+    /// How many units are preprocessed in parallel, 1 to 64.
+    pub workers: usize,
+    /// The most units that a worker takes at a time, 1 to 1024.
+    pub block: usize,
+    /// How names are hashed.
+    pub hashing: Hashing,
 }
 
 // How often each worker takes units where they are too few for whole blocks.
 const TURNS: usize = 16;
 
-impl Crew {
+impl RunOptions {
     /// How many of a list's units one takes at a time: of a short list fewer than it may, so that all are done at about the same time.
     pub(crate) fn share(self, units: usize) -> usize
         requires workers { (1 ≤ self.workers) × (self.workers ≤ 64) }
@@ -53,7 +55,7 @@ fn needed(mode: Mode) -> Keep
 }
 
 /// A gate that lets each unit begin at once.
-struct OpenGate;
+pub(crate) struct OpenGate;
 
 impl Gate for OpenGate {
     fn enter(&self, _unit: usize) {}
@@ -119,65 +121,48 @@ pub(crate) fn over_contents<'a, R: Threads + Sync>(
     shelf: &'a Shelf<MemoryDisk>,
     setting: &Setting,
     units: &'a [Unit],
-    crew: Crew,
+    options: RunOptions,
 ) -> Result<Vec<UnitOut<'a>>, Memory>
     requires full { IsFull shelf.now }
     requires count { length units.now ≤ most_rows }
     requires profile { shelf.now.profile ≡ setting.now.profile }
     requires units { All (IsUnitOf (length shelf.now.names) setting.now.profile) units.now }
-    requires workers { (1 ≤ crew.workers) × (crew.workers ≤ 64) }
-    requires block { (1 ≤ crew.block) × (crew.block ≤ 1024) }
-    ensures { IfOk result (λ outs. AreKept (needed crew.mode) shelf.now.names shelf.now.base setting.now units.now outs.items) }
+    requires workers { (1 ≤ options.workers) × (options.workers ≤ 64) }
+    requires block { (1 ≤ options.block) × (options.block ≤ 1024) }
+    ensures { IfOk result (λ outs. AreKept (needed options.mode) shelf.now.names shelf.now.base setting.now units.now outs.items) }
 {
     let disk = no_disk(alloc);
     let mut pass = shelf.pass()?;
-    let outs = run_keeping(
-        threads,
-        alloc,
+    let batch = Batch {
         shelf,
-        &mut pass,
-        &disk,
-        &OpenGate,
+        disk: &disk,
+        gate: &OpenGate,
         setting,
         units,
-        crew.workers,
-        crew.share(units.len()),
-        needed(crew.mode),
-    )?;
+        workers: options.workers,
+        block: options.share(units.len()),
+    };
+    let outs = run_keeping(threads, alloc, &mut pass, &batch, needed(options.mode))?;
     pass.lawful();
     list_growth();
     Ok(outs)
 }
 
-/// What is needed of what units give over one set of files, each content one that disks of this type may answer for its name, in their order.
+/// What is needed of what the units of a batch give over one set of files, each content one that disks of this type may answer for its name, in
+/// their order.
 pub(crate) fn over_disk<'a, R: Threads + Sync, D: Disk + Send + Sync>(
     threads: &R,
     alloc: Global,
-    shelf: &'a Shelf<D>,
-    disk: &D,
-    setting: &Setting,
-    units: &'a [Unit],
-    crew: Crew,
+    batch: &Batch<'a, '_, D, OpenGate>,
+    mode: Mode,
 ) -> Result<Vec<UnitOut<'a>>, Memory>
-    requires count { length units.now ≤ most_rows }
-    requires profile { shelf.now.profile ≡ setting.now.profile }
-    requires units { All (IsUnitOf (length shelf.now.names) setting.now.profile) units.now }
-    requires workers { (1 ≤ crew.workers) × (crew.workers ≤ 64) }
-    requires block { (1 ≤ crew.block) × (crew.block ≤ 1024) }
-    ensures { IfOk result (λ outs. GiveOverSome D.may (needed crew.mode) shelf.now.names setting.now units.now outs.items) }
+    requires count { length batch.now.units.now ≤ most_rows }
+    requires profile { batch.now.shelf.now.profile ≡ batch.now.setting.now.profile }
+    requires units { All (IsUnitOf (length batch.now.shelf.now.names) batch.now.setting.now.profile) batch.now.units.now }
+    requires workers { (1 ≤ batch.now.workers) × (batch.now.workers ≤ 64) }
+    requires block { (1 ≤ batch.now.block) × (batch.now.block ≤ 1024) }
+    ensures { IfOk result (λ outs. GiveOverSome D.may (needed mode) batch.now.shelf.now.names batch.now.setting.now batch.now.units.now outs.items) }
 {
-    let mut pass = shelf.pass()?;
-    run_keeping(
-        threads,
-        alloc,
-        shelf,
-        &mut pass,
-        disk,
-        &OpenGate,
-        setting,
-        units,
-        crew.workers,
-        crew.share(units.len()),
-        needed(crew.mode),
-    )
+    let mut pass = batch.shelf.pass()?;
+    run_keeping(threads, alloc, &mut pass, batch, needed(mode))
 }

@@ -9,8 +9,9 @@ ghost use Rattle.ppserve.specs.Serving.{some_fault, Received, Comes, HandsOut, H
 use crate::list::{Contents, List, ListFault, MOST_INPUT, read_list};
 use crate::output::{Mode, print};
 use crate::page::Page;
-use crate::running::{Crew, empty_shelf, filled_shelf, over_contents, over_disk};
+use crate::running::{OpenGate, RunOptions, empty_shelf, filled_shelf, over_contents, over_disk};
 use crate::streams::{Feed, Sink};
+use pppool::Batch;
 use ppshelf::Disk;
 use pptext::{Hashing, Memory};
 use ppunit::{Texts, Unit, UnitOut};
@@ -67,10 +68,9 @@ impl From<ListFault> for RunFault {
 
 const CHUNK: usize = 65_536;
 
-/// Reads a list that holds its files, runs its units through translation phases 1 to 4 (5.1.1.2) by so many workers, each of which takes at most
-/// `block` units at a time, and writes their output once they are all done. Answers whether some unit has a fault. Where the list has a budget, what
-/// a unit gives is what it gives within it: a beginning of what it gives without, and the whole exactly where the budget suffices. Names are hashed by
-/// `hashing`. The memory of files and answers isn't given back: the caller is to end next.
+/// Reads a list that holds its files, runs its units through translation phases 1 to 4 (5.1.1.2), and writes their output once they are all done.
+/// Answers whether some unit has a fault. Where the list has a budget, what a unit gives is what it gives within it: a beginning of what it gives
+/// without, and the whole exactly where the budget suffices. The memory of files and answers isn't given back: the caller is to end next.
 ///
 /// # Errors
 ///
@@ -81,31 +81,23 @@ pub fn serve<T: Threads + Sync, R: Feed, W: Sink>(
     alloc: Global,
     reader: &mut R,
     writer: &mut W,
-    mode: Mode,
-    workers: usize,
-    block: usize,
-    hashing: Hashing,
+    options: RunOptions,
 ) -> Result<bool, RunFault>
     requires reader { R.has_failed reader.old ≡ false }
     requires writer { W.has_failed writer.old ≡ false }
-    requires workers { (1 ≤ workers) × (workers ≤ 64) }
-    requires block { (1 ≤ block) × (block ≤ 1024) }
+    requires workers { (1 ≤ options.workers) × (options.workers ≤ 64) }
+    requires block { (1 ≤ options.block) × (options.block ≤ 1024) }
     ensures ok { IfOk result (λ any.
-        Serves true StandIn mode (R.rest reader.old) (R.rest reader.new) (W.written writer.old) (W.written writer.new) any) }
+        Serves true StandIn options.mode (R.rest reader.old) (R.rest reader.new) (W.written writer.old) (W.written writer.new) any) }
     ensures refused { (n : ℕ) → IsErrOf result (ListRefused n) → Refuses true (R.rest reader.old) (R.rest reader.new) n }
     ensures read { IsErrOf result ReadFailed → R.has_failed reader.new ≡ true }
     ensures write { IsErrOf result WriteFailed → W.has_failed writer.new ≡ true }
     ensures broken_off { IsErrOf result WriteFailed →
-        BreaksOff true StandIn mode (R.rest reader.old) (R.rest reader.new) (W.written writer.old) (W.written writer.new) }
+        BreaksOff true StandIn options.mode (R.rest reader.old) (R.rest reader.new) (W.written writer.old) (W.written writer.new) }
     ensures untouched { IfErr result (λ fault. fault ≢ WriteFailed → writer.new ≡ writer.old) }
 {
-    let mut list = receive(alloc, reader, true, hashing)?;
-    let crew = Crew {
-        workers,
-        block,
-        mode,
-    };
-    hand_out_held(threads, alloc, writer, &mut list, crew, hashing)
+    let mut list = receive(alloc, reader, true, options.hashing)?;
+    hand_out_held(threads, alloc, writer, &mut list, options)
 }
 
 /// Preprocesses the units of a list that holds its files by so many workers, and writes their output once they are all done. Answers whether some unit has a
@@ -115,30 +107,35 @@ fn hand_out_held<T: Threads + Sync, W: Sink>(
     alloc: Global,
     writer: &mut W,
     list: &mut List,
-    crew: Crew,
-    hashing: Hashing,
+    options: RunOptions,
 ) -> Result<bool, RunFault>
     requires writer { W.has_failed writer.old ≡ false }
     requires runnable { IsRunnable list.old }
     requires contents { length list.old.contents ≡ length list.old.names }
-    requires workers { (1 ≤ crew.workers) × (crew.workers ≤ 64) }
-    requires block { (1 ≤ crew.block) × (crew.block ≤ 1024) }
+    requires workers { (1 ≤ options.workers) × (options.workers ≤ 64) }
+    requires block { (1 ≤ options.block) × (options.block ≤ 1024) }
     ensures ok { IfOk result (λ any. (before after : Option (ListOf ℕ)) → Comes true before after list.old
-        → Serves true StandIn crew.mode before after (W.written writer.old) (W.written writer.new) any) }
+        → Serves true StandIn options.mode before after (W.written writer.old) (W.written writer.new) any) }
     ensures kinds { IfErr result (λ fault. (fault ≡ OutOfMemory) ⊎ (fault ≡ WriteFailed)) }
     ensures write { IsErrOf result WriteFailed → W.has_failed writer.new ≡ true }
     ensures broken_off { IsErrOf result WriteFailed → (before after : Option (ListOf ℕ)) → Comes true before after list.old
-        → BreaksOff true StandIn crew.mode before after (W.written writer.old) (W.written writer.new) }
+        → BreaksOff true StandIn options.mode before after (W.written writer.old) (W.written writer.new) }
     ensures untouched { IfErr result (λ fault. fault ≢ WriteFailed → writer.new ≡ writer.old) }
 {
     let contents = mem::replace(&mut list.contents, Contents::new(Vec::new(alloc)));
-    let shelf = filled_shelf(alloc, &list.names, list.setting.profile, contents, hashing)?;
+    let shelf = filled_shelf(
+        alloc,
+        &list.names,
+        list.setting.profile,
+        contents,
+        options.hashing,
+    )?;
     let units = list.units.as_slice();
-    let outs = over_contents(threads, alloc, &shelf, &list.setting, units, crew)?;
+    let outs = over_contents(threads, alloc, &shelf, &list.setting, units, options)?;
     let answer = hand_out(
         alloc,
         writer,
-        crew.mode,
+        options.mode,
         &list.names,
         units,
         outs.as_slice(),
@@ -157,31 +154,23 @@ pub fn serve_from<T: Threads + Sync, R: Feed, W: Sink, D: Disk + Send + Sync>(
     reader: &mut R,
     writer: &mut W,
     disk: &D,
-    mode: Mode,
-    workers: usize,
-    block: usize,
-    hashing: Hashing,
+    options: RunOptions,
 ) -> Result<bool, RunFault>
     requires reader { R.has_failed reader.old ≡ false }
     requires writer { W.has_failed writer.old ≡ false }
-    requires workers { (1 ≤ workers) × (workers ≤ 64) }
-    requires block { (1 ≤ block) × (block ≤ 1024) }
+    requires workers { (1 ≤ options.workers) × (options.workers ≤ 64) }
+    requires block { (1 ≤ options.block) × (options.block ≤ 1024) }
     ensures ok { IfOk result (λ any.
-        Serves false (MayBe D.may) mode (R.rest reader.old) (R.rest reader.new) (W.written writer.old) (W.written writer.new) any) }
+        Serves false (MayBe D.may) options.mode (R.rest reader.old) (R.rest reader.new) (W.written writer.old) (W.written writer.new) any) }
     ensures refused { (n : ℕ) → IsErrOf result (ListRefused n) → Refuses false (R.rest reader.old) (R.rest reader.new) n }
     ensures read { IsErrOf result ReadFailed → R.has_failed reader.new ≡ true }
     ensures write { IsErrOf result WriteFailed → W.has_failed writer.new ≡ true }
     ensures broken_off { IsErrOf result WriteFailed →
-        BreaksOff false (MayBe D.may) mode (R.rest reader.old) (R.rest reader.new) (W.written writer.old) (W.written writer.new) }
+        BreaksOff false (MayBe D.may) options.mode (R.rest reader.old) (R.rest reader.new) (W.written writer.old) (W.written writer.new) }
     ensures untouched { IfErr result (λ fault. fault ≢ WriteFailed → writer.new ≡ writer.old) }
 {
-    let list = receive(alloc, reader, false, hashing)?;
-    let crew = Crew {
-        workers,
-        block,
-        mode,
-    };
-    hand_out_from(threads, alloc, writer, disk, &list, crew, hashing)
+    let list = receive(alloc, reader, false, options.hashing)?;
+    hand_out_from(threads, alloc, writer, disk, &list, options)
 }
 
 /// Preprocesses the units of a list of names by so many workers, and writes their output once they are all done. Answers whether some unit has a fault.
@@ -191,28 +180,36 @@ fn hand_out_from<T: Threads + Sync, W: Sink, D: Disk + Send + Sync>(
     writer: &mut W,
     disk: &D,
     list: &List,
-    crew: Crew,
-    hashing: Hashing,
+    options: RunOptions,
 ) -> Result<bool, RunFault>
     requires writer { W.has_failed writer.old ≡ false }
     requires runnable { IsRunnable list.now }
-    requires workers { (1 ≤ crew.workers) × (crew.workers ≤ 64) }
-    requires block { (1 ≤ crew.block) × (crew.block ≤ 1024) }
+    requires workers { (1 ≤ options.workers) × (options.workers ≤ 64) }
+    requires block { (1 ≤ options.block) × (options.block ≤ 1024) }
     ensures ok { IfOk result (λ any. (before after : Option (ListOf ℕ)) → Comes false before after list.now
-        → Serves false (MayBe D.may) crew.mode before after (W.written writer.old) (W.written writer.new) any) }
+        → Serves false (MayBe D.may) options.mode before after (W.written writer.old) (W.written writer.new) any) }
     ensures kinds { IfErr result (λ fault. (fault ≡ OutOfMemory) ⊎ (fault ≡ WriteFailed)) }
     ensures write { IsErrOf result WriteFailed → W.has_failed writer.new ≡ true }
     ensures broken_off { IsErrOf result WriteFailed → (before after : Option (ListOf ℕ)) → Comes false before after list.now
-        → BreaksOff false (MayBe D.may) crew.mode before after (W.written writer.old) (W.written writer.new) }
+        → BreaksOff false (MayBe D.may) options.mode before after (W.written writer.old) (W.written writer.new) }
     ensures untouched { IfErr result (λ fault. fault ≢ WriteFailed → writer.new ≡ writer.old) }
 {
-    let shelf = empty_shelf(alloc, &list.names, list.setting.profile, hashing)?;
+    let shelf = empty_shelf(alloc, &list.names, list.setting.profile, options.hashing)?;
     let units = list.units.as_slice();
-    let outs = over_disk(threads, alloc, &shelf, disk, &list.setting, units, crew)?;
+    let batch = Batch {
+        shelf: &shelf,
+        disk,
+        gate: &OpenGate,
+        setting: &list.setting,
+        units,
+        workers: options.workers,
+        block: options.share(units.len()),
+    };
+    let outs = over_disk(threads, alloc, &batch, options.mode)?;
     let answer = hand_out(
         alloc,
         writer,
-        crew.mode,
+        options.mode,
         &list.names,
         units,
         outs.as_slice(),

@@ -6,7 +6,7 @@ ghost use Rattle.ppunit.specs.Unit.{IsUnitOf};
 
 use super::lists::{setting_of, shelf_of, told, units_of};
 use super::stage::{Change, Meeting, Scene, Stage};
-use pppool::{Keep, run, run_keeping};
+use pppool::{Batch, Keep, run, run_keeping};
 use ppshelf::{Pass, ReadFault, Shelf};
 use pptext::Memory;
 use ppunit::{Setting, Unit, UnitOut};
@@ -51,23 +51,18 @@ fn run_once<'a, R: Threads + Sync>(
     ensures { pass.new.shelf ≡ shelf.now }
 {
     let (workers, block) = (crew.workers.clamp(1, 64), crew.block.clamp(1, 1024));
+    let batch = Batch {
+        shelf,
+        disk,
+        gate: disk,
+        setting,
+        units,
+        workers,
+        block,
+    };
     match crew.keep {
-        Keep::Whole => run(
-            rt, alloc, shelf, pass, disk, disk, setting, units, workers, block,
-        ),
-        Keep::Bare => run_keeping(
-            rt,
-            alloc,
-            shelf,
-            pass,
-            disk,
-            disk,
-            setting,
-            units,
-            workers,
-            block,
-            Keep::Bare,
-        ),
+        Keep::Whole => run(rt, alloc, pass, &batch),
+        Keep::Bare => run_keeping(rt, alloc, pass, &batch, Keep::Bare),
     }
 }
 

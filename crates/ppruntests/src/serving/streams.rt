@@ -1,9 +1,9 @@
 // Streams that fail, that take little at a time, and those of the system.
 use super::devices::{Limits, UNLIMITED};
-use super::{assert_ended, assert_sends, run_list};
-use ppserve::{Mode, ReaderFeed, RunFault, WriterSink, serve_from, status};
+use super::{assert_ended, assert_sends, by_four, run_list};
+use ppserve::{ReaderFeed, RunFault, WriterSink, serve_from, status};
 use ppshelf::{File, MemoryDisk};
-use pptext::{Hashing, Memory};
+use pptext::Memory;
 use std::alloc::{AllocError, Global};
 use std::process::Abort;
 use std::test::Fail;
@@ -93,18 +93,7 @@ fn run_between<R: Threads + AllocGlobal + Sync>(
 ) -> Result<bool, RunFault> {
     let mut reader = ReaderFeed::new(NAMED.as_bytes());
     let mut writer = WriterSink::new(bytes);
-    let (alloc, hashing) = (rt.alloc(), Hashing::fixed());
-    serve_from(
-        rt,
-        alloc,
-        &mut reader,
-        &mut writer,
-        disk,
-        Mode::Dump,
-        4,
-        8,
-        hashing,
-    )
+    serve_from(rt, rt.alloc(), &mut reader, &mut writer, disk, by_four())
 }
 
 #[test]

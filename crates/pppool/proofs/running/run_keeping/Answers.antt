@@ -20,33 +20,33 @@ prove-unreachable-requires g c =
 pub all_of-requires : goal.all_of-requires
 all_of-requires g c =
     let e = c.in_ok-seats.ensures in
-    let Q : ℕ → Type 0 = λ n. (i : ℕ) → i < length c.args.units.now → i / c.args.block < n in
+    let Q : ℕ → Type 0 = λ n. (i : ℕ) → i < length c.args.batch.now.units.now → i / c.args.batch.now.block < n in
     let blocks = ap (λ (p : Plan). p.blocks) c.in_ok-desk.ensures.plan in
-    all_full c.args.keep c.args.shelf.now c.gather-gathered.new.pass.files c.args.setting.now c.args.units.now c.args.block c.in_ok-desk.desk.plan.blocks (claims_of c.in_ok-seats.seats.items) c.in_ok-seats.slots.items
+    all_full c.args.keep c.args.batch.now.shelf.now c.gather-gathered.new.pass.files c.args.batch.now.setting.now c.args.batch.now.units.now c.args.batch.now.block c.in_ok-desk.desk.plan.blocks (claims_of c.in_ok-seats.seats.items) c.in_ok-seats.slots.items
     e.slots e.full (c.close-whole.ensures.whole c.if-prove.false) (subst Q (sym blocks) c.block_count.ensures.all)
 
 pub returns-clause-kept : goal.returns-clause-kept
 returns-clause-kept g c =
     let files = c.gather-gathered.new.pass.files in
-    let P : List (Option UnitOut) → Type 0 = FitSlots c.args.keep c.args.shelf.now files c.args.setting.now c.args.units.now in
-    if_ok_then c.all_of.result c.all_of.ensures (λ v is. are_kept c.args.keep c.args.shelf.now files c.args.setting.now c.args.units.now v.items (subst P is c.in_ok-seats.ensures.slots))
+    let P : List (Option UnitOut) → Type 0 = FitSlots c.args.keep c.args.batch.now.shelf.now files c.args.batch.now.setting.now c.args.batch.now.units.now in
+    if_ok_then c.all_of.result c.all_of.ensures (λ v is. are_kept c.args.keep c.args.batch.now.shelf.now files c.args.batch.now.setting.now c.args.batch.now.units.now v.items (subst P is c.in_ok-seats.ensures.slots))
 
 pub returns-clause-within : goal.returns-clause-within
 returns-clause-within g c =
     let files = c.gather-gathered.new.pass.files in
-    let names = c.args.shelf.now.names in
+    let names = c.args.batch.now.shelf.now.names in
     if_ok_then c.all_of.result (returns-clause-kept g c) (λ v kept. record {
       kept = kept;
-      within = are_within c.stays_within.ensures names files c.args.setting.now c.args.units.now kept.wholes kept.values;
+      within = are_within c.stays_within.ensures names files c.args.batch.now.setting.now c.args.batch.now.units.now kept.wholes kept.values;
     })
 
 pub returns-clause-capped : goal.returns-clause-capped
 returns-clause-capped g c =
     let files = c.gather-gathered.new.pass.files in
-    let names = c.args.shelf.now.names in
+    let names = c.args.batch.now.shelf.now.names in
     if_ok_then c.all_of.result (returns-clause-kept g c) (λ v kept. record {
       kept = kept;
-      capped = are_capped c.budget_caps_units.ensures names files c.args.setting.now c.args.units.now kept.wholes c.lawful-3.ensures.names kept.values;
+      capped = are_capped c.budget_caps_units.ensures names files c.args.batch.now.setting.now c.args.batch.now.units.now kept.wholes c.lawful-3.ensures.names kept.values;
     })
 
 pub returns-clause-filled : goal.returns-clause-filled

@@ -14,21 +14,21 @@ pub hand_out-answer-requires-clause-counts : goal.hand_out-answer-requires-claus
 hand_out-answer-requires-clause-counts g c =
     let list = c.args.list.now in
     let outs = c.in_ok-outs.outs.items in
-    let gives = gives_from _ (needed c.args.crew.mode) list c.in_ok-shelf.shelf c.as_slice-units.result.now outs c.in_ok-shelf.ensures.names c.as_slice-units.ensures c.in_ok-outs.ensures in
-    ap length c.as_slice.ensures.value ∙ (one_each (needed c.args.crew.mode) list.names gives.files list.setting list.units outs gives.gives ∙ sym (ap length c.as_slice-units.ensures))
+    let gives = gives_from _ (needed c.args.options.mode) list c.in_ok-shelf.shelf c.as_slice-units.result.now outs c.in_ok-shelf.ensures.names c.as_slice-units.ensures c.in_ok-outs.ensures in
+    ap length c.as_slice.ensures.value ∙ (one_each (needed c.args.options.mode) list.names gives.files list.setting list.units outs gives.gives ∙ sym (ap length c.as_slice-units.ensures))
 
 pub returns-clause-ok : goal.returns-clause-ok
 returns-clause-ok g c =
     let list = c.args.list.now in
     let outs = c.in_ok-outs.outs.items in
-    let gives = gives_from _ (needed c.args.crew.mode) list c.in_ok-shelf.shelf c.as_slice-units.result.now outs c.in_ok-shelf.ensures.names c.as_slice-units.ensures c.in_ok-outs.ensures in
-    if_ok_then c.hand_out-answer.result c.hand_out-answer.ensures.ok (λ any given before after came. served c.args.crew.mode list _ _ _ _ any (came_of c.args.crew.mode list c.as_slice-units.result.now c.as_slice.result.now outs
+    let gives = gives_from _ (needed c.args.options.mode) list c.in_ok-shelf.shelf c.as_slice-units.result.now outs c.in_ok-shelf.ensures.names c.as_slice-units.ensures c.in_ok-outs.ensures in
+    if_ok_then c.hand_out-answer.result c.hand_out-answer.ensures.ok (λ any given before after came. served c.args.options.mode list _ _ _ _ any (came_of c.args.options.mode list c.as_slice-units.result.now c.as_slice.result.now outs
     c.as_slice-units.ensures c.as_slice.ensures.value came gives.files gives.lawful gives.gives) given)
 
 pub returns-clause-broken_off : goal.returns-clause-broken_off
 returns-clause-broken_off g c = λ failed before after came.
     let list = c.args.list.now in
     let outs = c.in_ok-outs.outs.items in
-    let gives = gives_from _ (needed c.args.crew.mode) list c.in_ok-shelf.shelf c.as_slice-units.result.now outs c.in_ok-shelf.ensures.names c.as_slice-units.ensures c.in_ok-outs.ensures in
-    broken_off c.args.crew.mode list _ _ _ _ (came_of c.args.crew.mode list c.as_slice-units.result.now c.as_slice.result.now outs
+    let gives = gives_from _ (needed c.args.options.mode) list c.in_ok-shelf.shelf c.as_slice-units.result.now outs c.in_ok-shelf.ensures.names c.as_slice-units.ensures c.in_ok-outs.ensures in
+    broken_off c.args.options.mode list _ _ _ _ (came_of c.args.options.mode list c.as_slice-units.result.now c.as_slice.result.now outs
     c.as_slice-units.ensures c.as_slice.ensures.value came gives.files gives.lawful gives.gives) (c.hand_out-answer.ensures.front failed)
