@@ -1,4 +1,4 @@
-use Rattle.std.proofs.Common.{◌≡◌, subst}
+use Rattle.std.proofs.Common.{◌≡◌, ◌∙◌, ap, subst}
 use Rattle.std.proofs.lemmas.Result.{IfOk-weaker}
 use Rattle.ppshelf.specs.Files.{Agree, Stock}
 use Rattle.ppunit.specs.States.{Library, Reached, surroundings_of, given}
@@ -38,4 +38,4 @@ returns-clause-within g c =
 pub returns-clause-filled : goal.returns-clause-filled
 returns-clause-filled g c =
     let P : Stock → Type 0 = λ s. Agree (s.base) c.give-given.new.pass.files in
-    subst P c.give-given.ensures.shelf c.lawful-2.ensures.filled
+    subst P (c.give-given.ensures.shelf ∙ ap (λ (l : Library). l.shelf) c.new-around.ensures) c.lawful-2.ensures.filled
