@@ -1,10 +1,10 @@
 #!/usr/bin/env python3
-"""Writes docs/EDITS.md: for each must-fail edit, which clause of which function refuses it, as the gate's log says.
+"""Writes docs/MUTANTS.md: for each mutant, which clause of which function refuses it, by the log of the full check.
 
-    rt ci | tee LOG; tests/edits_table.py LOG > NEW && mv NEW docs/EDITS.md
+    rt ci | tee LOG; tests/edits_table.py LOG > NEW && mv NEW docs/MUTANTS.md
 
-Edits that the log doesn't name, since it is of some crates alone or of a gate that was stopped, keep the sentence that docs/EDITS.md
-has; one that has none is left out, and counted.
+A log of some crates, or of a check that was stopped, doesn't name all mutants. The others keep their row of docs/MUTANTS.md. One
+without a row is left out, and the number in its crate's heading shows it.
 """
 import glob
 import os
@@ -12,19 +12,23 @@ import re
 import sys
 
 TOP = os.path.dirname(os.path.dirname(os.path.abspath(__file__)))
-HEAD = """# Must-fail edits
+HEAD = """# Mutants
 
-Each edit in `crates/*/must-fail` turns the meaning of one public call, as its name says, and the
-prover must refuse it. There is one for each wrong program that a contract is to exclude, one for each
-public call of the libraries that decides something, and some for rules that are easily broken. An edit
-counts if its meaning is refused, and not only its form: the code as it stands is a right body of the
-same form if the edit changes a value or a condition alone. For others a right body of the same form was
-tried once, and is proved; it stands in a line `# right:` in the place of `new:`.
+A mutant, `crates/*/must-fail/*.edit`, changes the meaning of one function, as its name says. The
+prover must refuse it; otherwise a contract is too weak. [TESTING.md](TESTING.md#mutants) says which
+mutants there are and how to write one.
 
-*Call* is the public call, from the line `# covers:`. *Refused by* is the first goal that can't be
-shown, with the function in which it arises. A goal's name says where (`returns-then-is_spent`: where the
-function returns because `is_spent` holds; `loop-.._preserved`: the invariant after a turn;
-`..-requires`: what a call wants) and, last, the clause of the contract. `tests/edits_table.py` writes
+A mutant counts if its meaning is refused, not only its form. If it changes only a value or a
+condition, the code as it stands is the right body of the same form. For the others a right body of
+the same form was tried once and proved. It is in a line `# right:` instead of `new:`.
+
+- *Call* is the public call whose meaning it changes, from the line `# covers:`.
+- *Refused by* is the function that can't be proved, its file, and the first goal that fails. The
+  name of a goal says where it arises. `returns-then-is_spent`: where the function returns because
+  `is_spent` holds. `loop-.._preserved`: the invariant after an iteration. `..-requires`: what a
+  call requires. The last part is the clause of the contract.
+
+A heading has the number of mutants in the table and in the crate. `tests/edits_table.py` writes
 this page from the log of the full check.
 """
 LINE = re.compile(r"must-fail (\w+)/([\w-]+)\.edit: refused, as it must be(.*)")
@@ -32,7 +36,7 @@ GOAL = re.compile(r"(?:note: |\./)?((?:src|specs|proofs)/[\w+/-]+\.(?:rt|antt)):
 
 
 def function_at(crate, path, line):
-    """The function of the source around this line, or the one whose proof this file is."""
+    """Returns the function of the source around this line, or the one whose proof this file is."""
     if path.startswith("proofs/"):
         return os.path.basename(os.path.dirname(path))
     name = "?"
@@ -58,8 +62,8 @@ def sentence(crate, told):
 
 
 def known():
-    """What docs/EDITS.md says already, by crate and edit."""
-    page, crate, found = os.path.join(TOP, "docs", "EDITS.md"), None, {}
+    """Returns what docs/MUTANTS.md has already, by crate and mutant."""
+    page, crate, found = os.path.join(TOP, "docs", "MUTANTS.md"), None, {}
     if not os.path.exists(page):
         return found
     with open(page) as text:
@@ -74,7 +78,7 @@ def known():
 
 
 def covered(edit):
-    """The public calls that an edit says it covers."""
+    """Returns the public calls that a mutant covers, by its own line."""
     with open(edit) as text:
         named = [line.split(":", 1)[1] for line in text if line.startswith("# covers:")]
     return ", ".join("`%s`" % call.strip() for call in ",".join(named).split(",") if call.strip())
@@ -94,7 +98,7 @@ def main():
         told = [(name, covered(edit), found[crate, name]) for name, edit in edits if (crate, name) in found]
         print("## %s (%d of %d)\n" % (crate, len(told), len(edits)))
         if told:
-            print("| Edit | Call | Refused by |\n|---|---|---|")
+            print("| Mutant | Call | Refused by |\n|---|---|---|")
             print("\n".join("| `%s` | %s | %s |" % row for row in told) + "\n")
 
 
