@@ -87,7 +87,10 @@ pub(crate) fn empty_shelf<D: Disk>(
     match Shelf::with_hasher(alloc, copies, profile, hashing) {
         Ok(shelf) => Ok(shelf),
         Err(ShelfFault::Memory) => Err(Memory),
-        Err(ShelfFault::Name(_)) => unreachable!(),
+        Err(ShelfFault::Name(row)) => {
+            let _row = row;
+            unreachable!()
+        }
     }
 }
 

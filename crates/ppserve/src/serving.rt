@@ -196,16 +196,21 @@ fn hand_out_from<T: Threads + Sync, W: Sink, D: Disk + Send + Sync>(
 {
     let shelf = empty_shelf(alloc, &list.names, list.setting.profile, options.hashing)?;
     let units = list.units.as_slice();
-    let batch = Batch {
-        shelf: &shelf,
-        disk,
-        gate: &OpenGate,
-        setting: &list.setting,
-        units,
-        workers: options.workers,
-        block: options.share(units.len()),
-    };
-    let outs = over_disk(threads, alloc, &batch, options.mode)?;
+    let block = options.share(units.len());
+    let outs = over_disk(
+        threads,
+        alloc,
+        &Batch {
+            shelf: &shelf,
+            disk,
+            gate: &OpenGate,
+            setting: &list.setting,
+            units,
+            workers: options.workers,
+            block,
+        },
+        options.mode,
+    )?;
     let answer = hand_out(
         alloc,
         writer,

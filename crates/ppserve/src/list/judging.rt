@@ -299,7 +299,7 @@ fn split_files(
     files: Sequence<DraftFile>,
     inline: bool,
 ) -> Result<(Texts, Contents), AllocError>
-    ensures names { IfOk result (λ r. r.0.names ≡ spec.names_of files) }
+    ensures names { IfOk result (λ r. r.0 ≡ spec.names_of files) }
     ensures contents { IfOk result (λ r. r.1 ≡ (if inline then spec.contents_of files else [])) }
 {
     let mut names = Vec::new(alloc);
