@@ -6,10 +6,10 @@
 Example:  bench/projects.py --program crates/cppunits/out/cppunits "zlib 1.2.13=../zlib-1.2.13/build"
 
 For each directory scripts/build.py makes the list and runs cppunits, and the compiler is run on each unit with the words
-of its own command and -E -P -MD.  With --every 5 only each fifth command is used, and the name of the row says so.  A
-compiler that takes more than --seconds for a unit is stopped, with the processes that it started.  A row has the number
-of units, of those that the compiler takes, and of these: how many are ok, have the compiler's tokens, and have its
-dependencies in its order.  bench/cutter.py makes spellings of the compiler's text.
+of its own command and -g0 -E -P -MD (with -g3 gcc prints definitions, too).  With --every 5 only each fifth command is
+used, and the name of the row says so.  A compiler that takes more than --seconds for a unit is stopped, with the processes
+that it started.  A row has the number of units, of those that the compiler takes, and of these: how many are ok, have the
+compiler's tokens, and have its dependencies in its order.  bench/cutter.py makes spellings of the compiler's text.
 
 The comparison leaves out stdc-predef.h, which gcc includes by itself, #ident lines, pragmas that gcc executes and doesn't
 print, like #pragma once, and how __FILE__ names a file: the list names it from /.  Standard error names each unit that
@@ -72,7 +72,7 @@ class Entry:
             return None, 0.0
         with tempfile.TemporaryDirectory(prefix="projects.") as folder:
             rule = os.path.join(folder, "rule")
-            text = answered([*self.words, "-E", "-P", "-MD", "-MF", rule], self.directory, seconds)
+            text = answered([*self.words, "-g0", "-E", "-P", "-MD", "-MF", rule], self.directory, seconds)
             taken = time.monotonic() - began
             if text is None or not os.path.exists(rule):
                 return None, taken
@@ -118,15 +118,23 @@ def tokens_of_unit(unit):
     """The spellings of a dump, the operator _Pragma as the line that a compiler makes of it."""
     found, pragma = [], []
     for line in unit.lines:
-        if pragma and not line.startswith(b"ptok "):
+        if line.startswith(b"ptok "):
+            pragma.append(spelling(line))
+            continue
+        if pragma:
             found += pragma_line(pragma)
             pragma = []
-        if line.startswith((b"tok ", b"ptok ")):
-            word = line.split(b" ", 4)[4]
-            (pragma if line.startswith(b"p") else found).append(plain(word) if b"%" in word else word)
+        if line.startswith(b"tok "):
+            found.append(spelling(line))
         elif line.startswith(b"prag "):
             pragma = [b"#", b"pragma"]
     return without_operators(found + pragma_line(pragma))
+
+
+def spelling(line):
+    """The spelling of a token's line."""
+    word = line.split(b" ", 4)[4]
+    return plain(word) if b"%" in word else word
 
 
 def pragma_line(tokens):
@@ -136,7 +144,7 @@ def pragma_line(tokens):
 def without_operators(tokens):
     """The tokens with a line for each operator _Pragma."""
     found, at = [], 0
-    while b"_Pragma" in tokens[at:]:
+    for _ in range(tokens.count(b"_Pragma")):
         operator = tokens.index(b"_Pragma", at)
         found += tokens[at:operator]
         inner = tokens[operator + 2:operator + 3]

@@ -184,21 +184,20 @@ def units_of(path, lines):
     """The units of an output's lines, which are bytes; the path is what a refusal calls it."""
     unit, count = None, 0
     for number, line in enumerate(lines, 1):
-        where = "%s, line %d" % (path, number)
         if not line.endswith(b"\n"):
-            raise Refused(where + ": the output is cut off")
+            raise Refused("%s, line %d: the output is cut off" % (path, number))
         line = line[:-1]
         if unit is None:
-            unit = begun(where, line, count)
+            unit = begun("%s, line %d" % (path, number), line, count)
             count += 1
+        elif line.startswith(INSIDE):
+            unit.lines.append(line)
         elif line == b"ok" or line.startswith(b"fault "):
             unit.last = line
             yield unit
             unit = None
-        elif line.startswith(INSIDE):
-            unit.lines.append(line)
         else:
-            raise Refused(where + ": no line that cppunits prints within a unit")
+            raise Refused("%s, line %d: no line that cppunits prints within a unit" % (path, number))
     if unit is not None:
         raise Refused("%s: the output is cut off within unit %d" % (path, unit.number))
 

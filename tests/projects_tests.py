@@ -42,7 +42,7 @@ class Projects(Folder):
     def test_headers_of_the_system(self):
         files = {"p/main.c": MAIN, "p/inc/own.h": OWN, "p/first.h": "#define FIRST\n"}
         commands = [("main.c", "gcc -O2 -Iinc -c main.c -o main.o"), ("main.c", "gcc -std=c11 -Iinc -MD -MF x.d -c main.c"),
-                    ("main.c", "gcc -D_GNU_SOURCE -include first.h -Iinc -c main.c")]
+                    ("main.c", "gcc -g3 -D_GNU_SOURCE -include first.h -Iinc -c main.c")]
         cells, said, status = self.compared(files, commands)
         self.assertEqual((cells, said, status), (["p", "3", "3", "3", "3", "3", "none"], [], 0))
 
