@@ -1,4 +1,4 @@
--- What is behind a line follows from what is left: one step of a walk.
+-- What is after a line follows from what is left: one step of a walk.
 use Rattle.std.proofs.Common.{◌≡◌, ℕ, suc, ◌+◌, ◌<◌, List, [], ◌∷◌, length, drop, sym, ap, ◌∙◌, add-one, Option, None, Some, Result, Ok, Err}
 use Rattle.pptext.specs.declared.tokens.Fault.{Fault}
 use Rattle.pptext.specs.declared.sources.Directive.{Directive}
@@ -11,7 +11,7 @@ use Rattle.ppunit.specs.Walk.{line_at, Outer, lay, AreOuter, StandsAt, Ends, Adv
 use Rattle.ppunit.proofs.IndexedLines.{at_index, from_index}
 use Rattle.ppunit.proofs.FirstLine.{First, first_of}
 
--- ---- what is behind follows from what is left
+-- ---- what is after follows from what is left
 
 pub ends_front : (around : Surroundings) (depth row : ℕ) (m n : Reached) (ps qs : Parts) (k : Outer) (end : Reached)
     → ((o : Reached) → Group around depth row n qs o → Group around depth row m ps o)

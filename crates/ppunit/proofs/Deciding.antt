@@ -88,7 +88,7 @@ probed_by : (search : Search) (row : ℕ) (f : Fault) (ts : List Token) (b : Boo
 probed_by search row f ts true e = refl
 probed_by search row f ts false e = absurd (false≢true e)
 
--- the condition is that of the tokens behind the step
+-- the condition is that of the tokens after the step
 pub decides_probed : (search : Search) (row : ℕ) (s : State) (line ts us : List Token) (profile : Profile) (at : Place) (after : Option ℕ) (taken : Result Bool Fault)
     → profile ≡ search.profile
     → ts ≡ operands line

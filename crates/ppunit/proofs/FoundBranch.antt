@@ -206,7 +206,7 @@ branch_refused search row lines start next index s t after fault sofar found ent
     let g = refuse_branch search row lines next t after fault f.1 qs k (found_at lines index next f.0 f.1 qs k f.2 found) f.2.outer entered in
     λ around by depth. f.3 around by depth (stopped (with_left t after) fault) (g around by depth)
 
--- behind an opening line or a branch there is a branch line
+-- after an opening line or a branch there is a branch line
 pub branch_found : (search : Search) (row : ℕ) (lines : List LogicalLine) (start index : ℕ) (s t : State)
     → BranchSoFar search row lines start s t index
     → next_branch index (role (line_at lines index)) (drop (suc index) lines) ≡ None

@@ -34,7 +34,7 @@ use Rattle.ppunit.proofs.FileTokens.{IsSpelled, AreSpelled, IsSpelledLine, opens
 use Rattle.std.specs.FinMap as table
 use Rattle.ppunit.proofs.Unquoted.{is_quote, is_ident_kind, ident_unquoted, named_is, is_hash, hash_unquoted, opens_by, AreUnquoted, no_quote, named_unquoted}
 
--- the group behind a line is not taken, and that costs nothing
+-- the group after a line is not taken, and that costs nothing
 abbrev SkipsOf : Result (List Token) Fault → State → Place → Type 0
 SkipsOf tokens s at = (h : DecidesOf tokens s at s.left (Ok false)) × (count_decides_of tokens s at s.left (Ok false) h ≡ 0)
 
@@ -48,7 +48,7 @@ SkipsUnless search row quote d s tokens = (h : DecidesUnless search row quote d 
 abbrev Skips : Search → ℕ → State → Option Directive → List Token → Type 0
 Skips search row s d tokens = SkipsUnless search row (lone_quote tokens) d s tokens
 
--- of a line without lone quotes whose directive is spelled so
+-- of a line without unmatched quotes whose directive is spelled so
 decided : (search : Search) (row : ℕ) (s : State) (profile : Profile) (h d : Token) (ts : List Token) (name : List ℕ) (is_called : Directive)
     → is_hash h.text ≡ true
     → named d name ≡ true

@@ -60,7 +60,7 @@ behind : {A : Type 0} (P : A → Type 0) (xs ys : List A) → AllByRecursion P (
 behind P [] ys all = all
 behind P (x ∷ xs) ys all = behind P xs ys all.1
 
--- two that cost nothing, one behind the other
+-- two that cost nothing, one after the other
 both_free : {m n : ℕ} → m ≡ 0 → n ≡ 0 → m + n ≡ 0
 both_free p q = λ i. p i + q i
 

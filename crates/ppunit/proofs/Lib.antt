@@ -1,4 +1,4 @@
--- The lemmas of this crate, by file; the proofs of its functions stand in a folder for each file of the sources.
+-- The lemmas of this crate, by file; the proofs of its functions stand in a directory for each file of the sources.
 
 -- A number that is read digit by digit, and stays as it is once it is too great.
 pub mod Digits
@@ -26,7 +26,7 @@ pub mod IndexedLines
 pub mod Commands
 -- Which part of a group the first line of its lines belongs to, by the line's directive.
 pub mod FirstLine
--- What is behind a line follows from what is left: one step of a walk.
+-- What is after a line follows from what is left: one step of a walk.
 pub mod Advancing
 -- A text run without tokens, as blank lines are: nothing comes of it.
 pub mod EmptyRuns
@@ -64,7 +64,7 @@ pub mod Leading
 pub mod Dependent
 -- Each token of a file is spelled as its kind, or as a header name, and each line has the directive of its tokens.
 pub mod FileTokens
--- Tokens without lone quotes.
+-- Tokens without unmatched quotes.
 pub mod Unquoted
 -- The opening line of a guarded file does not take its group where the guard is a macro's name, in each of its three forms.
 pub mod GuardLines

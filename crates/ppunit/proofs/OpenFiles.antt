@@ -15,7 +15,7 @@ use Rattle.ppunit.proofs.Advancing.{ends_stop}
 abbrev pub Rest : Type 0
 Rest = Parts × Outer
 
--- each file waits at the line behind the one that included the next
+-- each file waits at the line after the one that included the next
 abbrev pub Waits : List Waiting → List Rest → Type 0
 Waits [] [] = Unit {0}
 Waits (w ∷ ws) ((ps, k) ∷ rests) = StandsAt w.file.lines w.file.index ps k × Waits ws rests

@@ -17,11 +17,11 @@ is_close t = is_punct (codes ")") t
 none_at : (ts : List Token) → position is_close ts ≡ None → length ts ≤ position_or_len is_close ts
 none_at ts e = grind (arith, common_steps)
 
--- what a slice behind an index is
+-- what a slice after an index is
 pub rest_behind : (ts : List Token) (i : ℕ) → take (length ts - (i + 1)) (drop (i + 1) ts) ≡ drop (suc i) ts
 rest_behind ts i = let same : i + 1 ≡ suc i = omega arith in rw same (grind (arith, common_steps))
 
--- what becomes of an `__has_include`, by what stands behind it up to the `)`
+-- what becomes of an `__has_include`, by what stands after it up to the `)`
 abbrev told_of : Search → ℕ → Token → List Token → Option Token
 told_of search row name behind = told search row name (if_somewhere (expanded_asked (drop 1 behind)))
 

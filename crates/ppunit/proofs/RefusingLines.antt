@@ -33,7 +33,7 @@ use Rattle.ppexpand.specs.Expansion.{count_expansion}
 use Rattle.ppunit.specs.Counts.{count_decides, count_asks, count_group, count_branched, count_control}
 use Rattle.ppunit.proofs.Spends.{still_none, asks_spends, decides_spends, run_spends, group_spends, branches_spend, control_spends, defines_spends}
 
--- ---- where there is no budget there is none behind
+-- ---- where there is no budget there is none after
 
 pub asks_none : (s : State) (line : List Token) (after : Option ℕ) (asked : Result Asked Fault) → s.left ≡ None → Asks s line after asked → after ≡ None
 asks_none s line after asked is g = still_none (count_asks s line after asked g) is (asks_spends s line after asked g)

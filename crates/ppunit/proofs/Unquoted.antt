@@ -1,4 +1,4 @@
--- Tokens without lone quotes.
+-- Tokens without unmatched quotes.
 use Rattle.std.proofs.Common.{◌≡◌, ℕ, Bool, true, false, ◌&&◌, ◌||◌, List, [], ◌∷◌, Some, None, refl, ap, ◌∙◌, codes, if◌then◌else◌}
 use Rattle.std.proofs.Math.Bool.{and-false}
 use Rattle.std.specs.Str.{bytes_eq}

@@ -1,4 +1,4 @@
--- A unit with a budget beside the same unit without one.
+-- A unit with a budget, compared with the same unit without one.
 use Rattle.std.specs.Prelude.{◌≡◌, ◌↔◌, ◌⊎◌, ℕ, ◌<◌, ◌≤◌, List, length, Option, None, Some}
 use Rattle.pptext.specs.declared.tokens.Fault.{Fault}
 use Rattle.ppexpand.specs.Laws.{IsBeginning}
@@ -14,8 +14,9 @@ use Rattle.ppunit.specs.Laws.{KnowsAll}
 abbrev pub HasFault : ℕ → UnitOut → Type 0
 HasFault number out = (f : Fault) × (out.fault ≡ Some f) × (f.number ≡ number)
 
--- What a unit gives with the budget b, beside the whole, which it gives without one and which counts so many: its items and its dependencies are
--- beginnings; it is the whole exactly where the whole counts at most b; otherwise its fault is 35.
+-- The value `out` of a unit with the budget b, compared with the whole: its value without a budget, which takes the
+-- given number of replacements and opened files. Items and dependencies are prefixes. `out` is the whole exactly if the
+-- whole takes at most b; otherwise its fault is 35.
 pub record IsCapped (b replaced_and_opened : ℕ) (whole out : UnitOut) : Type 0 where
   pub items : IsBeginning out.items whole.items
   pub deps : IsBeginning out.deps whole.deps
@@ -25,22 +26,23 @@ pub record IsCapped (b replaced_and_opened : ℕ) (whole out : UnitOut) : Type 0
 abbrev pub unlimited : Setting → Setting
 unlimited setting = record setting { budget = None }
 
--- at most so many, where there is a budget
+-- n is at most the budget, if there is one
 abbrev pub AtMost : Option ℕ → ℕ → Type 0
 AtMost None n = Unit {0}
 AtMost (Some b) n = n ≤ b
 
--- however the unit comes to this answer, it replaces and opens no more than its budget allows
+-- in each way to this value, the unit's replacements and opened files total at most its budget
 abbrev pub IsWithin : List (List ℕ) → Files → Setting → UnitOfList → UnitOut → Type 0
 IsWithin names files setting unit out = (p : IsUnit names files setting unit out) → AtMost setting.budget (count p)
 
--- over these files the unit has a value without a budget, and this is what the budget b lets through of it
+-- over these files the unit has a value without a budget, and `out` is what the budget b leaves of it
 pub record HasWhole (b : ℕ) (names : List (List ℕ)) (files : Files) (setting : Setting) (unit : UnitOfList) (out : UnitOut) : Type 0 where
   pub whole : UnitOut
   pub value : IsUnit names files (unlimited setting) unit whole
   pub capped : IsCapped b (count value) whole out
 
--- Over these files and any more: each value that the unit has without a budget is the whole of this one, and where they know each file, it has one.
+-- Over these files and any larger set: `out` is what the budget leaves of each value that the unit has without a
+-- budget; and if each file is known, the unit has such a value.
 pub record IsCappedOver (names : List (List ℕ)) (files : Files) (setting : Setting) (unit : UnitOfList) (out : UnitOut) : Type 0 where
   pub each : (b : ℕ) (more : Files) (whole : UnitOut)
       → setting.budget ≡ Some b
@@ -54,15 +56,15 @@ pub record IsCappedOver (names : List (List ℕ)) (files : Files) (setting : Set
       → unit.file < length names
       → HasWhole b names more setting unit out
 
--- ---- laws
+-- ---- theorems
 
--- a unit's count is at most its budget
+-- replacements and opened files total at most the budget
 abbrev pub StaysWithin : Type 0
 StaysWithin =
     (names : List (List ℕ)) (files : Files) (setting : Setting) (unit : UnitOfList) (out : UnitOut)
     → IsWithin names files setting unit out
 
--- a budgeted value is a beginning, and the whole exactly where the budget suffices
+-- the value with a budget is a prefix, and the whole exactly if the budget suffices
 abbrev pub BudgetCaps : Type 0
 BudgetCaps =
     (names : List (List ℕ)) (files : Files) (setting : Setting) (unit : UnitOfList) (out : UnitOut)
@@ -70,7 +72,7 @@ BudgetCaps =
     → IsUnit names files setting unit out
     → IsCappedOver names files setting unit out
 
--- without a budget no unit has fault 35
+-- without a budget no unit ends in fault 35
 abbrev pub OnlyBudgetsRefuse : Type 0
 OnlyBudgetsRefuse =
     (names : List (List ℕ)) (files : Files) (setting : Setting) (unit : UnitOfList) (out : UnitOut)
@@ -78,9 +80,10 @@ OnlyBudgetsRefuse =
     → IsUnit names files setting unit out
     → ¬ HasFault 35 out
 
--- ---- budgets of two sizes
+-- ---- two budgets
 
--- what a unit gives with a budget, beside what it gives with a larger one: a beginning, and all of it unless its fault is 35
+-- the value `out` with a budget, compared with the value `more` with a larger one: a prefix, and equal unless its fault
+-- is 35
 pub record GivesNoLess (out more : UnitOut) : Type 0 where
   pub items : IsBeginning out.items more.items
   pub deps : IsBeginning out.deps more.deps
@@ -89,13 +92,14 @@ pub record GivesNoLess (out more : UnitOut) : Type 0 where
 abbrev pub with_budget : Setting → Option ℕ → Setting
 with_budget setting budget = record setting { budget = budget }
 
--- over these files the unit has a value with this budget, or with none, and it is no less than this one
+-- over these files the unit has a value with this budget, or with none, and `out` is a prefix of it
 pub record HasNoLess (larger : Option ℕ) (names : List (List ℕ)) (files : Files) (setting : Setting) (unit : UnitOfList) (out : UnitOut) : Type 0 where
   pub more : UnitOut
   pub value : IsUnit names files (with_budget setting larger) unit more
   pub no_less : GivesNoLess out more
 
--- Over these files and any more: each value that the unit has with this budget, or with none, is no less, and where they know each file, it has one.
+-- Over these files and any larger set: `out` is a prefix of each value that the unit has with this budget, or with
+-- none; and if each file is known, the unit has such a value.
 pub record GivesNoLessOver (larger : Option ℕ) (names : List (List ℕ)) (files : Files) (setting : Setting) (unit : UnitOfList) (out : UnitOut) : Type 0 where
   pub each : (wider : Files) (more : UnitOut)
       → Extends wider files
@@ -107,7 +111,7 @@ pub record GivesNoLessOver (larger : Option ℕ) (names : List (List ℕ)) (file
       → unit.file < length names
       → HasNoLess larger names wider setting unit out
 
--- with a larger budget, or with none, a unit gives no less
+-- with a larger budget, or with none, the value of a unit is at least as long
 abbrev pub LargerBudgetsGiveNoLess : Type 0
 LargerBudgetsGiveNoLess =
     (names : List (List ℕ)) (files : Files) (setting : Setting) (unit : UnitOfList) (b : ℕ) (larger : Option ℕ) (out : UnitOut)

@@ -3,14 +3,14 @@ use Rattle.std.specs.Prelude.{ℕ, List, ◌∷◌, ◌++◌, [], codes, flat_ma
 use Rattle.pptext.specs.declared.sources.Profile.{Profile}
 use Rattle.ppshelf.specs.Files.{most_rows}
 
--- the number of the file that holds a unit's definitions: no shelf has such a row
+-- the index of the file that holds a unit's definitions: no file table has it
 abbrev pub command_file : ℕ
 command_file = most_rows
 
 abbrev pub command_line : List ℕ → List ℕ
 command_line text = codes "#define " ++ text ++ 10 ∷ []
 
--- a unit's definitions, each the text behind `#define `, and the profile by which the file that holds them is read
+-- a unit's definitions, each the text after `#define `, and the profile that the file that holds them is read with
 pub record Commands : Type 0 where
   pub texts : List (List ℕ)
   pub profile : Profile

@@ -1,4 +1,4 @@
--- Whether a line of an if-section takes the group behind it (6.10.1).
+-- Whether a line of an if-section takes the group after it (6.10.1).
 use Rattle.std.specs.Prelude.{◌≡◌, ℕ, Bool, true, false, List, Option, None, Some, Result, Ok, Err}
 use Rattle.std.specs.Option.{is_some}
 use Rattle.std.specs.FinMap as table
@@ -17,25 +17,26 @@ use Rattle.ppunit.specs.Lines.{operands, named_fault, one_identifier}
 use Rattle.ppunit.specs.Quotes.{lone_quote}
 use Rattle.ppunit.specs.Probing.{condition_tokens}
 
--- whether a name is a macro's
+-- whether the name is a macro name
 abbrev pub is_macro_name : Macros → List ℕ → Bool
 is_macro_name macros name = is_some (table.get macros name)
 
--- `#ifdef` and `#elifdef` take the group of a defined name, `#ifndef` and `#elifndef` that of another; fault 9 where no name stands alone
+-- `#ifdef` and `#elifdef` take the group if the name is defined, `#ifndef` and `#elifndef` if it isn't; fault 9 unless
+-- the operand is one identifier
 abbrev pub by_name : Bool → Macros → List Token → Option (List ℕ) → Result Bool Fault
 by_name wanted macros line None = Err (named_fault 9 line)
 by_name wanted macros line (Some name) = Ok (same_bool wanted (is_macro_name macros name))
 
--- the answer costs nothing
+-- the decision spends nothing from the budget
 abbrev pub DecidesFreely : State → Result Bool Fault → Option ℕ → Result Bool Fault → Type 0
 DecidesFreely s answer after taken = (after ≡ s.left) × (taken ≡ answer)
 
--- a condition of these tokens, or the fault of the step before it, which costs nothing
+-- the value of a condition of these tokens, or the fault of the step before it, which spends nothing
 abbrev pub DecidesOf : Result (List Token) Fault → State → Place → Option ℕ → Result Bool Fault → Type 0
 DecidesOf (Err f) s at after taken = DecidesFreely s (Err f) after taken
 DecidesOf (Ok tokens) s at after taken = IsCondition s.macros s.env at tokens s.left taken after
 
--- of a line without lone quotes, in the file of a row
+-- for a line without unmatched quotes, in the file at index `row`
 abbrev pub DecidesBy : Search → ℕ → Option Directive → State → List Token → Option ℕ → Result Bool Fault → Type 0
 DecidesBy search row (Some If) s line after taken = DecidesOf (condition_tokens search row line) s (sign_place line) after taken
 DecidesBy search row (Some Elif) s line after taken = DecidesOf (condition_tokens search row line) s (sign_place line) after taken
@@ -49,7 +50,7 @@ abbrev pub DecidesUnless : Search → ℕ → Option Fault → Option Directive 
 DecidesUnless search row (Some f) d s line after taken = DecidesFreely s (Err f) after taken
 DecidesUnless search row None d s line after taken = DecidesBy search row d s line after taken
 
--- whether the group behind a line is taken, or the line's fault, and what is left of the budget
+-- whether the group after a line is taken, or the line's fault, and the remaining budget
 abbrev pub Decides : Search → ℕ → State → LogicalLine → Option ℕ → Result Bool Fault → Type 0
 Decides search row s line after taken = DecidesUnless search row (lone_quote line.tokens) line.directive s line.tokens after taken
 

@@ -1,4 +1,4 @@
--- How much phase 4 does: its replacements (6.10.3), and the files that it opens once their depth was looked at (6.10.2).
+-- The work of phase 4: its macro replacements (6.10.3), and its attempts to open a file (6.10.2) that isn't too deep.
 use Rattle.std.specs.Prelude.{ℕ, suc, ◌+◌, List, Bool, true, false, Option, None, Some, Result, Ok, Err}
 use Rattle.pptext.specs.declared.tokens.Place.{Place}
 use Rattle.pptext.specs.declared.tokens.Token.{Token}
@@ -19,7 +19,7 @@ use Rattle.ppunit.specs.Conditions.{DecidesOf, DecidesBy, DecidesUnless, Decides
 use Rattle.ppunit.specs.Directives.{AsksBy, Asks, ControlBy}
 use Rattle.ppunit.specs.Group.{Group, Branched, Controls, Includes, Opened}
 
--- ---- lines: what replacing their operands takes
+-- ---- lines: the replacements in their operands
 
 abbrev pub count_decides_of : (tokens : Result (List Token) Fault) (s : State) (at : Place) (after : Option ℕ) (taken : Result Bool Fault)
     → DecidesOf tokens s at after taken
@@ -63,7 +63,7 @@ abbrev pub count_control_by : (profile : Profile) (row : ℕ) (d : Option Direct
 count_control_by profile row (Some Line) s line m h = count_expansion h.expands
 count_control_by profile row _ s line m h = 0
 
--- ---- groups: their lines, and the files that these include
+-- ---- groups: their lines, and the files that they include
 
 abbrev mutual
   pub count_group : {around : Surroundings} {depth row : ℕ} {r : Reached} {ps : Parts} {end : Reached} → Group around depth row r ps end → ℕ

@@ -1,4 +1,4 @@
--- What a control line does (6.10.2 to 6.10.7), but for the file that it includes.
+-- The effect of a control line (6.10.2 to 6.10.7), without the file that it includes.
 use Rattle.std.specs.Prelude.{◌≡◌, ℕ, Bool, true, false, ◌&&◌, if◌then◌else◌, Option, None, Some, Result, Ok, Err}
 use Rattle.std.specs.Prelude.{List, [], ◌∷◌, ◌++◌, map, flat_map, codes}
 use Rattle.std.specs.Str.{bytes_eq}
@@ -22,7 +22,7 @@ use Rattle.ppunit.specs.Lines.{operands, line_fault, named_fault, spaced}
 use Rattle.ppunit.specs.LineControl.{Presumed, presumed, renumbered}
 use Rattle.ppunit.specs.Including.{Asked, begins_with_header, header_asked, asked_or, asked_behind, if_somewhere}
 
--- a text run passes on what it expands to (6.10.3), up to its first fault
+-- a run of text lines emits its expansion (6.10.3), up to its first fault
 pub record RunGives (s : State) (tokens : List Token) (r : Reached) : Type 0 where
   pub expanded : Expanded
   pub expands : IsExpansion s.macros s.env s.left tokens expanded
@@ -36,7 +36,7 @@ with_macros s (Err f) = stopped s f
 
 -- ---- `#error` (6.10.5)
 
--- the tokens, with one space where a token but the first has a space mark
+-- the tokens, with one space where a token other than the first has leading white space
 abbrev pub message : List Token → List ℕ
 message [] = []
 message (t ∷ ts) = t.text ++ flat_map spaced ts
@@ -55,14 +55,16 @@ pub record LineGives (s : State) (line : LogicalLine) (reached : Reached) : Type
 
 -- ---- `#include` (6.10.2)
 
--- where no header name stands behind `include`: what its operands ask for once they are replaced, and what that leaves of the budget
+-- if no header name is after `include`: the header that the operands name once their macros are replaced, and the
+-- remaining budget
 pub record AsksReplaced (s : State) (line : List Token) (after : Option ℕ) (asked : Result Asked Fault) : Type 0 where
   pub expanded : Expanded
   pub expands : IsExpansion s.macros s.env s.left (operands line) expanded
   pub leaves : after ≡ expanded.left
   pub is : asked ≡ asked_behind (line_fault 30 line []) expanded.fault expanded.tokens
 
--- what an include line asks for, or its fault, whether a header name stands behind `include` or not, and what is left of the budget
+-- the header that an include line names, or its fault, and the remaining budget; the flag says whether a header name is
+-- after `include`
 abbrev pub AsksBy : Bool → State → List Token → Option ℕ → Result Asked Fault → Type 0
 AsksBy true s line after asked = (after ≡ s.left) × (asked ≡ asked_or (line_fault 30 line []) (if_somewhere (header_asked (operands line))))
 AsksBy false s line after asked = AsksReplaced s line after asked
@@ -70,23 +72,25 @@ AsksBy false s line after asked = AsksReplaced s line after asked
 abbrev pub Asks : State → List Token → Option ℕ → Result Asked Fault → Type 0
 Asks s line after asked = AsksBy (begins_with_header (operands line)) s line after asked
 
--- what is looked for in the file of this row; or in the folders alone that come behind the one of a number (gcc's manual, "Wrapper Headers")
+-- the candidates for a header in the file at index `from`; with the number of a directory, only those in the
+-- directories after it (gcc's manual, "Wrapper Headers")
 abbrev pub looked_for : Surroundings → ℕ → Option ℕ → Asked → List Candidate
 looked_for around from None a = candidates a.form (name_in around.names from) around.unit_folders around.setting_folders a.name
 looked_for around from (Some number) a = candidates_behind number around.unit_folders around.setting_folders a.name
 
--- the row of the file that is asked for so, if there is one, and the number of the folder in which it is found
+-- the index of the file that is found for the header, if there is one, and the number of the directory in which it is
+-- found
 abbrev pub Finds : Surroundings → ℕ → Option ℕ → Asked → Option (ℕ × ℕ) → Type 0
 Finds around from behind a found = IsFirstRow around.names (looked_for around from behind a) found
 
 -- ---- `#pragma` (6.10.6)
 
--- the tokens behind `#pragma` say that the file is read once, in a profile that has this
+-- the tokens after `#pragma` are `once`, in a profile that has it
 abbrev pub is_once : Profile → List Token → Bool
 is_once profile (t ∷ []) = has_later profile && bytes_eq t.text (codes "once")
 is_once profile ts = false
 
--- the file of this row is not read again behind such a pragma
+-- the file at index `row` isn't read again after such a pragma
 abbrev pub noting_once : Profile → ℕ → List Token → State → State
 noting_once profile row ts s = if is_once profile ts then reading_once s row else s
 
@@ -95,13 +99,14 @@ pragma_passed profile row s line = noting_once profile row (operands line) (pass
 
 -- ---- the other control lines
 
--- A lone quote is a fault of each line but `#error`, whose tokens are a message, and those that do nothing, whatever their tokens are.
+-- An unmatched quote is a fault of each line except `#error`, whose tokens are a message, and lines without effect,
+-- whatever their tokens are.
 abbrev pub looks_at_quotes : Option Directive → Bool
 looks_at_quotes (Some Error) = false
 looks_at_quotes (Some Ignored) = false
 looks_at_quotes _ = true
 
--- a control line without lone quotes that includes no file, in the file of a row
+-- a control line without unmatched quotes that includes no file, in the file at index `row`
 abbrev pub ControlBy : Profile → ℕ → Option Directive → State → LogicalLine → Reached → Type 0
 ControlBy profile row (Some Null) s line reached = reached ≡ going s
 ControlBy profile row (Some Define) s line reached = reached ≡ with_macros s (after_define profile s.macros (sign_place line.tokens) (operands line.tokens))
@@ -111,7 +116,7 @@ ControlBy profile row (Some Pragma) s line reached = reached ≡ going (pragma_p
 ControlBy profile row (Some Unknown) s line reached = reached ≡ stopped s (named_fault 8 line.tokens)
 ControlBy _ _ _ s line reached = ⊥
 
--- the control lines that open no file, but for `#error` and those that do nothing
+-- the control lines that open no file, except `#error` and those without effect
 abbrev pub IsControl : Directive → Type 0
 IsControl Null = Unit {0}
 IsControl Define = Unit {0}

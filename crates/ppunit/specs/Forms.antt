@@ -1,4 +1,4 @@
--- Which texts are dates, times and single lines.
+-- The formats of dates, times and definitions.
 use Rattle.std.specs.Prelude.{ℕ, ◌+◌, ◌-◌, ◌*◌, ◌==◌, nat_le, nat_lt, Bool, true, false, ◌&&◌, ◌||◌, not}
 use Rattle.std.specs.Prelude.{List, codes, length, take, drop, slice_index}
 use Rattle.std.specs.List.{list_all}
@@ -34,7 +34,7 @@ is_month m =
 abbrev pub is_day : ℕ → ℕ → Bool
 is_day a b = (a == 32 && nat_le 49 b && nat_le b 57) || (nat_le 49 a && is_pair 31 a b)
 
--- a date as `__DATE__` gives it: a month, a day and a year (6.10.8.1)
+-- a date in the format of `__DATE__`: a month, a day and a year (6.10.8.1)
 abbrev pub is_date : List ℕ → Bool
 is_date s =
     length s == 11
@@ -44,7 +44,7 @@ is_date s =
     && slice_index s 6 == 32
     && list_all is_digit (drop 7 s)
 
--- a time as `__TIME__` gives it: an hour, a minute and a second, which may be a leap second (6.10.8.1); 58 is `:`
+-- a time in the format of `__TIME__`: an hour, a minute and a second, which may be a leap second (6.10.8.1); 58 is `:`
 abbrev pub is_time : List ℕ → Bool
 is_time s =
     length s == 8
@@ -58,7 +58,7 @@ is_time s =
 abbrev pub is_in_line : ℕ → Bool
 is_in_line b = not (b == 10) && not (b == 13)
 
--- a text within one line
+-- a text that is one line
 abbrev pub is_one_line : List ℕ → Bool
 is_one_line s = list_all is_in_line s
 
@@ -68,11 +68,12 @@ is_same Later Later = true
 is_same Gnu Gnu = true
 is_same _ _ = false
 
--- date and time have their forms
+-- date and time have their formats
 abbrev pub is_setting : Setting → Bool
 is_setting setting = is_date setting.date && is_time setting.time
 
--- the file is one of so many, the definitions are read by the profile, each is one line, and all of them make no longer a file than there may be
+-- the file is one of `rows`, the definitions have the profile, each is one line, and the file that holds them has at
+-- most `longest` bytes
 abbrev pub is_unit : ℕ → Profile → UnitOfList → Bool
 is_unit rows profile unit =
     nat_lt unit.file rows

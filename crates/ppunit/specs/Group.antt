@@ -19,12 +19,12 @@ use Rattle.ppunit.specs.Conditions.{Decides}
 use Rattle.ppunit.specs.Including.{Asked}
 use Rattle.ppunit.specs.Directives.{RunGives, ControlBy, Asks, Finds, message, looks_at_quotes}
 
--- the deepest include
+-- the largest depth of an included file
 abbrev pub deepest : ℕ
 deepest = 200
 
 mutual
-  -- A group in the file of a row, at a depth of includes. A unit that has stopped stays where it is.
+  -- A group in the file at index `row`, at an include depth. After its first fault a unit does nothing more.
   pub data Group (around : Surroundings) : ℕ → ℕ → Reached → Parts → Reached → Type 0 where
     stays : {depth row : ℕ} {s : State} {f : Fault} {ps : Parts} → Group around depth row (stopped s f) ps (stopped s f)
     done : {depth row : ℕ} {s : State} → Group around depth row (going s) Done (going s)
@@ -72,7 +72,8 @@ mutual
         → Decides (search_of around) row s line after (Err f)
         → Branched around depth row s (Branch line ps bs) (stopped (with_left s after) f)
 
-  -- a control line; the search of `#include_next` begins behind the folder in which the file was found, where it has a number
+  -- a control line; the search of `#include_next` begins after the directory in which the file was found, if that has a
+  -- number
   pub data Controls (around : Surroundings) : ℕ → ℕ → State → LogicalLine → Reached → Type 0 where
     error : {depth row : ℕ} {s : State} {line : LogicalLine}
         → line.directive ≡ Some Error
@@ -99,8 +100,9 @@ mutual
         → Includes around depth row s.folder s line m
         → Controls around depth row s line m
 
-  -- An include line without lone quotes (6.10.2), whose search begins behind the folder of a number or with the first: its operands have a fault, or
-  -- no file is found for what it asks for, or the file that is found is opened one level deeper.
+  -- An include line without unmatched quotes (6.10.2), whose search begins after the directory with a number, or with
+  -- the first: its operands have a fault, or no file is found for the header, or the file that is found is opened one
+  -- level deeper.
   pub data Includes (around : Surroundings) : ℕ → ℕ → Option ℕ → State → LogicalLine → Reached → Type 0 where
     misnamed : {depth row : ℕ} {behind : Option ℕ} {s : State} {line : LogicalLine} {after : Option ℕ} {f : Fault}
         → Asks s line.tokens after (Err f)
@@ -115,8 +117,9 @@ mutual
         → Opened around (suc depth) (sign_place line.tokens) (with_left s after) found.0 (Some found.1) m
         → Includes around depth row behind s line m
 
-  -- The file of a row is opened, for the line at this place, where something is left for that; the number is that of the folder in which it was found,
-  -- and the unit's own file has none. One that is read once and was read changes nothing but the dependencies and what is left.
+  -- The file at index `row` is opened for the line at location `at`, if the budget isn't exhausted. The number is that
+  -- of the directory in which it was found; a unit's own file has none. A file that is read once and was read only adds
+  -- a dependency and spends one of the budget.
   pub data Opened (around : Surroundings) : ℕ → Place → State → ℕ → Option ℕ → Reached → Type 0 where
     too_deep : {depth row : ℕ} {folder : Option ℕ} {at : Place} {s : State}
         → deepest < depth

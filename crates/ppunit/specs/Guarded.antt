@@ -1,4 +1,4 @@
--- Leaving a guarded file out (6.10.1).
+-- Skipping a file whose include guard is defined (6.10.1).
 use Rattle.std.specs.Prelude.{◌≡◌, ℕ, ◌≤◌, List, true, false, Option, Some, Ok}
 use Rattle.pptext.specs.declared.tokens.Place.{Place}
 use Rattle.pptext.specs.Lines.{LogicalLine}
@@ -13,7 +13,8 @@ use Rattle.ppunit.specs.Conditions.{is_macro_name}
 use Rattle.ppunit.specs.Group.{deepest, Opened}
 use Rattle.ppunit.specs.Counts.{count_opened}
 
--- a file whose guard is a macro's name changes nothing but the dependencies and what is left of the budget, where something is left
+-- opening a file whose guard is defined adds a dependency and spends one of the budget, and does nothing else, if the
+-- budget isn't exhausted
 abbrev pub GuardsLeaveOut : Type 0
 GuardsLeaveOut =
     (around : Surroundings) (depth row : ℕ) (folder : Option ℕ) (at : Place) (s : State) (bytes : List ℕ) (lines : List LogicalLine) (x : List ℕ)
@@ -25,7 +26,7 @@ GuardsLeaveOut =
     → is_spent s.left ≡ false
     → (d : Opened around depth at s row folder (going (depending (paying s) row))) × (count_opened d ≡ 1)
 
--- and, with names of which none stands twice, it leads nowhere else
+-- and if file names are distinct, it has no other outcome
 abbrev pub GuardsOnlyLeaveOut : Type 0
 GuardsOnlyLeaveOut =
     (around : Surroundings) (depth row : ℕ) (folder : Option ℕ) (at : Place) (s : State) (bytes : List ℕ) (lines : List LogicalLine) (x : List ℕ)
@@ -40,6 +41,6 @@ GuardsOnlyLeaveOut =
     → Opened around depth at s row folder end
     → end ≡ going (depending (paying s) row)
 
--- the lines are one section under a guard that is a macro's name
+-- the lines are one if-section under a guard, and the guard is defined
 abbrev pub IsLeftOut : State → List LogicalLine → Type 0
 IsLeftOut s lines = (x : List ℕ) × GuardedBy lines x × (is_macro_name s.macros x ≡ true)

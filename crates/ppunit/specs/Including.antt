@@ -1,4 +1,4 @@
--- What an `#include` line asks for (6.10.2).
+-- The header that an `#include` line names (6.10.2).
 use Rattle.std.specs.Prelude.{ℕ, ◌-◌, Bool, true, false, ◌||◌, if◌then◌else◌, Option, None, Some, Result, Ok, Err}
 use Rattle.std.specs.Prelude.{List, [], ◌∷◌, ◌++◌, length, take, drop, codes}
 use Rattle.std.specs.Str.{bytes_eq}
@@ -12,12 +12,12 @@ use Rattle.ppshelf.specs.declared.search.Form.TheVariants.{Quote, Angle}
 use Rattle.ppunit.specs.Lines.{space_before, spaced}
 use Rattle.ppunit.specs.LineControl.{is_plain_string}
 
--- the form and the name that are asked for
+-- the form and the name of a header
 pub record Asked : Type 0 where
   pub form : Form
   pub name : List ℕ
 
--- without the characters around
+-- the text without its first and last character
 abbrev pub inner : List ℕ → List ℕ
 inner text = take (length text - 2) (drop 1 text)
 
@@ -28,17 +28,17 @@ abbrev pub is_header : Kind → Bool
 is_header Header = true
 is_header _ = false
 
--- a header name stands behind `include`
+-- a header name is after `include`
 abbrev pub begins_with_header : List Token → Bool
 begins_with_header [] = false
 begins_with_header (t ∷ ts) = is_header t.kind
 
--- a header name alone
+-- the header of a single header name token
 abbrev pub header_asked : List Token → Option Asked
 header_asked (t ∷ []) = Some (record { form = form_of t.text; name = inner t.text })
 header_asked ts = None
 
--- only where nothing follows
+-- the text, if no tokens follow
 abbrev pub ended : List ℕ → List Token → Option (List ℕ)
 ended text [] = Some text
 ended text (t ∷ ts) = None
@@ -47,12 +47,12 @@ abbrev pub prefixed : List ℕ → Option (List ℕ) → Option (List ℕ)
 prefixed text None = None
 prefixed text (Some more) = Some (text ++ more)
 
--- the rest of a name, up to `>`, which is the last token and stands nowhere else
+-- the rest of a name before `>`, which is the last token and the only one
 abbrev pub angle_rest : List Token → Option (List ℕ)
 angle_rest [] = None
 angle_rest (t ∷ ts) = if is_punct (codes ">") t then ended (space_before t) ts else prefixed (spaced t) (angle_rest ts)
 
--- the name up to `>`, with one space where a token but the first has a space mark
+-- the name before `>`, with one space where a token other than the first has leading white space
 abbrev pub angle_name : List Token → Option (List ℕ)
 angle_name [] = None
 angle_name (t ∷ ts) = if is_punct (codes ">") t then ended [] ts else prefixed t.text (angle_rest ts)
@@ -61,13 +61,13 @@ abbrev pub angled : Option (List ℕ) → Option Asked
 angled None = None
 angled (Some name) = Some (record { form = Angle; name = name })
 
--- what the tokens behind replacement ask for
+-- the header that the operands name after macro replacement
 abbrev pub expanded_asked : List Token → Option Asked
 expanded_asked (t ∷ []) = if is_plain_string t then Some (record { form = Quote; name = inner t.text }) else None
 expanded_asked (t ∷ u ∷ us) = if is_punct (codes "<") t then angled (angle_name (u ∷ us)) else None
 expanded_asked [] = None
 
--- a name that no file has: an empty one, or one from the root
+-- no file can have the name: it is empty, or it begins with `/`
 abbrev pub is_nowhere : List ℕ → Bool
 is_nowhere name = bytes_eq name [] || bytes_eq (take 1 name) (codes "/")
 
@@ -75,12 +75,12 @@ abbrev pub if_somewhere : Option Asked → Option Asked
 if_somewhere None = None
 if_somewhere (Some a) = if is_nowhere a.name then None else Some a
 
--- what is asked for, or fault 30
+-- the header, or the fault if there is none
 abbrev pub asked_or : Fault → Option Asked → Result Asked Fault
 asked_or f None = Err f
 asked_or f (Some a) = Ok a
 
--- what the tokens behind replacement ask for, or the fault of their replacement, or fault 30
+-- the header that the operands name after macro replacement, or the fault of the replacement, or fault 30
 abbrev pub asked_behind : Fault → Option Fault → List Token → Result Asked Fault
 asked_behind f (Some g) ts = Err g
 asked_behind f None ts = asked_or f (if_somewhere (expanded_asked ts))

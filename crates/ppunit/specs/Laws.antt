@@ -1,4 +1,4 @@
--- Laws of units.
+-- Theorems about units.
 use Rattle.std.specs.Prelude.{◌≡◌, ℕ, ◌<◌, List, length, IsSome}
 use Rattle.ppshelf.specs.Names.{AreNames}
 use Rattle.ppshelf.specs.Files.{Files, file_at, Extends}
@@ -7,7 +7,7 @@ use Rattle.ppunit.specs.declared.units.Setting.{Setting}
 use Rattle.ppunit.specs.declared.units.UnitOut.{UnitOut}
 use Rattle.ppunit.specs.Unit.{IsUnit, count}
 
--- over the same files a unit gives one thing, and has one count
+-- over the same files a unit has one value and one count
 abbrev pub HasOneValue : Type 0
 HasOneValue =
     (names : List (List ℕ)) (files : Files) (setting : Setting) (unit : UnitOfList) (a b : UnitOut)
@@ -15,7 +15,7 @@ HasOneValue =
     → (p : IsUnit names files setting unit a) (q : IsUnit names files setting unit b)
     → (a ≡ b) × (count p ≡ count q)
 
--- where a unit gives something over some files, it gives the same over any more, with the same count
+-- the value of a unit over some files is its value over any larger set of files, with the same count
 abbrev pub Grows : Type 0
 Grows =
     (names : List (List ℕ)) (files more : Files) (setting : Setting) (unit : UnitOfList) (out : UnitOut)
@@ -27,7 +27,8 @@ Grows =
 abbrev pub KnowsAll : List (List ℕ) → Files → Type 0
 KnowsAll names files = (row : ℕ) → row < length names → IsSome (file_at files row)
 
--- where each file's content is known, a unit whose file is one of them gives something, whatever its budget is, and without one
+-- if each file's content is known and the unit's file is one of them, the unit has a value, with any budget and without
+-- one
 abbrev pub HasSomeValue : Type 0
 HasSomeValue =
     (names : List (List ℕ)) (files : Files) (setting : Setting) (unit : UnitOfList)

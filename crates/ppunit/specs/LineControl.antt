@@ -1,4 +1,4 @@
--- `#line` (6.10.4): the line behind the directive gets a number, and the file perhaps a name.
+-- `#line` (6.10.4): the line after the directive gets a number, and the file may get a name.
 use Rattle.std.specs.Prelude.{ℕ, pos, ◌-ℤ◌, ◌+◌, ◌*◌, ◌-◌, List, [], ◌∷◌, Bool, true, false, ◌&&◌, nat_le, if◌then◌else◌, Option, None, Some, take}
 use Rattle.std.specs.List.{list_all}
 use Rattle.std.specs.Str.{bytes_eq}
@@ -9,7 +9,7 @@ use Rattle.pptext.specs.Spellings.{is_digit}
 use Rattle.pptext.specs.Lines.{LogicalLine}
 use Rattle.ppunit.specs.States.{State}
 
--- a line's number, and perhaps its file's name, as a string literal
+-- the presumed number of a line, and the presumed name of its file, if it has one, as a string literal
 pub record Presumed : Type 0 where
   pub number : ℕ
   pub name : Option (List ℕ)
@@ -22,7 +22,7 @@ abbrev pub is_string : Kind → Bool
 is_string Str = true
 is_string _ = false
 
--- the number that decimal digits spell, behind others that spell n
+-- the number that decimal digits spell after digits that spell n
 abbrev pub decimal_behind : ℕ → List ℕ → ℕ
 decimal_behind n [] = n
 decimal_behind n (d ∷ ds) = decimal_behind (n * 10 + (d - 48)) ds
@@ -30,7 +30,7 @@ decimal_behind n (d ∷ ds) = decimal_behind (n * 10 + (d - 48)) ds
 abbrev pub decimal_value : List ℕ → ℕ
 decimal_value digits = decimal_behind 0 digits
 
--- decimal digits alone
+-- only decimal digits
 abbrev pub are_digits : Token → Bool
 are_digits t = is_number t.kind && list_all is_digit t.text
 
@@ -57,6 +57,6 @@ abbrev pub or_old : List ℕ → Option (List ℕ) → List ℕ
 or_old old None = old
 or_old old (Some new) = new
 
--- the line behind the directive's new-line gets the number
+-- the line after the directive's new-line gets the number
 abbrev pub renumbered : State → LogicalLine → Presumed → State
 renumbered s line p = record s { env = record s.env { name = or_old s.env.name p.name; shift = pos p.number -ℤ pos (line.number + 1) } }

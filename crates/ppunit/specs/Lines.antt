@@ -11,31 +11,31 @@ use Rattle.pptext.specs.Tokens.{is_identifier, fault}
 abbrev pub directed : Directive → List Token → ℕ → LogicalLine
 directed d tokens number = record { tokens = tokens; number = number; directive = Some d }
 
--- what stands behind the directive's name
+-- the tokens after the directive's name
 abbrev pub operands : List Token → List Token
 operands line = drop 2 line
 
--- a fault at the line's `#`
+-- a fault located at the line's `#`
 abbrev pub line_fault : ℕ → List Token → List ℕ → Fault
 line_fault number line text = fault number (sign_place line) text
 
--- a fault that says the directive's name
+-- a fault with the directive's name as its text
 abbrev pub named_fault : ℕ → List Token → Fault
 named_fault number line = line_fault number line (name_of line)
 
--- one space where a token has a space mark
+-- one space if the token has leading white space
 abbrev pub space_before : Token → List ℕ
 space_before t = if t.space then 32 ∷ [] else []
 
--- a token behind another, as text
+-- a token after another, as text
 abbrev pub spaced : Token → List ℕ
 spaced t = space_before t ++ t.text
 
--- the one identifier that is asked for
+-- the identifier, if it is the only token
 abbrev pub one_identifier : List Token → Option (List ℕ)
 one_identifier (t ∷ []) = if is_identifier t then Some t.text else None
 one_identifier ts = None
 
--- the tokens of a text run
+-- the tokens of a run of text lines
 abbrev pub run_tokens : List LogicalLine → List Token
 run_tokens lines = flat_map (λ line. line.tokens) lines

@@ -1,4 +1,4 @@
--- The steps by which a file is opened (6.10.2). Only the contracts of private functions, and the views of private types, cite this.
+-- The steps of opening a file (6.10.2). Only contracts of private functions and models of private types cite this.
 use Rattle.std.specs.Prelude.{◌≡◌, ℕ, ◌<◌, ◌≤◌, ◌^◌, pos, List, [], true, false, Option, None, Some, Ok, Err, ◌⊎◌, length}
 use Rattle.pptext.specs.declared.tokens.Place.{Place}
 use Rattle.pptext.specs.declared.tokens.Fault.{Fault}
@@ -13,39 +13,39 @@ use Rattle.ppunit.specs.States.{State, context, paying, literal}
 use Rattle.ppunit.specs.Group.{deepest}
 use Rattle.ppunit.specs.Guarded.{IsLeftOut}
 
--- a file whose lines are worked off: its row, its lines, and the index of the line that the work goes on with
+-- a file that is being processed: its index in the file table, its lines, and the index of the next line
 pub record OpenFile : Type 0 where
   pub row : ℕ
   pub lines : List LogicalLine
   pub index : ℕ
 
--- a file that was just opened, and what belongs to the file that goes on behind it
+-- a file that was just opened, and the context of the file that includes it
 pub record Entered : Type 0 where
   pub file : OpenFile
   pub outer : Context
 
--- why a file of this name is not opened: it is too deep, or else nothing is left
+-- why a file of this name isn't opened: it is too deep, or else the budget is exhausted
 abbrev pub IsUnpaid : ℕ → Place → List ℕ → State → Fault → Type 0
 IsUnpaid depth at name s f =
     ((deepest < depth) × (f ≡ fault 32 at name)) ⊎ ((depth ≤ deepest) × (is_spent s.left ≡ true) × (f ≡ fault 35 at []))
 
--- one opening is taken of what is left, unless there is such a fault, which changes nothing
+-- one opening is spent from the budget, unless there is such a fault, which changes nothing
 abbrev pub Pays : ℕ → Place → List ℕ → State → State → Option Fault → Type 0
 Pays depth at name s t None = (depth ≤ deepest) × (is_spent s.left ≡ false) × (t ≡ paying s)
 Pays depth at name s t (Some f) = (t ≡ s) × IsUnpaid depth at name s f
 
--- the file of a row has these lines
+-- the file at index `row` has these lines
 abbrev pub HasLines : Stock → Files → ℕ → List LogicalLine → Type 0
 HasLines shelf files row lines = (content : Content) × (file_at files row ≡ Some content) × IsRead shelf.profile row content (Ok lines)
 
--- it cannot be read, which is told at this place, or it has a fault of its own
+-- the file can't be read, a fault located at `at`, or its lines have a fault
 abbrev pub HasFault : Stock → Files → ℕ → Place → Fault → Type 0
 HasFault shelf files row at f =
     ((file_at files row ≡ Some unreadable) × (f ≡ fault 6 at (name_in shelf.names row)))
     ⊎ ((content : Content) × (file_at files row ≡ Some content) × IsRead shelf.profile row content (Err f))
 
--- A file of this name and these lines is left out, which changes nothing; or its first line comes next, and the predefined names stand for its own,
--- with the number of the folder in which it was found.
+-- A file of this name and these lines is skipped, which changes nothing; or it is entered, and the predefined names and
+-- the directory number are its own.
 abbrev pub Begins : List ℕ → ℕ → Option ℕ → List LogicalLine → State → State → Option Entered → Type 0
 Begins name row folder lines s t None = IsLeftOut s lines × (t ≡ s)
 Begins name row folder lines s t (Some e) =

@@ -1,4 +1,4 @@
--- Parts of what a unit gives.
+-- The parts of a unit's output.
 use Rattle.std.specs.Prelude.{List, [], ◌∷◌, map}
 use Rattle.ppunit.specs.declared.units.Item.{Item}
 use Rattle.ppunit.specs.declared.units.Item.TheVariants as item

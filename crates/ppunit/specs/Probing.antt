@@ -16,40 +16,41 @@ use Rattle.ppunit.specs.Including.{Asked, expanded_asked, if_somewhere}
 abbrev pub is_has_include : Token → Bool
 is_has_include t = is_name (codes "__has_include") t
 
--- a `(` comes first
+-- the first token is `(`
 abbrev pub opens : List Token → Bool
 opens [] = false
 opens (t ∷ ts) = is_punct (codes "(") t
 
--- one of the candidates is among the names
+-- one of the candidates is among the file names
 abbrev pub is_found : List (List ℕ) → List Candidate → Bool
 is_found names candidates = list_any (λ c. list_any (bytes_eq c.name) names) candidates
 
--- whether an `#include` of this form and name in the file of this row finds one; nothing is opened
+-- whether an `#include` of this header in the file at index `row` finds a file; the file isn't opened
 abbrev pub has_file : Search → ℕ → Asked → Bool
 has_file search row a = is_found search.names (candidates a.form (name_in search.names row) search.unit_folders search.setting_folders a.name)
 
--- the number in the place of `__has_include` and its parentheses
+-- the number that replaces `__has_include` and its parentheses
 abbrev pub number_for : Token → Bool → Token
 number_for name found = record name { kind = Number; text = if found then codes "1" else codes "0" }
 
--- none where no file is asked for
+-- the number, if there is a header
 abbrev pub told : Search → ℕ → Token → Option Asked → Option Token
 told search row name None = None
 told search row name (Some a) = Some (number_for name (has_file search row a))
 
--- a token before others, where there are both
+-- a token before others, if there are both
 abbrev pub before : Option Token → Option (List Token) → Option (List Token)
 before None ts = None
 before (Some t) None = None
 before (Some t) (Some ts) = Some (t ∷ ts)
 
--- an `__has_include` without its `)`, and what stands behind it so far, with the `(`
+-- an `__has_include` whose `)` isn't reached, and the tokens after it so far, with the `(`
 pub record Begun : Type 0 where
   pub name : Token
   pub behind : List Token
 
--- the tokens with a number for each `__has_include` that a `(` follows, up to the first `)`; none where one has no `)` or asks for no file
+-- the tokens with a number for each `__has_include` before a `(`, up to the first `)`; none if one has no `)` or names
+-- no header
 abbrev pub probed : Search → ℕ → Option Begun → List Token → Option (List Token)
 probed search row None [] = Some []
 probed search row (Some b) [] = None

@@ -1,4 +1,4 @@
--- A quote that begins no literal (6.4p3): fault 7, before all else that is wrong with a directive line.
+-- An unmatched quote (6.4p3): fault 7, before any other fault of a directive line.
 use Rattle.std.specs.Prelude.{List, [], ◌∷◌, if◌then◌else◌, Option, None, Some}
 use Rattle.pptext.specs.declared.tokens.Token.{Token}
 use Rattle.pptext.specs.declared.tokens.Fault.{Fault}
@@ -7,7 +7,7 @@ use Rattle.pptext.specs.Tokens.{is_lone_quote, fault}
 abbrev pub quote_fault : Token → Fault
 quote_fault t = fault 7 t.at t.text
 
--- the fault of the first one
+-- the fault of the first unmatched quote
 abbrev pub lone_quote : List Token → Option Fault
 lone_quote [] = None
 lone_quote (t ∷ ts) = if is_lone_quote t then Some (quote_fault t) else lone_quote ts

@@ -1,4 +1,4 @@
--- The replacement of a directive line's operands (6.10.2, 6.10.4). Only the contracts of private functions cite this.
+-- Macro replacement in the operands of a directive (6.10.2, 6.10.4). Only contracts of private functions cite this.
 use Rattle.std.specs.Prelude.{◌≡◌, ℕ, List, Option, Result, IfOk}
 use Rattle.std.specs.Result.{result_err}
 use Rattle.pptext.specs.declared.tokens.Token.{Token}
@@ -7,7 +7,7 @@ use Rattle.ppexpand.specs.declared.expansion.Expanded.{Expanded}
 use Rattle.ppexpand.specs.Expansion.{IsExpansion}
 use Rattle.ppunit.specs.States.{State}
 
--- the tokens that others expand to, or the fault of their replacement, and what is left of the budget
+-- the expansion of the operands, or the fault of the expansion, and the remaining budget
 pub record Replaces (s : State) (operands : List Token) (after : Option ℕ) (r : Result (List Token) Fault) : Type 0 where
   pub expanded : Expanded
   pub expands : IsExpansion s.macros s.env s.left operands expanded

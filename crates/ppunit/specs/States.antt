@@ -1,4 +1,4 @@
--- Where phase 4 stands in a unit (5.1.1.2, 6.10).
+-- The state of phase 4 in a unit (5.1.1.2, 6.10).
 use Rattle.std.specs.Prelude.{ℕ, pos, List, [], ◌∷◌, ◌++◌, Option, Some, None}
 use Rattle.pptext.specs.declared.tokens.Fault.{Fault}
 use Rattle.pptext.specs.declared.sources.Profile.{Profile}
@@ -13,14 +13,14 @@ use Rattle.ppunit.specs.declared.states.Context.{Context}
 use Rattle.ppunit.specs.declared.units.Item.{Item}
 use Rattle.ppunit.specs.declared.units.UnitOut.{UnitOut}
 
--- where a unit's files lie: their shelf, and the folders that are searched, the unit's before the setting's
+-- a unit's file table, and the directories that are searched, the unit's before the setting's
 pub record Library : Type 0 where
   pub shelf : Stock
   pub unit_folders : List (List ℕ)
   pub setting_folders : List (List ℕ)
 
--- what does not change within a unit: the names of all files, their profile, what is known of them, and the folders that are searched, the unit's
--- before the setting's
+-- what does not change within a unit: the names of all files, their profile, their known contents, and the directories
+-- that are searched, the unit's before the setting's
 pub record Surroundings : Type 0 where
   pub names : List (List ℕ)
   pub profile : Profile
@@ -28,7 +28,7 @@ pub record Surroundings : Type 0 where
   pub unit_folders : List (List ℕ)
   pub setting_folders : List (List ℕ)
 
--- what a search for files goes by: all of it but what is known of the files
+-- what a search for a file depends on: the surroundings without the contents of files
 pub record Search : Type 0 where
   pub names : List (List ℕ)
   pub profile : Profile
@@ -44,7 +44,7 @@ search_of around =
       setting_folders = around.setting_folders;
     }
 
--- the same, of a library
+-- the search in a library
 abbrev pub search_in : Library → Search
 search_in library =
     record {
@@ -54,7 +54,7 @@ search_in library =
       setting_folders = library.setting_folders;
     }
 
--- these files of a library
+-- the surroundings with a library and these contents
 abbrev pub surroundings_of : Library → Files → Surroundings
 surroundings_of library files =
     record {
@@ -65,31 +65,31 @@ surroundings_of library files =
       setting_folders = library.setting_folders;
     }
 
--- where phase 4 stands
+-- the state of phase 4
 pub record State : Type 0 where
   pub macros : Macros
-  -- what was passed on
+  -- the items that were emitted
   pub items : List Item
-  -- the rows of the files that were opened, in the order of their first opening
+  -- the indices of the opened files, in the order of their first opening
   pub deps : List ℕ
   -- those of them that are not read again
   pub once : List ℕ
-  -- what is left of the budget
+  -- the remaining budget
   pub left : Option ℕ
-  -- what the predefined names stand for
+  -- the values of the predefined names
   pub env : Env
-  -- the number of the folder in which the file that is worked off was found; none of the unit's own
+  -- the number of the directory in which the current file was found; a unit's own file has none
   pub folder : Option ℕ
 
--- what belongs to the file that is worked off
+-- the context of the current file
 abbrev pub context : State → Context
 context s = record { env = s.env; folder = s.folder }
 
--- and this in its place
+-- the state with this context
 abbrev pub in_context : Context → State → State
 in_context c s = record s { env = c.env; folder = c.folder }
 
--- a unit goes on, or has stopped at its first fault
+-- a unit continues, or has stopped at its first fault
 pub record Reached : Type 0 where
   pub state : State
   pub fault : Option Fault
@@ -103,23 +103,23 @@ stopped s f = record { state = s; fault = Some f }
 abbrev pub passed : State → List Item → State
 passed s items = record s { items = s.items ++ items }
 
--- the file joins the dependencies, once
+-- the file at index `row` is a dependency
 abbrev pub depending : State → ℕ → State
 depending s row = record s { deps = among row s.deps }
 
--- the file joins those that are not read again
+-- the file at index `row` isn't read again
 abbrev pub reading_once : State → ℕ → State
 reading_once s row = record s { once = among row s.once }
 
--- so much is left of the budget
+-- the state with this remaining budget
 abbrev pub with_left : State → Option ℕ → State
 with_left s left = record s { left = left }
 
--- one file more is opened
+-- one opened file is spent from the budget
 abbrev pub paying : State → State
 paying s = with_left s (less_one s.left)
 
--- what a unit gives
+-- the output of a unit
 abbrev pub given : Reached → UnitOut
 given r = record { items = r.state.items; deps = r.state.deps; fault = r.fault }
 
@@ -127,11 +127,11 @@ given r = record { items = r.state.items; deps = r.state.deps; fault = r.fault }
 abbrev pub literal : List ℕ → List ℕ
 literal name = 34 ∷ (escaped name ++ 34 ∷ [])
 
--- a file begins under its own name and numbers, and with the number of the folder in which it was found
+-- a file begins with its own name, line numbers and directory number
 abbrev pub entering : Surroundings → State → ℕ → Option ℕ → State
 entering around s row folder =
     record (depending s row) { env = record s.env { name = literal (name_in around.names row); shift = pos 0 }; folder = folder }
 
--- behind it those of the including file come back
+-- after it the context of the including file is restored
 abbrev pub leaving : State → Reached → Reached
 leaving s m = record m { state = in_context (context s) m.state }

@@ -16,7 +16,7 @@ use Rattle.ppunit.specs.States.{State, Surroundings, Reached, going, stopped, gi
 use Rattle.ppunit.specs.Group.{Group, Opened}
 use Rattle.ppunit.specs.Counts.{count_group, count_opened}
 
--- a unit begins with the predefined names alone (6.10.8.1)
+-- a unit begins with the predefined names (6.10.8.1) and nothing else
 abbrev pub beginning : Setting → State
 beginning setting =
     record {
@@ -30,7 +30,7 @@ beginning setting =
       folder = None;
     }
 
--- the file's first byte
+-- the location of the file's first byte
 abbrev pub first_place : ℕ → Place
 first_place row = record { file = row; line = 1; col = 1 }
 
@@ -59,7 +59,7 @@ abbrev pub surroundings : List (List ℕ) → Files → Setting → UnitOfList �
 surroundings names files setting unit =
     record { names = names; profile = setting.profile; files = files; unit_folders = unit.search; setting_folders = setting.search }
 
--- a unit of so many rows and of a profile: its file is in one of them, and its definitions are read by the profile
+-- a unit over `rows` files: its file is one of them, and its definitions have the profile
 abbrev pub IsUnitOf : ℕ → Profile → UnitOfList → Type 0
 IsUnitOf rows profile unit = (unit.file < rows) × (unit.defines.profile ≡ profile)
 
@@ -77,13 +77,13 @@ count_translates (translated here opens) = count_defines here + count_opened ope
 
 -- ---- the value
 
--- what a unit gives over these files
+-- the value of a unit over these files
 pub record IsUnit (names : List (List ℕ)) (files : Files) (setting : Setting) (unit : UnitOfList) (out : UnitOut) : Type 0 where
   pub reached : Reached
   pub translates : Translates (surroundings names files setting unit) unit.defines.texts unit.file (beginning setting) reached
   pub gives : out ≡ given reached
 
--- how many replacements a unit makes and how many files it opens, its own among them
+-- the number of replacements and opened files of a unit, its own file among them
 abbrev pub count : {names : List (List ℕ)} {files : Files} {setting : Setting} {unit : UnitOfList} {out : UnitOut}
     → IsUnit names files setting unit out
     → ℕ

@@ -8,14 +8,14 @@ use Rattle.ppunit.specs.declared.units.UnitOut.{UnitOut}
 use Rattle.ppunit.specs.Unit.{IsUnit}
 use Rattle.ppunit.specs.Capped.{IsWithin, IsCappedOver}
 
--- these answers are what the units give over these files, in order, each once
+-- these outputs are the values of the units over these files, in order
 abbrev pub AreUnits : List (List ℕ) → Files → Setting → List UnitOfList → List UnitOut → Type 0
 AreUnits names files setting units answers = AllZip (λ unit out. IsUnit names files setting unit out) units answers
 
--- each unit replaces and opens no more than the budget allows
+-- each unit's replacements and opened files total at most the budget
 abbrev pub AreWithin : List (List ℕ) → Files → Setting → List UnitOfList → List UnitOut → Type 0
 AreWithin names files setting units answers = AllZip (λ unit out. IsWithin names files setting unit out) units answers
 
--- each answer is what its unit gives within the budget, beside the whole over these files and any more
+-- each output is what the budget leaves of the unit's value without a budget, over these files and any larger set
 abbrev pub AreCapped : List (List ℕ) → Files → Setting → List UnitOfList → List UnitOut → Type 0
 AreCapped names files setting units answers = AllZip (λ unit out. IsCappedOver names files setting unit out) units answers

@@ -1,5 +1,5 @@
--- Where a walk over the lines of a file, and of the files that it includes, stands in the tree of its groups. Only the contracts of private functions,
--- and the views of private types, cite this.
+-- Positions in the lines of a file, and of the files that it includes, as positions in the tree of its groups. Only
+-- contracts of private functions and models of private types cite this.
 use Rattle.std.specs.Prelude.{◌≡◌, ℕ, suc, ◌+◌, ◌<◌, ◌≤◌, ◌^◌, Bool, true, false, Option, None, Some, Result, Ok, Err}
 use Rattle.std.specs.Prelude.{List, [], ◌∷◌, ◌++◌, length, drop, map, slice_index_or}
 use Rattle.pptext.specs.declared.tokens.Fault.{Fault}
@@ -21,7 +21,7 @@ no_line = record { tokens = []; number = 0; directive = None }
 abbrev pub line_at : List LogicalLine → ℕ → LogicalLine
 line_at lines index = slice_index_or lines index no_line
 
--- The if-sections around a group, the innermost first: the branches behind the group, and the parts behind the section.
+-- The if-sections around a group, the innermost first: the branches after the group, and the parts after the section.
 abbrev pub Outer : Type 0
 Outer = List (Branches × Parts)
 
@@ -40,12 +40,13 @@ pub record StandsAt (lines : List LogicalLine) (index : ℕ) (ps : Parts) (k : O
   pub parts : AreParts ps
   pub outer : AreOuter k
 
--- phase 4 of the parts and of what stands behind them in these sections
+-- phase 4 of the parts and of what is after them in these sections
 abbrev pub Ends : Surroundings → ℕ → ℕ → Reached → Parts → Outer → Reached → Type 0
 Ends around depth row m ps [] end = Group around depth row m ps end
 Ends around depth row m ps ((bs, qs) ∷ k) end = (n : Reached) × Group around depth row m ps n × Ends around depth row n qs k end
 
--- From the line at an index to the line at another, or to a fault: what is behind follows from what is left.
+-- From the line at an index to the line at another, or to a fault: what the rest of the lines reaches from the new
+-- state, all of them reach from the old one.
 abbrev pub Advances : (Files → Surroundings) → Files → ℕ → ℕ → List LogicalLine → ℕ → State → State → Result ℕ Fault → Type 0
 Advances around files depth row lines index s t (Ok next) =
     (ps : Parts) (k : Outer)
@@ -63,12 +64,12 @@ Advances around files depth row lines index s t (Err f) =
     → Extends more files
     → Ends (around more) depth row (going s) ps k (stopped t f)
 
--- what belongs to the file that goes on comes back
+-- the context of the including file is restored
 abbrev pub back : Context → Reached → Reached
 back outer m = record m { state = in_context outer m.state }
 
--- A file was entered and its first line comes next: what its lines reach from this state on leads, with what belongs to the file around brought back,
--- to what was to be reached.
+-- A file was entered and its first line is next: what its lines reach from this state, with the context of the
+-- including file restored, is what the include line reaches.
 pub record EntersFile (around : Files → Surroundings) (files : Files) (depth : ℕ) (whole : Files → Reached → Type 0) (t : State) (e : Entered)
     : Type 0 where
   pub fits : depth ≤ deepest
@@ -82,13 +83,14 @@ pub record EntersFile (around : Files → Surroundings) (files : Files) (depth :
       → Group (around more) depth e.file.row (going t) parts m
       → whole more (back e.outer m)
 
--- what was to be reached is reached, by a fault or not, or a file was entered whose lines lead there
+-- the goal is reached, with or without a fault, or a file was entered whose lines lead to it
 abbrev pub Leads : (Files → Surroundings) → Files → ℕ → (Files → Reached → Type 0) → State → Result (Option Entered) Fault → Type 0
 Leads around files depth whole t (Ok None) = (more : Files) → Extends more files → whole more (going t)
 Leads around files depth whole t (Ok (Some e)) = EntersFile around files depth whole t e
 Leads around files depth whole t (Err f) = (more : Files) → Extends more files → whole more (stopped t f)
 
--- From the control line at an index to the line at another: what is behind follows from what the control line reaches.
+-- From the control line at an index to the line at another: what the line and the rest of the lines reach, one after
+-- the other, all of them reach.
 abbrev pub PassesFrom : ℕ → ℕ → List LogicalLine → ℕ → State → ℕ → Parts → Outer → Type 0
 PassesFrom depth row lines index s next ps k =
     (ps' : Parts) × (k' : Outer) × StandsAt lines next ps' k'
@@ -110,17 +112,17 @@ StepsTo around files depth row lines index s t next (Some e) =
     Passes depth row lines index s next
     × EntersFile around files (suc depth) (λ more m. Controls (around more) depth row s (line_at lines index) m) t e
 
--- the same, or to a fault
+-- from the line at an index to the line at another, and into a file if one was entered, or to a fault
 abbrev pub Steps : (Files → Surroundings) → Files → ℕ → ℕ → List LogicalLine → ℕ → State → State → Result (ℕ × Option Entered) Fault → Type 0
 Steps around files depth row lines index s t (Ok (next, entered)) = StepsTo around files depth row lines index s t next entered
 Steps around files depth row lines index s t (Err f) = Advances around files depth row lines index s t (Err f)
 
--- a file that waits for one that it includes, and what belongs to it
+-- a suspended file and its context
 pub record Waiting : Type 0 where
   pub file : OpenFile
   pub context : Context
 
--- the file whose lines come next: the one that was entered, for which this one waits, or else this one
+-- the file whose lines are next: the one that was entered, which suspends this one, or else this one
 abbrev pub next_file : OpenFile → Option Entered → OpenFile
 next_file file None = file
 next_file file (Some e) = e.file
@@ -129,12 +131,12 @@ abbrev pub next_waiting : OpenFile → Option Entered → List Waiting → List 
 next_waiting file None ws = ws
 next_waiting file (Some e) ws = record { file = file; context = e.outer } ∷ ws
 
--- what belongs to the files that wait comes back, file by file
+-- the contexts of suspended files are restored, one after the other
 abbrev pub brought_back : List Waiting → State → State
 brought_back [] s = s
 brought_back (w ∷ ws) s = brought_back ws (in_context w.context s)
 
--- phase 4 of a file's lines, over these files and any more
+-- phase 4 of a file's lines, over these files and any larger set
 abbrev pub Walks : (Files → Surroundings) → Files → ℕ → ℕ → List LogicalLine → State → Reached → Type 0
 Walks around files depth row lines s end =
     (parts : Parts)
@@ -143,7 +145,8 @@ Walks around files depth row lines s end =
     → Extends more files
     → Group (around more) depth row (going s) parts end
 
--- At the index stands an opening line or a branch with a condition, then the parts of its group, and then these branches.
+-- At the index is a line that opens an if-section or a branch with a condition, then the parts of its group, and then
+-- these branches.
 pub record BranchesAt (lines : List LogicalLine) (index : ℕ) (ps : Parts) (bs : Branches) (qs : Parts) (k : Outer) : Type 0 where
   pub line : LogicalLine
   pub rest : drop index lines ≡ line ∷ lay ps ((bs, qs) ∷ k)
@@ -151,8 +154,8 @@ pub record BranchesAt (lines : List LogicalLine) (index : ℕ) (ps : Parts) (bs 
   pub parts : AreParts ps
   pub outer : AreOuter ((bs, qs) ∷ k)
 
--- whether the work goes on behind a branch line or `#endif` of the file of a row, or the line's fault, and what is left of the budget; where the
--- line has a condition, that decides
+-- whether processing continues after a branch line or `#endif` of the file at index `row`, or the line's fault, and the
+-- remaining budget; a condition decides if the line has one
 abbrev pub EntersIf : Search → ℕ → Bool → State → LogicalLine → Option ℕ → Result Bool Fault → Type 0
 EntersIf search row true s line after taken = Decides search row s line after taken
 EntersIf search row false s line after taken = DecidesFreely s (Ok true) after taken
@@ -164,7 +167,7 @@ EntersBy search row (Some d) s line after taken = EntersIf search row (has_condi
 abbrev pub Enters : Search → ℕ → State → LogicalLine → Option ℕ → Result Bool Fault → Type 0
 Enters search row s line after taken = EntersBy search row line.directive s line after taken
 
--- the line that the work goes on with, behind a group that is not taken, and the state then
+-- the line at which processing continues after a group that isn't taken, and the state then
 abbrev pub FindsBranch : Search → ℕ → List LogicalLine → State → State → Branches → Parts → Outer → Result ℕ Fault → Type 0
 FindsBranch search row lines s t bs qs k (Ok next) =
     (ps : Parts) × (k' : Outer) × StandsAt lines next ps k'
@@ -182,11 +185,11 @@ FindsBranch search row lines s t bs qs k (Err f) =
 abbrev pub IsTextLine : LogicalLine → Type 0
 IsTextLine line = line.directive ≡ None
 
--- no text line stands first
+-- the first line isn't a text line
 abbrev pub IsRest : List LogicalLine → Type 0
 IsRest [] = Unit {0}
 IsRest (line ∷ behind) = ¬ IsTextLine line
 
--- phases 1 to 4 of a unit's definitions, over these files and any more
+-- phases 1 to 4 of a unit's definitions, over these files and any larger set
 abbrev pub DefinesOver : (Files → Surroundings) → Files → List (List ℕ) → State → Reached → Type 0
 DefinesOver around files defines s end = (more : Files) → Extends more files → Defines (around more) defines s end

@@ -1,5 +1,5 @@
-// Whether a line of an if-section takes the group behind it (6.10.1, and for `#elifdef` and `#elifndef` 6.10.2 of
-// ISO/IEC 9899:2024).
+//! Decides whether a line of an if-section takes the group after it (6.10.1; for `#elifdef` and `#elifndef`, 6.10.2 of
+//! ISO/IEC 9899:2024).
 ghost use Rattle.std.specs.Prelude.{◌≡◌, ◌<◌, ℕ, true, false, length};
 ghost use Rattle.pptext.specs.Stops.{IfSettled};
 ghost use Rattle.pptext.specs.Tree.{sign_place};
@@ -19,8 +19,8 @@ use ppshelf::Disk;
 use pptext::{Directive, Fault, Place, Stop, Token};
 use std::alloc::Global;
 
-/// Whether the group behind a line in the file of a row is taken, or the line's fault: 7, 9, 30, or one of its condition. Only
-/// what is left of the budget changes.
+/// Decides whether the group after a line of the file at index `row` is taken. Fails with the line's fault: 7, 9, 30,
+/// or a fault of its condition. Changes nothing in `state` but the remaining budget.
 pub(crate) fn decide<D: Disk>(
     around: &Around<'_, '_, D>,
     state: &mut State,
@@ -48,7 +48,7 @@ pub(crate) fn decide<D: Disk>(
     }
 }
 
-// Whether the line's name is defined, or isn't, as wanted.
+/// Whether the macro table has the line's name, compared with `wanted`. Fault 9 unless the operand is one identifier.
 fn by_name(alloc: Global, wanted: bool, macros: &Table, line: &[Token]) -> Result<bool, Stop>
     ensures { IfSettled result (λ taken. taken ≡ spec.by_name wanted macros.now line.now (spec_lines.one_identifier (spec_lines.operands line.now))) }
 {
@@ -58,7 +58,7 @@ fn by_name(alloc: Global, wanted: bool, macros: &Table, line: &[Token]) -> Resul
     Ok(macros.get(asked).is_some() == wanted)
 }
 
-// The value of the line's condition.
+/// Evaluates the line's condition.
 fn by_condition<D: Disk>(
     around: &Around<'_, '_, D>,
     state: &mut State,
@@ -72,7 +72,7 @@ fn by_condition<D: Disk>(
 {
     let at = sign(line);
     let operands = operands(line);
-    // Most conditions ask for no file: their tokens are not copied.
+    // Most conditions have no `__has_include`, so that their tokens are not copied.
     if !is_probed(around.profile(), operands) {
         return value(around.alloc, state, at, operands);
     }
@@ -82,7 +82,7 @@ fn by_condition<D: Disk>(
     value(around.alloc, state, at, tokens.as_slice())
 }
 
-// The value of a condition.
+/// Evaluates a condition, and spends its replacements from the budget.
 fn value(alloc: Global, state: &mut State, at: Place, tokens: &[Token]) -> Result<bool, Stop>
     ensures rest { state.new ≡ with_left state.old state.new.left }
     ensures is { IfSettled result (λ taken.

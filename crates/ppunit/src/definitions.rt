@@ -1,4 +1,4 @@
-// A unit's definitions, and the reading of the file that holds them.
+//! The definitions of a unit, and the file that holds them.
 ghost use Rattle.std.specs.Prelude.{◌≡◌, ◌≤◌, ◌++◌, IfOk, OnOk, length};
 ghost use Rattle.pptext.specs.Sources.{Reads};
 ghost use Rattle.ppshelf.specs.Content.{longest};
@@ -11,11 +11,11 @@ use std::alloc::{AllocError, Global};
 use std::fmt;
 use std::marker::Model;
 
-/// The number of the file that holds a unit's definitions.
+/// The index of the file that holds a unit's definitions. No file table has it.
 pub(crate) const COMMAND_FILE: u32 = MOST_ROWS as u32;
 
-/// The definitions of a unit with the lines of the file that holds them, or that file's fault. Contracts see the list of
-/// their texts, and the profile that the file was read by.
+/// The definitions of a unit, with the lines of the file that holds them or the fault of that file. Its model is the
+/// list of the definitions' texts, and the profile that the file is read with.
 #[derive(Drop)]
 pub struct Definitions {
     texts: Texts,
@@ -41,8 +41,8 @@ impl fmt::Debug for Definitions {
 }
 
 impl Definitions {
-    /// These definitions, each the text behind `#define `, with the file that holds a line for each read once, by this
-    /// profile. It has at most `LONGEST` bytes: see `fits_command`.
+    /// Reads the file that holds a line `#define `, text, new-line for each definition. The file may have at most
+    /// `LONGEST` bytes: see `fits_command`. Fails if an allocation fails.
     pub fn read(alloc: Global, texts: Texts, profile: Profile) -> Result<Definitions, Memory>
         requires { length (command_text texts) ≤ longest }
         ensures { IfOk result (λ d. d ≡ record { texts = texts; profile = profile }) }
@@ -56,21 +56,21 @@ impl Definitions {
         })
     }
 
-    /// Their texts.
+    /// Returns the texts of the definitions.
     pub fn texts(&self) -> &Texts
         ensures { result.now ≡ self.now.texts }
     {
         &self.texts
     }
 
-    /// The profile by which they are read.
+    /// Returns the profile that the definitions are read with.
     pub fn profile(&self) -> Profile
         ensures { result ≡ self.now.profile }
     {
         self.profile
     }
 
-    /// The lines of the file that holds them, or its fault.
+    /// Returns the lines of the file that holds the definitions, or its fault.
     pub(crate) fn lines(&self) -> &Result<Source, Fault>
         ensures { Reads self.now.profile command_file (command_text self.now.texts) result.now }
     {
@@ -78,7 +78,7 @@ impl Definitions {
     }
 }
 
-// Puts the line of a definition behind the others.
+/// Appends the line of a definition.
 fn push_definition(text: &mut Vec<u8>, definition: &str) -> Result<(), AllocError>
     ensures { OnOk result (text.new.items ≡ text.old.items ++ command_line definition.now) }
 {
@@ -88,7 +88,7 @@ fn push_definition(text: &mut Vec<u8>, definition: &str) -> Result<(), AllocErro
     Ok(())
 }
 
-// The file of the definitions: a line for each.
+/// Returns the bytes of the file that holds the definitions: a line for each.
 fn command_text(alloc: Global, defines: &Texts) -> Result<Vec<u8>, AllocError>
     ensures { IfOk result (λ text. text.items ≡ command_text defines.now) }
 {

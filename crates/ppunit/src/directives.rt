@@ -1,4 +1,4 @@
-// Control lines that open no file (6.10.3 to 6.10.7), and text runs.
+//! Control lines that open no file (6.10.3 to 6.10.7), and text lines.
 ghost use Rattle.std.specs.Prelude.{◌≡◌, IfOk, Some, true};
 ghost use Rattle.std.specs.Result.{result_err};
 ghost use Rattle.pptext.specs.Stops.{IfSettled};
@@ -16,7 +16,7 @@ use ppmacro::{define, undef};
 use pptext::{Directive, Fault, Profile, Stop, Token};
 use std::alloc::{AllocError, Global};
 
-/// Passes on what a text run expands to, up to its first fault (6.10.3).
+/// Emits the expansion of a run of text lines, up to its first fault (6.10.3).
 pub(crate) fn run_text<'x>(
     alloc: Global,
     state: &mut State<'x>,
@@ -37,7 +37,8 @@ pub(crate) fn run_text<'x>(
     }
 }
 
-// The message of `#error` (6.10.5): the tokens, with one space where a token but the first has a space mark.
+/// Returns the message of `#error` (6.10.5): the tokens, with one space where a token other than the first has leading
+/// white space.
 #[tactic(auto, using(crate::proofs::Messages::told_message))]
 fn message(alloc: Global, tokens: &[Token]) -> Result<Vec<u8>, AllocError>
     ensures { IfOk result (λ m. m.items ≡ spec.message tokens.now) }
@@ -52,7 +53,7 @@ fn message(alloc: Global, tokens: &[Token]) -> Result<Vec<u8>, AllocError>
     Ok(text)
 }
 
-/// Fault 34, with the message of an `#error` line.
+/// Returns fault 34, with the message of an `#error` line.
 pub(crate) fn error(alloc: Global, line: &[Token]) -> Result<Fault, AllocError>
     ensures { IfOk result (λ f. f ≡ spec_lines.line_fault 34 line.now (spec.message (spec_lines.operands line.now))) }
 {
@@ -60,8 +61,8 @@ pub(crate) fn error(alloc: Global, line: &[Token]) -> Result<Fault, AllocError>
     line_fault(alloc, 34, line, text.as_slice())
 }
 
-// Whether the tokens behind `#pragma` say that the file is read once, in a profile that has this: it is a pragma that
-// implementations define (6.10.6).
+/// Whether the tokens after `#pragma` are `once`, in a profile that has it: a pragma with an implementation-defined
+/// meaning (6.10.6).
 fn is_once(profile: Profile, tokens: &[Token]) -> bool
     ensures { result ≡ spec.is_once profile tokens.now }
 {
@@ -71,7 +72,7 @@ fn is_once(profile: Profile, tokens: &[Token]) -> bool
     }
 }
 
-// A pragma with its tokens is passed on (6.10.6). The file of this row may be one that is not read again.
+/// Emits a pragma with its tokens (6.10.6). `#pragma once` keeps the file at index `row` from being read again.
 fn pragma<'x>(
     state: &mut State<'x>,
     profile: Profile,
@@ -88,7 +89,7 @@ fn pragma<'x>(
     Ok(())
 }
 
-// A fault as what stops a unit.
+/// Stops a unit with a fault.
 #[inline(never)]
 fn stopped(fault: Fault) -> Result<(), Stop>
     ensures { IfSettled result (λ r. result_err r ≡ Some fault) }
@@ -96,7 +97,7 @@ fn stopped(fault: Fault) -> Result<(), Stop>
     Err(Stop::Fault(fault))
 }
 
-// A `#define` line (6.10.3).
+/// Executes a `#define` line (6.10.3).
 fn define_by<'x>(
     alloc: Global,
     state: &mut State<'x>,
@@ -118,7 +119,7 @@ fn define_by<'x>(
     }
 }
 
-// An `#undef` line (6.10.3.5).
+/// Executes an `#undef` line (6.10.3.5).
 fn undef_by<'x>(
     alloc: Global,
     state: &mut State<'x>,
@@ -140,14 +141,14 @@ fn undef_by<'x>(
     }
 }
 
-// Fault 8, with the name of a directive that there isn't.
+/// Stops a unit with fault 8, with the name of an unknown directive.
 fn unknown(alloc: Global, line: &[Token]) -> Result<(), Stop>
     ensures { IfSettled result (λ r. result_err r ≡ Some (spec_lines.named_fault 8 line.now)) }
 {
     stopped(line_fault(alloc, 8, line, name(line))?)
 }
 
-// What a control line without lone quotes does, whatever its directive.
+/// Executes a control line without unmatched quotes, whatever its directive.
 #[inline(never)]
 fn control_any<'x>(
     alloc: Global,
@@ -170,7 +171,7 @@ fn control_any<'x>(
     }
 }
 
-/// What a control line without lone quotes does in the file of a row, where it opens no file, or its fault.
+/// Executes a control line without unmatched quotes that opens no file. Fails with the line's fault.
 pub(crate) fn control<'x>(
     alloc: Global,
     state: &mut State<'x>,

@@ -1,4 +1,4 @@
-// Forms of the texts of a setting and of a unit.
+//! Syntax of the texts of a setting and of a unit.
 ghost use Rattle.std.specs.Prelude.{◌≡◌, length, map, nat_le};
 ghost use Rattle.std.specs.List.{list_all};
 ghost use Rattle.std.specs.String.{string_bytes};
@@ -10,7 +10,7 @@ use crate::units::{Setting, Unit};
 use ppshelf::{Disk, LONGEST, Shelf};
 use pptext::Profile;
 
-/// Whether the text is a date as `__DATE__` gives it: `Mmm dd yyyy`, a day below 10 after a space (6.10.8.1).
+/// Whether the text has the format of `__DATE__` (6.10.8.1): `Mmm dd yyyy`, with a space before a day below 10.
 pub fn is_date(text: &[u8]) -> bool
     ensures { result ≡ spec.is_date text.now }
 {
@@ -22,6 +22,7 @@ pub fn is_date(text: &[u8]) -> bool
         && is_digits(&text[7..])
 }
 
+/// Whether the text abbreviates the name of a month.
 fn is_month(text: &[u8]) -> bool
     ensures { result ≡ spec.is_month text.now }
 {
@@ -31,12 +32,14 @@ fn is_month(text: &[u8]) -> bool
     }
 }
 
+/// Whether the text abbreviates the name of a month from July on.
 fn is_late_month(text: &[u8]) -> bool
     ensures { result ≡ spec.is_late_month text.now }
 {
     matches!(text, b"Jul" | b"Aug" | b"Sep" | b"Oct" | b"Nov" | b"Dec")
 }
 
+/// Whether the two bytes spell a day of a month: 1 to 9 after a space, or 10 to 31.
 fn is_day(first: u8, second: u8) -> bool
     ensures { result ≡ spec.is_day first second }
 {
@@ -44,6 +47,7 @@ fn is_day(first: u8, second: u8) -> bool
         || (first >= b'1' && is_pair(31, first, second))
 }
 
+/// Whether all bytes are digits.
 fn is_digits(text: &[u8]) -> bool
     ensures { result ≡ list_all spec.is_digit text.now }
 {
@@ -55,21 +59,21 @@ fn is_digits(text: &[u8]) -> bool
     true
 }
 
-/// Whether a byte is a digit.
+/// Whether the byte is a decimal digit.
 pub(crate) fn is_digit(byte: u8) -> bool
     ensures { result ≡ spec.is_digit byte }
 {
     matches!(byte, b'0'..=b'9')
 }
 
-// Whether the two are digits that spell a number of at most `most`.
+/// Whether the two bytes are digits that spell a number of at most `most`.
 fn is_pair(most: u8, first: u8, second: u8) -> bool
     ensures { result ≡ spec.is_pair most first second }
 {
     is_digit(first) && is_digit(second) && (first - b'0') * 10 + (second - b'0') <= most
 }
 
-/// Whether the text is a time as `__TIME__` gives it: `hh:mm:ss`, where the second may be a leap second (6.10.8.1).
+/// Whether the text has the format of `__TIME__` (6.10.8.1): `hh:mm:ss`, where the second may be 60, a leap second.
 pub fn is_time(text: &[u8]) -> bool
     ensures { result ≡ spec.is_time text.now }
 {
@@ -81,8 +85,8 @@ pub fn is_time(text: &[u8]) -> bool
         && is_pair(60, text[6], text[7])
 }
 
-/// Whether the text holds no carriage return and no line feed, so that its definition is one physical line; a `\` at its end joins that to the next
-/// one (5.1.1.2p1, phase 2).
+/// Whether the text has no carriage return and no line feed, so that its definition is one physical line. A `\` at its
+/// end still joins that line to the next one (5.1.1.2p1, phase 2).
 pub fn is_one_line(text: &[u8]) -> bool
     ensures { result ≡ spec.is_one_line text.now }
 {
@@ -94,16 +98,18 @@ pub fn is_one_line(text: &[u8]) -> bool
     true
 }
 
+/// Whether the byte is neither a carriage return nor a line feed.
 fn is_in_line(byte: u8) -> bool
     ensures { result ≡ spec.is_in_line byte }
 {
     byte != b'\r' && byte != b'\n'
 }
 
-// The bytes of a definition's line besides its text: `#define ` and a new-line.
+/// The number of bytes in the line of a definition without its text: `#define ` and a new-line.
 const AROUND: usize = 9;
 
-/// Whether the file of these definitions, a line `#define `, text, new-line for each, has at most `LONGEST` bytes.
+/// Whether the file that holds the definitions has at most `LONGEST` bytes. It has a line `#define `, text, new-line
+/// for each.
 pub fn fits_command(defines: &[String]) -> bool
     ensures { result ≡ nat_le (length (command_text (map string_bytes defines.now))) longest }
 {
@@ -117,19 +123,21 @@ pub fn fits_command(defines: &[String]) -> bool
     true
 }
 
-/// Whether date and time have the forms in which `__DATE__` and `__TIME__` give them (6.10.8.1).
+/// Whether date and time have the formats of `__DATE__` and `__TIME__` (6.10.8.1).
 pub fn setting_ok(setting: &Setting) -> bool
     ensures { result ≡ spec.is_setting setting.now }
 {
     is_date(setting.date.as_str().as_bytes()) && is_time(setting.time.as_str().as_bytes())
 }
 
+/// Whether the profiles are equal.
 fn is_same(one: Profile, other: Profile) -> bool
     ensures { result ≡ spec.is_same one other }
 {
     one == other
 }
 
+/// Whether each text is one line.
 fn are_lines(texts: &[String]) -> bool
     ensures { result ≡ list_all spec.is_one_line (map string_bytes texts.now) }
 {
@@ -141,8 +149,8 @@ fn are_lines(texts: &[String]) -> bool
     true
 }
 
-/// Whether the unit's file is one of the shelf's, its definitions are read by the shelf's profile, each of them is one line,
-/// and the file of its definitions has at most `LONGEST` bytes.
+/// Whether the unit's file is in the file table, the definitions have the table's profile, each of them is one line,
+/// and the file that holds them has at most `LONGEST` bytes.
 pub fn unit_ok<D: Disk>(shelf: &Shelf<D>, unit: &Unit) -> bool
     ensures { result ≡ spec.is_unit (length shelf.now.names) shelf.now.profile unit.now }
 {

@@ -1,4 +1,4 @@
-// Files that are left out, since their guard is a macro's name (6.10.1).
+//! Skips files whose include guard is defined (6.10.1).
 ghost use Rattle.std.specs.Prelude.{◌↔◌, IsTrue};
 ghost use Rattle.ppunit.specs.Guarded.{IsLeftOut, GuardsLeaveOut, GuardsOnlyLeaveOut};
 
@@ -8,7 +8,7 @@ use ppexpr::one_condition;
 use ppshelf::one_row;
 use pptext::{Source, one_reading, one_tree};
 
-/// Whether the file is one section under a guard that is a macro's name: its lines would do nothing.
+/// Whether the file is one if-section under a guard, and the guard is defined. Such a file has no effect.
 pub(crate) fn is_left_out(state: &State, source: &Source) -> bool
     ensures { IsTrue result ↔ IsLeftOut state.now source.now }
 {
@@ -18,9 +18,9 @@ pub(crate) fn is_left_out(state: &State, source: &Source) -> bool
     }
 }
 
-/// A law: opening a file that is one section under a guard (6.10.1), where the guard is a macro's name, the file isn't too deep and
-/// something is left of the budget, changes nothing but the dependencies and, by one, what is left. Where no name of a file stands
-/// twice, it has no other outcome.
+/// Theorem: opening a file that is one if-section under a defined guard (6.10.1) adds a dependency and spends one of
+/// the budget, and changes nothing else, if the file isn't too deep and the budget isn't exhausted. If the file names
+/// are distinct, it has no other outcome.
 pub fn guard_changes_nothing()
     ensures leaves_out { GuardsLeaveOut }
     ensures only { GuardsOnlyLeaveOut }

@@ -1,4 +1,4 @@
-// What an `#include` line asks for (6.10.2).
+//! The header that an `#include` line names (6.10.2).
 ghost use Rattle.std.specs.Prelude.{◌≡◌, ◌∷◌, IfOk, [], true};
 ghost use Rattle.std.specs.Option.{option_map};
 ghost use Rattle.pptext.specs.Stops.{IfSettled};
@@ -16,7 +16,7 @@ use pptext::{Kind, Spelling, Stop, Token};
 use std::alloc::{AllocError, Global};
 use std::marker::Model;
 
-/// The form and the name that are asked for.
+/// The form and the name of a header.
 #[derive(Drop)]
 pub(crate) struct Asked {
     pub form: Form,
@@ -31,7 +31,7 @@ impl Model for Asked {
     ghost view = { λ a. record { form = a.form; name = a.name } };
 }
 
-// What stands between the first and the last byte.
+/// Returns the bytes between the first and the last.
 fn inner(text: &[u8]) -> &[u8]
     ensures { result.now ≡ spec.inner text.now }
 {
@@ -41,7 +41,7 @@ fn inner(text: &[u8]) -> &[u8]
     }
 }
 
-// A name of this form.
+/// Copies a name into a request of this form.
 fn asking_for(alloc: Global, form: Form, name: &[u8]) -> Result<Asked, AllocError>
     ensures { IfOk result (λ a. a ≡ record { form = form; name = name.now }) }
 {
@@ -51,7 +51,7 @@ fn asking_for(alloc: Global, form: Form, name: &[u8]) -> Result<Asked, AllocErro
     })
 }
 
-// The form of a header name.
+/// Returns the form of a header name token.
 fn form_of(text: &[u8]) -> Form
     ensures { result ≡ spec.form_of text.now }
 {
@@ -62,7 +62,7 @@ fn form_of(text: &[u8]) -> Form
     }
 }
 
-// What a header name alone asks for.
+/// Returns the header that a single header name token names.
 fn header_asked(alloc: Global, tokens: &[Token]) -> Result<Option<Asked>, AllocError>
     ensures { IfOk result (λ a. a ≡ spec.header_asked tokens.now) }
 {
@@ -73,7 +73,7 @@ fn header_asked(alloc: Global, tokens: &[Token]) -> Result<Option<Asked>, AllocE
     Ok(Some(asking_for(alloc, form_of(text), inner(text))?))
 }
 
-// The name up to `>`, which is the last token and stands nowhere else.
+/// Returns the spelling of the tokens before `>`. The `>` must be the last token, and the only one.
 fn angle_name(alloc: Global, tokens: &[Token]) -> Result<Option<Vec<u8>>, AllocError>
     ensures { IfOk result (λ n. option_map (λ v. v.items) n ≡ spec.angle_name tokens.now) }
 {
@@ -92,7 +92,7 @@ fn angle_name(alloc: Global, tokens: &[Token]) -> Result<Option<Vec<u8>>, AllocE
     Ok(None)
 }
 
-// What a string literal behind replacement asks for, if it is one.
+/// Returns the header that a single string literal names after macro replacement.
 fn string_asked(alloc: Global, only: &Token) -> Result<Option<Asked>, AllocError>
     ensures { IfOk result (λ a. a ≡ spec.expanded_asked (only.now ∷ [])) }
 {
@@ -102,7 +102,7 @@ fn string_asked(alloc: Global, only: &Token) -> Result<Option<Asked>, AllocError
     Ok(Some(asking_for(alloc, Form::Quote, inner(only.text.as_bytes()))?))
 }
 
-// What the tokens behind `<` ask for.
+/// Returns the header that the tokens after `<` name.
 fn angle_asked(alloc: Global, tokens: &[Token]) -> Result<Option<Asked>, AllocError>
     ensures { IfOk result (λ a. a ≡ spec.angled (spec.angle_name tokens.now)) }
 {
@@ -115,7 +115,7 @@ fn angle_asked(alloc: Global, tokens: &[Token]) -> Result<Option<Asked>, AllocEr
     }))
 }
 
-// What the tokens behind replacement ask for.
+/// Returns the header that the operands name after macro replacement.
 fn expanded_asked(alloc: Global, tokens: &[Token]) -> Result<Option<Asked>, AllocError>
     ensures { IfOk result (λ a. a ≡ spec.expanded_asked tokens.now) }
 {
@@ -126,7 +126,7 @@ fn expanded_asked(alloc: Global, tokens: &[Token]) -> Result<Option<Asked>, Allo
     }
 }
 
-// Fault 30 where nothing is asked for, or a name that no file has: an empty one, or one from the root.
+/// Returns the header, or fault 30 if there is none or no file can have its name.
 fn asked_or_fault(alloc: Global, line: &[Token], asked: Option<Asked>) -> Result<Asked, Stop>
     ensures { IfSettled result (λ r. r ≡ spec.asked_or (line_fault 30 line.now []) (spec.if_somewhere asked)) }
 {
@@ -136,13 +136,14 @@ fn asked_or_fault(alloc: Global, line: &[Token], asked: Option<Asked>) -> Result
     }
 }
 
+/// Whether no file can have the name: it is empty or begins with `/`.
 fn is_nowhere(name: &[u8]) -> bool
     ensures { result ≡ spec.is_nowhere name.now }
 {
     name.is_empty() || name[0] == b'/'
 }
 
-// But for a name that no file has: an empty one, or one from the root.
+/// Drops a header whose name no file can have: an empty name, or one that begins with `/`.
 fn if_somewhere(asked: Option<Asked>) -> Option<Asked>
     ensures { result ≡ spec.if_somewhere asked }
 {
@@ -152,7 +153,7 @@ fn if_somewhere(asked: Option<Asked>) -> Option<Asked>
     }
 }
 
-/// What tokens ask for as they stand, without replacement, but for a name that no file has.
+/// Returns the header that the tokens name without macro replacement, unless no file can have its name.
 pub(crate) fn asked_as_it_stands(
     alloc: Global,
     tokens: &[Token],
@@ -162,7 +163,7 @@ pub(crate) fn asked_as_it_stands(
     Ok(if_somewhere(expanded_asked(alloc, tokens)?))
 }
 
-// What the tokens behind replacement ask for, or fault 30.
+/// Returns the header that the tokens name after macro replacement, or fault 30.
 fn asked_behind(alloc: Global, line: &[Token], tokens: &[Token]) -> Result<Asked, Stop>
     ensures { IfSettled result (λ r. r ≡ spec.asked_or (line_fault 30 line.now []) (spec.if_somewhere (spec.expanded_asked tokens.now))) }
 {
@@ -170,7 +171,7 @@ fn asked_behind(alloc: Global, line: &[Token], tokens: &[Token]) -> Result<Asked
     asked_or_fault(alloc, line, asked)
 }
 
-// What an include line that names no header asks for once its macros are replaced.
+/// Returns the header that an include line names once its macros are replaced.
 fn ask_replaced<'x>(alloc: Global, state: &mut State<'x>, line: &'x [Token]) -> Result<Asked, Stop>
     ensures rest { state.new ≡ with_left state.old state.new.left }
     ensures asks { IfSettled result (λ asked. AsksReplaced state.old line.now state.new.left asked) }
@@ -179,8 +180,8 @@ fn ask_replaced<'x>(alloc: Global, state: &mut State<'x>, line: &'x [Token]) -> 
     asked_behind(alloc, line, tokens.as_slice())
 }
 
-/// What an include line without lone quotes asks for, or its fault: one of replacement, or 30. Only what is left of the budget
-/// changes.
+/// Returns the header that an include line without unmatched quotes names. Fails with a fault of macro replacement, or
+/// fault 30. Changes nothing in `state` but the remaining budget.
 pub(crate) fn ask<'x>(
     alloc: Global,
     state: &mut State<'x>,

@@ -1,4 +1,4 @@
-// The lines of a file by their index, from 0.
+//! Access to the lines of a file by index, from 0.
 ghost use Rattle.std.specs.Prelude.{◌≡◌, ◌<◌, ◌≤◌, ◌+◌, ◌-◌, ◌^◌, suc, length, drop, take};
 ghost use Rattle.pptext.specs.Sources.{next_branch, tokens_of};
 ghost use Rattle.pptext.specs.Tree.{role};
@@ -6,14 +6,14 @@ ghost use Rattle.ppunit.specs.Walk.{line_at};
 
 use pptext::{Line, Source, Token};
 
-/// How many lines there are.
+/// Returns the number of lines.
 pub(crate) fn count(source: &Source) -> usize
     ensures { result ≡ length source.now }
 {
     source.lines().len()
 }
 
-/// A line, as a span of the file's tokens.
+/// Returns the line at `index`, a span of the file's tokens.
 pub(crate) fn line(source: &Source, index: usize) -> &Line
     requires { index < length source.now }
     ensures few { length source.now < 2 ^ 64 }
@@ -26,7 +26,7 @@ pub(crate) fn line(source: &Source, index: usize) -> &Line
     &source.lines()[index]
 }
 
-/// The tokens of the lines from one index up to another.
+/// Returns the tokens of the lines from `start` to before `end`.
 pub(crate) fn tokens_between(source: &Source, start: usize, end: usize) -> &[Token]
     requires some { start < end }
     requires within { end ≤ length source.now }
@@ -35,7 +35,7 @@ pub(crate) fn tokens_between(source: &Source, start: usize, end: usize) -> &[Tok
     &source.tokens()[line(source, start).start..line(source, end - 1).end]
 }
 
-/// The tokens of a line.
+/// Returns the tokens of the line at `index`.
 pub(crate) fn tokens_at(source: &Source, index: usize) -> &[Token]
     requires { index < length source.now }
     ensures few { length source.now < 2 ^ 64 }

@@ -1,4 +1,4 @@
-// Items, one by one.
+//! An iterator over items.
 ghost use Rattle.std.specs.Prelude.{◌≡◌, IfOk};
 ghost use Rattle.std.specs.Iterator.{YieldsFirstBy, YieldsFirstRef, item_count};
 ghost use Rattle.ppunit.specs.Yielding.{ref_item};
@@ -10,7 +10,7 @@ use pptext::{Place, Token, Tokens};
 use std::alloc::{AllocError, Global};
 use std::marker::Model;
 
-/// An item, borrowed: a token, or a pragma's place and tokens (6.10.6).
+/// A borrowed item: a token, or the location and the tokens of a pragma (6.10.6).
 #[derive(Clone, Copy)]
 pub enum ItemRef<'r, 'a> {
     Token(TokenRef<'r, 'a>),
@@ -18,7 +18,7 @@ pub enum ItemRef<'r, 'a> {
 }
 
 impl<'r, 'a> ItemRef<'r, 'a> {
-    /// A copy of the item. Fails only where memory runs out.
+    /// Copies the item. Fails only if an allocation fails.
     pub fn to_item(&self, alloc: Global) -> Result<Item, AllocError>
         ensures { IfOk result (λ i. i ≡ ref_item self.now) }
     {
@@ -48,7 +48,7 @@ impl<'r, 'a> Model for PartsLeft<'r, 'a> {
 }
 
 impl<'r, 'a> PartsLeft<'r, 'a> {
-    /// The first of them, taken out.
+    /// Takes the first part out.
     fn next(&mut self) -> Option<&'r Part<'a>>
         ensures { YieldsFirstRef (λ rest. rest) self.old result self.new }
     {
@@ -58,7 +58,8 @@ impl<'r, 'a> PartsLeft<'r, 'a> {
     }
 }
 
-/// Items in order, borrowed from their list. No memory is asked for. Contracts see the list of those that are left.
+/// Iterates over items in order, each borrowed from their list, without allocating. Its model is the list of the
+/// remaining items.
 #[derive(Drop)]
 pub struct ItemsIter<'r, 'a> {
     run: Option<RunIter<'r, 'a>>,
@@ -103,7 +104,7 @@ impl<'r, 'a> Iterator for ItemsIter<'r, 'a> {
 }
 
 impl<'a> Items<'a> {
-    /// The items one by one, in order, each borrowed.
+    /// Returns an iterator over the items, in order, each borrowed.
     pub fn iter(&self) -> ItemsIter<'_, 'a>
         ensures { result ≡ self.now }
     {

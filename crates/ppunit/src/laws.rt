@@ -1,4 +1,5 @@
-// Laws of units: functions that do nothing, whose contracts are the laws. They call what they rest on.
+//! Theorems about units: functions that do nothing, whose contracts state the theorems. They call the theorems that
+//! they rest on.
 ghost use Rattle.ppunit.specs.Laws.{HasOneValue, HasSomeValue, Grows};
 ghost use Rattle.ppunit.specs.Capped.{StaysWithin, BudgetCaps, LargerBudgetsGiveNoLess, OnlyBudgetsRefuse};
 
@@ -7,7 +8,8 @@ use ppexpr::{one_condition, some_condition};
 use ppshelf::{one_row, some_row};
 use pptext::{one_reading, one_tree, some_reading, tree_unless_fault};
 
-/// A law: over the same files, each name once, a unit gives one thing, and makes so many replacements and openings and no other number.
+/// Theorem: over the same files with distinct names, a unit has one value, and one number of replacements and opened
+/// files.
 pub fn one_value()
     ensures { HasOneValue }
 {
@@ -18,7 +20,8 @@ pub fn one_value()
     one_row();
 }
 
-/// A law: where the content of each file is known, and the unit's file is one of them, the unit gives something, with any budget and without.
+/// Theorem: if the content of each file is known and the unit's file is one of them, the unit has a value, with any
+/// budget and without one.
 pub fn some_value()
     ensures { HasSomeValue }
 {
@@ -29,18 +32,20 @@ pub fn some_value()
     some_row();
 }
 
-/// A law: where a unit gives something over some files, it gives the same over any more, with as many replacements and openings.
+/// Theorem: the value that a unit has over some files it also has over any larger set of files, with as many
+/// replacements and opened files.
 pub fn growth()
     ensures { Grows }
 {}
 
-/// A law: a unit makes no more replacements and openings, taken together, than its budget allows.
+/// Theorem: the replacements and opened files of a unit total at most its budget.
 pub fn stays_within()
     ensures { StaysWithin }
 {}
 
-/// A law: where each name stands once, with a budget a unit gives a beginning of what it gives without one over these files or any more,
-/// and the whole exactly where the budget suffices; otherwise it ends in fault 35. Over all that know each file there is such a whole.
+/// Theorem: if the file names are distinct, the value of a unit with a budget is a prefix of its value without one,
+/// over these files and any larger set. It is the whole value exactly if the budget suffices, and otherwise ends in
+/// fault 35. If each file is known, there is such a whole value.
 pub fn budget_caps_units()
     ensures { BudgetCaps }
 {
@@ -50,13 +55,14 @@ pub fn budget_caps_units()
     only_budgets_refuse();
 }
 
-/// A law: without a budget no unit ends in fault 35.
+/// Theorem: no unit ends in fault 35 without a budget.
 pub fn only_budgets_refuse()
     ensures { OnlyBudgetsRefuse }
 {}
 
-/// A law: where each name stands once, what a unit gives with a budget is a beginning of what it gives with a larger one, or with none, over these
-/// files or any more, and all of it unless it ends in fault 35. Over all that know each file it gives something with the larger one.
+/// Theorem: if the file names are distinct, the value of a unit with a budget is a prefix of its value with a larger
+/// one, or with none, over these files and any larger set, and equal to it unless it ends in fault 35. If each file is
+/// known, the unit has a value with the larger budget.
 pub fn larger_budgets_give_no_less()
     ensures { LargerBudgetsGiveNoLess }
 {

@@ -1,4 +1,4 @@
-// Translation phase 4 of one translation unit over shared files (5.1.1.2, 6.10).
+//! Executes translation phase 4 of one translation unit over shared files (5.1.1.2, 6.10).
 #![tactic(auto)]
 
 mod conditions;

@@ -1,4 +1,4 @@
-// `#line` (6.10.4).
+//! Executes `#line` (6.10.4).
 ghost use Rattle.std.specs.Prelude.{◌≡◌, ◌+◌, ◌-ℤ◌, pos, [], IfOk};
 ghost use Rattle.std.specs.Option.{ok_or};
 ghost use Rattle.std.specs.Result.{result_err};
@@ -17,9 +17,10 @@ use pptext::{Kind, Spelling, Stop, Token};
 use std::alloc::{AllocError, Global};
 use std::marker::Model;
 
+/// The largest number that `#line` may give (6.10.4p3).
 const LAST_LINE: u64 = 2_147_483_647;
 
-/// A line's number, and the literal of a name.
+/// The presumed number of a line, and the presumed name of its file as a string literal.
 #[derive(Drop)]
 pub(crate) struct Presumed {
     pub number: u32,
@@ -34,14 +35,14 @@ impl Model for Presumed {
     ghost view = { λ p. record { number = p.number; name = p.name } };
 }
 
-/// Whether it is a string literal without prefix.
+/// Whether the token is a string literal without prefix.
 pub(crate) fn is_plain_string(token: &Token) -> bool
     ensures { result ≡ spec.is_plain_string token.now }
 {
     token.kind == Kind::Str && token.text.as_bytes().first() == Some(&b'"')
 }
 
-// The number of a line, 1 to 2147483647, in decimal digits alone.
+/// Returns the number that decimal digits spell, if it is 1 to 2147483647.
 fn line_number(token: &Token) -> Option<u32>
     ensures { result ≡ spec.line_number token.now }
 {
@@ -53,7 +54,7 @@ fn line_number(token: &Token) -> Option<u32>
         if !is_digit(*byte) {
             return None;
         }
-        // A number that is too great stays so.
+        // A number that is too large stays too large.
         if number <= LAST_LINE {
             number = number * 10 + u64::from(*byte - b'0');
         }
@@ -64,7 +65,7 @@ fn line_number(token: &Token) -> Option<u32>
     Some(number as u32)
 }
 
-// What the tokens behind replacement say: a number, or a number and a string literal.
+/// Returns the operands of `#line` after macro replacement: a number, or a number and a string literal.
 fn presumed_by(tokens: &[Token]) -> Result<Option<Presumed>, AllocError>
     ensures { IfOk result (λ p. p ≡ spec.presumed tokens.now) }
 {
@@ -79,7 +80,7 @@ fn presumed_by(tokens: &[Token]) -> Result<Option<Presumed>, AllocError>
     Ok(Some(Presumed { number, name }))
 }
 
-// The file gets a new name, if there is one.
+/// Replaces the presumed name of the file, if there is a new one.
 fn rename(env: &mut Env, name: Option<Spelling>)
     ensures { env.new ≡ record env.old { name = spec.or_old env.old.name name } }
 {
@@ -88,7 +89,7 @@ fn rename(env: &mut Env, name: Option<Spelling>)
     }
 }
 
-// What the tokens behind replacement say, or fault 33.
+/// Returns the operands of `#line` after macro replacement, or fault 33.
 fn presumed_or_fault(alloc: Global, line: &[Token], tokens: &[Token]) -> Result<Presumed, Stop>
     ensures { IfSettled result (λ r. r ≡ ok_or (spec.presumed tokens.now) (line_fault 33 line.now [])) }
 {
@@ -98,7 +99,7 @@ fn presumed_or_fault(alloc: Global, line: &[Token], tokens: &[Token]) -> Result<
     }
 }
 
-// The line behind this physical one gets the number, and the file perhaps a name.
+/// Gives the line after the physical line `physical` its presumed number, and the file its presumed name.
 fn present(env: &mut Env, presumed: Presumed, physical: u32)
     ensures { env.new ≡ record env.old { name = spec.or_old env.old.name presumed.name; shift = pos presumed.number -ℤ pos (physical + 1) } }
 {
@@ -106,8 +107,8 @@ fn present(env: &mut Env, presumed: Presumed, physical: u32)
     rename(env, presumed.name);
 }
 
-/// The line behind the directive's new-line, which stands in this physical line, gets a number, and the file perhaps a
-/// name; or the fault of replacement, or 33.
+/// Executes `#line` (6.10.4): gives the line after the directive's new-line a number, and the file a name if there is
+/// one. The new-line ends the physical line `physical`. Fails with a fault of macro replacement, or fault 33.
 pub(crate) fn renumber<'x>(
     alloc: Global,
     state: &mut State<'x>,

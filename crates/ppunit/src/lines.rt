@@ -1,4 +1,4 @@
-// The parts of a directive line (6.10).
+//! The parts of a directive line (6.10).
 ghost use Rattle.std.specs.Prelude.{◌≡◌, ◌++◌, IfOk, OnOk};
 ghost use Rattle.std.specs.Option.{option_copied};
 ghost use Rattle.std.specs.Result.{result_err};
@@ -11,7 +11,7 @@ ghost use Rattle.ppunit.specs.Quotes as quotes;
 use pptext::{Directive, Fault, Place, Stop, Token};
 use std::alloc::{AllocError, Global};
 
-/// A directive line of the file in a row: its tokens from the `#` on, and its number in that file, from 1.
+/// A directive line of the file at index `row`: its tokens from the `#` on, and its number in that file, from 1.
 #[derive(Clone, Copy)]
 pub(crate) struct DirectiveLine<'x> {
     pub row: usize,
@@ -20,7 +20,7 @@ pub(crate) struct DirectiveLine<'x> {
     pub number: u32,
 }
 
-/// The place of the `#`.
+/// Returns the location of the `#`.
 pub(crate) fn sign(line: &[Token]) -> Place
     ensures { result ≡ sign_place line.now }
 {
@@ -34,7 +34,7 @@ pub(crate) fn sign(line: &[Token]) -> Place
     }
 }
 
-/// The directive's name.
+/// Returns the directive's name.
 pub(crate) fn name(line: &[Token]) -> &[u8]
     ensures { result.now ≡ name_of line.now }
 {
@@ -44,7 +44,7 @@ pub(crate) fn name(line: &[Token]) -> &[u8]
     }
 }
 
-/// What stands behind the directive's name.
+/// Returns the tokens after the directive's name.
 pub(crate) fn operands(line: &[Token]) -> &[Token]
     ensures { result.now ≡ spec.operands line.now }
 {
@@ -54,7 +54,7 @@ pub(crate) fn operands(line: &[Token]) -> &[Token]
     }
 }
 
-/// Puts a space where a token that isn't the first has a space mark.
+/// Appends a space if the token has leading white space and isn't the first.
 pub(crate) fn push_space(text: &mut Vec<u8>, token: &Token, first: bool) -> Result<(), AllocError>
     ensures { OnOk result (text.new.items ≡ text.old.items ++ spelled_space first token.now) }
 {
@@ -64,7 +64,7 @@ pub(crate) fn push_space(text: &mut Vec<u8>, token: &Token, first: bool) -> Resu
     Ok(())
 }
 
-/// A fault at the line's `#`.
+/// Returns a fault located at the line's `#`.
 pub(crate) fn line_fault(
     alloc: Global,
     number: u8,
@@ -76,7 +76,7 @@ pub(crate) fn line_fault(
     Fault::new(alloc, number, sign(line), text)
 }
 
-/// The one identifier that is asked for.
+/// Returns the identifier if it is the only token.
 pub(crate) fn one_identifier(tokens: &[Token]) -> Option<&[u8]>
     ensures { option_copied result ≡ spec.one_identifier tokens.now }
 {
@@ -86,7 +86,7 @@ pub(crate) fn one_identifier(tokens: &[Token]) -> Option<&[u8]>
     }
 }
 
-/// Fault 7 at the first quote that begins no literal (6.4p3), if there is one.
+/// Fails with fault 7 at the first unmatched quote (6.4p3), if there is one.
 pub(crate) fn refuse_lone_quote(line: &[Token]) -> Result<(), Stop>
     ensures { IfSettled result (λ r. result_err r ≡ quotes.lone_quote line.now) }
 {

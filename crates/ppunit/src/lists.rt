@@ -1,4 +1,4 @@
-// Texts, rows and items, which contracts see as lists.
+//! Texts, file indices and items. Their models are lists.
 ghost use Rattle.ppunit.specs.Parts.{part_items};
 ghost use Rattle.std.specs.Prelude.{flat_map, ◌≡◌, map, string_bytes, IfOk, OnOk, ◌++◌, ◌∷◌, []};
 ghost use Rattle.ppunit.specs.declared.units.Item.TheVariants as item;
@@ -11,7 +11,7 @@ use pptext::{Place, Token, Tokens};
 use std::alloc::{AllocError, Global};
 use std::marker::Model;
 
-/// A text, which contracts see as the list of its bytes.
+/// A text. Its model is the list of its bytes.
 #[derive(Drop, Debug)]
 pub struct Text {
     text: String,
@@ -26,21 +26,21 @@ impl Model for Text {
 }
 
 impl Text {
-    /// This text.
+    /// Wraps a string.
     pub fn new(text: String) -> Text
         ensures { result ≡ string_bytes text }
     {
         Text { text }
     }
 
-    /// The text, given back.
+    /// Returns the string.
     pub fn into_string(self) -> String
         ensures { string_bytes result ≡ self }
     {
         self.text
     }
 
-    /// The text.
+    /// Borrows the string.
     pub fn as_str(&self) -> &str
         ensures { result.now ≡ self.now }
     {
@@ -48,7 +48,7 @@ impl Text {
     }
 }
 
-/// Texts, which contracts see as the list of the texts' bytes.
+/// A list of texts. Its model is the list of the texts' bytes.
 #[derive(Drop, Debug)]
 pub struct Texts {
     texts: Vec<String>,
@@ -63,14 +63,14 @@ impl Model for Texts {
 }
 
 impl Texts {
-    /// These texts.
+    /// Wraps a vector of strings.
     pub fn new(texts: Vec<String>) -> Texts
         ensures { result ≡ map string_bytes texts.items }
     {
         Texts { texts }
     }
 
-    /// The texts.
+    /// Borrows the strings.
     pub fn as_slice(&self) -> &[String]
         ensures { map string_bytes result.now ≡ self.now }
     {
@@ -78,7 +78,7 @@ impl Texts {
     }
 }
 
-/// Rows in the order in which they joined, each once; contracts see their list.
+/// A set of file indices in insertion order. Its model is their list.
 #[derive(Drop)]
 pub struct Rows {
     rows: IndexSet<usize>,
@@ -93,7 +93,7 @@ impl Model for Rows {
 }
 
 impl Rows {
-    /// No row.
+    /// Creates an empty set.
     pub fn new(alloc: Global) -> Rows
         ensures { result ≡ [] }
     {
@@ -102,14 +102,14 @@ impl Rows {
         }
     }
 
-    /// Whether the row is one of them.
+    /// Whether the set has the index.
     pub(crate) fn contains(&self, row: usize) -> bool
         ensures { result ≡ is_among row self.now }
     {
         self.rows.contains(&row)
     }
 
-    /// The row joins the others, unless it is one of them.
+    /// Inserts an index, unless the set has it. Fails if an allocation fails.
     pub fn join(&mut self, row: usize) -> Result<(), AllocError>
         ensures { OnOk result (self.new ≡ among row self.old) }
     {
@@ -119,7 +119,7 @@ impl Rows {
         }
     }
 
-    /// The rows.
+    /// Borrows the indices, in insertion order.
     pub fn as_slice(&self) -> &[usize]
         ensures { result.now ≡ self.now }
     {
@@ -127,14 +127,14 @@ impl Rows {
     }
 }
 
-/// A run of tokens, or a pragma with its tokens.
+/// A part of the output: a run of tokens, or a pragma with its location and its tokens.
 #[derive(Drop)]
 pub enum Part<'a> {
     Run(Run<'a>),
     Pragma(Place, &'a [Token]),
 }
 
-/// Items, which contracts see as their list.
+/// The items of a unit's output. Its model is their list.
 #[derive(Drop)]
 pub struct Items<'a> {
     parts: Vec<Part<'a>>,
@@ -152,7 +152,7 @@ impl<'a> Model for Items<'a> {
 }
 
 impl<'a> Items<'a> {
-    /// No items.
+    /// Creates an empty list.
     pub fn new(alloc: Global) -> Items<'a>
         ensures { result ≡ [] }
     {
@@ -161,7 +161,7 @@ impl<'a> Items<'a> {
         }
     }
 
-    /// The same, without room for more: items are kept until all units are done.
+    /// Frees the unused capacity: items are kept until all units are done.
     pub(crate) fn fitted(self) -> Items<'a>
         ensures { result ≡ self.entry }
     {
@@ -170,14 +170,14 @@ impl<'a> Items<'a> {
         Items { parts }
     }
 
-    /// The parts.
+    /// Borrows the parts.
     pub fn parts(&self) -> &[Part<'a>]
         ensures { flat_map part_items result.now ≡ self.now }
     {
         self.parts.as_slice()
     }
 
-    /// A copy of the items as one list.
+    /// Copies the items into one vector. Fails if an allocation fails.
     pub fn to_vec(&self, alloc: Global) -> Result<Vec<Item>, AllocError>
         ensures { IfOk result (λ v. v.items ≡ self.now) }
     {
@@ -188,7 +188,7 @@ impl<'a> Items<'a> {
         Ok(items)
     }
 
-    /// Puts a pragma behind the others.
+    /// Appends a pragma.
     pub(crate) fn push_pragma(&mut self, at: Place, tokens: &'a [Token]) -> Result<(), AllocError>
         ensures { OnOk result (self.new ≡ self.old ++ item.Pragma at tokens.now ∷ []) }
     {
@@ -196,7 +196,7 @@ impl<'a> Items<'a> {
         Ok(())
     }
 
-    /// Puts tokens behind the others.
+    /// Appends a run of tokens.
     pub(crate) fn extend(&mut self, run: Run<'a>) -> Result<(), AllocError>
         ensures { OnOk result (self.new ≡ self.old ++ map item.Token run.entry) }
     {
@@ -205,7 +205,7 @@ impl<'a> Items<'a> {
     }
 }
 
-// Puts copies of a part's items behind others.
+/// Appends copies of a part's items.
 fn copy_part(alloc: Global, items: &mut Vec<Item>, part: &Part) -> Result<(), AllocError>
     ensures { OnOk result (items.new.items ≡ items.old.items ++ part_items part.now) }
 {
@@ -219,7 +219,7 @@ fn copy_part(alloc: Global, items: &mut Vec<Item>, part: &Part) -> Result<(), Al
     }
 }
 
-// Puts tokens behind other items.
+/// Appends tokens.
 fn push_tokens(items: &mut Vec<Item>, tokens: Vec<Token>) -> Result<(), AllocError>
     ensures { OnOk result (items.new.items ≡ items.old.items ++ map item.Token tokens.items) }
 {

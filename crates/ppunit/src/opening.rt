@@ -1,4 +1,4 @@
-// Opening a file (6.10.2): its dependency, its content, and what the predefined names stand for in it.
+//! Opens files (6.10.2): dependencies, contents, and the predefined names in a file.
 ghost use Rattle.std.specs.Prelude.{◌≡◌, ◌<◌, ◌^◌, pos, map, length, string_bytes, IfOk, OnOk, IfErr, IfSome};
 ghost use Rattle.std.specs.Result.{result_err};
 ghost use Rattle.pptext.specs.Stops.{IfSettled};
@@ -21,11 +21,12 @@ use pptext::{Fault, Memory, Place, Profile, Source, Stop};
 use std::alloc::{AllocError, Global};
 use std::marker::Model;
 
-/// The deepest include: the unit's file is at depth 0, and an included file one deeper than its include line.
+/// The largest depth of an included file: the unit's file has depth 0, and an included file is one deeper than its
+/// include line.
 const DEEPEST: u32 = 200;
 
-/// What does not change within a unit: the files, where they come from, and the folders that are searched. Contracts see the
-/// shelf of the files and the folders.
+/// What does not change within a unit: the file table, the disk, and the directories that are searched. Its model is
+/// the file table and the directories.
 pub(crate) struct Around<'a, 'b, D: Disk> {
     pub alloc: Global,
     shelf: &'a Shelf<D>,
@@ -59,7 +60,7 @@ impl<D: Disk> Drop for Around<'_, '_, D> {
 }
 
 impl<'a, 'b, D: Disk> Around<'a, 'b, D> {
-    /// The files of this shelf, and these folders.
+    /// Bundles a file table, its disk, and directories.
     pub(crate) fn new(
         alloc: Global,
         shelf: &'a Shelf<D>,
@@ -80,21 +81,21 @@ impl<'a, 'b, D: Disk> Around<'a, 'b, D> {
         }
     }
 
-    /// The shelf of the files.
+    /// Returns the file table.
     pub(crate) fn shelf(&self) -> &'a Shelf<D>
         ensures { result.now ≡ self.now.shelf }
     {
         self.shelf
     }
 
-    /// The profile by which the files are read.
+    /// Returns the profile that the files are read with.
     pub(crate) fn profile(&self) -> Profile
         ensures { result ≡ self.now.shelf.profile }
     {
         self.shelf.profile()
     }
 
-    // The folders that are searched.
+    /// Returns the directories that are searched.
     fn folders(&self) -> Folders<'b>
         ensures unit { map string_bytes result.unit.now ≡ self.now.unit_folders }
         ensures setting { map string_bytes result.setting.now ≡ self.now.setting_folders }
@@ -103,7 +104,7 @@ impl<'a, 'b, D: Disk> Around<'a, 'b, D> {
     }
 }
 
-/// A file whose lines are worked off: its row, its lines, and the line that the work goes on with.
+/// A file that is being processed: its index in the file table, its lines, and the index of the next line.
 #[derive(Drop)]
 pub(crate) struct OpenFile<'a> {
     pub row: usize,
@@ -120,7 +121,7 @@ impl<'a> Model for OpenFile<'a> {
 }
 
 impl<'a> OpenFile<'a> {
-    /// A file before its first line.
+    /// Creates a file that is before its first line.
     pub(crate) fn new(row: usize, source: &'a Source) -> OpenFile<'a>
         ensures file { result ≡ record { row = row; lines = source.now; index = 0 } }
         ensures few { length source.now < 2 ^ 64 }
@@ -135,7 +136,7 @@ impl<'a> OpenFile<'a> {
     }
 }
 
-/// A file that was just opened, and what belongs to the file that goes on behind it.
+/// A file that was just opened, and the context of the file that includes it.
 #[derive(Drop)]
 pub(crate) struct Entered<'a> {
     pub file: OpenFile<'a>,
@@ -150,14 +151,15 @@ impl<'a> Model for Entered<'a> {
     ghost view = { λ e. record { file = e.file; outer = e.outer } };
 }
 
-/// A file that is opened, or was: its row, and the number of the folder in which it was found; none of the unit's own.
+/// A file to open, or an open file: its index in the file table, and the number of the directory in which it was found.
+/// A unit's own file has no such number.
 #[derive(Clone, Copy)]
 pub(crate) struct Opening {
     pub row: usize,
     pub folder: Option<usize>,
 }
 
-// What predefined names stand for where a file begins.
+/// Returns the predefined names at the beginning of a file.
 fn entering(alloc: Global, outer: &Env, name: &str) -> Result<Env, AllocError>
     ensures { IfOk result (λ e. e ≡ record outer.now { name = literal name.now; shift = pos 0 }) }
 {
@@ -169,9 +171,9 @@ fn entering(alloc: Global, outer: &Env, name: &str) -> Result<Env, AllocError>
     })
 }
 
-/// The row of the file that is asked for in the file of a row, and the number of the folder in which it is found. With a number
-/// the folders behind that one alone are searched. The file that holds a unit's definitions is no file of the shelf, and none stands
-/// beside it.
+/// Returns the index of the file that an include line in the file `from` names, and the number of the directory in
+/// which it is found. If `from` has a directory number, only the directories after that one are searched. The file of a
+/// unit's definitions isn't in the file table, and has no files next to it.
 pub(crate) fn resolve_in<D: Disk>(
     around: &Around<'_, '_, D>,
     from: Opening,
@@ -193,8 +195,8 @@ pub(crate) fn resolve_in<D: Disk>(
     resolve(around.alloc, shelf, 0, Form::Angle, name, folders)
 }
 
-// Takes one opening of what is left of the budget, where the file of a row may be opened at this depth. Faults 32, and 35 where
-// nothing is left.
+/// Spends one opening from the budget, if the file at index `row` may be opened at this depth. Fault 32 if it is too
+/// deep, and 35 if the budget is exhausted.
 fn pay_for<D: Disk>(
     around: &Around<'_, '_, D>,
     state: &mut State,
@@ -216,7 +218,7 @@ fn pay_for<D: Disk>(
     Ok(())
 }
 
-// The file of a row joins the dependencies. Whether it is one that is read once and was read.
+/// Adds the file at index `row` to the dependencies. Returns whether it is marked by `#pragma once`.
 fn note(state: &mut State, row: usize) -> Result<bool, AllocError>
     ensures joins { OnOk result (state.new ≡ depending state.old row) }
     ensures known { IfOk result (λ known. known ≡ is_among row state.old.once) }
@@ -226,7 +228,7 @@ fn note(state: &mut State, row: usize) -> Result<bool, AllocError>
     Ok(known)
 }
 
-// The lines of the file of a row. Fault 6 where it cannot be read, or its own.
+/// Returns the lines of the file at index `row`. Fault 6 if it can't be read, or the fault of its own lines.
 fn source_of<'a, D: Disk>(
     around: &Around<'a, '_, D>,
     pass: &mut Pass<'a, D>,
@@ -254,8 +256,8 @@ fn source_of<'a, D: Disk>(
     }
 }
 
-// The file that is opened and has this name and these lines, before its first line; or nothing where its guard is a macro's name:
-// its lines would do nothing.
+/// Enters a file with this name and these lines, before its first line. Returns nothing if its include guard is
+/// defined: then its lines have no effect.
 fn begin<'a>(
     alloc: Global,
     state: &mut State,
@@ -275,8 +277,9 @@ fn begin<'a>(
     Ok(Some(Entered { file, outer }))
 }
 
-/// Opens a file for the line at this place, or leaves it out: one that is read once and was read, or one with a
-/// guard that is a macro's name. That takes one of the budget. Faults 32, 35 where nothing is left, and 6, or the file's own.
+/// Opens a file for the line at location `at`. Returns nothing if the file is skipped: if it is marked by `#pragma
+/// once` or its include guard is defined. Each opening spends one of the budget. Fails with fault 32, 35 if the budget
+/// is exhausted, 6, or a fault of the file's own lines.
 pub(crate) fn open<'a, D: Disk>(
     around: &Around<'a, '_, D>,
     pass: &mut Pass<'a, D>,

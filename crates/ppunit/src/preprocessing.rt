@@ -1,4 +1,4 @@
-// A whole unit: its definitions, and then its file.
+//! Preprocesses a unit: its definitions, and then its file.
 ghost use Rattle.std.specs.Prelude.{◌≡◌, ◌<◌, IfOk, Ok, Option, None, All, length};
 ghost use Rattle.std.specs.Result.{result_err};
 ghost use Rattle.pptext.specs.Stops.{IfSettled};
@@ -21,7 +21,7 @@ use ppshelf::{Disk, Folders, Pass, Shelf};
 use pptext::{Fault, Memory, Place, Stop, settled, tree_unless_fault};
 use std::alloc::Global;
 
-// The unit's definitions, before its file.
+/// Executes the unit's definitions.
 fn define_all<'x, 'a: 'x, D: Disk>(
     around: &Around<'a, '_, D>,
     pass: &mut Pass<'a, D>,
@@ -46,7 +46,7 @@ fn define_all<'x, 'a: 'x, D: Disk>(
     walk(around, pass, state, file)
 }
 
-// The file in this row, with all that it includes.
+/// Processes the file at index `row`, with all that it includes.
 fn process<'x, 'a: 'x, D: Disk>(
     around: &Around<'a, '_, D>,
     pass: &mut Pass<'a, D>,
@@ -62,7 +62,7 @@ fn process<'x, 'a: 'x, D: Disk>(
         → Extends more pass.new.files
         → Opened (surroundings_of around.now more) 0 (first_place row) state.old row None (record { state = state.new; fault = result_err r })) }
 {
-    // A row fits a place, since a shelf has at most `MOST_ROWS`.
+    // A file index fits into a location, since a file table has at most `MOST_ROWS` files.
     let _count = around.shelf().len();
     let at = Place {
         file: row as u32,
@@ -78,7 +78,7 @@ fn process<'x, 'a: 'x, D: Disk>(
     walked
 }
 
-// The definitions, and then the file in this row.
+/// Executes the definitions, and then processes the file at index `row`.
 fn translate<'x, 'a: 'x, D: Disk>(
     around: &Around<'a, '_, D>,
     pass: &mut Pass<'a, D>,
@@ -99,7 +99,7 @@ fn translate<'x, 'a: 'x, D: Disk>(
     process(around, pass, state, row)
 }
 
-// The first fault of a unit, if it has one.
+/// Returns the first fault of a unit, if it has one.
 fn first_fault<'x, 'a: 'x, D: Disk>(
     around: &Around<'a, '_, D>,
     pass: &mut Pass<'a, D>,
@@ -119,7 +119,8 @@ fn first_fault<'x, 'a: 'x, D: Disk>(
     Ok(settled(translated)?.err())
 }
 
-// The answer of these items and dependencies, with the fault that the unit ended with or none; or want of memory.
+/// Returns the output with these items and dependencies, and the fault of the unit if it has one. Fails if an
+/// allocation failed.
 fn answer_of<'x>(
     items: Items<'x>,
     deps: Rows,
@@ -136,7 +137,7 @@ fn answer_of<'x>(
     })
 }
 
-// The answer of a unit that ends in this state.
+/// Returns the output of a unit that ends in this state.
 fn answer<'x>(state: State<'x>, ended: Result<Option<Fault>, Memory>) -> Result<UnitOut<'x>, Memory>
     ensures { IfOk result (λ out.
         (fault : Option Fault) × (ended ≡ Ok fault) × (out ≡ given (record { state = state.entry; fault = fault }))) }
@@ -153,7 +154,7 @@ fn answer<'x>(state: State<'x>, ended: Result<Option<Fault>, Memory>) -> Result<
     answer_of(items, deps, ended)
 }
 
-// What a unit gives over the files around it.
+/// Returns the output of a unit over the files of `around`.
 fn give<'x, 'a: 'x, D: Disk>(
     around: &Around<'a, '_, D>,
     pass: &mut Pass<'a, D>,
@@ -175,12 +176,13 @@ fn give<'x, 'a: 'x, D: Disk>(
     answer(state, ended)
 }
 
-/// Translation phases 1 to 4 of a unit: its definitions, and then its file with all that it includes (5.1.1.2, 6.10).
+/// Executes translation phases 1 to 4 of a unit: its definitions, and then its file with all that it includes (5.1.1.2,
+/// 6.10).
 ///
-/// The unit's value is that over the files that the pass knows afterwards. With a budget the unit makes no more replacements and
-/// openings than that, and its value is a beginning of the one without: the whole of it exactly where the budget suffices, and
-/// otherwise with fault 35. What the pass knows afterwards is what `fill` put there, or what the disk may answer. Fails only if memory
-/// runs out, and then the pass knows at least what it knew.
+/// The value is that over the files that the pass knows afterwards: those that `fill` recorded, and those that the disk
+/// returned. With a budget the unit's replacements and opened files total at most the budget, and its value is a prefix
+/// of the value without one: the whole of it exactly if the budget suffices, and otherwise ending in fault 35. Fails
+/// only if an allocation fails; the pass then knows at least what it knew.
 pub fn preprocess<'x, 'a: 'x, D: Disk>(
     alloc: Global,
     shelf: &'a Shelf<D>,
@@ -207,7 +209,7 @@ pub fn preprocess<'x, 'a: 'x, D: Disk>(
     };
     let around = Around::new(alloc, shelf, disk, folders);
     let given = give(&around, pass, setting, unit);
-    // For proofs: no name stands twice, what a pass knows is lawful, and what a budget does.
+    // For proofs: file names are distinct, the contents are permitted, and the theorems about budgets hold.
     shelf.lawful();
     pass.lawful();
     stays_within();

@@ -1,4 +1,4 @@
-// `__has_include` in the operands of `#if` and `#elif` (gcc's manual, "__has_include").
+//! Evaluates `__has_include` in the operands of `#if` and `#elif` (gcc's manual, "__has_include").
 ghost use Rattle.std.specs.Prelude.{◌≡◌, ◌<◌, ◌&&◌, drop, length, position, codes, None, IfOk, IfSome};
 ghost use Rattle.std.specs.List.{list_any};
 ghost use Rattle.std.specs.Option.{option_map};
@@ -14,26 +14,28 @@ use ppshelf::Disk;
 use pptext::{Kind, Memory, Profile, Spelling, Token};
 use std::alloc::{AllocError, Global};
 
+/// Whether the token is the name `__has_include`.
 fn is_has_include(token: &Token) -> bool
     ensures { result ≡ spec.is_has_include token.now }
 {
     token.is_name(b"__has_include")
 }
 
+/// Whether a token is the name `__has_include`.
 fn has_a_use(tokens: &[Token]) -> bool
     ensures { result ≡ list_any spec.is_has_include tokens.now }
 {
     tokens.iter().any(|token| is_has_include(token))
 }
 
-/// Whether there is a step over these operands before the condition.
+/// Whether the operands have an `__has_include` that must be replaced before the condition is evaluated.
 pub(crate) fn is_probed(profile: Profile, operands: &[Token]) -> bool
     ensures { result ≡ (is_gnu profile && list_any spec.is_has_include operands.now) }
 {
     profile.is_gnu() && has_a_use(operands)
 }
 
-// Whether a `(` comes first.
+/// Whether the first token is `(`.
 fn opens(tokens: &[Token]) -> bool
     ensures { result ≡ spec.opens tokens.now }
 {
@@ -43,14 +45,14 @@ fn opens(tokens: &[Token]) -> bool
     }
 }
 
-// Whether a token asks for a file, by what stands behind it.
+/// Whether the token is `__has_include` and the tokens after it begin with `(`.
 fn asks(token: &Token, behind: &[Token]) -> bool
     ensures { result ≡ (spec.opens behind.now && spec.is_has_include token.now) }
 {
     opens(behind) && is_has_include(token)
 }
 
-// The index of the first `)`.
+/// Returns the index of the first `)`.
 fn close(tokens: &[Token]) -> Option<usize>
     ensures index { result ≡ position (λ t. is_punct (codes ")") t) tokens.now }
     ensures within { IfSome result (λ index. index < length tokens.now) }
@@ -58,7 +60,7 @@ fn close(tokens: &[Token]) -> Option<usize>
     tokens.iter().position(|token| token.is_punct(b")"))
 }
 
-// The tokens but for the first.
+/// Returns the tokens after the first.
 fn behind_first(tokens: &[Token]) -> &[Token]
     ensures { result.now ≡ drop 1 tokens.now }
 {
@@ -68,7 +70,7 @@ fn behind_first(tokens: &[Token]) -> &[Token]
     }
 }
 
-// Whether an `#include` that asks so in the file of a row finds a file. It is not opened.
+/// Whether an `#include` of this header in the file at index `row` finds a file. The file isn't opened.
 fn has_file<D: Disk>(around: &Around<'_, '_, D>, row: usize, asked: &Asked) -> Result<bool, Memory>
     requires { 0 < length around.now.shelf.names }
     ensures { IfOk result (λ found. found ≡ spec.has_file (search_in around.now) row asked.now) }
@@ -78,7 +80,7 @@ fn has_file<D: Disk>(around: &Around<'_, '_, D>, row: usize, asked: &Asked) -> R
     Ok(found.is_some())
 }
 
-// The number in the place of `__has_include` and its parentheses.
+/// Returns the number that replaces `__has_include` and its parentheses: 1 if a file is found, and 0 otherwise.
 fn number_for(alloc: Global, name: &Token, found: bool) -> Result<Token, AllocError>
     ensures { IfOk result (λ t. t ≡ spec.number_for name.now found) }
 {
@@ -96,7 +98,7 @@ fn number_for(alloc: Global, name: &Token, found: bool) -> Result<Token, AllocEr
     })
 }
 
-// The number, where a file is asked for behind the first of these tokens, which is the `(`.
+/// Returns the number, if the tokens after the `(` name a header. The first of `behind` is the `(`.
 fn number<D: Disk>(
     around: &Around<'_, '_, D>,
     row: usize,
@@ -113,8 +115,8 @@ fn number<D: Disk>(
     Ok(Some(number_for(around.alloc, name, found)?))
 }
 
-/// The operands in the file of a row with a number for each `__has_include` that a `(` follows, or none where one has no `)` or
-/// asks for no file.
+/// Replaces each `__has_include` before a `(` in the operands of a line of the file at index `row`. Returns nothing if
+/// one has no `)` or names no header.
 pub(crate) fn probe<D: Disk>(
     around: &Around<'_, '_, D>,
     row: usize,

@@ -1,4 +1,4 @@
-// The replacement of a directive line's operands (6.10.2, 6.10.4).
+//! Macro replacement in the operands of a directive (6.10.2, 6.10.4).
 ghost use Rattle.std.specs.Prelude.{◌≡◌};
 ghost use Rattle.pptext.specs.Stops.{IfSettled};
 ghost use Rattle.ppunit.specs.Replacing.{Replaces};
@@ -9,7 +9,8 @@ use ppexpand::{Expanded, expand};
 use pptext::{Stop, Token, Tokens};
 use std::alloc::Global;
 
-/// A copy of what operands expand to, or the fault of their replacement. Only what is left of the budget changes.
+/// Returns a copy of the expansion of the operands, or the fault of the expansion. Changes nothing in `state` but the
+/// remaining budget.
 pub(crate) fn replaced<'x>(
     alloc: Global,
     state: &mut State<'x>,

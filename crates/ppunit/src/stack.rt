@@ -1,4 +1,4 @@
-// The files that wait for one that they include (6.10.2).
+//! The stack of include files (6.10.2).
 ghost use Rattle.std.specs.Prelude.{◌≡◌, ◌≤◌, ◌∷◌, [], Some, length, IfOk, MatchOption, OnOk};
 ghost use Rattle.ppunit.specs.Walk.{next_file, next_waiting, brought_back};
 
@@ -7,7 +7,7 @@ use crate::states::{Context, State};
 use std::alloc::{AllocError, Global};
 use std::marker::Model;
 
-/// A file that waits for one that it includes, and what belongs to it.
+/// A suspended file: it includes the next one on the stack, or the file that is being processed. With its context.
 #[derive(Drop)]
 pub(crate) struct Waiting<'a> {
     pub file: OpenFile<'a>,
@@ -22,8 +22,7 @@ impl<'a> Model for Waiting<'a> {
     ghost view = { λ w. record { file = w.file; context = w.context } };
 }
 
-/// The files that wait, each for the next one and the last one for the file whose lines are worked off. Contracts see them
-/// from the last one on.
+/// The suspended files, each included by the one before it. Its model is their list from the last one on.
 #[derive(Drop)]
 pub(crate) struct Stack<'a> {
     files: Vec<Waiting<'a>>,
@@ -39,7 +38,7 @@ impl<'a> Model for Stack<'a> {
 }
 
 impl<'a> Stack<'a> {
-    /// No file waits.
+    /// Creates an empty stack.
     pub(crate) fn new(alloc: Global) -> Stack<'a>
         ensures { result ≡ [] }
     {
@@ -48,7 +47,7 @@ impl<'a> Stack<'a> {
         }
     }
 
-    /// How many files wait: the depth of the file whose lines are worked off.
+    /// Returns the number of suspended files: the include depth of the file that is being processed.
     pub(crate) fn depth(&self) -> u32
         requires { length self.now ≤ 200 }
         ensures { result ≡ length self.now }
@@ -56,7 +55,7 @@ impl<'a> Stack<'a> {
         self.files.len() as u32
     }
 
-    /// The file that was entered, for which this one waits.
+    /// Suspends a file, and returns the file that it includes.
     pub(crate) fn enter(
         &mut self,
         file: OpenFile<'a>,
@@ -70,14 +69,14 @@ impl<'a> Stack<'a> {
         Ok(entered.file)
     }
 
-    /// The file that goes on, taken out.
+    /// Takes the last suspended file out.
     pub(crate) fn pop(&mut self) -> Option<Waiting<'a>>
         ensures { MatchOption result ((self.old ≡ []) × (self.new ≡ [])) (λ w. self.old ≡ w ∷ self.new) }
     {
         self.files.pop()
     }
 
-    /// No file goes on. What belongs to them comes back, file by file.
+    /// Drops all files, and restores the context of each, from the last one on.
     pub(crate) fn stop(self, state: &mut State)
         ensures { state.new ≡ brought_back self.entry state.old }
     {

@@ -1,4 +1,4 @@
-// Where phase 4 stands in a unit.
+//! The state of phase 4 in a unit.
 ghost use Rattle.std.specs.Prelude.{◌≡◌, IfOk, OnOk, [], ◌∷◌, None};
 ghost use Rattle.ppexpand.specs.Budget.{is_spent};
 ghost use Rattle.ppunit.specs.States.{context, in_context, passed, depending, reading_once, paying, literal};
@@ -14,16 +14,17 @@ use std::alloc::{AllocError, Global};
 use std::marker::Model;
 use std::mem::replace;
 
-/// What belongs to the file that is worked off: what the predefined names stand for in it, and the number of the folder in which it
-/// was found; none of the unit's own.
+/// The context of a file: the values of the predefined names in it, and the number of the directory in which it was
+/// found. A unit's own file has no such number.
 #[derive(Drop)]
 pub(crate) struct Context {
     pub env: Env,
     pub folder: Option<usize>,
 }
 
-/// Where phase 4 stands: the macros, what was passed on, the files that were opened in the order of their first
-/// opening, those of them that are not read again, what is left of the budget, and what belongs to the file that is worked off.
+/// The state of phase 4: the macros, the items that were emitted, the indices of the opened files in the order of their
+/// first opening, those of them that are marked by `#pragma once`, the remaining budget, and the context of the file
+/// that is being processed.
 #[derive(Drop)]
 pub(crate) struct State<'x> {
     pub macros: Table<'x>,
@@ -59,7 +60,7 @@ impl<'x> Model for State<'x> {
 }
 
 impl<'x> State<'x> {
-    /// The predefined names alone, and nothing passed on. Macros' names are hashed so.
+    /// Creates a state that has the predefined names and no items. Macro names are hashed by `hashing`.
     pub(crate) fn new(
         alloc: Global,
         setting: &Setting,
@@ -72,7 +73,7 @@ impl<'x> State<'x> {
         Ok(State::untouched(alloc, macros, setting.budget, env))
     }
 
-    // Nothing was passed on, and no file was opened.
+    /// Creates a state with no items and no opened files.
     fn untouched(alloc: Global, macros: Table<'x>, left: Option<u64>, env: Env) -> State<'x>
         ensures { result ≡ record { macros = macros.entry; items = []; deps = []; once = []; left = left; env = env; folder = None } }
     {
@@ -87,7 +88,7 @@ impl<'x> State<'x> {
         }
     }
 
-    /// A file begins in this context. The one of the file around.
+    /// Enters a file with the context `inner`. Returns the context of the including file.
     pub(crate) fn enter(&mut self, inner: Context) -> Context
         ensures outer { result ≡ context self.old }
         ensures inner { self.new ≡ in_context inner self.old }
@@ -98,7 +99,7 @@ impl<'x> State<'x> {
         }
     }
 
-    /// A file goes on in this context.
+    /// Returns to a file with the context `outer`.
     pub(crate) fn go_back(&mut self, outer: Context)
         ensures { self.new ≡ in_context outer self.old }
     {
@@ -106,35 +107,35 @@ impl<'x> State<'x> {
         self.folder = outer.folder;
     }
 
-    /// Passes a pragma on.
+    /// Emits a pragma.
     pub(crate) fn pass_pragma(&mut self, at: Place, tokens: &'x [Token]) -> Result<(), AllocError>
         ensures { OnOk result (self.new ≡ passed self.old (item.Pragma at tokens.now ∷ [])) }
     {
         self.items.push_pragma(at, tokens)
     }
 
-    /// Whether there is a budget, and nothing is left of it.
+    /// Whether there is a budget and it is exhausted.
     pub(crate) fn is_spent(&self) -> bool
         ensures { result ≡ is_spent self.now.left }
     {
         is_spent(self.left)
     }
 
-    /// One file more is opened.
+    /// Spends one of the budget for an opened file.
     pub(crate) fn pay(&mut self)
         ensures { self.new ≡ paying self.old }
     {
         self.left = less_one(self.left);
     }
 
-    /// The file of this row joins the dependencies, once.
+    /// Adds the file at index `row` to the dependencies, unless it is one.
     pub(crate) fn depend(&mut self, row: usize) -> Result<(), AllocError>
         ensures { OnOk result (self.new ≡ depending self.old row) }
     {
         self.deps.join(row)
     }
 
-    /// The file of this row is not read again.
+    /// Marks the file at index `row` as one that isn't read again.
     pub(crate) fn read_once(&mut self, row: usize) -> Result<(), AllocError>
         ensures { OnOk result (self.new ≡ reading_once self.old row) }
     {
@@ -142,7 +143,7 @@ impl<'x> State<'x> {
     }
 }
 
-// What the predefined names stand for before any file.
+/// Returns the predefined names before any file is entered.
 fn first_env(alloc: Global, setting: &Setting) -> Result<Env, AllocError>
     ensures { IfOk result (λ e. e ≡ (beginning setting.now).env) }
 {
@@ -156,14 +157,14 @@ fn first_env(alloc: Global, setting: &Setting) -> Result<Env, AllocError>
     })
 }
 
-// A text as a spelling.
+/// Copies a text into a spelling.
 fn spelled(alloc: Global, text: &str) -> Result<Spelling, AllocError>
     ensures { IfOk result (λ s. s ≡ text.now) }
 {
     Spelling::from_slice(alloc, text.as_bytes())
 }
 
-/// A name as a string literal: between `"`, with `\` before each `"` and `\`.
+/// Returns a name as a string literal: between `"`, with `\` before each `"` and `\`.
 pub(crate) fn literal(alloc: Global, name: &str) -> Result<Spelling, AllocError>
     ensures { IfOk result (λ s. s ≡ literal name.now) }
 {

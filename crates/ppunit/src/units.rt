@@ -1,17 +1,17 @@
-// What a unit is, and what its preprocessing gives.
+//! The input and the output of preprocessing a unit.
 use crate::definitions::Definitions;
 use crate::lists::{Items, Rows, Text, Texts};
 use pptext::{Fault, Place, Profile, Token, Tokens};
 
-/// What preprocessing passes on to translation phase 5 (5.1.1.2): a token, or a pragma, with the place of its `#` and the tokens behind `pragma`
-/// (6.10.6).
+/// An item of the output, for translation phase 5 (5.1.1.2): a token, or a pragma with the location of its `#` and the
+/// tokens after `pragma` (6.10.6).
 #[derive(Drop, Debug)]
 pub enum Item {
     Token(Token),
     Pragma(Place, Tokens),
 }
 
-/// What a unit gives: its items up to its first fault, the rows that it depends on, and that fault.
+/// The output of a unit: its items up to its first fault, the indices of the files that it depends on, and that fault.
 #[derive(Drop)]
 pub struct UnitOut<'a> {
     pub items: Items<'a>,
@@ -19,9 +19,9 @@ pub struct UnitOut<'a> {
     pub fault: Option<Fault>,
 }
 
-/// What all units of a list share: their profile, the date and the time of their translation (6.10.8.1), folders that are
-/// searched for headers, and a budget for each of them: the most macro names that are replaced (6.10.3) and files that are
-/// opened (6.10.2), taken together. Without one there is no bound.
+/// What all units of a list share: their profile, the date and the time of their translation (6.10.8.1), the
+/// directories that are searched for headers, and a budget for each unit. The budget is the largest total of replaced
+/// macro names (6.10.3) and opened files (6.10.2); without one there is no limit.
 #[derive(Drop, Debug)]
 pub struct Setting {
     pub profile: Profile,
@@ -31,7 +31,8 @@ pub struct Setting {
     pub budget: Option<u64>,
 }
 
-/// A unit of a list: the row of its file, its definitions, and folders that are searched before the setting's.
+/// A unit of a list: the index of its file, its definitions, and the directories that are searched before the
+/// setting's.
 #[derive(Drop, Debug)]
 pub struct Unit {
     pub file: usize,

@@ -1,5 +1,5 @@
-// The lines of a file in the order of their work: each group that is taken, and no other (6.10.1). The lines of an included
-// file come before the line behind its include line.
+//! Walks over the lines of a file in the order of execution: the groups that are taken and no others (6.10.1). The
+//! lines of an included file come before the line after its include line.
 ghost use Rattle.std.specs.Prelude.{◌≡◌, ◌<◌, ◌≤◌, ◌+◌, ℕ, suc, Bool, true, false, None, Some, IfOk};
 ghost use Rattle.std.specs.Prelude.{List, ◌++◌, drop, length};
 ghost use Rattle.std.specs.List.{AllByRecursion};
@@ -27,7 +27,7 @@ use pptext::{Directive, Source, Stop, Token};
 use std::alloc::Global;
 use std::marker::Model;
 
-// Where the text run ends that begins at this line.
+/// Returns the index of the line after the run of text lines that begins at `start`.
 fn run_end(source: &Source, start: usize) -> usize
     requires index { start < length source.now }
     requires text { IsTextLine (line_at source.now start) }
@@ -47,7 +47,8 @@ fn run_end(source: &Source, start: usize) -> usize
     end
 }
 
-// Whether the work goes on behind a branch line of the file of a row. Only what is left of the budget changes.
+/// Whether processing continues after a branch line of the file at index `row`. Changes nothing in `state` but the
+/// remaining budget.
 fn enters<D: Disk>(
     around: &Around<'_, '_, D>,
     state: &mut State,
@@ -69,8 +70,8 @@ fn enters<D: Disk>(
     decide(around, state, row, directive, tokens_at(source, index))
 }
 
-// Behind an opening line or a branch that takes no group: the line that the work goes on with, within the branch
-// that is taken or behind `#endif`.
+/// Finds the line at which processing continues if the group after line `start` isn't taken: the first line of the
+/// branch that is taken, or the line after `#endif`.
 fn find_branch<D: Disk>(
     around: &Around<'_, '_, D>,
     state: &mut State,
@@ -96,7 +97,7 @@ fn find_branch<D: Disk>(
     Ok(index + 1)
 }
 
-// The line behind the `#endif` of the if-section that this branch line stands in.
+/// Returns the line after the `#endif` of the if-section that has this branch line.
 fn section_end(source: &Source, branch: usize) -> usize
     requires { branch < length source.now }
     ensures further { branch < result }
@@ -112,7 +113,7 @@ fn section_end(source: &Source, branch: usize) -> usize
     index + 1
 }
 
-// An opening line in the file of a row: the line that the work goes on with.
+/// Executes a line that opens an if-section of the file at index `row`. Returns the line at which processing continues.
 fn enter_section<D: Disk>(
     around: &Around<'_, '_, D>,
     state: &mut State,
@@ -135,7 +136,7 @@ fn enter_section<D: Disk>(
     find_branch(around, state, row, source, index)
 }
 
-// A text run: the line behind it.
+/// Emits a run of text lines. Returns the line after it.
 fn do_run<'x>(
     alloc: Global,
     state: &mut State<'x>,
@@ -153,8 +154,8 @@ fn do_run<'x>(
     Ok(end)
 }
 
-// An include line, whose search begins behind the folder of the number, or with the first: the file that it asks for is opened, one
-// deeper.
+/// Executes an include line: opens the file that it names, one level deeper. The search begins after the directory with
+/// the number in `from`, or with the first directory.
 fn include<'x, 'a: 'x, D: Disk>(
     around: &Around<'a, '_, D>,
     pass: &mut Pass<'a, D>,
@@ -186,7 +187,7 @@ fn include<'x, 'a: 'x, D: Disk>(
     open(around, pass, state, depth + 1, sign(line), opening)
 }
 
-// A control line: the file that it opens, if it opens one.
+/// Executes a control line. Returns the file that it opens, if it opens one.
 fn do_line<'x, 'a: 'x, D: Disk>(
     around: &Around<'a, '_, D>,
     pass: &mut Pass<'a, D>,
@@ -232,7 +233,8 @@ fn do_line<'x, 'a: 'x, D: Disk>(
     Ok(None)
 }
 
-// What comes next: the lines of a file that was just opened, if there is one, and then the line of this index.
+/// The next line to process: the first of a file that was just opened, if there is one, and then the line at index
+/// `line`.
 #[derive(Drop)]
 struct Next<'a> {
     line: usize,
@@ -248,7 +250,7 @@ impl<'a> Model for Next<'a> {
     ghost view = { λ n. (n.line, n.entered) };
 }
 
-// This line comes next, and no file was opened.
+/// Returns the action for a line that opened no file.
 fn to_line<'a>(line: usize) -> Next<'a>
     ensures { result ≡ (line, None) }
 {
@@ -258,7 +260,7 @@ fn to_line<'a>(line: usize) -> Next<'a>
     }
 }
 
-// One text run or one directive line: what comes next, or the fault.
+/// Processes one run of text lines or one directive line. Returns what comes next, or the fault.
 fn step<'x, 'a: 'x, D: Disk>(
     around: &Around<'a, '_, D>,
     pass: &mut Pass<'a, D>,
@@ -301,7 +303,7 @@ fn step<'x, 'a: 'x, D: Disk>(
     })
 }
 
-/// Phase 4 of a file's lines and of all that they include, up to the first fault.
+/// Executes phase 4 of a file's lines and of all that they include, up to the first fault.
 pub(crate) fn walk<'s, 'a: 's, D: Disk>(
     around: &Around<'a, '_, D>,
     pass: &mut Pass<'a, D>,
@@ -325,7 +327,7 @@ pub(crate) fn walk<'s, 'a: 's, D: Disk>(
                 Ok(next) => {
                     let Next { line, entered } = next;
                     file.index = line;
-                    // Most lines open no file, and need no call: saves 3 % of the instructions of `deps` on Redis.
+                    // Most lines open no file. Saves 3 % of the instructions of `deps` on Redis.
                     if let Some(entered) = entered {
                         file = waiting.enter(file, entered)?;
                     }
