@@ -1,4 +1,4 @@
--- Text behind the first bytes of a list.
+-- Text after the first bytes of a list.
 use Rattle.std.proofs.Common.{◌≡◌, ℕ, zero, suc, ◌+◌, ◌/◌, ◌%◌, ◌^◌, ◌<◌, ◌≤◌, List, [], ◌∷◌, ◌++◌, decimal, length, take, drop, refl, sym, ap, ◌∙◌, arith, append_assoc, length-append}
 use Rattle.std.proofs.Math.Seq.{take-append-add}
 use Rattle.std.proofs.lemmas.List.{take-append-le, take-take, length-take-le}
@@ -57,7 +57,7 @@ length_more n lo hi = ap length (decimal_more n lo hi) ∙ length-append _ _
 pub length_word : (n : ℕ) → n < 2 ^ 32 → length (decimal n) ≤ 10
 length_word n h = length-decimal-le 10 n (omega arith) (omega arith) (omega arith)
 
--- two places, each behind a space
+-- two places, each after a space
 pub places_joined : (p x a y b t : List ℕ) → (((((p ++ (32 ∷ x)) ++ a) ++ (32 ∷ y)) ++ b) ++ t) ≡ p ++ (((((32 ∷ []) ++ (x ++ a)) ++ (32 ∷ [])) ++ (y ++ b)) ++ t)
 places_joined p x a y b t =
     let s = (32 ∷ x) ++ a in
@@ -65,6 +65,6 @@ places_joined p x a y b t =
     rw (append_assoc p (32 ∷ x) a, append_assoc p s (32 ∷ y), append_assoc p (s ++ (32 ∷ y)) b, append_assoc p ((s ++ (32 ∷ y)) ++ b) t)
     (ap (λ z. p ++ (z ++ t)) behind)
 
--- four bytes, one behind the other
+-- four bytes, one after the other
 pub four_joined : (x : List ℕ) (a b c d : ℕ) → (((x ++ (a ∷ [])) ++ (b ∷ [])) ++ (c ∷ [])) ++ (d ∷ []) ≡ x ++ (a ∷ (b ∷ (c ∷ (d ∷ []))))
 four_joined x a b c d = rw (append_assoc x (a ∷ []) (b ∷ []), append_assoc x (a ∷ (b ∷ [])) (c ∷ []), append_assoc x (a ∷ (b ∷ (c ∷ []))) (d ∷ [])) refl

@@ -1,4 +1,4 @@
--- The lemmas of this crate, by file; the proofs of its functions stand in a folder for each file of the sources.
+-- The lemmas of this crate, by file; the proofs of its functions stand in a directory for each file of the sources.
 
 -- The members of an object.
 pub mod Objects
@@ -30,7 +30,7 @@ pub mod Numbered
 pub mod Printing
 -- Bytes that came from a reader whose bytes are known.
 pub mod Received
--- Text behind the first bytes of a list.
+-- Text after the first bytes of a list.
 pub mod Behind
 -- From the mask of eight lanes to the bytes that stand for themselves.
 pub mod Lanes

@@ -14,7 +14,7 @@ numbered-more f n (x ∷ xs) (y ∷ ys) (suc i) a b h k =
     let same : suc n + i ≡ n + suc i = omega arith in
     rw (e, append_assoc, same) refl
 
--- a loop's turn, behind what it has written before
+-- a loop's turn, after what it has written before
 pub numbered-turn : {A B : Type 0} (f : ℕ → A → B → List ℕ) (xs : List A) (ys : List B) (i : ℕ) (x : A) (y : B) (before out new : List ℕ)
     → i < length xs → i < length ys → x ≡ get_or xs i x → y ≡ get_or ys i y
     → out ≡ before ++ numbered f 0 (take i xs) (take i ys) → new ≡ out ++ f i x y

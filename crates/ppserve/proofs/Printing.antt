@@ -62,7 +62,7 @@ puts_then {written = written} {has_failed = has_failed} {w = w} {v = v} {u = u} 
 pub more_of : {A B : Type 0} (f : A → List B) (xs : List A) (x : A) → flat_map f (xs ++ x ∷ []) ≡ flat_map f xs ++ f x
 more_of f xs x = sym (flat_map_more f [] xs x)
 
--- a loop's turn, behind what it has printed before
+-- a loop's turn, after what it has printed before
 pub puts_turn : {V A : Type 0} {written : V → Option (List ℕ)} {has_failed : V → Bool} {w v u : V} {p q r t : List ℕ}
     → (whole : List A → List ℕ) (xs : List A) (i : ℕ) (d x : A) → i < length xs → x ≡ get_or xs i d
     → ((before : List A) → whole (before ++ x ∷ []) ≡ whole before ++ t)
@@ -72,7 +72,7 @@ puts_turn {t = t} whole xs i d x h is more a b =
     let front : take (i + 1) xs ≡ take i xs ++ x ∷ [] = take_more xs i d h ∙ ap (λ y. take i xs ++ y ∷ []) (sym is) in
     puts_as (sym (ap whole front ∙ more (take i xs))) (puts_then a b)
 
--- a loop's end, behind its last turn
+-- a loop's end, after its last turn
 pub puts_all : {V A : Type 0} {written : V → Option (List ℕ)} {has_failed : V → Bool} {w v : V} {p q : List ℕ}
     → (whole : List A → List ℕ) (xs : List A) (i : ℕ) → length xs ≤ i
     → Puts written has_failed w v p q (whole (take i xs))

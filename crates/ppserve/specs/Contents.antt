@@ -13,15 +13,15 @@ use Rattle.ppserve.specs.declared.list.List.{List as CompilationList}
 abbrev pub files_of : List (List ℕ) → Files
 files_of contents = map (λ bytes. Some (readable bytes)) contents
 
--- the files are those whose contents stand in the list
+-- the files are those whose contents are in the list
 abbrev pub StandIn : CompilationList → Files → Type 0
 StandIn list files = files ≡ files_of list.contents
 
--- each content is one that a disk may answer for its name
+-- each content is one that a disk may return for its name
 abbrev pub MayBe : (List ℕ → Content → Type 0) → CompilationList → Files → Type 0
 MayBe may list files = AllLawful may list.names files
 
--- what is kept of what units give over some one set of such files
+-- what is kept of the units' values over some such files
 pub record GiveOverSome (may : List ℕ → Content → Type 0) (keep : Keep) (names : List (List ℕ)) (setting : Setting)
     (units : List UnitOfList) (outs : List UnitOut) : Type 0 where
   pub files : Files

@@ -1,4 +1,4 @@
--- The draft of a list: what stands in it by its shape, as functions that give it.
+-- The draft of a JSON value as a function: what each member of a list is read as.
 use Rattle.std.specs.Prelude.{◌≡◌, ◌↔◌, ℕ, Bool, true, false, List, [], ◌∷◌}
 use Rattle.std.specs.Prelude.{if◌then◌else◌, codes, Option, Some, None, option_map, option_and_then}
 use Rattle.serde_json.specs.Data.{Num, Data, Items, no_items, item}
@@ -6,19 +6,19 @@ use Rattle.serde_json.specs.Find.{get, as_number, as_str, as_array, as_u64}
 use Rattle.ppserve.specs.Shape.{is_object_of, file_members, unit_members, list_members, hex_bytes, IsDraft}
 use Rattle.ppserve.specs.Drafts.{DraftFile, DraftUnit, DraftBudget, Missing, Whole, Other, DraftSetting, Draft}
 
--- what comes of a part where it is there, and nothing where it is not
+-- the result of a part, if there is one
 abbrev pub given : {A B : Type 0} → Option A → (A → Option B) → Option B
 given part make = option_and_then make part
 
 abbrev pub text_at : List ℕ → Data → Option (List ℕ)
 text_at name d = option_and_then as_str (get name d)
 
--- the text of a member, and another where it is missing
+-- the text of a member, or another if the member is missing
 abbrev pub text_or : List ℕ → Option Data → Option (List ℕ)
 text_or other None = Some other
 text_or other (Some d) = as_str d
 
--- what `read` gives of each item
+-- the items that `read` returns, if it returns all
 abbrev pub each_item : {A : Type 0} → (Data → Option A) → Items → Option (List A)
 each_item read no_items = Some []
 each_item read (item d ds) = option_and_then (λ x. option_map (λ xs. x ∷ xs) (each_item read ds)) (read d)
@@ -37,14 +37,14 @@ texts_of (Some d) = each_of as_str d
 abbrev pub texts_at : List ℕ → Data → Option (List (List ℕ))
 texts_at name d = texts_of (get name d)
 
--- the content by exactly one of `text` and `hex`
+-- the content from exactly one of `text` and `hex`
 abbrev pub content_from : Option Data → Option Data → Option (List ℕ)
 content_from None None = None
 content_from None (Some h) = option_and_then hex_bytes (as_str h)
 content_from (Some t) None = as_str t
 content_from (Some t) (Some h) = None
 
--- a file's content, where lists hold contents
+-- a file's content, if the list holds contents
 abbrev pub content_of : Bool → Data → Option (List ℕ)
 content_of true d = content_from (get (codes "text") d) (get (codes "hex") d)
 content_of false d = Some []
@@ -66,16 +66,16 @@ draft_unit d =
     Some (record { file = file; defines = defines; search = folders }))))
     else None
 
--- the text of the profile, which is `c11` where it is missing
+-- the name of the profile: `c11` if the member is missing
 abbrev pub profile_at : Data → Option (List ℕ)
 profile_at d = text_or (codes "c11") (get (codes "profile") d)
 
--- a number as it is written: a whole one of 64 bits without a sign, or another
+-- a number as it is written: an unsigned integer of 64 bits, or another number
 abbrev pub written : Option ℕ → DraftBudget
 written (Some n) = Whole n
 written None = Other
 
--- the budget, a number, or that it is missing
+-- the budget: a number, or missing
 abbrev pub budget_from : Option Data → Option DraftBudget
 budget_from None = Some Missing
 budget_from (Some d) = option_map (λ (n : Num). written (as_u64 n)) (as_number d)
@@ -92,7 +92,7 @@ draft_setting d =
     given (texts_at (codes "search") d) (λ folders.
     Some (record { profile = profile; budget = allowed; date = date; time = time; search = folders }))))))
 
--- the list as it stands, where it has its shape and no other members
+-- the draft, if the value has the members of a list and no others
 abbrev pub draft : Bool → Data → Option Draft
 draft inline d =
     if is_object_of list_members d then
@@ -102,6 +102,6 @@ draft inline d =
     Some (record { setting = setting; files = files; units = units }))))
     else None
 
--- a value gives a draft exactly where it has the shape of a list with it
+-- a value gives a draft exactly if it has the members of a list with that draft
 abbrev pub ShapeDecides : Type 0
 ShapeDecides = (inline : Bool) (d : Data) (x : Draft) → (draft inline d ≡ Some x) ↔ IsDraft inline d x

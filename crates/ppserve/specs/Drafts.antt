@@ -1,7 +1,7 @@
--- A list as it stands in JSON, before its names and times are judged.
+-- Drafts: a list as it is written in JSON, before it is validated.
 use Rattle.std.specs.Prelude.{ℕ, List}
 
--- a file, with its content where lists hold contents
+-- a file, with its content if the list holds contents
 pub record DraftFile : Type 0 where
   pub name : List ℕ
   pub content : List ℕ
@@ -12,13 +12,13 @@ pub record DraftUnit : Type 0 where
   pub defines : List (List ℕ)
   pub search : List (List ℕ)
 
--- the budget: missing, a whole number of 64 bits without a sign, or another number
+-- the budget: missing, an unsigned integer of 64 bits, or another number
 pub data DraftBudget : Type 0 where
   Missing : DraftBudget
   Whole : ℕ → DraftBudget
   Other : DraftBudget
 
--- what all units share, with the text of the profile
+-- what all units share, with the name of the profile
 pub record DraftSetting : Type 0 where
   pub profile : List ℕ
   pub budget : DraftBudget

@@ -1,4 +1,4 @@
--- How the program ends, and what it says.
+-- Exit statuses and error messages.
 use Rattle.std.specs.Prelude.{ℕ, ◌==◌, ◌++◌, List, Bool, true, false, Result, Ok, Err, codes, if◌then◌else◌}
 use Rattle.ppserve.specs.declared.serving.RunFault.{RunFault}
 use Rattle.ppserve.specs.declared.serving.RunFault.TheVariants as fault
@@ -11,7 +11,7 @@ status_of (Err fault.Memory) = 4
 status_of (Err fault.Read) = 5
 status_of (Err fault.Write) = 5
 
--- the mark of a refusal, which has one of the numbers 1 to 10
+-- the name of a refusal, which has one of the numbers 1 to 10
 abbrev pub refusal_mark : ℕ → List ℕ
 refusal_mark number =
     if number == 1 then codes " L1" else (

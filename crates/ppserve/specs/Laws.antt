@@ -1,4 +1,4 @@
--- Laws of a run: which refusal a list has, and what a run's output depends on.
+-- Theorems about runs: which refusal a list has, and what the output of a run depends on.
 use Rattle.std.specs.Prelude.{◌≡◌, ◌↔◌, ℕ, ◌<◌, ◌≤◌, Bool, true, false, List, length, Option, Some, None}
 use Rattle.serde_json.specs.Data.{Data}
 use Rattle.ppshelf.specs.Files.{Files, Agree}
@@ -13,13 +13,13 @@ use Rattle.ppserve.specs.declared.output.Mode.{Mode}
 
 -- ---- refusals
 
--- the bytes hold a JSON value of a list's shape, with this draft
+-- the bytes hold a JSON value that has the members of a list, with this draft
 pub record HoldsDraft (inline : Bool) (bytes : List ℕ) (x : Draft) : Type 0 where
   pub value : Data
   pub is_json : json_value bytes ≡ Some value
   pub is_shaped : IsDraft inline value x
 
--- The refusal with this number applies to the bytes. Those from 3 on are asked of bytes that hold a list's shape.
+-- The refusal with this number applies to the bytes. From 3 on the bytes must have a draft.
 pub data Applies (inline : Bool) (bytes : List ℕ) : ℕ → Type 0 where
   too_long : most_input < length bytes → Applies inline bytes 1
   no_json : json_value bytes ≡ None → Applies inline bytes 1
@@ -36,25 +36,25 @@ pub data Applies (inline : Bool) (bytes : List ℕ) : ℕ → Type 0 where
   wrong_profile : {x : Draft} → HoldsDraft inline bytes x → profile_holds x.setting ≡ false → Applies inline bytes 9
   wrong_budget : {x : Draft} → HoldsDraft inline bytes x → budget_holds x.setting ≡ false → Applies inline bytes 10
 
--- P is true of this number, and of none that is less
+-- P holds of this number, and of no smaller one
 pub record IsLeast (P : ℕ → Type 0) (number : ℕ) : Type 0 where
   pub is_so : P number
   pub least : (other : ℕ) → P other → number ≤ other
 
--- no refusal applies to the bytes, and the list is what stands in them
+-- no refusal applies to the bytes, and the list is the one that they hold
 pub record IsTaken (inline : Bool) (bytes : List ℕ) (list : CompilationList) : Type 0 where
   pub draft : Draft
   pub holds : HoldsDraft inline bytes draft
   pub none : (number : ℕ) → ¬ Applies inline bytes number
   pub is_list : list ≡ listed inline draft
 
--- Bytes are refused with a number exactly where it is the least of those whose refusal applies.
+-- Bytes are refused with a number exactly if it is the least of those whose refusal applies.
 abbrev pub RefusesByTheLeast : Type 0
 RefusesByTheLeast =
     (inline : Bool) (bytes : List ℕ) (number : ℕ)
     → (outcome_of inline bytes ≡ refused number) ↔ IsLeast (Applies inline bytes) number
 
--- Bytes are taken as a list exactly where no refusal applies.
+-- Bytes are taken as a list exactly if no refusal applies.
 abbrev pub TakesTheRest : Type 0
 TakesTheRest =
     (inline : Bool) (bytes : List ℕ) (list : CompilationList)
@@ -62,7 +62,8 @@ TakesTheRest =
 
 -- ---- what is printed
 
--- Two runs over such files whose readers hold the same bytes, and whose files agree, print the same and answer the same.
+-- Two runs over such files, whose readers hold the same bytes and whose files agree, have the same output and the same
+-- result.
 abbrev pub OneOutput : (CompilationList → Files → Type 0) → Type 0
 OneOutput Such =
     (inline : Bool) (mode : Mode) (known given : List ℕ) (left right : Option (List ℕ)) (one two : List ℕ) (any other : Bool)
@@ -71,7 +72,8 @@ OneOutput Such =
     → Agree a.came.files b.came.files
     → (one ≡ two) × (any ≡ other)
 
--- Two runs whose readers hold the same bytes, in which the files stand, print the same and answer the same.
+-- Two runs whose readers hold the same bytes, in which the files are contained, have the same output and the same
+-- result.
 abbrev pub OneOutputOfContents : Type 0
 OneOutputOfContents =
     (mode : Mode) (known given : List ℕ) (left right : Option (List ℕ)) (one two : List ℕ) (any other : Bool)

@@ -9,23 +9,23 @@ use Rattle.ppserve.specs.Output.{is_plain, kind_letter, mark, place_text, token_
 abbrev pub token_line : Token → List ℕ
 token_line t = codes "tok" ++ token_text t
 
--- what stands before a token's spelling, behind its line's word
+-- what is before a token's spelling, after the line's word
 abbrev pub before_spelling : Place → Place → Kind → Bool → List ℕ
 before_spelling at used kind space =
     codes " " ++ place_text at ++ codes " " ++ place_text used ++ (32 ∷ (kind_letter kind ∷ (mark space ∷ (32 ∷ []))))
 
--- ` FILE:LINE:`, how a place begins
+-- ` FILE:LINE:`, the prefix of a location
 abbrev pub line_start : ℕ → ℕ → List ℕ
 line_start file line = 32 ∷ (decimal file ++ codes ":" ++ decimal line ++ codes ":")
 
--- ` FILE:`, how a line's places begin
+-- ` FILE:`, the prefix of the locations in a file
 abbrev pub file_start : ℕ → List ℕ
 file_start file = 32 ∷ (decimal file ++ codes ":")
 
--- the bytes from one place up to another stand for themselves
+-- the bytes from one index up to another are printed as they are
 abbrev pub PlainBetween : List ℕ → ℕ → ℕ → Type 0
 PlainBetween bytes from to = (k : ℕ) → from ≤ k → k < to → is_plain (slice_index bytes k) ≡ true
 
--- the place of the lowest bit of a mask of eight that is set, or 8
+-- the index of the lowest bit of eight that is set, or 8
 abbrev pub first_set : ℕ → ℕ
 first_set mask = if mask == 0 then 8 else trailing_zeros w64 mask

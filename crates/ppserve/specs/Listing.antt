@@ -26,7 +26,7 @@ pub data Outcome : Type 0 where
   accepted : CompilationList → Outcome
   refused : ℕ → Outcome
 
--- want of memory, or the refusal n for the reason P
+-- an allocation failed, or refusal n for the reason P
 abbrev pub RefusedFor : ℕ → Type 0 → ListFault → Type 0
 RefusedFor n P e = (e ≡ Memory) ⊎ ((e ≡ Bad n) × P)
 
@@ -40,11 +40,11 @@ names_of files = map (λ (f : DraftFile). f.name) files
 abbrev pub contents_of : List DraftFile → List (List ℕ)
 contents_of files = map (λ (f : DraftFile). f.content) files
 
--- the most bytes of a list
+-- the largest number of bytes in a list
 abbrev pub most_input : ℕ
 most_input = 2 ^ 28
 
--- the files' names are in normal form, each once
+-- the files' names are in normal form and distinct
 abbrev pub names_hold : List DraftFile → Bool
 names_hold files = are_names (names_of files)
 
@@ -68,11 +68,11 @@ times_hold s = is_date s.date && is_time s.time
 abbrev pub lines_hold : List DraftUnit → Bool
 lines_hold = list_all (λ (u : DraftUnit). list_all is_one_line u.defines)
 
--- each text that is searched is a folder
+-- each search path is a directory name
 abbrev pub folders_hold : Draft → Bool
 folders_hold d = list_all is_folder d.setting.search && list_all (λ (u : DraftUnit). list_all is_folder u.search) d.units
 
--- the profile that a text names
+-- the profile with this name
 abbrev pub profile_named : List ℕ → Option Profile
 profile_named t =
     if bytes_eq t (codes "c11") then Some C11 else (
@@ -85,11 +85,11 @@ profile_holds s = is_some (profile_named s.profile)
 abbrev pub profile_of : DraftSetting → Profile
 profile_of s = unwrap_or (profile_named s.profile) C11
 
--- the most that a list may allow each unit
+-- the largest budget of a list
 abbrev pub most_budget : ℕ
 most_budget = 2 ^ 32 - 1
 
--- no budget, or a whole number that isn't too large
+-- no budget, or an integer that isn't too large
 abbrev pub is_budget : DraftBudget → Bool
 is_budget Missing = true
 is_budget (Whole n) = nat_le n most_budget
@@ -98,7 +98,7 @@ is_budget Other = false
 abbrev pub budget_holds : DraftSetting → Bool
 budget_holds s = is_budget s.budget
 
--- what the list allows each unit, if it says so
+-- the budget of each unit, if there is one
 abbrev pub budget_of : DraftBudget → Option ℕ
 budget_of Missing = None
 budget_of (Whole n) = Some n
@@ -113,7 +113,7 @@ listed_setting s = record {
   budget = budget_of s.budget;
 }
 
--- a unit, whose definitions are read by this profile
+-- a unit, whose definitions are read with this profile
 abbrev pub listed_unit : Profile → List (List ℕ) → DraftUnit → UnitOfList
 listed_unit profile names u = record {
   file = unwrap_or (row_among u.file names) 0;
@@ -121,7 +121,7 @@ listed_unit profile names u = record {
   search = u.search;
 }
 
--- the list of a draft, with contents where lists hold them
+-- the list of a draft, with its contents if the list holds them
 abbrev pub listed : Bool → Draft → CompilationList
 listed inline d = record {
   setting = listed_setting d.setting;
@@ -130,20 +130,20 @@ listed inline d = record {
   units = map (listed_unit (profile_of d.setting) (names_of d.files)) d.units;
 }
 
--- what stands in a draft whose texts are as they are to be
+-- the list of a draft with valid texts, or its refusal
 abbrev pub judged_choices : Bool → Draft → Outcome
 judged_choices inline d =
     if not (profile_holds d.setting) then refused 9 else (
     if not (budget_holds d.setting) then refused 10 else accepted (listed inline d))
 
--- what stands in a draft whose units have their files
+-- the list of a draft whose units have their files, or its refusal
 abbrev pub judged_texts : Bool → Draft → Outcome
 judged_texts inline d =
     if not (times_hold d.setting) then refused 6 else (
     if not (lines_hold d.units) then refused 7 else (
     if not (folders_hold d) then refused 8 else judged_choices inline d))
 
--- the list, or the least number of a refusal that applies
+-- the list of a draft, or the least number of a refusal that applies
 abbrev pub judged : Bool → Draft → Outcome
 judged inline d =
     if not (names_hold d.files) then refused 3 else (

@@ -1,4 +1,4 @@
--- What is printed of a list's units.
+-- The output of a list's units.
 use Rattle.std.specs.Prelude.{ℕ, suc, ◌+◌, ◌/◌, ◌%◌, ◌==◌, ◌&&◌, Bool, true, false, not, List, [], ◌∷◌, ◌++◌}
 use Rattle.std.specs.Prelude.{if◌then◌else◌, nat_lt, nat_le, codes, decimal, flat_map, Option, Some, None}
 use Rattle.pptext.specs.declared.tokens.Place.{Place}
@@ -19,7 +19,7 @@ use Rattle.ppserve.specs.declared.output.Mode.TheVariants.{Dump, Deps}
 abbrev pub hex_digit : ℕ → ℕ
 hex_digit n = if nat_lt n 10 then 48 + n else 55 + n
 
--- the bytes 32 to 126 but for `%` stand for themselves
+-- the bytes 32 to 126 except `%` are printed as they are
 abbrev pub is_plain : ℕ → Bool
 is_plain b = nat_le 32 b && nat_le b 126 && not (b == 37)
 
@@ -41,7 +41,7 @@ kind_letter kind.Punct = 112
 kind_letter kind.Header = 104
 kind_letter kind.Other = 111
 
--- `+` where white space or the line's beginning stands before a token, else `-`
+-- `+` if white space or the beginning of the line precedes the token, otherwise `-`
 abbrev pub mark : Bool → ℕ
 mark true = 43
 mark false = 45
@@ -80,7 +80,7 @@ unit_lines mode names i unit out =
     codes "unit " ++ decimal i ++ codes " " ++ escaped (name_in names unit.file) ++ (10 ∷ [])
     ++ shown_items mode out.items ++ flat_map (dep_line names) out.deps ++ last_line out.fault
 
--- f of each pair, one after the other, numbered from n
+-- f of each pair, concatenated, numbered from n
 abbrev pub numbered : {A B : Type 0} → (ℕ → A → B → List ℕ) → ℕ → List A → List B → List ℕ
 numbered f n [] bs = []
 numbered f n (a ∷ more) [] = []

@@ -1,9 +1,9 @@
--- What printing does to a page of bytes that wait and to what a writer was given.
+-- What printing does to the bytes of a buffer and to the bytes that were written.
 use Rattle.std.specs.Prelude.{◌≡◌, ℕ, Bool, true, false, List, [], ◌++◌, Option}
 use Rattle.std.specs.Io.KnownBytes.{Appends}
 
--- The text goes behind the bytes of the page p: a front of them went out from the writer w to the writer v, and the rest waits on the page q
--- unless a write failed, after which nothing more goes out.
+-- The text is appended to the bytes of the buffer p: a prefix of both is written, which takes the writer from w to v,
+-- and the rest is in the buffer q. After a failed write nothing more is written.
 pub record Puts {V : Type 0} (written : V → Option (List ℕ)) (has_failed : V → Bool) (w v : V) (p q text : List ℕ) : Type 0 where
   pub front : List ℕ
   pub rest : List ℕ

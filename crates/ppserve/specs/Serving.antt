@@ -1,4 +1,4 @@
--- From a reader's bytes to a writer's.
+-- A run, from the bytes of a reader to the bytes of a writer.
 use Rattle.std.specs.Prelude.{◌≡◌, ℕ, ◌≤◌, ◌||◌, Bool, false, List, [], ◌∷◌, length, take, Option, Some}
 use Rattle.std.specs.Option.{is_some}
 use Rattle.std.specs.Io.KnownBytes.{Appends, Consumes, IsAtEnd}
@@ -20,18 +20,18 @@ abbrev pub some_fault : List UnitOut → Bool
 some_fault [] = false
 some_fault (out ∷ outs) = is_some out.fault || some_fault outs
 
--- the bytes came from a reader, and are all that it had unless they are too many for a list
+-- the bytes were read, and are all that the reader had unless they are more than a list may have
 pub record Received (before after : Option (List ℕ)) (bytes : List ℕ) : Type 0 where
   pub came : Consumes before after bytes
   pub whole : length bytes ≤ most_input → IsAtEnd after
 
--- a list came, in which contents stand or not
+-- a list was read, with its contents if `inline`
 pub record Comes (inline : Bool) (before after : Option (List ℕ)) (list : CompilationList) : Type 0 where
   pub bytes : List ℕ
   pub received : Received before after bytes
   pub is_list : outcome_of inline bytes ≡ accepted list
 
--- a list came, whose units give these over some such files
+-- a list was read, and these are the values of its units over some such files
 pub record Brings (inline : Bool) (Such : CompilationList → Files → Type 0)
     (before after : Option (List ℕ)) (list : CompilationList) (outs : List UnitOut) : Type 0 where
   pub came : Comes inline before after list
@@ -39,19 +39,19 @@ pub record Brings (inline : Bool) (Such : CompilationList → Files → Type 0)
   pub such : Such list files
   pub gives : AreUnits list.names files list.setting list.units outs
 
--- the whole output of units went out
+-- the whole output of units was written
 pub record HandsOut (mode : Mode) (names : List (List ℕ)) (units : List UnitOfList) (outs : List UnitOut)
     (before after : Option (List ℕ)) (any : Bool) : Type 0 where
   pub went : Appends before after (numbered (unit_lines mode names) 0 units outs)
   pub fault : any ≡ some_fault outs
 
--- a beginning of the output of units went out
+-- a prefix of the output of units was written
 pub record HandsOutFront (mode : Mode) (names : List (List ℕ)) (units : List UnitOfList) (outs : List UnitOut)
     (before after : Option (List ℕ)) : Type 0 where
   pub count : ℕ
   pub went : Appends before after (take count (numbered (unit_lines mode names) 0 units outs))
 
--- a list came, and its whole output over some such files went out
+-- a list was read, and its whole output over some such files was written
 pub record Serves (inline : Bool) (Such : CompilationList → Files → Type 0) (mode : Mode)
     (before after out_before out_after : Option (List ℕ)) (any : Bool) : Type 0 where
   pub list : CompilationList
@@ -60,7 +60,7 @@ pub record Serves (inline : Bool) (Such : CompilationList → Files → Type 0) 
   pub went : Appends out_before out_after (output_text mode list outs)
   pub fault : any ≡ some_fault outs
 
--- a list came, and a beginning of its output over some such files went out
+-- a list was read, and a prefix of its output over some such files was written
 pub record BreaksOff (inline : Bool) (Such : CompilationList → Files → Type 0) (mode : Mode)
     (before after out_before out_after : Option (List ℕ)) : Type 0 where
   pub list : CompilationList
@@ -69,18 +69,18 @@ pub record BreaksOff (inline : Bool) (Such : CompilationList → Files → Type 
   pub count : ℕ
   pub went : Appends out_before out_after (take count (output_text mode list outs))
 
--- what came is refused with this number
+-- the bytes that were read are refused with this number
 pub record Refuses (inline : Bool) (before after : Option (List ℕ)) (number : ℕ) : Type 0 where
   pub bytes : List ℕ
   pub received : Received before after bytes
   pub is_refused : outcome_of inline bytes ≡ refused number
 
--- what a run says of a list that it cannot read
+-- the error of a run that can't read its list
 abbrev pub run_fault_of : ListFault → RunFault
 run_fault_of (list_fault.Bad number) = run_fault.List number
 run_fault_of list_fault.Memory = run_fault.Memory
 
--- Where the bytes of a reader are known, what came from it is the list that they all hold, or is refused as they are.
+-- If the bytes of a reader are known, the list that was read is the one that they all hold, or they are refused.
 abbrev pub KnownBytesDecide : Type 0
 KnownBytesDecide =
     (inline : Bool) (known bytes : List ℕ) (after : Option (List ℕ))

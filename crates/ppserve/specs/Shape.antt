@@ -1,4 +1,4 @@
--- The shape of a list: which members its objects have, of which kinds, and what is drafted of each.
+-- The members that the objects of a list have, their types, and the draft of each.
 use Rattle.std.specs.Prelude.{◌≡◌, ℕ, ◌+◌, ◌-◌, ◌*◌, ◌&&◌, Bool, true, false, List, [], ◌∷◌}
 use Rattle.std.specs.Prelude.{if◌then◌else◌, nat_le, codes, Option, Some, None, option_map, option_and_then, unwrap_or}
 use Rattle.std.specs.List.{list_any}
@@ -17,7 +17,7 @@ abbrev pub has_only : List (List ℕ) → Members → Bool
 has_only names no_members = true
 has_only names (member k d ms) = has_text k names && has_only names ms
 
--- an object with no other members than these
+-- an object that has no members but these
 abbrev pub is_object_of : List (List ℕ) → Data → Bool
 is_object_of names d = unwrap_or (option_map (has_only names) (as_object d)) false
 
@@ -57,7 +57,7 @@ IsText d text = d ≡ string text
 abbrev pub HasText : Data → List ℕ → List ℕ → Type 0
 HasText d name text = get name d ≡ Some (string text)
 
--- the items of an array are so, one after the other, with those of a list
+-- the items of an array satisfy Is with those of a list, one after the other
 pub data AreItems {A : Type 0} (Is : Data → A → Type 0) : Items → List A → Type 0 where
   nothing : AreItems Is no_items []
   more : {d : Data} {x : A} {ds : Items} {xs : List A}
@@ -65,7 +65,7 @@ pub data AreItems {A : Type 0} (Is : Data → A → Type 0) : Items → List A �
       → AreItems Is ds xs
       → AreItems Is (item d ds) (x ∷ xs)
 
--- the member of this name is an array, whose items are so with those of a list
+-- the member of this name is an array, whose items satisfy Is with those of a list
 pub record HasItems {A : Type 0} (Is : Data → A → Type 0) (d : Data) (name : List ℕ) (xs : List A) : Type 0 where
   pub items : Items
   pub is_array : get name d ≡ Some (array items)
@@ -76,7 +76,7 @@ pub data HasTexts (d : Data) (name : List ℕ) : List (List ℕ) → Type 0 wher
   no_texts : get name d ≡ None → HasTexts d name []
   some_texts : {texts : List (List ℕ)} → HasItems IsText d name texts → HasTexts d name texts
 
--- a file's content stands in exactly one of `text` and `hex`; where lists hold no contents it is left out
+-- a file's content is in exactly one of `text` and `hex`; if lists hold no contents it is left out
 pub data HasContent : Bool → Data → List ℕ → Type 0 where
   as_text : {d : Data} {content : List ℕ}
       → HasText d (codes "text") content
@@ -89,12 +89,12 @@ pub data HasContent : Bool → Data → List ℕ → Type 0 where
       → HasContent true d content
   left_out : {d : Data} → HasContent false d []
 
--- the text of the profile, which is `c11` where it is missing
+-- the name of the profile: `c11` if the member is missing
 pub data HasProfile (d : Data) : List ℕ → Type 0 where
   no_profile : get (codes "profile") d ≡ None → HasProfile d (codes "c11")
   some_profile : {text : List ℕ} → HasText d (codes "profile") text → HasProfile d text
 
--- the budget: missing, a whole number of 64 bits without a sign, or another number
+-- the budget: missing, an unsigned integer of 64 bits, or another number
 pub data HasBudget (d : Data) : DraftBudget → Type 0 where
   no_budget : get (codes "budget") d ≡ None → HasBudget d Missing
   whole_budget : {n : Num} {amount : ℕ}
@@ -106,7 +106,7 @@ pub data HasBudget (d : Data) : DraftBudget → Type 0 where
       → as_u64 n ≡ None
       → HasBudget d Other
 
--- ---- one object, a field a member
+-- ---- objects, with a field for each member
 
 pub record IsFileDraft (inline : Bool) (d : Data) (f : DraftFile) : Type 0 where
   pub object : is_object_of (file_members inline) d ≡ true
@@ -127,7 +127,7 @@ pub record IsSettingDraft (d : Data) (s : DraftSetting) : Type 0 where
   pub time : HasText d (codes "time") s.time
   pub folders : HasTexts d (codes "search") s.search
 
--- the list, in which contents stand or not
+-- the list, with its contents if `inline`
 pub record IsDraft (inline : Bool) (d : Data) (x : Draft) : Type 0 where
   pub object : is_object_of list_members d ≡ true
   pub setting : IsSettingDraft d x.setting

@@ -1,4 +1,4 @@
-// The beginning of a token's line.
+//! Writes the part of a token's line before the spelling.
 ghost use Rattle.std.specs.Prelude.{◌≡◌, ◌+◌, ◌≤◌, ◌++◌, [], codes, decimal, length, take};
 ghost use Rattle.ppserve.specs.Output.{kind_letter, mark as mark_of};
 ghost use Rattle.ppserve.specs.Lines.{before_spelling, line_start};
@@ -7,25 +7,26 @@ use crate::writing::{Digits, put_byte, put_front, put_number};
 use pptext::{Kind, Place};
 use std::marker::Model;
 
-/// Room for the beginning of a place: a space, two numbers of at most ten digits, and two colons. Copies of 32 bytes are quick.
+/// The capacity for the prefix of a location: a space, two numbers of at most ten digits, and two colons. Copies of 32
+/// bytes are fast.
 const ROOM: usize = 32;
 
-/// The most bytes before a token's spelling: a word of 3, two places of 33, and 4 behind them.
+/// The largest number of bytes before a token's spelling: a word of 3, two locations of 33, and 4 after them.
 pub(crate) const MOST: usize = 73;
 
-/// What the line of a token says before its spelling.
+/// What the line of a token has before the spelling.
 #[derive(Clone, Copy)]
 pub(crate) struct LineHead {
-    /// The place where the token is spelled.
+    /// The spelling location.
     pub at: Place,
-    /// The place where it is used.
+    /// The expansion location.
     pub used: Place,
     pub kind: Kind,
     /// Whether white space precedes the token.
     pub space: bool,
 }
 
-/// How the places of one line of a file begin, which contracts see as its bytes.
+/// The prefix ` FILE:LINE:` of the locations on one line of a file. Its model is its bytes.
 #[derive(Drop)]
 struct Start {
     file: u32,
@@ -50,7 +51,7 @@ impl Model for Start {
 }
 
 impl Start {
-    /// Of this line.
+    /// Formats the prefix of this line.
     fn new(file: u32, line: u32) -> Start
         ensures { result ≡ line_start file line }
     {
@@ -68,7 +69,7 @@ impl Start {
         }
     }
 
-    /// Becomes that of a place's line, as it mostly is.
+    /// Updates the prefix for another location, which mostly is on the same line.
     #[inline(always)]
     fn turn(&mut self, place: Place)
         ensures { self.new ≡ line_start place.file place.line }
@@ -78,7 +79,7 @@ impl Start {
         }
     }
 
-    /// Becomes that of another line, which mostly is of the same file.
+    /// Updates the prefix for another line, which mostly is in the same file.
     #[inline(never)]
     fn change(&mut self, file: u32, line: u32)
         ensures { self.new ≡ line_start file line }
@@ -92,7 +93,7 @@ impl Start {
         self.line = line;
     }
 
-    /// Puts a place of its line behind the first `end` bytes.
+    /// Writes a location on the line after the first `end` bytes. Returns where it ends.
     #[inline(always)]
     fn put(&self, bytes: &mut [u8], end: usize, col: u32) -> usize
         requires { end + 33 ≤ length bytes.old }
@@ -103,7 +104,7 @@ impl Start {
         put_number(bytes, end, col)
     }
 
-    /// Puts a place of its line twice.
+    /// Writes a location on the line twice. Returns where the second ends.
     #[inline(always)]
     fn put_twice(&self, bytes: &mut [u8], end: usize, col: u32) -> usize
         requires { end + 66 ≤ length bytes.old }
@@ -122,7 +123,7 @@ impl Start {
     }
 }
 
-/// How the places of the last line began. The next line's mostly begin so, too.
+/// The prefixes of the last token's locations. The next token's are mostly the same.
 #[derive(Drop)]
 pub(crate) struct Beginning {
     at: Start,
@@ -130,7 +131,7 @@ pub(crate) struct Beginning {
 }
 
 impl Beginning {
-    /// Of no line.
+    /// Creates prefixes of no line.
     pub(crate) fn new() -> Beginning {
         Beginning {
             at: Start::new(0, 0),
@@ -138,7 +139,7 @@ impl Beginning {
         }
     }
 
-    /// Puts what stands before the spelling of a token after the first `end` bytes.
+    /// Writes what is before the spelling of a token after the first `end` bytes. Returns where it ends.
     #[inline(always)]
     pub(crate) fn put(&mut self, bytes: &mut [u8], end: usize, head: LineHead) -> usize
         requires { end + 73 ≤ length bytes.old }
@@ -153,7 +154,7 @@ impl Beginning {
         put_byte(bytes, end, b' ')
     }
 
-    /// Puts both places. Most tokens are used where they are spelled, and then one turn serves both.
+    /// Writes both locations. Most tokens are spelled where they are used, so that one prefix serves both.
     #[inline(always)]
     fn put_places(&mut self, bytes: &mut [u8], end: usize, at: Place, used: Place) -> usize
         requires { end + 66 ≤ length bytes.old }
@@ -171,6 +172,7 @@ impl Beginning {
     }
 }
 
+/// Returns `+` if white space precedes the token, and `-` otherwise.
 #[inline(always)]
 fn mark(space: bool) -> u8
     ensures { result ≡ mark_of space }
@@ -178,6 +180,7 @@ fn mark(space: bool) -> u8
     if space { b'+' } else { b'-' }
 }
 
+/// Returns the letter of a kind of token.
 #[inline(always)]
 fn letter(kind: Kind) -> u8
     ensures { result ≡ kind_letter kind }

@@ -1,12 +1,12 @@
-// How the program ends, and what it says.
+//! Exit statuses and error messages.
 ghost use Rattle.std.specs.Prelude.{◌≡◌};
 ghost use Rattle.ppserve.specs.Ending.{status_of, words_of};
 ghost use Rattle.ppserve.specs.declared.serving.RunFault.TheVariants.{List as Refused};
 
 use crate::serving::RunFault;
 
-/// The program's status: 0 where no unit has a fault, 1 where one has, 3 for a list that is refused, 4 for want of memory, 5 for a reader or a
-/// writer that failed.
+/// Returns the exit status: 0 if no unit has a fault, 1 if one has, 3 if the list is refused, 4 if an allocation
+/// failed, 5 if the reader or the writer failed.
 pub fn status(outcome: &Result<bool, RunFault>) -> u8
     ensures { result ≡ status_of outcome.now }
 {
@@ -19,7 +19,7 @@ pub fn status(outcome: &Result<bool, RunFault>) -> u8
     }
 }
 
-/// What the program says of a run that failed, without a new-line.
+/// Returns the error message of a run that failed, without a new-line.
 pub fn words(fault: &RunFault) -> &'static str
     ensures { result.now ≡ words_of fault.now }
 {
@@ -31,7 +31,7 @@ pub fn words(fault: &RunFault) -> &'static str
     }
 }
 
-/// The same of a list that is refused with this number.
+/// Returns the error message of a list that is refused with this number.
 fn refusal(number: u8) -> &'static str
     ensures { result.now ≡ words_of (Refused number) }
 {

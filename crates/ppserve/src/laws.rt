@@ -1,4 +1,5 @@
-// Laws of a run: functions that do nothing, whose contracts are the laws. They call what they rest on.
+//! Theorems about runs: functions that do nothing, whose contracts state the theorems. They call the theorems that they
+//! rest on.
 ghost use Rattle.ppserve.specs.Contents.{MayBe};
 ghost use Rattle.ppserve.specs.Drafting.{ShapeDecides};
 ghost use Rattle.ppserve.specs.Laws.{OneOutput, OneOutputOfContents, RefusesByTheLeast, TakesTheRest};
@@ -8,25 +9,26 @@ use pppool::list_growth;
 use ppshelf::Disk;
 use ppunit::one_value;
 
-/// A law: a value gives a draft exactly where it has the shape of a list with it (`IsDraft`), member by member.
+/// Theorem: a JSON value gives a draft exactly if it has the members of a list with that draft (`IsDraft`).
 pub fn shape_decides()
     ensures { ShapeDecides }
 {}
 
-/// A law: whoever hands in bytes is refused with the least number of a refusal that applies to them, and with no number exactly where none
-/// applies.
+/// Theorem: bytes are refused with the least number of a refusal that applies to them, and taken as a list exactly if
+/// none applies.
 pub fn refuses_by_the_least()
     ensures refused { RefusesByTheLeast }
     ensures taken { TakesTheRest }
 {}
 
-/// A law: where the bytes of a reader are known, what came from it is the list that they all hold, or is refused as they are.
+/// Theorem: if the bytes of a reader are known, the list that was read is the one that they all hold, or they are
+/// refused.
 pub fn known_bytes_decide()
     ensures { KnownBytesDecide }
 {}
 
-/// A law: whoever runs a list again over files that agree with those of the first run gets the same bytes and the same answer, whatever the
-/// workers, the blocks and the key; of a list that holds its files, without more.
+/// Theorem: two runs of one list over files that agree have the same output and the same result, whatever the workers,
+/// the blocks and the hash key. Runs of a list that holds its files need no such condition.
 pub fn one_output<D: Disk>()
     ensures files { OneOutput (MayBe D.may) }
     ensures contents { OneOutputOfContents }

@@ -1,4 +1,4 @@
-//! A whole run: from the bytes of a list to the bytes of its output.
+//! Runs a list of translation units: from the bytes of the list to the bytes of its output.
 #![tactic(auto)]
 
 mod beginning;

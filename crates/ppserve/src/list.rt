@@ -1,4 +1,4 @@
-// The list of translation units, read from JSON.
+//! Reads the list of translation units from JSON.
 ghost use Rattle.std.specs.Prelude.{◌≡◌, ◌≤◌, ℕ, Some, None, IfOk, IfErr, IsErrOf, true, length};
 ghost use Rattle.serde_json.specs.View.{view};
 ghost use Rattle.ppserve.specs.Listing.{RefusedFor, IsRunnable, json_value, outcome_of, judged, accepted, refused, most_input};
@@ -16,10 +16,10 @@ use std::alloc::{AllocError, AllocFailed, Global};
 use std::marker::Model;
 use thiserror::Error;
 
-/// Units, which contracts see as their list.
+/// The units of a list. Its model is their list.
 pub type Units = Sequence<Unit>;
 
-/// The contents of files, which contracts see as the list of their bytes.
+/// The contents of files. Its model is the list of their bytes.
 #[derive(Drop, Debug)]
 pub struct Contents {
     contents: Vec<Vec<u8>>,
@@ -36,21 +36,21 @@ impl Model for Contents {
 impl Contents {
     ghost use Rattle.std.specs.Prelude.{map};
 
-    /// These contents.
+    /// Wraps contents.
     pub fn new(contents: Vec<Vec<u8>>) -> Contents
         ensures { result ≡ map (λ bytes. bytes.items) contents.items }
     {
         Contents { contents }
     }
 
-    /// The contents.
+    /// Borrows the contents.
     pub fn as_slice(&self) -> &[Vec<u8>]
         ensures { map (λ bytes. bytes.items) result.now ≡ self.now }
     {
         self.contents.as_slice()
     }
 
-    /// The contents, given back.
+    /// Returns the contents.
     pub fn into_vec(self) -> Vec<Vec<u8>>
         ensures { map (λ bytes. bytes.items) result.items ≡ self }
     {
@@ -58,7 +58,7 @@ impl Contents {
     }
 }
 
-/// A list of translation units with its files: a file's row is its place among the names, and among the contents.
+/// A list of translation units with its files. The index of a file is that of its name, and of its content.
 #[derive(Drop, Debug)]
 pub struct List {
     pub setting: Setting,
@@ -67,13 +67,13 @@ pub struct List {
     pub units: Units,
 }
 
-/// Why bytes give no list.
+/// The error of reading a list.
 #[derive(Debug, Drop, Error)]
 pub enum ListFault {
-    /// They are refused, with the least number of a refusal that applies.
+    /// The bytes are refused, with the least number of a refusal that applies.
     #[error("list refused L{0}")]
     Bad(u8),
-    /// Want of memory.
+    /// An allocation failed.
     #[error("out of memory")]
     Memory,
 }
@@ -102,20 +102,20 @@ impl<T: Drop> From<AllocFailed<T>> for ListFault {
     }
 }
 
-/// The most bytes of a list.
+/// The largest number of bytes in a list.
 pub(crate) const MOST_INPUT: usize = 268_435_456;
 
-/// The list that bytes hold. Where `inline` is false its files have names alone, and it holds no contents. Names are hashed by
-/// `hashing`.
+/// Reads a list from JSON. If `inline` is false, its files have only names, and it holds no contents. Names are hashed
+/// by `hashing`.
 ///
 /// # Errors
 ///
-/// `Bad` with the least number that applies: 1 for more than 268,435,456 bytes or no JSON value, 2 for a member
-/// that is missing, unknown or of another shape, 3 for a name that is out of normal form or stands twice, 4 for more
-/// than 65,535 files or units, or a content or a unit's definitions of more than 16,777,216 bytes, 5 for a unit's file that isn't
-/// among the names, 6 for the date or the time, 7 for a definition of more than one line, 8 for a text to be searched
-/// that is no folder, 9 for another profile than `c11` and `later`, 10 for a budget that is no whole number from 0 to 4,294,967,295; and
-/// `Memory`.
+/// `Bad` with the least number that applies: 1 for more than 268,435,456 bytes or invalid JSON, 2 for a member that is
+/// missing, unknown or of the wrong type, 3 for a file name that isn't in normal form or occurs twice, 4 for more than
+/// 65,535 files or units, or a content or a unit's definitions of more than 16,777,216 bytes, 5 for a unit's file that
+/// isn't among the names, 6 for a wrong date or time, 7 for a definition of more than one line, 8 for a search path
+/// that isn't a directory name, 9 for an unknown profile, 10 for a budget that isn't an integer from 0 to
+/// 4,294,967,295; and `Memory`.
 pub fn read_list(
     alloc: Global,
     bytes: &[u8],
@@ -134,7 +134,7 @@ pub fn read_list(
     judge(alloc, draft, inline, hashing)
 }
 
-/// The list as it stands in JSON. The JSON value is given back before the list is judged.
+/// Reads a draft of the list. The JSON value is freed before the list is validated.
 fn draft_from(alloc: Global, bytes: &[u8], inline: bool) -> Result<Draft, ListFault>
     requires { length bytes.now ≤ most_input }
     ensures ok { IfOk result (λ d. outcome_of inline bytes.now ≡ judged inline d) }
@@ -144,6 +144,7 @@ fn draft_from(alloc: Global, bytes: &[u8], inline: bool) -> Result<Draft, ListFa
     draft_of(alloc, &value, inline)
 }
 
+/// Parses JSON.
 fn json_of(alloc: Global, bytes: &[u8]) -> Result<Value, ListFault>
     ensures ok { IfOk result (λ v. json_value bytes.now ≡ Some (view v)) }
     ensures err { IfErr result (RefusedFor 1 (json_value bytes.now ≡ None)) }

@@ -1,4 +1,4 @@
-// What is printed of a list's units.
+//! Prints the output of a list's units.
 ghost use Rattle.std.specs.Prelude.{◌≡◌, ℕ, ◌++◌, ◌∷◌, [], ◌<◌, ◌≤◌};
 ghost use Rattle.std.specs.Prelude.{OnOk, OnErr, IfOk, Some, codes, decimal, false, true, length, take, flat_map};
 ghost use Rattle.std.specs.Io.KnownBytes.{Appends};
@@ -27,14 +27,14 @@ use std::alloc::Global;
 /// What is printed of each unit.
 #[derive(Clone, Copy, Debug, PartialEq, Eq)]
 pub enum Mode {
-    /// Its items, its dependencies and its fault.
+    /// Items, dependencies and the fault.
     Dump,
-    /// Its dependencies and its fault.
+    /// Dependencies and the fault.
     Deps,
 }
 
-/// The output: for each unit a line for its name, one for each token, each pragma and each token of a pragma, one for each dependency, and one for
-/// how it ended. Fails only for want of memory.
+/// Returns the output: for each unit a line with its name, one for each token, each pragma and each token of a pragma,
+/// one for each dependency, and one with its fault or `ok`. Fails only if an allocation fails.
 pub fn dump(alloc: Global, list: &List, outs: &[UnitOut]) -> Result<Vec<u8>, Memory>
     requires { length outs.now ≡ length list.now.units }
     ensures { IfOk result (λ text. text.items ≡ output_text Dump list.now outs.now) }
@@ -42,7 +42,8 @@ pub fn dump(alloc: Global, list: &List, outs: &[UnitOut]) -> Result<Vec<u8>, Mem
     printed(alloc, Mode::Dump, list, outs)
 }
 
-/// The output without the items: for each unit a line for its name, one for each dependency, and one for how it ended. Fails only for want of memory.
+/// Returns the output without items: for each unit a line with its name, one for each dependency, and one with its
+/// fault or `ok`. Fails only if an allocation fails.
 pub fn deps(alloc: Global, list: &List, outs: &[UnitOut]) -> Result<Vec<u8>, Memory>
     requires { length outs.now ≡ length list.now.units }
     ensures { IfOk result (λ text. text.items ≡ output_text Deps list.now outs.now) }
@@ -50,6 +51,7 @@ pub fn deps(alloc: Global, list: &List, outs: &[UnitOut]) -> Result<Vec<u8>, Mem
     printed(alloc, Mode::Deps, list, outs)
 }
 
+/// Returns the output in a mode.
 fn printed(alloc: Global, mode: Mode, list: &List, outs: &[UnitOut]) -> Result<Vec<u8>, Memory>
     requires { length outs.now ≡ length list.now.units }
     ensures { IfOk result (λ text. text.items ≡ output_text mode list.now outs.now) }
@@ -63,7 +65,8 @@ fn printed(alloc: Global, mode: Mode, list: &List, outs: &[UnitOut]) -> Result<V
     Ok(text.into_bytes())
 }
 
-/// Prints the output of units over an empty page. Nothing is asked for, and only a write can fail; the output then broke off.
+/// Prints the output of units through an empty buffer, without allocating. Fails only if a write fails; a prefix of the
+/// output is then written.
 pub(crate) fn print<W: Sink>(
     page: &mut Page,
     writer: &mut W,
@@ -88,13 +91,14 @@ pub(crate) fn print<W: Sink>(
     Ok(())
 }
 
-/// What is printed of a list's units: how much of each, and the names of the files.
+/// What is printed of a list's units: the mode, and the names of the files.
 #[derive(Clone, Copy)]
 struct Shown<'n> {
     mode: Mode,
     names: &'n Texts,
 }
 
+/// Prints units in order.
 fn put_units<W: Sink>(
     page: &mut Page,
     writer: &mut W,
@@ -111,7 +115,7 @@ fn put_units<W: Sink>(
     }
 }
 
-/// Puts the lines of a unit. Once a write has failed, nothing goes out, and so nothing is made.
+/// Prints a unit. After a failed write nothing more is formatted or written.
 fn put_unit<W: Sink>(
     page: &mut Page,
     writer: &mut W,
@@ -136,6 +140,7 @@ fn put_unit<W: Sink>(
     put_last(page, writer, &out.fault);
 }
 
+/// Prints the items of a unit, if the mode has them.
 fn put_shown<W: Sink>(page: &mut Page, writer: &mut W, mode: Mode, items: &Items)
     ensures { Puts W.written W.has_failed writer.old writer.new page.old page.new (shown_items mode items.now) }
 {
@@ -145,6 +150,7 @@ fn put_shown<W: Sink>(page: &mut Page, writer: &mut W, mode: Mode, items: &Items
     }
 }
 
+/// Prints items in order.
 fn put_items<W: Sink>(page: &mut Page, writer: &mut W, items: &Items)
     ensures { Puts W.written W.has_failed writer.old writer.new page.old page.new (flat_map item_lines items.now) }
 {
@@ -153,6 +159,7 @@ fn put_items<W: Sink>(page: &mut Page, writer: &mut W, items: &Items)
     }
 }
 
+/// Prints a run of tokens or a pragma.
 fn put_part<W: Sink>(page: &mut Page, writer: &mut W, part: &Part)
     ensures { Puts W.written W.has_failed writer.old writer.new page.old page.new (flat_map item_lines (part_items part.now)) }
 {
@@ -162,6 +169,7 @@ fn put_part<W: Sink>(page: &mut Page, writer: &mut W, part: &Part)
     }
 }
 
+/// Prints the line of a pragma and the lines of its tokens.
 fn put_pragma<W: Sink>(page: &mut Page, writer: &mut W, at: Place, tokens: &[Token])
     ensures { Puts W.written W.has_failed writer.old writer.new page.old page.new (item_lines (item.Pragma at tokens.now)) }
 {
@@ -255,8 +263,8 @@ fn put_token<W: Sink>(page: &mut Page, writer: &mut W, token: &Token)
     put_line(page, writer, head, &token.text);
 }
 
-/// Puts a token's line. Most spellings are short and plain, and then the line is put in one turn.
-/// Saves half of the instructions of `dump` on Redis and SQLite.
+/// Prints the line of a token. Most spellings are short and are printed as they are; then the line is written in one
+/// step, which saves half of the instructions of `dump` on Redis and SQLite.
 #[inline(always)]
 fn put_line<W: Sink>(page: &mut Page, writer: &mut W, head: LineHead, spelling: &Spelling)
     ensures { Puts W.written W.has_failed writer.old writer.new page.old page.new
@@ -272,7 +280,7 @@ fn put_line<W: Sink>(page: &mut Page, writer: &mut W, head: LineHead, spelling: 
     put_end(page, writer, spelling.as_bytes());
 }
 
-/// Puts any spelling and the end of its line.
+/// Prints any spelling and the end of its line.
 #[inline(never)]
 fn put_end<W: Sink>(page: &mut Page, writer: &mut W, spelling: &[u8])
     ensures { Puts W.written W.has_failed writer.old writer.new page.old page.new (escaped spelling.now ++ (10 ∷ [])) }
@@ -281,6 +289,7 @@ fn put_end<W: Sink>(page: &mut Page, writer: &mut W, spelling: &[u8])
     page.put(writer, b"\n");
 }
 
+/// Prints the lines of a unit's dependencies.
 fn put_deps<W: Sink>(page: &mut Page, writer: &mut W, names: &Texts, rows: &[usize])
     ensures { Puts W.written W.has_failed writer.old writer.new page.old page.new (flat_map (dep_line names.now) rows.now) }
 {
@@ -289,6 +298,7 @@ fn put_deps<W: Sink>(page: &mut Page, writer: &mut W, names: &Texts, rows: &[usi
     }
 }
 
+/// Prints the line of a dependency.
 fn put_dep<W: Sink>(page: &mut Page, writer: &mut W, names: &Texts, row: usize)
     ensures { Puts W.written W.has_failed writer.old writer.new page.old page.new (dep_line names.now row) }
 {
@@ -299,6 +309,7 @@ fn put_dep<W: Sink>(page: &mut Page, writer: &mut W, names: &Texts, row: usize)
     page.put(writer, b"\n");
 }
 
+/// Prints the name of the file at index `row`.
 fn put_name<W: Sink>(page: &mut Page, writer: &mut W, names: &Texts, row: usize)
     ensures { Puts W.written W.has_failed writer.old writer.new page.old page.new (escaped (name_in names.now row)) }
 {
@@ -308,6 +319,7 @@ fn put_name<W: Sink>(page: &mut Page, writer: &mut W, names: &Texts, row: usize)
     put_escaped(page, writer, name.as_bytes());
 }
 
+/// Prints the last line of a unit: its fault or `ok`.
 fn put_last<W: Sink>(page: &mut Page, writer: &mut W, fault: &Option<Fault>)
     ensures { Puts W.written W.has_failed writer.old writer.new page.old page.new (last_line fault.now) }
 {
@@ -317,6 +329,7 @@ fn put_last<W: Sink>(page: &mut Page, writer: &mut W, fault: &Option<Fault>)
     }
 }
 
+/// Prints the line of a fault.
 fn put_fault<W: Sink>(page: &mut Page, writer: &mut W, fault: &Fault)
     ensures { Puts W.written W.has_failed writer.old writer.new page.old page.new (last_line (Some fault.now)) }
 {
@@ -338,6 +351,7 @@ fn put_fault_text<W: Sink>(page: &mut Page, writer: &mut W, words: &[u8])
     put_escaped(page, writer, words);
 }
 
+/// Prints a location.
 fn put_place<W: Sink>(page: &mut Page, writer: &mut W, place: Place)
     ensures { Puts W.written W.has_failed writer.old writer.new page.old page.new (place_text place) }
 {
@@ -355,7 +369,7 @@ fn put_decimal<W: Sink>(page: &mut Page, writer: &mut W, number: u64)
     page.put(writer, buffer.format(number).as_bytes());
 }
 
-/// Puts runs of plain bytes as they are, and each other byte as `%` and two digits.
+/// Prints bytes: those that are printed as they are in runs, and each other one as `%` and two digits.
 fn put_escaped<W: Sink>(page: &mut Page, writer: &mut W, bytes: &[u8])
     ensures { Puts W.written W.has_failed writer.old writer.new page.old page.new (escaped bytes.now) }
 {
@@ -371,7 +385,7 @@ fn put_escaped<W: Sink>(page: &mut Page, writer: &mut W, bytes: &[u8])
     }
 }
 
-/// How many bytes, from the first on, stand for themselves.
+/// Returns the length of the longest prefix whose bytes are printed as they are.
 fn plain_len(bytes: &[u8]) -> usize
     ensures within { result ≤ length bytes.now }
     ensures plain { escaped (take result bytes.now) ≡ take result bytes.now }
@@ -394,12 +408,14 @@ fn put_byte<W: Sink>(page: &mut Page, writer: &mut W, byte: u8)
     }
 }
 
+/// Whether a byte is printed as it is: 32 to 126 except `%`.
 pub(crate) fn is_plain(byte: u8) -> bool
     ensures { result ≡ plain byte }
 {
     byte >= 32 && byte <= 126 && byte != b'%'
 }
 
+/// Returns the hexadecimal digit of a number below 16.
 fn hex(digit: u8) -> u8
     requires { digit < 16 }
     ensures { result ≡ hex_digit digit }

@@ -1,4 +1,4 @@
-// The page that bytes wait on before they go out.
+//! A 64 KiB output buffer.
 ghost use Rattle.std.specs.Prelude.{◌≡◌, ◌+◌, ◌≤◌, ◌++◌, ◌∷◌, [], codes, length, take, true, false, IfOk};
 ghost use Rattle.ppserve.specs.Lines.{before_spelling};
 ghost use Rattle.ppserve.specs.Output.{escaped};
@@ -12,10 +12,11 @@ use std::marker::Model;
 
 const SIZE: usize = 65_536;
 
-/// The room of a short spelling.
+/// The capacity for a short spelling.
 const SHORT: usize = 14;
 
-/// Bytes that wait. All its memory is there from the start, so nothing that is put on it is refused.
+/// A buffer of 64 KiB with the bytes that aren't written yet. It is allocated once, so that later calls can't run out
+/// of memory.
 #[derive(Drop)]
 pub(crate) struct Page {
     bytes: Vec<u8>,
@@ -34,7 +35,7 @@ impl Model for Page {
 }
 
 impl Page {
-    /// A page on which nothing waits.
+    /// Allocates an empty buffer.
     pub(crate) fn new(alloc: Global) -> Result<Page, AllocError>
         ensures { IfOk result (λ page. page ≡ []) }
     {
@@ -46,7 +47,8 @@ impl Page {
         })
     }
 
-    /// Puts bytes behind those that wait. Where there is no room, the page goes out first, and more bytes than a page holds go out themselves.
+    /// Appends bytes. If they don't fit, the buffer is written first; bytes that are longer than the buffer are written
+    /// directly.
     pub(crate) fn put<W: Sink>(&mut self, writer: &mut W, bytes: &[u8])
         ensures { Puts W.written W.has_failed writer.old writer.new self.old self.new bytes.now }
     {
@@ -60,7 +62,8 @@ impl Page {
         write_out(writer, bytes);
     }
 
-    /// Sends the page out where it has no room for the beginning of a token's line, a short spelling and the line's end.
+    /// Writes the buffer unless it has capacity for what is before a token's spelling, a short spelling and the line's
+    /// end.
     #[inline(always)]
     pub(crate) fn make_room<W: Sink>(&mut self, writer: &mut W)
         ensures out { Puts W.written W.has_failed writer.old writer.new self.old self.new [] }
@@ -71,7 +74,7 @@ impl Page {
         }
     }
 
-    /// Adds what stands before the spelling of a token.
+    /// Appends what is before the spelling of a token.
     #[inline(always)]
     pub(crate) fn add_beginning(&mut self, head: LineHead)
         requires { length self.old + 73 ≤ 65_536 }
@@ -82,8 +85,9 @@ impl Page {
         self.used = self.line.put(bytes, self.used, head);
     }
 
-    /// Adds the spelling at the front of a room and the end of its line, where all its bytes stand for themselves. All of the room is
-    /// copied, and no branch is on the spelling's length, which nobody can predict.
+    /// Appends the spelling in the first `len` bytes of `room` and the end of its line. Returns false, without effect,
+    /// if a byte of the spelling can't be printed as it is. All bytes of `room` are copied, so that no branch depends
+    /// on the spelling's length, which is hard to predict.
     #[inline(always)]
     pub(crate) fn add_end(&mut self, room: &[u8; 14], len: usize) -> bool
         requires room { length self.old + 15 ≤ 65_536 }
@@ -100,6 +104,7 @@ impl Page {
         true
     }
 
+    /// Appends bytes that fit.
     fn add(&mut self, bytes: &[u8])
         requires { length self.old + length bytes.now ≤ 65_536 }
         ensures { self.new ≡ self.old ++ bytes.now }
@@ -109,7 +114,7 @@ impl Page {
         self.used = end;
     }
 
-    /// Sends out what waits.
+    /// Writes the buffer and empties it.
     #[inline(never)]
     pub(crate) fn send<W: Sink>(&mut self, writer: &mut W)
         ensures out { Puts W.written W.has_failed writer.old writer.new self.old self.new [] }
@@ -120,7 +125,7 @@ impl Page {
     }
 }
 
-/// Writes all bytes, or those that go out before a write fails. Once one has failed, nothing goes out.
+/// Writes all bytes, or a prefix of them if a write fails. After a failed write nothing more is written.
 fn write_out<W: Sink>(writer: &mut W, bytes: &[u8])
     ensures { Puts W.written W.has_failed writer.old writer.new [] [] bytes.now }
 {

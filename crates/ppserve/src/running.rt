@@ -1,4 +1,4 @@
-// The units of a list, by workers over its files.
+//! Runs the units of a list with workers.
 ghost use Rattle.std.specs.Prelude.{◌≡◌, ◌≤◌, [], length, replicate, All, IfOk, None};
 ghost use Rattle.ppshelf.specs.Content.{longest};
 ghost use Rattle.ppshelf.specs.Files.{most_rows, IsFull};
@@ -17,24 +17,25 @@ use ppunit::{Setting, Texts, Unit, UnitOut};
 use std::alloc::Global;
 use std::thread::Threads;
 
-/// How a run goes about its list.
+/// The options of a run.
 #[derive(Clone, Copy)]
 pub struct RunOptions {
     /// What is printed of each unit.
     pub mode: Mode,
-    /// How many units are preprocessed in parallel, 1 to 64.
+    /// The number of workers, which preprocess units in parallel, 1 to 64.
     pub workers: usize,
-    /// The most units that a worker takes at a time, 1 to 1024.
+    /// The largest number of units that a worker claims at a time, 1 to 1024.
     pub block: usize,
-    /// How names are hashed.
+    /// The hash function of names.
     pub hashing: Hashing,
 }
 
-// How often each worker takes units where they are too few for whole blocks.
+/// How often each worker claims units if there are too few for blocks of full size.
 const TURNS: usize = 16;
 
 impl RunOptions {
-    /// How many of a list's units one takes at a time: of a short list fewer than it may, so that all are done at about the same time.
+    /// Returns the number of units that a worker claims at a time. It is small for a short list, so that all workers
+    /// end at about the same time.
     pub(crate) fn share(self, units: usize) -> usize
         requires workers { (1 ≤ self.workers) × (self.workers ≤ 64) }
         requires block { 1 ≤ self.block }
@@ -44,7 +45,7 @@ impl RunOptions {
     }
 }
 
-/// What is needed of answers to print them.
+/// Returns what must be kept of outputs to print them.
 fn needed(mode: Mode) -> Keep
     ensures { result ≡ needed mode }
 {
@@ -54,14 +55,14 @@ fn needed(mode: Mode) -> Keep
     }
 }
 
-/// A gate that lets each unit begin at once.
+/// A gate that never waits.
 pub(crate) struct OpenGate;
 
 impl Gate for OpenGate {
     fn enter(&self, _unit: usize) {}
 }
 
-/// A disk without files. It is never asked, since all rows are filled.
+/// Creates a disk without files. It is never read, since all files are known.
 pub(crate) fn no_disk(alloc: Global) -> MemoryDisk
     ensures { result.files.items ≡ [] }
 {
@@ -70,7 +71,8 @@ pub(crate) fn no_disk(alloc: Global) -> MemoryDisk
     }
 }
 
-/// A shelf of these names, which are in normal form and each once, hashed so, that reads by this profile, to whose rows nothing was moved.
+/// Creates a file table whose contents are unknown. The names must be distinct and in normal form. They are hashed by
+/// `hashing`.
 pub(crate) fn empty_shelf<D: Disk>(
     alloc: Global,
     names: &Texts,
@@ -94,7 +96,7 @@ pub(crate) fn empty_shelf<D: Disk>(
     }
 }
 
-/// A shelf of these names, hashed so, to whose rows the contents are moved, which it reads by this profile.
+/// Creates a file table and moves the contents into it.
 pub(crate) fn filled_shelf(
     alloc: Global,
     names: &Texts,
@@ -116,8 +118,8 @@ pub(crate) fn filled_shelf(
     Ok(shelf)
 }
 
-/// Of each unit, in list order, what is needed of its value over exactly the files of a full shelf. A run tells it over the files that units opened;
-/// over all files it is the same.
+/// Preprocesses the units over a file table whose contents are all known, and returns what is needed of their outputs,
+/// in list order. A run proves them over the files that units opened; over all files they are the same.
 pub(crate) fn over_contents<'a, R: Threads + Sync>(
     threads: &R,
     alloc: Global,
@@ -151,8 +153,8 @@ pub(crate) fn over_contents<'a, R: Threads + Sync>(
     Ok(outs)
 }
 
-/// What is needed of what the units of a batch give over one set of files, each content one that disks of this type may answer for its name, in
-/// their order.
+/// Preprocesses the units of a batch over one set of files, each with a content that the disk may return for its name.
+/// Returns what is needed of their outputs, in list order.
 pub(crate) fn over_disk<'a, R: Threads + Sync, D: Disk + Send + Sync>(
     threads: &R,
     alloc: Global,

@@ -1,4 +1,4 @@
-// From the bytes of a list to the bytes of its output.
+//! Serves a run: from the bytes of a list to the bytes of its output.
 ghost use Rattle.std.specs.Prelude.{◌≡◌, ◌⊎◌, ◌≤◌, ◌≢◌, ℕ, List as ListOf, Option, IfOk, IfErr, IsErrOf, length, true, false};
 ghost use Rattle.ppserve.specs.Contents.{StandIn, MayBe};
 ghost use Rattle.ppserve.specs.Listing.{IsRunnable};
@@ -20,13 +20,13 @@ use std::mem;
 use std::thread::Threads;
 use thiserror::Error;
 
-/// Why a run gave no output, or only a beginning of it.
+/// The error of a run: no output was written, or only a prefix of it.
 #[derive(Debug, Drop, Error)]
 pub enum RunFault {
-    /// What was read is no list: the least number of a refusal that applies.
+    /// The list is refused, with the least number of a refusal that applies.
     #[error("list refused L{0}")]
     List(u8),
-    /// Want of memory.
+    /// An allocation failed.
     #[error("out of memory")]
     Memory,
     /// The reader failed.
@@ -66,16 +66,18 @@ impl From<ListFault> for RunFault {
     }
 }
 
+/// The number of bytes in a read.
 const CHUNK: usize = 65_536;
 
-/// Reads a list that holds its files, runs its units through translation phases 1 to 4 (5.1.1.2), and writes their output once they are all done.
-/// Answers whether some unit has a fault. Where the list has a budget, what a unit gives is what it gives within it: a beginning of what it gives
-/// without, and the whole exactly where the budget suffices. The memory of files and answers isn't given back: the caller is to end next.
+/// Reads a list that holds its files, runs translation phases 1 to 4 (5.1.1.2) of its units, and writes their output
+/// once all are done. Returns whether a unit has a fault. If the list has a budget, the output of a unit is a prefix of
+/// its output without one, and the whole of it exactly if the budget suffices. The memory of files and outputs isn't
+/// freed: the program should exit next.
 ///
 /// # Errors
 ///
-/// `List` with the least number of a refusal that applies, `Read` where the reader fails, and `Memory`: nothing was written. `Write` where the
-/// writer fails: a beginning of the output was written.
+/// `List` with the least number of a refusal that applies, `Read` if the reader fails, and `Memory` if an allocation
+/// fails: nothing was written. `Write` if the writer fails: a prefix of the output was written.
 pub fn serve<T: Threads + Sync, R: Feed, W: Sink>(
     threads: &T,
     alloc: Global,
@@ -100,8 +102,8 @@ pub fn serve<T: Threads + Sync, R: Feed, W: Sink>(
     hand_out_held(threads, alloc, writer, &mut list, options)
 }
 
-/// Preprocesses the units of a list that holds its files by so many workers, and writes their output once they are all done. Answers whether some unit has a
-/// fault. The list's contents are given away.
+/// Preprocesses the units of a list that holds its files, and writes their output once all are done. Returns whether a
+/// unit has a fault. Moves the contents out of the list.
 fn hand_out_held<T: Threads + Sync, W: Sink>(
     threads: &T,
     alloc: Global,
@@ -140,14 +142,15 @@ fn hand_out_held<T: Threads + Sync, W: Sink>(
         units,
         outs.as_slice(),
     );
-    // The program ends next: the system takes memory back at once, where token by token it costs a tenth of a run.
+    // The program exits next: the system frees all memory at once, while freeing each token takes a tenth of a run.
     mem::forget(outs);
     mem::forget(shelf);
     answer
 }
 
-/// Reads a list of names, and does with it what `serve` does; workers read a file from the disk when it is asked for, and the content that
-/// is kept first is the file's for all units. Errors, and what isn't given back, are those of `serve`.
+/// Reads a list of names and does what `serve` does. Workers read a file from the disk when it is first needed, and the
+/// content that is recorded first is the file's content for all units. Errors and memory that isn't freed are those of
+/// `serve`.
 pub fn serve_from<T: Threads + Sync, R: Feed, W: Sink, D: Disk + Send + Sync>(
     threads: &T,
     alloc: Global,
@@ -173,7 +176,8 @@ pub fn serve_from<T: Threads + Sync, R: Feed, W: Sink, D: Disk + Send + Sync>(
     hand_out_from(threads, alloc, writer, disk, &list, options)
 }
 
-/// Preprocesses the units of a list of names by so many workers, and writes their output once they are all done. Answers whether some unit has a fault.
+/// Preprocesses the units of a list of names, and writes their output once all are done. Returns whether a unit has a
+/// fault.
 fn hand_out_from<T: Threads + Sync, W: Sink, D: Disk + Send + Sync>(
     threads: &T,
     alloc: Global,
@@ -219,13 +223,13 @@ fn hand_out_from<T: Threads + Sync, W: Sink, D: Disk + Send + Sync>(
         units,
         outs.as_slice(),
     );
-    // as in `hand_out_held`
+    // As in `hand_out_held`.
     mem::forget(outs);
     mem::forget(shelf);
     answer
 }
 
-/// The list that a reader brings, which holds its files or their names alone. Its bytes are given back once it is read.
+/// Reads a list, with its files or with only their names. Frees its bytes.
 fn receive<R: Feed>(
     alloc: Global,
     reader: &mut R,
@@ -243,7 +247,7 @@ fn receive<R: Feed>(
     Ok(read_list(alloc, bytes.as_slice(), inline, hashing)?)
 }
 
-/// Reads to the end, or until the bytes are too many for a list.
+/// Reads to the end, or until there are more bytes than a list may have.
 fn read_all<R: Feed>(alloc: Global, reader: &mut R) -> Result<Vec<u8>, RunFault>
     ensures ok { IfOk result (λ bytes. Received (R.rest reader.old) (R.rest reader.new) bytes.items) }
     ensures err { IfErr result (λ fault. (fault ≡ OutOfMemory) ⊎ ((fault ≡ ReadFailed) × (R.has_failed reader.new ≡ true))) }
@@ -262,7 +266,7 @@ fn read_all<R: Feed>(alloc: Global, reader: &mut R) -> Result<Vec<u8>, RunFault>
     Ok(bytes)
 }
 
-/// Writes the output of units, and answers whether some unit has a fault.
+/// Writes the output of units. Returns whether a unit has a fault.
 fn hand_out<W: Sink>(
     alloc: Global,
     writer: &mut W,
@@ -286,6 +290,7 @@ fn hand_out<W: Sink>(
     Ok(any_fault(outs))
 }
 
+/// Whether a unit has a fault.
 fn any_fault(outs: &[UnitOut]) -> bool
     ensures { result ≡ some_fault outs.now }
 {

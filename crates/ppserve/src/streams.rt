@@ -1,23 +1,24 @@
-// Where a list's bytes come from, and where its output goes.
+//! The streams of a run: where the bytes of a list come from, and where its output goes.
 ghost use Rattle.std.specs.Prelude.{◌≡◌, [], ◌<◌, ◌≤◌, ℕ, List, Bool, false, Option, Some, length, IfOk, ◌||◌, is_err};
 ghost use Rattle.std.specs.Io.KnownBytes.{ReadConsumes, WriteAppends};
 
 use std::alloc::Global;
 use std::io::{Read, Write};
 
-/// A read or a write failed.
+/// The error of a read or a write.
 #[derive(Clone, Copy, Debug, PartialEq, Eq)]
 pub struct Failed;
 
-/// Bytes that come in.
+/// A source of bytes.
 pub trait Feed {
-    // The bytes that are left, where the feed tells them.
+    // The remaining bytes, if the feed knows them.
     ghost rest: { Self → Option (List ℕ) };
 
     // A read has failed.
     ghost has_failed: { Self → Bool };
 
-    /// Reads some bytes into `buf`, and gives their number, which is 0 only at the end and where `buf` is empty.
+    /// Reads some bytes into `buf`, and returns their number. It is 0 only at the end of the input, or if `buf` is
+    /// empty.
     fn read(&mut self, buf: &mut [u8]) -> Result<usize, Failed>
         ensures bound { IfOk result (λ n. n ≤ length buf.new) }
         ensures bytes { ReadConsumes (rest self.old) (rest self.new) result buf.new }
@@ -28,15 +29,15 @@ pub trait Feed {
         ensures { result ≡ has_failed self.now };
 }
 
-/// Bytes that go out.
+/// A destination of bytes.
 pub trait Sink {
-    // The bytes that went out, where the sink tells them.
+    // The bytes that were written, if the sink knows them.
     ghost written: { Self → Option (List ℕ) };
 
     // A write has failed.
     ghost has_failed: { Self → Bool };
 
-    /// Writes a front of these bytes, and gives its length, which is 0 only where there are none.
+    /// Writes a prefix of the bytes, and returns its length. It is 0 only if there are no bytes.
     fn write(&mut self, bytes: &[u8]) -> Result<usize, Failed>
         ensures bound { IfOk result (λ n. n ≤ length bytes.now) }
         ensures progress { IfOk result (λ n. 0 < length bytes.now → 0 < n) }
@@ -48,14 +49,14 @@ pub trait Sink {
         ensures { result ≡ has_failed self.now };
 }
 
-/// A feed of bytes in memory, which never fails.
+/// A feed of bytes in memory. It never fails.
 #[derive(Drop)]
 pub struct SliceFeed<'a> {
     bytes: &'a [u8],
 }
 
 impl<'a> SliceFeed<'a> {
-    /// A feed of these bytes.
+    /// Creates a feed of these bytes.
     pub fn new(bytes: &'a [u8]) -> SliceFeed<'a>
         ensures rest { ⟦<SliceFeed<'a> as Feed>⟧.rest result ≡ Some bytes.entry.now }
         ensures unfailed { ⟦<SliceFeed<'a> as Feed>⟧.has_failed result ≡ false }
@@ -82,7 +83,7 @@ impl Feed for SliceFeed<'_> {
     }
 }
 
-/// A sink that keeps all bytes in memory, and fails only where there is none left.
+/// A sink that keeps all bytes in memory. It fails only if an allocation fails.
 #[derive(Drop)]
 pub struct VecSink {
     bytes: Vec<u8>,
@@ -90,7 +91,7 @@ pub struct VecSink {
 }
 
 impl VecSink {
-    /// A sink without bytes.
+    /// Creates an empty sink.
     pub fn new(alloc: Global) -> VecSink
         ensures written { ⟦<VecSink as Sink>⟧.written result ≡ Some [] }
         ensures unfailed { ⟦<VecSink as Sink>⟧.has_failed result ≡ false }
@@ -101,14 +102,14 @@ impl VecSink {
         }
     }
 
-    /// The bytes that went out.
+    /// Borrows the bytes that were written.
     pub fn bytes(&self) -> &[u8]
         ensures { ⟦<VecSink as Sink>⟧.written self.now ≡ Some result.now }
     {
         self.bytes.as_slice()
     }
 
-    /// The bytes that went out, in a vector.
+    /// Returns the bytes that were written.
     pub fn into_bytes(self) -> Vec<u8>
         ensures { ⟦<VecSink as Sink>⟧.written self ≡ Some result.items }
     {
@@ -134,7 +135,7 @@ impl Sink for VecSink {
     }
 }
 
-/// A feed over a reader, whose bytes are those that the reader tells. Any error of the reader is a failure.
+/// A feed that reads from a reader. Every error of the reader is a failure.
 #[derive(Drop)]
 pub struct ReaderFeed<R> {
     reader: R,
@@ -142,7 +143,7 @@ pub struct ReaderFeed<R> {
 }
 
 impl<R: Read + Drop> ReaderFeed<R> {
-    /// A feed of what the reader gives.
+    /// Creates a feed that reads from `reader`.
     pub fn new(reader: R) -> ReaderFeed<R>
         ensures rest { ⟦<ReaderFeed<R> as Feed>⟧.rest result ≡ R.remaining reader }
         ensures unfailed { ⟦<ReaderFeed<R> as Feed>⟧.has_failed result ≡ false }
@@ -172,7 +173,7 @@ impl<R: Read + Drop> Feed for ReaderFeed<R> {
     }
 }
 
-/// A sink over a writer, whose bytes are those that the writer tells. Any error of the writer is a failure, and so is a write that takes nothing.
+/// A sink that writes to a writer. Every error of the writer is a failure, and so is a write of no bytes.
 #[derive(Drop)]
 pub struct WriterSink<W> {
     writer: W,
@@ -180,7 +181,7 @@ pub struct WriterSink<W> {
 }
 
 impl<W: Write + Drop> WriterSink<W> {
-    /// A sink into the writer.
+    /// Creates a sink that writes to `writer`.
     pub fn new(writer: W) -> WriterSink<W>
         ensures written { ⟦<WriterSink<W> as Sink>⟧.written result ≡ W.contents writer }
         ensures unfailed { ⟦<WriterSink<W> as Sink>⟧.has_failed result ≡ false }

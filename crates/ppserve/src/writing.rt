@@ -1,12 +1,11 @@
-// Text that is put behind the first bytes of a slice, by functions that give where it ends; and how many bytes of a short spelling stand for
-// themselves.
+//! Formats numbers and bytes into a slice, after its first `end` bytes. The functions return where the text ends.
 ghost use Rattle.std.specs.Prelude.{◌≡◌, ◌+◌, ◌/◌, ◌%◌, ◌<◌, ◌≤◌, ◌∷◌, ◌++◌, [], decimal, length, take};
 ghost use Rattle.ppserve.specs.Lines.{PlainBetween, first_set};
 
 use std::marker::Model;
 use std::simd::prelude::*;
 
-/// Puts a byte.
+/// Writes a byte.
 #[inline(always)]
 pub(crate) fn put_byte(bytes: &mut [u8], end: usize, byte: u8) -> usize
     requires { end < length bytes.old }
@@ -17,7 +16,7 @@ pub(crate) fn put_byte(bytes: &mut [u8], end: usize, byte: u8) -> usize
     end + 1
 }
 
-/// Puts the first `len` bytes of a text. All its bytes are copied, since a copy of one length is quicker than one of many.
+/// Writes the first `len` bytes of a text. Copies all of its bytes, since a copy of constant length is faster.
 #[inline(always)]
 pub(crate) fn put_front<const N: usize>(
     bytes: &mut [u8],
@@ -35,8 +34,8 @@ pub(crate) fn put_front<const N: usize>(
     end + len
 }
 
-/// The decimal of a number below 100: the first so many of two bytes, so that both can be written in either case, since a branch on the
-/// number's length is often mispredicted.
+/// The decimal digits of a number below 100, in the first `len` of two bytes. Both bytes are always written, since a
+/// branch on the length is often mispredicted.
 #[derive(Drop)]
 pub(crate) struct Digits {
     first: u8,
@@ -55,7 +54,7 @@ impl Model for Digits {
 }
 
 impl Digits {
-    /// Of a number below 100.
+    /// Returns the digits of a number below 100.
     #[inline(always)]
     pub(crate) fn of(number: u32) -> Digits
         requires { number < 100 }
@@ -70,7 +69,7 @@ impl Digits {
         }
     }
 
-    /// Puts them.
+    /// Writes the digits.
     #[inline(always)]
     pub(crate) fn put(&self, bytes: &mut [u8], end: usize) -> usize
         requires { end + 2 ≤ length bytes.old }
@@ -84,7 +83,7 @@ impl Digits {
     }
 }
 
-/// Puts the two last digits of a number.
+/// Writes the two last digits of a number.
 #[inline(always)]
 fn put_pair(bytes: &mut [u8], end: usize, number: u32) -> usize
     requires { end + 2 ≤ length bytes.old }
@@ -95,7 +94,7 @@ fn put_pair(bytes: &mut [u8], end: usize, number: u32) -> usize
     put_byte(bytes, end, b'0' + (number % 10) as u8)
 }
 
-/// Puts a number of at least 100 in decimal.
+/// Writes a number of at least 100 in decimal.
 #[inline(never)]
 fn put_large(bytes: &mut [u8], end: usize, number: u32) -> usize
     requires large { 100 ≤ number }
@@ -111,7 +110,7 @@ fn put_large(bytes: &mut [u8], end: usize, number: u32) -> usize
     put_pair(bytes, end, number)
 }
 
-/// Puts a number in decimal, where there is room for the ten digits that it may have.
+/// Writes a number in decimal. The slice must have capacity for ten digits.
 #[inline(always)]
 pub(crate) fn put_number(bytes: &mut [u8], end: usize, number: u32) -> usize
     requires { end + 10 ≤ length bytes.old }
@@ -124,7 +123,7 @@ pub(crate) fn put_number(bytes: &mut [u8], end: usize, number: u32) -> usize
     put_large(bytes, end, number)
 }
 
-/// How many of the bytes of a room, from the first on, stand for themselves, by two loads that overlap.
+/// Returns the length of the longest prefix of 14 bytes that is printed as it is, from two overlapping loads.
 #[inline(always)]
 pub(crate) fn plain_front(room: &[u8; 14]) -> usize
     ensures { PlainBetween room.now 0 result }
@@ -133,7 +132,7 @@ pub(crate) fn plain_front(room: &[u8; 14]) -> usize
     if front < 8 { front } else { 6 + back }
 }
 
-/// How many of the eight bytes from a place on stand for themselves, before one does not.
+/// Returns how many of the eight bytes from `at` on are printed as they are, before the first that isn't.
 #[inline(always)]
 fn plain_run(bytes: &[u8], at: usize) -> usize
     requires { at + 8 ≤ length bytes.now }
@@ -147,7 +146,7 @@ fn plain_run(bytes: &[u8], at: usize) -> usize
     first_set(others.to_bitmask())
 }
 
-/// The place of the first bit of eight that is set, or 8.
+/// Returns the index of the lowest bit of eight that is set, or 8.
 #[inline(always)]
 fn first_set(mask: u64) -> usize
     ensures { result ≡ first_set mask }

@@ -1,4 +1,4 @@
-// A list as it stands in JSON, before its names and times are judged.
+//! Drafts: a list as it is written in JSON, before it is validated.
 ghost use Rattle.std.specs.Prelude.{◌≡◌, Some, None, IfOk, IfErr, codes, map, option_and_then, ◌<◌, IfSome};
 ghost use Rattle.serde_json.specs.Find.{as_str};
 ghost use Rattle.serde_json.specs.View.{view, members_view, items_view};
@@ -13,7 +13,7 @@ use serde_json::{Map, Value};
 use std::alloc::Global;
 use std::marker::Model;
 
-/// A file of a list as it stands.
+/// The draft of a file.
 #[derive(Drop)]
 pub(super) struct DraftFile {
     pub(super) name: Text,
@@ -28,7 +28,7 @@ impl Model for DraftFile {
     ghost view = { λ f. record { name = f.name; content = f.content } };
 }
 
-/// A unit of a list as it stands, with the name of its file.
+/// The draft of a unit, with the name of its file.
 #[derive(Drop)]
 pub(super) struct DraftUnit {
     pub(super) file: Text,
@@ -47,15 +47,15 @@ impl Model for DraftUnit {
 /// How a list's budget is written.
 #[derive(Drop)]
 pub(super) enum WrittenBudget {
-    /// The list has none.
+    /// The list has no budget.
     Missing,
-    /// A whole number of 64 bits without a sign.
+    /// An unsigned integer of 64 bits.
     Whole(u64),
-    /// Another number: one below 0, a fraction, or one that is too large.
+    /// Another number: a negative one, a fraction, or one that is too large.
     Other,
 }
 
-/// A list's budget as it stands.
+/// The draft of a list's budget.
 #[derive(Drop)]
 pub(super) struct DraftBudget {
     pub(super) written: WrittenBudget,
@@ -70,7 +70,7 @@ impl Model for DraftBudget {
     ghost view = { λ b. elim b.written [ Missing ↦ drafts.Missing | Whole n ↦ drafts.Whole n | Other ↦ drafts.Other ] };
 }
 
-/// What all units share as it stands, with the text of the profile.
+/// The draft of a setting, with the name of the profile.
 #[derive(Drop)]
 pub(super) struct DraftSetting {
     pub(super) profile: Text,
@@ -94,7 +94,7 @@ impl Model for DraftSetting {
     } };
 }
 
-/// A list as it stands.
+/// The draft of a list.
 #[derive(Drop)]
 pub(super) struct Draft {
     pub(super) setting: DraftSetting,
@@ -110,11 +110,11 @@ impl Model for Draft {
     ghost view = { λ d. record { setting = d.setting; files = d.files; units = d.units } };
 }
 
-/// The list as it stands.
+/// Reads the draft of a list.
 ///
 /// # Errors
 ///
-/// `Bad(2)` where a member is missing, unknown or of another shape, and `Memory`.
+/// `Bad(2)` if a member is missing, unknown or of the wrong type, and `Memory`.
 pub(super) fn draft_of(alloc: Global, value: &Value, inline: bool) -> Result<Draft, ListFault>
     ensures ok { IfOk result (λ d. drafting.draft inline (view value.now) ≡ Some d) }
     ensures err { IfErr result (RefusedFor 2 (drafting.draft inline (view value.now) ≡ None)) }
@@ -137,6 +137,7 @@ pub(super) fn draft_of(alloc: Global, value: &Value, inline: bool) -> Result<Dra
     })
 }
 
+/// Reads the draft of a setting.
 fn setting_of(alloc: Global, value: &Value) -> Result<DraftSetting, ListFault>
     ensures ok { IfOk result (λ s. drafting.draft_setting (view value.now) ≡ Some s) }
     ensures err { IfErr result (RefusedFor 2 (drafting.draft_setting (view value.now) ≡ None)) }
@@ -155,7 +156,7 @@ fn setting_of(alloc: Global, value: &Value) -> Result<DraftSetting, ListFault>
     })
 }
 
-/// The text of the profile, which is `c11` where it is missing.
+/// Reads the name of the profile. It is `c11` if the member is missing.
 fn profile_at(alloc: Global, value: &Value) -> Result<Text, ListFault>
     ensures ok { IfOk result (λ t. drafting.profile_at (view value.now) ≡ Some t) }
     ensures err { IfErr result (RefusedFor 2 (drafting.profile_at (view value.now) ≡ None)) }
@@ -167,7 +168,7 @@ fn profile_at(alloc: Global, value: &Value) -> Result<Text, ListFault>
     Ok(Text::new(String::from_str(alloc, text)?))
 }
 
-/// The budget, a number, or that it is missing.
+/// Reads the budget: a number, or none if the member is missing.
 fn budget_at(value: &Value) -> Result<DraftBudget, ListFault>
     ensures ok { IfOk result (λ b. drafting.budget_at (view value.now) ≡ Some b) }
     ensures err { IfErr result (RefusedFor 2 (drafting.budget_at (view value.now) ≡ None)) }
@@ -187,6 +188,7 @@ fn budget_at(value: &Value) -> Result<DraftBudget, ListFault>
     Ok(DraftBudget { written })
 }
 
+/// Returns a string.
 fn text_of(value: &Value) -> Result<&str, ListFault>
     ensures ok { IfOk result (λ t. as_str (view value.now) ≡ Some t.now) }
     ensures err { IfErr result (RefusedFor 2 (as_str (view value.now) ≡ None)) }
@@ -197,6 +199,7 @@ fn text_of(value: &Value) -> Result<&str, ListFault>
     }
 }
 
+/// Reads the drafts of the files.
 fn files_of(alloc: Global, value: &Value, inline: bool) -> Result<Sequence<DraftFile>, ListFault>
     ensures ok { IfOk result (λ fs. drafting.array_at (drafting.draft_file inline) (codes "files") (view value.now) ≡ Some fs) }
     ensures err { IfErr result (RefusedFor 2 (drafting.array_at (drafting.draft_file inline) (codes "files") (view value.now) ≡ None)) }
@@ -210,6 +213,7 @@ fn files_of(alloc: Global, value: &Value, inline: bool) -> Result<Sequence<Draft
     files_from(alloc, items.as_slice(), inline)
 }
 
+/// Reads the drafts of files.
 fn files_from(
     alloc: Global,
     items: &[Value],
@@ -225,6 +229,7 @@ fn files_from(
     Ok(Sequence::new(files))
 }
 
+/// Reads the draft of a file.
 fn file_from(alloc: Global, value: &Value, inline: bool) -> Result<DraftFile, ListFault>
     ensures ok { IfOk result (λ f. drafting.draft_file inline (view value.now) ≡ Some f) }
     ensures err { IfErr result (RefusedFor 2 (drafting.draft_file inline (view value.now) ≡ None)) }
@@ -237,6 +242,7 @@ fn file_from(alloc: Global, value: &Value, inline: bool) -> Result<DraftFile, Li
     Ok(DraftFile { name, content })
 }
 
+/// Whether the value is an object that has only members of a file.
 fn is_file_object(value: &Value, inline: bool) -> bool
     ensures { result ≡ shape.is_object_of (shape.file_members inline) (view value.now) }
 {
@@ -247,7 +253,7 @@ fn is_file_object(value: &Value, inline: bool) -> bool
     }
 }
 
-/// The content of a file by exactly one of `text` and `hex`, or nothing where lists hold no contents.
+/// Reads the content of a file from exactly one of `text` and `hex`. It is empty if the list holds no contents.
 fn content_of(alloc: Global, value: &Value, inline: bool) -> Result<Sequence<u8>, ListFault>
     ensures ok { IfOk result (λ c. drafting.content_of inline (view value.now) ≡ Some c) }
     ensures err { IfErr result (RefusedFor 2 (drafting.content_of inline (view value.now) ≡ None)) }
@@ -262,6 +268,7 @@ fn content_of(alloc: Global, value: &Value, inline: bool) -> Result<Sequence<u8>
     }
 }
 
+/// Reads a content from `text`.
 fn plain_content(alloc: Global, value: &Value) -> Result<Sequence<u8>, ListFault>
     ensures ok { IfOk result (λ c. as_str (view value.now) ≡ Some c) }
     ensures err { IfErr result (RefusedFor 2 (as_str (view value.now) ≡ None)) }
@@ -270,6 +277,7 @@ fn plain_content(alloc: Global, value: &Value) -> Result<Sequence<u8>, ListFault
     Ok(Sequence::new(Vec::from_slice(alloc, text.as_bytes())?))
 }
 
+/// Reads a content from `hex`.
 fn hex_content(alloc: Global, value: &Value) -> Result<Sequence<u8>, ListFault>
     ensures ok { IfOk result (λ c. option_and_then shape.hex_bytes (as_str (view value.now)) ≡ Some c) }
     ensures err { IfErr result (RefusedFor 2 (option_and_then shape.hex_bytes (as_str (view value.now)) ≡ None)) }
@@ -278,6 +286,7 @@ fn hex_content(alloc: Global, value: &Value) -> Result<Sequence<u8>, ListFault>
     hex_bytes(alloc, text.as_bytes())
 }
 
+/// Reads the drafts of the units.
 fn units_of(alloc: Global, value: &Value) -> Result<Sequence<DraftUnit>, ListFault>
     ensures ok { IfOk result (λ us. drafting.array_at drafting.draft_unit (codes "units") (view value.now) ≡ Some us) }
     ensures err { IfErr result (RefusedFor 2 (drafting.array_at drafting.draft_unit (codes "units") (view value.now) ≡ None)) }
@@ -291,6 +300,7 @@ fn units_of(alloc: Global, value: &Value) -> Result<Sequence<DraftUnit>, ListFau
     units_from(alloc, items.as_slice())
 }
 
+/// Reads the drafts of units.
 fn units_from(alloc: Global, items: &[Value]) -> Result<Sequence<DraftUnit>, ListFault>
     ensures ok { IfOk result (λ us. drafting.each_item drafting.draft_unit (items_view items.now) ≡ Some us) }
     ensures err { IfErr result (RefusedFor 2 (drafting.each_item drafting.draft_unit (items_view items.now) ≡ None)) }
@@ -302,6 +312,7 @@ fn units_from(alloc: Global, items: &[Value]) -> Result<Sequence<DraftUnit>, Lis
     Ok(Sequence::new(units))
 }
 
+/// Reads the draft of a unit.
 fn unit_from(alloc: Global, value: &Value) -> Result<DraftUnit, ListFault>
     ensures ok { IfOk result (λ u. drafting.draft_unit (view value.now) ≡ Some u) }
     ensures err { IfErr result (RefusedFor 2 (drafting.draft_unit (view value.now) ≡ None)) }
@@ -319,6 +330,7 @@ fn unit_from(alloc: Global, value: &Value) -> Result<DraftUnit, ListFault>
     })
 }
 
+/// Reads a member that is a string.
 fn text_at(alloc: Global, value: &Value, name: &str) -> Result<Text, ListFault>
     ensures ok { IfOk result (λ t. drafting.text_at name.now (view value.now) ≡ Some t) }
     ensures err { IfErr result (RefusedFor 2 (drafting.text_at name.now (view value.now) ≡ None)) }
@@ -329,7 +341,7 @@ fn text_at(alloc: Global, value: &Value, name: &str) -> Result<Text, ListFault>
     Ok(Text::new(String::from_str(alloc, text)?))
 }
 
-/// The texts of an array, and none where it is missing.
+/// Reads a member that is an array of strings. It is empty if the member is missing.
 fn texts_at(alloc: Global, value: &Value, name: &str) -> Result<Texts, ListFault>
     ensures ok { IfOk result (λ ts. drafting.texts_at name.now (view value.now) ≡ Some ts) }
     ensures err { IfErr result (RefusedFor 2 (drafting.texts_at name.now (view value.now) ≡ None)) }
@@ -340,6 +352,7 @@ fn texts_at(alloc: Global, value: &Value, name: &str) -> Result<Texts, ListFault
     }
 }
 
+/// Reads an array of strings.
 fn texts_of(alloc: Global, array: &Value) -> Result<Texts, ListFault>
     ensures ok { IfOk result (λ ts. drafting.each_of as_str (view array.now) ≡ Some ts) }
     ensures err { IfErr result (RefusedFor 2 (drafting.each_of as_str (view array.now) ≡ None)) }
@@ -350,6 +363,7 @@ fn texts_of(alloc: Global, array: &Value) -> Result<Texts, ListFault>
     texts_from(alloc, items.as_slice())
 }
 
+/// Reads strings.
 fn texts_from(alloc: Global, items: &[Value]) -> Result<Texts, ListFault>
     ensures ok { IfOk result (λ ts. drafting.each_item as_str (items_view items.now) ≡ Some ts) }
     ensures err { IfErr result (RefusedFor 2 (drafting.each_item as_str (items_view items.now) ≡ None)) }
@@ -362,7 +376,7 @@ fn texts_from(alloc: Global, items: &[Value]) -> Result<Texts, ListFault>
     Ok(Texts::new(texts))
 }
 
-/// Whether the value is an object with no other members than these.
+/// Whether the value is an object that has no members but these.
 fn is_object_of(value: &Value, names: &[&str]) -> bool
     ensures { result ≡ shape.is_object_of (map (λ n. n.now) names.now) (view value.now) }
 {
@@ -372,19 +386,21 @@ fn is_object_of(value: &Value, names: &[&str]) -> bool
     }
 }
 
+/// Whether the names of all members are among `names`.
 fn has_only(members: &Map<String, Value>, names: &[&str]) -> bool
     ensures { result ≡ shape.has_only (map (λ n. n.now) names.now) (members_view members.now.entries) }
 {
     members.keys().all(|key| is_among(key.as_str(), names))
 }
 
+/// Whether the text is one of `names`.
 fn is_among(text: &str, names: &[&str]) -> bool
     ensures { result ≡ shape.has_text text.now (map (λ n. n.now) names.now) }
 {
     names.iter().any(|name| text == *name)
 }
 
-/// The bytes that pairs of hexadecimal digits spell.
+/// Decodes pairs of hexadecimal digits.
 fn hex_bytes(alloc: Global, text: &[u8]) -> Result<Sequence<u8>, ListFault>
     ensures ok { IfOk result (λ bytes. shape.hex_bytes text.now ≡ Some bytes) }
     ensures err { IfErr result (RefusedFor 2 (shape.hex_bytes text.now ≡ None)) }
@@ -404,6 +420,7 @@ fn hex_bytes(alloc: Global, text: &[u8]) -> Result<Sequence<u8>, ListFault>
     Ok(Sequence::new(bytes))
 }
 
+/// Decodes a pair of hexadecimal digits.
 fn hex_byte(high: u8, low: u8) -> Option<u8>
     ensures { result ≡ shape.hex_byte high low }
 {
@@ -412,6 +429,7 @@ fn hex_byte(high: u8, low: u8) -> Option<u8>
     Some(high * 16 + low)
 }
 
+/// Returns the value of a hexadecimal digit, with letters in lower case.
 fn hex_value(digit: u8) -> Option<u8>
     ensures value { result ≡ shape.hex_value digit }
     ensures small { IfSome result (λ n. n < 16) }

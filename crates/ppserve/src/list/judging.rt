@@ -1,4 +1,4 @@
-// The judgement of a list's names, sizes and texts.
+//! Validates the names, sizes and texts of a list.
 ghost use Rattle.std.specs.Prelude.{◌≡◌, ◌≤◌, ℕ, Bool, IfOk, IfErr, OnOk, IsErrOf, true, false, [], map, length, nat_le, if◌then◌else◌};
 ghost use Rattle.std.specs.List.{list_all};
 ghost use Rattle.ppshelf.specs.Content.{longest};
@@ -16,15 +16,16 @@ use pptext::{Hashing, Memory, Profile, Sequence};
 use ppunit::{Definitions, Setting, Texts, Unit, fits_command, is_date, is_one_line, is_time};
 use std::alloc::{AllocError, Global};
 
-/// The most that a list may allow each unit.
+/// The largest budget of a list.
 const MOST_BUDGET: u64 = 4_294_967_295;
 
-/// The list of a draft. Names are hashed so.
+/// Validates a draft. File names are hashed by `hashing`.
 ///
 /// # Errors
 ///
-/// `Bad` with the least number that applies: 3 for a name, 4 for a number or a size, 5 for the file of a unit, 6
-/// for the date or the time, 7 for a definition, 8 for a folder, 9 for the profile and 10 for the budget; and `Memory`.
+/// `Bad` with the least number that applies: 3 for a file name, 4 for a number or a size, 5 for the file of a unit, 6
+/// for the date or the time, 7 for a definition, 8 for a directory, 9 for the profile and 10 for the budget; and
+/// `Memory`.
 pub(super) fn judge(
     alloc: Global,
     draft: Draft,
@@ -40,7 +41,7 @@ pub(super) fn judge(
     }
 }
 
-/// The rows of the files' names, and the profile of a draft that is not refused.
+/// Returns the indices of the file names and the profile, unless the draft is refused.
 fn rows_and_profile(
     alloc: Global,
     draft: &Draft,
@@ -59,7 +60,7 @@ fn rows_and_profile(
     }
 }
 
-/// The profile of a draft whose names hold, or the number of its refusal.
+/// Returns the profile of a draft with valid file names, or the number of its refusal.
 fn sound_profile(draft: &Draft, index: &Index) -> Result<Profile, u8>
     requires names { index.now.names ≡ spec.names_of draft.now.files }
     requires hold { spec.names_hold draft.now.files ≡ true }
@@ -77,7 +78,8 @@ fn sound_profile(draft: &Draft, index: &Index) -> Result<Profile, u8>
     profile_behind_texts(draft)
 }
 
-/// The same of a draft whose names, sizes and units' files hold: its date and time, definitions and folders are next.
+/// Returns the profile of a draft with valid file names, sizes and unit files, or the number of its refusal. Checks the
+/// date and the time, definitions and directories first.
 fn profile_behind_texts(draft: &Draft) -> Result<Profile, u8>
     ensures profile { IfOk result (λ p. p ≡ spec.profile_of draft.now.setting) }
     ensures ok { OnOk result ((inline : Bool) → judged_texts inline draft.now ≡ accepted (spec.listed inline draft.now)) }
@@ -95,7 +97,7 @@ fn profile_behind_texts(draft: &Draft) -> Result<Profile, u8>
     chosen_profile(draft)
 }
 
-/// The same of a draft whose texts hold as well: its profile and its budget are left.
+/// Returns the profile of a draft with valid texts, or the number of its refusal. Checks the profile and the budget.
 fn chosen_profile(draft: &Draft) -> Result<Profile, u8>
     ensures profile { IfOk result (λ p. p ≡ spec.profile_of draft.now.setting) }
     ensures ok { OnOk result ((inline : Bool) → judged_choices inline draft.now ≡ accepted (spec.listed inline draft.now)) }
@@ -110,11 +112,11 @@ fn chosen_profile(draft: &Draft) -> Result<Profile, u8>
     Ok(profile)
 }
 
-/// The rows of the files' names.
+/// Returns the indices of the file names.
 ///
 /// # Errors
 ///
-/// `Bad(3)` where a name is out of form or stands twice, and `Memory`.
+/// `Bad(3)` if a name isn't in normal form or occurs twice, and `Memory`.
 fn index_files(alloc: Global, files: &[DraftFile], hashing: Hashing) -> Result<Index, ListFault>
     ensures all { IfOk result (λ i. i.names ≡ spec.names_of files.now) }
     ensures ok { OnOk result (spec.names_hold files.now ≡ true) }
@@ -134,6 +136,7 @@ fn index_files(alloc: Global, files: &[DraftFile], hashing: Hashing) -> Result<I
     Ok(index)
 }
 
+/// Whether there are at most 65,535 files and units, and no content or definitions are too large.
 fn sizes_hold(draft: &Draft) -> bool
     ensures { result ≡ spec.sizes_hold draft.now }
 {
@@ -145,6 +148,7 @@ fn sizes_hold(draft: &Draft) -> bool
         && commands_fit(units)
 }
 
+/// Whether no content is too large.
 fn contents_fit(files: &[DraftFile]) -> bool
     ensures { result ≡ spec.contents_fit files.now }
 {
@@ -153,19 +157,21 @@ fn contents_fit(files: &[DraftFile]) -> bool
         .all(|file| file.content.as_slice().len() <= LONGEST)
 }
 
+/// Whether the definitions of no unit are too large.
 fn commands_fit(units: &[DraftUnit]) -> bool
     ensures { result ≡ spec.commands_fit units.now }
 {
     units.iter().all(|unit| command_fits(&unit.defines))
 }
 
+/// Whether the definitions of a unit aren't too large.
 fn command_fits(defines: &Texts) -> bool
     ensures { result ≡ nat_le (length (command_text defines.now)) longest }
 {
     fits_command(defines.as_slice())
 }
 
-/// The profile that a text names.
+/// Returns the profile with this name.
 fn profile_named(text: &str) -> Option<Profile>
     ensures { result ≡ spec.profile_named text.now }
 {
@@ -177,7 +183,7 @@ fn profile_named(text: &str) -> Option<Profile>
     }
 }
 
-/// Whether a list may have this budget: none, or a whole number of at most 32 bits.
+/// Whether a list may have this budget: none, or an integer of at most 32 bits.
 fn is_budget(budget: &DraftBudget) -> bool
     ensures { result ≡ spec.is_budget budget.now }
 {
@@ -188,7 +194,7 @@ fn is_budget(budget: &DraftBudget) -> bool
     }
 }
 
-/// What the list allows each unit, if it says so.
+/// Returns the budget of each unit, if there is one.
 fn budget_of(budget: DraftBudget) -> Option<u64>
     ensures { result ≡ spec.budget_of budget }
 {
@@ -198,7 +204,7 @@ fn budget_of(budget: DraftBudget) -> Option<u64>
     }
 }
 
-/// The list of a draft, whose names have these places. The definitions of its units are read by the profile.
+/// Builds the list of a valid draft. The definitions of its units are read with the profile.
 fn listed(
     alloc: Global,
     draft: Draft,
@@ -227,6 +233,7 @@ fn listed(
     })
 }
 
+/// Builds the setting of a valid draft.
 fn listed_setting(draft: DraftSetting, profile: Profile) -> Setting
     requires { profile ≡ spec.profile_of draft }
     ensures { result ≡ spec.listed_setting draft }
@@ -247,6 +254,7 @@ fn listed_setting(draft: DraftSetting, profile: Profile) -> Setting
     }
 }
 
+/// Builds the units of a valid draft.
 fn listed_units(
     alloc: Global,
     index: &Index,
@@ -266,12 +274,14 @@ fn listed_units(
     Ok(Units::new(listed))
 }
 
+/// Whether the file of each unit is among the names.
 fn files_are_known(index: &Index, units: &[DraftUnit]) -> bool
     ensures { result ≡ spec.are_known index.now.names units.now }
 {
     units.iter().all(|unit| index.row_of(unit.file.as_str().as_bytes()).is_some())
 }
 
+/// Builds a unit of a valid draft.
 fn listed_unit(
     alloc: Global,
     index: &Index,
@@ -293,7 +303,7 @@ fn listed_unit(
     })
 }
 
-/// The names of the files, and their contents where lists hold them.
+/// Returns the names of the files, and their contents if the list holds them.
 fn split_files(
     alloc: Global,
     files: Sequence<DraftFile>,
@@ -314,18 +324,21 @@ fn split_files(
     Ok((Texts::new(names), Contents::new(contents)))
 }
 
+/// Whether date and time have their formats.
 fn times_hold(setting: &DraftSetting) -> bool
     ensures { result ≡ spec.times_hold setting.now }
 {
     is_date(setting.date.as_str().as_bytes()) && is_time(setting.time.as_str().as_bytes())
 }
 
+/// Whether each definition of each unit is one line.
 fn lines_hold(units: &[DraftUnit]) -> bool
     ensures { result ≡ spec.lines_hold units.now }
 {
     units.iter().all(|unit| are_lines(&unit.defines))
 }
 
+/// Whether each text is one line.
 fn are_lines(texts: &Texts) -> bool
     ensures { result ≡ list_all form.is_one_line texts.now }
 {
@@ -335,18 +348,21 @@ fn are_lines(texts: &Texts) -> bool
         .all(|text| is_one_line(text.as_bytes()))
 }
 
+/// Whether all search paths are directory names.
 fn folders_hold(draft: &Draft) -> bool
     ensures { result ≡ spec.folders_hold draft.now }
 {
     are_folders(&draft.setting.search) && units_search_folders(draft.units.as_slice())
 }
 
+/// Whether the search paths of all units are directory names.
 fn units_search_folders(units: &[DraftUnit]) -> bool
     ensures { result ≡ list_all (λ u. list_all shelf_spec.is_folder u.search) units.now }
 {
     units.iter().all(|unit| are_folders(&unit.search))
 }
 
+/// Whether all texts are directory names.
 fn are_folders(texts: &Texts) -> bool
     ensures { result ≡ list_all shelf_spec.is_folder texts.now }
 {
