@@ -1,4 +1,4 @@
--- The lemmas of this crate, by file; the proofs of its functions stand in a folder for each file of the sources.
+-- The lemmas of this crate, by file; the proofs of its functions stand in a directory for each file of the sources.
 
 -- Totals over the views, and how often a number stands in a list.
 pub mod Totals

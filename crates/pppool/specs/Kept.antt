@@ -1,4 +1,4 @@
--- What is kept of the units' answers.
+-- What is kept of the units' outputs.
 use Rattle.std.specs.Prelude.{◌≡◌, ℕ, List, [], map}
 use Rattle.ppshelf.specs.Files.{Files}
 use Rattle.ppunit.specs.declared.units.Unit.{Unit as UnitOfList}
@@ -9,11 +9,11 @@ use Rattle.ppunit.specs.Units.{AreUnits, AreWithin, AreCapped}
 use Rattle.pppool.specs.declared.keeping.Keep.{Keep}
 use Rattle.pppool.specs.declared.keeping.Keep.TheVariants.{Whole, Bare}
 
--- an answer without its items
+-- an output without its items
 abbrev pub bare : UnitOut → UnitOut
 bare out = record { items = []; deps = out.deps; fault = out.fault }
 
--- what is kept of an answer
+-- what is kept of an output
 abbrev pub kept : Keep → UnitOut → UnitOut
 kept Whole out = out
 kept Bare out = bare out
@@ -24,20 +24,20 @@ pub record IsKept (keep : Keep) (names : List (List ℕ)) (files : Files) (setti
   pub value : IsUnit names files setting unit whole
   pub same : out ≡ kept keep whole
 
--- these are what is kept of the units' values over these files, in order, each once
+-- these are what is kept of the units' values over these files, in order
 pub record AreKept (keep : Keep) (names : List (List ℕ)) (files : Files) (setting : Setting)
     (units : List UnitOfList) (outs : List UnitOut) : Type 0 where
   pub wholes : List UnitOut
   pub values : AreUnits names files setting units wholes
   pub same : outs ≡ map (kept keep) wholes
 
--- these are what is kept of the units' values, each of which replaces and opens no more than the budget allows
+-- these are what is kept of the units' values, each of which takes at most the budget's replacements and opened files
 pub record AreKeptWithin (keep : Keep) (names : List (List ℕ)) (files : Files) (setting : Setting)
     (units : List UnitOfList) (outs : List UnitOut) : Type 0 where
   pub kept : AreKept keep names files setting units outs
   pub within : AreWithin names files setting units kept.wholes
 
--- these are what is kept of the units' values, each of which is what its unit gives within the budget
+-- these are what is kept of the units' values, each of which is what the budget leaves of the unit's value without one
 pub record AreKeptCapped (keep : Keep) (names : List (List ℕ)) (files : Files) (setting : Setting)
     (units : List UnitOfList) (outs : List UnitOut) : Type 0 where
   pub kept : AreKept keep names files setting units outs

@@ -1,4 +1,4 @@
--- Laws of the values of a list.
+-- Theorems about the values of a list.
 use Rattle.std.specs.Prelude.{◌≡◌, ◌↔◌, ℕ, ◌<◌, List, length, All}
 use Rattle.std.specs.List.{AllZip}
 use Rattle.ppshelf.specs.Names.{AreNames}
@@ -12,21 +12,22 @@ use Rattle.ppunit.specs.Laws.{KnowsAll}
 use Rattle.pppool.specs.declared.keeping.Keep.{Keep}
 use Rattle.pppool.specs.Kept.{AreKept}
 
--- what units give over some files, as those that one worker knows, they give over any more, as those that all workers know
+-- the values of units over some files, such as those that one worker knows, are their values over any larger set, such
+-- as those that all workers know
 abbrev pub ListGrows : Type 0
 ListGrows =
     (names : List (List ℕ)) (files more : Files) (setting : Setting) (units : List UnitOfList) (answers : List UnitOut)
     → Extends more files → AreUnits names files setting units answers → AreUnits names more setting units answers
 
--- two maps of files that were joined with others into one agree, however often that one was joined further
+-- two maps of files that were merged with others into one agree, however often that one was merged further
 abbrev pub JoinedAgree : Type 0
 JoinedAgree = (one two all : Files) → Extends all one → Extends all two → Agree one two
 
--- over these files the unit gives this and nothing else
+-- over these files the unit has this value and no other
 abbrev pub IsOnlyValue : List (List ℕ) → Files → Setting → UnitOfList → UnitOut → Type 0
 IsOnlyValue names files setting unit out = (other : UnitOut) → IsUnit names files setting unit other ↔ (other ≡ out)
 
--- What each unit gives over one set of files is the one thing that it gives over any that contains it.
+-- The value of each unit over one set of files is its only value over any larger set.
 abbrev pub EachHasOneValue : Type 0
 EachHasOneValue =
     (names : List (List ℕ)) (files more : Files) (setting : Setting) (units : List UnitOfList) (answers : List UnitOut)
@@ -35,7 +36,7 @@ EachHasOneValue =
     → Extends more files
     → AllZip (λ unit out. IsOnlyValue names more setting unit out) units answers
 
--- the same of what is kept of a list's values
+-- and so is what is kept of a list's values
 abbrev pub KeepsOneList : Type 0
 KeepsOneList =
     (keep : Keep) (names : List (List ℕ)) (files more : Files) (setting : Setting) (units : List UnitOfList) (outs others : List UnitOut)
@@ -44,7 +45,7 @@ KeepsOneList =
     → Extends more files
     → AreKept keep names more setting units others ↔ (others ≡ outs)
 
--- where each file's content is known, units whose files are among them give something, with any budget and without
+-- if each file's content is known, units whose files are among them have values, with any budget and without one
 abbrev pub HasSomeValues : Type 0
 HasSomeValues =
     (names : List (List ℕ)) (files : Files) (setting : Setting) (units : List UnitOfList)

@@ -1,23 +1,23 @@
-// What a run of units takes.
+//! The input of a run.
 use crate::gate::Gate;
 use ppshelf::{Disk, Shelf};
 use ppunit::{Setting, Unit};
 
-/// The units of a list, their files, and how the work is shared out.
+/// The units of a list, their files, and how they are divided among workers.
 pub struct Batch<'a, 'b, D: Disk, G: Gate> {
-    /// The files. Each unit's file is one of its rows.
+    /// The file table. Each unit's file is in it.
     pub shelf: &'a Shelf<D>,
-    /// Where a look reads a file that the shelf doesn't have yet.
+    /// The disk, from which a file is read when it is first needed.
     pub disk: &'b D,
-    /// What a worker enters before each unit.
+    /// The gate that a worker enters before each unit.
     pub gate: &'b G,
-    /// What all units have in common. Its profile is the shelf's.
+    /// What all units share. Its profile is the file table's.
     pub setting: &'b Setting,
     /// The units, at most 65,535.
     pub units: &'a [Unit],
-    /// How many workers there are, 1 to 64.
+    /// The number of workers, 1 to 64.
     pub workers: usize,
-    /// How many units a worker claims at a time, 1 to 1024.
+    /// The number of units that a worker claims at a time, 1 to 1024.
     pub block: usize,
 }
 

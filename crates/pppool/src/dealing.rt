@@ -1,11 +1,11 @@
-// The rule of a desk's word, and the steps that keep it.
+//! The rule of a block counter's atomic word, and the steps that keep it.
 ghost use Rattle.std.specs.Prelude.{◌+◌, ◌-◌, [], ◌++◌};
 ghost use Rattle.pppool.specs.Desk.{hand, Dealt, Claims};
 
 use crate::hand::{Hand, Plan};
 use atomic_table::{Join, Play, Split, TableRule};
 
-/// Each block is claimed once.
+/// The rule: each block is claimed once.
 pub struct Dealing;
 
 impl TableRule<u8, Hand, Plan> for Dealing {
@@ -14,14 +14,14 @@ impl TableRule<u8, Hand, Plan> for Dealing {
     ghost first = { λ p. hand [] 0 p.seats p };
 }
 
-/// A claim.
+/// The step of a claim.
 pub struct Claimed;
 
 impl Play<u8, Hand> for Claimed {
     ghost then = { Claims };
 }
 
-/// One seat is cut off.
+/// The step of splitting off one seat.
 pub struct OneSeat;
 
 impl Split<Hand> for OneSeat {
@@ -30,7 +30,7 @@ impl Split<Hand> for OneSeat {
     ghost right = { λ v. hand [] 0 1 v.plan };
 }
 
-/// Two seats are put together.
+/// The step of joining two seats.
 pub struct Together;
 
 impl Join<Hand> for Together {

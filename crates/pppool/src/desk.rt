@@ -1,4 +1,4 @@
-// The desk at which workers claim blocks.
+//! The desk: an atomic counter, at which workers claim blocks.
 ghost use Rattle.std.specs.Prelude.{◌≡◌, ℕ, ◌<◌, ◌≤◌, ◌==◌, ◌&&◌, true, false, [], ◌∷◌, ◌++◌, length, All};
 ghost use Rattle.std.specs.Prelude.{IfOk, IfSome, IfNone, IsTrue, if◌then◌else◌};
 ghost use Rattle.pppool.specs.Desk.{most_blocks, times, once_below, claims_of, any_empty, plan_of, new_seat};
@@ -10,8 +10,8 @@ use pptext::Memory;
 use std::alloc::Global;
 use std::marker::Model;
 
-/// Blocks, numbered from 0, that the threads in 1 to 64 seats claim, each block at most once. The next block is one word in memory; a claim
-/// is one addition to it.
+/// A counter of blocks, numbered from 0. The threads in 1 to 64 seats claim them, each block at most once. A claim is
+/// one atomic addition.
 #[derive(Drop)]
 pub struct Desk {
     table: Table<u8, Hand, Plan, Dealing, Global>,
@@ -29,7 +29,7 @@ impl Model for Desk {
     ghost invariant = { λ d. (d.table.shared.key ≡ d.plan) × (d.table.shared.table_id.words ≡ 1) × (d.table.shared.table_id.slots ≡ 0) };
 }
 
-/// The right to claim at one desk, for one thread.
+/// A seat: the right of one thread to claim blocks of one desk.
 #[derive(Drop)]
 pub struct DeskSeat {
     seat: Seat<u8, Hand>,
@@ -52,7 +52,8 @@ impl Model for DeskSeat {
 }
 
 impl Desk {
-    /// A desk with so many blocks, at most 65,535, and its seats, 1 to 64, which have claimed nothing.
+    /// Creates a desk with `blocks` blocks, at most 65,535, and `seats` seats, 1 to 64, that have claimed nothing.
+    /// Fails if an allocation fails.
     pub fn new(alloc: Global, blocks: u64, seats: usize) -> Result<(Desk, Vec<DeskSeat>), Memory>
         requires blocks { blocks ≤ most_blocks }
         requires seats { (1 ≤ seats) × (seats ≤ 64) }
@@ -76,8 +77,8 @@ impl Desk {
         Ok((Desk { table, plan }, all))
     }
 
-    /// Claims the next block: one that no other seat claims, above all that this seat claimed. None where no block is left; a seat
-    /// that was told so is told so from then on. Takes no memory.
+    /// Claims the next block: no other seat claims it, and its number is above all claims of this seat. Returns nothing
+    /// if no block is left, and from then on always for this seat. Doesn't allocate.
     pub fn claim(&self, seat: &mut DeskSeat) -> Option<u64>
         requires { seat.old.desk ≡ self.now }
         ensures desk { seat.new.desk ≡ self.now }
@@ -98,8 +99,9 @@ impl Desk {
         }
     }
 
-    /// Whether all seats of the desk are handed in and one of them was told that no block is left. Then each block was claimed, by one
-    /// of them, once. Whatever is answered, each claim is a block of the desk, and no block was claimed twice. Takes no memory.
+    /// Takes the seats back. Returns whether they are all seats of the desk and one of them found no block left; then
+    /// they claimed each block, once. Otherwise, too, each claim is a block of the desk, and no block was claimed
+    /// twice. Doesn't allocate.
     pub fn close(self, mut seats: Vec<DeskSeat>) -> bool
         requires { All (λ s. s.desk ≡ self) seats.items }
         ensures apart { (x : ℕ) → times x (claims_of seats.items) ≤ 1 }
@@ -125,6 +127,7 @@ impl Desk {
 }
 
 impl DeskSeat {
+    /// Returns the seat of the table, and whether it found no block left.
     fn into_parts(self) -> (Seat<u8, Hand>, bool)
         ensures desk { (result.0.table_id ≡ self.desk.table) × (result.0.me.0.plan ≡ self.desk.plan) }
         ensures seat { (result.0.me.1 ≡ []) × (result.0.me.0.seats ≡ 1) × (result.0.me.0.claims ≡ self.claims) }

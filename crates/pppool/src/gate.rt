@@ -1,6 +1,6 @@
-// What a worker passes before each unit.
+//! The gate of a run.
 
-/// A worker enters it with a unit's number in the list, from 0, before it preprocesses that unit.
+/// A gate that a worker enters before it preprocesses a unit. `unit` is the unit's number in the list, from 0.
 pub trait Gate {
     fn enter(&self, unit: usize);
 }

@@ -1,15 +1,15 @@
-// What a desk was made with, and what a seat at it holds.
+//! The plan of a desk, and the ghost state of a seat.
 use std::collections::LinkedList;
 
-/// How many blocks and seats a desk has.
+/// The numbers of blocks and seats of a desk.
 #[derive(Clone, Copy, PartialEq, Eq, Drop)]
 pub struct Plan {
     pub blocks: u64,
     pub seats: u64,
 }
 
-/// What a seat holds, as contracts see it; no value of it is made: the blocks that were claimed, how often no block was left, how
-/// many seats are in it, and its desk's plan.
+/// The state of a seat in contracts; no value of it is ever created. It has the claimed blocks, how often no block was
+/// left, the number of seats that are joined in it, and its desk's plan.
 pub struct Hand {
     pub claims: LinkedList<u64>,
     pub marks: u64,

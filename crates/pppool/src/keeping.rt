@@ -1,20 +1,20 @@
-// What is kept of the units' answers until all are done.
+//! How much of the units' outputs is kept until all units are done.
 ghost use Rattle.std.specs.Prelude.{◌≡◌, []};
 ghost use Rattle.pppool.specs.Kept.{kept, bare};
 
 use ppunit::{Items, UnitOut};
 use std::alloc::Global;
 
-/// What is kept of each unit's answer.
+/// How much of each unit's output is kept.
 #[derive(Clone, Copy, Debug, PartialEq, Eq)]
 pub enum Keep {
     /// All of it.
     Whole,
-    /// All but its items, which take most of the memory.
+    /// All but the items, which take most of the memory.
     Bare,
 }
 
-/// What is kept of an answer.
+/// Returns what is kept of an output.
 pub(crate) fn kept<'a>(alloc: Global, keep: Keep, out: UnitOut<'a>) -> UnitOut<'a>
     ensures { result ≡ kept keep out.entry }
 {
@@ -24,7 +24,7 @@ pub(crate) fn kept<'a>(alloc: Global, keep: Keep, out: UnitOut<'a>) -> UnitOut<'
     }
 }
 
-// An answer without its items.
+/// Returns an output without its items.
 fn bare<'a>(alloc: Global, out: UnitOut<'a>) -> UnitOut<'a>
     ensures { result ≡ bare out.entry }
 {

@@ -1,17 +1,17 @@
-// Laws: functions that do nothing, whose contracts are the laws. They call what they rest on.
+//! Theorems: functions that do nothing, whose contracts state the theorems. They call the theorems that they rest on.
 ghost use Rattle.pppool.specs.Laws.{EachHasOneValue, HasSomeValues, JoinedAgree, KeepsOneList, ListGrows};
 
 use ppunit::{growth, one_value, some_value};
 
-/// A law: where units give something over what one worker knows, they give the same over what all workers know together.
+/// Theorem: the values that units have over what one worker knows they also have over what all workers know together.
 pub fn list_growth()
     ensures { ListGrows }
 {
     growth();
 }
 
-/// A law: where each name stands once, what the units of a list give over one set of files, as over what the pass knows after `run`, is the one thing
-/// that each of them gives over any set of files that contains it; and so is what is kept of it.
+/// Theorem: if file names are distinct, the values of a list's units over one set of files, such as what the pass knows
+/// after `run`, are their only values over any larger set; and so is what is kept of them.
 pub fn each_unit_has_one_value()
     ensures values { EachHasOneValue }
     ensures kept { KeepsOneList }
@@ -20,15 +20,15 @@ pub fn each_unit_has_one_value()
     growth();
 }
 
-/// A law: where the content of each file is known, and the units' files are among them, each unit of a list gives something, with any budget and
-/// without.
+/// Theorem: if the content of each file is known, and the units' files are among them, each unit of a list has a value,
+/// with any budget and without one.
 pub fn some_values()
     ensures { HasSomeValues }
 {
     some_value();
 }
 
-/// A law: workers' passes that met one pass, one after the other, agree wherever two of them know a row.
+/// Theorem: passes that were merged into one pass, one after the other, agree on each file that two of them know.
 pub fn joined_passes_agree()
     ensures { JoinedAgree }
 {}

@@ -1,4 +1,4 @@
-//! Workers that preprocess the units of a list, and the desk at which they claim them.
+//! Preprocesses the units of a list with workers, which claim them at a desk.
 #![tactic(auto)]
 
 mod batch;

@@ -1,4 +1,4 @@
-// All units of a list.
+//! Runs all units of a list.
 ghost use Rattle.std.specs.Prelude.{◌≡◌, ℕ, ◌<◌, ◌≤◌, ◌/◌, [], length, All, IfOk, IsSome, Some, None, true, slice_index_or};
 ghost use Rattle.ppshelf.specs.Files.{most_rows, Extends, Agree, AllLawful};
 ghost use Rattle.ppunit.specs.Unit.{IsUnitOf};
@@ -20,15 +20,16 @@ use std::alloc::Global;
 use std::thread;
 use std::thread::Threads;
 
-/// Preprocesses the units of a batch. The shelf and the units' definitions are read by the setting's profile.
+/// Preprocesses the units of a batch. The file table and the units' definitions must have the setting's profile.
 ///
-/// Each worker has a seat at a desk and a pass of its own, and claims blocks until none is left. Before each unit it enters the
-/// gate. Where no thread can be made the workers run in turn. In the end the pass has met all workers' passes, and the answers are
-/// the units' values over what it knows, in the list's order, each once. With a budget each unit makes no more replacements and
-/// openings than that, and its answer is a beginning of what it gives without one, over what the pass knows or more files, and the
-/// whole of it exactly where the budget suffices.
+/// Each worker has a seat at a desk and a pass of its own, and claims blocks until none is left. It enters the gate
+/// before each unit. If no thread can be created, the workers run one after the other. In the end all workers' passes
+/// are merged into `pass`, and the outputs are the units' values over what it knows, in list order. With a budget the
+/// replacements and opened files of each unit total at most the budget. Its output is then a prefix of its value
+/// without one, over what the pass knows or any larger set of files, and the whole of it exactly if the budget
+/// suffices.
 ///
-/// Fails only for want of memory, and then the pass knows at least what it knew.
+/// Fails only if an allocation fails; the pass then knows at least what it knew.
 pub fn run<'a, R: Threads + Sync, D: Disk + Send + Sync, G: Gate + Sync>(
     threads: &R,
     alloc: Global,
@@ -56,10 +57,10 @@ pub fn run<'a, R: Threads + Sync, D: Disk + Send + Sync, G: Gate + Sync>(
     Ok(outs)
 }
 
-/// Preprocesses the units of a list as `run` does, and keeps so much of each unit's value: what isn't kept is let go as soon as the unit is
-/// done. The values of which so much is kept are within their budget as those that `run` answers.
+/// Preprocesses the units of a list as `run` does, and keeps as much of each output as `keep` says. The rest is freed
+/// as soon as the unit is done. The same budget applies as in `run`.
 ///
-/// Fails only for want of memory, and then the pass knows at least what it knew.
+/// Fails only if an allocation fails; the pass then knows at least what it knew.
 pub fn run_keeping<'a, R: Threads + Sync, D: Disk + Send + Sync, G: Gate + Sync>(
     threads: &R,
     alloc: Global,
@@ -110,7 +111,7 @@ pub fn run_keeping<'a, R: Threads + Sync, D: Disk + Send + Sync, G: Gate + Sync>
     );
     pass.lawful();
     shelf.lawful();
-    // For proofs: what a budget does.
+    // For proofs: the theorems about budgets hold.
     stays_within();
     budget_caps_units();
     let (seats, slots) = gathered?;
@@ -119,7 +120,7 @@ pub fn run_keeping<'a, R: Threads + Sync, D: Disk + Send + Sync, G: Gate + Sync>
     all_of(alloc, slots)
 }
 
-// How many blocks there are. The last may have fewer units than the others.
+/// Returns the number of blocks. The last block may be shorter than the others.
 fn block_count(units: usize, block: usize) -> u64
     requires units { units ≤ most_rows }
     requires block { 1 ≤ block }
@@ -129,7 +130,7 @@ fn block_count(units: usize, block: usize) -> u64
     units.div_ceil(block) as u64
 }
 
-// Lets a worker in each seat work, and gathers what they give back.
+/// Runs a worker in each seat, and collects their results.
 fn gather<'a, R: Threads + Sync, D: Disk + Send + Sync, G: Gate + Sync>(
     threads: &R,
     job: &Job<'a, '_, D, G>,
@@ -162,7 +163,7 @@ fn gather<'a, R: Threads + Sync, D: Disk + Send + Sync, G: Gate + Sync>(
     collect(job, pass, done)
 }
 
-// Takes in what the workers give back.
+/// Collects the results of the workers.
 fn collect<'a, D: Disk, G: Gate>(
     job: &Job<'a, '_, D, G>,
     pass: &mut Pass<'a, D>,
@@ -189,7 +190,7 @@ fn collect<'a, D: Disk, G: Gate>(
     Ok((seats, slots))
 }
 
-// Meets one worker's pass, puts its answers into their slots, and gives back its seat.
+/// Merges a worker's pass, moves its outputs into their slots, and returns its seat.
 fn absorb<'a, D: Disk, G: Gate>(
     job: &Job<'a, '_, D, G>,
     pass: &mut Pass<'a, D>,

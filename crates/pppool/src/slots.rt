@@ -1,4 +1,4 @@
-// A slot for each unit of the list, into which workers' answers are put.
+//! Slots: one for each unit of the list, for the unit's output.
 ghost use Rattle.std.specs.Prelude.{◌≡◌, ◌<◌, length, All, IfOk, IsSome, Some, None, map, replicate, slice_set};
 ghost use Rattle.pppool.specs.Workers.{placed};
 
@@ -7,7 +7,7 @@ use pptext::Memory;
 use ppunit::UnitOut;
 use std::alloc::Global;
 
-/// So many empty slots.
+/// Creates `count` empty slots.
 pub(crate) fn empty_slots<'a>(
     alloc: Global,
     count: usize,
@@ -21,7 +21,7 @@ pub(crate) fn empty_slots<'a>(
     Ok(slots)
 }
 
-/// Puts each answer into its unit's slot.
+/// Moves each output into its unit's slot.
 pub(crate) fn place<'a>(answers: Vec<Answer<'a>>, slots: &mut Vec<Option<UnitOut<'a>>>)
     requires { All (λ a. a.unit < length slots.old.items) answers.items }
     ensures { slots.new.items ≡ placed slots.old.items answers.entry.items }
@@ -31,6 +31,7 @@ pub(crate) fn place<'a>(answers: Vec<Answer<'a>>, slots: &mut Vec<Option<UnitOut
     }
 }
 
+/// Moves an output into its unit's slot.
 fn put<'a>(slots: &mut Vec<Option<UnitOut<'a>>>, answer: Answer<'a>)
     requires { answer.unit < length slots.old.items }
     ensures { slots.new.items ≡ slice_set slots.old.items answer.entry.unit (Some answer.entry.out) }
@@ -39,7 +40,7 @@ fn put<'a>(slots: &mut Vec<Option<UnitOut<'a>>>, answer: Answer<'a>)
     slots[unit] = Some(out);
 }
 
-/// What stands in the slots.
+/// Takes the outputs out of full slots.
 pub(crate) fn all_of<'a>(
     alloc: Global,
     slots: Vec<Option<UnitOut<'a>>>,

@@ -1,4 +1,4 @@
-// Workers, which claim blocks of units and preprocess them.
+//! Workers, which claim blocks of units and preprocess them.
 ghost use Rattle.std.specs.Prelude.{◌≡◌, ℕ, ◌<◌, ◌≤◌, ◌/◌, [], ◌∷◌, ◌++◌, length, All, IfOk, OnOk};
 ghost use Rattle.ppunit.specs.Unit.{IsUnitOf};
 ghost use Rattle.pppool.specs.Desk.{most_blocks, new_seat, times};
@@ -13,7 +13,7 @@ use ppunit::{Setting, Unit, UnitOut, growth, preprocess};
 use std::alloc::Global;
 use std::marker::Model;
 
-/// What all workers share: the units of a list in blocks, and the desk at which these are claimed.
+/// What all workers share: the units of a list in blocks, and the desk at which blocks are claimed.
 pub(crate) struct Job<'a, 'j, D: Disk, G: Gate> {
     pub alloc: Global,
     pub shelf: &'a Shelf<D>,
@@ -42,7 +42,7 @@ impl<D: Disk, G: Gate> Drop for Job<'_, '_, D, G> {
     }
 }
 
-/// What is kept of what a unit gives, with its number in the list.
+/// What is kept of a unit's output, with the unit's number in the list.
 #[derive(Drop)]
 pub(crate) struct Answer<'a> {
     pub unit: usize,
@@ -57,7 +57,7 @@ impl<'a> Model for Answer<'a> {
     ghost view = { λ a. record { unit = a.unit; out = a.out } };
 }
 
-/// A worker: its seat at the desk, what it knows of the shelf, and what the units of its blocks gave.
+/// A worker: its seat at the desk, its pass, which knows the files that it has read, and the outputs of its units.
 pub(crate) struct Worker<'a, D: Disk> {
     pub seat: DeskSeat,
     pub pass: Pass<'a, D>,
@@ -75,7 +75,7 @@ impl<D: Disk> Drop for Worker<'_, D> {
 }
 
 impl<'a, D: Disk> Worker<'a, D> {
-    // Preprocesses the unit with this number.
+    /// Preprocesses the unit with this number.
     fn work_unit<G: Gate>(&mut self, job: &Job<'a, '_, D, G>, unit: usize) -> Result<(), Memory>
         requires shelf { self.old.pass.shelf ≡ job.now.shelf.now }
         requires unit { unit < length job.now.units.now }
@@ -104,7 +104,7 @@ impl<'a, D: Disk> Worker<'a, D> {
         Ok(())
     }
 
-    // Preprocesses the units of the block with this number. The last block may have fewer than the others.
+    /// Preprocesses the units of the block with this number. The last block may be shorter than the others.
     fn work_block<G: Gate>(&mut self, job: &Job<'a, '_, D, G>, number: usize) -> Result<(), Memory>
         requires shelf { self.old.pass.shelf ≡ job.now.shelf.now }
         requires block { (1 ≤ job.now.block) × (job.now.block ≤ 1024) }
@@ -147,7 +147,7 @@ impl<'a, D: Disk> Worker<'a, D> {
         Ok(())
     }
 
-    /// A worker in this seat, after its work. It begins with a pass that knows nothing.
+    /// Runs a worker in this seat, with a pass that knows nothing. Returns the worker after its work.
     pub(crate) fn in_seat<G: Gate>(job: &Job<'a, '_, D, G>, seat: DeskSeat) -> Result<Self, Memory>
         requires seat { seat ≡ new_seat job.now.desk.now }
         requires block { (1 ≤ job.now.block) × (job.now.block ≤ 1024) }
@@ -166,7 +166,7 @@ impl<'a, D: Disk> Worker<'a, D> {
         Ok(worker)
     }
 
-    /// Its seat, its pass and its answers.
+    /// Returns the seat, the pass and the outputs.
     pub(crate) fn into_parts(self) -> (DeskSeat, Pass<'a, D>, Vec<Answer<'a>>)
         ensures { (result.0 ≡ self.entry.seat) × (result.1 ≡ self.entry.pass) × (result.2 ≡ self.entry.answers) }
     {
