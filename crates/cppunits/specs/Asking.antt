@@ -1,4 +1,4 @@
--- What a command line asks for.
+-- The result of parsing the command line.
 use Rattle.std.specs.Prelude.{◌≤◌}
 use Rattle.cppunits.specs.declared.command_line.Asked.{Asked}
 use Rattle.cppunits.specs.declared.command_line.Asked.TheVariants.{Run, Stop}
@@ -9,7 +9,7 @@ pub record InRange (options : Options) : Type 0 where
   pub workers : (1 ≤ options.workers) × (options.workers ≤ 64)
   pub block : (1 ≤ options.block) × (options.block ≤ 1024)
 
--- what is true of the options where a run is asked for
+-- P holds of the options, if there is a run
 abbrev pub IfRun : Asked → (Options → Type 0) → Type 0
 IfRun (Run options) P = P options
 IfRun (Stop status) P = Unit {0}

@@ -1,4 +1,4 @@
-// The command line, judged before any input is read.
+//! Parses the command line, before any input is read.
 ghost use Rattle.std.specs.Prelude.{◌≤◌, IfOk};
 ghost use Rattle.cppunits.specs.Asking.{InRange, IfRun};
 
@@ -9,32 +9,35 @@ use std::alloc::{AllocError, Global};
 use std::rt::Env;
 use std::{env, io};
 
-/// What a run is asked to do.
+/// The options of a run.
 #[derive(Drop)]
 pub struct Options {
     /// What is printed of each unit.
     pub mode: Mode,
-    /// How many units are preprocessed at once, 1 to 64.
+    /// The number of workers, which preprocess units in parallel, 1 to 64.
     pub workers: usize,
-    /// The most units that a worker takes at a time, 1 to 1024.
+    /// The largest number of units that a worker claims at a time, 1 to 1024.
     pub block: usize,
-    /// The folder that the files are read from; without one the list holds them.
+    /// The directory that files are read from. Without one the list holds their contents.
     pub root: Option<String>,
 }
 
-/// What the command line asks for.
+/// The result of parsing the command line.
 #[derive(Drop)]
 pub enum Asked {
-    /// A run.
+    /// Run with these options.
     Run(Options),
-    /// No run: the help or the version was printed, or why the words can't be followed, and the program ends with this status.
+    /// Exit with this status: the help, the version or a usage error was printed.
     Stop(u8),
 }
 
+/// The largest number of workers.
 const MOST_WORKERS: usize = 64;
 
+/// The largest number of units that a worker claims at a time.
 const MOST_BLOCK: usize = 1024;
 
+/// The exit status of a usage error.
 const USAGE: u8 = 2;
 
 const VERSION: &str = "0.1.0";
@@ -53,8 +56,8 @@ refusals.
 Status: 0 no unit has a fault, 1 some unit has one, 2 usage, 3 the list is refused, 4 out of memory or of file descriptors,
 5 a read or write failed, or the system has no random bytes.";
 
-/// Judges the program's words, and prints what there is to say of them. Fails where memory runs out, or where the help or
-/// the version can't be written.
+/// Parses the command line, and prints the help, the version or a usage error if there is one. Fails if an allocation
+/// fails, or if the help or the version can't be written.
 pub fn ask<R: Env + AllocGlobal + Print + Eprint>(rt: &R) -> Result<Asked, RunFault>
     ensures { IfOk result (λ asked. IfRun asked InRange) }
 {
@@ -64,7 +67,7 @@ pub fn ask<R: Env + AllocGlobal + Print + Eprint>(rt: &R) -> Result<Asked, RunFa
     }
 }
 
-// Prints the help, the version or the mistake that the words come to. The program's status.
+/// Prints the help, the version or the usage error. Returns the exit status.
 fn stop_status<R: Print + Eprint>(rt: &R, error: &Error) -> Result<u8, RunFault> {
     if error.kind() == ErrorKind::OutOfMemory {
         return Err(RunFault::Memory);
@@ -79,6 +82,7 @@ fn stop_status<R: Print + Eprint>(rt: &R, error: &Error) -> Result<u8, RunFault>
     }
 }
 
+/// Parses the command line.
 fn parse<R: Env + AllocGlobal>(rt: &R) -> Result<Options, Error>
     ensures { IfOk result InRange }
 {
@@ -88,9 +92,10 @@ fn parse<R: Env + AllocGlobal>(rt: &R) -> Result<Options, Error>
     Ok(read_options(rt.alloc(), &matches)?)
 }
 
-// The program's words.
+/// Returns the command-line arguments.
 fn given_words<R: Env + AllocGlobal>(
     rt: &R,
+    /// Builds the parser.
     command: &mut Command<'_>,
 ) -> Result<Vec<String>, Error> {
     match env::args(rt) {
@@ -100,6 +105,7 @@ fn given_words<R: Env + AllocGlobal>(
     }
 }
 
+/// Returns the options that were parsed.
 fn read_options(alloc: Global, matches: &ArgMatches<'_>) -> Result<Options, AllocError>
     ensures { IfOk result InRange }
 {
@@ -120,7 +126,7 @@ fn read_options(alloc: Global, matches: &ArgMatches<'_>) -> Result<Options, Allo
     })
 }
 
-// The number behind an option, 1 to `most`, or its default; clap has refused all others.
+/// Returns the value of an option, 1 to `most`, or its default; clap refuses other values.
 fn number(matches: &ArgMatches<'_>, option: &str, most: usize) -> usize
     requires { 1 ≤ most }
     ensures { (1 ≤ result) × (result ≤ most) }
@@ -142,6 +148,7 @@ fn command<'a>(alloc: Global) -> Result<Command<'a>, AllocError> {
         .subcommand(subcommand(alloc, "deps", ABOUT_DEPS))
 }
 
+/// Builds the option `--workers`.
 fn workers_option<'a>(alloc: Global) -> Arg<'a> {
     Arg::new(alloc, "workers")
         .long("workers")
@@ -151,6 +158,7 @@ fn workers_option<'a>(alloc: Global) -> Arg<'a> {
         .value_parser(clap::value_parser!(usize).range(1..=MOST_WORKERS as i64))
 }
 
+/// Builds the option `--block`.
 fn block_option<'a>(alloc: Global) -> Arg<'a> {
     Arg::new(alloc, "block")
         .long("block")
@@ -160,12 +168,14 @@ fn block_option<'a>(alloc: Global) -> Arg<'a> {
         .value_parser(clap::value_parser!(usize).range(1..=MOST_BLOCK as i64))
 }
 
+/// Builds the option `--root`.
 fn root_option<'a>(alloc: Global) -> Arg<'a> {
     Arg::new(alloc, "root").long("root").value_name("DIR").help(
         "Read each listed file below this directory; the list then has names only",
     )
 }
 
+/// Builds a subcommand.
 fn subcommand<'a>(alloc: Global, name: &'a str, about: &'a str) -> Command<'a> {
     Command::new(alloc, name).about(about).after_help(MORE)
 }

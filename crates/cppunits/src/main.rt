@@ -1,4 +1,4 @@
-// Preprocesses the translation units of the list on standard input.
+//! Preprocesses the translation units of the list on standard input.
 #![tactic(auto)]
 
 mod command_line;
@@ -13,7 +13,7 @@ use std::hash::RandomState;
 use std::process::ExitCode;
 use std::random::RandomSource;
 
-/// How this run hashes names: by a key of its own, so that nobody can choose names that collide.
+/// Returns the hash function of names, with a random key for this run, so that nobody can choose names that collide.
 fn hashing(rt: &impl RandomSource) -> Result<Hashing, RunFault> {
     match RandomState::new(rt) {
         Ok(key) => Ok(Hashing::keyed(key)),
@@ -21,7 +21,7 @@ fn hashing(rt: &impl RandomSource) -> Result<Hashing, RunFault> {
     }
 }
 
-/// Says what failed, if anything did. The program's status.
+/// Prints the error message of a run that failed. Returns the exit status.
 fn ended(rt: &impl Eprint, outcome: &Result<bool, RunFault>) -> ExitCode {
     if let Err(fault) = outcome {
         let _ = eprintln!(rt; "{}", words(fault));

@@ -1,17 +1,19 @@
-// The room of the program's first stack.
+//! Reserves memory for the main thread's stack.
 use pptext::Memory;
 use std::alloc::Global;
 
+/// The number of bytes in a page.
 const PAGE: usize = 4_096;
 
-// The deepest run takes 192 KB.
+/// The number of pages to reserve. The deepest run takes 192 KB.
 const PAGES: usize = 48;
 
-// What the pages take together, and some more. So large a block has pages of its own, which the stack can have once it's given back.
+/// The number of bytes in all pages, and some more. An allocation of this size has pages of its own, which the stack
+/// can use after it is freed.
 const ROOM: usize = 256 * 1_024;
 
-// Takes a page of the stack for each of its frames. What is written to a page comes from the frame above, so that no compiler
-// leaves one out.
+/// Touches a page of the stack in each of its frames. Each page is filled from the frame above it, so that no compiler
+/// optimizes it away.
 #[inline(never)]
 fn touch(pages: usize, above: &[u8; PAGE]) -> u8 {
     if pages == 0 {
@@ -21,8 +23,8 @@ fn touch(pages: usize, above: &[u8; PAGE]) -> u8 {
     touch(pages - 1, &page)
 }
 
-/// Sees that the first stack has the pages that the deepest run needs, or tells that memory for them can't be had. A system gives
-/// a stack its pages when they are first used, and ends a program that it then refuses one by a signal.
+/// Reserves the stack pages that the deepest run needs. Fails if there is no memory for them. The system allocates
+/// stack pages on first use, and kills a program by a signal if it then has none left.
 pub fn reserve(alloc: Global) -> Result<(), Memory> {
     let room = Vec::<u8>::with_capacity(alloc, ROOM)?;
     drop(room);
