@@ -1,6 +1,7 @@
 //! Tests of whole runs: workers over a list's units, and `serve` from a list's bytes to its output.
 //!
-//! They stand in a crate of their own, since a crate with tests is proved twice, and apart from those of the libraries below, so that the two are proved side by side.
+//! They have a crate of their own, since a crate with tests is proved twice. It is separate from the tests of the lower
+//! libraries, so that both are proved in parallel.
 #![tactic(auto)]
 
 #[cfg(test)]

@@ -1,4 +1,4 @@
-// Whole runs, from the bytes of a list to the bytes of its output.
+//! Tests of whole runs, from the bytes of a list to the bytes of its output.
 ghost use Rattle.std.specs.Prelude.{◌≡◌};
 
 mod answers;
@@ -12,7 +12,7 @@ use std::process::Abort;
 use std::test::Fail;
 use std::thread::Threads;
 
-/// What a run ended with, and what it read from and wrote to.
+/// The result of a run, and its streams afterwards.
 #[derive(Drop)]
 struct RunEnd<'l> {
     outcome: Result<bool, RunFault>,
@@ -20,7 +20,7 @@ struct RunEnd<'l> {
     writer: Writer,
 }
 
-/// Four workers, which print all.
+/// Returns the options of four workers that print everything.
 fn by_four() -> RunOptions
     ensures workers { result.workers ≡ 4 }
     ensures block { result.block ≡ 8 }
@@ -33,7 +33,7 @@ fn by_four() -> RunOptions
     }
 }
 
-/// What four workers make of a list that holds its files, by a reader and a writer that are held to these limits.
+/// Runs a list that holds its files with four workers, through a reader and a writer with these limits.
 fn run_list<'l, R: Threads + AllocGlobal + Sync>(
     rt: &R,
     list: &'l str,
@@ -50,21 +50,22 @@ fn run_list<'l, R: Threads + AllocGlobal + Sync>(
     }
 }
 
-/// What the program says where its writer failed.
+/// The status and the message of a run whose writer failed.
 const WRITE_FAILED: (u8, &str) = (5, "cppunits: write failed");
 
-/// Whether a run wants memory, or its writer does.
+/// Whether an allocation failed in a run or in its writer.
 fn wants_memory(run: &RunEnd) -> bool {
     matches!(run.outcome, Err(RunFault::Memory)) || run.writer.wants_memory()
 }
 
-/// Whether a run wrote a beginning of this, and nothing where memory was wanting before.
+/// Whether a run wrote a prefix of `want`. It must be empty if an allocation of the run failed.
 fn writes_beginning(run: &RunEnd, want: &[u8]) -> bool {
     let went = run.writer.bytes();
     want.starts_with(went) && (went.is_empty() || !matches!(run.outcome, Err(RunFault::Memory)))
 }
 
-/// Whether a run ended by this status and with these words, its streams failed where these say so, and no write came after one that failed.
+/// Whether a run ended with this status and message, its streams failed only if these say so, and nothing was written
+/// after a failed write.
 fn ends_so(run: &RunEnd, (code, said): (u8, &str)) -> bool {
     let says_so = match &run.outcome {
         Ok(_) => said.is_empty(),
@@ -77,7 +78,8 @@ fn ends_so(run: &RunEnd, (code, said): (u8, &str)) -> bool {
         && run.writer.is_let_alone()
 }
 
-/// That a run wrote this, and ended so. Want of memory is a test's error, before which a beginning went out.
+/// Asserts what a run wrote, and how it ended. A failed allocation is an error of the test, before which a prefix was
+/// written.
 fn assert_ended(rt: &impl Abort, run: &RunEnd, want: &[u8], end: (u8, &str)) -> Result<(), Fail> {
     let begins = writes_beginning(run, want);
     if begins && wants_memory(run) {
@@ -89,8 +91,8 @@ fn assert_ended(rt: &impl Abort, run: &RunEnd, want: &[u8], end: (u8, &str)) -> 
     Ok(())
 }
 
-/// That so many bytes go out of what a run of a list without a fault prints, where the writer fails then. In both texts the filler stands for each
-/// tilde.
+/// Asserts how many bytes are written of the output of a list without faults, if the writer then fails. In both texts
+/// each tilde stands for the filler.
 fn assert_sends<R: Threads + AllocGlobal + Abort + Sync>(
     rt: &R,
     (list, want): (&str, &str),

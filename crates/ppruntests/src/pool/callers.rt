@@ -1,4 +1,4 @@
-// Callers' own threads over one shelf.
+//! Tests of callers with threads of their own over one file table.
 ghost use Rattle.std.specs.Prelude.{◌≡◌, All, IfOk, length};
 ghost use Rattle.pptext.specs.declared.sources.Profile.TheVariants.{C11};
 ghost use Rattle.ppunit.specs.Unit.{IsUnitOf};
@@ -15,10 +15,11 @@ use std::test::Fail;
 use std::thread;
 use std::thread::Threads;
 
-// What a thread found: its pass, what the units gave as a text, and whether all threads that it met found the same.
+/// The result of a thread: its pass, the text of its units' outputs, and whether all threads whose passes it merged
+/// found the same.
 type Found<'a> = (Pass<'a, Stage>, Vec<u8>, bool);
 
-// Puts behind a text what a unit gives.
+/// Appends the text of a unit's output.
 fn push_one<'a>(
     alloc: Global,
     shelf: &'a Shelf<Stage>,
@@ -37,7 +38,7 @@ fn push_one<'a>(
     Ok(push_unit(alloc, text, &out)?)
 }
 
-// What units give one after the other, as a text.
+/// Returns the text of the outputs of units, one after the other.
 fn all_in_turn<'a>(
     alloc: Global,
     shelf: &'a Shelf<Stage>,
@@ -133,12 +134,12 @@ fn by_four<'a, R: Threads + Sync>(
     Ok(together(shelf, one?, two?))
 }
 
-// Whether two units give one content of the header, whichever, and each one of its own.
+/// Whether two units have one content of the header, either one, and each unit its own file.
 fn is_of_three_files(text: &[u8]) -> bool {
     text.len() == 32 && text[0] == text[16] && text[2] != text[18]
 }
 
-// That four threads find the same of two units, over a disk that answers each read with another text.
+/// Asserts that four threads find the same outputs of two units, over a disk that returns another text at each read.
 fn assert_found<R: Threads + Sync + Abort>(
     rt: &R,
     alloc: Global,

@@ -1,4 +1,4 @@
-// Desks.
+//! Tests of desks.
 ghost use Rattle.std.specs.Prelude.{◌≡◌, All, IfOk};
 
 use pppool::{Desk, DeskSeat};
@@ -9,7 +9,7 @@ use std::test::Fail;
 use std::thread;
 use std::thread::Threads;
 
-// What the seat in this place claims, or none where there is no such seat.
+/// Returns what the seat at `place` claims, or nothing if there is no such seat.
 fn claimed(desk: &Desk, seats: &mut Vec<DeskSeat>, place: usize) -> Option<u64>
     requires { All (λ s. s.desk ≡ desk.now) seats.old.items }
     ensures { All (λ s. s.desk ≡ desk.now) seats.new.items }
@@ -20,7 +20,7 @@ fn claimed(desk: &Desk, seats: &mut Vec<DeskSeat>, place: usize) -> Option<u64>
     desk.claim(&mut seats[place])
 }
 
-// That seats claim these blocks in turn.
+/// Asserts that seats claim these blocks in turn.
 fn assert_claims(
     rt: &impl Abort,
     desk: &Desk,
@@ -35,7 +35,7 @@ fn assert_claims(
     }
 }
 
-// Loses the last of a desk's seats, where one is to be missing.
+/// Drops the last of a desk's seats, if one should be missing.
 fn lose_one(desk: &Desk, seats: &mut Vec<DeskSeat>, missing: bool)
     requires { All (λ s. s.desk ≡ desk.now) seats.old.items }
     ensures { All (λ s. s.desk ≡ desk.now) seats.new.items }
@@ -45,7 +45,8 @@ fn lose_one(desk: &Desk, seats: &mut Vec<DeskSeat>, missing: bool)
     }
 }
 
-/// So many blocks and seats, what seats claim in turn, whether one is missing then, and whether that closes the desk.
+/// A case: the numbers of blocks and seats, what seats claim in turn, whether one is missing then, and whether that
+/// closes the desk.
 type Claims<'c> = (u64, usize, &'c [(usize, Option<u64>)], bool, bool);
 
 const CLAIMS: &[Claims] = &[
@@ -77,7 +78,7 @@ const CLAIMS: &[Claims] = &[
         true,
         false,
     ),
-    // a block may be left as long as no seat was told that none is
+    // A block may be left as long as no seat found none left.
     (2, 1, &[(0, Some(0)), (0, Some(1))], false, false),
 ];
 
@@ -98,7 +99,7 @@ fn blocks_are_claimed_in_order(rt: HostRuntime) -> Result<(), Fail> {
     Ok(())
 }
 
-// A seat that was told that no block is left, and how many blocks it claimed.
+/// A seat that found no block left, and the number of blocks that it claimed.
 #[derive(Drop)]
 struct Drained {
     seat: DeskSeat,
@@ -116,7 +117,7 @@ fn drain(desk: &Desk, mut seat: DeskSeat) -> Drained
     Drained { seat, count }
 }
 
-// Each seat is drained by a thread.
+/// Drains each seat in a thread.
 fn drain_by_threads<R: Threads + Sync>(
     rt: &R,
     desk: &Desk,
@@ -132,7 +133,7 @@ fn drain_by_threads<R: Threads + Sync>(
     Ok(thread::map_vec(rt, seats, &task)?)
 }
 
-// How many blocks were claimed by all seats, and whether these are all blocks.
+/// Returns the number of blocks that all seats claimed, and whether these are all blocks.
 fn counted(alloc: Global, desk: Desk, all: Vec<Drained>) -> Result<(u64, bool), Memory>
     requires { All (λ d. d.seat.desk ≡ desk) all.items }
 {

@@ -1,4 +1,4 @@
-// Units of small files, and what they give as texts.
+//! Units of small files, and their outputs as texts.
 ghost use Rattle.std.specs.Prelude.{◌≡◌, ◌≤◌, IfOk, All, length};
 ghost use Rattle.pptext.specs.declared.sources.Profile.TheVariants.{C11};
 ghost use Rattle.ppshelf.specs.Files.{most_rows};
@@ -19,7 +19,7 @@ fn strings_of(alloc: Global, texts: &[&str]) -> Result<Vec<String>, AllocError> 
     Ok(strings)
 }
 
-/// A shelf of these names.
+/// Creates a file table with these names.
 pub(crate) fn shelf_of(alloc: Global, names: &[&str]) -> Result<Shelf<Stage>, Fail>
     ensures { IfOk result (λ s. s.profile ≡ C11) }
 {
@@ -30,7 +30,7 @@ pub(crate) fn shelf_of(alloc: Global, names: &[&str]) -> Result<Shelf<Stage>, Fa
     Ok(Shelf::new(alloc, names, Profile::C11)?)
 }
 
-/// A setting in which the folder `inc` is searched. No file asks for its date and time.
+/// Creates a setting that searches the directory `inc`. No file uses its date and time.
 pub(crate) fn setting_of(alloc: Global) -> Result<Setting, AllocError>
     ensures { IfOk result (λ s. s.profile ≡ C11) }
 {
@@ -44,7 +44,7 @@ pub(crate) fn setting_of(alloc: Global) -> Result<Setting, AllocError>
     })
 }
 
-/// A unit of the file in this row, with these definitions.
+/// Creates a unit of the file at index `file`, with these definitions.
 pub(crate) fn unit_of(alloc: Global, file: usize, defines: &[&str]) -> Result<Unit, Fail>
     ensures { IfOk result (λ u. (u.file ≡ file) × (u.defines.profile ≡ C11)) }
 {
@@ -59,7 +59,7 @@ pub(crate) fn unit_of(alloc: Global, file: usize, defines: &[&str]) -> Result<Un
     })
 }
 
-/// A unit for each of these rows of the shelf and definitions.
+/// Creates a unit for each of these file indices and definitions.
 pub(crate) fn units_of(
     alloc: Global,
     shelf: &Shelf<Stage>,
@@ -81,7 +81,7 @@ pub(crate) fn units_of(
     Ok(units)
 }
 
-// A unit's tokens, each with a space after it.
+/// Appends a unit's tokens, each with a space after it.
 fn push_tokens(alloc: Global, text: &mut Vec<u8>, out: &UnitOut) -> Result<(), AllocError> {
     for item in &out.items.to_vec(alloc)? {
         if let Item::Token(token) = item {
@@ -107,7 +107,7 @@ fn push_fault(alloc: Global, text: &mut Vec<u8>, fault: &Fault) -> Result<(), Al
     text.extend_from_slice(b"; ")
 }
 
-// Whether a unit ends well, or the fault at which it ends.
+/// Appends `ok`, or the fault of a unit.
 fn push_end(alloc: Global, text: &mut Vec<u8>, end: Option<&Fault>) -> Result<(), AllocError> {
     match end {
         None => text.extend_from_slice(b"| ok; "),
@@ -115,7 +115,7 @@ fn push_end(alloc: Global, text: &mut Vec<u8>, end: Option<&Fault>) -> Result<()
     }
 }
 
-/// Puts behind a text a unit's tokens, the rows that it depends on, and its end.
+/// Appends a unit's tokens, the indices of its dependencies, and its end.
 pub(crate) fn push_unit(
     alloc: Global,
     text: &mut Vec<u8>,
@@ -126,7 +126,7 @@ pub(crate) fn push_unit(
     push_end(alloc, text, out.fault.as_ref())
 }
 
-/// What `push_unit` says of each of these units, one after the other: `1 x | 0 2 | ok; | 0 | 6 0:1:1 a.c; `.
+/// Returns the texts that `push_unit` writes of these units: `1 x | 0 2 | ok; | 0 | 6 0:1:1 a.c; `.
 pub(crate) fn told(alloc: Global, outs: &[UnitOut]) -> Result<Vec<u8>, AllocError> {
     let mut text = Vec::new(alloc);
     for out in outs {

@@ -1,4 +1,5 @@
-// Lists of units, run by several workers, over disks that hold them, fail or change, and again after want of memory.
+//! Tests of lists of units that several workers run, over disks that hold files, fail or change, and again after a
+//! failed allocation.
 ghost use Rattle.std.specs.Prelude.{◌≡◌, ◌≤◌, All, length};
 ghost use Rattle.pptext.specs.declared.sources.Profile.TheVariants.{C11};
 ghost use Rattle.ppshelf.specs.Files.{most_rows};
@@ -16,7 +17,7 @@ use std::sync::atomic::Ordering::SeqCst;
 use std::test::Fail;
 use std::thread::Threads;
 
-/// How many workers run the units, in blocks of how many, and what is kept of the answers.
+/// The number of workers, the size of their blocks, and what is kept of the outputs.
 #[derive(Clone, Copy)]
 struct Crew {
     workers: usize,
@@ -24,7 +25,8 @@ struct Crew {
     keep: Keep,
 }
 
-/// Names, the scene that has files of these names, units by the rows of their names and their definitions, and what they give.
+/// A case: names, the scene that has files of these names, units with the indices of their files and their definitions,
+/// and the text of their outputs.
 #[derive(Clone, Copy)]
 pub(crate) struct Case {
     pub names: &'static [&'static str],
@@ -33,7 +35,7 @@ pub(crate) struct Case {
     pub told: &'static str,
 }
 
-// What units give. With all kept, by the call that keeps all.
+/// Runs units, by `run` if everything is kept, and otherwise by `run_keeping`.
 fn run_once<'a, R: Threads + Sync>(
     rt: &R,
     alloc: Global,
@@ -66,8 +68,8 @@ fn run_once<'a, R: Threads + Sync>(
     }
 }
 
-// The same by a pass that knows nothing. Where memory is refused, on a disk whose reads may want memory, the run is made again over the same shelf
-// and pass.
+/// Runs units with a pass that knows nothing. If an allocation fails, on a disk whose reads may fail so, runs them
+/// again over the same file table and pass.
 fn run_over<'a, R: Threads + Sync + Abort>(
     rt: &R,
     alloc: Global,
@@ -84,7 +86,7 @@ fn run_over<'a, R: Threads + Sync + Abort>(
     let mut pass = shelf.pass()?;
     let first = run_once(rt, alloc, shelf, &mut pass, disk, setting, units, crew);
     if first.is_ok() || disk.fault == ReadFault::Unreadable {
-        // a run fails where one of its reads has no memory
+        // A run fails if one of its reads has no memory.
         assert!(rt;
             disk.fault == ReadFault::Unreadable || disk.failing == 0,
             "read {}",
@@ -95,7 +97,7 @@ fn run_over<'a, R: Threads + Sync + Abort>(
     run_once(rt, alloc, shelf, &mut pass, disk, setting, units, crew)
 }
 
-// The same as a text.
+/// Runs units, and returns the text of their outputs.
 fn told_over<R: Threads + Sync + Abort>(
     rt: &R,
     alloc: Global,
@@ -113,7 +115,7 @@ fn told_over<R: Threads + Sync + Abort>(
     Ok(told(alloc, outs.as_slice())?)
 }
 
-// What the units of these rows and definitions give, as a text.
+/// Runs the units with these files and definitions, and returns the text of their outputs.
 fn told_by<R: Threads + Sync + Abort>(
     rt: &R,
     alloc: Global,
@@ -129,7 +131,7 @@ fn told_by<R: Threads + Sync + Abort>(
     Ok(told_over(rt, alloc, shelf, disk, &setting, units.as_slice(), crew)?)
 }
 
-// What a case's units give over a new shelf.
+/// Runs a case over a new file table, and returns the text of its outputs.
 fn given<R: Threads + Sync + Abort>(
     rt: &R,
     alloc: Global,
@@ -141,7 +143,7 @@ fn given<R: Threads + Sync + Abort>(
     told_by(rt, alloc, &shelf, disk, case.units, crew)
 }
 
-// That they give this.
+/// Asserts the outputs of a case.
 fn assert_gives<R: Threads + Sync + Abort>(
     rt: &R,
     alloc: Global,
@@ -171,13 +173,13 @@ const SEVEN: Case = Case {
     told: "0 | 0 | ok; 1 | 1 | ok; 2 | 2 | ok; 3 | 3 | ok; 4 | 4 | ok; 5 | 5 | ok; | 6 | 6 6:1:1 u6.c; ",
 };
 
-/// The same where their items aren't kept.
+/// The case `SEVEN` without items.
 const BARE: Case = Case {
     told: "| 0 | ok; | 1 | ok; | 2 | ok; | 3 | ok; | 4 | ok; | 5 | ok; | 6 | 6 6:1:1 u6.c; ",
     ..SEVEN
 };
 
-/// Workers, blocks, and what is kept.
+/// Numbers of workers, block sizes, and what is kept.
 const CREWS: &[(usize, usize, Keep, Case)] = &[
     (1, 1, Keep::Whole, SEVEN),
     (1, 3, Keep::Whole, SEVEN),
@@ -211,7 +213,7 @@ const TWO: Crew = Crew {
     keep: Keep::Whole,
 };
 
-// Whether two workers meet there.
+/// Whether two workers meet at a place.
 fn two_meet<R: Threads + Sync + Abort>(
     rt: &R,
     alloc: Global,
@@ -223,14 +225,15 @@ fn two_meet<R: Threads + Sync + Abort>(
     Ok(disk.met.load(SeqCst) == 2)
 }
 
-/// Two workers work at once, and read at once; and where one is held at the first unit the other takes all blocks up to the last one.
+/// Two workers work at once, and read at once; and if one waits at the first unit, the other takes all blocks up to the
+/// last one.
 const MEETINGS: &[(&str, Meeting)] = &[
     ("work at once", Meeting::AtUnits(1)),
     ("read at once", Meeting::AtReads),
     ("take what the other leaves", Meeting::AtUnits(6)),
 ];
 
-// Each has two runs: where a thread is refused memory the workers run in turn, and do not meet.
+/// Each has two runs: if a thread gets no memory, the workers run one after the other and don't meet.
 #[test]
 fn two_workers_meet(rt: HostRuntime) -> Result<(), Fail> {
     for &(what, meeting) in MEETINGS {
@@ -240,7 +243,7 @@ fn two_workers_meet(rt: HostRuntime) -> Result<(), Fail> {
     Ok(())
 }
 
-/// Two units that both give what the third file reads, at which disks change.
+/// Two units that both output what is in the third file, where disks change.
 pub(crate) const OVER_ONE_HEADER: Case = Case {
     names: &["a.c", "b.c", "h.h"],
     scene: Scene::OneHeader,
@@ -253,7 +256,7 @@ fn workers_find_one_content(rt: HostRuntime) -> Result<(), Fail> {
     let mut disk = Stage::new(OVER_ONE_HEADER.scene);
     (disk.change, disk.meeting) = (Change::Header, Meeting::AtUnits(1));
     let text = given(&rt, rt.alloc(), &OVER_ONE_HEADER, &disk, TWO)?;
-    // Both units give one content of the header, whichever.
+    // Both units have one content of the header, either one.
     assert!(rt; text.len() == 28 && text[0] == text[14]);
     Ok(())
 }
@@ -271,8 +274,8 @@ const GUARDED: Case = Case {
     told: GUARDED_TOLD,
 };
 
-/// Reads that fail, the number of reads, and what the two units give. What is read once stays as it was read. A read that has no memory is made
-/// again.
+/// Reads that fail, the number of reads, and the outputs of the two units. A file that was read keeps its content. A
+/// read that fails for lack of memory is repeated.
 const FAILING: &[(u64, ReadFault, u64, &str)] = &[
     (
         1,
@@ -304,8 +307,8 @@ fn a_read_fails(rt: HostRuntime) -> Result<(), Fail> {
     Ok(())
 }
 
-/// Two units of one token, of an invocation that reaches behind what it is replaced by, of a guarded header, and of headers that are looked for beside
-/// a file, in the folder `inc`, and in vain.
+/// Two units of one token, of an invocation that extends past its replacement, of a guarded header, and of headers that
+/// are searched for next to a file, in the directory `inc`, and without success.
 const AGAIN: &[Case] = &[
     Case {
         names: &["a.c"],

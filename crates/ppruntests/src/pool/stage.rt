@@ -1,14 +1,14 @@
-// Where the tests' files stand: a disk and a gate that hold, fail and change as a test asks for.
+//! A stage for tests: a disk and a gate that wait, fail and change as a test requires.
 use pppool::Gate;
 use ppshelf::{Disk, ReadFault};
 use std::alloc::Global;
 use std::sync::atomic::AtomicU64;
 use std::sync::atomic::Ordering::SeqCst;
 
-/// How often who is held looks for the other before it is let go.
+/// How often a waiting worker checks for the other before it gives up.
 const MOST_LOADS: u64 = 1_000_000_000;
 
-/// Where two workers wait for one another.
+/// Where two workers wait for each other.
 #[derive(Clone, Copy)]
 pub(crate) enum Meeting {
     Nowhere,
@@ -18,13 +18,13 @@ pub(crate) enum Meeting {
     AtReads,
 }
 
-/// What a disk answers in another way from read to read.
+/// What a disk changes from read to read.
 #[derive(Clone, Copy)]
 pub(crate) enum Change {
     Nothing,
     /// `h.h` is `1` at its first read, `2` at the next, and so on.
     Header,
-    /// Each file ends with a line more: `a` at the first read of any, `b` at the next, and so on.
+    /// Each file ends with one more line: `a` at the first read of any, `b` at the next, and so on.
     EachRead,
 }
 
@@ -33,19 +33,19 @@ pub(crate) enum Change {
 pub(crate) enum Scene {
     /// Six files of one number, and no seventh.
     Seven,
-    /// Two files that include a third one, which is empty but for what changes.
+    /// Two files that include a third one, which is empty except for what changes.
     OneHeader,
     /// A file that includes a guarded header twice.
     Guarded,
     /// A file of one token.
     OneToken,
-    /// An invocation that reaches behind what it is replaced by.
+    /// An invocation that extends past its replacement.
     Invocation,
-    /// Headers that are looked for beside a file, in the folder `inc`, and in vain.
+    /// Headers that are searched for next to a file, in the directory `inc`, and without success.
     Searched,
 }
 
-/// Their names and texts.
+/// Returns names and texts of the files.
 fn files_of(scene: Scene) -> &'static [(&'static str, &'static str)] {
     match scene {
         Scene::Seven => SEVEN,
@@ -93,7 +93,7 @@ const SEARCHED: &[(&str, &str)] = &[
 #[derive(Drop)]
 pub(crate) struct Stage {
     pub scene: Scene,
-    /// The read that fails, and how. Reads have the numbers 1, 2 and so on.
+    /// The number of the read that fails, from 1, and how it fails.
     pub failing: u64,
     pub fault: ReadFault,
     pub reads: AtomicU64,
@@ -105,7 +105,7 @@ pub(crate) struct Stage {
 }
 
 impl Stage {
-    /// The files of a scene, which hold nobody, don't fail and don't change.
+    /// Creates a stage for a scene that never waits, fails or changes.
     pub(crate) fn new(scene: Scene) -> Stage {
         Stage {
             scene,
@@ -120,7 +120,7 @@ impl Stage {
         }
     }
 
-    // What stands in a file.
+    /// Returns the content of a file.
     fn text_of(&self, alloc: Global, wanted: &str) -> Result<Vec<u8>, ReadFault> {
         for &(name, text) in files_of(self.scene) {
             if name == wanted {
@@ -130,7 +130,7 @@ impl Stage {
         Err(ReadFault::Unreadable)
     }
 
-    // Waits until two came, but not for ever.
+    /// Waits until two workers have come, but not forever.
     fn wait(&self) {
         let _before = self.came.fetch_add(1, SeqCst);
         for _ in 0..MOST_LOADS {
@@ -178,7 +178,7 @@ impl Disk for Stage {
     }
 }
 
-// A number on a line.
+/// Returns a number on a line.
 fn numbered(alloc: Global, number: u64) -> Result<Vec<u8>, ReadFault> {
     let Ok(text) = format!(in alloc; "{number}\n") else {
         return Err(ReadFault::Memory);
@@ -186,7 +186,7 @@ fn numbered(alloc: Global, number: u64) -> Result<Vec<u8>, ReadFault> {
     Ok(text.into_bytes())
 }
 
-// A text with a letter on a line more, by how many reads came before.
+/// Appends a letter on a line, which depends on the number of earlier reads.
 fn lettered(mut text: Vec<u8>, before: u64) -> Result<Vec<u8>, ReadFault> {
     let letter = b'a'.saturating_add((before % 26) as u8);
     let Ok(()) = text.extend_from_slice(&[letter, b'\n']) else {

@@ -1,4 +1,4 @@
-// What is read of a list, and the output of a unit whose answer is known.
+//! Tests of reading a list, and of the output of a unit with a known result.
 use ppserve::{Contents, List, ListFault, deps, dump, read_list};
 use pptext::{Fault, Hashing, Place, Profile, Spelling};
 use ppunit::{Items, Rows, UnitOut};
@@ -11,7 +11,8 @@ const UNIT_OF_TWO: &str =
 
 const PRINTED: &str = "unit 0 c.c\ndep 1 c.c\ndep 0 a b.h\nfault 9 1:20:300 a%25\n";
 
-/// What stands for the tilde, and what it says: the budget, and the profile, by which the unit's definitions are read, too.
+/// Texts for the tilde, and their meanings: the budget, and the profile, which also the unit's definitions are read
+/// with.
 const MEMBERS: &[(&str, Option<u64>, Profile)] = &[
     ("", None, Profile::C11),
     (
@@ -33,7 +34,7 @@ fn has_setting(list: &List, budget: Option<u64>, profile: Profile) -> bool {
         && matches!(list.units.as_slice(), [unit] if unit.defines.profile() == profile)
 }
 
-/// The second row and the first.
+/// Returns the indices 1 and 0.
 fn rows_of(alloc: Global) -> Result<Rows, AllocError> {
     let mut rows = Rows::new(alloc);
     rows.join(1)?;
@@ -54,7 +55,7 @@ fn fault_of(alloc: Global) -> Result<Fault, AllocError> {
     })
 }
 
-/// An answer without items that depends on the second file and the first, with a fault.
+/// Returns an output without items that depends on the second file and the first, with a fault.
 fn out_of<'a>(alloc: Global) -> Result<UnitOut<'a>, AllocError> {
     let fault = fault_of(alloc)?;
     let deps = rows_of(alloc)?;
@@ -65,7 +66,7 @@ fn out_of<'a>(alloc: Global) -> Result<UnitOut<'a>, AllocError> {
     })
 }
 
-/// That this is what the answer is printed as, also without the items, since it has none.
+/// Asserts the printed output, also without items, since it has none.
 fn assert_printed(rt: &impl Abort, alloc: Global, list: &List, out: UnitOut) -> Result<(), Fail> {
     let outs = [out];
     if list.units.as_slice().len() != outs.len() {
@@ -86,7 +87,7 @@ fn reads_a_list_and_prints_its_unit(rt: HostRuntime) -> Result<(), Fail> {
     Ok(())
 }
 
-/// Whether these are the contents of one file, `x`.
+/// Whether the contents are those of one file, `x`.
 fn are_x(contents: &[Vec<u8>]) -> bool {
     matches!(contents, [text] if text.as_slice() == b"x".as_slice())
 }

@@ -1,10 +1,10 @@
-// Streams that take little at a time, and fail at one call.
+//! Streams that transfer few bytes at a time, and fail at one call.
 ghost use Rattle.std.specs.Prelude.{◌≡◌, None, false};
 
 use ppserve::{Failed, Feed, Sink, SliceFeed, VecSink};
 use std::alloc::Global;
 
-/// The most bytes that go through a stream at a call, and the call at which it fails. Calls have the numbers 1, 2 and so on.
+/// The largest number of bytes in a call of a stream, and the number of the call that fails, from 1.
 #[derive(Clone, Copy)]
 pub(crate) struct Limits {
     pub most: usize,
@@ -16,7 +16,7 @@ pub(crate) const UNLIMITED: Limits = Limits {
     fails_at: usize::MAX,
 };
 
-/// Gives a list's bytes within limits.
+/// A reader of a list's bytes, within limits.
 #[derive(Drop)]
 pub(crate) struct Reader<'l> {
     bytes: SliceFeed<'l>,
@@ -62,7 +62,7 @@ impl Feed for Reader<'_> {
     }
 }
 
-/// Takes an output within limits.
+/// A writer of an output, within limits.
 #[derive(Drop)]
 pub(crate) struct Writer {
     bytes: VecSink,
@@ -83,12 +83,12 @@ impl Writer {
         }
     }
 
-    /// What went out.
+    /// Borrows the bytes that were written.
     pub(crate) fn bytes(&self) -> &[u8] {
         self.bytes.bytes()
     }
 
-    /// Whether it found no memory for what it was to take.
+    /// Whether an allocation of the writer failed.
     pub(crate) fn wants_memory(&self) -> bool {
         self.bytes.failed()
     }

@@ -1,4 +1,4 @@
-// Streams that fail, that take little at a time, and those of the system.
+//! Tests of streams that fail, that transfer few bytes at a time, and those of the system.
 use super::devices::{Limits, UNLIMITED};
 use super::{assert_ended, assert_sends, by_four, run_list};
 use ppserve::{ReaderFeed, RunFault, WriterSink, serve_from, status};
@@ -40,8 +40,9 @@ const NAME: &str =
 
 const NAME_OUTPUT: &str = "unit 0 a.c\ntok 0:1:1 0:1:1 i+ ~\ndep 0 a.c\nok\n";
 
-/// How many bytes go out to a writer that takes at most so many a call, and fails at one call: of the example, of more than two pages, and
-/// of a spelling that is longer than a page, which goes out by itself, between what stands before it and what is behind it.
+/// The number of bytes that are written through a writer with a limit for each call, if one call fails: of the example,
+/// of more than two buffers, and of a spelling that is longer than a buffer, which is written by itself, between what
+/// is before it and what is after it.
 const SENT: &[(&str, &str, usize, (usize, usize), usize)] = &[
     (EXAMPLE, EXAMPLE_OUTPUT, 0, (5, 3), 10),
     (NAMES, NAMES_OUTPUT, 40_000, (20_000, 1), 0),
@@ -72,7 +73,7 @@ fn breaks_off_at_each_write(rt: HostRuntime) -> Result<(), Fail> {
     Ok(())
 }
 
-/// The example with the name of its file alone, and a disk that has the file.
+/// The example with only the name of its file, and a disk that has the file.
 const NAMED: &str =
     r#"{"date":"Feb  9 2024","time":"08:05:03","files":[{"name":"a.c"}],"units":[{"file":"a.c"}]}"#;
 
@@ -85,7 +86,7 @@ fn disk_of(alloc: Global) -> Result<MemoryDisk, AllocError> {
     Ok(MemoryDisk { files })
 }
 
-/// What four workers make of it, from the system's reader to the system's writer.
+/// Runs it with four workers, from the system's reader to the system's writer.
 fn run_between<R: Threads + AllocGlobal + Sync>(
     rt: &R,
     disk: &MemoryDisk,
