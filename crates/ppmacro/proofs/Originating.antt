@@ -7,7 +7,7 @@ use Rattle.pptext.specs.declared.tokens.Token.{Token}
 use Rattle.pptext.specs.declared.tokens.Kind.{Kind}
 use Rattle.pptext.specs.Tokens.{fault}
 use Rattle.ppmacro.specs.Names.{HideSet}
-use Rattle.ppmacro.specs.HideSets.{Hiding}
+use Rattle.ppmacro.specs.Hiding.{Hiding}
 use Rattle.ppmacro.specs.Lexing.{kind_of}
 use Rattle.ppmacro.specs.Substitution.{Arguments, Marked, argument_at, expanded_at, stringized, is_string_literal, string_text, string_token, pasted, pasted_as, after_ok, join, join_all}
 use Rattle.ppmacro.specs.Substitution.{operand_tokens, operands_tokens, is_joined, before_rest, rest_of, rest_behind_comma, with_rest_tokens, chain_tokens, mark_first, chains_tokens}

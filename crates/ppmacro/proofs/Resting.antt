@@ -6,7 +6,8 @@ use Rattle.std.specs.Option.{option_map}
 use Rattle.pptext.specs.declared.tokens.Place.{Place}
 use Rattle.pptext.specs.declared.tokens.Fault.{Fault}
 use Rattle.ppmacro.specs.Numbered.{Numbered}
-use Rattle.ppmacro.specs.HideSets.{Hiding, hiding, hidings, AllKnown, Keeps}
+use Rattle.ppmacro.specs.Hiding.{Hiding}
+use Rattle.ppmacro.specs.HideSets.{hiding, hidings, AllKnown, Keeps}
 use Rattle.ppmacro.specs.declared.flying.Hidden.{Hidden}
 use Rattle.ppmacro.specs.declared.flying.Expansion.{Expansion}
 use Rattle.ppmacro.specs.declared.macros.Chain.{Chain}

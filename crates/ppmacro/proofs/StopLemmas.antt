@@ -5,7 +5,8 @@ use Rattle.pptext.specs.declared.tokens.Fault.{Fault}
 use Rattle.pptext.specs.declared.stops.Stop.{Stop}
 use Rattle.pptext.specs.declared.stops.Stop.TheVariants.{Fault as Faulted, Memory as OutOfMemory}
 use Rattle.ppmacro.specs.Numbered.{Numbered}
-use Rattle.ppmacro.specs.HideSets.{Hiding, hiding}
+use Rattle.ppmacro.specs.Hiding.{Hiding}
+use Rattle.ppmacro.specs.HideSets.{hiding}
 use Rattle.ppmacro.specs.Substitution.{Marked}
 use Rattle.ppmacro.specs.Substituting.{hidden_in, left_with, marked_in}
 use Rattle.ppmacro.specs.declared.flying.Hidden.{Hidden}

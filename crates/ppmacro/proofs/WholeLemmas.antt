@@ -10,7 +10,8 @@ use Rattle.pptext.specs.Lexing.{Lexes}
 use Rattle.pptext.proofs.Lexer.{one_lexing}
 use Rattle.pptext.proofs.Carried.{carried_on}
 use Rattle.ppmacro.specs.Numbered.{Numbered}
-use Rattle.ppmacro.specs.HideSets.{set_at, hide_of, Hiding, hiding}
+use Rattle.ppmacro.specs.Hiding.{Hiding}
+use Rattle.ppmacro.specs.HideSets.{set_at, hide_of, hiding}
 use Rattle.ppmacro.specs.Flying.{extended}
 use Rattle.ppmacro.specs.Lexing.{kind_of}
 use Rattle.ppmacro.specs.Substitution.{pasted, pasted_as}

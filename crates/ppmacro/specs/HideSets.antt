@@ -2,8 +2,8 @@
 use Rattle.std.specs.Prelude.{◌≡◌, ℕ, ◌<◌, List, [], ◌∷◌, ◌++◌, map, length, slice_index_or, Option, Some, None, IfSome}
 use Rattle.std.specs.FinSet as set
 use Rattle.std.specs.List.{AllByRecursion}
-use Rattle.pptext.specs.declared.tokens.Token.{Token}
 use Rattle.ppmacro.specs.Names.{HideSet}
+use Rattle.ppmacro.specs.Hiding.{Hiding}
 use Rattle.ppmacro.specs.Numbered.{Numbered}
 use Rattle.ppmacro.specs.Pairs.{KeepsPairs}
 use Rattle.ppmacro.specs.declared.flying.Hidden.{Hidden}
@@ -26,11 +26,6 @@ pub record Keeps (old new : Numbered) : Type 0 where
   pub is : new.sets ≡ old.sets ++ more
   pub unions : KeepsPairs old.unions new.unions
   pub meets : KeepsPairs old.meets new.meets
-
--- a token with the names that it is not replaced by
-pub record Hiding : Type 0 where
-  pub token : Token
-  pub hide : HideSet
 
 -- the names of a set, and of another beside it
 abbrev pub names_in : Numbered → ℕ → Option ℕ → HideSet

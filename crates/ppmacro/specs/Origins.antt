@@ -6,7 +6,7 @@ use Rattle.pptext.specs.declared.tokens.Place.{Place}
 use Rattle.pptext.specs.declared.tokens.Token.{Token}
 use Rattle.pptext.specs.declared.tokens.Kind.{Kind}
 use Rattle.ppmacro.specs.Names.{HideSet}
-use Rattle.ppmacro.specs.HideSets.{Hiding}
+use Rattle.ppmacro.specs.Hiding.{Hiding}
 use Rattle.ppmacro.specs.Lexing.{kind_of}
 use Rattle.ppmacro.specs.Substitution.{Arguments, argument_at, expanded_at, is_joined, string_text, string_token, chain_tokens}
 use Rattle.ppmacro.specs.declared.macros.Chain.{Chain}

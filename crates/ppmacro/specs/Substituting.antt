@@ -7,7 +7,8 @@ use Rattle.std.specs.Option.{option_map}
 use Rattle.pptext.specs.declared.tokens.Token.{Token}
 use Rattle.pptext.specs.declared.tokens.Fault.{Fault}
 use Rattle.ppmacro.specs.Numbered.{Numbered}
-use Rattle.ppmacro.specs.HideSets.{set_at, Hiding, hiding, hidings, AllKnown}
+use Rattle.ppmacro.specs.Hiding.{Hiding}
+use Rattle.ppmacro.specs.HideSets.{set_at, hiding, hidings, AllKnown}
 use Rattle.ppmacro.specs.Lexing.{kind_of}
 use Rattle.ppmacro.specs.Substitution.{Arguments, Marked, argument_at, expanded_at, mark_first}
 use Rattle.ppmacro.specs.declared.flying.Hidden.{Hidden}

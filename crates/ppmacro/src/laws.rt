@@ -6,7 +6,7 @@ ghost use Rattle.pptext.specs.declared.tokens.Place.{Place};
 ghost use Rattle.pptext.specs.declared.tokens.Token.{Token};
 ghost use Rattle.pptext.specs.Profiles.{is_gnu};
 ghost use Rattle.ppmacro.specs.Names.{Macros, HideSet};
-ghost use Rattle.ppmacro.specs.HideSets.{Hiding};
+ghost use Rattle.ppmacro.specs.Hiding.{Hiding};
 ghost use Rattle.ppmacro.specs.Headings.{Heading};
 ghost use Rattle.ppmacro.specs.Define.{Named, parameter_list, judged};
 ghost use Rattle.ppmacro.specs.Chains.{lenient_parameter, chains_of};
