@@ -1,4 +1,4 @@
--- What a public call answers of what a step made: a token, or tokens and the mark behind them.
+-- The results of a public call, by those of its step: a token, or tokens and the pending flag.
 use Rattle.std.proofs.Common.{◌≡◌, Bool, Result, Ok, Err, IfOk, Vec}
 use Rattle.std.specs.Global.{Global}
 use Rattle.pptext.specs.declared.tokens.Fault.{Fault}
