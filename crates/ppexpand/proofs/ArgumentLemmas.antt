@@ -5,7 +5,8 @@ use Rattle.pptext.specs.declared.tokens.Token.{Token}
 use Rattle.pptext.specs.declared.tokens.Fault.{Fault}
 use Rattle.ppmacro.specs.Names.{Name, Macros}
 use Rattle.ppmacro.specs.Numbered.{Numbered}
-use Rattle.ppmacro.specs.HideSets.{Hiding, hidings, AllKnown, Keeps}
+use Rattle.ppmacro.specs.Hiding.{Hiding}
+use Rattle.ppmacro.specs.HideSets.{hidings, AllKnown, Keeps}
 use Rattle.ppmacro.specs.Chains.{names_in, chains_of}
 use Rattle.ppmacro.specs.Substituting.{lists_of, ListsKnown, option_of}
 use Rattle.ppmacro.specs.Substitution.{argument_at}

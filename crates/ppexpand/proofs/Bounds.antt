@@ -1,7 +1,7 @@
 -- From a list only so many turns can be made.
 use Rattle.std.proofs.Common.{ℕ, suc, ◌≤◌, subst, arith}
 use Rattle.ppmacro.specs.Names.{Macros}
-use Rattle.ppmacro.specs.HideSets.{Hiding}
+use Rattle.ppmacro.specs.Hiding.{Hiding}
 use Rattle.std.specs.Prelude.{List, ◌∷◌, Option}
 use Rattle.ppexpand.specs.declared.env.Env.{Env}
 use Rattle.ppexpand.specs.Expansion.{Outcome, Expands, passes, replaced, call_replaced}

@@ -5,7 +5,7 @@ use Rattle.pptext.specs.declared.tokens.Token.{Token}
 use Rattle.ppexpand.specs.declared.expansion.Expanded.{Expanded}
 use Rattle.pptext.specs.declared.tokens.Fault.{Fault}
 use Rattle.ppmacro.specs.Names.{Macros}
-use Rattle.ppmacro.specs.HideSets.{Hiding}
+use Rattle.ppmacro.specs.Hiding.{Hiding}
 use Rattle.ppexpand.specs.declared.env.Env.{Env}
 use Rattle.ppexpand.specs.Turn.{Call, Turn, Done, Refused, Passes, Failed, Replaced, Called, turn, wanted, fault_at_use, ExpandedArguments}
 use Rattle.ppexpand.specs.Budget.{within, over, less_one}

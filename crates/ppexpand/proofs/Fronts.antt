@@ -2,7 +2,7 @@
 use Rattle.std.proofs.Common.{◌≡◌, ℕ, List, ◌∷◌, Option, sym, subst}
 use Rattle.std.specs.FinSet as set
 use Rattle.ppmacro.specs.Names.{Name, HideSet, Macros}
-use Rattle.ppmacro.specs.HideSets.{Hiding}
+use Rattle.ppmacro.specs.Hiding.{Hiding}
 use Rattle.ppexpand.specs.declared.env.Env.{Env}
 use Rattle.ppexpand.specs.Turn.{Turn, Passes, Replaced, Called}
 use Rattle.ppexpand.specs.Ending.{hides, Holds, Gains, Step, passes}

@@ -1,7 +1,8 @@
 -- How the search for the matching `)` goes on.
 use Rattle.std.proofs.Common.{◌≡◌, ℕ, zero, suc, true, List, [], ◌∷◌, ◌++◌, Option, Vec, Global, refl, sym, ap, ◌∙◌, append_assoc, append-nil}
 use Rattle.ppmacro.specs.Numbered.{Numbered}
-use Rattle.ppmacro.specs.HideSets.{Hiding, hiding, hidings, HasSets, AllKnown}
+use Rattle.ppmacro.specs.Hiding.{Hiding}
+use Rattle.ppmacro.specs.HideSets.{hiding, hidings, HasSets, AllKnown}
 use Rattle.ppmacro.specs.Substituting.{ListsKnown}
 use Rattle.ppmacro.specs.declared.flying.Hidden.{Hidden}
 use Rattle.ppexpand.specs.Arguments.{Gathered, Closed, Quoted, Unclosed, with_token, with_argument, separates}

@@ -1,7 +1,7 @@
 -- The arguments of an invocation are found exactly where they are laid out.
 use Rattle.std.proofs.Common.{◌≡◌, ◌↔◌, ℕ, zero, suc, ◌<◌, Bool, true, false, not, List, [], ◌∷◌, ◌++◌, length, Option, refl, sym, ap, ◌∙◌, subst, true≢false, arith, append_assoc, length-append}
 use Rattle.std.proofs.lemmas.Bool.{not-true}
-use Rattle.ppmacro.specs.HideSets.{Hiding}
+use Rattle.ppmacro.specs.Hiding.{Hiding}
 use Rattle.ppexpand.specs.Arguments.{argument_role, Gathered, Closed, Quoted, Unclosed, with_token, with_argument, separates, fewer, gather, ArgumentRole, Quote, Open, Close, Comma, Inner}
 use Rattle.ppexpand.specs.Laws.{Nested, nothing, inner, comma, pair, Separated, last, more, IsInvocation}
 

@@ -7,7 +7,7 @@ use Rattle.std.specs.FinSet as set
 use Rattle.pptext.specs.declared.tokens.Fault.{Fault}
 use Rattle.pptext.specs.Tokens.{is_lone_quote}
 use Rattle.ppmacro.specs.Names.{Name, Macros}
-use Rattle.ppmacro.specs.HideSets.{Hiding}
+use Rattle.ppmacro.specs.Hiding.{Hiding}
 use Rattle.ppmacro.specs.Chains.{is_function_like}
 use Rattle.ppmacro.specs.Substitution.{Marked}
 use Rattle.ppmacro.specs.declared.macros.Definition.{Definition}

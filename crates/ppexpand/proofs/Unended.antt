@@ -1,6 +1,6 @@
 -- Where no arguments are found: a lone quote stands first, or no `)` matches.
 use Rattle.std.proofs.Common.{◌≡◌, ◌↔◌, ℕ, zero, suc, ◌<◌, Bool, true, false, List, [], ◌∷◌, ◌++◌, length, Option, refl, sym, ap, ◌∙◌, subst, arith, append_assoc, append-nil}
-use Rattle.ppmacro.specs.HideSets.{Hiding}
+use Rattle.ppmacro.specs.Hiding.{Hiding}
 use Rattle.ppexpand.specs.Arguments.{argument_role, Gathered, Closed, Quoted, Unclosed, with_token, with_argument, separates, fewer, gather, ArgumentRole, Quote, Open, Close, Comma, Inner}
 use Rattle.ppexpand.specs.Laws.{Nested, nothing, inner, comma, pair, NeverClosed, paired, deeper, IsQuoted}
 use Rattle.ppexpand.proofs.Invocations.{at_quote, at_inner, at_open, at_close, at_end, at_separator, at_comma, IsClosed, shorter}

@@ -1,7 +1,7 @@
 -- What a budget of replacements is, and the turn within one.
 use Rattle.std.specs.Prelude.{ℕ, zero, suc, Bool, true, false, List, [], ◌∷◌, Option, Some, None}
 use Rattle.pptext.specs.Tokens.{fault}
-use Rattle.ppmacro.specs.HideSets.{Hiding}
+use Rattle.ppmacro.specs.Hiding.{Hiding}
 use Rattle.ppexpand.specs.Turn.{Turn, Done, Refused, Failed, Replaced, Called}
 
 -- nothing is left of a budget

@@ -12,7 +12,7 @@ use Rattle.pptext.specs.declared.tokens.Kind.{Kind}
 use Rattle.pptext.specs.declared.tokens.Kind.TheVariants.{Number, Str as StringLiteral}
 use Rattle.pptext.specs.Tokens.{is_identifier, is_lone_quote, fault}
 use Rattle.ppmacro.specs.Names.{Name, HideSet, Macros}
-use Rattle.ppmacro.specs.HideSets.{Hiding}
+use Rattle.ppmacro.specs.Hiding.{Hiding}
 use Rattle.ppmacro.specs.Chains.{names_in, chains_of}
 use Rattle.ppmacro.specs.Substitution.{Arguments, argument_at, Marked, with_mark, substituted}
 use Rattle.ppmacro.specs.declared.macros.Builtin.{Builtin}

@@ -4,7 +4,7 @@ ghost use Rattle.std.specs.FinSet as set;
 ghost use Rattle.std.specs.List.{AllPass};
 ghost use Rattle.pptext.specs.declared.tokens.Token.{Token};
 ghost use Rattle.ppmacro.specs.Names.{Name, HideSet, Macros};
-ghost use Rattle.ppmacro.specs.HideSets.{Hiding};
+ghost use Rattle.ppmacro.specs.Hiding.{Hiding};
 ghost use Rattle.ppexpand.specs.declared.env.Env.{Env};
 ghost use Rattle.ppexpand.specs.Arguments.{Closed, Quoted, Unclosed, gather};
 ghost use Rattle.ppexpand.specs.Turn.{turn};

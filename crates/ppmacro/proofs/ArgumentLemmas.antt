@@ -1,4 +1,4 @@
--- Arguments whose tokens' sets are there.
+-- Arguments whose hide sets are known.
 use Rattle.std.proofs.Common.{◌≡◌, ℕ, zero, suc, List, [], ◌∷◌, map, Vec, Global, sym, subst}
 use Rattle.ppmacro.specs.Numbered.{Numbered}
 use Rattle.ppmacro.specs.HideSets.{AllKnown}
@@ -20,7 +20,7 @@ expanded-known (g ∷ gs) (v ∷ vs) k zero = k.each.0
 expanded-known [] (v ∷ vs) k (suc i) = expanded-known [] vs (record { each = k.each.1 }) i
 expanded-known (g ∷ gs) (v ∷ vs) k (suc i) = expanded-known gs vs (record { each = k.each.1 }) i
 
--- arguments, and the same or others as their expansions
+-- Arguments, and either themselves or other lists as their expansions.
 pub all-known : {s : Numbered} (given others shown : List (Vec Hidden Global)) (expanded : List Expansion)
     → shown ≡ given
     → expanded ≡ map (λ v. Made v) others

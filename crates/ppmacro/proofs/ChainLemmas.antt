@@ -1,4 +1,4 @@
--- Chains that are made from the front.
+-- Chains that are built from the front.
 use Rattle.std.proofs.Common.{◌≡◌, ℕ, zero, suc, Bool, true, false, List, [], ◌∷◌, ◌++◌, length, set, get_or, refl, sym, ap, ◌∙◌, arith, append_assoc, append-nil}
 use Rattle.ppmacro.specs.declared.macros.Chain.{Chain}
 use Rattle.ppmacro.specs.declared.macros.Operand.{Operand}
@@ -20,7 +20,7 @@ added false mark o ds = lone mark o ∷ ds
 grouped-added : (mark : Bool) (o : Operand) (is : List Item) → grouped (Operates mark o ∷ is) ≡ added (begins_joined is) mark o (grouped is)
 grouped-added mark o is = elim (begins_joined is) as (λ b. elim b [ true ↦ join_first mark o (grouped is) | false ↦ lone mark o ∷ grouped is ] ≡ added b mark o (grouped is)) [ true ↦ refl | false ↦ refl ]
 
--- at the front, an operand that no `##` follows is a chain alone
+-- At the front, an operand without `##` after it is a chain of its own.
 pub grouped-alone : (mark : Bool) (o : Operand) (is : List Item) → begins_joined is ≡ false → grouped (Operates mark o ∷ is) ≡ record { mark = mark; operands = o ∷ [] } ∷ grouped is
 grouped-alone mark o is e = rw (grouped, e) refl
 

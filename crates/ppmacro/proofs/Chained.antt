@@ -43,7 +43,7 @@ hash_no_paste shape t e = by_spelling (is_punct (codes "#") t) refl (and_parts (
     by_spelling true s h = rw (other_punct (codes "#") (codes "##") t refl s, other_punct (codes "#") (codes "%:%:") t refl s) refl
     by_spelling false s h = rw (other_punct (codes "%:") (codes "##") t refl h, other_punct (codes "%:") (codes "%:%:") t refl h) refl
 
--- ---- what is laid out are the chains
+-- ---- chains that are laid out are the chains of the list
 
 at_token : (shape : Shape) (t : Token) (rest : List Token)
     → is_paste t ≡ false
@@ -102,7 +102,7 @@ module _ (shape : Shape) where
       ∙ ap (λ ys. grouped (Operates mark o ∷ ys)) (paste_items p (more ++ rest) s)
       ∙ ap (join_first mark o) (joined_grouped j rest cs b e)
 
-  -- a chain whose last operand may be the rest
+  -- A chain whose last operand may be a rest.
   abbrev ended : Chain → Chain
   ended = with_rest (lenient_parameter shape)
 
@@ -112,7 +112,7 @@ module _ (shape : Shape) where
       ap (map ended) (joined_grouped j rest (grouped (items rest)) (unjoined_all more) refl)
       ∙ ap (λ ds. ended (record { mark = mark; operands = os }) ∷ ds) (laid more)
 
-  -- ---- what has its operators in place is laid out
+  -- ---- a list with valid operators has chains
 
   abbrev HashesStand : List Token → Type 0
   HashesStand ts = (is_function_like shape && misplaces_hash shape ts) ≡ false
@@ -181,7 +181,7 @@ module _ (shape : Shape) where
   abbrev Lays : ℕ → Type 0
   Lays n = (ts : List Token) → length ts < n → misplaces_paste true ts ≡ false → HashesStand ts → Laid ts
 
-  -- an operand and `##` before chains
+  -- An operand and `##` before chains.
   paste_before : {mark : Bool} {o : Operand} (front : List Token) (p : Token)
       → IsOperand shape mark front o
       → is_paste p ≡ true

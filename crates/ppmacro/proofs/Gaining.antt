@@ -1,4 +1,4 @@
--- What hides a token that gains names, in one set or in two.
+-- The hide set of a token with one set or two, after names are added.
 use Rattle.std.proofs.Common.{◌≡◌, ℕ, Bool, true, false, ◌||◌, Option, Some, None, refl, sym, ap, ◌∙◌}
 use Rattle.std.specs.FinSet as set
 use Rattle.std.proofs.lemmas.Cmp.{nat_list_cmp_total}
@@ -35,26 +35,26 @@ at-name s g e q = sym (contains-both s g q) ∙ ap (λ u. set.contains u q) e
 pub within-itself : (s : HideSet) → set.union s s ≡ s
 within-itself s = same-by _ _ (λ q. contains-both s s q ∙ twice (set.contains s q))
 
--- of two sets the second is within what is gained
+-- The second set is a subset of the added names.
 pub second-within : (h a g : HideSet) → set.union a g ≡ g → set.union h g ≡ set.union (set.union h a) g
 second-within h a g e = same-by _ _ (λ q.
     contains-both h g q
     ∙ second_within (set.contains h q) (set.contains a q) (set.contains g q) (at-name a g e q)
     ∙ sym (contains-three h a g q))
 
--- of two sets the first is within what is gained
+-- The first set is a subset of the added names.
 pub first-within : (h a g : HideSet) → set.union h g ≡ g → set.union a g ≡ set.union (set.union h a) g
 first-within h a g e = same-by _ _ (λ q.
     contains-both a g q
     ∙ first_within (set.contains h q) (set.contains a q) (set.contains g q) (at-name h g e q)
     ∙ sym (contains-three h a g q))
 
--- a name of the first set hides a token, whatever stands beside it
+-- A name of the first set hides a token, whatever the second set is.
 pub has-first : (s : Numbered) (n : ℕ) (also : Option ℕ) (q : Name) → set.contains (set_at s n) q ≡ true → set.contains (names_in s n also) q ≡ true
 has-first s n None q e = e
 has-first s n (Some m) q e = contains-both (set_at s n) (set_at s m) q ∙ ap (λ b. b || set.contains (set_at s m) q) e
 
--- and else a name of the second
+-- Otherwise a name of the second set does.
 pub has-second : (s : Numbered) (n m : ℕ) (q : Name) → set.contains (set_at s n) q ≡ false → set.contains (names_in s n (Some m)) q ≡ set.contains (set_at s m) q
 has-second s n m q e = contains-both (set_at s n) (set_at s m) q ∙ ap (λ b. b || set.contains (set_at s m) q) e
 

@@ -1,4 +1,4 @@
--- Numbers of sets, and the sets of names that they stand for.
+-- The sets of names that numbers refer to.
 use Rattle.std.proofs.Common.{◌≡◌, ℕ, zero, suc, ◌<◌, ◌≤◌, ◌+◌, Bool, true, false, ◌||◌, nat_eq, List, [], ◌∷◌, ◌++◌, length, get_or, refl, sym}
 use Rattle.std.proofs.Common.{ap, ◌∙◌, subst, arith, length-append, true≢false, if◌then◌else◌, is_eq, ◌⊎◌, inl, inr}
 use Rattle.std.proofs.lemmas.Bool.{eq-eqb, cases_lt}
@@ -15,12 +15,12 @@ use Rattle.ppmacro.specs.Names.{Name, HideSet}
 use Rattle.ppmacro.specs.Members.{same_name, kept, hide_set, counted, hide_sets}
 use Rattle.ppmacro.proofs.Tries.{member-keeps, lawful, differs}
 
--- no member is past the names
+-- No member is past the names.
 pub record IsNamed (names : List Name) (ns : List Node) : Type 0 where
   pub distinct : IsDistinct same_name names
   pub within : (n x : ℕ) → n < length ns → member ns n x ≡ true → x < length names
 
--- what is made of two sets
+-- The result of an operation on two sets.
 abbrev pub made_of : Operation → HideSet → HideSet → HideSet
 made_of Union s t = set.union s t
 made_of Meet s t = set.intersection s t
@@ -31,7 +31,7 @@ name-is a b e = set.slice_cmp-IsAntisymmetric set.nat_cmp-IsAntisymmetric a b ((
 name-self : (a : Name) → same_name a a ≡ true
 name-self a = ap is_eq (tied_itself nat_list_cmp_total a)
 
--- whether the number of the name q passes
+-- Whether the number of the name q satisfies p.
 abbrev at_name : (ℕ → Bool) → ℕ → Name → List Name → Bool
 at_name p i q [] = false
 at_name p i q (x ∷ xs) = if same_name q x then p i else at_name p (suc i) q xs
@@ -81,7 +81,7 @@ joined-none : (o : Operation) → joined o false false ≡ false
 joined-none Union = refl
 joined-none Meet = refl
 
--- a node with the members of what is made of two sets is that of what is made
+-- A node with the members of the result has the set of the result.
 pub made-is : (o : Operation) (names : List Name) (old new : List Node) (a b n : ℕ)
     → IsDistinct same_name names
     → ((x : ℕ) → member new n x ≡ joined o (member old a x) (member old b x))
@@ -176,7 +176,7 @@ pub sets-keep : (names : List Name) (old new : List Node) → IsPool old → (k 
 sets-keep names old new p k =
     (λ j. counted (hide_set names new) 0 (k.is j)) ∙ counted-more (hide_set names old) (hide_set names new) 0 old k.more (λ n a b. hide_set-keeps names old new n p k (omega (arith, b)))
 
--- names that join the others are in no set that is there
+-- New names are in no existing set.
 kept-append : (p : ℕ → Bool) (i : ℕ) (xs ys : List Name) → ((k : ℕ) → i + length xs ≤ k → p k ≡ false) → kept p i (xs ++ ys) ≡ kept p i xs
 kept-append p i [] [] h = refl
 kept-append p i [] (y ∷ ys) h =
@@ -200,7 +200,7 @@ sets-named names more ns b = counted-same (hide_set (names ++ more) ns) (hide_se
 pub bounded-more : (names more : List Name) (ns : List Node) → IsBounded (length names) ns → IsBounded (length (names ++ more)) ns
 bounded-more names more ns b = record { each = λ n x l e. let w = b.each n x l e in omega (arith, w, length-append names more) }
 
--- a node with a name's number more is that of the set with the name more
+-- A node with one more number has the set with that name.
 at-one : (names : List Name) (x i : ℕ) (q r : Name) → IsDistinct same_name names → x < length names → get_or names x [] ≡ r → at_name (λ k. nat_eq k (i + x)) i q names ≡ same_name q r
 at-one [] x i q r d l is = absurd (omega (arith, l))
 at-one (y ∷ names) zero i q r d l is = elim (same_name q y) as (λ t. same_name q y ≡ t → (if t then nat_eq i (i + zero) else at_name (λ k. nat_eq k (i + zero)) (suc i) q names) ≡ same_name q r) [
@@ -249,7 +249,7 @@ hide-none names ns n h = ap set.from_list (kept-nothing (member ns n) 0 names h)
 pub union-none : (s : HideSet) → set.union set.empty s ≡ s
 union-none s = same-by _ _ (λ q. set.contains-union nat_list_cmp_total set.empty s q ∙ (λ i. set.contains-empty (slice_cmp nat_cmp) q i || set.contains s q))
 
--- a set that gained a name has gained it, with what it had
+-- A set with added names has them, and its own.
 pub insert-gained : (s : HideSet) (r : Name) → set.insert s r ≡ set.union s (set.insert s r)
 insert-gained s r = same-by _ _ (λ q.
     set.contains-insert nat_list_cmp_total s r q

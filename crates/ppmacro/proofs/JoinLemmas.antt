@@ -6,7 +6,8 @@ use Rattle.std.specs.Option.{option_map}
 use Rattle.pptext.specs.declared.tokens.Place.{Place}
 use Rattle.pptext.specs.declared.tokens.Fault.{Fault}
 use Rattle.ppmacro.specs.Numbered.{Numbered}
-use Rattle.ppmacro.specs.HideSets.{Hiding, hiding, hidings, HasSets, AllKnown, Keeps}
+use Rattle.ppmacro.specs.Hiding.{Hiding}
+use Rattle.ppmacro.specs.HideSets.{hiding, hidings, HasSets, AllKnown, Keeps}
 use Rattle.ppmacro.specs.Substitution.{after_ok, pasted, join, join_all, argument_at, expanded_at}
 use Rattle.ppmacro.specs.Substituting.{tokens_of, lists_of, option_of, options_of}
 use Rattle.ppmacro.specs.declared.flying.Hidden.{Hidden}
@@ -29,7 +30,7 @@ argument-absent [] i h = refl
 argument-absent (v ∷ vs) zero h = absurd (omega arith)
 argument-absent (v ∷ vs) (suc i) h = argument-absent vs i (omega arith)
 
--- the expansion of a parameter, by what stands at its place
+-- The expansion of a parameter, by the entry at its index.
 pub expansion-at : (given : List (Vec Hidden Global)) (es : List Expansion) (i : ℕ) (e : Expansion)
     → i < length es
     → e ≡ get_or es i e
@@ -131,6 +132,6 @@ join_all-more s t left next right rest used h = ap (λ r. after_ok r (λ ts. joi
 pub join_all-refused : (left : List Hiding) (right : List Hiding) (rest : List (List Hiding)) (used : Place) (f : Fault) → Err f ≡ join left right used → Err f ≡ join_all left (right ∷ rest) used
 join_all-refused left right rest used f h = ap (λ r. after_ok r (λ ts. join_all ts rest used)) h
 
--- the next list, joined to what stands so far
+-- The next list, joined to the tokens so far.
 pub lists-drop : (vs : List (Vec Hidden Global)) (i : ℕ) (v : Vec Hidden Global) → i < length vs → v ≡ get_or vs i v → drop i vs ≡ v ∷ drop (i + 1) vs
 lists-drop vs i v h e = drop_more vs i v h ∙ ap (λ x. x ∷ drop (i + 1) vs) (sym e)

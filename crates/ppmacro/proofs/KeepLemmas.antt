@@ -1,4 +1,4 @@
--- Tokens stand for the same while hide sets are added.
+-- Tokens keep their hide sets while sets are added.
 use Rattle.std.proofs.Common.{◌≡◌, ℕ, List, [], ◌∷◌, ◌++◌, Option, Some, None, IfSome, length, get_or, refl, sym, ap, ◌∙◌, arith, append_assoc, append-nil, length-append}
 use Rattle.std.proofs.lemmas.List.{get_or_append_left}
 use Rattle.std.specs.FinSet as set
@@ -42,7 +42,7 @@ known-keeps (h ∷ hs) k known =
     let rest = known-keeps hs k (record { each = known.each.1 }) in
     record { each = (known-sets h k known.each.0, rest.each) }
 
--- the same pairs, and pairs that others are put behind twice
+-- Equal pairs, and pairs that are appended twice.
 pub pairs-are : {ps qs : Answered} → ps ≡ qs → KeepsPairs ps qs
 pairs-are {ps} e = record { more = []; is = sym e ∙ sym (append-nil ps) }
 

@@ -1,4 +1,4 @@
--- A heading is read exactly where it is laid out.
+-- A parameter list is read exactly if it has the syntax of one.
 use Rattle.std.proofs.Common.{◌≡◌, ◌↔◌, ℕ, zero, suc, ◌<◌, Bool, true, false, ◌&&◌, List, [], ◌∷◌, ◌++◌, length, Option, Some, None}
 use Rattle.std.proofs.Common.{codes, if◌then◌else◌, refl, sym, ap, ◌∙◌, subst, true≢false, arith, append_assoc}
 use Rattle.std.specs.Option.{option_map}
@@ -18,7 +18,7 @@ use Rattle.ppmacro.specs.declared.defining.headings.Ending.TheVariants.{Plain, D
 use Rattle.ppmacro.specs.Define.{closed, with_name, behind_name, parameters_from, parameter_list}
 use Rattle.ppmacro.specs.Laws.{IdentifierList, one, more, Parameters, nothing, names, ellipsis, names_and_ellipsis, names_with_ellipsis, IsHeading}
 
--- ---- tokens that are unlike
+-- ---- tokens that differ
 
 no_punctuator : (k : Kind) (b : Bool) → is_identifier_kind k ≡ true → (is_punctuator_kind k && b) ≡ false
 no_punctuator Ident b e = refl
@@ -32,13 +32,13 @@ no_punctuator Other b e = absurd (true≢false (sym e))
 pub no_punct : (text : List ℕ) (t : Token) → is_identifier t ≡ true → is_punct text t ≡ false
 no_punct text t e = no_punctuator t.kind (bytes_eq t.text text) e
 
--- a punctuator has one spelling
+-- A punctuator has one spelling.
 pub other_punct : (text other : List ℕ) (t : Token) → bytes_eq text other ≡ false → is_punct text t ≡ true → is_punct other t ≡ false
 other_punct text other t unlike e =
     let spelt : t.text ≡ text = (bytes_eq-Decides t.text text).0 ((and_parts _ _ e).1) in
     and_right (is_punctuator_kind t.kind) (bytes_eq t.text other) (ap (λ x. bytes_eq x other) spelt ∙ unlike)
 
--- ---- what is laid out is read
+-- ---- what has the syntax is read
 
 abbrev heading : List Name → Ending → List Token → Heading
 heading ns v body = record { names = ns; ending = v; body = body }
@@ -82,7 +82,7 @@ behind_names gnu (one {t = t} e) rest v body on = at_identifier gnu t rest (head
 behind_names gnu (more {t = t} {comma = comma} {ts = ts} {names = ns} e is_comma l) rest v body on =
     at_identifier gnu t (comma ∷ (ts ++ rest)) (heading ns v body) e (at_comma gnu comma (ts ++ rest) is_comma ∙ behind_names gnu l rest v body on)
 
--- a list that doesn't begin with `)`
+-- A list that doesn't begin with `)`.
 at_first : (p : Profile) (t : Token) (ts : List Token) → is_punct (codes ")") t ≡ false → parameter_list p (t ∷ ts) ≡ parameters_from (is_gnu p) false (t ∷ ts)
 at_first p t ts e = rw e refl
 
@@ -108,12 +108,12 @@ read p (names_with_ellipsis ts t g l d) close body e =
     ∙ named_first p l (t ∷ (close ∷ body))
     ∙ behind_names (is_gnu p) l (t ∷ (close ∷ body)) NamedDots body (at_named_ellipsis (is_gnu p) t close body g d e)
 
--- ---- what is read is laid out
+-- ---- what is read has the syntax
 
 unread : {h : Heading} → None ≡ Some h → ⊥
 unread e = cc
 
--- one parameter or more
+-- One parameter or more.
 data Some_parameters (gnu : Bool) : List Token → List Name → Ending → Type 0 where
   listed : {ts : List Token} {ns : List Name} → IdentifierList ts ns → Some_parameters gnu ts ns Plain
   open_list : {t : Token} → is_punct (codes "...") t ≡ true → Some_parameters gnu (t ∷ []) [] Dots
@@ -174,7 +174,7 @@ with_name-inverse n (Some g) h e =
 abbrev Forms : Bool → ℕ → Type 0
 Forms gnu n = (ts : List Token) (h : Heading) → length ts < n → parameters_from gnu false ts ≡ Some h → Form gnu ts h
 
--- a name that ends the list
+-- A name that ends the list.
 ended : (gnu : Bool) (t u : Token) (us : List Token) (g : Heading) → is_identifier t ≡ true → behind_name gnu (u ∷ us) ≡ Some g → Form gnu (t ∷ (u ∷ us)) (with_name t.text g)
 ended gnu t u us g e r = elim (gnu && is_punct (codes "...") u) as (λ b. (gnu && is_punct (codes "...") u) ≡ b
     → (if b then closed NamedDots us else closed Plain (u ∷ us)) ≡ Some g

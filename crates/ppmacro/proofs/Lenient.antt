@@ -30,7 +30,7 @@ strict_by false ns Plain g = refl
 strict_by false ns Dots g = refl
 strict_by false ns NamedDots g = refl
 
--- no variable argument may be absent in a definition, if there is one
+-- No variable argument may be absent in a definition, if there is one.
 abbrev IsStrict : {E : Type 0} → Result Definition E → Type 0
 IsStrict (Ok d) = lenient_parameter d.shape ≡ None
 IsStrict (Err e) = Unit {0}
@@ -62,7 +62,7 @@ fitting_strict : (p : Profile) (macros : Macros) (name : Name) (r : Result Defin
 fitting_strict p macros name (Ok d) h = unless_strict (refusal_of p macros name d) d h
 fitting_strict p macros name (Err e) h = tt
 
--- no variable argument may be absent in the macro that a line defines, if there is one
+-- No variable argument may be absent in the macro that a line defines, if there is one.
 abbrev NamesStrict : Result Named Fault → Type 0
 NamesStrict (Ok n) = lenient_parameter n.definition.shape ≡ None
 NamesStrict (Err f) = Unit {0}

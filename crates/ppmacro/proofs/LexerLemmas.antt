@@ -1,4 +1,4 @@
--- Which token a text is.
+-- The kind of a text that is one token.
 use Rattle.std.proofs.Common.{◌≡◌, ℕ, List, Option, Some, None, IfNone, IfSome}
 use Rattle.pptext.specs.declared.tokens.Kind.{Kind}
 use Rattle.pptext.specs.Sources.{IsOneToken, IsLoneQuote}
@@ -13,6 +13,6 @@ lexed : (text : List ℕ) (r : Option Kind) → IfNone r ((k : Kind) → IsOneTo
 lexed text None n s = n
 lexed text (Some k) n s = s
 
--- what the lexer answers
+-- The results of the lexer.
 pub lexes-same : (text : List ℕ) (r : Option Kind) → IfNone r ((k : Kind) → IsOneToken text k → IsLoneQuote text) → IfSome r (λ k. IsOneToken text k × (¬ IsLoneQuote text)) → r ≡ kind_of text
 lexes-same text r n s = one_lexing text r (kind_of text) (lexed text r n s) (kind_of_is.each text)

@@ -1,32 +1,32 @@
--- The lemmas of this crate, by file; the proofs of its functions stand in a folder for each file of the sources.
+-- The lemmas of this crate, by file. The proofs of its functions are in a directory for each source file.
 
--- A table's entries as a finite map.
+-- The entries of a table as a finite map.
 pub mod TableLemmas
--- Marks of a table's names.
+-- The filter of a table's names.
 pub mod Marked
--- Chains that are made from the front.
+-- Chains that are built from the front.
 pub mod ChainLemmas
--- Which token a text is.
+-- The kind of a text that is one token.
 pub mod LexerLemmas
--- Tokens stand for the same while hide sets are added.
+-- Tokens keep their hide sets while sets are added.
 pub mod KeepLemmas
--- What a public call answers of a token that was made.
+-- The results of a public call, by those of its step: a token, or tokens and the pending flag.
 pub mod StopLemmas
 -- Lists that `##` joins, while hide sets are added.
 pub mod JoinLemmas
--- Tokens whose kind is that of their spelling, as `##` makes them.
+-- Tokens whose kind is the kind of their spelling, as after `##`.
 pub mod WholeLemmas
--- The chains' tokens one behind the other, and what they gain, while hide sets are added.
+-- The tokens of one chain after another, and the names that are added, while hide sets are added.
 pub mod WalkLemmas
--- What hides a token that gains names, in one set or in two.
+-- The hide set of a token with one set or two, after names are added.
 pub mod Gaining
--- Arguments whose tokens' sets are there.
+-- Arguments whose hide sets are known.
 pub mod ArgumentLemmas
 -- Tries of words.
 pub mod Tries
--- Pairs that are known, while nodes and pairs are added.
+-- Cached pairs, while nodes and pairs are added.
 pub mod Remembering
--- Numbers of sets, and the sets of names that they stand for.
+-- The sets of names that numbers refer to.
 pub mod Hiding
 -- Names by their numbers.
 pub mod Naming
@@ -34,21 +34,21 @@ pub mod Naming
 pub mod Viewed
 -- The faults of `#define` and `#undef` are 9 to 16.
 pub mod Numbers
--- Names that stand twice.
+-- Names that occur twice.
 pub mod Repeating
--- A heading is read exactly where it is laid out.
+-- A parameter list is read exactly if it has the syntax of one.
 pub mod Layouts
 -- No variable argument may be absent without the rules of GNU C, and no chain has a rest without such an argument.
 pub mod Lenient
 -- The chains of a replacement list, laid end to end, are the list.
 pub mod Chained
--- What is laid out as chains has its operators in place.
+-- A list that is laid out as chains has valid operators.
 pub mod Placed
--- Chains of a token alone, as they are where no `##` stands.
+-- Chains of one token, as in a list without `##`.
 pub mod Lonely
--- Chains of an entry alone, as they are where neither `#` nor `##` stands.
+-- Chains of one entry, as in a list without `#` and `##`.
 pub mod Patterned
--- Chains whose last operand may be the rest.
+-- Chains whose last operand may be a rest.
 pub mod Resting
--- Where each token of a replacement comes from, what hides it and its mark.
+-- The origin, the hide set and the leading-space flag of each token of a replacement.
 pub mod Originating

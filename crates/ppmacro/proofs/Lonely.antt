@@ -1,4 +1,4 @@
--- Chains of a token alone, as they are where no `##` stands.
+-- Chains of one token, as in a list without `##`.
 use Rattle.std.proofs.Common.{◌≡◌, Bool, true, false, List, [], ◌∷◌, map, refl, ap, ◌∙◌, Option, Some, None, Ok, if◌then◌else◌, ℕ}
 use Rattle.std.specs.List.{list_any}
 use Rattle.std.proofs.lemmas.Bool.{false≢true, or_parts}
@@ -18,11 +18,11 @@ use Rattle.ppmacro.proofs.ChainLemmas.{grouped-alone}
 
 -- ---- the chains
 
--- no name of a parameter
+-- No name of a parameter.
 unnamed : (t : Token) → parameter_of ObjectLike t ≡ None
 unnamed t = elim (is_identifier t) as (λ b. if◌then◌else◌ {A = Option ℕ} b None None ≡ None) [ true ↦ refl | false ↦ refl ]
 
--- the items behind, where a `#` goes before them or doesn't
+-- The parts after a token, whether or not it is a `#`.
 abbrev behind_hash : Token → List Token → List Item
 behind_hash t ts = items_behind ObjectLike (Some (hash_sign t)) ts
 
@@ -61,7 +61,7 @@ gained_each : (gain : HideSet) (used : Place) (ts : List Token) → map (gained 
 gained_each gain used [] = refl
 gained_each gain used (t ∷ ts) = ap (λ hs. gained gain used (plain t) ∷ hs) (gained_each gain used ts)
 
--- of an empty list the mark is left pending
+-- An empty list leaves the flag pending.
 pub lone_none : (args : Arguments) (gain : HideSet) (used : Place) (space : Bool) → substituted_by (map lone_chain []) args gain used space ≡ Ok (record { tokens = []; pending = space })
 lone_none args gain used space = refl
 

@@ -1,4 +1,4 @@
--- Marks of a table's names.
+-- The filter of a table's names.
 use Rattle.std.proofs.Common.{◌≡◌, ℕ, ◌<◌, Bool, true, false, cond, List, [], Some, None, refl, sym, ap, ◌∙◌}
 use native.Mathlib.Omega.{arith}
 use Rattle.std.specs.FinMap as table
@@ -11,11 +11,11 @@ use Rattle.ppmacro.specs.declared.macros.Definition.{Definition}
 use Rattle.ppmacro.specs.Names.{Name, Macros}
 use Rattle.ppmacro.specs.Marks.{at, AreMarked}
 
--- marks that grew
+-- A filter with more names.
 pub marked-grown : (old new : List ℕ) (m : Macros) → ((n : Name) → at new n ≡ 0 → at old n ≡ 0) → AreMarked old m → AreMarked new m
 marked-grown old new m grows h n e = h n (grows n e)
 
--- a name that joins with its mark
+-- A name that is inserted into both.
 pub marked-insert : (marks : List ℕ) (m : Macros) (name : Name) (d : Definition) → 0 < at marks name → AreMarked marks m → AreMarked marks (table.insert m name d)
 marked-insert marks m name d here h n e = table.get-insert nat_list_cmp_total m name d n ∙ go (eq_by_cmp (slice_cmp nat_cmp) n name) refl
   where
@@ -25,7 +25,7 @@ marked-insert marks m name d here h n e = table.get-insert nat_list_cmp_total m 
         absurd (let zero : at marks name ≡ 0 = ap (at marks) (sym same) ∙ e in omega arith)
     go false is = h n e
 
--- a name that leaves
+-- A name that is removed from the table.
 pub marked-remove : (marks : List ℕ) (m : Macros) (name : Name) → AreMarked marks m → AreMarked marks (table.remove m name)
 marked-remove marks m name h n e = table.get-remove nat_list_cmp_total m name n ∙ go (eq_by_cmp (slice_cmp nat_cmp) n name)
   where
@@ -33,6 +33,6 @@ marked-remove marks m name h n e = table.get-remove nat_list_cmp_total m name n 
     go true = refl
     go false = h n e
 
--- no names
+-- The empty table.
 pub marked-none : (marks : List ℕ) → AreMarked marks (table.from_entries [])
 marked-none marks n e = table.get-from_entries nat_list_cmp_total [] n

@@ -11,7 +11,7 @@ use Rattle.std.proofs.lemmas.Slice.Eq.{bytes_eq-Decides}
 use Rattle.ppmacro.specs.Names.{Name}
 use Rattle.ppmacro.specs.Members.{same_name}
 
--- what a search from i on finds
+-- The result of a search from i on.
 pub Found : Name → ℕ → List Name → Option ℕ → Type 0
 Found q i xs None = AllByRecursion (λ y. same_name q y ≡ false) xs
 Found q i xs (Some n) = (j : ℕ) × (n ≡ i + j) × (j < length xs) × (get_or xs j [] ≡ q)
@@ -41,7 +41,7 @@ unfolding Found
 if-none q xs None h = h
 if-none q xs (Some n) h = tt
 
--- distinct keys are distinct names
+-- Distinct keys are distinct names.
 pub distinct-names : (ks : List Name) → IsDistinct (λ a b. bytes_eq a b) ks → IsDistinct same_name ks
 unfolding IsDistinct
 distinct-names [] d = tt
@@ -51,7 +51,7 @@ distinct-names (k ∷ ks) d = (each ks d.0, distinct-names ks d.1)
     each [] h = tt
     each (l ∷ ls) h = (is_eq-slice_cmp k l ∙ h.0, each ls h.1)
 
--- ---- a name that is put in
+-- ---- a name that is inserted
 
 pub name-got : (ks : List Name) (n : ℕ) (k : Name) → slice_get ks n ≡ Some k → get_or ks n [] ≡ k
 name-got [] n k e = absurd (cc e)

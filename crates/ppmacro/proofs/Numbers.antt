@@ -10,7 +10,7 @@ use Rattle.ppmacro.specs.declared.macros.Definition.{Definition}
 use Rattle.ppmacro.specs.Define.{Named, Refusal, ParameterList, Spacing, Pasting, Stringizing, VariableArguments, Redefinition}
 use Rattle.ppmacro.specs.Define.{is_reserved, read_definition, fitting, number_of, under_name, judged, entered, after_define, undefined, taken_out, after_undef}
 
--- the fault of a result, if it is one, has at most this number
+-- The fault of a result, if it is one, has at most this number.
 abbrev IsUpTo : {A : Type 0} → ℕ → Result A Fault → Type 0
 IsUpTo most (Ok x) = Unit {0}
 IsUpTo most (Err f) = f.number ≤ most

@@ -1,4 +1,4 @@
--- Where each token of a replacement comes from, what hides it and its mark.
+-- The origin, the hide set and the leading-space flag of each token of a replacement.
 use Rattle.std.proofs.Common.{◌+◌, length-append, ◌≡◌, ℕ, zero, suc, ◌<◌, ◌-◌, Bool, true, false, not, ◌&&◌, ◌||◌, List, [], ◌∷◌, ◌++◌, map, take, length, Option, Some, None, Result, Ok, Err}
 use Rattle.std.proofs.Common.{if◌then◌else◌, refl, sym, ap, ◌∙◌, subst, unwrap_or, slice_get, slice_index_or, append-nil, append_assoc, arith}
 use Rattle.std.specs.List.{AllByRecursion, Contains}
@@ -7,7 +7,7 @@ use Rattle.pptext.specs.declared.tokens.Token.{Token}
 use Rattle.pptext.specs.declared.tokens.Kind.{Kind}
 use Rattle.pptext.specs.Tokens.{fault}
 use Rattle.ppmacro.specs.Names.{HideSet}
-use Rattle.ppmacro.specs.HideSets.{Hiding}
+use Rattle.ppmacro.specs.Hiding.{Hiding}
 use Rattle.ppmacro.specs.Lexing.{kind_of}
 use Rattle.ppmacro.specs.Substitution.{Arguments, Marked, argument_at, expanded_at, stringized, is_string_literal, string_text, string_token, pasted, pasted_as, after_ok, join, join_all}
 use Rattle.ppmacro.specs.Substitution.{operand_tokens, operands_tokens, is_joined, before_rest, rest_of, rest_behind_comma, with_rest_tokens, chain_tokens, mark_first, chains_tokens}
@@ -17,7 +17,7 @@ use Rattle.ppmacro.specs.declared.macros.Chain.{Chain}
 use Rattle.ppmacro.specs.declared.macros.Operand.{Operand}
 use Rattle.ppmacro.specs.declared.macros.Operand.TheVariants.{Tok, Param, Str, Rest}
 
--- ---- lists and answers
+-- ---- lists and results
 
 here : {X : Type 0} (x : X) (xs : List X) → Contains (x ∷ xs) x
 here x xs = (0, omega arith, refl)
@@ -55,7 +55,7 @@ after : {A B E : Type 0} (r : Result A E) (f : A → Result B E) (b : B) → aft
 after (Ok a) f b e = (a, refl, e)
 after (Err x) f b e = absurd (no-ok x b e)
 
--- ---- what a chain stands for
+-- ---- the tokens of a chain
 
 module _ (P : Hiding → Type 0) (used : Place) (closed : (l r t : Hiding) → P l → P r → pasted l r used ≡ Ok t → P t) where
   join_each : (left right ts : List Hiding) → AllByRecursion P left → AllByRecursion P right → join left right used ≡ Ok ts → AllByRecursion P ts
@@ -158,7 +158,7 @@ chain_each args used c ts e =
     (operands_each args used c.operands (before_rest c.operands) (before_rest_within c.operands) lists.0 lists.1) joined.1 in
     subst (AllByRecursion (ComesFrom args used c.operands)) (ok-same _ ts joined.2) (with_rest_each args used c.operands (rest_of c.operands) (rest_within c.operands) joined.0 all)
 
--- ---- marks, and what is gained
+-- ---- flags, and added names
 
 abbrev is_nil : {X : Type 0} → List X → Bool
 is_nil [] = true
@@ -168,12 +168,12 @@ not_nil : {X : Type 0} (xs : List X) (x : X) → false ≡ is_nil (xs ++ x ∷ [
 not_nil [] x = refl
 not_nil (y ∷ ys) x = refl
 
--- the mark that a chain's first token takes
+-- The leading-space flag of a chain's first token.
 mark_is : (first : Bool) (before : List Chain) (c : Chain) → first ≡ is_nil before → (not first && c.mark) ≡ own_mark before c
 mark_is first [] c e = rw e refl
 mark_is first (b ∷ bs) c e = rw e refl
 
--- each element with its index, which counts from n
+-- Each element with its index, which counts from n.
 abbrev pub Numbered : {X : Type 0} → (ℕ → X → Type 0) → ℕ → List X → Type 0
 Numbered P n [] = Unit {0}
 Numbered P n (x ∷ xs) = P n x × Numbered P (suc n) xs
@@ -190,7 +190,7 @@ module _ (args : Arguments) (gain : HideSet) (used : Place) (space : Bool) where
   abbrev Replacing : List Chain → ℕ → Hiding → Type 0
   Replacing cs n t = IsReplacing cs args gain used space n (gained gain used t)
 
-  -- the tokens of a chain behind its first
+  -- The tokens of a chain after its first.
   later_each : (before : List Chain) (c : Chain) (behind : List Chain) (count : ℕ) (waiting : Bool)
       → Waits args used space before count waiting
       → (t : Hiding) (ts us : List Hiding)
@@ -219,7 +219,7 @@ module _ (args : Arguments) (gain : HideSet) (used : Place) (space : Bool) where
     later_each before c behind count waiting w t (ts ++ u ∷ []) us (e ∙ ap (λ xs. Ok (t ∷ xs)) (sym (append_assoc ts (u ∷ []) us))) (suc n) (omega (arith, at, length-append ts (u ∷ []))),
   )
 
-  -- the tokens of a chain, and what waits behind it
+  -- The tokens of a chain, and the flag that is pending after it.
   chain_replacing : (before : List Chain) (c : Chain) (behind : List Chain) (count : ℕ) (waiting mark : Bool)
       → Waits args used space before count waiting
       → mark ≡ (waiting || own_mark before c)

@@ -1,4 +1,4 @@
--- Chains of an entry alone, as they are where neither `#` nor `##` stands.
+-- Chains of one entry, as in a list without `#` and `##`.
 use Rattle.std.proofs.Common.{◌≡◌, Bool, true, false, ◌&&◌, ℕ, List, [], ◌∷◌, map, refl, sym, ap, ◌∙◌, Option, Some, None}
 use Rattle.std.specs.List.{list_any}
 use Rattle.std.proofs.lemmas.Bool.{or_parts}
@@ -43,7 +43,7 @@ all_alone s (t ∷ ts) a =
     ∙ sym (grouped_entry (parameter_of s t) t (items_behind s None ts) (unjoined s ts none.1))
     ∙ ap grouped (sym (one_item s t ts none.0))
 
--- no entry ends in the rest
+-- No entry ends in a rest.
 restless : (rest : Option ℕ) (e : Entry) → entry_chain e ≡ with_rest rest (entry_chain e)
 restless None e = refl
 restless (Some i) (Tok t) = refl

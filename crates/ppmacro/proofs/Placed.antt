@@ -1,4 +1,4 @@
--- What is laid out as chains has its operators in place.
+-- A list that is laid out as chains has valid operators.
 use Rattle.std.proofs.Common.{◌≡◌, Bool, true, false, not, ◌&&◌, ◌||◌, List, ◌∷◌, ◌++◌, is_some, codes, refl, ap, ◌∙◌, subst, true≢false, append_assoc}
 use Rattle.std.proofs.Common.{◌↔◌, sym}
 use Rattle.pptext.specs.declared.tokens.Token.{Token}

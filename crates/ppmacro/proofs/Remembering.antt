@@ -1,4 +1,4 @@
--- Pairs that are known, while nodes and pairs are added.
+-- Cached pairs, while nodes and pairs are added.
 use Rattle.std.proofs.Common.{◌≡◌, ℕ, ◌<◌, Bool, true, false, cond, ◌&&◌, ◌||◌, nat_eq, List, [], ◌∷◌, ◌++◌, Option, Some, None, length, refl, sym, ap, ◌∙◌, subst, if◌then◌else◌}
 use Rattle.std.proofs.Math.Bool as bool
 use Rattle.std.proofs.lemmas.Bool.{eqb-true, eq-eqb, and_parts}
@@ -16,7 +16,7 @@ answer-put (e ∷ ps) a b n h = elim (same_pair (a, b) e.0) as (λ t. cond t (So
   | false ↦ λ g. answer-put ps a b n g
 ] h
 
--- what a pair's answer is known to be
+-- A pair that is neither trivial nor cached.
 pub record IsUnknown (ps : Answered) (a b : ℕ) : Type 0 where
   pub left : nat_eq a 0 ≡ false
   pub right : nat_eq b 0 ≡ false
@@ -33,7 +33,7 @@ pub unknown : (o : Operation) (ps : Answered) (a b : ℕ) → known o ps a b ≡
 unknown Union ps a b h = let c = none-chosen (nat_eq a 0) (nat_eq b 0) (nat_eq a b) b a a (answer_of ps a b) h in record { left = c.0; right = c.1; apart = c.2; none = c.3 }
 unknown Meet ps a b h = let c = none-chosen (nat_eq a 0) (nat_eq b 0) (nat_eq a b) a b a (answer_of ps a b) h in record { left = c.0; right = c.1; apart = c.2; none = c.3 }
 
--- a pair is known where no work is left, or where it was answered
+-- A result is known if it is trivial or cached.
 pub settled-known : (o : Operation) (ps : Answered) (a b n : ℕ) → known o [] a b ≡ Some n → known o ps a b ≡ Some n
 settled-known o ps a b n = at o
   where
@@ -51,12 +51,12 @@ pub unsettled-known : (o : Operation) (ps : Answered) (a b : ℕ) → known o []
 unsettled-known Union ps a b h = let u = unknown Union [] a b h in λ i. if u.left i then Some b else (if u.right i then Some a else (if u.apart i then Some a else answer_of ps a b))
 unsettled-known Meet ps a b h = let u = unknown Meet [] a b h in λ i. if u.left i then Some a else (if u.right i then Some b else (if u.apart i then Some a else answer_of ps a b))
 
--- a pair that was not known is, once it has an answer
+-- A pair that wasn't known is, once it has a result.
 pub known-by : (o : Operation) (old new : Answered) (a b n : ℕ) → IsUnknown old a b → answer_of new a b ≡ Some n → known o new a b ≡ Some n
 known-by Union old new a b n u h = rw (u.left, u.right, u.apart) h
 known-by Meet old new a b n u h = rw (u.left, u.right, u.apart) h
 
--- ---- answers
+-- ---- results
 
 pub answers-keep : (op : Bool → Bool → Bool) (old new : List Node) (ps : Answered) → IsPool old → Keeps old new → AreAnswers op old ps → AreAnswers op new ps
 answers-keep op old new [] p k h = record { each = tt }
@@ -92,12 +92,12 @@ found op ns (f ∷ ps) a b n h e = elim (same_pair (a, b) f.0) as (λ t. same_pa
   | false ↦ λ p g. found op ns ps a b n (record { each = h.each.1 }) g
 ] refl e
 
--- what is known to be made of two sets is it
+-- The known result of two sets is their result.
 pub record IsMade (op : Bool → Bool → Bool) (ns : List Node) (a b n : ℕ) : Type 0 where
   pub within : n < length ns
   pub is : (x : ℕ) → member ns n x ≡ op (member ns a x) (member ns b x)
 
--- what holds of the answer in each case holds of the answer
+-- What holds of the result in each case holds of the result.
 by-case : (P : ℕ → Type 0) (a b p q r n : ℕ) (o : Option ℕ)
     → (a ≡ 0 → P p)
     → (b ≡ 0 → P q)
@@ -143,7 +143,7 @@ is-answer op old new a b n p k la lb ln is = record {
   is = λ x. is x ∙ (λ i. op (sym (member-keeps old new a x p k la) i) (sym (member-keeps old new b x p k lb) i));
 }
 
--- what is made of two sets without work has the words of what is made of them
+-- A trivial result has the words of the result.
 pub record IsSettled (o : Operation) (ns : List Node) (a b n : ℕ) : Type 0 where
   pub within : n < length ns
   pub is : (w : ℕ) → word ns n w ≡ joined_word o (word ns a w) (word ns b w)

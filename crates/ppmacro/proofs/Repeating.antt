@@ -1,4 +1,4 @@
--- Names that stand twice.
+-- Names that occur twice.
 use Rattle.std.proofs.Common.{◌≡◌, ℕ, ◌+◌, ◌<◌, Bool, true, false, ◌||◌, List, [], ◌∷◌, ◌++◌, length, get_or, take, drop, not, refl, sym, ap, ◌∙◌, subst}
 use Rattle.std.specs.List.{list_any}
 use Rattle.std.specs.Str.{bytes_eq}
@@ -14,7 +14,7 @@ mixed false true true d = refl
 mixed false true false d = refl
 mixed false false c d = refl
 
--- a name more stands twice where it stood before
+-- A list with one more name repeats a name if the list did.
 repeats-more : (ps : List Name) (q : Name) → repeats (ps ++ q ∷ []) ≡ (repeats ps || list_any (bytes_eq q) ps)
 repeats-more [] q = refl
 repeats-more (p ∷ ps) q =
@@ -33,7 +33,7 @@ repeats-front (p ∷ ps) qs e =
     ap (λ b. b || repeats (ps ++ qs)) (list_any-append (λ m. bytes_eq m p) ps qs)
     ∙ in_front (list_any (λ m. bytes_eq m p) ps) (list_any (λ m. bytes_eq m p) qs) (repeats ps) (repeats (ps ++ qs)) e (repeats-front ps qs)
 
--- the first names with one more, where none of them stood twice
+-- The first names with one more, if none of them occurred twice.
 pub repeats-next : (names : List Name) (i : ℕ) (d name : Name) (found : Bool)
     → i < length names
     → get_or names i d ≡ name
@@ -46,7 +46,7 @@ repeats-next names i d name found within at none any =
     ∙ ap (λ b. b || list_any (bytes_eq name) (take i names)) none
     ∙ any
 
--- what a set tells of a name that is put in
+-- What a set says of a name that is inserted.
 pub was_there : (new found : Bool) → new ≡ not found → new ≡ false → found ≡ true
 was_there new true told e = refl
 was_there new false told e = absurd (false≢true (sym e ∙ told))
@@ -55,7 +55,7 @@ pub was_absent : (new found : Bool) → new ≡ not found → new ≡ true → f
 was_absent new false told e = refl
 was_absent new true told e = absurd (false≢true (sym told ∙ e))
 
--- all names, where one of the first stands twice
+-- All names, if one of the first occurs twice.
 pub repeats-all : (names : List Name) (i : ℕ) → repeats (take i names) ≡ true → repeats names ≡ true
 repeats-all names i e =
     let P : List Name → Type 0 = λ ns. repeats ns ≡ true in

@@ -1,4 +1,4 @@
--- Chains whose last operand may be the rest.
+-- Chains whose last operand may be a rest.
 use Rattle.std.proofs.Common.{◌≡◌, ℕ, zero, suc, ◌-◌, ◌<◌, ◌≤◌, List, [], ◌∷◌, ◌++◌, map, take, drop, length, set, get_or, slice_get, unwrap_or, Option, Some, None}
 use Rattle.std.proofs.Common.{Vec, Global, Result, Ok, refl, sym, ap, ◌∙◌, subst, arith}
 use Rattle.std.proofs.lemmas.List.{map-append, take-map, length-map, take-append-drop}
@@ -6,7 +6,8 @@ use Rattle.std.specs.Option.{option_map}
 use Rattle.pptext.specs.declared.tokens.Place.{Place}
 use Rattle.pptext.specs.declared.tokens.Fault.{Fault}
 use Rattle.ppmacro.specs.Numbered.{Numbered}
-use Rattle.ppmacro.specs.HideSets.{Hiding, hiding, hidings, AllKnown, Keeps}
+use Rattle.ppmacro.specs.Hiding.{Hiding}
+use Rattle.ppmacro.specs.HideSets.{hiding, hidings, AllKnown, Keeps}
 use Rattle.ppmacro.specs.declared.flying.Hidden.{Hidden}
 use Rattle.ppmacro.specs.declared.flying.Expansion.{Expansion}
 use Rattle.ppmacro.specs.declared.macros.Chain.{Chain}
@@ -37,7 +38,7 @@ ending-two i (suc n) (o ∷ (p ∷ [])) before last h e f = absurd (omega arith)
 ending-two i zero (o ∷ (p ∷ (q ∷ os))) before last h e f = absurd (omega arith)
 ending-two i (suc n) (o ∷ (p ∷ (q ∷ os))) before last h e f = ap (λ ps. o ∷ ps) (ending-two i n (p ∷ (q ∷ os)) before last (omega arith) e f)
 
--- the last two operands, and what comes of the last
+-- The last two operands, and what becomes of the last.
 pub ending-last : (i : ℕ) (os : List Operand) (before last : Operand)
     → 2 ≤ length os
     → before ≡ get_or os (length os - 2) before
@@ -63,7 +64,7 @@ rest-more (Param j) p os = refl
 rest-more (Str j at) p os = refl
 rest-more (Rest j) p os = refl
 
--- a rest at the end
+-- A rest at the end.
 pub before-rest : (front : List Operand) (i : ℕ) → before_rest (front ++ Rest i ∷ []) ≡ front
 before-rest [] i = refl
 before-rest (o ∷ []) i = before-more o (Rest i) []
@@ -74,7 +75,7 @@ rest-last [] i = refl
 rest-last (o ∷ []) i = rest-more o (Rest i) []
 rest-last (o ∷ (p ∷ front)) i = rest-more o p (front ++ Rest i ∷ []) ∙ rest-last (p ∷ front) i
 
--- something else at the end
+-- Another operand at the end.
 abbrev pub Stays : List Operand → Type 0
 Stays os = (before_rest os ≡ os) × (rest_of os ≡ None)
 
@@ -128,7 +129,7 @@ pub chain-laid : (args : Arguments) (used : Place) (c : Chain) (lists : List (Li
 chain-laid args used c lists ts l j =
     ap (λ r. after_ok r (λ us. Ok (with_rest_tokens args.given (rest_of c.operands) us))) j ∙ ap (λ r. after_ok r (joined args used c)) l
 
--- a rest laid while hide sets are added
+-- A rest that is appended while hide sets are added.
 pub rest-laid : {s t : Numbered} (given : List (Vec Hidden Global)) (expanded : List Expansion) (rest : Option ℕ) (hs new : List Hidden)
     → Keeps s t
     → ArgumentsKnown s given expanded

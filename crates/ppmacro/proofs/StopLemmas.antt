@@ -1,11 +1,12 @@
--- What a public call answers of what a step made: a token, or tokens and the mark behind them.
+-- The results of a public call, by those of its step: a token, or tokens and the pending flag.
 use Rattle.std.proofs.Common.{◌≡◌, Bool, Result, Ok, Err, IfOk, Vec}
 use Rattle.std.specs.Global.{Global}
 use Rattle.pptext.specs.declared.tokens.Fault.{Fault}
 use Rattle.pptext.specs.declared.stops.Stop.{Stop}
 use Rattle.pptext.specs.declared.stops.Stop.TheVariants.{Fault as Faulted, Memory as OutOfMemory}
 use Rattle.ppmacro.specs.Numbered.{Numbered}
-use Rattle.ppmacro.specs.HideSets.{Hiding, hiding}
+use Rattle.ppmacro.specs.Hiding.{Hiding}
+use Rattle.ppmacro.specs.HideSets.{hiding}
 use Rattle.ppmacro.specs.Substitution.{Marked}
 use Rattle.ppmacro.specs.Substituting.{hidden_in, left_with, marked_in}
 use Rattle.ppmacro.specs.declared.flying.Hidden.{Hidden}

@@ -57,7 +57,7 @@ same-bit a b i = same (bit_at a i) (bit_at b i) (bit_at-lt a i) (bit_at-lt b i)
       | false ↦ λ h g. not-one p lp h ∙ sym (not-one q lq (sym g))
     ] refl e
 
--- a bit of what two words are made into
+-- A bit of the result of two words.
 bit-joined : (o : Operation) (a b i : ℕ) → has_bit (joined_word o a b) i ≡ joined o (has_bit a i) (has_bit b i)
 bit-joined Union a b i = (λ j. nat_eq (bit_at_or a b i j) 1) ∙ either-one (bit_at a i) (bit_at b i) (bit_at-lt a i) (bit_at-lt b i)
   where
@@ -96,9 +96,9 @@ even_rest y = elim (nat_eq ((2 * y + 1) % 2) 0) as (λ b. nat_eq ((2 * y + 1) % 
 pub half_less : (k : ℕ) → k / 2 < suc k
 half_less k = omega arith
 
--- ---- sets made of two
+-- ---- sets made of two parts
 
--- what two parts of a set give
+-- The members of two parts of a set.
 pub made-same : (h : ℕ) (f g f' g' : ℕ → ℕ) (x : ℕ) → ((y : ℕ) → y < x → f y ≡ f' y) → ((y : ℕ) → y < x → g y ≡ g' y) → made h f g x ≡ made h f' g' x
 made-same h f g f' g' zero p q = refl
 made-same h f g f' g' (suc k) p q = (λ i. if nat_eq (k % 2) 0 then p (k / 2) (half_less k) i else q (k / 2) (half_less k) i)
@@ -409,7 +409,7 @@ one-right k bit (suc j) e = elim (nat_eq (j % 2) 0) as (λ t. nat_eq (j % 2) 0 �
       (λ s. eq-eqb (suc j) (suc k) (half-alike j k (λ z. true≢false (sym (eq-eqb (j % 2) 0 z) ∙ h)) e (eqb-true (j / 2) (k / 2) s))))
 ] refl
 
--- a set by its node
+-- A set by its node.
 at-node : (ns : List Node) (n : ℕ) (node : Node) (x : ℕ) → node_at ns n ≡ node → word ns n x ≡ made node.here (word ns node.left) (word ns node.right) x
 at-node ns n node x e = word-made ns n x ∙ (λ i. made (e i).here (word ns (e i).left) (word ns (e i).right) x)
 
@@ -486,7 +486,7 @@ insert-right old mid new set r n (suc j) bit x p q k kr km kn pos odd is e =
     ∙ made-both bit_or s.here 0 (word old s.left) (word old s.right) (λ _. 0) (word_with (j / 2) bit) x
     ∙ (λ i. bit_or (sym (word-made old set x) i) (sym (one-right j bit x (subst (λ z. ¬ (z % 2 ≡ 0)) same odd)) i))
 
--- a word with one bit has its number alone
+-- A word with one bit has only that number.
 with-is : (index bit x : ℕ) → bit < 64 → has_bit (word_with index bit (x / 64)) (x % 64) ≡ nat_eq x (index * 64 + bit)
 with-is index bit x l = elim (nat_eq (x / 64) index) as (λ t. nat_eq (x / 64) index ≡ t → has_bit (if t then 2 ^ bit else 0) (x % 64) ≡ nat_eq x (index * 64 + bit)) [
   | true ↦ λ h. elim (nat_eq (x % 64) bit) as (λ t. nat_eq (x % 64) bit ≡ t → has_bit (2 ^ bit) (x % 64) ≡ nat_eq x (index * 64 + bit)) [
@@ -499,7 +499,7 @@ with-is index bit x l = elim (nat_eq (x / 64) index) as (λ t. nat_eq (x / 64) i
   | false ↦ λ h. no-bit (x % 64) ∙ sym (differs x (index * 64 + bit) (λ z. true≢false (sym (eq-eqb (x / 64) index (omega (arith, z, l))) ∙ h)))
 ] refl
 
--- a set whose word has one bit more has one number more
+-- A set with one more bit in a word has one more number.
 pub member-inserted : (old new : List Node) (set n index bit : ℕ)
     → bit < 64
     → ((w : ℕ) → word new n w ≡ bit_or (word old set w) (word_with index bit w))
@@ -547,7 +547,7 @@ join-set op old mid after new one two l r n x p q u k1 k2 kl kr km ka kn isl isr
     ∙ made-both op s.here t.here (word old s.left) (word old s.right) (word old t.left) (word old t.right) x
     ∙ (λ i. op (sym (word-made old one x) i) (sym (word-made old two x) i))
 
--- what is made of the words of two sets is made of their members
+-- The result of two sets' words has the result of their members.
 pub member-joined : (o : Operation) (old new : List Node) (one two n : ℕ)
     → ((w : ℕ) → word new n w ≡ joined_word o (word old one w) (word old two w))
     → (x : ℕ)
@@ -578,7 +578,7 @@ lt-apart a b l e = omega (arith, l, e)
 pub lt-on : (a b c : ℕ) → a < b → b < c → a < c
 lt-on a b c k l = omega (arith, k, l)
 
--- ---- the node that is new, and the numbers that sets can have
+-- ---- a new node, and the numbers that sets may have
 
 fresh-push : (ns : List Node) (node : Node) (n : ℕ) → length ns ≤ n → n < length (ns ++ node ∷ []) → node_at (ns ++ node ∷ []) n ≡ node
 fresh-push ns node n a l = elim (at-new ns node n l) [
@@ -623,7 +623,7 @@ bounded-insert limit number old new set m l b k is x e = elim (either (nat_eq x 
   | inr h ↦ b.each set x k h
 ]
 
--- what is made of two sets has no member that neither has
+-- The result has no member that neither set has.
 one-of : (o : Operation) (a b : Bool) → joined o a b ≡ true → (a ≡ true) ⊎ (b ≡ true)
 one-of Union a b h = either a b h
 one-of Meet a b h = inl (and_parts a b h).0
@@ -657,18 +657,18 @@ pool-first = record {
 pub bounded-first : IsBounded 0 first
 bounded-first = record { each = λ n x l e. let z : n ≡ 0 = omega (arith, l) in absurd (true≢false (sym e ∙ (λ i. member first (z i) x) ∙ member-none first x refl)) }
 
--- ---- a node that is there
+-- ---- an existing node
 
 any-node : (ns : List Node) (node : Node) (n : ℕ) → n < length ns → node_at ns n ≡ node → list_any (same_node node) ns ≡ true
 any-node ns node n l e = list_any_at (same_node node) ns n no_node l ((same_node-Decides node (node_at ns n)).1 (sym e))
 
--- it changes nothing
+-- Inserting it changes nothing.
 pub inserted-there : (ns : List Node) (node : Node) (n : ℕ) → n < length ns → node_at ns n ≡ node → insert_key same_node ns node ≡ ns
 inserted-there ns node n l e = ap (λ b. if b then ns else ns ++ node ∷ []) (any-node ns node n l e)
 
 pub never-absent : (ns : List Node) (node : Node) (n : ℕ) → n < length ns → node_at ns n ≡ node → list_any (same_node node) ns ≡ false → ⊥
 never-absent ns node n l e absent = true≢false (sym (any-node ns node n l e) ∙ absent)
 
--- the search for a node
+-- The search for a node.
 pub searched : (ns : List Node) (node : Node) (k : ℕ) → position (same_node node) ns ≡ Some k → (k < length ns) × (node_at ns k ≡ node)
 searched ns node k e = let h = position-Some (same_node node) ns k no_node e in (h.0, sym (same_node-true node (node_at ns k) h.1))

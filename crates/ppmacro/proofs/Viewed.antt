@@ -17,7 +17,7 @@ use Rattle.ppmacro.proofs.KeepLemmas.{pairs-are}
 use Rattle.ppmacro.proofs.Remembering.{answers-keep}
 use Rattle.ppmacro.proofs.Tries.{member-none}
 
--- a number that is known is that of a node
+-- A known number is that of a node.
 pub node-known : (names : List Name) (ns : List Node) (v : Numbered) (n m : ℕ) → hide_sets names ns ≡ v.sets → n ≡ m → IsKnown v m → n < length ns
 node-known names ns v n m is same k = at-known names ns n (subst (λ ss. n < length ss) (sym is) (subst (IsKnown v) (sym same) k))
 
@@ -27,7 +27,7 @@ known-seen names ns v n m is same l = subst (IsKnown v) same (subst (λ ss. n < 
 pub set-seen : (names : List Name) (ns : List Node) (v : Numbered) (n m : ℕ) → hide_sets names ns ≡ v.sets → n ≡ m → n < length ns → hide_set names ns n ≡ set_at v m
 set-seen names ns v n m is same l = sym (set-at names ns n l) ∙ (λ i. get_or (is i) (same i) set.empty)
 
--- the first node is that of the empty set
+-- The first node is the empty set.
 pub empty-seen : (names : List Name) (ns : List Node) (v : Numbered) (m : ℕ) → hide_sets names ns ≡ v.sets → 0 ≡ m → IsPool ns → set_at v m ≡ set.empty
 empty-seen names ns v m is same p = sym (set-seen names ns v 0 m is same p.some) ∙ hide-none names ns 0 (λ x. member-none ns x p.empty)
 
@@ -38,13 +38,13 @@ lawful-seen names ns us ms v m n is k km kn e =
     let ln = node-known names ns v n n is refl kn in
     lawful-names names ns m n k.pool named lm ln (set-seen names ns v m m is refl lm ∙ e ∙ sym (set-seen names ns v n n is refl ln))
 
--- ---- nodes are added: by a union, or by a meet
+-- ---- nodes are added by an operation
 
--- the fields as callers see them
+-- The fields as callers see them.
 abbrev seen : Inside → Numbered
 seen s = record { sets = hide_sets s.names s.nodes.keys; unions = s.unions; meets = s.meets }
 
--- a number that is asked for is that of a node
+-- A number in a precondition is that of a node.
 pub node-asked : (s : Inside) {v : Numbered} {n m : ℕ} → seen s ≡ v → n ≡ m → IsKnown v m → n < length s.nodes.keys
 node-asked s {v = v} is same k = node-known s.names s.nodes.keys v _ _ (ap (λ v. v.sets) is) same k
 
@@ -62,7 +62,7 @@ keeps-seen s new {us = us} {ms = ms} is p k unions meets = record {
   meets = subst (λ ps. KeepsPairs ps ms) (ap (λ v. v.meets) is) meets;
 }
 
--- what two sets are made into
+-- The result of an operation on two sets.
 pub made-seen : (o : Operation) (s : Inside) (new : List Node) {v : Numbered} {a b a' b' n : ℕ}
     → seen s ≡ v
     → IsDistinct same_name s.names
@@ -79,7 +79,7 @@ made-seen o s new {v = v} {a = a} {b = b} {n = n} is d sa sb ka kb ln h =
     set-at s.names new n ln ∙ made-is o s.names old new a b n d h
     ∙ (λ i. made_of o (set-seen s.names old v _ _ sets sa (node-asked s is sa ka) i) (set-seen s.names old v _ _ sets sb (node-asked s is sb kb) i))
 
--- the fields stay lawful, with other pairs of this operation
+-- The fields keep their invariant, with other pairs for this operation.
 abbrev AreKeptThen : Operation → Inside → List Node → Answered → Type 0
 AreKeptThen Union s new ps = AreKept s.names new ps s.meets
 AreKeptThen Meet s new ps = AreKept s.names new s.unions ps

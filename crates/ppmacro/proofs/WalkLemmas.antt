@@ -1,4 +1,4 @@
--- The chains' tokens one behind the other, and what they gain, while hide sets are added.
+-- The tokens of one chain after another, and the names that are added, while hide sets are added.
 use Rattle.std.proofs.Common.{◌≡◌, ℕ, zero, suc, ◌+◌, ◌<◌, Bool, false, not, ◌||◌, ◌&&◌, List, [], ◌∷◌, ◌++◌, map, take, drop, length, get_or}
 use Rattle.std.proofs.Common.{Option, Some, None, Vec, Global, Result, Ok, Err, refl, sym, ap, ◌∙◌, append_assoc, arith}
 use Rattle.std.proofs.lemmas.List.{map-append, drop_more, take_more}
@@ -7,7 +7,8 @@ use Rattle.std.specs.FinSet as set
 use Rattle.pptext.specs.declared.tokens.Place.{Place}
 use Rattle.pptext.specs.declared.tokens.Fault.{Fault}
 use Rattle.ppmacro.specs.Numbered.{Numbered}
-use Rattle.ppmacro.specs.HideSets.{set_at, IsKnown, Hiding, hiding, hidings, HasSets, AllKnown, Keeps}
+use Rattle.ppmacro.specs.Hiding.{Hiding}
+use Rattle.ppmacro.specs.HideSets.{set_at, IsKnown, hiding, hidings, HasSets, AllKnown, Keeps}
 use Rattle.ppmacro.specs.Substitution.{Arguments, Marked, after_ok, argument_at, expanded_at, chain_tokens, mark_first, chains_tokens, gained}
 use Rattle.ppmacro.specs.Substituting.{lists_of, options_of, ArgumentsKnown, arguments_in, pushed, IsWithin}
 use Rattle.ppmacro.specs.declared.flying.Hidden.{Hidden}
@@ -15,7 +16,7 @@ use Rattle.ppmacro.specs.declared.flying.Expansion.{Expansion}
 use Rattle.ppmacro.specs.declared.macros.Chain.{Chain}
 use Rattle.ppmacro.proofs.KeepLemmas.{set-keeps, hiding-keeps, hidings-keeps, known-keeps}
 
--- these before what comes of the rest
+-- Tokens before the result of the others.
 abbrev pub behind : {A : Type 0} → List A → Result (List A) Fault → Result (List A) Fault
 behind xs (Ok ys) = Ok (xs ++ ys)
 behind xs (Err f) = Err f
@@ -31,7 +32,7 @@ known-each s [] i h less e known = absurd (omega arith)
 known-each s (x ∷ hs) zero h less e known = rw e known.each.0
 known-each s (x ∷ hs) (suc i) h less e known = known-each s hs i h (omega arith) e (record { each = known.each.1 })
 
--- ---- arguments stand for the same
+-- ---- arguments keep their hide sets
 
 given-keeps : {s t : Numbered} (given : List (Vec Hidden Global)) → Keeps s t → ((i : ℕ) → AllKnown s (argument_at (lists_of given) i)) → map (hidings t) (lists_of given) ≡ map (hidings s) (lists_of given)
 given-keeps [] k known = refl
@@ -59,7 +60,7 @@ arguments-known given expanded k known = record { given_known = λ i. known-keep
 abbrev goes_on : Arguments → Place → Bool → List Chain → List Hiding → Result Marked Fault
 goes_on args used mark cs ts = after_ok (chains_tokens args used (mark_first mark ts).pending false cs) (λ rest. Ok (record { tokens = (mark_first mark ts).tokens ++ rest.tokens; pending = rest.pending }))
 
--- these tokens before what comes of the rest
+-- Tokens before the replacement by the other chains.
 abbrev pub marked_behind : List Hiding → Result Marked Fault → Result Marked Fault
 marked_behind ts (Ok m) = Ok (record { tokens = ts ++ m.tokens; pending = m.pending })
 marked_behind ts (Err f) = Err f
@@ -82,7 +83,7 @@ chains-refused : (args : Arguments) (used : Place) (pending first : Bool) (c : C
     → Err f ≡ marked_behind front (chains_tokens args used pending first (c ∷ cs))
 chains-refused args used pending first c cs front f h = ap (λ r. marked_behind front (after_ok r (goes_on args used (pending || (not first && c.mark)) cs))) h
 
--- one chain pushed, and the others behind it
+-- One chain is appended, and the others after it.
 pub chains-pushed : (args : Arguments) (used : Place) (pending first : Bool) (c : Chain) (cs : List Chain) (front new : List Hiding) (left : Bool)
     (r : Result (List Hiding) Fault)
     → r ≡ chain_tokens args used c
@@ -104,7 +105,7 @@ chains-refused-pushed args used pending first c cs front f (Err g) h e =
     let same : f ≡ g = cc in
     chains-refused args used pending first c cs front f (ap Err same ∙ h)
 
--- ---- the gain
+-- ---- added names
 
 pub gained-more : (s t u : Numbered) (g : ℕ) (used : Place) (done earlier : List Hidden) (item one : Hidden)
     → Keeps s t
@@ -127,7 +128,7 @@ within-keeps gain n k gain_known known h =
     let more = set-keeps gain k gain_known in
     (λ i. set.union (set-keeps n k known i) (more i)) ∙ h ∙ sym more
 
--- a list by its next item
+-- A list by its next element.
 pub next-item : {X : Type 0} (xs : List X) (i : ℕ) (x : X) (rest : List X) → drop i xs ≡ x ∷ rest → (take (suc i) xs ≡ take i xs ++ x ∷ []) × (drop (suc i) xs ≡ rest)
 next-item [] zero x rest e = absurd (cc e)
 next-item [] (suc i) x rest e = absurd (cc e)

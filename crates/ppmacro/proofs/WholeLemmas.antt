@@ -1,4 +1,4 @@
--- Tokens whose kind is that of their spelling, as `##` makes them.
+-- Tokens whose kind is the kind of their spelling, as after `##`.
 use Rattle.std.proofs.Common.{◌≡◌, ℕ, List, [], ◌∷◌, ◌++◌, Option, Some, None, Result, Ok, Err, IfOk, refl, sym, ap, ◌∙◌, subst, length, drop, length-append, arith}
 use Rattle.std.proofs.lemmas.List.{drop_at}
 use Rattle.std.specs.FinSet as set
@@ -10,7 +10,8 @@ use Rattle.pptext.specs.Lexing.{Lexes}
 use Rattle.pptext.proofs.Lexer.{one_lexing}
 use Rattle.pptext.proofs.Carried.{carried_on}
 use Rattle.ppmacro.specs.Numbered.{Numbered}
-use Rattle.ppmacro.specs.HideSets.{set_at, hide_of, Hiding, hiding}
+use Rattle.ppmacro.specs.Hiding.{Hiding}
+use Rattle.ppmacro.specs.HideSets.{set_at, hide_of, hiding}
 use Rattle.ppmacro.specs.Flying.{extended}
 use Rattle.ppmacro.specs.Lexing.{kind_of}
 use Rattle.ppmacro.specs.Substitution.{pasted, pasted_as}
@@ -28,7 +29,7 @@ carried_kind text more k e rest =
     let one : Lexes text (Some k) = subst (Lexes text) e (kind_of_is.each text) in
     one_lexing (text ++ more) (kind_of (text ++ more)) (Some k) (kind_of_is.each (text ++ more)) (carried_on text more k one.0 rest)
 
--- what carries a token on is pasted to it
+-- A text that continues a token is pasted to it.
 module _ (last first grown turned : Hidden) (n : ℕ) (used : Place) (whole : IsWhole last)
     (rest : CarriesOn last.token.kind last.token.text first.token.text) (is_grown : grown ≡ extended last first.token.text)
     (is_turned : turned ≡ record { token = record grown.token { used = used }; hide = n; also = None }) where
@@ -46,7 +47,7 @@ module _ (last first grown turned : Hidden) (n : ℕ) (used : Place) (whole : Is
       ∙ ap (λ h. Ok (record { token = record h.token { used = used }; hide = set.intersection (hide_of s h) (hide_of s first) })) is_grown
       ∙ ap (λ k. pasted_as k (hiding s last) (hiding s first) used) (sym still-whole)
 
--- what `##` makes is whole
+-- The result of `##` has the kind of its spelling.
 pasted-whole : (k : Option Kind) (l r h : Hiding) (used : Place) → k ≡ kind_of (l.token.text ++ r.token.text) → Ok h ≡ pasted_as k l r used → kind_of h.token.text ≡ Some h.token.kind
 pasted-whole None l r h used is e = absurd (cc e)
 pasted-whole (Some k) l r h used is e = subst (λ t. kind_of t.token.text ≡ Some t.token.kind) (sym (ok-same e)) (sym is)

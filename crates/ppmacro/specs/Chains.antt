@@ -1,4 +1,4 @@
--- The replacement list as a list of chains, whose operands `##` joins (6.10.3.3).
+-- A replacement list as a list of chains. A chain is a list of operands that `##` joins (6.10.3.3).
 use Rattle.std.specs.Prelude.{ℕ, Bool, true, false, ◌&&◌, ◌==◌, ◌-◌, List, [], ◌∷◌, map, Option, Some, None, codes, length, position, if◌then◌else◌}
 use Rattle.std.specs.Str.{bytes_eq}
 use Rattle.pptext.specs.declared.tokens.Place.{Place}
@@ -14,26 +14,26 @@ use Rattle.ppmacro.specs.declared.macros.Chain.{Chain}
 use Rattle.ppmacro.specs.declared.macros.Operand.{Operand}
 use Rattle.ppmacro.specs.declared.macros.Operand.TheVariants.{Tok, Param, Str, Rest}
 
--- a `#`: its space mark, and where it stands
+-- A `#` operator: its leading-space flag and its location.
 pub record HashSign : Type 0 where
   pub mark : Bool
   pub at : Place
 
--- a part of a replacement list: an operand with the space mark of its first token, or `##`
+-- A part of a replacement list: an operand with the leading-space flag of its first token, or `##`.
 pub data Item : Type 0 where
   Operates : Bool → Operand → Item
   Joins : Item
 
--- the names of the parameters, that of the variable argument last
+-- The names of the parameters. The name of the variable argument is the last.
 abbrev pub names_in : Shape → List Name
 names_in (FunctionLike names variadic) = names
 names_in _ = []
 
--- which parameter a name is
+-- The index of the parameter with this name.
 abbrev pub parameter_named : Shape → Name → Option ℕ
 parameter_named shape text = position (λ p. bytes_eq p text) (names_in shape)
 
--- which parameter a token is
+-- The index of the parameter that a token names.
 abbrev pub parameter_of : Shape → Token → Option ℕ
 parameter_of shape t = if is_identifier t then parameter_named shape t.text else None
 
@@ -41,7 +41,7 @@ abbrev pub is_function_like : Shape → Bool
 is_function_like (FunctionLike names variadic) = true
 is_function_like _ = false
 
--- `#` that is an operator
+-- Whether a token is the operator `#`, which only function-like macros have.
 abbrev pub is_operator_hash : Shape → Token → Bool
 is_operator_hash shape t = is_function_like shape && is_hash t
 
@@ -49,7 +49,7 @@ abbrev pub plain_item : Option ℕ → Token → Item
 plain_item (Some i) t = Operates t.space (Param i)
 plain_item None t = Operates t.space (Tok t)
 
--- a token behind `#`
+-- The part that a token after `#` gives.
 abbrev pub stringized_item : Option ℕ → HashSign → Token → Item
 stringized_item (Some i) hash t = Operates hash.mark (Str i hash.at)
 stringized_item None hash t = plain_item None t
@@ -57,14 +57,14 @@ stringized_item None hash t = plain_item None t
 abbrev pub hash_sign : Token → HashSign
 hash_sign t = record { mark = t.space; at = t.at }
 
--- the items at a token, which is a `##`, a `#` that is an operator, or an operand; the last two lists are those behind it, where it
--- is no such `#` and where it is one
+-- The parts from a token on. The token is `##` (`paste`), or the operator `#` (`hash`), or an operand. `behind` are the parts
+-- after it, if it isn't `#`; `behind_hash` are those if it is.
 abbrev pub items_at : (paste hash : Bool) → Item → List Item → List Item → List Item
 items_at true hash operand behind behind_hash = Joins ∷ behind
 items_at false true operand behind behind_hash = behind_hash
 items_at false false operand behind behind_hash = operand ∷ behind
 
--- a replacement list as operands and `##`; `hash` is the `#` that stands directly before, if one does
+-- The parts of a replacement list. `hash` is the `#` directly before the list, if there is one.
 abbrev pub items_behind : Shape → Option HashSign → List Token → List Item
 items_behind shape hash [] = []
 items_behind shape (Some hash) (t ∷ ts) = stringized_item (parameter_of shape t) hash t ∷ items_behind shape None ts
@@ -77,7 +77,7 @@ abbrev pub begins_joined : List Item → Bool
 begins_joined (Joins ∷ is) = true
 begins_joined _ = false
 
--- an operand before these chains, joined to the first
+-- Joins an operand to the first of these chains.
 abbrev pub join_first : Bool → Operand → List Chain → List Chain
 join_first mark o [] = record { mark = mark; operands = o ∷ [] } ∷ []
 join_first mark o (c ∷ cs) = record { mark = mark; operands = o ∷ c.operands } ∷ cs
@@ -89,7 +89,7 @@ grouped (Operates mark o ∷ is) = elim (begins_joined is) [ true ↦ join_first
 
 -- ---- a comma before a variable argument that may be absent (gcc's manual, "Variadic Macros")
 
--- which parameter may be absent
+-- The index of the parameter whose argument may be absent.
 abbrev pub lenient_parameter : Shape → Option ℕ
 lenient_parameter (FunctionLike names Lenient) = Some (length names - 1)
 lenient_parameter _ = None
@@ -98,12 +98,12 @@ abbrev pub is_comma : Operand → Bool
 is_comma (Tok t) = is_punct (codes ",") t
 is_comma _ = false
 
--- a last operand behind another: the rest, where it is this parameter behind the token `,`
+-- The last operand of a chain, after another operand. It is a rest if it is parameter i and the operand before is the token `,`.
 abbrev pub rest_behind : ℕ → Operand → Operand → Operand
 rest_behind i o (Param j) = if is_comma o && i == j then Rest i else Param j
 rest_behind i o p = p
 
--- the operands of a chain, of which the last may be the rest
+-- The operands of a chain. The last becomes a rest where `rest_behind` says so.
 abbrev pub ending_in_rest : ℕ → List Operand → List Operand
 ending_in_rest i (o ∷ (p ∷ [])) = o ∷ (rest_behind i o p ∷ [])
 ending_in_rest i (o ∷ (p ∷ (q ∷ os))) = o ∷ ending_in_rest i (p ∷ (q ∷ os))

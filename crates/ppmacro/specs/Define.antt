@@ -1,4 +1,5 @@
--- `#define` and `#undef` (6.10.3, 6.10.3.5): the table afterwards, or the one fault. The tests stand in their order.
+-- `#define` and `#undef` (6.10.3, 6.10.3.5): the table after the directive, or its fault. The order of the tests decides which
+-- fault.
 use Rattle.std.specs.Prelude.{◌≡◌, ℕ, Bool, true, false, not, ◌&&◌, ◌||◌, List, [], ◌∷◌, ◌++◌, Option, Some, None, is_some, Result, Ok, Err, codes, if◌then◌else◌}
 use Rattle.std.specs.List.{list_any}
 use Rattle.std.specs.Option.{option_map}
@@ -25,7 +26,7 @@ use Rattle.ppmacro.specs.declared.macros.Shape.{Shape}
 use Rattle.ppmacro.specs.declared.macros.Shape.TheVariants.{Predefined, ObjectLike, FunctionLike}
 use Rattle.ppmacro.specs.declared.macros.Definition.{Definition}
 
--- why a definition is refused, once its name is allowed
+-- Why a definition with a permitted name is invalid.
 pub data Refusal : Type 0 where
   ParameterList : Refusal
   Spacing : Refusal
@@ -34,14 +35,14 @@ pub data Refusal : Type 0 where
   VariableArguments : Refusal
   Redefinition : Refusal
 
--- a definition with the macro's name
+-- A definition with the macro's name.
 pub record Named : Type 0 where
   pub name : Name
   pub definition : Definition
 
--- ---- the parameters (6.10p1, 6.10.3p10)
+-- ---- the parameter list (6.10p1, 6.10.3p10)
 
--- `)` is wanted here, and behind it stands the replacement list
+-- Expects `)`. The replacement list follows it.
 abbrev pub closed : Ending → List Token → Option Heading
 closed ending [] = None
 closed ending (t ∷ ts) = if is_punct (codes ")") t then Some (record { names = []; ending = ending; body = ts }) else None
@@ -49,12 +50,12 @@ closed ending (t ∷ ts) = if is_punct (codes ")") t then Some (record { names =
 abbrev pub with_name : Name → Heading → Heading
 with_name n h = record h { names = n ∷ h.names }
 
--- behind a name, and in GNU C behind its `...`
+-- After a parameter's name that no comma follows. In GNU C `...` may be next.
 abbrev pub behind_name : Bool → List Token → Option Heading
 behind_name gnu [] = None
 behind_name gnu (t ∷ ts) = if gnu && is_punct (codes "...") t then closed NamedDots ts else closed Plain (t ∷ ts)
 
--- behind a name `,` or `)` is wanted, in GNU C also `...`, elsewhere a name or `...`; `named`: a name stands directly before
+-- After a name (`named`), expects `,` or `)`, and in GNU C also `...`. Otherwise expects a name or `...`.
 abbrev pub parameters_from : (gnu named : Bool) → List Token → Option Heading
 parameters_from gnu named [] = None
 parameters_from gnu true (t ∷ ts) = if is_punct (codes ",") t then parameters_from gnu false ts else behind_name gnu (t ∷ ts)
@@ -62,7 +63,7 @@ parameters_from gnu false (t ∷ ts) =
     if is_punct (codes "...") t then closed Dots ts else (
     if is_identifier t then option_map (with_name t.text) (parameters_from gnu true ts) else None)
 
--- what stands behind `(`
+-- The parameter list in the tokens after `(`.
 abbrev pub parameter_list : Profile → List Token → Option Heading
 parameter_list profile [] = None
 parameter_list profile (t ∷ ts) =
@@ -72,13 +73,13 @@ abbrev pub repeats : List Name → Bool
 repeats [] = false
 repeats (n ∷ ns) = list_any (λ m. bytes_eq m n) ns || repeats ns
 
--- all parameters: for `...` stands `__VA_ARGS__`, behind the others (6.10.3.1p2)
+-- All parameters. `__VA_ARGS__` is the last if the list ends in `...` (6.10.3.1p2).
 abbrev pub all_parameters : Ending → List Name → List Name
 all_parameters Plain names = names
 all_parameters Dots names = names ++ codes "__VA_ARGS__" ∷ []
 all_parameters NamedDots names = names
 
--- whether the last parameter takes a variable number of arguments; in GNU C that argument may be absent
+-- How the last parameter takes arguments. In GNU C a variable argument may be absent.
 abbrev pub variadic_by : (gnu : Bool) → Ending → Variadic
 variadic_by gnu Plain = No
 variadic_by false Dots = Strict
@@ -86,7 +87,7 @@ variadic_by true Dots = Lenient
 variadic_by false NamedDots = Strict
 variadic_by true NamedDots = Lenient
 
--- whether `__VA_ARGS__` is among the names
+-- Whether `__VA_ARGS__` is among the names.
 abbrev pub has_variable_arguments : List Name → Bool
 has_variable_arguments names = list_any (λ n. bytes_eq n (codes "__VA_ARGS__")) names
 
@@ -97,7 +98,7 @@ function_like profile (Some h) =
     if has_variable_arguments h.names then Err VariableArguments else
     Ok (record { shape = FunctionLike (all_parameters h.ending h.names) (variadic_by (is_gnu profile) h.ending); body = h.body }))
 
--- what stands behind the macro's name
+-- The definition in the tokens after the macro's name.
 abbrev pub read_definition : Profile → List Token → Result Definition Refusal
 read_definition profile [] = Ok (record { shape = ObjectLike; body = [] })
 read_definition profile (t ∷ ts) =
@@ -106,7 +107,7 @@ read_definition profile (t ∷ ts) =
 
 -- ---- the replacement list
 
--- `__VA_ARGS__` where no `...` stands for it (6.10.3p5)
+-- Whether there is a `__VA_ARGS__`, but no `...` in the parameter list (6.10.3p5).
 abbrev pub misplaces_variable_arguments : Shape → List Token → Bool
 misplaces_variable_arguments shape ts = list_any (is_name (codes "__VA_ARGS__")) ts && not (has_variable_arguments (names_in shape))
 
@@ -114,7 +115,8 @@ abbrev pub is_empty : List Token → Bool
 is_empty [] = true
 is_empty (t ∷ ts) = false
 
--- `##` first or last (6.10.3.3p1), or beside another, where it has no operand (6.10.3.3p3); `bare`: no operand stands directly before
+-- Whether `##` is first or last (6.10.3.3p1), or follows another `##`, so that an operand is missing (6.10.3.3p3). `bare`: no
+-- operand is directly before.
 abbrev pub misplaces_paste : Bool → List Token → Bool
 misplaces_paste bare [] = false
 misplaces_paste bare (t ∷ ts) = if is_paste t then bare || (is_empty ts || misplaces_paste true ts) else misplaces_paste false ts
@@ -123,12 +125,12 @@ abbrev pub begins_with_parameter : Shape → List Token → Bool
 begins_with_parameter shape [] = false
 begins_with_parameter shape (t ∷ ts) = is_some (parameter_of shape t)
 
--- `#` that does not stand directly before a parameter (6.10.3.2p1)
+-- Whether there is a `#` without a parameter directly after it (6.10.3.2p1).
 abbrev pub misplaces_hash : Shape → List Token → Bool
 misplaces_hash shape [] = false
 misplaces_hash shape (t ∷ ts) = (is_hash t && not (begins_with_parameter shape ts)) || misplaces_hash shape ts
 
--- ---- two definitions of one name (6.10.3p1, p2)
+-- ---- identical definitions (6.10.3p1, p2)
 
 abbrev pub same_bool : Bool → Bool → Bool
 same_bool true b = b
@@ -137,13 +139,13 @@ same_bool false b = not b
 abbrev pub same_token : Token → Token → Bool
 same_token t u = bytes_eq t.text u.text && same_bool t.space u.space
 
--- the space mark before a replacement list is no part of it
+-- The white space before a replacement list doesn't count, so the flag of its first token doesn't either.
 abbrev pub same_body : List Token → List Token → Bool
 same_body [] [] = true
 same_body (t ∷ ts) (u ∷ us) = bytes_eq t.text u.text && pointwise same_token ts us
 same_body _ _ = false
 
--- the names tell whether `...` ends them
+-- The names show whether there is a `...`.
 abbrev pub same_shape : Shape → Shape → Bool
 same_shape ObjectLike ObjectLike = true
 same_shape (FunctionLike ms v) (FunctionLike ns w) = pointwise bytes_eq ms ns
@@ -158,7 +160,8 @@ clashes (Some e) d = not (agrees e d)
 
 -- ---- the whole line
 
--- Whether a predefined macro stays as it is: each but, in GNU C, `__STDC_VERSION__`, by which a list tells a build's `-std`.
+-- Whether a predefined macro can't be redefined. In GNU C `__STDC_VERSION__` can, because a list uses it for the `-std` of a
+-- build.
 abbrev pub is_fixed_builtin : (gnu : Bool) → Builtin → Bool
 is_fixed_builtin gnu StdcVersion = not gnu
 is_fixed_builtin gnu _ = true
@@ -171,15 +174,15 @@ abbrev pub is_fixed : (gnu : Bool) → Option Definition → Bool
 is_fixed gnu None = false
 is_fixed gnu (Some d) = is_fixed_shape gnu d.shape
 
--- names that no macro may have
+-- Whether a name can never be a macro.
 abbrev pub is_barred : Name → Bool
 is_barred name = bytes_eq name (codes "defined") || bytes_eq name (codes "__VA_ARGS__")
 
--- names that no directive may define or take out (6.10.8p2, 6.10.3p5)
+-- Whether a directive must not define or undefine a name (6.10.8p2, 6.10.3p5).
 abbrev pub is_reserved : Profile → Macros → Name → Bool
 is_reserved profile macros name = is_fixed (is_gnu profile) (table.get macros name) || is_barred name
 
--- in GNU C a name may be defined again, whatever its definition was
+-- Why a definition is invalid, if it is. In GNU C a name may be redefined with any definition.
 abbrev pub refusal_of : Profile → Macros → Name → Definition → Option Refusal
 refusal_of profile macros name d =
     if misplaces_variable_arguments d.shape d.body then Some VariableArguments else (
@@ -195,7 +198,7 @@ abbrev pub fitting : Profile → Macros → Name → Result Definition Refusal �
 fitting profile macros name (Ok d) = unless_refused (refusal_of profile macros name d) d
 fitting profile macros name (Err r) = Err r
 
--- the faults' numbers
+-- The number of a fault.
 abbrev pub number_of : Refusal → ℕ
 number_of ParameterList = 11
 number_of Spacing = 12
@@ -208,7 +211,7 @@ abbrev pub under_name : Place → Name → Result Definition Refusal → Result 
 under_name at name (Ok d) = Ok (record { name = name; definition = d })
 under_name at name (Err r) = Err (fault (number_of r) at name)
 
--- the macro that a line behind `define` defines; `at` is the place of `#`
+-- The definition in the tokens after `define`, or the fault. `at` is the location of `#`.
 abbrev pub judged : Profile → Macros → Place → List Token → Result Named Fault
 judged profile macros at [] = Err (fault 9 at (codes "define"))
 judged profile macros at (t ∷ ts) =
@@ -216,7 +219,7 @@ judged profile macros at (t ∷ ts) =
     if is_reserved profile macros t.text then Err (fault 10 at t.text) else
     under_name at t.text (fitting profile macros t.text (read_definition profile ts))) else Err (fault 9 at (codes "define"))
 
--- a fault that a private function's answer gives by its number and its text
+-- The fault of a private function's result, which has only its number and text.
 abbrev pub faulted : {A : Type 0} → Place → Result A (ℕ × Name) → Result A Fault
 faulted at (Ok x) = Ok x
 faulted at (Err r) = Err (fault r.0 at r.1)
@@ -228,7 +231,7 @@ entered macros (Err f) = Err f
 abbrev pub after_define : Profile → Macros → Place → List Token → Result Macros Fault
 after_define profile macros at line = entered macros (judged profile macros at line)
 
--- the name that a line behind `undef` takes out
+-- The name in the tokens after `undef`, or the fault.
 abbrev pub undefined : Profile → Macros → Place → List Token → Result Name Fault
 undefined profile macros at (t ∷ []) =
     if is_identifier t then (if is_reserved profile macros t.text then Err (fault 10 at t.text) else Ok t.text) else Err (fault 9 at (codes "undef"))
@@ -241,7 +244,7 @@ taken_out macros (Err f) = Err f
 abbrev pub after_undef : Profile → Macros → Place → List Token → Result Macros Fault
 after_undef profile macros at line = taken_out macros (undefined profile macros at line)
 
--- what a call left: the new table, or the old one with the fault
+-- The effect of a call on the table: the table of `r`, or its fault and the old table.
 abbrev pub Leaves : Macros → Macros → Result (Unit {0}) Fault → Result Macros Fault → Type 0
 Leaves old new (Ok u) r = r ≡ Ok new
 Leaves old new (Err f) r = (r ≡ Err f) × (new ≡ old)

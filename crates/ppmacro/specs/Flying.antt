@@ -1,22 +1,22 @@
--- What a token in flight stands for.
+-- Tokens with numbers of hide sets: the values of `Hidden`.
 use Rattle.std.specs.Prelude.{ℕ, Bool, List, ◌++◌, Option, Some, None, if◌then◌else◌}
 use Rattle.pptext.specs.declared.tokens.Token.{Token}
 use Rattle.pptext.specs.declared.tokens.Place.{Place}
 
--- A token with the number of a hide set, and of another that stands beside it, if one does: the names of both hide the token.
+-- A token with the number of a hide set, and of an extra one, if there are two. The names of both hide the token.
 pub record InFlight : Type 0 where
   pub token : Token
   pub hide : ℕ
   pub also : Option ℕ
 
--- a token, used at this place, with this mark
+-- A token with this expansion location and this leading-space flag.
 abbrev pub placed : Token → Place → Bool → Token
 placed t used space = record t { used = used; space = space }
 
--- a token with more bytes behind its spelling
+-- A token with more bytes at the end of its spelling.
 abbrev pub extended : InFlight → List ℕ → InFlight
 extended h more = record h { token = record h.token { text = h.token.text ++ more } }
 
--- the second set, where there are two
+-- The extra set, if there are two.
 abbrev pub second : Bool → ℕ → Option ℕ
 second two n = if two then Some n else None

@@ -1,10 +1,11 @@
--- Headings of function-like macros.
+-- Parameter lists of function-like macros.
 use Rattle.std.specs.Prelude.{List}
 use Rattle.pptext.specs.declared.tokens.Token.{Token}
 use Rattle.ppmacro.specs.Names.{Name}
 use Rattle.ppmacro.specs.declared.defining.headings.Ending.{Ending}
 
--- the parameters' names as they are written, how they end (without `...`, with it, or with a name and `...`), and what stands behind `)`
+-- A parameter list that was read: the names, how the list ends (without `...`, with `...`, or with a name and `...`), and the
+-- replacement list after `)`.
 pub record Heading : Type 0 where
   pub names : List Name
   pub ending : Ending

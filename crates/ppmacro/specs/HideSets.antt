@@ -1,51 +1,46 @@
--- What numbers of hide sets stand for.
+-- The hide sets that numbers refer to.
 use Rattle.std.specs.Prelude.{◌≡◌, ℕ, ◌<◌, List, [], ◌∷◌, ◌++◌, map, length, slice_index_or, Option, Some, None, IfSome}
 use Rattle.std.specs.FinSet as set
 use Rattle.std.specs.List.{AllByRecursion}
-use Rattle.pptext.specs.declared.tokens.Token.{Token}
 use Rattle.ppmacro.specs.Names.{HideSet}
+use Rattle.ppmacro.specs.Hiding.{Hiding}
 use Rattle.ppmacro.specs.Numbered.{Numbered}
 use Rattle.ppmacro.specs.Pairs.{KeepsPairs}
 use Rattle.ppmacro.specs.declared.flying.Hidden.{Hidden}
 
--- the empty set alone
+-- The pool with only the empty set.
 abbrev pub starting : Numbered
 starting = record { sets = set.empty ∷ []; unions = []; meets = [] }
 
--- the set with this number
+-- The set with this number.
 abbrev pub set_at : Numbered → ℕ → HideSet
 set_at sets n = slice_index_or sets.sets n set.empty
 
--- a set has this number
+-- A set has this number.
 abbrev pub IsKnown : Numbered → ℕ → Type 0
 IsKnown sets n = n < length sets.sets
 
--- every set that was there is there, with its number, and every pair, with its answer
+-- Each set keeps its number, and each pair its result. There may be more.
 pub record Keeps (old new : Numbered) : Type 0 where
   pub more : List HideSet
   pub is : new.sets ≡ old.sets ++ more
   pub unions : KeepsPairs old.unions new.unions
   pub meets : KeepsPairs old.meets new.meets
 
--- a token with the names that it is not replaced by
-pub record Hiding : Type 0 where
-  pub token : Token
-  pub hide : HideSet
-
--- the names of a set, and of another beside it
+-- The names of a set, and of an extra set if there is one.
 abbrev pub names_in : Numbered → ℕ → Option ℕ → HideSet
 names_in sets n None = set_at sets n
 names_in sets n (Some m) = set.union (set_at sets n) (set_at sets m)
 
--- the names that a token in flight is not replaced by
+-- The names that hide a token.
 abbrev pub hide_of : Numbered → Hidden → HideSet
 hide_of sets h = names_in sets h.hide h.also
 
--- a token with these names
+-- A token with its hide set.
 abbrev pub hiding : Numbered → Hidden → Hiding
 hiding sets h = record { token = h.token; hide = hide_of sets h }
 
--- a token's sets are there
+-- The numbers of a token's sets are known.
 pub record HasSets (sets : Numbered) (h : Hidden) : Type 0 where
   pub hide : IsKnown sets h.hide
   pub also : IfSome h.also (IsKnown sets)
@@ -53,6 +48,6 @@ pub record HasSets (sets : Numbered) (h : Hidden) : Type 0 where
 abbrev pub hidings : Numbered → List Hidden → List Hiding
 hidings sets hs = map (hiding sets) hs
 
--- the sets of these tokens are there
+-- The numbers of all these tokens' sets are known.
 pub record AllKnown (sets : Numbered) (hs : List Hidden) : Type 0 where
   pub each : AllByRecursion (HasSets sets) hs

@@ -1,4 +1,4 @@
--- How the heading of a function-like macro and a replacement list are laid out; which chains have a rest.
+-- The syntax of parameter lists and of replacement lists, as inductive definitions. Which chains have a rest.
 use Rattle.std.specs.Prelude.{◌≡◌, ℕ, Bool, true, false, not, ◌&&◌, List, [], ◌∷◌, ◌++◌, Some, None, codes}
 use Rattle.std.specs.List.{list_any}
 use Rattle.pptext.specs.declared.tokens.Token.{Token}
@@ -18,9 +18,9 @@ use Rattle.ppmacro.specs.declared.macros.Chain.{Chain}
 use Rattle.ppmacro.specs.declared.macros.Operand.{Operand}
 use Rattle.ppmacro.specs.declared.macros.Operand.TheVariants.{Tok, Param, Str, Rest}
 
--- ---- the heading (6.10p1, 6.10.3p10)
+-- ---- the parameter list (6.10p1, 6.10.3p10)
 
--- names with a comma between them
+-- Names with commas between them.
 pub data IdentifierList : List Token → List Name → Type 0 where
   one : {t : Token}
       → is_identifier t ≡ true
@@ -31,7 +31,7 @@ pub data IdentifierList : List Token → List Name → Type 0 where
       → IdentifierList ts names
       → IdentifierList (t ∷ (comma ∷ ts)) (t.text ∷ names)
 
--- what may stand between the parentheses, with the names, and how it ends
+-- What may be between the parentheses, with its names and how it ends.
 pub data Parameters (profile : Profile) : List Token → List Name → Ending → Type 0 where
   nothing : Parameters profile [] [] Plain
   names : {ts : List Token} {ns : List Name}
@@ -45,14 +45,14 @@ pub data Parameters (profile : Profile) : List Token → List Name → Ending �
       → is_punct (codes ",") comma ≡ true
       → is_punct (codes "...") t ≡ true
       → Parameters profile (ts ++ comma ∷ (t ∷ [])) ns Dots
-  -- in GNU C
+  -- In GNU C only.
   names_with_ellipsis : (ts : List Token) (t : Token) {ns : List Name}
       → is_gnu profile ≡ true
       → IdentifierList ts ns
       → is_punct (codes "...") t ≡ true
       → Parameters profile (ts ++ t ∷ []) ns NamedDots
 
--- behind `(` stand the parameters, `)` and the replacement list
+-- A line after `(`: the parameters, `)` and the replacement list.
 pub record IsHeading (profile : Profile) (line : List Token) (heading : Heading) : Type 0 where
   pub inside : List Token
   pub close : Token
@@ -62,7 +62,7 @@ pub record IsHeading (profile : Profile) (line : List Token) (heading : Heading)
 
 -- ---- the replacement list (6.10.3.2, 6.10.3.3)
 
--- these tokens are this operand; with the space mark of the first
+-- Tokens that are one operand, with the leading-space flag of the first.
 pub data IsOperand (shape : Shape) : Bool → List Token → Operand → Type 0 where
   token : {t : Token}
       → is_paste t ≡ false
@@ -77,7 +77,7 @@ pub data IsOperand (shape : Shape) : Bool → List Token → Operand → Type 0 
       → parameter_of shape t ≡ Some i
       → IsOperand shape hash.space (hash ∷ (t ∷ [])) (Str i hash.at)
 
--- these tokens are these operands with `##` between them; with the space mark of the first
+-- Tokens that are operands with `##` between them, with the leading-space flag of the first.
 pub data AreJoined (shape : Shape) : Bool → List Token → List Operand → Type 0 where
   last : {mark : Bool} {ts : List Token} {o : Operand}
       → IsOperand shape mark ts o
@@ -88,7 +88,7 @@ pub data AreJoined (shape : Shape) : Bool → List Token → List Operand → Ty
       → AreJoined shape other rest os
       → AreJoined shape mark (ts ++ paste ∷ rest) (o ∷ os)
 
--- these tokens are these chains, laid end to end; the last operand of one may be the rest
+-- Tokens that are chains, laid end to end. The last operand of a chain may be a rest.
 pub data AreChains (shape : Shape) : List Token → List Chain → Type 0 where
   none : AreChains shape [] []
   chain : {mark : Bool} {os : List Operand} {cs : List Chain} (ts rest : List Token)
@@ -96,7 +96,7 @@ pub data AreChains (shape : Shape) : List Token → List Chain → Type 0 where
       → AreChains shape rest cs
       → AreChains shape (ts ++ rest) (with_rest (lenient_parameter shape) (record { mark = mark; operands = os }) ∷ cs)
 
--- `##` and `#` stand where they may (6.10.3.2p1, 6.10.3.3p1, p3)
+-- `##` and `#` are in valid positions (6.10.3.2p1, 6.10.3.3p1, p3).
 abbrev pub places_operators : Definition → Bool
 places_operators d = not (misplaces_paste true d.body) && not (is_function_like d.shape && misplaces_hash d.shape d.body)
 

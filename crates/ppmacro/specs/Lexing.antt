@@ -1,2 +1,2 @@
--- Which token a text is (6.4): the word of `pptext`, of which law `tells_each_kind` says that it is right.
+-- The kind of a text that is one token (6.4). Theorem `tells_each_kind` proves that this definition of `pptext` is right.
 pub use Rattle.pptext.specs.Kinds.{kind_of}

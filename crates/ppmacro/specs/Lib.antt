@@ -11,6 +11,7 @@ pub mod Remembered
 pub mod Spellings
 pub mod Chains
 pub mod Items
+pub mod Hiding
 pub mod HideSets
 pub mod Define
 pub mod Headings

@@ -1,4 +1,4 @@
--- Replacement lists without `##`, whose tokens are chains alone (6.10.3.3).
+-- Replacement lists without `##`. Each token is a chain of its own (6.10.3.3).
 use Rattle.std.specs.Prelude.{Bool, true, false, not, ◌&&◌, List, [], ◌∷◌, Option, Some, None, if◌then◌else◌}
 use Rattle.std.specs.List.{list_any}
 use Rattle.pptext.specs.declared.tokens.Token.{Token}
@@ -13,10 +13,10 @@ abbrev pub is_object_like : Shape → Bool
 is_object_like ObjectLike = true
 is_object_like _ = false
 
--- the replacement list of an object-like macro, where no `##` stands in it
+-- The replacement list of an object-like macro without `##`.
 abbrev pub lone_tokens : Definition → Option (List Token)
 lone_tokens d = if is_object_like d.shape && not (list_any is_paste d.body) then Some d.body else None
 
--- a token that no `##` joins, as a chain
+-- A token as a chain of its own.
 abbrev pub lone_chain : Token → Chain
 lone_chain t = record { mark = t.space; operands = Tok t ∷ [] }

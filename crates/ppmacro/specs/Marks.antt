@@ -1,23 +1,24 @@
--- Marks of names, by which a table tells that most identifiers name no macro.
+-- Fingerprints of names. The macro table uses them to reject most identifiers that name no macro.
 use Rattle.std.specs.Prelude.{◌≡◌, ℕ, ◌+◌, ◌-◌, ◌*◌, ◌/◌, ◌%◌, nat_lt, List, length, slice_index_or, if◌then◌else◌, None}
 use Rattle.std.specs.FinMap as table
 use Rattle.std.specs.Hash.FoldHasher.{read_u32}
 use Rattle.ppmacro.specs.Names.{Name, Macros}
 
--- of a name of fewer than four bytes
+-- The fingerprint of a name of fewer than four bytes.
 unfoldable pub short_mark : Name → ℕ
 short_mark name = slice_index_or name 0 0 * 125 + slice_index_or name (length name - 1) 0 * 2 + length name
 
--- by four bytes of the middle and the last four, and the length: first bytes are alike in more names
+-- The fingerprint of a name. It is made of four bytes in the middle, the last four and the length; more names share their first
+-- bytes.
 unfoldable pub mark_of : Name → ℕ
 mark_of name =
     if nat_lt (length name) 4 then short_mark name else
     (read_u32 name ((length name - 4) / 2) * 506_952_113 + read_u32 name (length name - 4) * 625_341_585 + length name % 64 * 461_845_907) / 16_777_216 % 32_768
 
--- what stands at the mark of a name
+-- The slot for a name.
 abbrev pub at : List ℕ → Name → ℕ
 at marks name = slice_index_or marks (mark_of name) 0
 
--- what has no mark names no macro
+-- A name whose slot is 0 names no macro.
 abbrev pub AreMarked : List ℕ → Macros → Type 0
 AreMarked marks m = (name : Name) → at marks name ≡ 0 → table.get m name ≡ None

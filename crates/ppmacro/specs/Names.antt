@@ -1,4 +1,4 @@
--- Names, hide sets and tables of macros.
+-- Names, hide sets and macro tables.
 use Rattle.std.specs.Prelude.{ℕ, List}
 use Rattle.std.specs.Ordering.{nat_cmp}
 use Rattle.std.specs.Cmp.Lexicographic.{slice_cmp}
@@ -6,11 +6,11 @@ use Rattle.std.specs.FinSet as set
 use Rattle.std.specs.FinMap.{FinMap}
 use Rattle.ppmacro.specs.declared.macros.Definition.{Definition}
 
--- the spelling of an identifier
+-- The spelling of an identifier.
 abbrev pub Name : Type 0
 Name = List ℕ
 
--- the names that a token is not replaced by any more
+-- The names that may not replace a token.
 abbrev pub HideSet : Type 0
 HideSet = set.FinSet (slice_cmp nat_cmp)
 

@@ -5,7 +5,7 @@ use Rattle.std.specs.Coded.{Coded, code_by, coded_list, coded_ℕ, coded×}
 use Rattle.ppmacro.specs.Names.{HideSet}
 use Rattle.ppmacro.specs.Pairs.{Answered, answered_code}
 
--- the sets in the order of their numbers, which count from 0, and the pairs of numbers whose union or meet is known
+-- The sets in the order of their numbers, which count from 0, and the cached unions and intersections of pairs.
 pub record Numbered : Type 0 where
   pub sets : List HideSet
   pub unions : Answered

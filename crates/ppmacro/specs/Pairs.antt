@@ -1,4 +1,4 @@
--- Pairs of numbers, each with a number that answers it.
+-- Results by pairs of numbers.
 use Rattle.std.specs.Prelude.{◌≡◌, ℕ, Bool, ◌&&◌, nat_eq, List, ◌++◌, Option, Some, if◌then◌else◌}
 use Rattle.std.specs.Map.{lookup}
 use Rattle.std.specs.Coded.{Coded, coded_list, coded_ℕ, coded×}
@@ -15,12 +15,12 @@ same_pair x y = nat_eq x.0 y.0 && nat_eq x.1 y.1
 abbrev pub answer_of : Answered → ℕ → ℕ → Option ℕ
 answer_of ps a b = lookup (same_pair (a, b)) ps
 
--- every pair that was there is there, with its answer
+-- The old pairs keep their results.
 pub record KeepsPairs (old new : Answered) : Type 0 where
   pub more : Answered
   pub is : new ≡ old ++ more
 
--- the union of two sets by their numbers, where no work is left: one is the empty one, or they are the same, or they were joined before
+-- The number of the union of two sets, if it is trivial (a set is empty, or both are equal) or cached.
 abbrev pub union_known : Answered → ℕ → ℕ → Option ℕ
 union_known ps a b = if nat_eq a 0 then Some b else (if nat_eq b 0 then Some a else (if nat_eq a b then Some a else answer_of ps a b))
 

@@ -1,4 +1,4 @@
--- Replacement lists without `#` and `##`, each of whose tokens is a chain alone (6.10.3.1).
+-- Replacement lists without `#` and `##`. Each token is a chain of its own (6.10.3.1).
 use Rattle.std.specs.Prelude.{ℕ, Bool, ◌||◌, List, [], ◌∷◌, map, Option, Some, None}
 use Rattle.pptext.specs.declared.tokens.Token.{Token}
 use Rattle.ppmacro.specs.Spellings.{is_hash, is_paste}
@@ -14,7 +14,7 @@ use Rattle.ppmacro.specs.declared.patterns.Pattern.TheVariants.{Alone, Joined}
 abbrev pub is_operator : Token → Bool
 is_operator t = is_paste t || is_hash t
 
--- a token that stands alone, where this is the parameter that it is
+-- The entry for a token. The index is that of the parameter that it names.
 abbrev pub entry_at : Option ℕ → Token → Entry
 entry_at (Some i) t = Param t.space i
 entry_at None t = Tok t
@@ -22,12 +22,12 @@ entry_at None t = Tok t
 abbrev pub entry_of : Shape → Token → Entry
 entry_of shape t = entry_at (parameter_of shape t) t
 
--- an entry as a chain
+-- An entry as a chain.
 abbrev pub entry_chain : Entry → Chain
 entry_chain (Tok t) = record { mark = t.space; operands = operand.Tok t ∷ [] }
 entry_chain (Param mark i) = record { mark = mark; operands = operand.Param i ∷ [] }
 
--- the chains of a replacement list
+-- The chains of a replacement list.
 abbrev pub listed : Pattern → List Chain
 listed (Alone entries) = map entry_chain entries.items
 listed (Joined chains) = chains

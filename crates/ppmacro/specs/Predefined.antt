@@ -1,4 +1,4 @@
--- The table that a unit begins with (6.10.8.1).
+-- The macro table at the start of a unit (6.10.8.1).
 use Rattle.std.specs.Prelude.{[], ◌∷◌, codes}
 use Rattle.std.specs.FinMap.{from_entries}
 use Rattle.ppmacro.specs.declared.macros.Builtin.{Builtin}

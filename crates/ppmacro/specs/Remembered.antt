@@ -1,5 +1,5 @@
--- Hide sets as they are kept, and pairs whose union or meet is known. Only the contracts of private functions, and the invariant of a type's private
--- fields, cite this.
+-- The fields of the pool of hide sets: nodes, and cached results of pairs. Only contracts of private functions and the invariant
+-- of private fields use them.
 use Rattle.std.specs.Prelude.{◌≡◌, ℕ, ◌<◌, Bool, List, length}
 use Rattle.std.specs.List.{AllByRecursion, IsDistinct}
 use Rattle.ppmacro.specs.Names.{Name}
@@ -8,7 +8,7 @@ use Rattle.ppmacro.specs.Members.{same_name}
 use Rattle.ppmacro.specs.Operations.{Union, Meet, joined}
 use Rattle.ppmacro.specs.Pairs.{Answered}
 
--- two numbers are answered by that of what is made of their sets
+-- A cached result of a pair is the set that `op` makes of both.
 pub record IsAnswer (op : Bool → Bool → Bool) (ns : List Node) (e : (ℕ × ℕ) × ℕ) : Type 0 where
   pub left : e.0.0 < length ns
   pub right : e.0.1 < length ns
@@ -18,7 +18,7 @@ pub record IsAnswer (op : Bool → Bool → Bool) (ns : List Node) (e : (ℕ × 
 pub record AreAnswers (op : Bool → Bool → Bool) (ns : List Node) (ps : Answered) : Type 0 where
   pub each : AllByRecursion (IsAnswer op ns) ps
 
--- names, the nodes of their sets, and pairs of these
+-- The invariant of the pool.
 pub record AreKept (names : List Name) (ns : List Node) (us ms : Answered) : Type 0 where
   pub distinct : IsDistinct same_name names
   pub pool : IsPool ns

@@ -1,9 +1,9 @@
--- What a token of a definition stands for.
+-- The operators `#` and `##`.
 use Rattle.std.specs.Prelude.{Bool, ◌||◌, codes}
 use Rattle.pptext.specs.Tokens.{is_punct}
 use Rattle.pptext.specs.declared.tokens.Token.{Token}
 
--- in the usual spelling, or as a digraph (6.4.6)
+-- Also as a digraph (6.4.6).
 abbrev pub is_hash : Token → Bool
 is_hash t = is_punct (codes "#") t || is_punct (codes "%:") t
 

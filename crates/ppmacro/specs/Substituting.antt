@@ -1,4 +1,4 @@
--- What the parts of a substitution answer, in terms of hide sets' members.
+-- The results of the parts of a substitution, as tokens with hide sets.
 use Rattle.std.specs.Prelude.{◌≡◌, ℕ, List, [], ◌∷◌, ◌++◌, map, Option, Some, None, Vec, Bool, Result, Ok, Err}
 use Rattle.std.specs.Global.{Global}
 use Rattle.std.specs.FinSet as set
@@ -7,7 +7,8 @@ use Rattle.std.specs.Option.{option_map}
 use Rattle.pptext.specs.declared.tokens.Token.{Token}
 use Rattle.pptext.specs.declared.tokens.Fault.{Fault}
 use Rattle.ppmacro.specs.Numbered.{Numbered}
-use Rattle.ppmacro.specs.HideSets.{set_at, Hiding, hiding, hidings, AllKnown}
+use Rattle.ppmacro.specs.Hiding.{Hiding}
+use Rattle.ppmacro.specs.HideSets.{set_at, hiding, hidings, AllKnown}
 use Rattle.ppmacro.specs.Lexing.{kind_of}
 use Rattle.ppmacro.specs.Substitution.{Arguments, Marked, argument_at, expanded_at, mark_first}
 use Rattle.ppmacro.specs.declared.flying.Hidden.{Hidden}
@@ -21,34 +22,34 @@ abbrev pub hidden_in : Numbered → Result Hidden Fault → Result Hiding Fault
 hidden_in sets (Ok h) = Ok (hiding sets h)
 hidden_in sets (Err f) = Err f
 
--- the token's kind is that of its spelling
+-- The token's kind is the kind of its spelling.
 abbrev pub IsWhole : Hidden → Type 0
 IsWhole h = kind_of h.token.text ≡ Some h.token.kind
 
--- the kind of the last token is that of its spelling
+-- The last token's kind is the kind of its spelling.
 abbrev pub EndsWhole : List Hidden → Type 0
 EndsWhole hs = (front : List Hidden) (last : Hidden) → hs ≡ front ++ last ∷ [] → IsWhole last
 
 abbrev pub lists_of : List (Vec Hidden Global) → List (List Hidden)
 lists_of vs = map (λ v. v.items) vs
 
--- what this argument is expanded to, where that is asked for
+-- The expansion of an argument, if it is computed.
 abbrev pub option_of : List Hidden → Expansion → Option (List Hidden)
 option_of given Unused = None
 option_of given AsGiven = Some given
 option_of given (Made v) = Some v.items
 
--- the same of each argument
+-- The expansion of each argument.
 abbrev pub options_of : List (Vec Hidden Global) → List Expansion → List (Option (List Hidden))
 options_of given [] = []
 options_of [] (e ∷ es) = option_of [] e ∷ options_of [] es
 options_of (v ∷ vs) (e ∷ es) = option_of v.items e ∷ options_of vs es
 
--- the sets of all lists' tokens are there
+-- The numbers of the hide sets in all lists are known.
 pub record ListsKnown (sets : Numbered) (vs : List (Vec Hidden Global)) : Type 0 where
   pub each : AllByRecursion (λ v. AllKnown sets v.items) vs
 
--- the sets of all arguments' tokens are there
+-- The numbers of the hide sets in all arguments are known.
 pub record ArgumentsKnown (sets : Numbered) (given : List (Vec Hidden Global)) (expanded : List Expansion) : Type 0 where
   pub given_known : (i : ℕ) → AllKnown sets (argument_at (lists_of given) i)
   pub expanded_known : (i : ℕ) → AllKnown sets (expanded_at (options_of given expanded) i)
@@ -60,15 +61,15 @@ abbrev pub marked_in : Numbered → Result (Vec Hidden Global × Bool) Fault →
 marked_in sets (Ok m) = Ok (record { tokens = hidings sets m.0.items; pending = m.1 })
 marked_in sets (Err f) = Err f
 
--- a chain's tokens behind these, the first with this mark
+-- A list followed by the tokens of a chain, the first with this leading-space flag.
 abbrev pub pushed : List Hiding → Bool → Result (List Hiding) Fault → Result Marked Fault
 pushed front mark (Ok ts) = Ok (record { tokens = front ++ (mark_first mark ts).tokens; pending = (mark_first mark ts).pending })
 pushed front mark (Err f) = Err f
 
--- tokens that a call left, and the mark that it answers
+-- The tokens that a call leaves, with the pending flag that it returns.
 abbrev pub left_with : Numbered → List Hidden → Bool → Marked
 left_with sets hs pending = record { tokens = hidings sets hs; pending = pending }
 
--- a set's names are among those that are gained
+-- The set with number n is a subset of the set with number `gain`.
 abbrev pub IsWithin : Numbered → ℕ → ℕ → Type 0
 IsWithin sets gain n = set.union (set_at sets n) (set_at sets gain) ≡ set_at sets gain

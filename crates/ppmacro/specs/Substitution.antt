@@ -1,4 +1,4 @@
--- What an invocation is replaced by (6.10.3.1 to 6.10.3.3).
+-- The replacement of an invocation (6.10.3.1 to 6.10.3.3).
 use Rattle.std.specs.Prelude.{ℕ, Bool, true, false, not, ◌&&◌, ◌||◌, ◌==◌, ◌-◌, List, [], ◌∷◌, ◌++◌, map, take, length, Option, Some, None, unwrap_or, slice_get, Result, Ok, Err, if◌then◌else◌}
 use Rattle.std.specs.FinSet as set
 use Rattle.pptext.specs.declared.tokens.Place.{Place}
@@ -8,7 +8,7 @@ use Rattle.pptext.specs.declared.tokens.Kind.{Kind}
 use Rattle.pptext.specs.declared.tokens.Kind.TheVariants.{CharConst, Str as StringLiteral}
 use Rattle.pptext.specs.Tokens.{fault}
 use Rattle.ppmacro.specs.Names.{HideSet}
-use Rattle.ppmacro.specs.HideSets.{Hiding}
+use Rattle.ppmacro.specs.Hiding.{Hiding}
 use Rattle.ppmacro.specs.Chains.{chains_of}
 use Rattle.ppmacro.specs.Lexing.{kind_of}
 use Rattle.ppmacro.specs.declared.macros.Definition.{Definition}
@@ -23,7 +23,7 @@ is_literal CharConst = true
 is_literal StringLiteral = true
 is_literal _ = false
 
--- `\` before each `"` and `\`
+-- A backslash before each `"` and `\`.
 abbrev pub escaped : List ℕ → List ℕ
 escaped [] = []
 escaped (b ∷ bs) = if b == 34 || b == 92 then 92 ∷ (b ∷ escaped bs) else b ∷ escaped bs
@@ -31,11 +31,11 @@ escaped (b ∷ bs) = if b == 34 || b == 92 then 92 ∷ (b ∷ escaped bs) else b
 abbrev pub spelled_in_string : Token → List ℕ
 spelled_in_string t = if is_literal t.kind then escaped t.text else t.text
 
--- white space between two tokens is one space
+-- White space between two tokens becomes one space. There is none before the first token.
 abbrev pub spelled_space : Bool → Token → List ℕ
 spelled_space first t = if t.space && not first then 32 ∷ [] else []
 
--- `first`: no token stands before
+-- `first`: the first of these tokens is the first of the argument.
 abbrev pub spelled_from : Bool → List Token → List ℕ
 spelled_from first [] = []
 spelled_from first (t ∷ ts) = spelled_space first t ++ (spelled_in_string t ++ spelled_from false ts)
@@ -50,7 +50,7 @@ is_string_literal _ = false
 abbrev pub string_token : List ℕ → Place → Place → Hiding
 string_token text at used = record { token = record { kind = StringLiteral; text = text; space = false; at = at; used = used }; hide = set.empty }
 
--- the literal of an argument, or fault 20; `at` is the place of `#`
+-- The string literal of an argument, or fault 20. `at` is the location of `#`, and `used` that of the macro name.
 abbrev pub stringized : List Token → Place → Place → Result Hiding Fault
 stringized argument at used =
     if is_string_literal (kind_of (string_text argument)) then Ok (string_token (string_text argument) at used) else Err (fault 20 used (string_text argument))
@@ -62,7 +62,7 @@ pasted_as None left right used = Err (fault 19 used (left.token.text ++ right.to
 pasted_as (Some kind) left right used =
     Ok (record { token = record { kind = kind; text = left.token.text ++ right.token.text; space = left.token.space; at = left.token.at; used = used }; hide = set.intersection left.hide right.hide })
 
--- two tokens as one, or fault 19
+-- Two tokens pasted, or fault 19.
 abbrev pub pasted : Hiding → Hiding → Place → Result Hiding Fault
 pasted left right used = pasted_as (kind_of (left.token.text ++ right.token.text)) left right used
 
@@ -70,22 +70,22 @@ abbrev pub after_ok : {A B E : Type 0} → Result A E → (A → Result B E) →
 after_ok (Ok a) f = f a
 after_ok (Err e) f = Err e
 
--- the last token of one list with the first of the other; an empty list is a placemarker
+-- Joins the last token of one list with the first of the other. An empty list is a placemarker.
 abbrev pub join : List Hiding → List Hiding → Place → Result (List Hiding) Fault
 join [] right used = Ok right
 join (l ∷ ls) [] used = Ok (l ∷ ls)
 join (l ∷ []) (r ∷ rs) used = after_ok (pasted l r used) (λ t. Ok (t ∷ rs))
 join (l ∷ (m ∷ ls)) (r ∷ rs) used = after_ok (join (m ∷ ls) (r ∷ rs) used) (λ ts. Ok (l ∷ ts))
 
--- from the left
+-- Joins lists from the left.
 abbrev pub join_all : List Hiding → List (List Hiding) → Place → Result (List Hiding) Fault
 join_all left [] used = Ok left
 join_all left (right ∷ rest) used = after_ok (join left right used) (λ ts. join_all ts rest used)
 
 -- ---- operands and chains
 
--- What an invocation brings: its arguments, and the expansions of those that stand away from `#` and `##`. A variable argument that is absent (gcc's
--- manual, "Variadic Macros") is not among the arguments, so that they are one less than the parameters.
+-- The arguments of an invocation, and the expansions of those that are used away from `#` and `##`. A variable argument that is
+-- absent (gcc's manual, "Variadic Macros") isn't in `given`, so there is one argument fewer than parameters.
 pub record Arguments : Type 0 where
   pub given : List (List Hiding)
   pub expanded : List (Option (List Hiding))
@@ -99,7 +99,7 @@ expanded_at expanded i = unwrap_or (unwrap_or (slice_get expanded i) None) []
 abbrev pub plain : Token → Hiding
 plain t = record { token = t; hide = set.empty }
 
--- beside `##` an argument stays unexpanded (6.10.3.1)
+-- The tokens of an operand. An argument next to `##` (`beside`) isn't expanded (6.10.3.1).
 abbrev pub operand_tokens : Bool → Arguments → Place → Operand → Result (List Hiding) Fault
 operand_tokens beside args used (Tok t) = Ok (plain t ∷ [])
 operand_tokens true args used (Param i) = Ok (argument_at args.given i)
@@ -115,23 +115,23 @@ abbrev pub is_joined : List Operand → Bool
 is_joined (o ∷ p ∷ os) = true
 is_joined _ = false
 
--- the operands that `##` joins: all but a rest at the end
+-- The operands that `##` joins: all but a rest at the end.
 abbrev pub before_rest : List Operand → List Operand
 before_rest [] = []
 before_rest (Rest i ∷ []) = []
 before_rest (o ∷ os) = o ∷ before_rest os
 
--- which argument the rest at the end is
+-- The argument index of the rest at the end.
 abbrev pub rest_of : List Operand → Option ℕ
 rest_of [] = None
 rest_of (Rest i ∷ []) = Some i
 rest_of (o ∷ os) = rest_of os
 
--- all but the last
+-- All but the last.
 abbrev pub without_last : {X : Type 0} → List X → List X
 without_last ts = take (length ts - 1) ts
 
--- the argument behind these tokens without a paste; where it is absent, the last of them, which is the comma, goes
+-- Appends the argument without a paste. If it is absent, removes the last token, which is the comma.
 abbrev pub rest_behind_comma : {X : Type 0} → Option (List X) → List X → List X
 rest_behind_comma None ts = without_last ts
 rest_behind_comma (Some argument) ts = ts ++ argument
@@ -140,7 +140,7 @@ abbrev pub with_rest_tokens : {X : Type 0} → List (List X) → Option ℕ → 
 with_rest_tokens given None ts = ts
 with_rest_tokens given (Some i) ts = rest_behind_comma (slice_get given i) ts
 
--- each `#` of a chain, then `##` from the left, and then the rest
+-- The tokens of a chain: each `#` first, then `##` from the left, then the rest.
 abbrev pub chain_tokens : Arguments → Place → Chain → Result (List Hiding) Fault
 chain_tokens args used c =
     after_ok (operands_tokens (is_joined c.operands) args used (before_rest c.operands)) (λ lists.
@@ -148,7 +148,7 @@ chain_tokens args used c =
 
 -- ---- the replacement
 
--- tokens, and a space mark that waits for the next one
+-- Tokens, and whether a leading-space flag is pending for the next one.
 pub record Marked : Type 0 where
   pub tokens : List Hiding
   pub pending : Bool
@@ -156,12 +156,12 @@ pub record Marked : Type 0 where
 abbrev pub with_mark : Bool → Hiding → Hiding
 with_mark mark t = record t { token = record t.token { space = mark } }
 
--- the first token takes the pending mark
+-- Gives the pending flag to the first token.
 abbrev pub mark_first : Bool → List Hiding → Marked
 mark_first mark [] = record { tokens = []; pending = mark }
 mark_first mark (t ∷ ts) = record { tokens = with_mark mark t ∷ ts; pending = false }
 
--- `first`: the chain is the replacement list's first, whose own mark does not count
+-- The tokens of chains. `first`: the next chain is the first of the replacement list, whose own flag doesn't count.
 abbrev pub chains_tokens : Arguments → Place → Bool → Bool → List Chain → Result Marked Fault
 chains_tokens args used pending first [] = Ok (record { tokens = []; pending = pending })
 chains_tokens args used pending first (c ∷ cs) =
@@ -169,14 +169,15 @@ chains_tokens args used pending first (c ∷ cs) =
     let here : Marked = mark_first (pending || (not first && c.mark)) ts in
     after_ok (chains_tokens args used here.pending false cs) (λ rest. Ok (record { tokens = here.tokens ++ rest.tokens; pending = rest.pending })))
 
--- each token gains the names, and is used where the macro's name is
+-- A token of the replacement, with more names in its hide set and the macro name's location as its expansion location (Prosser's
+-- hsadd).
 abbrev pub gained : HideSet → Place → Hiding → Hiding
 gained gain used t = record { token = record t.token { used = used }; hide = set.union t.hide gain }
 
--- the tokens of these chains with the pending mark, or the first of the faults 19 and 20 in the order of work
+-- The replacement by these chains with the pending flag, or the first of the faults 19 and 20.
 abbrev pub substituted_by : List Chain → Arguments → HideSet → Place → Bool → Result Marked Fault
 substituted_by cs args gain used space = after_ok (chains_tokens args used space true cs) (λ m. Ok (record m { tokens = map (gained gain used) m.tokens }))
 
--- the same of a macro's chains
+-- The replacement by the chains of a macro.
 abbrev pub substituted : Definition → Arguments → HideSet → Place → Bool → Result Marked Fault
 substituted d args gain used space = substituted_by (chains_of d) args gain used space

@@ -1,10 +1,10 @@
-// Parts of a file that outlives the table, which contracts see as what they point to.
+//! References into a source file that outlives the macro table. Contracts see them as the values that they refer to.
 ghost use Rattle.std.specs.Prelude.{◌≡◌};
 
 use pptext::Token;
 use std::marker::Model;
 
-/// Bytes of a file's token.
+/// The spelling of a source token.
 #[derive(Drop)]
 pub(crate) struct Text<'a> {
     bytes: &'a [u8],
@@ -19,7 +19,7 @@ impl<'a> Model for Text<'a> {
 }
 
 impl<'a> Text<'a> {
-    /// The spelling of a token.
+    /// Returns the spelling of a token.
     pub(crate) fn of(token: &'a Token) -> Text<'a>
         ensures { result ≡ token.now.text }
     {
@@ -28,7 +28,7 @@ impl<'a> Text<'a> {
         }
     }
 
-    /// The bytes.
+    /// Returns the bytes.
     pub(crate) fn bytes(&self) -> &'a [u8]
         ensures { result.now ≡ self.now }
     {
@@ -36,7 +36,7 @@ impl<'a> Text<'a> {
     }
 }
 
-/// A token of a file.
+/// A token of a replacement list.
 #[derive(Drop)]
 pub struct Leaf<'a> {
     token: &'a Token,
@@ -51,14 +51,14 @@ impl<'a> Model for Leaf<'a> {
 }
 
 impl<'a> Leaf<'a> {
-    /// This token.
+    /// Wraps a token.
     pub(crate) fn new(token: &'a Token) -> Leaf<'a>
         ensures { result ≡ token.now }
     {
         Leaf { token }
     }
 
-    /// The token.
+    /// Returns the token.
     pub fn token(&self) -> &'a Token
         ensures { result.now ≡ self.now }
     {
@@ -66,7 +66,7 @@ impl<'a> Leaf<'a> {
     }
 }
 
-/// Tokens of a file.
+/// A replacement list: a slice of a source file's tokens.
 #[derive(Drop)]
 pub struct Body<'a> {
     tokens: &'a [Token],
@@ -82,14 +82,14 @@ impl<'a> Model for Body<'a> {
 }
 
 impl<'a> Body<'a> {
-    /// These tokens.
+    /// Wraps a slice of tokens.
     pub fn new(tokens: &'a [Token]) -> Body<'a>
         ensures { result ≡ tokens.now }
     {
         Body { tokens }
     }
 
-    /// The tokens.
+    /// Returns the tokens.
     pub fn as_slice(&self) -> &'a [Token]
         ensures { result.now ≡ self.now }
     {

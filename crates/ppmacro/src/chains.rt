@@ -1,4 +1,4 @@
-// The chains of a replacement list, whose operands `##` joins (6.10.3.2, 6.10.3.3).
+//! The chains of a replacement list: runs of operands that `##` joins (6.10.3.2, 6.10.3.3).
 ghost use Rattle.std.specs.Prelude.{◌≡◌, IfOk, OnOk, None, List, [], ◌∷◌, ◌++◌, map, false, position};
 ghost use Rattle.std.specs.Str.{bytes_eq};
 ghost use Rattle.std.specs.Option.{option_map};
@@ -17,7 +17,7 @@ use pptext::{Hashing, Place, Spelling, Token};
 use std::alloc::{AllocError, Global};
 use std::marker::Model;
 
-/// A `#`: its space mark, and where it stands.
+/// The leading-space flag and the location of a `#` operator.
 #[derive(Clone, Copy)]
 pub(crate) struct HashSign {
     mark: bool,
@@ -34,14 +34,14 @@ impl Model for HashSign {
     ghost inverse = { λ h. record { mark = h.mark; at = h.at } };
 }
 
-/// A part of a replacement list: an operand with the space mark of its first token, or `##`.
+/// A part of a replacement list: an operand with the leading-space flag of its first token, or `##`.
 #[derive(Drop)]
 pub(crate) enum Item<'a> {
     Operates(bool, Operand<'a>),
     Joins,
 }
 
-/// The kind of a macro, with an index of its parameters where they are many. Contracts see the kind.
+/// The kind of a macro, with an index of its parameters if there are many. Contracts see only the kind.
 #[derive(Drop)]
 pub(crate) struct Parameters<'p> {
     shape: &'p Shape,
@@ -61,7 +61,7 @@ impl<'p> Model for Parameters<'p> {
     ghost invariant = { λ p. IfSome p.index (λ s. s.keys ≡ names_in p.shape.now) };
 }
 
-/// The names of the parameters, that of the variable argument last.
+/// Returns the names of the parameters. The name of the variable argument is the last.
 pub(crate) fn names_in(shape: &Shape) -> &[Spelling]
     ensures { result.now ≡ names_in shape.now }
 {
@@ -72,8 +72,8 @@ pub(crate) fn names_in(shape: &Shape) -> &[Spelling]
 }
 
 impl<'p> Parameters<'p> {
-    /// Those of a macro of this kind, whose replacement list has so many tokens. They are hashed so where they are many and many
-    /// tokens are compared with them.
+    /// Creates the parameters of a macro of kind `shape`. `compared` is the number of tokens that are going to be looked up. The
+    /// names are indexed, with hash function `hashing`, only if there are many names and many tokens.
     pub(crate) fn new(
         alloc: Global,
         shape: &'p Shape,
@@ -90,7 +90,7 @@ impl<'p> Parameters<'p> {
         Ok(Parameters { shape, index })
     }
 
-    // The index of a name.
+    /// Returns the index of the parameter with this name.
     fn index_of(&self, name: &[u8]) -> Option<usize>
         ensures { result ≡ position (λ n. bytes_eq n name.now) (names_in self.now) }
     {
@@ -103,7 +103,7 @@ impl<'p> Parameters<'p> {
     }
 }
 
-// Which parameter has this name. A call of it is for identifiers alone.
+/// Returns the index of the parameter with this name. Only identifiers need the call.
 #[inline(never)]
 fn parameter_named(shape: &Parameters, name: &[u8]) -> Option<usize>
     ensures { result ≡ parameter_named shape.now name.now }
@@ -111,7 +111,7 @@ fn parameter_named(shape: &Parameters, name: &[u8]) -> Option<usize>
     shape.index_of(name)
 }
 
-/// Which parameter a token is.
+/// Returns the index of the parameter that a token names.
 #[inline(always)]
 pub(crate) fn parameter_of(shape: &Parameters, token: &Token) -> Option<usize>
     ensures { result ≡ parameter_of shape.now token.now }
@@ -123,21 +123,21 @@ pub(crate) fn parameter_of(shape: &Parameters, token: &Token) -> Option<usize>
     }
 }
 
-/// Whether it has parameters, or may have.
+/// Whether a macro is function-like.
 pub(crate) fn is_function_like(shape: &Shape) -> bool
     ensures { result ≡ is_function_like shape.now }
 {
     matches!(shape, Shape::FunctionLike { .. })
 }
 
-/// Whether a token is `#` as an operator.
+/// Whether a token is the operator `#`. In an object-like macro `#` is no operator.
 pub(crate) fn is_operator_hash(shape: &Parameters, token: &Token) -> bool
     ensures { result ≡ is_operator_hash shape.now token.now }
 {
     is_function_like(shape.shape) && is_hash(token)
 }
 
-// A token as an operand, behind its mark.
+/// Returns a token as an operand, with its leading-space flag.
 fn plain_operand<'a>(shape: &Parameters, token: &'a Token) -> (bool, Operand<'a>)
     ensures { definitions.Operates result.0 result.1 ≡ plain_item (parameter_of shape.now token.now) token.now }
 {
@@ -147,7 +147,7 @@ fn plain_operand<'a>(shape: &Parameters, token: &'a Token) -> (bool, Operand<'a>
     (token.space, Operand::Param(index))
 }
 
-// A token behind `#` as an operand, behind its mark.
+/// Returns the token after a `#` as an operand, with the leading-space flag of the `#`.
 fn stringized_operand<'a>(
     shape: &Parameters,
     hash: HashSign,
@@ -161,7 +161,7 @@ fn stringized_operand<'a>(
     (hash.mark, Operand::Str(index, hash.at))
 }
 
-// The next part, or none at a `#`, which goes with the token behind it.
+/// Returns the next part. There is none at a `#`: it belongs to the token after it.
 fn next_item<'a>(shape: &Parameters, hash: Option<HashSign>, token: &'a Token) -> Option<Item<'a>>
     ensures { (ts : List Token) → items_behind shape.now hash (token.now ∷ ts) ≡ led_by shape.now token.now
         (option_map (elim [ Item.Operates mark operand ↦ definitions.Operates mark operand | Item.Joins ↦ definitions.Joins ]) result) ts }
@@ -180,7 +180,7 @@ fn next_item<'a>(shape: &Parameters, hash: Option<HashSign>, token: &'a Token) -
     Some(Item::Operates(mark, operand))
 }
 
-// Puts a chain of one operand behind the others.
+/// Appends a chain of one operand.
 fn begin_chain<'a>(
     chains: &mut Vec<Chain<'a>>,
     mark: bool,
@@ -193,7 +193,7 @@ fn begin_chain<'a>(
     Ok(())
 }
 
-// Puts an operand behind the chains, into the last one where it is joined.
+/// Appends an operand to the last chain if `joined`, and otherwise as a new chain.
 fn put<'a>(
     chains: &mut Vec<Chain<'a>>,
     joined: bool,
@@ -215,7 +215,7 @@ fn put<'a>(
     Ok(())
 }
 
-// Puts a part behind the chains. Whether `##` stands behind them then.
+/// Appends a part to the chains. Returns whether the part is `##`, so that the next operand is joined.
 fn put_item<'a>(
     chains: &mut Vec<Chain<'a>>,
     joined: bool,
@@ -231,7 +231,7 @@ fn put_item<'a>(
     Ok(false)
 }
 
-// The chains of these tokens, without a rest.
+/// Returns the chains of a replacement list, before `end_in_rest`.
 fn chains_in<'a>(
     alloc: Global,
     shape: &Parameters,
@@ -256,7 +256,7 @@ fn chains_in<'a>(
     Ok(chains)
 }
 
-// Which parameter may be absent.
+/// Returns the index of the parameter whose argument may be absent.
 fn lenient_parameter(shape: &Shape) -> Option<usize>
     ensures { result ≡ lenient_parameter shape.now }
 {
@@ -269,7 +269,7 @@ fn lenient_parameter(shape: &Shape) -> Option<usize>
     }
 }
 
-// Makes the last operand of each chain the rest, where it is the parameter that may be absent, behind a comma.
+/// Turns the last operand of a chain into a rest, if it is the parameter that may be absent and follows a comma.
 fn end_in_rest(shape: &Shape, chains: &mut [Chain])
     ensures { chains.new ≡ map (with_rest (lenient_parameter shape.now)) chains.old }
 {
@@ -281,7 +281,7 @@ fn end_in_rest(shape: &Shape, chains: &mut [Chain])
     }
 }
 
-/// The chains of a definition's replacement list. Its parameters are hashed so.
+/// Returns the chains of a definition's replacement list. Many parameters are indexed with hash function `hashing`.
 pub(crate) fn chains_of<'a>(
     alloc: Global,
     definition: &Definition<'a>,

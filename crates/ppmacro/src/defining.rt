@@ -1,4 +1,4 @@
-// `#define` and `#undef` (6.10.3, 6.10.3.5).
+//! `#define` and `#undef` (6.10.3, 6.10.3.5).
 ghost use Rattle.std.specs.Prelude.{◌≡◌, IfOk, OnOk, OnErr};
 ghost use Rattle.std.specs.FinMap as finite_map;
 ghost use Rattle.ppmacro.specs.declared.macros.Shape.TheVariants.{ObjectLike};
@@ -21,7 +21,7 @@ use pptext::{Fault, Hashing, Memory, Place, Profile, Token};
 use std::alloc::{AllocError, Global};
 use std::marker::Model;
 
-/// What is wrong with a definition whose name is allowed.
+/// The ways in which a definition with a permitted name is invalid.
 #[derive(Clone, Copy)]
 enum Wrong {
     ParameterList,
@@ -32,7 +32,7 @@ enum Wrong {
     Redefinition,
 }
 
-/// Why a definition is refused, once its name is allowed.
+/// The reason why a definition with a permitted name is invalid.
 #[derive(Drop)]
 pub(crate) struct Refusal {
     wrong: Wrong,
@@ -54,7 +54,7 @@ impl Model for Refusal {
     ] };
 }
 
-/// A fault that isn't made yet: its number, and its text, which the program or the file holds.
+/// The number and the text of a fault that isn't built yet. The text is a literal or borrowed from the file.
 #[derive(Drop)]
 struct Refused<'a> {
     number: u8,
@@ -70,7 +70,7 @@ impl<'a> Model for Refused<'a> {
 }
 
 impl<'a> Refused<'a> {
-    // The fault at this place.
+    /// Builds the fault at this location.
     fn fault_at(&self, alloc: Global, at: Place) -> Result<Fault, AllocError>
         ensures { IfOk result (λ f. f ≡ fault self.now.0 at self.now.1) }
     {
@@ -79,7 +79,7 @@ impl<'a> Refused<'a> {
 }
 
 impl Refusal {
-    // The fault of the macro of this name.
+    /// Returns the fault for the macro of this name.
     fn of<'a>(&self, name: &'a Token) -> Refused<'a>
         ensures { result ≡ (number_of self.now, name.now.text) }
     {
@@ -113,7 +113,7 @@ impl<'a> Model for Named<'a> {
     ghost view = { λ n. record { name = n.name; definition = n.definition } };
 }
 
-// The macro behind `(`. Its parameters are hashed so.
+/// Reads a function-like definition from the tokens after `(`. `hashing` is for the index of the parameters.
 fn function_like<'a>(
     alloc: Global,
     profile: Profile,
@@ -146,7 +146,7 @@ fn function_like<'a>(
     }))
 }
 
-// The macro without parameters.
+/// Returns an object-like definition with this replacement list.
 fn object_like<'a>(body: &'a [Token]) -> Definition<'a>
     ensures { result ≡ record { shape = ObjectLike; body = body.now } }
 {
@@ -156,7 +156,7 @@ fn object_like<'a>(body: &'a [Token]) -> Definition<'a>
     }
 }
 
-// What stands behind the macro's name.
+/// Reads a definition from the tokens after the macro's name.
 fn read_definition<'a>(
     alloc: Global,
     profile: Profile,
@@ -179,7 +179,7 @@ fn read_definition<'a>(
     function_like(alloc, profile, &line[1..], hashing)
 }
 
-// Why a definition is refused, if it is. In GNU C a name may be defined again, whatever its definition was.
+/// Returns why a definition is invalid, if it is. In GNU C a name may be redefined with any definition.
 fn refusal_of(
     alloc: Global,
     profile: Profile,
@@ -214,7 +214,7 @@ fn refusal_of(
     Ok(None)
 }
 
-// The macro that is defined behind an allowed name, or the fault.
+/// Returns the definition of a permitted name from the tokens after the name, or its fault.
 fn fitting<'a>(
     alloc: Global,
     profile: Profile,
@@ -237,7 +237,7 @@ fn fitting<'a>(
     }
 }
 
-// The macro that a line behind `define` defines, or the fault.
+/// Returns the definition from the tokens after `define`, or its fault.
 fn judged<'a>(
     alloc: Global,
     profile: Profile,
@@ -267,7 +267,7 @@ fn judged<'a>(
     fitting(alloc, profile, table, name, &line[1..])
 }
 
-// Puts a definition into the table.
+/// Inserts a definition into the table.
 fn enter<'a>(table: &mut Table<'a>, named: Named<'a>) -> Result<(), AllocError>
     ensures ok { OnOk result (table.new ≡ finite_map.insert table.old named.entry.name named.entry.definition) }
     ensures err { OnErr result (table.new ≡ table.old) }
@@ -276,21 +276,24 @@ fn enter<'a>(table: &mut Table<'a>, named: Named<'a>) -> Result<(), AllocError>
     table.insert(name.bytes(), Macro::new(definition))
 }
 
-/// Defines a macro (6.10.3). `at` is the place of `#`, `line` what stands behind `define`; an agreeing definition takes the place of the
-/// one before (6.10.3p2). A fault stands at `at`, and its text is the macro's name, at 9 `define`. The first of these is told:
-/// 9, no identifier stands first;
-/// 10, the name is reserved (6.10.8p2, 6.10.3p5);
-/// 12, neither white space nor `(` follows the name (6.10.3p3);
-/// 11, the parameter list is ill formed or has a name twice (6.10.3p6, p10);
-/// 15, `__VA_ARGS__` is a parameter, or stands in the list of a macro without `...` (6.10.3p5);
-/// 13, `##` stands first, last or beside another (6.10.3.3p1, p3);
-/// 14, `#` without a parameter behind it in a function-like macro (6.10.3.2p1);
-/// 16, the name has another definition (6.10.3p2).
+/// Defines a macro (6.10.3). `at` is the location of `#`, and `line` holds the tokens after `define`. An identical definition
+/// replaces the one before (6.10.3p2).
 ///
-/// In GNU C `...` may follow the last parameter's name (gcc's manual, "Variadic Macros"), another definition takes the place of the one
-/// before, so that there is no 16, and `__STDC_VERSION__` isn't reserved.
+/// The location of a fault is `at`. Its text is the macro's name, except that the text of fault 9 is `define`. The first of these
+/// faults is returned:
+/// - 9: the first token isn't an identifier;
+/// - 10: the name is reserved (6.10.8p2, 6.10.3p5);
+/// - 12: neither white space nor `(` follows the name (6.10.3p3);
+/// - 11: the parameter list has a syntax error or repeats a name (6.10.3p6, p10);
+/// - 15: `__VA_ARGS__` is a parameter, or is in the replacement list of a macro without `...` (6.10.3p5);
+/// - 13: `##` is the first or the last token, or follows another `##` (6.10.3.3p1, p3);
+/// - 14: no parameter follows a `#` in a function-like macro (6.10.3.2p1);
+/// - 16: the name has a different definition (6.10.3p2).
 ///
-/// With a fault, and with `Memory` where memory ran out, the table stays as it was.
+/// In GNU C `...` may follow the name of the last parameter (gcc's manual, "Variadic Macros"), a different definition replaces
+/// the one before, so that there is no fault 16, and `__STDC_VERSION__` isn't reserved.
+///
+/// After a fault, or `Memory` if an allocation fails, the table is unchanged.
 #[inline(never)]
 pub fn define<'a>(
     alloc: Global,
@@ -311,7 +314,7 @@ pub fn define<'a>(
     }
 }
 
-// The name that a line behind `undef` takes out, or the fault.
+/// Returns the name that the tokens after `undef` remove, or the fault.
 fn undefined<'a>(
     profile: Profile,
     table: &Table,
@@ -340,11 +343,13 @@ fn undefined<'a>(
     Ok(Text::of(name))
 }
 
-/// Takes a macro out, if there is one of this name (6.10.3.5p2). `at` is the place of `#`, `line` what stands behind `undef`. Fault 9 at
-/// `at`, with the text `undef`, where that isn't one identifier; fault 10, with the name, where it is reserved (6.10.8p2, 6.10.3p5), as
-/// `__STDC_VERSION__` isn't in GNU C.
+/// Removes the macro of a name, if there is one (6.10.3.5p2). `at` is the location of `#`, and `line` holds the tokens after
+/// `undef`.
 ///
-/// With a fault, and with `Memory` where memory ran out, the table stays as it was.
+/// The location of a fault is `at`. Fault 9, with the text `undef`: `line` isn't one identifier. Fault 10, with the name: the
+/// name is reserved (6.10.8p2, 6.10.3p5). In GNU C `__STDC_VERSION__` isn't reserved.
+///
+/// After a fault, or `Memory` if an allocation fails, the table is unchanged.
 pub fn undef<'a>(
     alloc: Global,
     table: &mut Table<'a>,

@@ -1,4 +1,4 @@
-// Tokens in flight: with their hide sets, and without copies where they stand in a file.
+//! Tokens with their hide sets. Source tokens are borrowed from their file and not copied.
 ghost use Rattle.std.specs.Prelude.{◌≡◌, ◌++◌, IfOk, if◌then◌else◌, Some, None};
 ghost use Rattle.ppmacro.specs.Flying.{placed, extended, second};
 
@@ -7,8 +7,8 @@ use pptext::{Kind, Place, Spelling, Token};
 use std::alloc::{AllocError, Global};
 use std::marker::Model;
 
-/// A token of a file, or one that was made, with the mark that it has now and its second hide set, where it has two. Beside the enum these would take a
-/// quarter more room.
+/// A source token or a synthesized one, with its own leading-space flag and its second hide set, if it has two. The flags are
+/// fields of the variants because a struct around the enum would be a quarter larger.
 #[derive(Drop)]
 pub(crate) enum Origin<'a> {
     Shared {
@@ -25,7 +25,7 @@ pub(crate) enum Origin<'a> {
     },
 }
 
-/// A token with its mark and its second hide set, which contracts see as these three.
+/// A token with its leading-space flag and its second hide set. Contracts see these three.
 #[derive(Drop)]
 pub(crate) struct Word<'a> {
     origin: Origin<'a>,
@@ -43,7 +43,7 @@ impl<'a> Model for Word<'a> {
 }
 
 impl<'a> Word<'a> {
-    // The token, but for its mark.
+    /// Returns the token. Its own leading-space flag doesn't count.
     fn token(&self) -> &Token
         ensures { result.now ≡ self.now.0 }
     {
@@ -53,7 +53,7 @@ impl<'a> Word<'a> {
         }
     }
 
-    // Its mark.
+    /// Returns the leading-space flag.
     fn space(&self) -> bool
         ensures { result ≡ self.now.1 }
     {
@@ -63,7 +63,7 @@ impl<'a> Word<'a> {
         }
     }
 
-    // Its second hide set.
+    /// Returns the second hide set.
     fn also(&self) -> Option<Set>
         ensures { result ≡ self.now.2 }
     {
@@ -74,7 +74,7 @@ impl<'a> Word<'a> {
         if has_two { Some(also) } else { None }
     }
 
-    // Sets its second hide set, where it is to have two.
+    /// Sets the second hide set if `two`, and otherwise removes it.
     fn double(&mut self, two: bool, set: Set)
         ensures { self.new ≡ (self.old.0, self.old.1, second two set) }
     {
@@ -90,7 +90,7 @@ impl<'a> Word<'a> {
         }
     }
 
-    // Sets its mark.
+    /// Sets the leading-space flag.
     fn mark(&mut self, mark: bool)
         ensures { self.new ≡ (self.old.0, mark, self.old.2) }
     {
@@ -100,7 +100,7 @@ impl<'a> Word<'a> {
         }
     }
 
-    // Puts bytes behind the spelling of a token that was made. Whether it is one.
+    /// Appends bytes to the spelling of a synthesized token. Returns `false` for a source token, which is unchanged.
     fn extend(&mut self, alloc: Global, more: &[u8]) -> Result<bool, AllocError>
         ensures { IfOk result (λ made. self.new ≡ (if made then (record self.old.0 { text = self.old.0.text ++ more.now }, self.old.1, self.old.2) else self.old)) }
     {
@@ -114,8 +114,8 @@ impl<'a> Word<'a> {
     }
 }
 
-/// A token with its hide set, or with two, whose names together hide it: to join two sets costs more than to carry them, and few tokens are asked for the one
-/// that they come to.
+/// A token with one hide set or two. The names of both hide it. Carrying two sets costs less than computing their union, which is
+/// needed for few tokens.
 #[derive(Drop)]
 pub struct Hidden<'a> {
     word: Word<'a>,
@@ -123,14 +123,14 @@ pub struct Hidden<'a> {
     hide: Set,
 }
 
-/// What an argument is expanded to.
+/// The expansion of an argument.
 #[derive(Drop)]
 pub enum Expansion<'a> {
-    /// It isn't asked for: its parameter isn't used away from `#` and `##`.
+    /// It isn't computed: the parameter is only used next to `#` and `##`.
     Unused,
-    /// The argument itself, as it was given.
+    /// It is the argument itself.
     AsGiven,
-    /// These tokens.
+    /// It is these tokens.
     Made(Vec<Hidden<'a>>),
 }
 
@@ -143,7 +143,7 @@ impl<'a> Model for Hidden<'a> {
 }
 
 impl<'a> Hidden<'a> {
-    /// A token as it stands in its file.
+    /// Wraps a source token.
     pub fn new(token: &'a Token, hide: Set) -> Hidden<'a>
         ensures { result ≡ record { token = token.now; hide = hide; also = None } }
     {
@@ -161,7 +161,7 @@ impl<'a> Hidden<'a> {
         }
     }
 
-    /// A token that was made.
+    /// Wraps a synthesized token.
     pub fn made(alloc: Global, token: Token, hide: Set) -> Result<Hidden<'a>, AllocError>
         ensures { IfOk result (λ h. h ≡ record { token = token; hide = hide; also = None }) }
     {
@@ -181,35 +181,35 @@ impl<'a> Hidden<'a> {
         })
     }
 
-    /// The token, but for its place of use and its mark.
+    /// Returns the token. Its expansion location and its leading-space flag may differ from this token's.
     pub fn word(&self) -> &Token
         ensures { self.now.token ≡ placed result.now self.now.token.used self.now.token.space }
     {
         self.word.token()
     }
 
-    /// The kind.
+    /// Returns the kind.
     pub fn kind(&self) -> Kind
         ensures { result ≡ self.now.token.kind }
     {
         self.word.token().kind
     }
 
-    /// The spelling.
+    /// Returns the spelling.
     pub fn text(&self) -> &[u8]
         ensures { result.now ≡ self.now.token.text }
     {
         self.word.token().text.as_bytes()
     }
 
-    /// A copy of the spelling.
+    /// Returns a copy of the spelling.
     pub fn spelling(&self) -> Result<Spelling, AllocError>
         ensures { IfOk result (λ s. s ≡ self.now.token.text) }
     {
         self.word.token().text.clone()
     }
 
-    /// A copy of the token.
+    /// Returns a copy of the token.
     pub fn to_token(&self) -> Result<Token, AllocError>
         ensures { IfOk result (λ t. t ≡ self.now.token) }
     {
@@ -222,56 +222,56 @@ impl<'a> Hidden<'a> {
         })
     }
 
-    /// Where it is spelled.
+    /// Returns the spelling location.
     pub fn at(&self) -> Place
         ensures { result ≡ self.now.token.at }
     {
         self.word.token().at
     }
 
-    /// Where it is used.
+    /// Returns the expansion location.
     pub fn used(&self) -> Place
         ensures { result ≡ self.now.token.used }
     {
         self.used
     }
 
-    /// Its mark.
+    /// Returns the leading-space flag.
     pub fn space(&self) -> bool
         ensures { result ≡ self.now.token.space }
     {
         self.word.space()
     }
 
-    /// Its hide set, or the first of two: see `HideSets::settled`.
+    /// Returns the hide set, or the first of two. See `HideSets::settled` for their union.
     pub fn hide(&self) -> Set
         ensures { result ≡ self.now.hide }
     {
         self.hide
     }
 
-    /// The second of two hide sets.
+    /// Returns the second of two hide sets.
     pub fn also(&self) -> Option<Set>
         ensures { result ≡ self.now.also }
     {
         self.word.also()
     }
 
-    /// Puts bytes behind the spelling of a token that was made. Whether it is one: a file's token stays as it is.
+    /// Appends bytes to the spelling of a synthesized token. Returns `false` for a source token, which is unchanged.
     pub(crate) fn extend(&mut self, alloc: Global, more: &[u8]) -> Result<bool, AllocError>
         ensures { IfOk result (λ made. self.new ≡ (if made then extended self.old more.now else self.old)) }
     {
         self.word.extend(alloc, more)
     }
 
-    /// Sets its mark.
+    /// Sets the leading-space flag.
     pub fn mark(&mut self, space: bool)
         ensures { self.new ≡ record self.old { token = record self.old.token { space = space } } }
     {
         self.word.mark(space);
     }
 
-    /// Sets its place of use and its hide set.
+    /// Sets the expansion location and the hide set.
     pub fn turn(&mut self, used: Place, hide: Set)
         ensures { self.new ≡ record { token = record self.old.token { used = used }; hide = hide; also = None } }
     {
@@ -280,7 +280,7 @@ impl<'a> Hidden<'a> {
         self.word.double(false, hide);
     }
 
-    /// Sets its place of use and two hide sets.
+    /// Sets the expansion location and two hide sets.
     pub fn turn_beside(&mut self, used: Place, hide: Set, also: Set)
         ensures { self.new ≡ record { token = record self.old.token { used = used }; hide = hide; also = Some also } }
     {

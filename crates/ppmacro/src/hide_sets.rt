@@ -1,4 +1,4 @@
-// Hide sets: the names that a token is not to be replaced by any more.
+//! Hide sets: the names that may not replace a token (Prosser's algorithm).
 ghost use Rattle.std.specs.Prelude.{◌≡◌, ◌↔◌, IsTrue, ℕ, Some, Ok, IfOk};
 ghost use Rattle.std.specs.FinSet as set;
 ghost use Rattle.ppmacro.specs.HideSets.{set_at, IsKnown, Keeps, starting};
@@ -32,8 +32,8 @@ impl Model for Set {
     ghost inverse = { λ n. record { number = n } };
 }
 
-/// Hide sets by their numbers, each once, and the pairs whose union or meet is known. A set is a node over the numbers of its
-/// names, and has the node's number.
+/// A pool of distinct hide sets, and a cache of the unions and intersections that were computed. A set is a node of a trie over
+/// the numbers of names, and its number is the node's number.
 #[derive(Drop)]
 pub struct HideSets {
     alloc: Global,
@@ -58,14 +58,14 @@ impl Model for HideSets {
 }
 
 impl HideSets {
-    /// The empty set alone. Names and sets are hashed by a key that everybody knows: see `with_hasher`.
+    /// Creates a pool with only the empty set. The hash function has a fixed key: see `with_hasher` for untrusted names.
     pub fn new(alloc: Global) -> Result<HideSets, Memory>
         ensures { IfOk result (λ s. s ≡ starting) }
     {
         HideSets::with_hasher(alloc, Hashing::fixed())
     }
 
-    /// The same, where names, the nodes of sets and the pairs that are remembered are hashed so, as a table's names are.
+    /// Creates a pool with only the empty set. Names, nodes and cached pairs are hashed with `hashing`.
     pub fn with_hasher(alloc: Global, hashing: Hashing) -> Result<HideSets, Memory>
         ensures { IfOk result (λ s. s ≡ starting) }
     {
@@ -78,17 +78,17 @@ impl HideSets {
         })
     }
 
-    /// The empty set.
+    /// Returns the empty set.
     pub fn empty(&self) -> Set
         ensures set { set_at self.now result ≡ set.empty }
         ensures known { IsKnown self.now result }
     {
-        // The contract alone speaks of them.
+        // Only the contract mentions the nodes.
         let _nodes = &self.nodes;
         Set { number: 0 }
     }
 
-    /// Sets with the same members have the same number. For proofs: it does nothing.
+    /// Proves that sets with equal members have equal numbers. It does nothing.
     pub fn lawful(&self)
         ensures { (m n : ℕ) → IsKnown self.now m → IsKnown self.now n → set_at self.now m ≡ set_at self.now n → m ≡ n }
     {
@@ -102,7 +102,7 @@ impl HideSets {
         (hide.number as usize) < self.nodes.len()
     }
 
-    /// Whether a set has this name.
+    /// Whether a set contains a name.
     pub fn has(&self, hide: Set, name: &[u8]) -> bool
         requires { IsKnown self.now hide }
         ensures { result ≡ set.contains (set_at self.now hide) name.now }
@@ -117,8 +117,8 @@ impl HideSets {
         }
     }
 
-    /// A set with one name more. Fails only for want of memory, which more sets than can be numbered count as, but none that is there; then every set is
-    /// what it was.
+    /// Returns a set with one more name. Fails only if an allocation fails, or if 4,294,967,295 nodes exist and the result isn't
+    /// one of them. Existing sets never change.
     pub fn with(&mut self, hide: Set, name: &[u8]) -> Result<Set, Memory>
         requires { IsKnown self.old hide }
         ensures set { IfOk result (λ s. set_at self.new s ≡ set.insert (set_at self.old hide) name.now) }
@@ -132,7 +132,7 @@ impl HideSets {
         Ok(Set { number })
     }
 
-    /// The names of either set. A second call at the same two sets gives the same answer, takes no memory and succeeds. Fails as `with` does.
+    /// Returns the union of two sets. A repeated call returns the same set, allocates nothing and succeeds. Fails like `with`.
     pub fn union(&mut self, left: Set, right: Set) -> Result<Set, Memory>
         requires left { IsKnown self.old left }
         requires right { IsKnown self.old right }
@@ -152,7 +152,8 @@ impl HideSets {
         Ok(Set { number })
     }
 
-    /// The names of both sets. A second call at the same two sets gives the same answer, takes no memory and succeeds. Fails as `with` does.
+    /// Returns the intersection of two sets. A repeated call returns the same set, allocates nothing and succeeds. Fails like
+    /// `with`.
     pub fn meet(&mut self, left: Set, right: Set) -> Result<Set, Memory>
         requires left { IsKnown self.old left }
         requires right { IsKnown self.old right }

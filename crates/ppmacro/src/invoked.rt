@@ -1,25 +1,25 @@
-// What an invocation brings to a replacement list.
+//! The inputs of a substitution: the arguments and the macro name token of an invocation.
 use crate::flying::{Expansion, Hidden};
 use crate::hide_sets::Set;
 use pptext::Place;
 
-/// The arguments of an invocation (6.10.3.1), one for each parameter but a variable argument that is absent.
+/// The arguments of an invocation (6.10.3.1). There is one for each parameter, except for a variable argument that is absent.
 #[derive(Clone, Copy)]
 pub struct Arguments<'s, 'x> {
-    /// Their tokens as they are written.
+    /// The tokens of each argument, not expanded.
     pub given: &'s [Vec<Hidden<'x>>],
-    /// The expansions of those that the replacement list uses away from `#` and `##`.
+    /// The expansion of each argument that the replacement list uses away from `#` and `##`.
     pub expanded: &'s [Expansion<'x>],
 }
 
-/// The macro's name in an invocation, and the names that each token of the replacement gains: this one and those of `base`.
+/// The macro name token of an invocation. Each token of the replacement is hidden by `name` and by the names of `base`.
 #[derive(Clone, Copy)]
 pub struct MacroName<'n> {
     /// The names that hide the invocation.
     pub base: Set,
     pub name: &'n [u8],
-    /// The place of the name, where each token of the replacement is used.
+    /// The location of the macro name, which is the expansion location of each token of the replacement.
     pub used: Place,
-    /// Whether white space precedes the name.
+    /// Whether white space precedes the macro name.
     pub space: bool,
 }

@@ -1,8 +1,8 @@
-// Names as the keys of a table.
+//! Names as keys of a hash table.
 use std::hash::{Hash, Hasher};
 use std::marker::Model;
 
-/// A macro's name, which contracts see as its bytes. It is hashed whole, where a slice is hashed byte by byte.
+/// A macro's name. Contracts see its bytes. It is hashed in one call; a slice would be hashed byte by byte.
 #[derive(Drop)]
 pub(crate) struct Key<'a> {
     pub(crate) bytes: &'a [u8],

@@ -1,4 +1,4 @@
-// Macros of C11 (6.10.3): tables of them, the names that a token is not replaced by, and what an invocation is replaced by.
+//! Macros of C11 (6.10.3): the macro table, hide sets, and the substitution of an invocation.
 #![tactic(auto)]
 
 mod borrowed;

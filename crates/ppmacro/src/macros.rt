@@ -1,4 +1,4 @@
-// What a macro is.
+//! Macro definitions.
 ghost use Rattle.std.specs.Prelude.{◌≡◌, OnOk, IfOk, IfSome, ◌++◌, ◌∷◌, [], map, if◌then◌else◌};
 ghost use Rattle.std.specs.List.{list_any};
 ghost use Rattle.std.specs.Option.{option_copied};
@@ -17,7 +17,7 @@ use std::alloc::{AllocError, Global};
 use std::marker::Model;
 use std::{mem, slice};
 
-/// The predefined macro names (6.10.8.1).
+/// The predefined macros (6.10.8.1).
 #[derive(Clone, Copy, Debug, PartialEq, Eq)]
 pub enum Builtin {
     File,
@@ -29,49 +29,49 @@ pub enum Builtin {
     StdcVersion,
 }
 
-/// Names, which contracts see as the list of their spellings.
+/// A list of names. Contracts see the list of their spellings.
 pub type Names = Sequence<Spelling>;
 
-/// Whether the last parameter of a macro takes a variable number of arguments, as one list (6.10.3p12).
+/// Whether the last parameter takes a variable number of arguments, as one list (6.10.3p12).
 #[derive(Clone, Copy, Debug, PartialEq, Eq)]
 pub enum Variadic {
-    /// It takes one argument, as the others do.
+    /// It takes one argument, like the others.
     No,
-    /// It takes all arguments from its own on, of which there is one at least (6.10.3p4).
+    /// It takes the remaining arguments, at least one (6.10.3p4).
     Strict,
-    /// The same, but it may be absent (gcc's manual, "Variadic Macros").
+    /// It takes the remaining arguments, possibly none (gcc's manual, "Variadic Macros").
     Lenient,
 }
 
-/// What kind of macro it is.
+/// The kind of a macro.
 #[derive(Drop)]
 pub enum Shape {
     Predefined(Builtin),
     ObjectLike,
-    /// With the names of its parameters: `__VA_ARGS__` stands last where `...` does.
+    /// Has the names of its parameters. `__VA_ARGS__` is the last if the parameter list ends in `...`.
     FunctionLike {
         parameters: Names,
         variadic: Variadic,
     },
 }
 
-/// What defines a macro: its kind and its replacement list.
+/// The kind and the replacement list of a macro.
 #[derive(Drop)]
 pub struct Definition<'a> {
     pub shape: Shape,
     pub body: Body<'a>,
 }
 
-/// What `##` joins (6.10.3.3).
+/// An operand of `##` (6.10.3.3), or a part that isn't joined.
 #[derive(Drop)]
 pub enum Operand<'a> {
     /// A token of the replacement list.
     Tok(Leaf<'a>),
     /// A parameter, by its index.
     Param(usize),
-    /// A parameter behind `#`, which stands at this place.
+    /// A stringized parameter, by its index, with the location of the `#`.
     Str(usize, Place),
-    /// A variable argument that may be absent, behind a comma at the end of what `##` joins (gcc's manual, "Variadic Macros").
+    /// A variable argument that may be absent, after a comma at the end of a chain (gcc's manual, "Variadic Macros").
     Rest(usize),
 }
 
@@ -81,13 +81,13 @@ impl<'a> Default for Operand<'a> {
 
     ghost is_default = { λ o. o ≡ Param 0 };
 
-    // What stands in the place of an operand that moves; nobody sees it.
+    /// Returns the operand that `mem::take` leaves; it is overwritten.
     fn default() -> Operand<'a> {
         Operand::Param(0)
     }
 }
 
-// Whether it is the token `,`.
+/// Whether an operand is the token `,`.
 fn is_comma(operand: &Operand) -> bool
     ensures { result ≡ is_comma operand.now }
 {
@@ -97,7 +97,7 @@ fn is_comma(operand: &Operand) -> bool
     }
 }
 
-// Whether the second is this parameter, and the first a comma.
+/// Whether the last operand is this parameter and follows a comma.
 fn is_rest(before: &Operand, last: &Operand, index: usize) -> bool
     ensures { rest_behind index before.now last.now ≡ (if result then Rest index else last.now) }
 {
@@ -107,7 +107,7 @@ fn is_rest(before: &Operand, last: &Operand, index: usize) -> bool
     }
 }
 
-// Makes the last operand the rest, where it is this parameter behind a comma.
+/// Turns the last operand into a rest, if it is this parameter and follows a comma.
 fn end_in_rest(operands: &mut [Operand], index: usize)
     ensures { operands.new ≡ ending_in_rest index operands.old }
 {
@@ -120,14 +120,14 @@ fn end_in_rest(operands: &mut [Operand], index: usize)
     }
 }
 
-/// An operand, or those that `##` joins.
+/// One operand without memory of its own, or a list of operands.
 #[derive(Drop)]
 pub(crate) enum Held<'a> {
     Lone(Operand<'a>),
     Joined(Vec<Operand<'a>>),
 }
 
-/// Operands, which contracts see as their list. One alone, as most are, takes no memory beside the value.
+/// A list of operands. Contracts see the list. One operand, the usual case, needs no allocation.
 #[derive(Drop)]
 pub struct Operands<'a> {
     held: Held<'a>,
@@ -144,7 +144,7 @@ impl<'a> Model for Operands<'a> {
 }
 
 impl<'a> Operands<'a> {
-    /// An operand alone.
+    /// Creates a list of one operand.
     pub(crate) fn new(operand: Operand<'a>) -> Operands<'a>
         ensures { result ≡ operand.entry ∷ [] }
     {
@@ -153,7 +153,7 @@ impl<'a> Operands<'a> {
         }
     }
 
-    /// Puts one more behind them.
+    /// Appends an operand.
     pub(crate) fn push(&mut self, alloc: Global, operand: Operand<'a>) -> Result<(), AllocError>
         ensures ok { OnOk result (self.new ≡ self.old ++ operand.entry ∷ []) }
     {
@@ -167,7 +167,7 @@ impl<'a> Operands<'a> {
         Ok(())
     }
 
-    /// Makes the last the rest, where it is this parameter behind a comma.
+    /// Turns the last operand into a rest, if it is this parameter and follows a comma.
     pub(crate) fn end_in_rest(&mut self, index: usize)
         ensures { self.new ≡ ending_in_rest index self.old }
     {
@@ -176,7 +176,7 @@ impl<'a> Operands<'a> {
         }
     }
 
-    /// The operands.
+    /// Returns the operands.
     pub fn as_slice(&self) -> &[Operand<'a>]
         ensures { result.now ≡ self.now }
     {
@@ -187,31 +187,31 @@ impl<'a> Operands<'a> {
     }
 }
 
-/// Operands that `##` joins, with the space mark of the first token.
+/// Operands that `##` joins, with the leading-space flag of the first token.
 #[derive(Drop)]
 pub struct Chain<'a> {
     pub mark: bool,
     pub operands: Operands<'a>,
 }
 
-/// Chains, which contracts see as their list.
+/// A list of chains. Contracts see the list.
 pub type Chains<'a> = Sequence<Chain<'a>>;
 
-// Whether it has no parameters, and is none of the predefined.
+/// Whether a macro is object-like. Predefined macros aren't.
 fn is_object_like(shape: &Shape) -> bool
     ensures { result ≡ is_object_like shape.now }
 {
     matches!(shape, Shape::ObjectLike)
 }
 
-// Whether `##` stands among these tokens.
+/// Whether the tokens contain `##`.
 fn has_paste(tokens: &[Token]) -> bool
     ensures { result ≡ list_any is_paste tokens.now }
 {
     tokens.iter().any(|token| is_paste(token))
 }
 
-/// A macro, which contracts see as its definition.
+/// A macro. Contracts see its definition.
 #[derive(Drop)]
 pub struct Macro<'a> {
     definition: Definition<'a>,
@@ -226,21 +226,21 @@ impl<'a> Model for Macro<'a> {
 }
 
 impl<'a> Macro<'a> {
-    /// The macro that a definition makes.
+    /// Creates a macro from its definition.
     pub(crate) fn new(definition: Definition<'a>) -> Macro<'a>
         ensures { result ≡ definition.entry }
     {
         Macro { definition }
     }
 
-    /// What defines it.
+    /// Returns the definition.
     pub fn definition(&self) -> &Definition<'a>
         ensures { result.now ≡ self.now }
     {
         &self.definition
     }
 
-    /// The replacement list of an object-like macro, where no `##` stands in it. Each of its chains is a token alone then.
+    /// Returns the replacement list of an object-like macro without `##`. Each token is a chain of its own.
     pub fn lone_tokens(&self) -> Option<&'a [Token]>
         ensures is { option_copied result ≡ lone_tokens self.now }
         ensures chains { IfSome result (λ body. chains_of self.now ≡ map lone_chain body.now) }
@@ -252,15 +252,15 @@ impl<'a> Macro<'a> {
         Some(body)
     }
 
-    /// The chains of its replacement list. Parameters are hashed by a key that everybody knows: see
-    /// `chains_with_hasher`.
+    /// Returns the chains of the replacement list. The hash function for parameters has a fixed key: see `chains_with_hasher` for
+    /// untrusted names.
     pub fn chains(&self, alloc: Global) -> Result<Chains<'a>, AllocError>
         ensures { IfOk result (λ c. c ≡ chains_of self.now) }
     {
         self.chains_with_hasher(alloc, Hashing::fixed())
     }
 
-    /// The same, with parameters that are hashed so where they are many, as a table's names are.
+    /// Returns the chains of the replacement list. Many parameters are indexed with hash function `hashing`.
     pub fn chains_with_hasher(
         &self,
         alloc: Global,
@@ -271,7 +271,8 @@ impl<'a> Macro<'a> {
         chains_of(alloc, &self.definition, hashing)
     }
 
-    /// Its replacement list, without chains where neither `#` nor `##` stands there. Parameters are hashed as in `chains_with_hasher`.
+    /// Returns the replacement list for `substitute_pattern`: chains only if it contains `#` or `##`. Many parameters are indexed
+    /// with hash function `hashing`.
     pub fn pattern(&self, alloc: Global, hashing: Hashing) -> Result<Pattern<'a>, AllocError>
         ensures { IfOk result (λ p. listed p ≡ chains_of self.now) }
     {

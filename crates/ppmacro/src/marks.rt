@@ -1,4 +1,5 @@
-// Marks, by which a table tells at once that most identifiers name no macro, and where a macro probably stands.
+//! A filter of fingerprints of macro names. It rejects most identifiers that name no macro, and guesses the index of a macro in
+//! the table.
 ghost use Rattle.std.specs.Prelude.{◌≡◌, ◌+◌, ◌<◌, ◌≤◌, ℕ, List, length, min};
 ghost use Rattle.std.specs.Hash.FoldHasher.{read_u32};
 ghost use Rattle.ppmacro.specs.Marks.{mark_of, short_mark, at};
@@ -6,10 +7,10 @@ ghost use Rattle.ppmacro.specs.Marks.{mark_of, short_mark, at};
 use std::alloc::{AllocError, Global};
 use std::marker::Model;
 
-// How many marks there are.
+/// The number of slots. A fingerprint is the index of a slot.
 const MARKS: usize = 32_768;
 
-// The four bytes from here on, the lowest first.
+/// Returns four bytes, in little-endian order, as a number.
 fn half_word(bytes: &[u8], at: usize) -> u64
     requires { at + 4 ≤ length bytes.now }
     ensures value { result ≡ read_u32 bytes.now at }
@@ -18,7 +19,7 @@ fn half_word(bytes: &[u8], at: usize) -> u64
     u32::from_le_bytes([bytes[at], bytes[at + 1], bytes[at + 2], bytes[at + 3]]) as u64
 }
 
-// The mark of a name, which few others share.
+/// Returns the fingerprint of a name.
 #[tactic(auto, unfolding(crate::specs::Marks::mark_of))]
 fn mark_of(name: &[u8]) -> usize
     ensures value { result ≡ mark_of name.now }
@@ -35,7 +36,7 @@ fn mark_of(name: &[u8]) -> usize
     (sum / 16_777_216 % 32_768) as usize
 }
 
-// The same of a name of fewer than four bytes.
+/// Returns the fingerprint of a name of fewer than four bytes.
 #[tactic(auto, unfolding(crate::specs::Marks::short_mark))]
 fn short_mark(name: &[u8]) -> usize
     requires { length name.now < 4 }
@@ -51,7 +52,8 @@ fn short_mark(name: &[u8]) -> usize
     first * 125 + last * 2 + length
 }
 
-/// At each mark 0, or one more than the place that a name had in the table when it put the mark. The name may have moved since.
+/// One slot for each fingerprint: 0, or one more than the table index of the name that was inserted last. The name may have moved
+/// since.
 #[derive(Drop)]
 pub(crate) struct Marks {
     marks: Vec<u16>,
@@ -67,7 +69,7 @@ impl Model for Marks {
     ghost invariant = { λ s. vec_len s.marks ≡ 32_768 };
 }
 
-// What a place leaves at a mark: places that are too high leave the highest.
+/// Returns the slot value for a table index. Indexes over 65,534 have the highest value.
 fn left_by(place: usize) -> u16
     ensures value { result ≡ min place 65_534 + 1 }
     ensures positive { 0 < result }
@@ -76,21 +78,21 @@ fn left_by(place: usize) -> u16
 }
 
 impl Marks {
-    /// None.
+    /// Creates an empty filter.
     pub(crate) fn new(alloc: Global) -> Result<Marks, AllocError> {
         Ok(Marks {
             marks: vec![in alloc; 0; MARKS]?,
         })
     }
 
-    /// What stands at the mark of this name.
+    /// Returns the slot for a name.
     pub(crate) fn at(&self, name: &[u8]) -> u16
         ensures { result ≡ at self.now name.now }
     {
         self.marks[mark_of(name)]
     }
 
-    /// Puts the mark of a name that has this place in the table.
+    /// Inserts a name that has this table index.
     pub(crate) fn put(&mut self, name: &[u8], place: usize)
         ensures here { 0 < at self.new name.now }
         ensures grows { (other : List ℕ) → at self.new other ≡ 0 → at self.old other ≡ 0 }

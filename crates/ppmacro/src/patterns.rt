@@ -1,4 +1,4 @@
-// Replacement lists as substitution reads them: most have neither `#` nor `##`, and need no chains.
+//! Replacement lists in the form that substitution reads. Most contain neither `#` nor `##` and need no chains.
 ghost use Rattle.std.specs.Prelude.{◌≡◌, ◌++◌, IfOk, OnOk, map};
 ghost use Rattle.std.specs.List.{list_any};
 ghost use Rattle.ppmacro.specs.Chains.{parameter_of, chains_of};
@@ -11,29 +11,29 @@ use crate::spellings::{is_hash, is_paste};
 use pptext::{Hashing, Kind, Token};
 use std::alloc::{AllocError, Global};
 
-/// What stands alone in a replacement list.
+/// A token or a parameter of a replacement list without `#` and `##`.
 #[derive(Drop)]
 pub enum Entry<'a> {
     /// A token of the replacement list.
     Tok(Leaf<'a>),
-    /// A parameter, by its token's space mark and its index.
+    /// A parameter: the leading-space flag of its token, and its index.
     Param(bool, usize),
 }
 
 /// A replacement list.
 #[derive(Drop)]
 pub enum Pattern<'a> {
-    /// One without `#` and `##`.
+    /// A list without `#` and `##`.
     Alone(Vec<Entry<'a>>),
-    /// The chains of another.
+    /// The chains of another list.
     Joined(Chains<'a>),
 }
 
-// Whether a token is `#` or `##`.
+/// Whether a token is `#` or `##`.
 fn is_operator(token: &Token) -> bool
     ensures { result ≡ is_operator token.now }
 {
-    // Few tokens have such a spelling; the others aren't compared with each of the four.
+    // Few tokens have a spelling of this length; the others aren't compared with each of the four operators.
     let Kind::Punct = token.kind else {
         return false;
     };
@@ -44,14 +44,14 @@ fn is_operator(token: &Token) -> bool
     }
 }
 
-// Whether `#` or `##` stands among these tokens.
+/// Whether the tokens contain `#` or `##`.
 fn has_operator(tokens: &[Token]) -> bool
     ensures { result ≡ list_any is_operator tokens.now }
 {
     tokens.iter().any(|token| is_operator(token))
 }
 
-// What a token is that stands alone.
+/// Returns the entry for a token.
 fn entry_of<'a>(shape: &Parameters, token: &'a Token) -> Entry<'a>
     ensures { result ≡ entry_of shape.now token.now }
 {
@@ -61,7 +61,7 @@ fn entry_of<'a>(shape: &Parameters, token: &'a Token) -> Entry<'a>
     }
 }
 
-// What each of these tokens is, behind the others.
+/// Appends the entries for tokens.
 fn push_entries<'a>(
     entries: &mut Vec<Entry<'a>>,
     shape: &Parameters,
@@ -75,7 +75,7 @@ fn push_entries<'a>(
     Ok(())
 }
 
-// What each token of a replacement list is.
+/// Returns the entries for the tokens of a replacement list.
 fn entries_of<'a>(
     alloc: Global,
     shape: &Parameters,
@@ -88,7 +88,7 @@ fn entries_of<'a>(
     Ok(entries)
 }
 
-// What each token of a definition's replacement list is. Its parameters are hashed so.
+/// Returns the entries of a definition's replacement list. Many parameters are indexed with hash function `hashing`.
 fn entries_in<'a>(
     alloc: Global,
     definition: &Definition<'a>,
@@ -101,7 +101,8 @@ fn entries_in<'a>(
     entries_of(alloc, &shape, body)
 }
 
-/// A definition's replacement list. Its parameters are hashed so. Not inlined, so that no level of arguments has its frame on the stack.
+/// Returns a definition's replacement list. Many parameters are indexed with hash function `hashing`. Not inlined, to keep its
+/// frame off the stack while arguments are nested.
 #[inline(never)]
 pub(crate) fn pattern_of<'a>(
     alloc: Global,

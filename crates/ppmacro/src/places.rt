@@ -1,4 +1,4 @@
-// Indexes of parameters' names.
+//! An index of parameter names.
 ghost use Rattle.std.specs.Prelude.{◌≡◌, IfOk, is_none};
 ghost use Rattle.std.specs.Option.{IfSome};
 ghost use Rattle.ppmacro.specs.Define.{repeats};
@@ -8,10 +8,10 @@ use indexmap::IndexSet;
 use pptext::{Hashing, Spelling};
 use std::alloc::{AllocError, Global};
 
-/// So many names are looked through one by one; more have an index.
+/// The maximum number of names that are searched one by one. More names are indexed.
 pub(crate) const FEW: usize = 16;
 
-/// An index of names, unless one stands twice.
+/// Returns an index of the names, or `None` if a name occurs twice.
 pub(crate) fn index_of_each<'p>(
     alloc: Global,
     names: &'p [Spelling],

@@ -1,4 +1,4 @@
-// The names that hide a token in flight, which has one set or two.
+//! The hide set of a token that has one set or two.
 ghost use Rattle.std.specs.Prelude.{◌≡◌, IfOk};
 ghost use Rattle.std.specs.FinSet as set;
 ghost use Rattle.ppmacro.specs.HideSets.{set_at, IsKnown, HasSets, Keeps, hide_of};
@@ -8,7 +8,7 @@ use crate::hide_sets::{HideSets, Set};
 use pptext::Memory;
 
 impl HideSets {
-    /// Whether a token's spelling is among the names that hide it.
+    /// Whether a token's spelling is in its hide set.
     pub fn hides(&self, hidden: &Hidden) -> bool
         requires { HasSets self.now hidden.now }
         ensures { result ≡ set.contains (hide_of self.now hidden.now) hidden.now.token.text }
@@ -22,7 +22,7 @@ impl HideSets {
         }
     }
 
-    /// The set of all names that hide a token.
+    /// Returns the hide set of a token. Computes the union if it has two sets.
     pub fn settled(&mut self, hidden: &Hidden) -> Result<Set, Memory>
         requires { HasSets self.old hidden.now }
         ensures set { IfOk result (λ s. set_at self.new s ≡ hide_of self.old hidden.now) }
@@ -35,7 +35,7 @@ impl HideSets {
         }
     }
 
-    /// The set of all names that hide a token, and of its own spelling.
+    /// Returns the hide set of a token with the token's spelling added.
     pub fn with_own(&mut self, hidden: &Hidden) -> Result<Set, Memory>
         requires { HasSets self.old hidden.now }
         ensures set { IfOk result (λ s. set_at self.new s ≡ set.insert (hide_of self.old hidden.now) hidden.now.token.text) }
@@ -47,7 +47,7 @@ impl HideSets {
         Ok(more)
     }
 
-    /// The set of the names that hide both tokens.
+    /// Returns the intersection of the hide sets of two tokens.
     pub fn common(&mut self, left: &Hidden, right: &Hidden) -> Result<Set, Memory>
         requires left { HasSets self.old left.now }
         requires right { HasSets self.old right.now }

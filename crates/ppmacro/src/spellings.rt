@@ -1,17 +1,17 @@
-// The two operators of a replacement list.
+//! The operators `#` and `##`.
 ghost use Rattle.std.specs.Prelude.{◌≡◌};
 ghost use Rattle.ppmacro.specs.Spellings.{is_hash, is_paste};
 
 use pptext::Token;
 
-/// Whether a token is `#`, or the digraph for it.
+/// Whether a token is `#` or its digraph `%:`.
 pub(crate) fn is_hash(token: &Token) -> bool
     ensures { result ≡ is_hash token.now }
 {
     token.is_punct(b"#") || token.is_punct(b"%:")
 }
 
-/// Whether a token is `##`, or the digraphs for it.
+/// Whether a token is `##` or its digraph `%:%:`.
 pub(crate) fn is_paste(token: &Token) -> bool
     ensures { result ≡ is_paste token.now }
 {

@@ -1,4 +1,4 @@
-// What an invocation is replaced by (6.10.3.1 to 6.10.3.3).
+//! Substitution: the replacement of a macro invocation (6.10.3.1 to 6.10.3.3).
 ghost use Rattle.std.specs.Prelude.{◌≡◌, ◌++◌, ◌∷◌, IfOk, OnOk, [], true, not, ◌||◌, ◌&&◌};
 ghost use Rattle.std.specs.FinSet as set;
 ghost use Rattle.ppmacro.specs.Numbered.{Numbered};
@@ -29,14 +29,14 @@ use crate::macros::{Chain, Operand};
 use pptext::{Fault, Memory, Place, Stop, Token, settled};
 use std::alloc::{AllocError, Global};
 
-// Whether `##` joins operands.
+/// Whether there are at least two operands, so that `##` joins them.
 fn is_joined(operands: &[Operand]) -> bool
     ensures { result ≡ is_joined operands.now }
 {
     matches!(operands, [_, _, ..])
 }
 
-// The operands of a chain that `##` joins, and which argument the rest behind them is.
+/// Splits the operands of a chain into those that `##` joins and the argument index of the rest.
 fn split_rest<'s, 'a>(operands: &'s [Operand<'a>]) -> (&'s [Operand<'a>], Option<usize>)
     ensures front { result.0.now ≡ before_rest operands.now }
     ensures rest { result.1 ≡ rest_of operands.now }
@@ -50,7 +50,7 @@ fn split_rest<'s, 'a>(operands: &'s [Operand<'a>]) -> (&'s [Operand<'a>], Option
     }
 }
 
-// Puts the rest behind the other tokens of a chain, or takes away the comma where it is absent.
+/// Appends the rest to the tokens of a chain, or removes the comma if the argument is absent.
 fn lay_rest<'a>(
     tokens: &mut Vec<Hidden<'a>>,
     given: &[Vec<Hidden<'a>>],
@@ -70,7 +70,7 @@ fn lay_rest<'a>(
     }
 }
 
-// The tokens of a chain: each `#`, then `##` from the left, and then the rest.
+/// Returns the tokens of a chain. Each `#` comes first, then `##` from the left, and then the rest.
 fn chain_tokens<'x, 'a: 'x>(
     alloc: Global,
     sets: &mut HideSets,
@@ -92,7 +92,7 @@ fn chain_tokens<'x, 'a: 'x>(
     Ok(tokens)
 }
 
-// A copy of a token, with this mark.
+/// Returns a copy of a token with this leading-space flag.
 fn marked_copy<'a>(token: &Hidden<'a>, mark: bool) -> Result<Hidden<'a>, AllocError>
     ensures { IfOk result (λ h. h ≡ record token.now { token = record token.now.token { space = mark } }) }
 {
@@ -101,7 +101,7 @@ fn marked_copy<'a>(token: &Hidden<'a>, mark: bool) -> Result<Hidden<'a>, AllocEr
     Ok(hidden)
 }
 
-// Puts a chain's tokens behind the others, the first with the pending mark. The mark that is pending then.
+/// Appends the tokens of a chain. The first gets the pending leading-space flag. Returns the flag that is pending afterwards.
 fn push_chain<'a>(
     tokens: &mut Vec<Hidden<'a>>,
     pending: bool,
@@ -120,7 +120,7 @@ fn push_chain<'a>(
     Ok(false)
 }
 
-// Puts a token of the replacement list behind the others, with this mark.
+/// Appends a token of the replacement list with this leading-space flag.
 fn push_token<'a>(
     sets: &HideSets,
     tokens: &mut Vec<Hidden<'a>>,
@@ -135,7 +135,8 @@ fn push_token<'a>(
     push_one(tokens, hidden)
 }
 
-// Puts the tokens of a chain behind the others, the first with this mark. The mark that is pending then, or fault 19 or 20.
+/// Appends the tokens of a chain. The first gets the flag `mark`. Returns the leading-space flag that is pending afterwards, or
+/// fault 19 or 20.
 fn push_chain_tokens<'x, 'a: 'x>(
     sets: &mut HideSets,
     arguments: Arguments<'_, 'x>,
@@ -151,7 +152,7 @@ fn push_chain_tokens<'x, 'a: 'x>(
     ensures known { OnOk result (AllKnown sets.new tokens.new.items) }
     ensures keeps { Keeps sets.old sets.new }
 {
-    // Most chains are a token or a parameter alone, whose tokens need no list of their own.
+    // Most chains are one token or one parameter; their tokens need no list of their own.
     if let [operand] = chain.operands.as_slice() {
         match operand {
             Operand::Tok(token) => {
@@ -175,14 +176,14 @@ fn push_chain_tokens<'x, 'a: 'x>(
     Ok(pending)
 }
 
-// The mark before a chain; the first chain's own does not count.
+/// Returns the leading-space flag before a chain. The first chain's own flag doesn't count.
 fn mark_before(pending: bool, first: bool, own: bool) -> bool
     ensures { result ≡ (pending || (not first && own)) }
 {
     pending || (!first && own)
 }
 
-// The tokens of all chains, and the mark that is left pending.
+/// Returns the tokens of all chains, and the leading-space flag that is pending afterwards.
 fn chains_tokens<'x, 'a: 'x>(
     alloc: Global,
     sets: &mut HideSets,
@@ -208,7 +209,7 @@ fn chains_tokens<'x, 'a: 'x>(
     Ok((tokens, pending))
 }
 
-// Puts a token behind the others.
+/// Appends a token.
 #[inline(always)]
 fn push_one<'a>(tokens: &mut Vec<Hidden<'a>>, hidden: Hidden<'a>) -> Result<(), AllocError>
     ensures { OnOk result (tokens.new.items ≡ tokens.old.items ++ hidden.entry ∷ []) }
@@ -217,7 +218,7 @@ fn push_one<'a>(tokens: &mut Vec<Hidden<'a>>, hidden: Hidden<'a>) -> Result<(), 
     Ok(())
 }
 
-// What an invocation is replaced by, and the mark that is left pending, or fault 19 or 20.
+/// Returns the replacement of an invocation and the leading-space flag that is pending afterwards, or fault 19 or 20.
 fn substituted_by<'x, 'a: 'x>(
     alloc: Global,
     sets: &mut HideSets,
@@ -243,8 +244,11 @@ fn substituted_by<'x, 'a: 'x>(
     Ok((tokens, pending))
 }
 
-/// What an invocation is replaced by (6.10.3.1 to 6.10.3.3), and whether white space is left for the token after it; or the first of the
-/// faults 19, with both spellings as its text, and 20, each at the macro's name. `chains` are the macro's.
+/// Returns the replacement of an invocation (6.10.3.1 to 6.10.3.3), and whether white space is pending for the token after it.
+/// `chains` are the chains of the macro.
+///
+/// Otherwise returns the first of these faults, at the location of the macro name: 19, a paste isn't one token, with both
+/// spellings as its text; 20, a stringized argument isn't a string literal. `Memory` means that an allocation fails.
 pub fn substitute<'x, 'a: 'x>(
     alloc: Global,
     chains: &[Chain<'a>],

@@ -1,4 +1,4 @@
-// Tables of macros.
+//! The macro table.
 ghost use Rattle.std.specs.Prelude.{◌≡◌, IfOk, OnOk, OnErr};
 ghost use Rattle.std.specs.Option.{option_copied};
 ghost use Rattle.std.specs.FinMap as table;
@@ -14,12 +14,12 @@ use pptext::{Hashing, Memory, Profile};
 use std::alloc::{AllocError, Global};
 use std::marker::Model;
 
-// So many macros have room from the start: units of a large project have about as many, and a table that grows moves what it has.
+/// The initial capacity, about the number of macros of a unit in a large project. A table that grows moves its entries.
 const USUAL: usize = 4_096;
 
-/// The macros of a unit, which contracts see as a finite map from names to definitions.
+/// The macros of a unit. Contracts see a finite map from names to definitions.
 ///
-/// Most identifiers are names of no macro, and most of those have a mark that no name in the table ever had.
+/// Most identifiers name no macro, and a filter rejects most of these at once.
 #[derive(Drop)]
 pub struct Table<'a> {
     macros: IndexMap<Key<'a>, Macro<'a>, Hashing>,
@@ -46,7 +46,7 @@ impl<'a> Model for Table<'a> {
     ghost invariant = { λ t. AreMarked t.marks (table.from_entries t.macros.entries) };
 }
 
-// Whether it is a predefined macro that stays as it is: each but, in GNU C, `__STDC_VERSION__`.
+/// Whether a macro is predefined and can't be redefined. In GNU C `__STDC_VERSION__` can.
 fn is_fixed_shape(gnu: bool, shape: &Shape) -> bool
     ensures { result ≡ is_fixed_shape gnu shape.now }
 {
@@ -57,7 +57,7 @@ fn is_fixed_shape(gnu: bool, shape: &Shape) -> bool
     }
 }
 
-// Whether it is such a macro.
+/// Whether a macro was found that can't be redefined.
 fn is_fixed(gnu: bool, found: Option<&Macro>) -> bool
     ensures { result ≡ is_fixed gnu (option_copied found.entry) }
 {
@@ -67,7 +67,7 @@ fn is_fixed(gnu: bool, found: Option<&Macro>) -> bool
     }
 }
 
-/// Whether it is a name that no macro may have (6.10.8p2, 6.10.3p5).
+/// Whether a name can never be a macro (6.10.8p2, 6.10.3p5).
 pub(crate) fn is_barred(name: &[u8]) -> bool
     ensures { result ≡ is_barred name.now }
 {
@@ -75,15 +75,16 @@ pub(crate) fn is_barred(name: &[u8]) -> bool
 }
 
 impl<'a> Table<'a> {
-    /// The predefined names alone (6.10.8.1). Names are hashed by a key that everybody knows: see
-    /// `with_hasher`.
+    /// Creates a table of the predefined macros (6.10.8.1). The hash function has a fixed key: see `with_hasher` for untrusted
+    /// names.
     pub fn new(alloc: Global) -> Result<Table<'a>, Memory>
         ensures { IfOk result (λ t. t ≡ predefined) }
     {
         Table::with_hasher(alloc, Hashing::fixed())
     }
 
-    /// The same, with names that are hashed so. By a key that nobody knows beforehand, names that strangers choose cost no more than others.
+    /// Creates a table of the predefined macros that hashes names with `hashing`. With a random key, untrusted names cost no more
+    /// than others.
     pub fn with_hasher(alloc: Global, hashing: Hashing) -> Result<Table<'a>, Memory>
         ensures { IfOk result (λ t. t ≡ predefined) }
     {
@@ -92,12 +93,12 @@ impl<'a> Table<'a> {
         Ok(table)
     }
 
-    /// How its names are hashed.
+    /// Returns the hash function of the table.
     pub fn hashing(&self) -> Hashing {
         *self.macros.hasher()
     }
 
-    // No name at all.
+    /// Creates an empty table.
     fn empty(alloc: Global, hashing: Hashing) -> Result<Table<'a>, Memory>
         ensures { IfOk result (λ t. t ≡ table.empty) }
     {
@@ -106,7 +107,7 @@ impl<'a> Table<'a> {
         Ok(Table { macros, marks })
     }
 
-    // Puts the predefined names into a table without names.
+    /// Inserts the predefined macros into an empty table.
     fn predefine_all(&mut self) -> Result<(), AllocError>
         requires { self.old ≡ table.empty }
         ensures { OnOk result (self.new ≡ predefined) }
@@ -120,7 +121,7 @@ impl<'a> Table<'a> {
         self.predefine(b"__FILE__", Builtin::File)
     }
 
-    // Puts a predefined macro under this name.
+    /// Inserts a predefined macro.
     fn predefine(&mut self, name: &'a [u8], builtin: Builtin) -> Result<(), AllocError>
         ensures { OnOk result (self.new ≡ table.insert self.old name.now (predefined_as builtin)) }
     {
@@ -131,12 +132,12 @@ impl<'a> Table<'a> {
         self.insert(name, Macro::new(definition))
     }
 
-    /// The macro of this name.
+    /// Returns the macro of a name.
     #[inline(always)]
     pub fn get(&self, name: &[u8]) -> Option<&Macro<'a>>
         ensures { option_copied result ≡ table.get self.now name.now }
     {
-        // Most names have no mark, and need no call: saves 9 % of the instructions of `deps` on Redis.
+        // The filter rejects most names without a call: this saves 9 % of the instructions of `deps` on Redis.
         let mark = self.marks.at(name);
         if mark == 0 {
             return None;
@@ -144,7 +145,7 @@ impl<'a> Table<'a> {
         self.look_up(usize::from(mark) - 1, name)
     }
 
-    // The macro of this name, which probably has this place: then it needs no hash.
+    /// Returns the macro of a name. Tries the index `place` first, which needs no hash.
     #[inline(never)]
     fn look_up(&self, place: usize, name: &[u8]) -> Option<&Macro<'a>>
         ensures { option_copied result ≡ table.get self.now name.now }
@@ -158,7 +159,7 @@ impl<'a> Table<'a> {
         self.find(name)
     }
 
-    // The macro of this name, wherever it is.
+    /// Returns the macro of a name, by its hash.
     #[inline(never)]
     fn find(&self, name: &[u8]) -> Option<&Macro<'a>>
         ensures { option_copied result ≡ table.get self.now name.now }
@@ -172,14 +173,14 @@ impl<'a> Table<'a> {
         }
     }
 
-    /// Whether no directive may define the name or take it out (6.10.8p2, 6.10.3p5).
+    /// Whether a name must not be defined or undefined by a directive (6.10.8p2, 6.10.3p5).
     pub(crate) fn is_reserved(&self, profile: Profile, name: &[u8]) -> bool
         ensures { result ≡ is_reserved profile self.now name.now }
     {
         is_fixed(profile.is_gnu(), self.get(name)) || is_barred(name)
     }
 
-    // Puts a macro under this name.
+    /// Inserts a macro, in place of the one before.
     pub(crate) fn insert(&mut self, name: &'a [u8], definition: Macro<'a>) -> Result<(), AllocError>
         ensures ok { OnOk result (self.new ≡ table.insert self.old name.now definition.entry) }
         ensures err { OnErr result (self.new ≡ self.old) }
@@ -193,7 +194,7 @@ impl<'a> Table<'a> {
         }
     }
 
-    // Takes out the macro of this name, if there is one.
+    /// Removes the macro of a name, if there is one.
     pub(crate) fn remove(&mut self, name: &'a [u8])
         ensures { self.new ≡ table.remove self.old name.now }
     {

@@ -1,5 +1,5 @@
-// Conditions by `evaluate`, and what they leave of a budget, also at a fault. Rows of values, of faults and of where a budget ends are in
-// tests/row_tests.py, by what the program prints.
+//! Tests of `evaluate`: conditions, and the rest of a budget, also after a fault. More conditions and faults are in
+//! tests/row_tests.py, which compares the program's output.
 use crate::defining::{directed, env, source_of};
 use ppexpr::evaluate;
 use ppmacro::Table;
@@ -8,14 +8,14 @@ use std::alloc::Global;
 use std::process::Abort;
 use std::test::Fail;
 
-/// Where the `#` of the line of `#if` stands.
+/// The location of the `#` of the `#if` line.
 const HASH: Place = Place {
     file: 1,
     line: 9,
     col: 1,
 };
 
-/// The condition of the tokens after a file's definitions, or its fault, and what it leaves of a budget.
+/// Returns the condition in the tokens after a file's definitions, or its fault, and the rest of the budget.
 fn condition_of(
     rt: &impl Abort,
     alloc: Global,
@@ -27,7 +27,7 @@ fn condition_of(
     evaluate(alloc, &table, &env(0), left, HASH, tokens)
 }
 
-/// Whether a condition is this one, or its fault has this number.
+/// Whether a result is this condition, or a fault with this number.
 fn is_wanted(found: &Result<bool, Fault>, wanted: Result<bool, u8>) -> bool {
     match (found, wanted) {
         (Ok(found), Ok(wanted)) => *found == wanted,
@@ -38,7 +38,7 @@ fn is_wanted(found: &Result<bool, Fault>, wanted: Result<bool, u8>) -> bool {
 
 const MACROS: &str = "#define ONE 1\n#define SAME(x) x\n";
 
-/// Expressions and a budget, each with its condition or the number of its fault, and what is left.
+/// Expressions and budgets, each with its condition or the number of its fault, and the rest of the budget.
 const LEFT: &[(&str, Option<u64>, Result<bool, u8>, Option<u64>)] = &[
     ("1", None, Ok(true), None),
     ("!x && defined ONE", Some(0), Ok(true), Some(0)),

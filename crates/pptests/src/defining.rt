@@ -1,4 +1,4 @@
-// Files of small texts, tables of the macros that their lines define, and what is predefined.
+//! Helpers: source files of short texts, macro tables, and environments.
 use ppexpand::Env;
 use ppmacro::{Table, define, undef};
 use pptext::{
@@ -9,18 +9,18 @@ use std::hash::RandomState;
 use std::process::Abort;
 use std::test::Fail;
 
-/// The file of a text.
+/// Reads a text as a source file.
 pub(crate) fn source_of(rt: &impl Abort, alloc: Global, text: &[u8]) -> Result<Source, Fail> {
     assert!(rt; text.len() <= LONGEST);
     Ok(read_source(alloc, text, 1, Profile::C11)?)
 }
 
-/// The tokens of a file from one index on up to another.
+/// Returns the tokens of a file from one index up to another.
 pub(crate) fn tokens_at(source: &Source, start: usize, end: usize) -> &[Token] {
     source.tokens().get(start..end).unwrap_or(&[])
 }
 
-/// What is predefined where each token's line is the file's own and so much. No text here asks for the file's name, the date and the time.
+/// Returns an environment in which lines are shifted by `shift`. No test uses the file's name, the date or the time.
 pub(crate) fn env(shift: i64) -> Env {
     Env {
         name: Spelling::empty(),
@@ -30,7 +30,7 @@ pub(crate) fn env(shift: i64) -> Env {
     }
 }
 
-/// What a line of `#define` or `#undef` makes of a table, by the rules of this profile.
+/// Applies a `#define` or `#undef` line to a table.
 pub(crate) fn direct<'a>(
     alloc: Global,
     table: &mut Table<'a>,
@@ -46,7 +46,7 @@ pub(crate) fn direct<'a>(
     define(alloc, table, profile, hash.at, rest)
 }
 
-/// Puts the macros of a file's lines into a table. The tokens behind the last of them.
+/// Adds the macros of a file's lines to a table. Returns the tokens after the last directive.
 pub(crate) fn directed<'a>(
     rt: &impl Abort,
     alloc: Global,
@@ -64,7 +64,7 @@ pub(crate) fn directed<'a>(
     Ok(tokens_at(source, behind, source.tokens().len()))
 }
 
-/// How a key of its own hashes names.
+/// Returns a hash function with a random key.
 pub(crate) fn drawn(rt: &HostRuntime) -> Result<Hashing, Fail> {
     match RandomState::new(rt) {
         Ok(key) => Ok(Hashing::keyed(key)),

@@ -1,5 +1,5 @@
-// Macro replacement by `expand`: the parts of a run, its tokens one by one, and what is left of a budget. Rows of what lists are replaced by, of
-// faults and of places are in tests/row_tests.py and tests/token_tests.py, by what the program prints.
+//! Tests of `expand`: the parts of a run, its tokens one by one, and the rest of a budget. More expansions, faults and locations
+//! are in tests/row_tests.py and tests/token_tests.py, which compare the program's output.
 use crate::defining::{directed, env, source_of};
 use crate::showing::assert_shown;
 use ppexpand::{Expanded, Piece, Run, TokenRef, expand};
@@ -9,7 +9,7 @@ use std::alloc::{AllocError, Global};
 use std::process::Abort;
 use std::test::Fail;
 
-/// Puts the spellings of tokens of a file after a text, each with `.` before it.
+/// Appends the spellings of source tokens to a text, each after a `.`.
 fn push_shared(text: &mut Vec<u8>, tokens: &[Token]) -> Result<(), AllocError> {
     for token in tokens {
         text.push(b'.')?;
@@ -18,7 +18,7 @@ fn push_shared(text: &mut Vec<u8>, tokens: &[Token]) -> Result<(), AllocError> {
     Ok(())
 }
 
-/// Puts the spellings of tokens in flight after a text, each with `!` before it.
+/// Appends the spellings of tokens with hide sets to a text, each after a `!`.
 fn push_made(text: &mut Vec<u8>, made: &[Hidden]) -> Result<(), AllocError> {
     for hidden in made {
         text.push(b'!')?;
@@ -27,8 +27,8 @@ fn push_made(text: &mut Vec<u8>, made: &[Hidden]) -> Result<(), AllocError> {
     Ok(())
 }
 
-/// Puts the spellings of a run's tokens after a text by its parts: `.` before a token of the file that passed in a stretch, `!`
-/// before one that passed by itself.
+/// Appends the spellings of a run's tokens to a text, part by part: after `.` if the token is in a span of the file, after `!` if
+/// it is on its own.
 fn push_parts(text: &mut Vec<u8>, run: &Run) -> Result<(), AllocError> {
     let (front, pieces, singles) = run.parts();
     push_shared(text, front)?;
@@ -41,7 +41,7 @@ fn push_parts(text: &mut Vec<u8>, run: &Run) -> Result<(), AllocError> {
     push_made(text, singles)
 }
 
-/// Whether a token of a run is this one.
+/// Whether a token of a run is equal to this one.
 fn is_same(found: &TokenRef, token: &Token) -> Result<bool, AllocError> {
     let marks = found.kind() == token.kind && found.space() == token.space;
     let places = found.at() == token.at && found.used() == token.used;
@@ -62,7 +62,7 @@ fn yields_all(alloc: Global, run: &Run) -> Result<bool, AllocError> {
     Ok(found.next().is_none())
 }
 
-/// What is shown of an expansion: the parts, and ` same` where all of it passed as it stands.
+/// Returns an expansion as text: its parts, and ` same` if it is the unchanged input.
 fn told(alloc: Global, expanded: &Expanded) -> Result<Vec<u8>, AllocError> {
     let mut text = Vec::new(alloc);
     push_parts(&mut text, &expanded.tokens)?;
@@ -72,11 +72,11 @@ fn told(alloc: Global, expanded: &Expanded) -> Result<Vec<u8>, AllocError> {
     Ok(text)
 }
 
-/// A text, what is left of a budget, what is shown of what the lines after its last directive are expanded to, the number of the
-/// fault or 0, and what is left then.
+/// A text, a budget, the expansion of the lines after the last directive as text, the number of the fault or 0, and the rest of
+/// the budget.
 type Case = (&'static str, Option<u64>, &'static str, u8, Option<u64>);
 
-/// Asserts what an expansion gave.
+/// Asserts the result of an expansion.
 fn assert_told(
     rt: &impl Abort,
     alloc: Global,
@@ -93,7 +93,7 @@ fn assert_told(
     Ok(())
 }
 
-/// Asserts what tokens are expanded to by these macros.
+/// Asserts the expansion of tokens with these macros.
 fn assert_expanded_by(
     rt: &impl Abort,
     alloc: Global,
@@ -105,7 +105,7 @@ fn assert_expanded_by(
     Ok(assert_told(rt, alloc, &expanded, case)?)
 }
 
-/// Asserts what the lines after the last directive of a file are expanded to.
+/// Asserts the expansion of the lines after a file's last directive.
 fn assert_expanded(
     rt: &impl Abort,
     alloc: Global,
@@ -118,7 +118,7 @@ fn assert_expanded(
 }
 
 const CASES: &[Case] = &[
-    // one part after another, and one alone
+    // several parts, and a single one
     (
         "#define X 1 + 2\na b X c d e f g h i j k l m n o X",
         None,
@@ -142,11 +142,11 @@ const CASES: &[Case] = &[
         None,
     ),
     ("#define X\nX", None, " same", 0, None),
-    // what names no macro
+    // tokens that name no macro
     ("#define X 1\na b c", None, ".a.b.c same", 0, None),
     ("#define X 1\n", None, " same", 0, None),
     ("#define X 1\na b X", None, ".a.b!1", 0, None),
-    // what is left of a budget, at the end and at a fault
+    // the rest of a budget, at the end and after a fault
     (
         "#define f(a) a*g\n#define g(a) f(a)\nf(2)(9)",
         Some(5),

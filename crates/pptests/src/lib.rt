@@ -1,6 +1,7 @@
-//! Tests of text, macros, expansion, conditions and units by the libraries' public calls: what no clause says of them, and vectors from outside.
+//! Tests of text, macros, expansion, conditions and units by the libraries' public functions: what no contract states, and
+//! examples from other sources.
 //!
-//! They stand in a crate of their own, since a crate with tests is proved twice.
+//! They are a crate of their own because a crate with tests is proved twice.
 #![tactic(auto)]
 
 #[cfg(test)]

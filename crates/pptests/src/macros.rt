@@ -1,5 +1,5 @@
-// Lines that the tests read, and what their tokens spell. `rt try --test --fail-alloc N` refuses each test its Nth request
-// for memory. Where a call that is tested meets the refusal, the test looks at what the call left, and calls again.
+//! Tests of the macro library, with helpers that read lines and print tokens. `rt try --test --fail-alloc N` lets the Nth
+//! allocation of each test fail. If a tested call fails, the test checks what the call left, and calls again.
 mod definitions;
 mod hide_sets;
 mod keys;
@@ -14,14 +14,14 @@ use std::alloc::{AllocError, Global};
 use std::process::Abort;
 use std::test::Fail;
 
-/// Where the `#` of a line stands.
+/// The location of the `#` of a line.
 const HASH: Place = Place {
     file: 1,
     line: 1,
     col: 1,
 };
 
-/// The file of each of these texts.
+/// Reads each text as a source file.
 fn sources_of(rt: &impl Abort, alloc: Global, texts: &[&str]) -> Result<Vec<Source>, Fail> {
     let mut sources = Vec::new(alloc);
     for text in texts {
@@ -30,26 +30,26 @@ fn sources_of(rt: &impl Abort, alloc: Global, texts: &[&str]) -> Result<Vec<Sour
     Ok(sources)
 }
 
-/// The table after the lines of a file.
+/// Returns the table after the lines of a file.
 fn table_of<'a>(rt: &impl Abort, alloc: Global, source: &'a Source) -> Result<Table<'a>, Memory> {
     let mut table = Table::new(alloc)?;
     let _behind = directed(rt, alloc, &mut table, source)?;
     Ok(table)
 }
 
-/// The macro of the name that stands in a `#define` line.
+/// Returns the macro that a `#define` line names.
 fn macro_of<'t, 'a>(table: &'t Table<'a>, line: &[Token]) -> Option<&'t Macro<'a>> {
     let name = line.get(2)?;
     table.get(name.text.as_bytes())
 }
 
-/// A hide set with one name more.
+/// Returns a hide set with one more name.
 fn more(rt: &impl Abort, sets: &mut HideSets, set: Set, name: &[u8]) -> Result<Set, Memory> {
     assert!(rt; sets.knows(set));
     sets.with(set, name)
 }
 
-/// The set of these names, each of one letter.
+/// Returns the set of these one-letter names.
 fn set_of(rt: &impl Abort, sets: &mut HideSets, names: &[u8]) -> Result<Set, Memory> {
     let mut set = sets.empty();
     for name in names {
@@ -58,13 +58,13 @@ fn set_of(rt: &impl Abort, sets: &mut HideSets, names: &[u8]) -> Result<Set, Mem
     Ok(set)
 }
 
-/// Whether a hide set has this name.
+/// Whether a hide set contains a name.
 fn has(rt: &impl Abort, sets: &HideSets, set: Set, name: &[u8]) -> bool {
     assert!(rt; sets.knows(set));
     sets.has(set, name)
 }
 
-/// Asserts that a set has these of the names `a`, `b` and `c`.
+/// Asserts which of the names `a`, `b` and `c` a set contains.
 fn assert_names(rt: &impl Abort, sets: &HideSets, set: Set, names: &[u8]) {
     for name in b"abc" {
         let is_wanted = names.contains(name);
@@ -75,7 +75,7 @@ fn assert_names(rt: &impl Abort, sets: &HideSets, set: Set, names: &[u8]) {
     }
 }
 
-/// Whether this name is among those that hide a token.
+/// Whether a name is in the hide set of a token.
 fn is_hidden_by(rt: &impl Abort, sets: &HideSets, hidden: &Hidden, name: &[u8]) -> bool {
     if has(rt, sets, hidden.hide(), name) {
         return true;
@@ -86,7 +86,7 @@ fn is_hidden_by(rt: &impl Abort, sets: &HideSets, hidden: &Hidden, name: &[u8]) 
     }
 }
 
-/// Puts a token's spelling behind a text, and a space before it where it has a space mark.
+/// Appends a token's spelling to a text, after a space if the token has a leading-space flag.
 fn push_spelled(text: &mut Vec<u8>, token: &Token) -> Result<(), AllocError> {
     if token.space {
         text.push(b' ')?;
@@ -94,7 +94,7 @@ fn push_spelled(text: &mut Vec<u8>, token: &Token) -> Result<(), AllocError> {
     text.extend_from_slice(token.text.as_bytes())
 }
 
-/// Puts a list of parameters behind a text.
+/// Appends a parameter list to a text.
 fn push_parameters(text: &mut Vec<u8>, shape: &Shape) -> Result<(), AllocError> {
     let Shape::FunctionLike {
         parameters,
@@ -115,8 +115,8 @@ fn push_parameters(text: &mut Vec<u8>, shape: &Shape) -> Result<(), AllocError> 
     })
 }
 
-/// The definition of a name, with each parameter followed by a comma, as `(a,b,...) a` or ` 1`, and `...?` where the last argument may be
-/// absent; or `none`.
+/// Returns the definition of a name as text: ` 1`, or `(a,b,...) a` with a comma after each parameter. `...?` means that the
+/// variable argument may be absent, and `none` that there is no definition.
 fn shown(alloc: Global, table: &Table, name: &str) -> Result<Vec<u8>, AllocError> {
     let mut text = Vec::new(alloc);
     let Some(found) = table.get(name.as_bytes()) else {

@@ -1,14 +1,14 @@
-// What tests compare: tokens, places and faults as texts.
+//! Helpers: tokens, locations and faults as text.
 use pptext::{Fault, Kind, Place, Token};
 use std::alloc::{AllocError, Global};
 use std::process::Abort;
 
-/// That what was found is the text that was wanted.
+/// Asserts that a text is the expected one.
 pub(crate) fn assert_shown(rt: &impl Abort, found: &[u8], wanted: &str) {
     assert!(rt; found == wanted.as_bytes(), "{found:?} for {wanted}");
 }
 
-/// The letter of a kind.
+/// Returns the letter of a kind.
 fn letter(kind: Kind) -> u8 {
     match kind {
         Kind::Ident => b'i',
@@ -21,14 +21,14 @@ fn letter(kind: Kind) -> u8 {
     }
 }
 
-/// Puts a place behind a text, as `7:1:2`.
+/// Appends a location to a text, as `7:1:2`.
 pub(crate) fn push_place(alloc: Global, text: &mut Vec<u8>, at: Place) -> Result<(), AllocError> {
     let place = format!(in alloc; "{}:{}:{}", at.file, at.line, at.col)?;
     text.extend_from_slice(place.as_bytes())
 }
 
-/// Puts what a token has behind a text, as `i+ a 7:1:2 7:1:2, `: its kind, `+` where it has a space mark, its spelling, its place
-/// and that of its use.
+/// Appends a token's kind, `+` for a leading-space flag, its spelling, its spelling location and its expansion location to a
+/// text, as `i+ a 7:1:2 7:1:2, `.
 pub(crate) fn push_fields(
     alloc: Global,
     text: &mut Vec<u8>,
@@ -46,7 +46,7 @@ pub(crate) fn push_fields(
     text.extend_from_slice(b", ")
 }
 
-/// Puts a token behind a text.
+/// Appends a token to a text.
 pub(crate) fn push_token(
     alloc: Global,
     text: &mut Vec<u8>,
@@ -57,7 +57,7 @@ pub(crate) fn push_token(
     push_fields(alloc, text, marks, token.text.as_bytes(), places)
 }
 
-/// Puts a fault behind a text: its number, place and text, as `3 7:1:2 endif`.
+/// Appends a fault's number, location and text to a text, as `3 7:1:2 endif`.
 pub(crate) fn push_fault(
     alloc: Global,
     text: &mut Vec<u8>,

@@ -1,4 +1,4 @@
-// What is spent of a budget, and what is left of it.
+//! Tests of spending a budget.
 use ppexpand::{is_spent, less_one};
 
 #[test]

@@ -1,4 +1,4 @@
-// Files by translation phases 1 to 3 and their groups. What a file is read into is compared as a text.
+//! Tests of translation phases 1 to 3 and of groups. Results are compared as text.
 mod directives;
 mod hashing;
 mod reading;
@@ -8,10 +8,10 @@ use pptext::{Fault, LONGEST, Memory, Profile, Source, SourceFault, read_source};
 use std::alloc::Global;
 use std::process::Abort;
 
-/// The number of the file that the tests read.
+/// The number of the file in these tests.
 const FILE: u32 = 7;
 
-/// The lines of a file of these bytes, or its fault.
+/// Reads a file of these bytes. Returns its lines or its fault.
 fn read(
     rt: &impl Abort,
     alloc: Global,

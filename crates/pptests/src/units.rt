@@ -1,4 +1,4 @@
-// Phase 4 of whole units over small files. More of them are in tests/row_tests.py, by what the program prints.
+//! Tests of phase 4 on whole units with small files. More units are in tests/row_tests.py, which compares the program's output.
 ghost use Rattle.std.specs.Prelude.{◌≡◌, length};
 ghost use Rattle.ppunit.specs.Unit.{IsUnitOf};
 
@@ -16,10 +16,10 @@ use std::alloc::{AllocError, Global};
 use std::process::Abort;
 use std::test::Fail;
 
-/// The shelf's last file, which is on no disk.
+/// The last file of the file table, which no disk has.
 const GONE: &str = "gone.h";
 
-/// The shelf of these files and `GONE`.
+/// Returns a file table of these files and `GONE`.
 fn shelf_of(alloc: Global, profile: Profile, files: Files) -> Result<Shelf<MemoryDisk>, Fail> {
     let mut names = Vec::new(alloc);
     for (name, _text) in files {
@@ -72,7 +72,7 @@ fn setting_of(
     })
 }
 
-/// A unit of the file in this row, with these definitions.
+/// Returns a unit for a file with these definitions.
 fn unit_of(alloc: Global, profile: Profile, file: usize, defines: &[&str]) -> Result<Unit, Fail> {
     let defines = texts_of(alloc, defines)?;
     if !fits_command(defines.as_slice()) {
@@ -106,7 +106,7 @@ fn push_item(alloc: Global, text: &mut Vec<u8>, item: &Item) -> Result<(), Alloc
     }
 }
 
-/// The text of items, one by one.
+/// Returns the text of items.
 fn spelled(alloc: Global, items: &Items) -> Result<Vec<u8>, AllocError> {
     let mut text = Vec::new(alloc);
     for item in items.iter() {
@@ -115,7 +115,7 @@ fn spelled(alloc: Global, items: &Items) -> Result<Vec<u8>, AllocError> {
     Ok(text)
 }
 
-/// Puts behind a text the rows that a unit depends on, and its fault: `| 0 2 | 31 0:4:1 y.h`.
+/// Appends the files that a unit depends on, and its fault, to a text: `| 0 2 | 31 0:4:1 y.h`.
 fn push_end(
     alloc: Global,
     text: &mut Vec<u8>,
@@ -133,7 +133,7 @@ fn push_end(
     }
 }
 
-/// What a unit gave, as a text: its items, which one by one are those of the list, and its end.
+/// Returns a unit's result as text: its items and its end. Asserts that the items, one by one, are those of its list.
 fn told(alloc: Global, out: &UnitOut) -> Result<Vec<u8>, Fail> {
     let mut text = Vec::new(alloc);
     for item in &out.items.to_vec(alloc)? {
@@ -146,7 +146,7 @@ fn told(alloc: Global, out: &UnitOut) -> Result<Vec<u8>, Fail> {
     Ok(text)
 }
 
-/// What a unit gives. Where memory is refused, it is preprocessed again over the same shelf and pass.
+/// Preprocesses a unit. If an allocation fails, preprocesses it again with the same file table and pass.
 fn preprocess_again<'a>(
     alloc: Global,
     shelf: &'a Shelf<MemoryDisk>,
@@ -166,7 +166,7 @@ fn preprocess_again<'a>(
     Ok(out)
 }
 
-/// What a unit gives, as a text.
+/// Returns a unit's result as text.
 fn given<'a>(
     alloc: Global,
     shelf: &'a Shelf<MemoryDisk>,
@@ -188,7 +188,7 @@ fn given<'a>(
     told(alloc, &out)
 }
 
-/// That units give texts, one after the other over one pass.
+/// Asserts the results of units, one after another with one pass.
 fn assert_given<'a>(
     rt: &impl Abort,
     alloc: Global,
@@ -209,10 +209,10 @@ fn assert_given<'a>(
 /// Names and texts of files.
 type Files<'t> = &'t [(&'t str, &'t str)];
 
-/// A unit by the row of its file and its definitions, and what it gives.
+/// A unit by the index of its file and its definitions, and its result.
 type Case<'t> = (usize, &'t [&'t str], &'t str);
 
-/// The units of these cases.
+/// Returns the units of these cases.
 fn units_of(alloc: Global, profile: Profile, cases: &[Case]) -> Result<Vec<Unit>, Fail> {
     let mut units = Vec::new(alloc);
     for (file, defines, _wanted) in cases {
@@ -221,7 +221,7 @@ fn units_of(alloc: Global, profile: Profile, cases: &[Case]) -> Result<Vec<Unit>
     Ok(units)
 }
 
-/// That units of these files, one after the other over one pass, give texts.
+/// Asserts the results of units of these files, one after another with one pass.
 fn assert_units(rt: &impl Abort, alloc: Global, files: Files, cases: &[Case]) -> Result<(), Fail> {
     let shelf = shelf_of(alloc, Profile::C11, files)?;
     let disk = disk_of(alloc, files)?;

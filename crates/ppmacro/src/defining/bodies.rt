@@ -1,4 +1,4 @@
-// What a replacement list is refused for (6.10.3p5, 6.10.3.2p1, 6.10.3.3p1, p3).
+//! Constraints on a replacement list (6.10.3p5, 6.10.3.2p1, 6.10.3.3p1, p3).
 ghost use Rattle.std.specs.Prelude.{◌≡◌, IfOk, codes, true};
 ghost use Rattle.std.specs.List.{list_any};
 ghost use Rattle.pptext.specs.Tokens.{is_name};
@@ -11,21 +11,21 @@ use crate::spellings::{is_hash, is_paste};
 use pptext::{Hashing, Token};
 use std::alloc::{AllocError, Global};
 
-// Whether `__VA_ARGS__` stands in it.
+/// Whether a replacement list contains `__VA_ARGS__`.
 fn says_variable_arguments(body: &[Token]) -> bool
     ensures { result ≡ list_any (is_name (codes "__VA_ARGS__")) body.now }
 {
     body.iter().any(|t| t.is_name(b"__VA_ARGS__"))
 }
 
-/// Whether `__VA_ARGS__` stands in it where no `...` stands for it.
+/// Whether a replacement list contains `__VA_ARGS__`, but the parameter list has no `...`.
 pub(crate) fn misplaces_variable_arguments(shape: &Shape, body: &[Token]) -> bool
     ensures { result ≡ misplaces_variable_arguments shape.now body.now }
 {
     says_variable_arguments(body) && !has_variable_arguments(names_in(shape))
 }
 
-/// Whether `##` stands first, last or beside another.
+/// Whether `##` is the first or the last token, or follows another `##`.
 pub(crate) fn misplaces_paste(body: &[Token]) -> bool
     ensures { result ≡ misplaces_paste true body.now }
 {
@@ -43,7 +43,7 @@ pub(crate) fn misplaces_paste(body: &[Token]) -> bool
     false
 }
 
-// Whether a parameter stands first.
+/// Whether the first token is a parameter.
 fn begins_with_parameter(shape: &Parameters, body: &[Token]) -> bool
     ensures { result ≡ begins_with_parameter shape.now body.now }
 {
@@ -53,7 +53,7 @@ fn begins_with_parameter(shape: &Parameters, body: &[Token]) -> bool
     }
 }
 
-// Whether a `#` does not stand directly before one of these parameters.
+/// Whether there is a `#` without one of these parameters directly after it.
 fn misplaces_hash_before(shape: &Parameters, body: &[Token]) -> bool
     ensures { result ≡ misplaces_hash shape.now body.now }
 {
@@ -65,7 +65,7 @@ fn misplaces_hash_before(shape: &Parameters, body: &[Token]) -> bool
     false
 }
 
-/// Whether a `#` does not stand directly before a parameter. These are hashed so where they are many.
+/// Whether there is a `#` without a parameter directly after it. Many parameters are indexed with hash function `hashing`.
 pub(crate) fn misplaces_hash(
     alloc: Global,
     shape: &Shape,

@@ -1,4 +1,4 @@
-// The parameters of a function-like macro (6.10.3p10).
+//! The parameter list of a function-like macro (6.10.3p10).
 ghost use Rattle.std.specs.Prelude.{◌≡◌, IfOk, false};
 ghost use Rattle.std.specs.List.{list_any};
 ghost use Rattle.std.specs.Option.{option_map};
@@ -13,18 +13,18 @@ use pptext::{Hashing, Profile, Spelling, Token};
 use std::alloc::{AllocError, Global};
 use std::marker::Model;
 
-/// How a list of parameters ends.
+/// The end of a parameter list.
 #[derive(Clone, Copy)]
 pub(crate) enum Ending {
-    /// Without `...`.
+    /// There is no `...`.
     Plain,
-    /// With `...`.
+    /// The list ends in `...`.
     Dots,
-    /// With a name and `...` (gcc's manual, "Variadic Macros").
+    /// The list ends in a name and `...` (gcc's manual, "Variadic Macros").
     NamedDots,
 }
 
-/// The parameters' names as they are written, how they end, and what stands behind `)`.
+/// A parameter list that was read: the names, how they end, and the replacement list after `)`.
 #[derive(Drop)]
 pub(crate) struct Heading<'a> {
     pub(crate) names: Names,
@@ -40,7 +40,7 @@ impl<'a> Model for Heading<'a> {
     ghost view = { λ h. record { names = h.names; ending = h.ending; body = h.body } };
 }
 
-// The heading of these names, where `)` stands here.
+/// Returns the parameter list with these names, if `line` begins with `)`.
 fn closed<'a>(names: Vec<Spelling>, ending: Ending, line: &'a [Token]) -> Option<Heading<'a>>
     ensures { result ≡ option_map (with_names names.items) (closed ending line.now) }
 {
@@ -57,7 +57,7 @@ fn closed<'a>(names: Vec<Spelling>, ending: Ending, line: &'a [Token]) -> Option
     })
 }
 
-// The heading of these names, the last of which stands directly before. In GNU C its `...` may stand here.
+/// Returns the parameter list with these names. `line` is what follows the last name; in GNU C it may begin with `...`.
 fn behind_name<'a>(names: Vec<Spelling>, gnu: bool, line: &'a [Token]) -> Option<Heading<'a>>
     ensures { result ≡ option_map (with_names names.items) (behind_name gnu line.now) }
 {
@@ -70,7 +70,7 @@ fn behind_name<'a>(names: Vec<Spelling>, gnu: bool, line: &'a [Token]) -> Option
     closed(names, Ending::Plain, line)
 }
 
-// The heading of one parameter or more, or of `...`.
+/// Reads a parameter list that isn't empty.
 fn parameters<'a>(
     alloc: Global,
     gnu: bool,
@@ -100,7 +100,7 @@ fn parameters<'a>(
     Ok(None)
 }
 
-/// The heading that a line begins with behind `(`, if it has the form of one.
+/// Reads the parameter list from the tokens after `(`. Returns `None` if there is a syntax error.
 pub(crate) fn read_heading<'a>(
     alloc: Global,
     profile: Profile,
@@ -117,14 +117,14 @@ pub(crate) fn read_heading<'a>(
     parameters(alloc, profile.is_gnu(), line)
 }
 
-// Whether a name is among these.
+/// Whether `names` contains a name.
 fn is_among(names: &[Spelling], name: &[u8]) -> bool
     ensures { result ≡ list_any (λ n. bytes_eq n name.now) names.now }
 {
     names.iter().any(|n| n.as_bytes() == name)
 }
 
-// Whether one of a few names stands twice.
+/// Whether a name occurs twice. Compares each name with each other.
 fn repeats_few(names: &[Spelling]) -> bool
     ensures { result ≡ repeats names.now }
 {
@@ -136,7 +136,7 @@ fn repeats_few(names: &[Spelling]) -> bool
     false
 }
 
-/// Whether a name stands twice. Where they are many, they are hashed so.
+/// Whether a name occurs twice. Many names are indexed with hash function `hashing`.
 pub(crate) fn repeats(
     alloc: Global,
     names: &[Spelling],
@@ -157,7 +157,7 @@ pub(crate) fn has_variable_arguments(names: &[Spelling]) -> bool
     is_among(names, b"__VA_ARGS__")
 }
 
-/// All parameters: for `...` stands `__VA_ARGS__`, behind the others (6.10.3.1p2).
+/// Returns all parameters. `__VA_ARGS__` is the last if the list ends in `...` (6.10.3.1p2).
 pub(crate) fn all_parameters(
     alloc: Global,
     ending: Ending,
@@ -175,7 +175,7 @@ pub(crate) fn all_parameters(
     }
 }
 
-/// Whether the last parameter takes a variable number of arguments. In GNU C that argument may be absent.
+/// Returns how the last parameter takes arguments. In GNU C a variable argument may be absent.
 pub(crate) fn variadic_by(gnu: bool, ending: Ending) -> Variadic
     ensures { result ≡ variadic_by gnu ending }
 {

@@ -1,4 +1,4 @@
-// Names of hide sets by number.
+//! The names of hide sets, by number.
 ghost use Rattle.std.specs.Prelude.{◌≡◌, ◌<◌, ◌++◌, List, ℕ, false, IfOk, IfSome, IfNone, OnErr, length, slice_index_or, []};
 ghost use Rattle.std.specs.List.{AllByRecursion, IsDistinct};
 ghost use Rattle.ppmacro.specs.Members.{same_name};
@@ -10,14 +10,14 @@ use std::alloc::{AllocError, Global};
 use std::hash::{Hash, Hasher};
 use std::marker::Model;
 
-/// The bytes of a name that is kept, or of one that is looked for.
+/// The bytes of a name: owned by the table, or borrowed for a lookup.
 #[derive(Drop)]
 pub(crate) enum NameText<'n> {
     Kept(Vec<u8>),
     Sought(&'n [u8]),
 }
 
-/// A name, which contracts see as its bytes. It is compared and hashed as the key of a table is.
+/// A name in the table or a name to look up. Contracts see its bytes. It is compared and hashed like a key of the macro table.
 #[derive(Drop)]
 pub(crate) struct HiddenName<'n> {
     text: NameText<'n>,
@@ -78,7 +78,7 @@ impl Hash for HiddenName<'_> {
     }
 }
 
-/// Names by their numbers, which count from 0, each once.
+/// Distinct names, numbered from 0.
 #[derive(Drop)]
 pub(crate) struct NameNumbers {
     names: IndexSet<HiddenName<'static>, Hashing>,
@@ -100,7 +100,7 @@ impl Model for NameNumbers {
 }
 
 impl NameNumbers {
-    /// No name. Names are hashed so.
+    /// Creates an empty table that hashes names with `hashing`.
     pub(crate) fn new(alloc: Global, hashing: Hashing) -> NameNumbers
         ensures { result ≡ [] }
     {
@@ -109,7 +109,7 @@ impl NameNumbers {
         }
     }
 
-    /// The number of a name.
+    /// Returns the number of a name.
     pub(crate) fn number_of(&self, name: &[u8]) -> Option<usize>
         ensures found { IfSome result (λ n. (n < length self.now) × (slice_index_or self.now n [] ≡ name.now)) }
         ensures none { IfNone result (AllByRecursion (λ y. same_name name.now y ≡ false) self.now) }
@@ -121,7 +121,7 @@ impl NameNumbers {
         self.names.get_index_of(&sought)
     }
 
-    /// The number of a name, which joins the others unless it is among them.
+    /// Returns the number of a name. Adds the name if it is new.
     pub(crate) fn number_for(&mut self, alloc: Global, name: &[u8]) -> Result<usize, AllocError>
         ensures found { IfOk result (λ n. (n < length self.new) × (slice_index_or self.new n [] ≡ name.now)) }
         ensures keeps { (more : List (List ℕ)) × (self.new ≡ self.old ++ more) }

@@ -1,5 +1,5 @@
-// Sets of numbers as nodes of a trie of words. Each node stands there once, so equal sets have one number, and sets share what
-// they have in common.
+//! Sets of numbers as nodes of a trie of 64-bit words. Nodes are distinct, so that equal sets have equal numbers, and sets share
+//! common parts.
 ghost use Rattle.std.specs.Prelude.{◌≡◌, Some, None, Ok, ◌<◌, ◌||◌, ◌+◌, ◌*◌, ℕ, IfOk, IfSome, OnErr, ◌≤◌, [], length, nat_eq};
 ghost use Rattle.std.specs.Int.RustNames.{bit_or};
 ghost use Rattle.ppmacro.specs.Nodes.{node_at, word, word_with, member, IsPool, Keeps, IsWithin, IsBounded, IsNumbered, first};
@@ -13,14 +13,14 @@ use pptext::Hashing;
 use std::alloc::{AllocError, Global};
 use std::marker::Model;
 
-/// How many numbers a word of members has: the number n is bit n % 64 of the word n / 64.
+/// The number of members that a word holds. The number n is bit n % 64 of the word n / 64.
 const WORD: usize = 64;
 
-/// How many nodes may be numbered; one more is refused as want of memory is, but not one that is there.
+/// The maximum number of nodes. A new node beyond it fails like an allocation.
 const MOST: usize = 0xFFFF_FFFF;
 
-/// A set of numbers. Its word 0 is `here`; its word 2w + 1 is the word w of the set with the number `left`, its word 2w + 2 the word w of the
-/// set with the number `right`.
+/// A set of numbers. Word 0 of the set is `here`. Word 2w + 1 is word w of the set with the number `left`, and word 2w + 2 is
+/// word w of the set with the number `right`.
 #[derive(Clone, Copy, PartialEq, Eq, Hash)]
 pub(crate) struct Node {
     here: u64,
@@ -38,14 +38,14 @@ impl Model for Node {
     ghost inverse = { λ n. record { here = n.here; left = n.left; right = n.right } };
 }
 
-/// Whether a union or a meet is made.
+/// The two operations on sets: union and intersection.
 #[derive(Clone, Copy)]
 pub(crate) enum OperationKind {
     Union,
     Meet,
 }
 
-/// What two sets are made into.
+/// An operation on two sets.
 #[derive(Clone, Copy)]
 pub(crate) struct Operation {
     pub(crate) kind: OperationKind,
@@ -66,7 +66,7 @@ impl Model for Operation {
 }
 
 impl Operation {
-    // What two words of members are made into.
+    /// Combines two words of members.
     fn joins(self, left: u64, right: u64) -> u64
         ensures { result ≡ joined_word self left right }
     {
@@ -77,7 +77,7 @@ impl Operation {
     }
 }
 
-/// The empty set alone. Nodes are hashed so.
+/// Creates a pool with only the empty set. Nodes are hashed with `hashing`.
 pub(crate) fn start(alloc: Global, hashing: Hashing) -> Result<IndexSet<Node, Hashing>, AllocError>
     ensures pool { IfOk result (λ s. IsPool s.keys) }
     ensures bounded { IfOk result (λ s. IsBounded 0 s.keys) }
@@ -95,7 +95,7 @@ pub(crate) fn start(alloc: Global, hashing: Hashing) -> Result<IndexSet<Node, Ha
     Ok(nodes)
 }
 
-// The node with this number.
+/// Returns the node with this number.
 fn read(nodes: &IndexSet<Node, Hashing>, number: u32) -> Node
     requires { number < length nodes.now.keys }
     ensures { result ≡ node_at nodes.now.keys number }
@@ -103,7 +103,7 @@ fn read(nodes: &IndexSet<Node, Hashing>, number: u32) -> Node
     nodes.as_slice()[number as usize]
 }
 
-// The number of a node that is there, where no other is numbered any more.
+/// Returns the number of an existing node. Used once the pool is full.
 #[inline(never)]
 fn number_among(nodes: &IndexSet<Node, Hashing>, node: Node) -> Result<u32, AllocError>
     ensures known { IfOk result (λ n. n < length nodes.now.keys) }
@@ -119,7 +119,7 @@ fn number_among(nodes: &IndexSet<Node, Hashing>, node: Node) -> Result<u32, Allo
     Ok(number as u32)
 }
 
-// The number of a node, which joins the others unless it is among them.
+/// Returns the number of a node. Adds the node if it is new.
 fn number_for(nodes: &mut IndexSet<Node, Hashing>, node: Node) -> Result<u32, AllocError>
     requires pool { IsPool nodes.old.keys }
     requires within { IsWithin (length nodes.old.keys) node }
@@ -140,7 +140,7 @@ fn number_for(nodes: &mut IndexSet<Node, Hashing>, node: Node) -> Result<u32, Al
     Ok(number as u32)
 }
 
-// The same, where the node may be that of one of two sets, which are looked at first.
+/// Returns the number of a node. Looks at the nodes of two sets first, because the node may be one of them.
 fn number_beside(
     nodes: &mut IndexSet<Node, Hashing>,
     node: Node,
@@ -167,7 +167,7 @@ fn number_beside(
     number_for(nodes, node)
 }
 
-// A word of a set.
+/// Returns a word of a set.
 fn word_of(nodes: &IndexSet<Node, Hashing>, set: u32, index: usize) -> u64
     requires pool { IsPool nodes.now.keys }
     requires known { set < length nodes.now.keys }
@@ -184,7 +184,7 @@ fn word_of(nodes: &IndexSet<Node, Hashing>, set: u32, index: usize) -> u64
     read(nodes, at).here
 }
 
-/// Whether a set has a number.
+/// Whether a set contains a number.
 pub(crate) fn has(nodes: &IndexSet<Node, Hashing>, set: u32, number: usize) -> bool
     requires pool { IsPool nodes.now.keys }
     requires known { set < length nodes.now.keys }
@@ -194,7 +194,7 @@ pub(crate) fn has(nodes: &IndexSet<Node, Hashing>, set: u32, number: usize) -> b
     bits >> (number % WORD) & 1 == 1
 }
 
-/// The number of a set with one member more.
+/// Returns the set with one more member.
 pub(crate) fn insert(
     nodes: &mut IndexSet<Node, Hashing>,
     set: u32,
@@ -212,7 +212,7 @@ pub(crate) fn insert(
     Ok(more)
 }
 
-// The number of a set with one bit more in its word with this index.
+/// Returns the set with one more bit in the word with this index.
 fn insert_bit(
     nodes: &mut IndexSet<Node, Hashing>,
     set: u32,
@@ -246,7 +246,7 @@ fn insert_bit(
     }
 }
 
-// The number of the union of two sets, where one is empty or they are the same.
+/// Returns the union if a set is empty or both are equal.
 fn settled_union(one: u32, two: u32) -> Option<u32>
     ensures { result ≡ union_known [] one two }
 {
@@ -259,7 +259,7 @@ fn settled_union(one: u32, two: u32) -> Option<u32>
     None
 }
 
-// The number of the meet of two sets, where one is empty or they are the same.
+/// Returns the intersection if a set is empty or both are equal.
 fn settled_meet(one: u32, two: u32) -> Option<u32>
     ensures { result ≡ meet_known [] one two }
 {
@@ -275,7 +275,7 @@ fn settled_meet(one: u32, two: u32) -> Option<u32>
     None
 }
 
-// The number of what two sets are made into, where one is empty or they are the same.
+/// Returns the result of an operation if a set is empty or both are equal.
 fn settled(operation: Operation, one: u32, two: u32) -> Option<u32>
     ensures { result ≡ known operation [] one two }
 {
@@ -285,7 +285,7 @@ fn settled(operation: Operation, one: u32, two: u32) -> Option<u32>
     }
 }
 
-// The number of what two sets are made into, where no work is left.
+/// Returns the result of an operation if it is trivial or cached.
 fn known(pairs: &Pairs, operation: Operation, one: u32, two: u32) -> Option<u32>
     ensures { result ≡ known operation pairs.now one two }
 {
@@ -295,7 +295,7 @@ fn known(pairs: &Pairs, operation: Operation, one: u32, two: u32) -> Option<u32>
     }
 }
 
-// The number of what two sets are made into, word by word. Most parts are settled at once, and need no call.
+/// Computes the result of an operation word by word. Most parts are trivial and need no call.
 #[cycle(making)]
 #[inline(always)]
 fn make(
@@ -319,7 +319,7 @@ fn make(
     }
 }
 
-// The same, where neither is empty and they are not the same.
+/// Computes the result of an operation if no set is empty and the sets differ.
 #[cycle(making)]
 #[inline(never)]
 fn make_node(
@@ -347,7 +347,7 @@ fn make_node(
     Ok(both)
 }
 
-/// The number of what two sets are made into. It answers their pair from then on.
+/// Returns the result of an operation, and caches it.
 pub(crate) fn join(
     nodes: &mut IndexSet<Node, Hashing>,
     pairs: &mut Pairs,

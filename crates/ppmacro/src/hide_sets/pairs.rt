@@ -1,4 +1,4 @@
-// Pairs of numbers that were answered.
+//! A cache of results by pairs of numbers.
 ghost use Rattle.std.specs.Prelude.{◌≡◌, ◌∷◌, ◌++◌, [], OnOk, OnErr, None};
 ghost use Rattle.ppmacro.specs.Pairs.{answer_of};
 
@@ -7,7 +7,7 @@ use pptext::Hashing;
 use std::alloc::{AllocError, Global};
 use std::marker::Model;
 
-/// Pairs of numbers, each with the number that answers it, in the order in which they were answered.
+/// Results by pairs of numbers, in the order in which they were added.
 #[derive(Drop)]
 pub(crate) struct Pairs {
     answers: IndexMap<(u32, u32), u32, Hashing>,
@@ -24,7 +24,7 @@ impl Model for Pairs {
 }
 
 impl Pairs {
-    /// No pair. Pairs are hashed so.
+    /// Creates an empty cache that hashes pairs with `hashing`.
     pub(crate) fn new(alloc: Global, hashing: Hashing) -> Pairs
         ensures { result ≡ [] }
     {
@@ -33,14 +33,14 @@ impl Pairs {
         }
     }
 
-    /// The answer of a pair.
+    /// Returns the result for a pair.
     pub(crate) fn get(&self, left: u32, right: u32) -> Option<u32>
         ensures { result ≡ answer_of self.now left right }
     {
         self.answers.get(&(left, right)).copied()
     }
 
-    /// Puts the answer of a pair behind the others.
+    /// Adds the result for a pair.
     pub(crate) fn put(&mut self, left: u32, right: u32, answer: u32) -> Result<(), AllocError>
         requires { answer_of self.old left right ≡ None }
         ensures ok { OnOk result (self.new ≡ self.old ++ ((left, right), answer) ∷ []) }

@@ -1,4 +1,4 @@
-// What an invocation is replaced by where neither `#` nor `##` stands in the replacement list (6.10.3.1).
+//! Substitution in a replacement list without `#` and `##` (6.10.3.1).
 ghost use Rattle.std.specs.Prelude.{◌≡◌, ◌||◌, ◌&&◌, not, IfOk, OnOk, Ok, true, map};
 ghost use Rattle.std.specs.FinSet as set;
 ghost use Rattle.pptext.specs.declared.tokens.Place.{Place};
@@ -17,7 +17,7 @@ use crate::substituting::{mark_before, push_chain, push_token, substitute};
 use pptext::{Fault, Memory};
 use std::alloc::{AllocError, Global};
 
-// The space mark of an entry.
+/// Returns the leading-space flag of an entry.
 fn mark_of(entry: &Entry) -> bool
     ensures { result ≡ (entry_chain entry.now).mark }
 {
@@ -27,7 +27,7 @@ fn mark_of(entry: &Entry) -> bool
     }
 }
 
-// How many tokens come of an entry.
+/// Returns the number of tokens that an entry contributes.
 fn count_of(arguments: Arguments, entry: &Entry) -> usize {
     match entry {
         Entry::Tok(_) => 1,
@@ -35,7 +35,7 @@ fn count_of(arguments: Arguments, entry: &Entry) -> usize {
     }
 }
 
-// How many tokens come of all.
+/// Returns the number of tokens that all entries contribute.
 fn count_all(arguments: Arguments, entries: &[Entry]) -> usize {
     let mut count: usize = 0;
     for entry in entries {
@@ -44,7 +44,7 @@ fn count_all(arguments: Arguments, entries: &[Entry]) -> usize {
     count
 }
 
-// Puts the tokens of an entry behind the others, the first with this mark. The mark that is pending then.
+/// Appends the tokens of an entry. The first gets the flag `mark`. Returns the leading-space flag that is pending afterwards.
 fn push_entry<'x, 'a: 'x>(
     sets: &HideSets,
     arguments: Arguments<'_, 'x>,
@@ -74,7 +74,7 @@ fn push_entry<'x, 'a: 'x>(
     }
 }
 
-// The tokens of all entries, and the mark that is left pending.
+/// Returns the tokens of all entries, and the leading-space flag that is pending afterwards.
 fn entries_tokens<'x, 'a: 'x>(
     alloc: Global,
     sets: &HideSets,
@@ -98,7 +98,7 @@ fn entries_tokens<'x, 'a: 'x>(
     Ok((tokens, pending))
 }
 
-// What an invocation is replaced by, and the mark that is left pending.
+/// Returns the replacement of an invocation, and the leading-space flag that is pending afterwards.
 fn substitute_entries<'x, 'a: 'x>(
     alloc: Global,
     entries: &[Entry<'a>],
@@ -124,7 +124,7 @@ fn substitute_entries<'x, 'a: 'x>(
     Ok((tokens, pending))
 }
 
-/// What `substitute` gives by a replacement list's chains, without them where neither `#` nor `##` stands there.
+/// Returns what `substitute` returns for the chains of a pattern. Builds no chains if there are none.
 pub fn substitute_pattern<'x, 'a: 'x>(
     alloc: Global,
     pattern: &Pattern<'a>,

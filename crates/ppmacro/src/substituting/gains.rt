@@ -1,4 +1,4 @@
-// What each token of a replacement gains: names that hide it, and its place of use (6.10.3.4p2).
+//! Adds names to the hide sets of a replacement, and sets its expansion location (6.10.3.4p2; Prosser's hsadd).
 ghost use Rattle.std.specs.Prelude.{◌≡◌, true, map, Some, None, OnOk};
 ghost use Rattle.std.specs.FinSet as set;
 ghost use Rattle.ppmacro.specs.Numbered.{Numbered};
@@ -10,7 +10,7 @@ use crate::flying::Hidden;
 use crate::hide_sets::{HideSets, Set};
 use pptext::{Memory, Place};
 
-// Whether a set's names are known to be among those that are gained, which are the names of `base` and one more.
+/// Whether a set is known to be a subset of the names to hide, `gain`, which are the names of `base` and one more.
 fn is_within(set: Set, base: Set, gain: Set) -> bool
     ensures { result ≡ true → (sets : Numbered) → IsWithin sets gain base → IsWithin sets gain set }
 {
@@ -20,7 +20,7 @@ fn is_within(set: Set, base: Set, gain: Set) -> bool
     set == gain
 }
 
-// A token with one set gains the names, and is used where the macro's name is.
+/// Adds the names to a token with one set, and sets its expansion location.
 fn gain_beside_one(sets: &HideSets, hidden: &mut Hidden, base: Set, gain: Set, used: Place)
     requires hidden { HasSets sets.now hidden.old }
     requires one { hidden.old.also ≡ None }
@@ -41,7 +41,8 @@ fn gain_beside_one(sets: &HideSets, hidden: &mut Hidden, base: Set, gain: Set, u
     hidden.turn_beside(used, hide, gain);
 }
 
-// The same of a token with two sets, which are joined where neither is among the names that are gained.
+/// Adds the names to a token with two sets, and sets its expansion location. Computes the union of its sets if neither is a
+/// subset of the names.
 fn gain_beside_two(
     sets: &mut HideSets,
     hidden: &mut Hidden,
@@ -72,7 +73,7 @@ fn gain_beside_two(
     Ok(())
 }
 
-// A token gains the names, and is used where the macro's name is.
+/// Adds the names to a token, and sets its expansion location.
 fn gain_one(
     sets: &mut HideSets,
     hidden: &mut Hidden,
@@ -95,7 +96,7 @@ fn gain_one(
     gain_beside_two(sets, hidden, also, base, gain, used)
 }
 
-// Each token gains the names, and is used where the macro's name is.
+/// Adds the names to each token, and sets its expansion location.
 fn gain_all(
     sets: &mut HideSets,
     tokens: &mut Vec<Hidden>,
@@ -117,7 +118,7 @@ fn gain_all(
     Ok(())
 }
 
-/// Each token gains the names of `base` and one name more, and is used where the macro's name is.
+/// Adds the names of `base` and one more name to each token, and sets its expansion location.
 pub(crate) fn gain_names(
     sets: &mut HideSets,
     tokens: &mut Vec<Hidden>,

@@ -1,4 +1,4 @@
-// Lists that `##` joins (6.10.3.3).
+//! Joins lists of tokens with `##` (6.10.3.3).
 ghost use Rattle.std.specs.Prelude.{◌≡◌, ◌++◌, ◌∷◌, IfOk, OnOk, IsTrue, [], map};
 ghost use Rattle.pptext.specs.Carrying.{CarriesOn};
 ghost use Rattle.ppmacro.specs.HideSets.{hiding, hidings, HasSets, AllKnown, Keeps};
@@ -12,7 +12,7 @@ use crate::substituting::pasting::pasted;
 use pptext::{Place, Stop, carries_on};
 use std::alloc::{AllocError, Global};
 
-/// Puts tokens behind others.
+/// Appends copies of tokens.
 pub(crate) fn push_all<'a>(
     tokens: &mut Vec<Hidden<'a>>,
     more: &[Hidden<'a>],
@@ -22,7 +22,7 @@ pub(crate) fn push_all<'a>(
     tokens.extend_with_clones(more)
 }
 
-// Puts a token and others behind a list.
+/// Appends a token and copies of others.
 fn push_joined<'a>(
     tokens: &mut Vec<Hidden<'a>>,
     hidden: Hidden<'a>,
@@ -34,7 +34,7 @@ fn push_joined<'a>(
     push_all(tokens, more)
 }
 
-// Whether these bytes carry on the last token, where its kind is that of its spelling (`whole`).
+/// Whether these bytes continue the last token, whose kind is the kind of its spelling if `whole`.
 fn is_carried_on(last: &Hidden, whole: bool, more: &[u8]) -> bool
     ensures whole { IsTrue result → IsTrue whole }
     ensures more { IsTrue result → CarriesOn last.now.token.kind last.now.token.text more.now }
@@ -42,8 +42,8 @@ fn is_carried_on(last: &Hidden, whole: bool, more: &[u8]) -> bool
     whole && carries_on(last.kind(), last.text(), more)
 }
 
-// Two tokens as one, as `paste` has it. `whole`: the last token's kind is that of its spelling, as it is once `##` made it. Such an
-// identifier or number is carried on where it stands, so that a long chain costs no more than its bytes.
+/// Pastes two tokens, like `paste`. `whole`: the kind of the last token is the kind of its spelling, as after a paste. Such an
+/// identifier or number is extended in place, so that a long chain costs only its bytes.
 fn paste_onto<'a>(
     alloc: Global,
     sets: &mut HideSets,
@@ -69,8 +69,8 @@ fn paste_onto<'a>(
     pasted(alloc, sets, &last, first, used)
 }
 
-// Joins the last token of one list with the first of the other, or raises fault 19. `whole`, here and in the answer: `##` made
-// the last token.
+/// Joins the last token of one list with the first of the other, or returns fault 19. `whole`, as a parameter and as the result:
+/// the last token is the result of a paste.
 fn join<'a>(
     alloc: Global,
     sets: &mut HideSets,
@@ -103,7 +103,7 @@ fn join<'a>(
     Ok(right.len() == 1)
 }
 
-/// Joins lists from the left, or raises fault 19.
+/// Joins lists from the left, or returns fault 19.
 pub(crate) fn join_all<'a>(
     alloc: Global,
     sets: &mut HideSets,

@@ -1,4 +1,4 @@
-// What an operand stands for (6.10.3.1, 6.10.3.2).
+//! The tokens of an operand (6.10.3.1, 6.10.3.2).
 ghost use Rattle.std.specs.Prelude.{◌≡◌, ◌++◌, IfOk, OnOk, [], ◌∷◌, map, Ok, unwrap_or};
 ghost use Rattle.ppmacro.specs.HideSets.{hidings, AllKnown};
 ghost use Rattle.ppmacro.specs.Substitution.{argument_at, expanded_at, plain, after_ok, stringized, operand_tokens, operands_tokens};
@@ -13,7 +13,7 @@ use crate::substituting::stringizing::stringized;
 use pptext::{Place, Stop, Token};
 use std::alloc::{AllocError, Global};
 
-// The tokens of an argument.
+/// Returns the tokens of an argument. An absent argument has none.
 fn argument<'g, 'a>(given: &'g [Vec<Hidden<'a>>], index: usize) -> &'g [Hidden<'a>]
     ensures { result.now ≡ argument_at (lists_of given.now) index }
 {
@@ -24,7 +24,7 @@ fn argument<'g, 'a>(given: &'g [Vec<Hidden<'a>>], index: usize) -> &'g [Hidden<'
     tokens.as_slice()
 }
 
-// The tokens of this argument's expansion.
+/// Returns the tokens of an argument's expansion.
 fn shown<'g, 'a>(argument: &'g [Hidden<'a>], expansion: &'g Expansion<'a>) -> &'g [Hidden<'a>]
     ensures { result.now ≡ unwrap_or (option_of argument.now expansion.now) [] }
 {
@@ -38,7 +38,7 @@ fn shown<'g, 'a>(argument: &'g [Hidden<'a>], expansion: &'g Expansion<'a>) -> &'
     }
 }
 
-/// The tokens of an argument's expansion.
+/// Returns the tokens of the expansion of the argument with this index.
 pub(crate) fn expansion<'g, 'a>(
     given: &'g [Vec<Hidden<'a>>],
     expanded: &'g [Expansion<'a>],
@@ -53,7 +53,7 @@ pub(crate) fn expansion<'g, 'a>(
     shown(argument(given, index), expansion)
 }
 
-// A list of one token.
+/// Returns a list of one token.
 fn lone<'a>(alloc: Global, hidden: Hidden<'a>) -> Result<Vec<Hidden<'a>>, AllocError>
     ensures { IfOk result (λ v. v.items ≡ hidden.entry ∷ []) }
 {
@@ -62,7 +62,7 @@ fn lone<'a>(alloc: Global, hidden: Hidden<'a>) -> Result<Vec<Hidden<'a>>, AllocE
     Ok(tokens)
 }
 
-// A token of the replacement list.
+/// Returns a token of the replacement list, as a list.
 fn plain<'a>(
     alloc: Global,
     sets: &HideSets,
@@ -74,7 +74,7 @@ fn plain<'a>(
     lone(alloc, Hidden::new(token, sets.empty()))
 }
 
-// The literal of an argument, or fault 20.
+/// Returns the string literal of an argument, as a list, or fault 20.
 fn literal<'a>(
     alloc: Global,
     sets: &HideSets,
@@ -89,7 +89,7 @@ fn literal<'a>(
     Ok(lone(alloc, hidden)?)
 }
 
-/// The tokens of an operand, or fault 20. `beside`: it stands beside `##`, where an argument stays unexpanded.
+/// Returns the tokens of an operand, or fault 20. `beside`: it is next to `##`, where an argument isn't expanded.
 pub(crate) fn operand_tokens<'x, 'a: 'x>(
     alloc: Global,
     sets: &HideSets,
@@ -117,7 +117,7 @@ pub(crate) fn operand_tokens<'x, 'a: 'x>(
     }
 }
 
-// Puts a list behind the others.
+/// Appends a list.
 fn push_list<'a>(
     lists: &mut Vec<Vec<Hidden<'a>>>,
     tokens: Vec<Hidden<'a>>,
@@ -128,7 +128,7 @@ fn push_list<'a>(
     Ok(())
 }
 
-/// The tokens of each operand of a chain, or the first fault 20.
+/// Returns the tokens of each operand of a chain, or the first fault 20.
 pub(crate) fn operands_tokens<'x, 'a: 'x>(
     alloc: Global,
     sets: &HideSets,

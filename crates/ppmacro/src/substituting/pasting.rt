@@ -1,4 +1,4 @@
-// `##` (6.10.3.3).
+//! The operator `##` (6.10.3.3).
 ghost use Rattle.std.specs.Prelude.{◌≡◌, ◌++◌, IfOk};
 ghost use Rattle.ppmacro.specs.HideSets.{hiding, HasSets, Keeps};
 ghost use Rattle.ppmacro.specs.Substitution.{pasted};
@@ -11,7 +11,7 @@ use crate::substituting::lexing::kind_of;
 use pptext::{Fault, Kind, Memory, Place, Spelling, Stop, Token, settled};
 use std::alloc::{AllocError, Global};
 
-// Both spellings as one.
+/// Returns the concatenated spellings of two tokens.
 fn both(alloc: Global, left: &Hidden, right: &Hidden) -> Result<Vec<u8>, AllocError>
     ensures { IfOk result (λ v. v.items ≡ left.now.token.text ++ right.now.token.text) }
 {
@@ -20,7 +20,7 @@ fn both(alloc: Global, left: &Hidden, right: &Hidden) -> Result<Vec<u8>, AllocEr
     Ok(text)
 }
 
-// A token of this kind and spelling, with the place and space mark of the left one.
+/// Returns a token of this kind and spelling, with the spelling location and the leading-space flag of the left token.
 fn made_of(kind: Kind, text: Vec<u8>, left: &Hidden, used: Place) -> Result<Token, AllocError>
     ensures { IfOk result (λ t. t ≡ record { kind = kind; text = text.items; space = left.now.token.space; at = left.now.token.at; used = used }) }
 {
@@ -33,7 +33,7 @@ fn made_of(kind: Kind, text: Vec<u8>, left: &Hidden, used: Place) -> Result<Toke
     })
 }
 
-// Two tokens as one, or fault 19.
+/// Pastes two tokens, or returns fault 19.
 pub(crate) fn pasted<'a>(
     alloc: Global,
     sets: &mut HideSets,
@@ -56,9 +56,11 @@ pub(crate) fn pasted<'a>(
     Ok(Hidden::made(alloc, token, hide)?)
 }
 
-/// Two tokens as one (6.10.3.3), with the left one's place and space mark, and with the names that both are not replaced by.
-/// `used` is the place of the macro's name. Fault 19, at that place with both spellings, where they are no one token or a lone
-/// quote. Whatever the answer is, sets that were there keep their names.
+/// Pastes two tokens (6.10.3.3). The result has the spelling location and the leading-space flag of the left token, and the
+/// intersection of the hide sets. `used` is the location of the macro name.
+///
+/// Fault 19, at `used` and with both spellings: the result isn't one token, or is an unmatched quote. `Memory` means that an
+/// allocation fails. Existing sets never change.
 pub fn paste<'a>(
     alloc: Global,
     left: &Hidden,

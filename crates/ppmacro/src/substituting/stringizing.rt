@@ -1,4 +1,4 @@
-// `#` (6.10.3.2).
+//! The operator `#` (6.10.3.2).
 ghost use Rattle.std.specs.Prelude.{◌≡◌, ℕ, [], ◌∷◌, ◌++◌, take, IfOk, OnOk, OnErr};
 ghost use Rattle.ppmacro.specs.HideSets.{HasSets, hiding};
 ghost use Rattle.pptext.specs.Stops.{Answers};
@@ -11,7 +11,7 @@ use crate::substituting::lexing::kind_of;
 use pptext::{Fault, Kind, Memory, Place, Spelling, Stop, Token, settled};
 use std::alloc::{AllocError, Global};
 
-// Puts a byte of a literal behind a text, with `\` before `"` and `\`. Where memory is refused, the text stays as it was.
+/// Appends a byte of a literal, with a backslash before `"` and `\`. If an allocation fails, the text is unchanged.
 fn push_escaped_byte(text: &mut Vec<u8>, byte: u8) -> Result<(), AllocError>
     ensures put { OnOk result (text.new.items ≡ text.old.items ++ escaped (byte ∷ [])) }
     ensures refused { OnErr result (text.new.items ≡ text.old.items) }
@@ -23,8 +23,7 @@ fn push_escaped_byte(text: &mut Vec<u8>, byte: u8) -> Result<(), AllocError>
     Ok(())
 }
 
-/// Puts a literal's spelling behind a text, with `\` before each `"` and `\`. Where memory is refused, that of some first bytes
-/// stands there.
+/// Appends a literal's spelling, with a backslash before each `"` and `\`. If an allocation fails, a prefix is appended.
 pub fn push_escaped(text: &mut Vec<u8>, spelling: &[u8]) -> Result<(), AllocError>
     ensures put { OnOk result (text.new.items ≡ text.old.items ++ escaped spelling.now) }
     ensures refused { OnErr result ((n : ℕ) × (text.new.items ≡ text.old.items ++ escaped (take n spelling.now))) }
@@ -35,7 +34,7 @@ pub fn push_escaped(text: &mut Vec<u8>, spelling: &[u8]) -> Result<(), AllocErro
     Ok(())
 }
 
-// Puts a token's spelling behind a text.
+/// Appends the spelling of a token, escaped if it is a literal.
 fn push_spelled(text: &mut Vec<u8>, token: &Hidden) -> Result<(), AllocError>
     ensures { OnOk result (text.new.items ≡ text.old.items ++ spelled_in_string token.now.token) }
 {
@@ -45,7 +44,7 @@ fn push_spelled(text: &mut Vec<u8>, token: &Hidden) -> Result<(), AllocError>
     text.extend_from_slice(token.text())
 }
 
-// Puts a token's spelling behind a text, with a space before it where it has a space mark and isn't the first.
+/// Appends a token's spelling, after a space if the token has a leading-space flag and isn't the first.
 fn push_marked(text: &mut Vec<u8>, first: bool, token: &Hidden) -> Result<(), AllocError>
     ensures { OnOk result (text.new.items ≡ text.old.items ++ (spelled_space first token.now.token ++ spelled_in_string token.now.token)) }
 {
@@ -55,7 +54,7 @@ fn push_marked(text: &mut Vec<u8>, first: bool, token: &Hidden) -> Result<(), Al
     push_spelled(text, token)
 }
 
-// The argument's spelling between quotes.
+/// Returns the spelling of an argument between quotes.
 fn string_text(alloc: Global, argument: &[Hidden]) -> Result<Vec<u8>, AllocError>
     ensures { IfOk result (λ v. v.items ≡ string_text (tokens_of argument.now)) }
 {
@@ -70,7 +69,7 @@ fn string_text(alloc: Global, argument: &[Hidden]) -> Result<Vec<u8>, AllocError
     Ok(text)
 }
 
-// The string literal of an argument, or fault 20.
+/// Returns the string literal of an argument, or fault 20.
 pub(crate) fn stringized<'a>(
     alloc: Global,
     sets: &HideSets,
@@ -96,8 +95,10 @@ pub(crate) fn stringized<'a>(
     Ok(Hidden::made(alloc, token, sets.empty())?)
 }
 
-/// The string literal of an argument (6.10.3.2), without space mark and with the empty set. `at` is the place of `#`, `used`
-/// that of the macro's name. Fault 20, at that place with the text, where the text is no string literal.
+/// Returns the string literal of an argument (6.10.3.2), without a leading-space flag and with the empty hide set. `at` is the
+/// location of `#`, and `used` that of the macro name.
+///
+/// Fault 20, at `used` and with the text: the text isn't a string literal. `Memory` means that an allocation fails.
 pub fn stringize<'a>(
     alloc: Global,
     argument: &[Hidden],

@@ -1,4 +1,4 @@
-// `#define` and `#undef` (6.10.3, 6.10.3.5).
+//! Tests of `#define` and `#undef` (6.10.3, 6.10.3.5).
 use super::{HASH, shown, table_of};
 use crate::defining::{direct, drawn, source_of};
 use ppmacro::Table;
@@ -7,7 +7,8 @@ use std::alloc::Global;
 use std::process::Abort;
 use std::test::Fail;
 
-/// What a line does to a table. Where memory is refused, the name has the definition that it had, and the call is made again.
+/// Applies a line to a table. If an allocation fails, asserts that the name's definition is unchanged, and applies the line
+/// again.
 fn direct_again<'a>(
     rt: &impl Abort,
     alloc: Global,
@@ -22,7 +23,7 @@ fn direct_again<'a>(
     Ok(answer)
 }
 
-/// Whether a line leaves this definition of a name, or raises the fault of this number and leaves what the name had.
+/// Whether a line gives a name this definition, or returns the fault with this number and leaves the definition.
 fn is_wanted(
     answer: &Result<(), Fault>,
     name: &str,
@@ -41,7 +42,7 @@ fn is_wanted(
     }
 }
 
-/// Asserts what a line does to a table.
+/// Asserts the effect of a line on a table.
 fn assert_changes<'a>(
     rt: &impl Abort,
     alloc: Global,
@@ -60,7 +61,7 @@ fn assert_changes<'a>(
     Ok(())
 }
 
-/// Asserts what a line does to the table after these lines.
+/// Asserts the effect of a line after other lines.
 fn assert_next(
     rt: &impl Abort,
     alloc: Global,
@@ -73,8 +74,8 @@ fn assert_next(
     assert_changes(rt, alloc, &mut table, line, name, wanted)
 }
 
-/// Asserts what a line does by the rules of this profile to a table in which only the lines before it were done, by those of C11: it leaves
-/// this definition of the name, or raises the fault of this number and leaves what the name had.
+/// Asserts the effect of a line with the rules of a profile. The lines before it have the rules of C11. The line gives the name
+/// this definition, or returns the fault with this number and leaves the definition.
 fn assert_directed(
     rt: &impl Abort,
     alloc: Global,
@@ -89,7 +90,7 @@ fn assert_directed(
     Ok(assert_next(rt, alloc, &lines, line, name, wanted)?)
 }
 
-/// Lines, the next line and a name: the definition that it then has, or the number of the fault whose text it is.
+/// Lines, the next line, and a name: its definition afterwards, or the number of the fault that has the name as its text.
 type Case = (
     &'static str,
     &'static str,
@@ -97,7 +98,7 @@ type Case = (
     Result<&'static str, u8>,
 );
 
-/// Lines that are refused where `X` is 7, in the order of the rules.
+/// Invalid lines after `X` is defined as 7, in the order of the rules.
 const REFUSED: &[Case] = &[
     ("#define X 7", "#define", "define", Err(9)),
     ("#define X 7", "#define 1 X", "define", Err(9)),
@@ -216,7 +217,7 @@ const DEFINED: &[Case] = &[
     ("#define O 1\n#undef O", "#define O 2", "O", Ok(" 2")),
 ];
 
-/// Two definitions of `X`, which are compared.
+/// Pairs of definitions of `X`.
 const COMPARED: &[Case] = &[
     (
         "#define X (1-1)",
@@ -240,7 +241,7 @@ const COMPARED: &[Case] = &[
     ),
 ];
 
-/// Lines that GNU C takes, and those that it refuses.
+/// Lines that GNU C permits, and lines that it doesn't.
 const GNU: &[Case] = &[
     ("", "#define f(a...) a", "f", Ok("(a,...?) a")),
     ("", "#define f(a, b ...)b", "f", Ok("(a,b,...?)b")),
@@ -273,14 +274,14 @@ const GNU: &[Case] = &[
     ("", "#define __STDC__ 1", "__STDC__", Err(10)),
 ];
 
-/// Lines that are refused with what ISO/IEC 9899:2024 added, as without it.
+/// Lines that stay invalid with the extensions of ISO/IEC 9899:2024.
 const LATER: &[Case] = &[
     ("", "#define f(a...) a", "f", Err(11)),
     ("#define X 7", "#define X 8", "X", Err(16)),
     ("", "#undef __STDC_VERSION__", "__STDC_VERSION__", Err(10)),
 ];
 
-/// Each table with the profile whose rules its lines are told by.
+/// The cases of each profile.
 const TABLES: &[(Profile, &[Case])] = &[
     (Profile::C11, REFUSED),
     (Profile::C11, DEFINED),
@@ -299,7 +300,7 @@ fn defines_compares_and_refuses(rt: HostRuntime) -> Result<(), Fail> {
     Ok(())
 }
 
-/// The line of the one token that `X` is defined by.
+/// Returns the line of the one token of `X`.
 fn line_of_x(table: &Table) -> Option<u32> {
     match table.get(b"X")?.definition().body.as_slice() {
         [token] => Some(token.at.line),
@@ -315,7 +316,7 @@ fn the_later_of_two_agreeing_definitions_stays(rt: HostRuntime) -> Result<(), Fa
     Ok(())
 }
 
-/// Names with what a new table has of them.
+/// Names, with their definitions in a new table.
 const PREDEFINED: &[(&str, &str)] = &[
     ("__FILE__", "predefined"),
     ("__LINE__", "predefined"),
@@ -329,7 +330,7 @@ const PREDEFINED: &[(&str, &str)] = &[
     ("__STDC", "none"),
 ];
 
-/// Asserts what a new table has of the names.
+/// Asserts the definitions in a new table.
 fn assert_predefined(rt: &impl Abort, alloc: Global, table: &Table) -> Result<(), Memory> {
     for &(name, definition) in PREDEFINED {
         assert!(rt;
@@ -340,7 +341,7 @@ fn assert_predefined(rt: &impl Abort, alloc: Global, table: &Table) -> Result<()
     Ok(())
 }
 
-/// The same where names are hashed so. How the table says that it hashes them.
+/// Asserts the definitions in a new table with this hash function. Returns the hash function that the table reports.
 fn hashed(rt: &impl Abort, alloc: Global, hashing: Hashing) -> Result<Hashing, Memory> {
     let table = Table::with_hasher(alloc, hashing)?;
     assert_predefined(rt, alloc, &table)?;

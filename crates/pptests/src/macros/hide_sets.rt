@@ -1,4 +1,4 @@
-// Hide sets.
+//! Tests of hide sets.
 use super::{assert_names, set_of};
 use crate::defining::drawn;
 use ppmacro::{HideSets, Set};
@@ -7,16 +7,16 @@ use std::alloc::Global;
 use std::process::Abort;
 use std::test::Fail;
 
-/// What is made of two sets.
+/// An operation on two sets.
 #[derive(Clone, Copy)]
 enum Join {
-    /// The set of the names of either.
+    /// The names of either set.
     Union,
-    /// That of the names of both.
+    /// The names of both sets.
     Meet,
 }
 
-/// What is made of two sets.
+/// Returns the result of an operation on two sets.
 fn joined(
     rt: &impl Abort,
     sets: &mut HideSets,
@@ -30,7 +30,8 @@ fn joined(
     }
 }
 
-/// The same of sets with these names. Where memory is refused, both have their names, and the call is made again.
+/// Returns the result of an operation on sets with these names. If an allocation fails, asserts that both sets are unchanged, and
+/// calls again.
 fn joined_again(
     rt: &impl Abort,
     sets: &mut HideSets,
@@ -46,9 +47,9 @@ fn joined_again(
     Ok(set)
 }
 
-/// Asserts that a union or a meet of the sets of these names has these names. A second call gives what the first gave, and asks
-/// for no memory: `tests/refused_in_tests.py` refuses all from the Nth request on, for each N, and the test then fails where a second
-/// call is refused.
+/// Asserts the names of the union or the intersection of two sets. A second call returns the same set and allocates nothing:
+/// `tests/refused_in_tests.py` lets all allocations from the Nth on fail, for each N, and the test then fails if a second call
+/// fails.
 fn assert_joined(
     rt: &impl Abort,
     sets: &mut HideSets,
@@ -64,13 +65,13 @@ fn assert_joined(
         "a second call"
     );
     assert_names(rt, sets, set, wanted);
-    // sets with the same names are the same, whatever made them
+    // equal sets have equal numbers, however they were made
     assert!(rt; set == set_of(rt, sets, wanted)?);
     assert!(rt; set != set_of(rt, sets, b"d")?);
     Ok(())
 }
 
-/// Names of two sets, of their union and of their meet.
+/// Names of two sets, of their union and of their intersection.
 const JOINED: &[(&[u8], &[u8], &[u8], &[u8])] = &[
     (b"", b"", b"", b""),
     (b"a", b"", b"a", b""),
@@ -80,7 +81,7 @@ const JOINED: &[(&[u8], &[u8], &[u8], &[u8])] = &[
     (b"ab", b"bc", b"abc", b"b"),
 ];
 
-/// Asserts it of each two.
+/// Asserts the union and the intersection of each pair.
 fn assert_all_joined(rt: &impl Abort, sets: &mut HideSets) -> Result<(), Memory> {
     for &(one, two, union, meet) in JOINED {
         assert_joined(rt, sets, (one, two), Join::Union, union)?;
@@ -90,7 +91,7 @@ fn assert_all_joined(rt: &impl Abort, sets: &mut HideSets) -> Result<(), Memory>
     Ok(())
 }
 
-/// The same over hide sets whose names are hashed so.
+/// Asserts the union and the intersection of each pair in a pool with this hash function.
 fn assert_hashed(rt: &impl Abort, alloc: Global, hashing: Hashing) -> Result<(), Memory> {
     let mut sets = HideSets::with_hasher(alloc, hashing)?;
     assert_all_joined(rt, &mut sets)

@@ -1,8 +1,8 @@
-// Hashes of names by the key that everybody knows, as bench/colliding.py reckons them.
+//! Hashes of names with the fixed key, as bench/colliding.py computes them.
 use pptext::Hashing;
 use std::hash::{BuildHasher, Hasher};
 
-/// Two names that are made to collide.
+/// Two names that collide.
 const COLLIDING: &str =
     "aaaaabkDZlJeGuI7aaaaasv0Hp5QKjqTaaaaasv0Hp5QKjqTaaaaasv0Hp5QKjqTaaaaasv0Hp5QKjqT";
 

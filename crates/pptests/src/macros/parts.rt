@@ -1,4 +1,4 @@
-// What macro replacement is made of: tokens that are made, tokens of a replacement list, and spellings within a literal.
+//! Tests of the parts of a substitution: synthesized tokens, tokens of a replacement list, and spellings in a literal.
 use super::substitution::{USED, assert_made};
 use super::{HASH, macro_of, push_spelled, set_of, table_of};
 use crate::defining::source_of;
@@ -9,7 +9,7 @@ use std::alloc::{AllocError, Global};
 use std::process::Abort;
 use std::test::Fail;
 
-/// The name `x` where the `#` of a line stands.
+/// Returns the name `x` at the location of the `#` of a line.
 fn name_at_hash(alloc: Global) -> Result<Token, AllocError> {
     Ok(Token {
         kind: Kind::Ident,
@@ -20,7 +20,7 @@ fn name_at_hash(alloc: Global) -> Result<Token, AllocError> {
     })
 }
 
-/// The same as a token that was made, given a mark and used elsewhere, which `a` hides.
+/// Returns a synthesized token with a flag and another expansion location, hidden by `a`.
 fn made_and_turned<'a>(
     rt: &impl Abort,
     alloc: Global,
@@ -42,7 +42,7 @@ fn marks_and_turns_what_was_made(rt: HostRuntime) -> Result<(), Fail> {
     Ok(assert_made(&rt, rt.alloc(), &sets, &made, wanted)?)
 }
 
-/// Puts tokens of a file behind a text, each as it stands in flight.
+/// Appends source tokens to a text, each as a token with a hide set.
 fn push_words(
     alloc: Global,
     text: &mut Vec<u8>,
@@ -66,7 +66,7 @@ fn tokens_in_flight_are_those_of_the_file(rt: HostRuntime) -> Result<(), Fail> {
     Ok(())
 }
 
-/// Puts the tokens of the replacement list behind a text that are operands of a chain.
+/// Appends the operands of a chain that are tokens of the replacement list to a text.
 fn push_leaves(text: &mut Vec<u8>, chain: &Chain) -> Result<(), AllocError> {
     for operand in chain.operands.as_slice() {
         if let Operand::Tok(leaf) = operand {
@@ -76,7 +76,7 @@ fn push_leaves(text: &mut Vec<u8>, chain: &Chain) -> Result<(), AllocError> {
     Ok(())
 }
 
-/// The same of all chains of the macro that a line defines.
+/// Returns such operands of all chains of the macro that a line defines.
 fn leaves_in(rt: &impl Abort, alloc: Global, line: &Source) -> Result<Vec<u8>, Fail> {
     let table = table_of(rt, alloc, line)?;
     let named = macro_of(&table, line.tokens()).ok_or("no macro")?;

@@ -1,4 +1,4 @@
-// What invocations are replaced by (6.10.3.1 to 6.10.3.3).
+//! Tests of substitution (6.10.3.1 to 6.10.3.3).
 ghost use Rattle.std.specs.Prelude.{◌≡◌, IfOk, map, Some};
 ghost use Rattle.ppmacro.specs.HideSets.{IsKnown, AllKnown};
 ghost use Rattle.ppmacro.specs.Substituting.{ListsKnown, ArgumentsKnown};
@@ -16,17 +16,17 @@ use std::alloc::{AllocError, Global};
 use std::process::Abort;
 use std::test::Fail;
 
-/// What an invocation is replaced by, and the mark that is left pending, or the fault.
+/// The replacement of an invocation and the pending leading-space flag, or the fault.
 type Replaced<'x> = Result<(Vec<Hidden<'x>>, bool), Fault>;
 
-/// Where the macro's name stands in an invocation.
+/// The location of the macro name in an invocation.
 pub(super) const USED: Place = Place {
     file: 3,
     line: 40,
     col: 5,
 };
 
-/// Tokens, each with this hide set.
+/// Returns tokens, each with this hide set.
 fn hidden<'a>(
     alloc: Global,
     sets: &HideSets,
@@ -43,7 +43,7 @@ fn hidden<'a>(
     Ok(list)
 }
 
-/// Arguments of these tokens, each with this hide set.
+/// Returns arguments with these tokens, each with this hide set.
 fn lists_of<'a>(
     alloc: Global,
     sets: &HideSets,
@@ -60,7 +60,7 @@ fn lists_of<'a>(
     Ok(lists)
 }
 
-/// The expansions of arguments that name no macro.
+/// Returns the expansions of arguments that name no macro.
 fn as_they_are<'a>(
     alloc: Global,
     lists: Vec<Vec<Hidden<'a>>>,
@@ -73,8 +73,8 @@ fn as_they_are<'a>(
         .collect(alloc)
 }
 
-/// What `substitute` answers, where `f` is the name. Where memory is refused, the set `base` has its member `b`, and the call is
-/// made again.
+/// Returns the result of `substitute` for the name `f`. If an allocation fails, asserts that the set `base` contains `b`, and
+/// calls again.
 fn substituted<'x, 'a: 'x>(
     rt: &impl Abort,
     alloc: Global,
@@ -94,7 +94,7 @@ fn substituted<'x, 'a: 'x>(
     Ok(answer)
 }
 
-/// The name `f` in an invocation.
+/// Returns the macro name token `f` of an invocation.
 fn named_f(base: Set, space: bool) -> MacroName<'static>
     ensures { result.base ≡ base }
 {
@@ -106,8 +106,8 @@ fn named_f(base: Set, space: bool) -> MacroName<'static>
     }
 }
 
-/// What an invocation is replaced by, and the mark that is left pending. No argument names a macro; each argument's tokens
-/// have the hide set `hide`.
+/// Returns the replacement by the chains of a macro, and the pending flag. No argument names a macro; each token of an argument
+/// has the hide set `hide`.
 fn replaced_by<'x, 'a: 'x>(
     rt: &impl Abort,
     alloc: Global,
@@ -124,7 +124,7 @@ fn replaced_by<'x, 'a: 'x>(
     substituted(rt, alloc, chains, arguments, &named_f(base, space), sets)
 }
 
-/// The same by `substitute_pattern`.
+/// Returns the replacement by `substitute_pattern`, and the pending flag.
 fn replaced_by_pattern<'x, 'a: 'x>(
     rt: &impl Abort,
     alloc: Global,
@@ -141,17 +141,18 @@ fn replaced_by_pattern<'x, 'a: 'x>(
     substitute_pattern(alloc, pattern, arguments, &named_f(base, space), sets)
 }
 
-/// What of a macro an invocation is replaced by.
+/// The form of a macro that a substitution uses.
 #[derive(Clone, Copy)]
 enum By {
     Chains,
     Pattern,
 }
 
-/// How an invocation is made: by what, whether the arguments' tokens hide the name `g`, and whether the macro's name has a space mark.
+/// How an invocation is substituted: by which form, whether the arguments' tokens are hidden by `g`, and whether the macro name
+/// has a leading-space flag.
 type With = (By, bool, bool);
 
-/// What an invocation of a macro is replaced by.
+/// Returns the replacement of an invocation.
 fn replaced<'x, 'a: 'x>(
     rt: &impl Abort,
     alloc: Global,
@@ -173,14 +174,14 @@ fn replaced<'x, 'a: 'x>(
     }
 }
 
-/// Whether a token is used where the macro's name is, and has the names `b` and `f`, which each gains.
+/// Whether a token's expansion location is that of the macro name, and its hide set contains the added names `b` and `f`.
 fn is_gained(rt: &impl Abort, sets: &HideSets, hidden: &Hidden) -> bool {
     is_hidden_by(rt, sets, hidden, b"f")
         && is_hidden_by(rt, sets, hidden, b"b")
         && hidden.used() == USED
 }
 
-/// Puts tokens as a text behind another.
+/// Appends the spellings of tokens to a text.
 fn push_all_spelled(
     rt: &impl Abort,
     text: &mut Vec<u8>,
@@ -194,7 +195,7 @@ fn push_all_spelled(
     Ok(())
 }
 
-/// Puts of each token behind a text whether it hides `g`, and the column where it stands.
+/// Appends to a text whether each token is hidden by `g`, and the column of its spelling location.
 fn push_all_placed(
     rt: &impl Abort,
     alloc: Global,
@@ -214,8 +215,8 @@ fn push_all_placed(
     Ok(())
 }
 
-/// What an invocation is replaced by as a text, and `+` where the mark is left pending; behind it the places, where arguments hide
-/// `g`. Or the fault.
+/// Returns a replacement as text, with `+` if a flag is pending. If arguments are hidden by `g`, the locations follow. Or returns
+/// the fault as text.
 fn told(
     rt: &impl Abort,
     alloc: Global,
@@ -237,7 +238,7 @@ fn told(
     Ok(text)
 }
 
-/// The same of an invocation, over these hide sets. The macro's name hides `b`.
+/// Returns the replacement of an invocation as text, with these hide sets. The macro name is hidden by `b`.
 fn told_over(
     rt: &impl Abort,
     alloc: Global,
@@ -253,7 +254,7 @@ fn told_over(
     Ok(told(rt, alloc, sets, &answer, hides)?)
 }
 
-/// The same over hide sets of its own.
+/// Returns the replacement of an invocation as text, with new hide sets.
 fn told_of(
     rt: &impl Abort,
     alloc: Global,
@@ -265,7 +266,7 @@ fn told_of(
     told_over(rt, alloc, &mut sets, of, texts, with)
 }
 
-/// The table after a line of `#define`, by the rules of this profile.
+/// Returns the table after a `#define` line with the rules of this profile.
 fn table_by<'a>(
     rt: &impl Abort,
     alloc: Global,
@@ -277,7 +278,7 @@ fn table_by<'a>(
     Ok(table)
 }
 
-/// The same of the macro that a line defines by the rules of this profile.
+/// Returns the replacement by the macro that a line defines with the rules of this profile, as text.
 fn told_in(
     rt: &impl Abort,
     alloc: Global,
@@ -291,7 +292,8 @@ fn told_in(
     Ok(told_of(rt, alloc, (&table, named), texts, with)?)
 }
 
-/// Asserts what an invocation is replaced by: its text and the mark that is left, or its fault. The macro is defined by the rules of this profile.
+/// Asserts the replacement of an invocation as text with the pending flag, or its fault. The macro is defined with the rules of
+/// this profile.
 fn assert_told(
     rt: &impl Abort,
     alloc: Global,
@@ -307,15 +309,15 @@ fn assert_told(
     Ok(())
 }
 
-/// A macro, the arguments of an invocation, whether its name has a space mark, and what it is replaced by with the mark left.
+/// A macro, the arguments of an invocation, whether its name has a leading-space flag, and the replacement with the pending flag.
 type Case = (&'static str, &'static [&'static str], bool, &'static str);
 
-/// Arguments of so many parameters that they have an index, where many tokens are compared with them.
+/// Arguments for more parameters than are searched one by one. With enough tokens they are indexed.
 const SEVENTEEN: &[&str] = &[
     "1", "2", "3", "4", "5", "6", "7", "8", "9", "10", "11", "12", "13", "14", "15", "16", "17",
 ];
 
-// Examples of 6.10.3.3p4 and 6.10.3.5p5 to p9, and of this crate's own.
+/// Examples of 6.10.3.3p4 and 6.10.3.5p5 to p9, and more.
 const REPLACED: &[Case] = &[
     ("#define O (1-1)", &[], false, "(1-1) |-"),
     (
@@ -412,9 +414,9 @@ const REPLACED: &[Case] = &[
     ),
 ];
 
-// The macro's name hands its mark on. The first token of a chain takes the mark that is pending, which is then cleared; a
-// chain without tokens leaves it to what comes next. A chain's own mark is that of its first token in the definition, which
-// for the first chain does not count.
+/// The flag of the macro name is pending at first. The first token of a chain takes the pending flag, and clears it. A chain
+/// without tokens leaves the flag to the next. A chain's own flag is that of its first token in the definition, and doesn't count
+/// for the first chain.
 const MARKED: &[Case] = &[
     ("#define E", &[], false, " |-"),
     ("#define E", &[], true, " |+"),
@@ -435,7 +437,8 @@ const MARKED: &[Case] = &[
     ("#define f(a) x# a", &["1"], false, "x\"1\" |-"),
 ];
 
-// Faults by number, place and text. Chains come from the left; in each `#` comes first, and then `##` from the left.
+/// Faults by number, location and text. Chains are substituted from the left; in each, `#` comes first, and then `##` from the
+/// left.
 const REFUSED: &[Case] = &[
     ("#define C(a,b) a ## b", &["/", "/"], false, "19 3:40:5 //"),
     ("#define S(x) #x", &["\\ "], false, "20 3:40:5 \"\\\""),
@@ -473,7 +476,7 @@ const REFUSED: &[Case] = &[
     ),
 ];
 
-// Macros whose parameters are used once, twice and not at all.
+/// Macros that use their parameters once, twice and not at all.
 const PATTERNS: &[Case] = &[
     ("#define I(x) x", &["a b"], true, " a b |-"),
     (
@@ -496,8 +499,8 @@ const PATTERNS: &[Case] = &[
     ("#define S(x) %: x", &["a"], false, "\"a\" |-"),
 ];
 
-// The comma before a variable argument that is absent, empty, one or more, where it may be absent: as gcc has it. An argument is a line of its own here, whose
-// first token has a space mark, and keeps that.
+/// The comma before a variable argument that is absent, empty or not empty, as in gcc. Each argument is a line of its own here,
+/// so its first token has a leading-space flag, and keeps it.
 const RESTS: &[Case] = &[
     (
         "#define e(f, ...) p(f, ## __VA_ARGS__)",
@@ -562,7 +565,7 @@ const RESTS: &[Case] = &[
     ),
 ];
 
-// Where no variable argument may be absent, the comma is pasted like any token (6.10.3.3p3).
+/// If no variable argument may be absent, the comma is pasted like any other token (6.10.3.3p3).
 const PASTED: &[Case] = &[
     ("#define z(...) 0, ## __VA_ARGS__", &[""], false, "0, |-"),
     (
@@ -614,7 +617,7 @@ fn hides_and_places_what_it_gives(rt: HostRuntime) -> Result<(), Fail> {
     Ok(())
 }
 
-// The tokens of a rest keep their sets, and the comma before them has none of its own.
+/// The tokens of a rest keep their hide sets, and the comma before them has the empty one.
 #[test]
 fn lays_a_rest_behind_the_comma(rt: HostRuntime) -> Result<(), Fail> {
     let line = "#define e(f,a...) f,##a";
@@ -632,8 +635,8 @@ fn lays_a_rest_behind_the_comma(rt: HostRuntime) -> Result<(), Fail> {
     Ok(())
 }
 
-/// How many tokens the list of the macro has that a line defines, where the name is replaced by the list; and whether the macro's
-/// pattern has chains.
+/// Returns the number of tokens in a macro's list, if the list replaces the name unchanged, and whether the macro's pattern has
+/// chains.
 fn list_and_chains(
     rt: &impl Abort,
     alloc: Global,
@@ -649,7 +652,7 @@ fn list_and_chains(
     Ok((lone, matches!(&pattern, Pattern::Joined(_))))
 }
 
-/// Macros, how many tokens the list has where the name is replaced by it, and whether the pattern has chains.
+/// Macros, the number of tokens in the list if it replaces the name unchanged, and whether the pattern has chains.
 const LISTED: &[(&str, Option<usize>, bool)] = &[
     ("#define O (1-1)", Some(5), false),
     ("#define H # x", Some(2), true),
@@ -670,8 +673,7 @@ const LISTED: &[(&str, Option<usize>, bool)] = &[
     ("#define R(x, ...) x, ## __VA_ARGS__", None, true),
 ];
 
-// Where no `##` stands in its list, an object-like macro's name is replaced by the list. Where neither `#` nor `##` stands there, no
-// chains are made for an invocation.
+/// The list of an object-like macro without `##` replaces the name unchanged. A list without `#` and `##` needs no chains.
 #[test]
 fn makes_chains_where_tokens_are_made(rt: HostRuntime) -> Result<(), Fail> {
     for &(line, lone, joined) in LISTED {
@@ -684,7 +686,7 @@ fn makes_chains_where_tokens_are_made(rt: HostRuntime) -> Result<(), Fail> {
     Ok(())
 }
 
-/// Asserts that a token is shown as this text, and that these of the names `a`, `b` and `c` hide it.
+/// Asserts a token as text, and which of the names `a`, `b` and `c` hide it.
 pub(super) fn assert_made(
     rt: &impl Abort,
     alloc: Global,
@@ -712,7 +714,7 @@ pub(super) fn assert_made(
     Ok(())
 }
 
-/// Asserts the literal of tokens that `a` hides.
+/// Asserts the string literal of tokens that `a` hides.
 fn assert_stringized(
     rt: &impl Abort,
     alloc: Global,
@@ -729,7 +731,7 @@ fn assert_stringized(
     Ok(assert_made(rt, alloc, sets, &literal, (wanted, b""))?)
 }
 
-/// The paste of two tokens, of which `a` and `b` hide the left one, and `a` the other.
+/// Returns the paste of two tokens: `a` and `b` hide the left one, and `a` hides the other.
 fn pasted<'a>(
     rt: &impl Abort,
     alloc: Global,

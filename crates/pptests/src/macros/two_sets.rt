@@ -1,4 +1,4 @@
-// Tokens that the names of two sets hide.
+//! Tests of tokens with two hide sets.
 ghost use Rattle.ppmacro.specs.HideSets.{IsKnown, HasSets};
 
 use super::{HASH, assert_names, set_of};
@@ -8,7 +8,7 @@ use pptext::{Memory, Token};
 use std::process::Abort;
 use std::test::Fail;
 
-/// A token that the names of these two sets hide.
+/// Returns a token with these two hide sets.
 fn hidden_by_both<'a>(sets: &HideSets, token: &'a Token, one: Set, two: Set) -> Hidden<'a>
     requires one { IsKnown sets.now one }
     requires two { IsKnown sets.now two }
@@ -19,18 +19,18 @@ fn hidden_by_both<'a>(sets: &HideSets, token: &'a Token, one: Set, two: Set) -> 
     hidden
 }
 
-/// What is asked of a token that two sets hide.
+/// A set that is computed for a token with two hide sets.
 #[derive(Clone, Copy)]
 enum Asked {
-    /// The set of all names that hide it.
+    /// The names that hide the token.
     Settled,
-    /// That of these names and its own.
+    /// The names that hide the token, and its own.
     WithOwn,
-    /// That of the names which hide it and a token of the second set alone.
+    /// The names that hide both the token and one with only the second set.
     Common,
 }
 
-/// The set that is asked for of a token with the sets of `a` and of `b`. Its own name is among those of the sets where this is wanted.
+/// Returns this set for a token with the hide sets of `a` and of `b`. Asserts whether they contain its own name.
 fn asked_of(
     rt: &impl Abort,
     sets: &mut HideSets,

@@ -1,7 +1,7 @@
-// What directives do to groups, by their names, and what profiles have.
+//! Tests of directives by name, and of profiles.
 use pptext::{Directive, Profile};
 
-/// Directives, and whether each opens a section, has a condition, ends a group.
+/// Directives, and whether each opens an if-section, has a condition, ends a group.
 const ROLES: &[(Directive, bool, bool, bool)] = &[
     (Directive::If, true, false, false),
     (Directive::Ifdef, true, false, false),
@@ -26,7 +26,7 @@ fn tells_what_a_directive_does_to_groups(rt: HostRuntime) {
     }
 }
 
-/// Profiles, and whether each has what C23 added, and the rules of GNU C.
+/// Profiles, and whether each has the extensions of C23, and the rules of GNU C.
 const PROFILES: &[(Profile, bool, bool)] = &[
     (Profile::C11, false, false),
     (Profile::Later, true, false),

@@ -1,10 +1,10 @@
-// Hashes of names by drawn keys.
+//! Tests of hashing with random keys.
 use crate::defining::drawn;
 use pptext::Hashing;
 use std::hash::BuildHasher;
 use std::test::Fail;
 
-/// Whether two ways hash a text of so many bytes to one number.
+/// Whether two hash functions agree on a text of `len` bytes.
 fn agree(left: Hashing, right: Hashing, len: usize) -> bool {
     let text = &b"a name that is longer than four words"[..len.min(37)];
     left.hash_one(text) == right.hash_one(text)

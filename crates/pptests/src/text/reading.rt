@@ -1,5 +1,5 @@
-// What files are read into: lines, branches, guards, the first fault; what one token is, and what carries one on. Rows of tokens are in
-// tests/token_tests.py, by what the program prints.
+//! Tests of reading files: lines, branches, guards and the first fault; the kind of one token, and what continues a token. More
+//! tokens are in tests/token_tests.py, which compares the program's output.
 use super::{FILE, read};
 use crate::showing::{assert_shown, push_fault};
 use pptext::{Fault, Kind, Line, Profile, Source, carries_on, read_lines, relex};
@@ -7,19 +7,19 @@ use std::alloc::{AllocError, Global};
 use std::process::Abort;
 use std::test::Fail;
 
-/// What is shown of a file.
+/// The part of a file that a test compares.
 #[derive(Clone, Copy)]
 enum Shown {
-    /// Its lines, as `0-3 1 Ifndef 3, `: the tokens, the number, the directive and the next branch line.
+    /// The lines, as `0-3 1 Ifndef 3, `: the tokens, the line number, the directive and the next branch line.
     Lines,
-    /// The lines' directives and next branch lines.
+    /// The directives and the next branch lines.
     Links,
-    /// The name that guards it.
+    /// The name of the guard.
     Guard,
 }
 
-/// Puts a line behind a text, as `0-3 1 Ifdef 3, ` or, where its tokens and number aren't asked for, as `Ifdef 3, `, with a `-` for
-/// what isn't there.
+/// Appends a line to a text, as `0-3 1 Ifdef 3, ` or, without tokens and line number, as `Ifdef 3, `. A `-` means that there is
+/// none.
 fn push_line(
     alloc: Global,
     text: &mut Vec<u8>,
@@ -42,7 +42,7 @@ fn push_line(
     }
 }
 
-/// Puts lines behind a text.
+/// Appends lines to a text.
 fn push_lines(
     alloc: Global,
     text: &mut Vec<u8>,
@@ -55,7 +55,7 @@ fn push_lines(
     Ok(())
 }
 
-/// Puts what is shown of a file behind a text.
+/// Appends this part of a file to a text.
 fn push_source(
     alloc: Global,
     text: &mut Vec<u8>,
@@ -69,7 +69,7 @@ fn push_source(
     }
 }
 
-/// What is shown of a file, or its fault.
+/// Returns this part of a file as text, or its fault.
 fn shown_of(
     alloc: Global,
     answer: &Result<Source, Fault>,
@@ -83,7 +83,7 @@ fn shown_of(
     Ok(text)
 }
 
-/// That this is shown of files.
+/// Asserts this part of files.
 fn assert_files(
     rt: &impl Abort,
     alloc: Global,
@@ -227,8 +227,8 @@ fn keeps_lines_and_faults(rt: HostRuntime) -> Result<(), Fail> {
     Ok(())
 }
 
-/// Texts, and the kind and the length of the longest front of each that is one token; where the text isn't to be one, its whole length. A
-/// quote alone is none by itself (6.4p3). tests/token_tests.py has most of these texts by what the program prints.
+/// Texts, with the kind and the length of the longest prefix that is one token, or the whole length if there is none. An
+/// unmatched quote is no token (6.4p3). tests/token_tests.py has most of these texts by what the program prints.
 const LEXED: &[(&[u8], Option<Kind>, usize)] = &[
     (b"", None, 0),
     (b"x1", Some(Kind::Ident), 2),
@@ -283,7 +283,7 @@ const LEXED: &[(&[u8], Option<Kind>, usize)] = &[
     (b"\x00", Some(Kind::Other), 1),
 ];
 
-/// Whether so many bytes of a text are one token of this kind, or none, and no more of them are one.
+/// Whether the first `len` bytes of a text are one token of this kind, or none, and no longer prefix is one.
 fn is_longest(text: &[u8], kind: Option<Kind>, len: usize) -> bool {
     for longer in len..text.len() {
         if relex(&text[..=longer]).is_some() {
@@ -300,7 +300,7 @@ fn relexes_one_token(rt: HostRuntime) {
     }
 }
 
-/// Kinds and spellings of tokens, texts behind them, and whether these carry the token on.
+/// Kinds and spellings of tokens, texts after them, and whether the text continues the token.
 const CARRIED: &[(Kind, &[u8], &[u8], bool)] = &[
     (Kind::Ident, b"a", b"", true),
     (Kind::Ident, b"a", b"aZ_$09\xff", true),

@@ -1,4 +1,4 @@
-// Tokens, spellings and faults: what they are made of and give back.
+//! Tests of tokens, spellings and faults.
 use pptext::{Fault, Kind, Place, Spelling, Stop, Token, Tokens, settled};
 use std::alloc::{AllocError, Global};
 use std::test::Fail;
@@ -9,7 +9,7 @@ const AT: Place = Place {
     col: 3,
 };
 
-/// A token of this kind and spelling.
+/// Returns a token of this kind and spelling.
 fn word(alloc: Global, kind: Kind, text: &[u8]) -> Result<Token, AllocError> {
     Ok(Token {
         kind,
@@ -20,8 +20,8 @@ fn word(alloc: Global, kind: Kind, text: &[u8]) -> Result<Token, AllocError> {
     })
 }
 
-/// Tokens by kind and spelling, a spelling that is asked for, and whether it is an identifier, the name and the punctuator that are
-/// spelled so, a lone quote.
+/// Kinds and spellings of tokens, another spelling, and whether the token is an identifier, the name with that spelling, the
+/// punctuator with that spelling, an unmatched quote.
 const ASKED: &[(Kind, &str, &str, [bool; 4])] = &[
     (
         Kind::Ident,
@@ -58,7 +58,7 @@ fn tells_what_tokens_are(rt: HostRuntime) -> Result<(), Fail> {
     Ok(())
 }
 
-/// Whether a fault has this text, and stands at the place.
+/// Whether a fault has this text and the location of the tests.
 fn is_fault(fault: &Fault, text: &[u8]) -> bool {
     fault.number == 8 && fault.at == AT && fault.text.as_bytes() == text
 }
@@ -82,7 +82,7 @@ fn makes_lists_faults_and_outcomes(rt: HostRuntime) -> Result<(), Fail> {
     Ok(())
 }
 
-/// Whether a spelling of these bytes stands in the value itself, as the first of its room.
+/// Whether a spelling of these bytes is stored in the value itself, without an allocation.
 fn stands_in_place(spelling: &Spelling, bytes: &[u8]) -> bool {
     match spelling.in_place() {
         Some((room, len)) => &room[..len] == bytes,
@@ -90,8 +90,7 @@ fn stands_in_place(spelling: &Spelling, bytes: &[u8]) -> bool {
     }
 }
 
-// Each way to make a spelling of bytes gives one of them. Up to 14 stand in the value itself, and are the first of its room; more have a
-// block of their own.
+/// Each constructor of a spelling keeps its bytes. Up to 14 bytes are stored in the value itself; more are allocated.
 #[test]
 fn keeps_short_and_long_spellings(rt: HostRuntime) -> Result<(), Fail> {
     for len in [0, 1, 2, 13, 14, 15, 26] {

@@ -1,9 +1,9 @@
-// Units that are preprocessed again where they are refused memory: `given` does so over the same shelf and pass.
+//! Tests of units that are preprocessed again after an allocation failed: `given` uses the same file table and pass.
 use super::{Case, Files, assert_units};
 use std::test::Fail;
 
-/// A file that includes a guarded header twice, and the header; one token; an invocation that goes on behind the replacement
-/// of another (6.10.3.4); a file that isn't there; and headers that are looked for beside a file, in the folder `inc`, and in vain.
+/// A file that includes a guarded header twice, and the header; one token; an invocation that continues after the replacement of
+/// another (6.10.3.4); a file that doesn't exist; and headers that are found next to a file, in the directory `inc`, and nowhere.
 const READ: Files = &[
     ("a.c", "#include \"h.h\"\n#include \"h.h\"\n"),
     ("h.h", "#ifndef H\n#define H\nint a;\n#endif\n"),
@@ -21,7 +21,7 @@ const READ: Files = &[
     ("inc/x.h", "2"),
 ];
 
-/// What units of the files give, of which the second defines the guard.
+/// The results of units of the files. The second unit defines the guard.
 const GIVEN: &[Case] = &[
     (0, &[], "int a ; | 0 1 | ok"),
     (0, &["H"], "| 0 1 | ok"),

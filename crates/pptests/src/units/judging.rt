@@ -1,4 +1,5 @@
-// Which settings and units are good. More dates, times and definitions are in tests/row_tests.py, by what the program prints.
+//! Tests of valid settings and units. More dates, times and definitions are in tests/row_tests.py, which compares the program's
+//! output.
 use super::{setting_of, shelf_of, unit_of};
 use ppshelf::{MemoryDisk, Shelf};
 use pptext::Profile;
@@ -6,7 +7,7 @@ use ppunit::{is_date, is_one_line, is_time, setting_ok, unit_ok};
 use std::alloc::Global;
 use std::test::Fail;
 
-/// Whether a unit of the file in this row is good over a shelf, where it has the profile that it was made of.
+/// Whether a unit for this file is valid, and has the profile that it was made with.
 fn is_good_unit(
     alloc: Global,
     shelf: &Shelf<MemoryDisk>,
@@ -21,14 +22,14 @@ fn is_good_unit(
     Ok(unit_ok(shelf, &unit))
 }
 
-/// Dates, times, and whether a setting of them is good.
+/// Dates, times, and whether a setting of them is valid.
 const SETTINGS: &[(&str, &str, bool)] = &[
     ("Feb  9 2024", "08:05:03", true),
     ("Feb 09 2024", "08:05:03", false),
     ("Feb  9 2024", "24:00:00", false),
 ];
 
-/// Profiles, rows, definitions, and whether a unit of them is good over a shelf of two rows.
+/// Profiles, file indexes, definitions, and whether such a unit is valid with a file table of two files.
 const UNITS: &[(Profile, usize, &str, bool)] = &[
     (Profile::C11, 1, "A", true),
     (Profile::C11, 2, "A", false),

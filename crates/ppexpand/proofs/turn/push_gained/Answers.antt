@@ -2,7 +2,8 @@ use Rattle.std.proofs.Common.{rules, ◌≡◌, ◌∙◌, ◌++◌, ◌∷◌, 
 use Rattle.std.proofs.lemmas.List.{map-append}
 use Rattle.pptext.specs.declared.tokens.Token.{Token}
 use Rattle.ppmacro.specs.Numbered.{Numbered}
-use Rattle.ppmacro.specs.HideSets.{set_at, Hiding, hidings, AllKnown}
+use Rattle.ppmacro.specs.Hiding.{Hiding}
+use Rattle.ppmacro.specs.HideSets.{set_at, hidings, AllKnown}
 use Rattle.ppmacro.specs.Substitution.{plain, gained}
 use Rattle.ppexpand.proofs.turn.push_gained.Goals as goal
 

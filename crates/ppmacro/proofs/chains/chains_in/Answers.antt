@@ -9,7 +9,7 @@ use Rattle.ppmacro.proofs.ChainLemmas.{resumed-end}
 use Rattle.ppmacro.proofs.WalkLemmas.{drop-item}
 use Rattle.ppmacro.proofs.chains.chains_in.Goals as goal
 
--- what a part means
+-- The meaning of a part.
 abbrev meant : code.Item → Item
 meant = elim [ variant.Operates mark operand ↦ Operates mark operand | variant.Joins ↦ Joins ]
 

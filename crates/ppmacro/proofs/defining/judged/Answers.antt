@@ -10,7 +10,7 @@ use Rattle.ppmacro.specs.Define.{Named, faulted, fitting, is_reserved, judged, r
 use Rattle.ppmacro.proofs.JoinLemmas.{split-first}
 use Rattle.ppmacro.proofs.defining.judged.Goals as goal
 
--- behind a name that isn't reserved
+-- After a name that isn't reserved.
 allowed : (p : Profile) (m : Macros) (at : Place) (t : Token) (ts : List Token)
     → is_identifier t ≡ true
     → is_reserved p m t.text ≡ false

@@ -10,7 +10,7 @@ use Rattle.ppmacro.proofs.substituting.push_chain.Goals as goal
 abbrev marked : Bool → Hidden → Hidden
 marked mark h = record h { token = record h.token { space = mark } }
 
--- a list with others behind it, the first of them with this mark
+-- A list with others after it, the first of them with this flag.
 tokens-behind : (s : Numbered) (front : List Hidden) (mark : Bool) (first : Hidden) (others : List Hidden)
     → hidings s ((front ++ marked mark first ∷ []) ++ others) ≡ hidings s front ++ (mark_first mark (hidings s (first ∷ others))).tokens
 tokens-behind s front mark first others =

@@ -70,7 +70,7 @@ returns-in_ok-even-clause-bounded t c = λ limit l b.
     (bounded-insert limit (c.args.index * 64 + c.args.bit) old new c.args.set c.in_ok-even.even l b c.requires.known
     (member-inserted old new c.args.set c.in_ok-even.even c.args.index c.args.bit c.requires.bit (returns-in_ok-even-clause-set t c)))
 
--- what is left as it is, and what is refused
+-- What is unchanged, and failures.
 
 pub number_for-requires-then-rest-eq0-clause-within : goal.number_for-requires-then-rest-eq0-clause-within
 number_for-requires-then-rest-eq0-clause-within t c =

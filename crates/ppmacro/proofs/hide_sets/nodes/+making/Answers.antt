@@ -40,7 +40,7 @@ make_node-returns-clause-bounded t c = λ limit b.
     (bounded-join c.args.operation limit start new c.args.one c.args.two c.in_ok-both.both b c.requires.one c.requires.two
     (member-joined c.args.operation start new c.args.one c.args.two c.in_ok-both.both (make_node-returns-clause-set t c)))
 
--- what is left as it is, and what is refused
+-- What is unchanged, and failures.
 
 pub make_node-number_beside-requires-clause-one : goal.make_node-number_beside-requires-clause-one
 make_node-number_beside-requires-clause-one t c =

@@ -1,7 +1,8 @@
 use Rattle.std.proofs.Common.{◌≡◌, ◌∙◌, ◌+◌, refl, sym, ap, subst, List, [], ◌∷◌, ◌++◌, map, drop, Vec, Global, Result, Ok, Err, append_assoc}
 use Rattle.pptext.specs.declared.tokens.Fault.{Fault}
 use Rattle.ppmacro.specs.Numbered.{Numbered}
-use Rattle.ppmacro.specs.HideSets.{Hiding, hidings, AllKnown}
+use Rattle.ppmacro.specs.Hiding.{Hiding}
+use Rattle.ppmacro.specs.HideSets.{hidings, AllKnown}
 use Rattle.ppmacro.specs.Substitution.{after_ok, operand_tokens, operands_tokens}
 use Rattle.ppmacro.specs.Substituting.{lists_of, arguments_in, ListsKnown}
 use Rattle.ppmacro.specs.declared.flying.Hidden.{Hidden}
