@@ -55,7 +55,7 @@ module _ (macros : Macros) (env : Env) (level : ℕ) (head : Token) (left after 
   pub argument_raises : (f : Fault) → level < 256 → o ≡ Some f → ExpandsTo macros env (level + 1) left list (record { tokens = tokens; fault = o; left = after }) → ExpandsArgument macros env level head left list after (Err f)
   argument_raises f low e one = raises low (at_level (Some f) e one)
 
--- what the list of an argument, which was copied, came to is what the argument is expanded to
+-- the expansion of the copied list of an argument is the expansion of the argument
 module _ (macros : Macros) (env : Env) (level : ℕ) (head : Token) (left after : Option ℕ) (s t : Numbered) (given copied passed : List Hidden) (fault : Option Fault) where
   -- what is known of the tokens that were made of what passed
   abbrev IsMade : Expansion → Type 0
@@ -92,7 +92,7 @@ argument-in s (v ∷ vs) (suc i) = argument-in s vs i
 pub argument-known : (s : Numbered) (vs : List (Vec Hidden Global)) (i : ℕ) → ListsKnown s vs → AllKnown s (argument_at (lists_of vs) i)
 argument-known s vs i known = (arguments_known vs [] known (record { each = tt })).given_known i
 
--- what is to be expanded of the parameter i, where that is used alone or isn't
+-- what is to be expanded of the parameter i, whether it is pre-expanded or not
 abbrev expands_here : Bool → ℕ → List (List Hiding) → Option (List Hiding)
 expands_here alone i given = if alone then Some (argument_at given i) else None
 
@@ -115,7 +115,7 @@ rest-end cs [] given i (suc j) h = refl
 rest-end cs (n ∷ names) given i zero h = absurd (omega arith)
 rest-end cs (n ∷ names) given i (suc j) h = rest-end cs names given i j (omega arith)
 
--- the argument of the next parameter, which is put behind what the others are expanded to, and what is left then
+-- the argument of the next parameter, which is appended to the expansions of the others, and the rest of the budget after it
 module _ (macros : Macros) (env : Env) (level : ℕ) (first left between : Option ℕ) (s u w : Numbered) (vs : List (Vec Hidden Global)) (cs : List Chain) (names : List Name) (i : ℕ)
     (done items : List Expansion) (call : Call) (all : List (Option (List Hiding))) where
   abbrev Here : Type 0
@@ -173,7 +173,7 @@ pub follows_all : (macros : Macros) (env : Env) (level : ℕ) (first left : Opti
 follows_all macros env level first left s u vs cs names i done call all end here = arguments_end macros env level call first all (expanded_in u vs done) left
     (subst (ArgumentsFollow macros env level call first all (expanded_in u vs done) left) (rest-end cs names (given_in s vs) i i end) here)
 
--- what is marked of a parameter is whether it is used alone
+-- the entry of a parameter says whether it is pre-expanded
 pub marked-alone : (used shown : List Bool) (count i : ℕ) (cs ds : List Chain) (mark : Bool)
     → shown ≡ used
     → cs ≡ ds
@@ -183,7 +183,7 @@ pub marked-alone : (used shown : List Bool) (count i : ℕ) (cs ds : List Chain)
     → uses_alone i ds ≡ mark
 marked-alone used shown count i cs ds mark same chains marks less is = ap (uses_alone i) (sym chains) ∙ sym (marks i less) ∙ ap (λ xs. get_or xs i false) (sym same) ∙ is
 
--- a parameter stands among the chains of entries where it is one of them
+-- a parameter is among the chains of entries if it is one of them
 pub used-by-entries : (i : ℕ) (es : List Entry) → uses_alone i (map entry_chain es) ≡ list_any (λ e. is_alone i (entry_chain e).operands) es
 used-by-entries i [] = refl
 used-by-entries i (e ∷ es) = ap (λ b. is_alone i (entry_chain e).operands || b) (used-by-entries i es)

@@ -1,4 +1,4 @@
--- From a list only so many turns can be made.
+-- The number of expansion steps from a list has a bound.
 use Rattle.std.proofs.Common.{ℕ, suc, ◌≤◌, subst, arith}
 use Rattle.ppmacro.specs.Names.{Macros}
 use Rattle.ppmacro.specs.Hiding.{Hiding}
@@ -10,7 +10,7 @@ use Rattle.ppexpand.proofs.Total.{HasOutcome, total}
 use Rattle.ppexpand.proofs.Unique.{same_outcome}
 
 module _ (macros : Macros) (env : Env) (level : ℕ) where
-  -- an outcome that takes so many turns at least
+  -- an outcome that takes at least this number of steps
   Takes : ℕ → Option ℕ → List Hiding → Type 0
   Takes n left list = (m : ℕ) × (out : Outcome) × (n ≤ m) × Expands macros env level left m list out
 

@@ -1,4 +1,4 @@
--- Expansion within a budget beside expansion within a larger one or without one.
+-- Expansion within a budget compared with expansion within a larger one or without one.
 use Rattle.std.proofs.Common.{◌≡◌, ℕ, zero, suc, ◌+◌, ◌-◌, ◌<◌, ◌≤◌, List, [], ◌∷◌, Option, Some, None, Ok, Err, refl, sym, ap, ◌∙◌, subst, arith, append-nil, map}
 use Rattle.std.proofs.lemmas.List.{map-append}
 use Rattle.pptext.specs.declared.tokens.Token.{Token}
@@ -15,14 +15,14 @@ use Rattle.ppexpand.specs.Laws.{plus, IsBeginning, IsOver, IsCapped}
 use Rattle.ppexpand.proofs.Unique.{same_outcome}
 use native.Mathlib.Decide.{dec_lt}
 
--- a turn that is a replacement
+-- a step that is a replacement
 abbrev pub Costs : Turn → Type 0
 Costs (Failed f) = Unit {0}
 Costs (Replaced next) = Unit {0}
 Costs (Called call) = Unit {0}
 Costs _ = ⊥
 
--- a turn that costs nothing
+-- a step that costs nothing
 abbrev pub IsFree : Turn → Type 0
 IsFree Done = Unit {0}
 IsFree (Refused f) = Unit {0}
@@ -49,7 +49,7 @@ nothing_is_free list (Failed f) = over_is_free list
 nothing_is_free list (Replaced next) = over_is_free list
 nothing_is_free list (Called call) = over_is_free list
 
--- a free turn is the same with any budget
+-- a step that costs nothing is the same with any budget
 pub free_within : (left : Option ℕ) (list : List Hiding) (t : Turn) → IsFree t → within left list t ≡ t
 free_within None list t h = refl
 free_within (Some (suc n)) list t h = refl
@@ -68,7 +68,7 @@ over_within list (Failed f) h = refl
 over_within list (Replaced next) h = refl
 over_within list (Called call) h = refl
 
--- so much was spent
+-- this much was spent
 pub plus-plus : (m n : ℕ) (left : Option ℕ) → plus m (plus n left) ≡ plus (m + n) left
 plus-plus m n None = refl
 plus-plus m n (Some k) = ap Some (omega arith)
@@ -83,7 +83,7 @@ plus-none n (Some k) e = absurd (cc)
 
 -- ---- two budgets
 
--- there is no budget, or it is at least so large
+-- there is no budget, or it is at least this large
 pub data Covers : Option ℕ → ℕ → Type 0 where
   without : {b : ℕ} → Covers None b
   larger : {b c : ℕ} → b ≤ c → Covers (Some c) b
@@ -100,9 +100,9 @@ covers_rest (Some k) n m without e sum = absurd (cc)
 covers_rest None n m (larger {c = c} h) e sum = absurd (cc)
 covers_rest (Some k) n m (larger {c = c} h) e sum = let all : c ≡ n + k = cc in larger (omega arith)
 
--- ---- turns
+-- ---- expansion steps
 
--- a turn that costs nothing is the same with a smaller budget
+-- a step that costs nothing is the same with a smaller budget
 pub free_less : {left : Option ℕ} (b : ℕ) (list : List Hiding) (u t : Turn) → Covers left b → within left list u ≡ t → IsFree t → within (Some b) list u ≡ t
 free_less b list u t without e h = free_within (Some b) list u (subst IsFree (sym e) h) ∙ e
 free_less zero list u t (larger {c = zero} low) e h = e
@@ -309,7 +309,7 @@ module _ (macros : Macros) (env : Env) where
         ]
     short_arguments b is (used_refused {after = after} {tokens = tokens} {f = f} low one) h = stops_used (record { tokens = tokens; fault = Some f; left = after }) low (short b is one h)
 
-  -- an expansion within a budget, beside the one without
+  -- an expansion within a budget, compared with the one without
   pub capped : {level turns : ℕ} {list : List Hiding} {whole : Outcome} (d : Expands macros env level None turns list whole) (b n : ℕ) (out : Outcome)
       → Expands macros env level (Some b) n list out
       → IsCapped b (count macros env d) whole out

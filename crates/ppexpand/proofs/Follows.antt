@@ -1,4 +1,4 @@
--- How a loop over the turns of a list goes on, and how many turns are left.
+-- How a loop over the expansion steps of a list goes on, and how many steps remain.
 use Rattle.std.proofs.Common.{◌≡◌, ◌∙◌, ℕ, suc, ◌<◌, Bool, true, false, not, true≢false, List, [], ◌∷◌, ◌++◌, Option, Some, None, is_some, Ok, Err, refl, sym, ap, subst, arith, append_assoc, append-nil}
 use Rattle.pptext.specs.declared.tokens.Fault.{Fault}
 use Rattle.ppmacro.specs.Names.{Macros}
@@ -15,11 +15,11 @@ use Rattle.ppexpand.proofs.Total.{total}
 use Rattle.ppexpand.proofs.Unique.{same_outcome}
 
 module _ (macros : Macros) (env : Env) (level : ℕ) where
-  -- how many turns a list takes
+  -- how many expansion steps a list takes
   abbrev pub turns_left : Option ℕ → List Hiding → ℕ
   turns_left left list = (total macros env level left list).0
 
-  -- what is left of the list and of the budget decides the outcome of the whole: these tokens passed before it
+  -- the rest of the list and of the budget decides the outcome of the whole: these tokens were emitted before it
   abbrev pub Follows : Option ℕ → List Hiding → List Hiding → Option ℕ → List Hiding → Type 0
   Follows first start tokens left list = (n : ℕ) (out : Outcome) → Expands macros env level left n list out → ExpandsTo macros env level first start (record { tokens = tokens ++ out.tokens; fault = out.fault; left = out.left })
 
@@ -50,7 +50,7 @@ module _ (macros : Macros) (env : Env) (level : ℕ) where
       let whole = so_far 0 _ d in
       (whole.0, rw (append-nil passed) at whole.1)
 
-  -- a turn was taken, with which the list goes on or ends
+  -- a step was made, after which the list goes on or ends
   pub more_follows : (first : Option ℕ) (start passed : List Hiding) (left : Option ℕ) (list : List Hiding) (after : Option ℕ) (next more : List Hiding)
       → Follows first start passed left list
       → HasAdvanced macros env level left list passed after next more
@@ -71,7 +71,7 @@ module _ (macros : Macros) (env : Env) (level : ℕ) where
       subst (λ ts. ExpandsTo macros env level first start (record { tokens = ts; fault = fault; left = after })) (sym end.1)
       (follows_end first start passed left list fault after so_far end.0)
 
--- ---- the turn of a call
+-- ---- the step of an invocation
 
 module _ (macros : Macros) (env : Env) (level : ℕ) (left : Option ℕ) (list : List Hiding) (call : Call) (found : turn_within macros env left list ≡ Called call) where
   call_ends : {after : Option ℕ} {t : Turn} → ComesTo macros env level call (less_one left) after t → (f : Fault) → t ≡ Failed f → EndsWith macros env level left list (Some f) after
@@ -83,7 +83,7 @@ module _ (macros : Macros) (env : Env) (level : ℕ) (left : Option ℕ) (list :
   call_goes_on (refuses args) next e = absurd (cc e)
   call_goes_on (finishes args) next e = record { turn = λ n out d. call_replaced found args e d }
 
-  -- what it comes to is what the turn comes to
+  -- the result of the call is the step of the list
   pub call_taken : (s : Numbered) (hs : List Hidden) (passed more : List Hiding) (raised : Option Fault) (after : Option ℕ) (goes : Bool) → is_some raised ≡ not goes → more ≡ passed
       → ComesTo macros env level call (less_one left) after (finished_in s hs raised)
       → HasTaken macros env level left list passed goes raised after (hidings s hs) more

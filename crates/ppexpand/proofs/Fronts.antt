@@ -1,4 +1,4 @@
--- A turn that leads from a list to the next is a step on their hide sets, and what a replacement puts into a front hides one name more.
+-- An expansion step from a list to the next is a step on their hide sets, and what a replacement puts into a prefix hides one name more.
 use Rattle.std.proofs.Common.{◌≡◌, ℕ, List, ◌∷◌, Option, sym, subst}
 use Rattle.std.specs.FinSet as set
 use Rattle.ppmacro.specs.Names.{Name, HideSet, Macros}

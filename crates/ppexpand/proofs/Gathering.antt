@@ -8,7 +8,7 @@ use Rattle.ppmacro.specs.declared.flying.Hidden.{Hidden}
 use Rattle.ppexpand.specs.Arguments.{Gathered, Closed, Quoted, Unclosed, with_token, with_argument, separates}
 use Rattle.ppexpand.specs.Shown.{given_in}
 
--- these arguments and the front of the next one, before what is gathered of the rest
+-- these arguments and the first tokens of the next one, before what is collected of the rest
 abbrev pub resumed : List (List Hiding) → List Hiding → Gathered → Gathered
 resumed done [] (Closed [] close behind) = Closed done close behind
 resumed done (x ∷ xs) (Closed [] close behind) = Closed (done ++ (x ∷ xs) ∷ []) close behind
@@ -44,7 +44,7 @@ resumed-argument done (x ∷ xs) (Quoted q) = refl
 resumed-argument done [] Unclosed = refl
 resumed-argument done (x ∷ xs) Unclosed = refl
 
--- what separates arguments stands outside inner parentheses
+-- a comma that separates arguments is outside inner parentheses
 pub outermost : (depth : ℕ) (commas : Option ℕ) → separates depth commas ≡ true → depth ≡ 0
 outermost zero commas e = refl
 outermost (suc depth) commas e = absurd (cc)

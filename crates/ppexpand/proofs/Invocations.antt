@@ -82,7 +82,7 @@ closed-argument (Closed as' close behind) h = tt
 closed-argument (Quoted q) h = h
 closed-argument Unclosed h = h
 
--- the `)` that matches the innermost `(`, and the search behind it
+-- the `)` that matches the innermost `(`, and the search after it
 record Matched (d : ℕ) (c : Option ℕ) (list : List Hiding) : Type 0 where
   inside : List Hiding
   mate : Hiding
@@ -95,7 +95,7 @@ record Matched (d : ℕ) (c : Option ℕ) (list : List Hiding) : Type 0 where
 pub shorter : (list inside : List Hiding) (t : Hiding) (rest : List Hiding) → list ≡ inside ++ t ∷ rest → length rest < length list
 shorter list inside t rest e = rw e (omega (arith, length-append inside (t ∷ rest)))
 
--- two parts, one behind the other
+-- two parts, one after the other
 in_parts : (list a rest b behind : List Hiding) (m n : Hiding) → list ≡ a ++ m ∷ rest → rest ≡ b ++ n ∷ behind → list ≡ (a ++ m ∷ b) ++ n ∷ behind
 in_parts list a rest b behind m n first second =
     let within : a ++ m ∷ rest ≡ a ++ m ∷ (b ++ n ∷ behind) = ap (λ xs. a ++ m ∷ xs) second in

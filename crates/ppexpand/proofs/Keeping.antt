@@ -1,4 +1,4 @@
--- Arguments and invocations stand for the same while hide sets are added.
+-- The values of arguments and invocations stay the same while hide sets are added.
 use Rattle.std.proofs.Common.{◌≡◌, ℕ, zero, suc, List, [], ◌∷◌, ◌++◌, length, unwrap_or, Some, Vec, Global, refl, ap}
 use Rattle.std.specs.Option.{option_map}
 use Rattle.std.specs.FinSet as set
@@ -74,11 +74,11 @@ arguments_known vs es h k = record { given_known = (all-known vs [] vs [] refl r
 pub no_arguments_known : (s : Numbered) → ArgumentsKnown s [] []
 no_arguments_known s = arguments_known [] [] (record { each = tt }) (record { each = tt })
 
--- an invocation of the code, with what stands behind its `)`
+-- an invocation of the code, with the tokens after its `)`
 abbrev pub call_of : Numbered → Invocation → List Hidden → Call
 call_of sets c behind = call_in sets c.head c.replaced.now c.arguments.items c.both behind
 
--- its sets are there
+-- its hide sets exist
 abbrev IsCallKnown : Numbered → Invocation → Type 0
 IsCallKnown sets c = CallKnown sets c.head c.arguments.items c.both
 

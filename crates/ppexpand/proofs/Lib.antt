@@ -1,40 +1,40 @@
--- The lemmas of this crate, by file; the proofs of its functions stand in a folder for each file of the sources.
+-- The lemmas of this crate, by file. The proofs of its functions are in one directory for each source file.
 
--- That replacement by hide sets ends, as a fact about the lists of hide sets alone: fronts end.
+-- Replacement with hide sets terminates, as a fact about lists of hide sets alone: prefixes terminate.
 pub mod Termination
--- A turn that goes on is a step on the hide sets of the list.
+-- An expansion step that goes on is a step on the hide sets of the list.
 pub mod Steps
--- A turn that leads on is a step on hide sets, and what it puts into a front hides one name more.
+-- An expansion step is a step on hide sets, and what it puts into a prefix hides one name more.
 pub mod Fronts
--- Each list has an outcome: expansion ends.
+-- Each list has an outcome: expansion terminates.
 pub mod Total
--- A list has one outcome at most, after one number of turns.
+-- A list has at most one outcome, after one number of steps.
 pub mod Unique
--- Expansion within a budget beside expansion within a larger one or without one.
+-- Expansion within a budget compared with expansion within a larger one or without one.
 pub mod Budget
 -- Without a budget no expansion ends in fault 35: the numbers of the other faults are smaller.
 pub mod Refusing
--- From a list only so many turns can be made.
+-- The number of expansion steps from a list has a bound.
 pub mod Bounds
--- How a loop over the turns of a list goes on, and how many turns are left.
+-- How a loop over the expansion steps of a list goes on, and how many steps remain.
 pub mod Follows
--- A token that passes is settled.
+-- A token that is emitted is fully expanded.
 pub mod Settled
--- The arguments of an invocation are found exactly where they are laid out.
+-- The arguments of an invocation are found if and only if the list has the syntax of an invocation.
 pub mod Invocations
--- Where no arguments are found: a lone quote stands first, or no `)` matches.
+-- No arguments are found: an unmatched quote is first, or no `)` matches.
 pub mod Unended
 -- How the search for the matching `)` goes on.
 pub mod Gathering
--- Arguments and invocations stand for the same while hide sets are added.
+-- The values of arguments and invocations stay the same while hide sets are added.
 pub mod Keeping
--- The turn of a list by its next token.
+-- The expansion step of a list by its next token.
 pub mod TurnLemmas
 -- Expansion without a budget is the standard's.
 pub mod Standard
 -- How the arguments of an invocation are expanded one after the other.
 pub mod ArgumentLemmas
--- Marks in lists of tokens in flight.
+-- Leading-space flags in lists of tokens with hide sets.
 pub mod Marks
--- Tokens that pass in a row.
+-- Consecutive tokens that are emitted unchanged.
 pub mod Skipping

@@ -1,4 +1,4 @@
--- Marks in lists of tokens in flight.
+-- Leading-space flags in lists of tokens with hide sets.
 use Rattle.std.proofs.Common.{◌≡◌, ℕ, suc, ◌<◌, ◌≤◌, List, [], ◌∷◌, ◌++◌, length, reverse, take, Bool, true, false, refl, sym, ap, ◌∙◌}
 use Rattle.std.proofs.Math.ListN.{set, get_or, drop_of_length-le}
 use Rattle.std.proofs.Math.Seq.{split_at}
@@ -18,11 +18,11 @@ top xs i x h k = ap reverse (set_split xs i x h) ∙ ap (λ ys. reverse (take i 
 whole : (xs : List Hidden) (i : ℕ) (d : Hidden) → i < length xs → length xs ≤ suc i → reverse xs ≡ get_or xs i d ∷ reverse (take i xs)
 whole xs i d h k = ap reverse (split_at xs i d h) ∙ ap (λ ys. reverse (take i xs ++ get_or xs i d ∷ ys)) (drop_of_length-le xs k) ∙ reverse-append (take i xs) (get_or xs i d ∷ [])
 
--- the mark of the last goes to the first of the reversed list
+-- the flag of the last token goes to the first of the reversed list
 pub marked-top : (xs : List Hidden) (i : ℕ) (x d : Hidden) (rest : List Hidden) → i < length xs → length xs ≤ suc i → x ≡ with_mark (get_or xs i d) → reverse (set xs i x) ++ rest ≡ marked true (reverse xs ++ rest)
 marked-top xs i x d rest h k e = ap (λ ys. ys ++ rest) (top xs i x h k) ∙ ap (λ y. y ∷ (reverse (take i xs) ++ rest)) e ∙ ap (λ ys. marked true (ys ++ rest)) (sym (whole xs i d h k))
 
--- to mark is the same with hide sets
+-- the flag is set in the same way in a list with hide sets
 pub hidings-marked : (sets : Numbered) (b : Bool) (hs : List Hidden) → hidings sets (marked b hs) ≡ mark_next b (hidings sets hs)
 hidings-marked sets true (h ∷ hs) = refl
 hidings-marked sets true [] = refl

@@ -88,7 +88,7 @@ below_chains args used pending first (c ∷ cs) =
 below_substituted : (d : Definition) (args : Arguments) (gain : HideSet) (used : Place) (space : Bool) → IsBelow (substituted d args gain used space)
 below_substituted d args gain used space = below_after (chains_tokens args used space true (chains_of d)) _ (below_chains args used space true (chains_of d)) (λ m. tt)
 
--- ---- turns: 7, 17, 18 and those
+-- ---- expansion steps: 7, 17, 18 and those
 
 abbrev IsTurnBelow : Turn → Type 0
 IsTurnBelow (Refused f) = f.number < 35

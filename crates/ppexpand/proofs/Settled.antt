@@ -1,4 +1,4 @@
--- A token that passes is settled.
+-- A token that is emitted is fully expanded.
 use Rattle.std.proofs.Common.{◌≡◌, ℕ, zero, suc, true, false, not, List, [], ◌∷◌, Option, Some, None, Result, Ok, Err, if◌then◌else◌, refl, ap, ◌∙◌, subst}
 use Rattle.std.proofs.lemmas.Bool.{or_right}
 use Rattle.std.proofs.lemmas.List.Elements.{All-cons, All-nil}
@@ -22,7 +22,7 @@ use Rattle.ppexpand.specs.Expansion.{Outcome, Expands, done, refused, passes, fa
 use Rattle.ppexpand.specs.Laws.{is_settled, is_always_replaced}
 
 module _ (macros : Macros) (env : Env) where
-  -- the token that passes, if one does, is settled
+  -- the token that is emitted, if any, is fully expanded
   abbrev Settles : Turn → Type 0
   Settles (Passes t rest) = is_settled macros t ≡ true
   Settles _ = Unit {0}

@@ -1,4 +1,4 @@
--- Tokens that pass in a row.
+-- Consecutive tokens that are emitted unchanged.
 use Rattle.std.proofs.Common.{◌≡◌, ℕ, zero, suc, ◌≤◌, Bool, true, false, not, ◌&&◌, List, [], ◌∷◌, ◌++◌, map, Option, Some, None}
 use Rattle.std.proofs.Common.{is_some, refl, sym, ap, ◌∙◌, subst, arith, append_assoc, append-nil, true≢false}
 use Rattle.std.specs.FinSet as set
@@ -45,7 +45,7 @@ turn-plain macros env left t rest h =
     let none : macro_of macros t.token ≡ None = none_by (macro_of macros t.token) parts.1 in
     ap (within left (t ∷ rest)) (turn-unnamed macros env t rest parts.0 none) ∙ passes-within left (t ∷ rest) t rest
 
--- a list has this outcome in no fewer turns
+-- a list has this outcome in no fewer steps
 pub record Takes (macros : Macros) (env : Env) (level : ℕ) (left : Option ℕ) (n : ℕ) (list : List Hiding) (out : Outcome) : Type 0 where
   pub turns : ℕ
   pub more : n ≤ turns
@@ -85,7 +85,7 @@ module _ (macros : Macros) (env : Env) (level : ℕ) (left : Option ℕ) (s : Nu
   skipped_after list passed next more k n out d =
       subst (λ l. Takes macros env level left n (hidings s l) (record { tokens = hidings s k.skipped ++ out.tokens; fault = out.fault; left = out.left })) (sym k.laid_out) (skips k.skipped next k.plain n out d)
 
-  -- what follows is what is left behind them
+  -- the tokens after them are the rest of the list
   pub follows_skip : (first : Option ℕ) (start : List Hiding) (list passed next more : List Hidden) → HasSkipped macros list passed next more
       → Follows macros env level first start (hidings s passed) left (hidings s list)
       → Follows macros env level first start (hidings s more) left (hidings s next)
@@ -96,7 +96,7 @@ module _ (macros : Macros) (env : Env) (level : ℕ) (left : Option ℕ) (s : Nu
       sym (append_assoc (hidings s passed) (hidings s k.skipped) out.tokens) ∙ ap (λ hs. hs ++ out.tokens) (sym (ap (hidings s) k.passes ∙ map-append (hiding s) passed k.skipped)) in
       (whole.0, subst (λ ts. Expands macros env level first whole.0 start (record { tokens = ts; fault = out.fault; left = out.left })) tokens whole.1)
 
-  -- no more turns are left behind them
+  -- no more steps remain after them
   pub skip_falls : (list passed next more : List Hidden) → HasSkipped macros list passed next more → turns_left macros env level left (hidings s next) ≤ turns_left macros env level left (hidings s list)
   skip_falls list passed next more k =
       let here = total macros env level left (hidings s list) in
@@ -125,7 +125,7 @@ pub tokens-with_set : (n : ℕ) (ts : List Token) → tokens_of (map (with_set n
 tokens-with_set n [] = refl
 tokens-with_set n (t ∷ ts) = ap (λ us. t ∷ us) (tokens-with_set n ts)
 
--- tokens that pass, before a list
+-- tokens that are emitted unchanged, before a list
 pub expands-front : (macros : Macros) (env : Env) (level : ℕ) (left : Option ℕ) (front : List Token) (rest : List Hiding) (out : Outcome)
     → AllByRecursion (λ t. is_plain macros t ≡ true) front
     → ExpandsTo macros env level left rest out
@@ -146,7 +146,7 @@ pub tokens-plain : (ts : List Token) → map (λ t. t.token) (map plain ts) ≡ 
 tokens-plain [] = refl
 tokens-plain (t ∷ ts) = ap (λ us. t ∷ us) (tokens-plain ts)
 
--- tokens that pass before what the rest is expanded to
+-- tokens that are emitted unchanged, before the expansion of the rest
 pub expansion-behind : (macros : Macros) (env : Env) (left : Option ℕ) (tokens front rest : List Token) (e : Expanded) (out : Outcome)
     → tokens ≡ front ++ rest
     → AllByRecursion (λ t. is_plain macros t ≡ true) front
@@ -165,7 +165,7 @@ expansion-behind macros env left tokens front rest e out laid_out h d is ends le
       left_over = leaves;
     }
 
--- tokens that all pass are expanded to themselves
+-- tokens that are all emitted unchanged expand to themselves
 pub plain-expands : (macros : Macros) (env : Env) (level : ℕ) (left : Option ℕ) (s : Numbered) (hs : List Hidden)
     → ArePlain macros hs
     → ExpandsTo macros env level left (hidings s hs) (record { tokens = hidings s hs; fault = None; left = left })

@@ -33,7 +33,7 @@ unfolding finished
 finished-is call expanded = refl
 
 module _ (macros : Macros) (env : Env) where
-  -- what the head of a list calls for, by the standard's rules
+  -- the expansion step of a list, by the standard's rules
   data Means : List Hiding → Turn → Type 0 where
     nothing_left : Means [] Done
     lone_quote : {t : Hiding} {rest : List Hiding} → is_lone_quote t.token ≡ true → Means (t ∷ rest) (Refused (quote_fault t))
@@ -62,7 +62,7 @@ module _ (macros : Macros) (env : Env) where
         → Means (t ∷ paren ∷ inside) (Failed (fault_at_use 18 t))
     begins : {list : List Hiding} {call : Call} → Invokes macros list call → Means list (Called call)
 
-  -- ---- the turn of a list is by one of the rules
+  -- ---- the step of a list is by one of the rules
 
   by_number : (t paren close : Hiding) (inside behind : List Hiding) (d : Definition) (names : List Name) (variadic : Variadic) (arguments : List (List Hiding))
       → Opens macros t paren d names variadic
@@ -115,7 +115,7 @@ module _ (macros : Macros) (env : Env) where
   means [] = subst (Means []) (sym (turn-nothing macros env)) Means.nothing_left
   means (t ∷ rest) = by_quote t rest (is_lone_quote t.token) refl
 
-  -- ---- and each rule is the turn of its lists
+  -- ---- and each rule is the step of its lists
 
   calls_turn : {t : Hiding} {d : Definition} (rest : List Hiding) → NamesMacro macros t d → (s : Shape) → d.shape ≡ s → turn macros env (t ∷ rest) ≡ macro_turn env t rest d s
   calls_turn {t = t} {d = d} rest c s e = turn-named macros env t rest c.no_quote c.not_hidden ∙ ap (named_turn env t rest) c.named ∙ ap (macro_turn env t rest d) e
@@ -156,7 +156,7 @@ module _ (macros : Macros) (env : Env) where
       ap (turn macros env) b.laid_out ∙ invokes_turn b.inside b.opens (Closed b.arguments b.close call.behind) b.closed
       ∙ called-is call b.close (fitted b.names b.variadic b.arguments) b.fits b.gains
 
-  -- ---- from a turn to a rule
+  -- ---- from a step to a rule
 
   at_done : {level : ℕ} {list : List Hiding} → Means list Done → StandardExpands macros env level list [] None
   at_done Means.nothing_left = StandardExpands.nothing_left

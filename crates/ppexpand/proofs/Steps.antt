@@ -1,4 +1,4 @@
--- A turn that goes on is a step on the hide sets of the list.
+-- An expansion step that goes on is a step on the hide sets of the list.
 use Rattle.std.proofs.Common.{◌≡◌, ℕ, zero, suc, Bool, true, false, ◌||◌, ◌&&◌, List, [], ◌∷◌, ◌++◌, map, Option, Some, None}
 use Rattle.std.proofs.Common.{Result, Ok, Err, if◌then◌else◌, refl, sym, ap, ◌∙◌, subst, is_some}
 use Rattle.std.specs.FinSet as set
@@ -54,7 +54,7 @@ gained_after (Err f) gain used m e = absurd (cc)
 pub substituted_gain : (d : Definition) (args : Arguments) (gain : HideSet) (used : Place) (space : Bool) (m : Marked) → substituted d args gain used space ≡ Ok m → AllByRecursion (HasGain gain) m.tokens
 substituted_gain d args gain used space m e = gained_after (chains_tokens args used space true (chains_of d)) gain used m e
 
--- a name with a macro is a name of the table's
+-- a name with a macro is a key of the table
 pub among_names : (macros : Macros) (k : Name) (d : Definition) → table.get macros k ≡ Some d → table.contains_key macros k ≡ true
 among_names macros k d e = ap is_some e
 
@@ -65,7 +65,7 @@ among_meaning macros t d = elim (is_identifier t) as (λ b. (if b then table.get
   | false ↦ λ e. absurd (cc)
 ]
 
--- what was gathered stands in front of the matching `)`
+-- the collected tokens are before the matching `)`
 abbrev pub Stands : List Hiding → Gathered → Type 0
 Stands list (Closed as' close behind) = (inside : List Hiding) × (list ≡ inside ++ close ∷ behind)
 Stands list (Quoted q) = Unit {0}
@@ -109,7 +109,7 @@ module _ (macros : Macros) (env : Env) where
   abbrev pub HideStep : List HideSet → List HideSet → Type 0
   HideStep = Step macros
 
-  -- where a call was found in a list
+  -- where an invocation was found in a list
   pub record Found (list : List Hiding) (call : Call) : Type 0 where
     pub inside : List Hiding
     pub close : Hiding
@@ -117,7 +117,7 @@ module _ (macros : Macros) (env : Env) where
     pub outside : IsOutside macros call.head.token.text call.head.hide
     pub gains : call.gain ≡ gain_of call.head.hide close.hide call.head.token.text
 
-  -- what a turn says of the list
+  -- what an expansion step says of the list
   abbrev pub StepsTo : List Hiding → Turn → Type 0
   StepsTo list Done = Unit {0}
   StepsTo list (Refused fault) = Unit {0}
@@ -235,7 +235,7 @@ module _ (macros : Macros) (env : Env) where
   pub turn_within_steps : (left : Option ℕ) (list : List Hiding) → StepsTo list (turn_within macros env left list)
   turn_within_steps left list = within_steps left list (turn macros env list) (turn_steps list)
 
-  -- the turn once a call's arguments are expanded
+  -- the step after the arguments of an invocation are expanded
   abbrev pub FinishesTo : List Hiding → Turn → Type 0
   FinishesTo list (Replaced next) = HideStep (hides list) (hides next)
   FinishesTo list (Failed fault) = Unit {0}

@@ -1,4 +1,5 @@
--- That replacement by hide sets ends, as a fact about the lists of hide sets alone: fronts end, by the names that they may still replace and their length.
+-- Replacement with hide sets terminates, as a fact about lists of hide sets alone: prefixes terminate, by the names that they may still replace and
+-- by their length.
 use Rattle.std.proofs.Common.{◌≡◌, ℕ, zero, suc, ◌<◌, ◌≤◌, true, false, ◌||◌, List, [], ◌∷◌, ◌++◌, if◌then◌else◌}
 use Rattle.std.proofs.Common.{length, refl, sym, ap, ◌∙◌, subst, true≢false, append-nil, length-append, arith}
 use Rattle.std.specs.FinSet as set
@@ -16,7 +17,7 @@ pub all-map : {A : Type 0} (P Q : A → Type 0) → ((x : A) → P x → Q x) �
 all-map P Q f [] h = tt
 all-map P Q f (x ∷ xs) h = (f x h.0, all-map P Q f xs h.1)
 
--- what is behind a place
+-- the part of a list after a position
 all-behind : {A : Type 0} (P : A → Type 0) (p : List A) (x : A) (q : List A) → AllByRecursion P (p ++ x ∷ q) → P x × AllByRecursion P q
 all-behind P [] x q h = h
 all-behind P (y ∷ p) x q h = all-behind P p x q h.1
@@ -61,7 +62,7 @@ not_above S h k above out = elim (set.contains S k) as (λ a. set.contains S k �
 not_in : (S : HideSet) (k j : Name) → set.contains (set.insert S k) j ≡ false → set.contains S j ≡ false
 not_in S k j = not_above S (set.insert S k) j (in_insert S k)
 
--- ---- how many names a set leaves out
+-- ---- how many names are not in a set
 
 left_out-more : (S S' : HideSet) → Holds S S' → (ns : List Name) → left_out S' ns ≤ left_out S ns
 left_out-more S S' more [] = omega arith
@@ -90,7 +91,7 @@ left_out-less S S' more k out in' (n ∷ ns) h = elim (same_name k n) as (λ a. 
 ] refl h
 
 module _ (macros : Macros) where
-  -- a name outside leaves fewer names once it is in
+  -- fewer names are outside a set after a name is added
   pub fewer_left : (S : HideSet) (k : Name) → IsOutside macros k S → names_left macros (set.insert S k) < names_left macros S
   fewer_left S k out = left_out-less S (set.insert S k) (in_insert S k) k out.outside (at_insert S k) (table.keys macros) (sym (table.contains_key-keys macros k) ∙ out.macro)
 
@@ -100,11 +101,11 @@ module _ (macros : Macros) where
   outside_part : (S h : HideSet) (k : Name) → Holds S h → IsOutside macros k h → IsOutside macros k S
   outside_part S h k above out = record { macro = out.macro; outside = not_above S h k above out.outside }
 
-  -- a front whose sets have all of S, where S leaves out fewer than n names
+  -- a prefix whose sets have all names of S, if fewer than n names are not in S
   abbrev FrontsEnd : ℕ → ℕ → Type 0
   FrontsEnd n k = (S : HideSet) → names_left macros S < n → (front : List HideSet) → length front ≤ k → FrontEnds macros S front
 
-  -- the same below a result whose sets have one more
+  -- the same prefix after a result whose sets have one name more
   abbrev ResultsEnd : ℕ → ℕ → Type 0
   ResultsEnd n k =
       (S : HideSet)
@@ -195,7 +196,7 @@ module _ (macros : Macros) where
   nothing_ends : Ends macros []
   nothing_ends = ends (λ after step. elim step [ ])
 
-  -- the whole list is the front of nothing: replacement ends
+  -- the whole list is a prefix before the empty list: replacement terminates
   pub all_end : (list : List HideSet) → Ends macros list
   all_end list = subst (Ends macros) (append-nil list) (fronts_end set.empty list (none list) [] nothing_ends (λ k out inside close rest e. absurd (not_nil inside close rest e)))
     where

@@ -1,4 +1,4 @@
--- The turn of a list by its next token.
+-- The expansion step of a list by its next token.
 use Rattle.std.proofs.Common.{◌≡◌, ℕ, zero, suc, true, false, true≢false, List, ◌∷◌, Option, Some, None, refl, sym, ap, ◌∙◌}
 use Rattle.std.specs.FinSet as set
 use Rattle.ppmacro.specs.Names.{Macros}
@@ -28,14 +28,14 @@ pub turn-named : (macros : Macros) (env : Env) (t : Hiding) (rest : List Hiding)
 unfolding turn
 turn-named macros env t rest h k = rw (h, k) refl
 
--- a token that names no macro passes, whatever its hide set is
+-- a token that names no macro is emitted, whatever its hide set is
 pub turn-unnamed : (macros : Macros) (env : Env) (t : Hiding) (rest : List Hiding) → is_lone_quote t.token ≡ false → macro_of macros t.token ≡ None → turn macros env (t ∷ rest) ≡ Passes t rest
 turn-unnamed macros env t rest quote none = elim (set.contains t.hide t.token.text) as (λ b. set.contains t.hide t.token.text ≡ b → turn macros env (t ∷ rest) ≡ Passes t rest) [
   | true ↦ λ k. turn-hidden macros env t rest quote k
   | false ↦ λ k. turn-named macros env t rest quote k ∙ ap (named_turn env t rest) none
 ] refl
 
--- ---- what costs nothing is the same whatever is left
+-- ---- a step that costs nothing is the same with any budget
 
 pub done-within : (left : Option ℕ) (list : List Hiding) → within left list Done ≡ Done
 done-within None list = refl

@@ -1,4 +1,4 @@
--- Where no arguments are found: a lone quote stands first, or no `)` matches.
+-- No arguments are found: an unmatched quote is first, or no `)` matches.
 use Rattle.std.proofs.Common.{◌≡◌, ◌↔◌, ℕ, zero, suc, ◌<◌, Bool, true, false, List, [], ◌∷◌, ◌++◌, length, Option, refl, sym, ap, ◌∙◌, subst, arith, append_assoc, append-nil}
 use Rattle.ppmacro.specs.Hiding.{Hiding}
 use Rattle.ppexpand.specs.Arguments.{argument_role, Gathered, Closed, Quoted, Unclosed, with_token, with_argument, separates, fewer, gather, ArgumentRole, Quote, Open, Close, Comma, Inner}

@@ -1,4 +1,4 @@
--- A list has one outcome at most, after one number of turns.
+-- A list has at most one outcome, after one number of steps.
 use Rattle.std.proofs.Common.{◌≡◌, ℕ, suc, ◌<◌, ◌≤◌, List, [], ◌∷◌, Option, Some, None, Ok, Err, refl, sym, ap, ◌∙◌, subst, arith}
 use Rattle.pptext.specs.declared.tokens.Fault.{Fault}
 use Rattle.ppmacro.specs.Names.{Macros}
@@ -10,7 +10,7 @@ use Rattle.ppexpand.specs.Expansion.{Outcome, turn_within, Expands, done, refuse
 use Rattle.ppexpand.specs.Expansion.{used_refused}
 
 module _ (macros : Macros) (env : Env) where
-  -- what a list's outcome is, by its turn
+  -- the outcome of a list, by its first step
   abbrev pub IsDone : Option ℕ → ℕ → Outcome → Type 0
   IsDone left turns out = (turns ≡ 0) × (out ≡ record { tokens = []; fault = None; left = left })
 
@@ -90,7 +90,7 @@ module _ (macros : Macros) (env : Env) where
   at_replaced e (call_failed e' a f) = absurd (cc)
   at_replaced e (call_replaced e' a f d) = absurd (cc)
 
-  -- what follows once a call's arguments are expanded
+  -- what follows after the arguments of an invocation are expanded
   pub data AfterCall (level : ℕ) (call : Call) : Option ℕ → ExpandedArguments → ℕ → Outcome → Type 0 where
     by_argument : {after : Option ℕ} {fault : Fault} {turns : ℕ} {out : Outcome} → IsRefused fault after turns out → AfterCall level call after (Err fault) turns out
     by_fault : {after : Option ℕ} {as' : List (Option (List Hiding))} {fault : Fault} {turns : ℕ} {out : Outcome}

@@ -10,7 +10,7 @@ use Rattle.ppmacro.specs.declared.macros.Variadic.TheVariants.{No, Lenient}
 abbrev pub is_open : Token → Bool
 is_open t = is_punct (codes "(") t
 
--- what a token is to the search for the matching `)`: a lone quote, a parenthesis, a comma, or any other
+-- the role of a token in the search for the matching `)`: an unmatched quote, a parenthesis, a comma, or any other token
 pub data ArgumentRole : Type 0 where
   Quote : ArgumentRole
   Open : ArgumentRole
@@ -25,26 +25,26 @@ argument_role t =
     if is_punct (codes ")") t then Close else (
     if is_punct (codes ",") t then Comma else Inner)))
 
--- the arguments, the matching `)` and what stands behind it; or the lone quote that stands first; or no end
+-- the arguments, the matching `)` and the tokens after it; or an unmatched quote before any matching `)`; or neither
 pub data Gathered : Type 0 where
   Closed : (arguments : List (List Hiding)) → (close : Hiding) → (behind : List Hiding) → Gathered
   Quoted : Hiding → Gathered
   Unclosed : Gathered
 
--- a token before the others of the first argument
+-- adds a token at the start of the first argument
 abbrev pub with_token : Hiding → Gathered → Gathered
 with_token t (Closed [] close behind) = Closed ((t ∷ []) ∷ []) close behind
 with_token t (Closed (a ∷ as') close behind) = Closed ((t ∷ a) ∷ as') close behind
 with_token t (Quoted q) = Quoted q
 with_token t Unclosed = Unclosed
 
--- an argument before the others, as yet without tokens
+-- adds an empty argument before the others
 abbrev pub with_argument : Gathered → Gathered
 with_argument (Closed as' close behind) = Closed ([] ∷ as') close behind
 with_argument (Quoted q) = Quoted q
 with_argument Unclosed = Unclosed
 
--- whether a comma inside so many parentheses separates arguments, where so many commas may (none: all)
+-- whether a comma inside this number of parentheses separates arguments, where this number of commas still may (None: all)
 abbrev pub separates : ℕ → Option ℕ → Bool
 separates zero None = true
 separates zero (Some zero) = false
@@ -55,7 +55,7 @@ abbrev pub fewer : Option ℕ → Option ℕ
 fewer None = None
 fewer (Some n) = Some (n - 1)
 
--- the list behind `(`, inside so many more parentheses
+-- the search in a list after `(`, inside `depth` more parentheses
 abbrev pub gather : ℕ → Option ℕ → List Hiding → Gathered
 gather depth commas [] = Unclosed
 gather depth commas (t ∷ ts) = elim (argument_role t.token) [
@@ -66,17 +66,17 @@ gather depth commas (t ∷ ts) = elim (argument_role t.token) [
   | Inner ↦ with_token t (gather depth commas ts)
 ]
 
--- how many commas separate arguments: all of them, or one for each parameter before the variable argument
+-- how many commas separate arguments: one for each parameter before the variable argument (None: all)
 abbrev pub separators : List Name → Variadic → Option ℕ
 separators names No = None
 separators names _ = Some (length names - 1)
 
--- how many arguments there are at least: the variable argument need not be there where it may be absent (gcc's manual, "Variadic Macros")
+-- the least number of arguments: a lenient macro does not need the variable argument (gcc's manual, "Variadic Macros")
 abbrev pub needed : List Name → Variadic → ℕ
 needed names Lenient = length names - 1
 needed names _ = length names
 
--- nothing between the parentheses is no argument where none is needed
+-- no tokens between the parentheses are no argument if none is needed, and otherwise one empty argument
 abbrev pub present : ℕ → List (List Hiding) → List (List Hiding)
 present zero ([] ∷ []) = []
 present least as' = as'
@@ -84,6 +84,6 @@ present least as' = as'
 abbrev pub of_number : (least most : ℕ) → List (List Hiding) → Option (List (List Hiding))
 of_number least most as' = if nat_le least (length as') && nat_le (length as') most then Some as' else None
 
--- the arguments, one for each parameter but a variable argument that is absent, or nothing where their number is wrong
+-- the arguments, one for each parameter but an absent variable argument; None if their number is wrong
 abbrev pub fitted : List Name → Variadic → List (List Hiding) → Option (List (List Hiding))
 fitted names variadic as' = of_number (needed names variadic) (length names) (present (needed names variadic) as')

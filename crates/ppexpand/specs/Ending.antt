@@ -1,7 +1,8 @@
--- Why expansion ends (6.10.3.4), told by the hide sets of a list alone.
--- A front of the list whose tokens all hide the names `hidden` replaces none of them. So each replacement in it is of another macro's name, and what it
--- puts there hides that name too: a front with fewer names left, before fewer tokens of the old front. Where the `)` stands behind the front, the front
--- is used up, and what replaces it hides what `hidden` and the `)` have in common.
+-- Why expansion terminates (6.10.3.4), by the hide sets of a list alone.
+--
+-- Take a prefix of the list whose tokens all hide the names `hidden`. No replacement in it is of these names. So each replacement in it is of another
+-- macro's name, and its result hides that name too: a prefix with fewer names left, before a shorter part of the old prefix. If the `)` of an
+-- invocation is after the prefix, the prefix is used up, and the result hides the names that `hidden` and the hide set of the `)` have in common.
 use Rattle.std.specs.Prelude.{◌≡◌, ℕ, suc, true, false, List, [], ◌∷◌, ◌++◌, map, if◌then◌else◌}
 use Rattle.std.specs.FinSet as set
 use Rattle.std.specs.FinMap as table
@@ -17,24 +18,25 @@ hides ts = map (λ t. t.hide) ts
 abbrev pub Holds : HideSet → HideSet → Type 0
 Holds part whole = (name : Name) → set.contains part name ≡ true → set.contains whole name ≡ true
 
--- a set has all names that two others have in common, and this one
+-- a set has all names that two other sets have in common, and this name
 pub record Gains (one two : HideSet) (name : Name) (whole : HideSet) : Type 0 where
   pub common : (other : Name) → set.contains one other ≡ true → set.contains two other ≡ true → set.contains whole other ≡ true
   pub own : set.contains whole name ≡ true
 
--- how many of these names a set leaves out
+-- how many of these names are not in a set
 abbrev pub left_out : HideSet → List Name → ℕ
 left_out hide [] = 0
 left_out hide (n ∷ ns) = if set.contains hide n then left_out hide ns else suc (left_out hide ns)
 
 module _ (macros : Macros) where
-  -- a macro's name that a set hasn't
+  -- a macro's name that is not in a set
   pub record IsOutside (name : Name) (hide : HideSet) : Type 0 where
     pub macro : table.contains_key macros name ≡ true
     pub outside : set.contains hide name ≡ false
 
-  -- What a turn does to the hide sets of a list: the head passes; or its name, a macro's outside its set, is replaced; or with it all up to a `)` is. The
-  -- sets of what replaces them have gained the name, beside what hid the head, or the head and the `)` both.
+  -- What an expansion step does to the hide sets of a list. The first token is emitted; or it is a macro's name that its set does not hide, and is
+  -- replaced alone or together with all tokens up to a `)`. Each set of the result has this name, and the names that hide the first token, or both
+  -- the first token and the `)`.
   pub data Step : List HideSet → List HideSet → Type 0 where
     passes : {head : HideSet} {rest : List HideSet} → Step (head ∷ rest) rest
     replaced : {head : HideSet} {rest next : List HideSet} (name : Name)
@@ -52,11 +54,11 @@ module _ (macros : Macros) where
         → next ≡ result ++ behind
         → Step (head ∷ rest) next
 
-  -- each run of steps from this list ends
+  -- each sequence of steps from this list terminates
   pub data Ends : List HideSet → Type 0 where
     ends : {list : List HideSet} → ((next : List HideSet) → Step list next → Ends next) → Ends list
 
-  -- what is behind a front that hides these names ends once the front is used up, by a replacement whose `)` stands behind it
+  -- after a prefix that hides these names is used up, by an invocation whose `)` is after it, the rest terminates
   abbrev pub EndsAfter : HideSet → List HideSet → Type 0
   EndsAfter hidden behind = (name : Name)
       → IsOutside name hidden
@@ -66,10 +68,10 @@ module _ (macros : Macros) where
       → AllByRecursion (Gains hidden close name) result
       → Ends (result ++ rest)
 
-  -- a front that hides these names ends, before what ends by itself, and once the front is used up
+  -- a prefix that hides these names terminates, if the rest terminates alone and also after the prefix is used up
   abbrev pub FrontEnds : HideSet → List HideSet → Type 0
   FrontEnds hidden front = AllByRecursion (Holds hidden) front → (behind : List HideSet) → Ends behind → EndsAfter hidden behind → Ends (front ++ behind)
 
-  -- how many macros' names a set leaves out
+  -- how many macros' names are not in a set
   abbrev pub names_left : HideSet → ℕ
   names_left hidden = left_out hidden (table.keys macros)

@@ -11,27 +11,27 @@ use Rattle.ppexpand.specs.Turn.{Call, Turn, Done, Refused, Passes, Failed, Repla
 use Rattle.ppexpand.specs.Turn.{ExpandedArguments, with_expanded}
 use Rattle.ppexpand.specs.Budget.{within, less_one}
 
--- the tokens that passed, the fault that ended it, if one did, and what is left of the budget
+-- the emitted tokens, the fault that ended the list, if any, and the rest of the budget
 pub record Outcome : Type 0 where
   pub tokens : List Hiding
   pub fault : Option Fault
   pub left : Option ℕ
 
--- the list ends here, with this fault or none
+-- the list ends here, with this fault or without one
 abbrev pub ended : Option ℕ → Option Fault → Outcome
 ended left f = record { tokens = []; fault = f; left = left }
 
--- a token that passed before the others
+-- adds a token that is emitted before the others
 abbrev pub with_passed : Hiding → Outcome → Outcome
 with_passed t out = record { tokens = t ∷ out.tokens; fault = out.fault; left = out.left }
 
 module _ (macros : Macros) (env : Env) where
-  -- what the head of a list calls for, where so much is left
+  -- the expansion step of a list, within what is left of a budget
   abbrev pub turn_within : Option ℕ → List Hiding → Turn
   turn_within left list = within left list (turn macros env list)
 
   mutual
-    -- at this level, where so much is left, in so many turns, a list has this outcome; each replacement costs one
+    -- a list has this outcome: at this level, with this much left of a budget, in this number of steps; each replacement costs one
     pub data Expands : ℕ → Option ℕ → ℕ → List Hiding → Outcome → Type 0 where
       done : {level : ℕ} {left : Option ℕ} {list : List Hiding}
           → turn_within left list ≡ Done
@@ -67,7 +67,7 @@ module _ (macros : Macros) (env : Env) where
           → Expands level after turns next out
           → Expands level left (suc turns) list out
 
-    -- the arguments of a call in a list at this level, each expanded as a list of its own one level deeper (6.10.3.1), in
+    -- the arguments of an invocation in a list at this level, each expanded as a list of its own one level deeper (6.10.3.1), in
     -- order, up to the first fault, from one budget; level 256 is the deepest
     pub data ExpandsArguments : ℕ → Call → Option ℕ → List (Option (List Hiding)) → Option ℕ → ExpandedArguments → Type 0 where
       none : {level : ℕ} {call : Call} {left : Option ℕ}
@@ -111,11 +111,11 @@ module _ (macros : Macros) (env : Env) where
     count_arguments (used h one more) = count one + count_arguments more
     count_arguments (used_refused h one) = count one
 
--- at this level, where so much is left, a list has this outcome
+-- a list has this outcome, at this level and with this much left of a budget
 abbrev pub ExpandsTo : Macros → Env → ℕ → Option ℕ → List Hiding → Outcome → Type 0
 ExpandsTo macros env level left list out = (turns : ℕ) × Expands macros env level left turns list out
 
--- the expansion of a list of tokens where so much is left, at level 0 and with empty hide sets at first
+-- the expansion of a list of tokens within a budget: at level 0, with empty hide sets at first
 pub record IsExpansion (macros : Macros) (env : Env) (left : Option ℕ) (tokens : List Token) (e : Expanded) : Type 0 where
   pub outcome : Outcome
   pub expands : ExpandsTo macros env 0 left (map plain tokens) outcome

@@ -1,4 +1,4 @@
--- What the laws say of expansion.
+-- The statements of the theorems about expansion.
 use Rattle.std.specs.Prelude.{◌≡◌, ◌≢◌, ℕ, suc, ◌+◌, ◌-◌, ◌<◌, ◌≤◌, Bool, true, false, not, ◌&&◌, ◌||◌, List, [], ◌∷◌, ◌++◌, Option, Some, None, Ok}
 use Rattle.std.specs.FinSet as set
 use Rattle.pptext.specs.declared.tokens.Token.{Token}
@@ -15,21 +15,21 @@ use Rattle.ppexpand.specs.Turn.{Call, Passes, Replaced, Called, macro_of, wanted
 use Rattle.ppexpand.specs.Budget.{less_one}
 use Rattle.ppexpand.specs.Expansion.{Outcome, turn_within, ExpandsTo, ExpandsArguments, IsExpansion}
 
--- ---- exactly one, and an end
+-- ---- exactly one expansion, and termination
 
--- where so much is left, a list has exactly one outcome
+-- a list has exactly one outcome
 pub record HasOneOutcome (macros : Macros) (env : Env) (level : ℕ) (left : Option ℕ) (list : List Hiding) : Type 0 where
   pub outcome : Outcome
   pub is : ExpandsTo macros env level left list outcome
   pub only : (other : Outcome) → ExpandsTo macros env level left list other → other ≡ outcome
 
--- where so much is left, a list of tokens has exactly one expansion
+-- a list of tokens has exactly one expansion
 pub record HasOneExpansion (macros : Macros) (env : Env) (left : Option ℕ) (tokens : List Token) : Type 0 where
   pub expanded : Expanded
   pub is : IsExpansion macros env left tokens expanded
   pub only : (other : Expanded) → IsExpansion macros env left tokens other → other ≡ expanded
 
--- one turn leads from a list to the next
+-- one expansion step leads from a list to the next
 pub data Leads (macros : Macros) (env : Env) (level : ℕ) : Option ℕ → List Hiding → Option ℕ → List Hiding → Type 0 where
   by_passing : {left : Option ℕ} {list next : List Hiding} {t : Hiding}
       → turn_within macros env left list ≡ Passes t next
@@ -43,7 +43,7 @@ pub data Leads (macros : Macros) (env : Env) (level : ℕ) : Option ℕ → List
       → finished call expanded ≡ Replaced next
       → Leads macros env level left list after next
 
--- so many turns lead from a list to another
+-- this number of expansion steps leads from a list to another
 pub data LeadsOn (macros : Macros) (env : Env) (level : ℕ) : ℕ → Option ℕ → List Hiding → Option ℕ → List Hiding → Type 0 where
   stays : {left : Option ℕ} {list : List Hiding} → LeadsOn macros env level 0 left list left list
   turns : {n : ℕ} {left between after : Option ℕ} {list next last : List Hiding}
@@ -51,7 +51,7 @@ pub data LeadsOn (macros : Macros) (env : Env) (level : ℕ) : ℕ → Option �
       → LeadsOn macros env level n between next after last
       → LeadsOn macros env level (suc n) left list after last
 
--- a list takes no more turns than this
+-- a list takes at most this number of expansion steps
 abbrev pub EndsWithin : Macros → Env → ℕ → ℕ → Option ℕ → List Hiding → Type 0
 EndsWithin macros env level most left list =
     (n : ℕ) (after : Option ℕ) (last : List Hiding)
@@ -60,12 +60,12 @@ EndsWithin macros env level most left list =
 
 -- ---- the budget
 
--- so much more
+-- a budget that is larger by this number
 abbrev pub plus : ℕ → Option ℕ → Option ℕ
 plus n None = None
 plus n (Some left) = Some (n + left)
 
--- the tokens begin with others
+-- a list is a prefix of another
 abbrev pub IsBeginning : {A : Type 0} → List A → List A → Type 0
 IsBeginning {A = A} front all = (more : List A) × (all ≡ front ++ more)
 
@@ -76,7 +76,7 @@ pub record IsOver (out : Outcome) : Type 0 where
   pub number : fault.number ≡ 35
   pub left : out.left ≡ Some 0
 
--- what an expansion with the budget b is, beside one without a budget with so many replacements
+-- an expansion with the budget b, compared with one without a budget that makes this number of replacements
 pub record IsCapped (b replacements : ℕ) (whole out : Outcome) : Type 0 where
   pub tokens : IsBeginning out.tokens whole.tokens
   pub enough : replacements ≤ b → (out.tokens ≡ whole.tokens) × (out.fault ≡ whole.fault) × (out.left ≡ Some (b - replacements))
@@ -90,20 +90,20 @@ OnlyBudgetsRefuse =
     → out.fault ≡ Some f
     → f.number ≢ 35
 
--- ---- what comes out
+-- ---- the expanded tokens
 
--- whether a macro's name is replaced wherever it stands (6.10.3, paragraph 9)
+-- whether a macro's name is replaced whatever follows it (6.10.3, paragraph 9)
 abbrev pub is_always_replaced : Option Definition → Bool
 is_always_replaced None = false
 is_always_replaced (Some d) = not (is_function_like d.shape)
 
--- a token that expansion may leave: no lone quote, and no object-like or predefined macro's name outside its hide set
+-- a token that may be left after expansion: no unmatched quote, and no object-like or predefined macro's name unless its hide set has the name
 abbrev pub is_settled : Macros → Hiding → Bool
 is_settled macros t = not (is_lone_quote t.token) && (set.contains t.hide t.token.text || not (is_always_replaced (macro_of macros t.token)))
 
--- ---- how an invocation is laid out (6.10.3, paragraphs 10 and 11)
+-- ---- the syntax of an invocation (6.10.3, paragraphs 10 and 11)
 
--- tokens whose parentheses are in pairs, without a lone quote; with commas outside the parentheses, or without
+-- tokens with matched parentheses and without an unmatched quote; the flag says whether commas outside the parentheses are allowed
 pub data Nested : Bool → List Hiding → Type 0 where
   nothing : {commas : Bool} → Nested commas []
   inner : {commas : Bool} {t : Hiding} {ts : List Hiding}
@@ -121,7 +121,7 @@ pub data Nested : Bool → List Hiding → Type 0 where
       → Nested commas ts
       → Nested commas (open' ∷ (inside ++ close ∷ ts))
 
--- the list between the parentheses is these arguments with a comma between them, where so many commas separate (none: all)
+-- the list between the parentheses is these arguments, with commas between them, where this number of commas separates arguments (None: all)
 pub data Separated : Option ℕ → List Hiding → List (List Hiding) → Type 0 where
   last : {commas : Option ℕ} {a : List Hiding}
       → Nested (not (separates 0 commas)) a
@@ -133,7 +133,7 @@ pub data Separated : Option ℕ → List Hiding → List (List Hiding) → Type 
       → Separated (fewer commas) rest as'
       → Separated commas (a ++ t ∷ rest) (a ∷ as')
 
--- behind `(` stand these arguments, this `)` and this
+-- after `(` the list is these arguments, this `)`, and this rest
 pub record IsInvocation (commas : Option ℕ) (list : List Hiding) (arguments : List (List Hiding)) (close : Hiding)
     (behind : List Hiding) : Type 0 where
   pub inside : List Hiding
@@ -141,7 +141,7 @@ pub record IsInvocation (commas : Option ℕ) (list : List Hiding) (arguments : 
   pub closes : argument_role close.token ≡ Close
   pub separated : Separated commas inside arguments
 
--- tokens that no `)` ends: each `)` is in a pair, a `(` may be without its `)`, and there is no lone quote
+-- tokens without a matching `)`: each `)` matches a `(` among them, a `(` may be unmatched, and there is no unmatched quote
 pub data NeverClosed : List Hiding → Type 0 where
   paired : {ts : List Hiding} → Nested true ts → NeverClosed ts
   deeper : (ts : List Hiding) (open' : Hiding) (inside : List Hiding)
@@ -150,7 +150,7 @@ pub data NeverClosed : List Hiding → Type 0 where
       → NeverClosed inside
       → NeverClosed (ts ++ open' ∷ inside)
 
--- behind `(` stands this lone quote, before any `)` that would match
+-- after `(` the list has this unmatched quote, before any matching `)`
 pub record IsQuoted (list : List Hiding) (quote : Hiding) : Type 0 where
   pub front : List Hiding
   pub behind : List Hiding

@@ -1,4 +1,4 @@
--- Lists of tokens in flight, by their parts: what the code says of its own lists. No definition rests on this file.
+-- Parts of lists of tokens with hide sets: vocabulary of the code. No definition rests on this file.
 use Rattle.std.specs.Prelude.{◌≡◌, ℕ, Bool, true, false, not, ◌&&◌, List, [], ◌∷◌, Option, None, is_some}
 use Rattle.std.specs.List.{AllByRecursion}
 use Rattle.pptext.specs.declared.tokens.Token.{Token}
@@ -8,21 +8,21 @@ use Rattle.ppmacro.specs.declared.flying.Hidden.{Hidden}
 use Rattle.ppmacro.specs.declared.macros.Definition.{Definition}
 use Rattle.ppexpand.specs.Turn.{macro_of}
 
--- a token of a file, with the number of a hide set
+-- a token of a file with the number of a hide set
 abbrev pub with_set : ℕ → Token → Hidden
 with_set hide t = record { token = t; hide = hide; also = None }
 
--- the first takes a mark
+-- the first token gets the leading-space flag, if the flag is set
 abbrev pub marked : Bool → List Hidden → List Hidden
 marked true (h ∷ hs) = record h { token = record h.token { space = true } } ∷ hs
 marked true [] = []
 marked false hs = hs
 
--- a token that passes, whatever its hide set is
+-- a token that is emitted unchanged, whatever its hide set is
 abbrev pub is_plain : Macros → Token → Bool
 is_plain macros t = not (is_lone_quote t) && not (is_some (macro_of macros t))
 
--- each of these passes
+-- each token is emitted unchanged
 pub record ArePlain (macros : Macros) (hs : List Hidden) : Type 0 where
   pub each : AllByRecursion (λ h. is_plain macros h.token ≡ true) hs
 

@@ -1,4 +1,4 @@
--- What pieces of a run and borrowed tokens stand for: words of the contracts of `Run` and of its iterator.
+-- The values of pieces and of borrowed tokens, for the contracts of `Run` and of its iterator.
 use Rattle.std.specs.Prelude.{List}
 use Rattle.pptext.specs.declared.tokens.Token.{Token}
 use Rattle.ppmacro.specs.declared.flying.Hidden.{Hidden}
@@ -11,7 +11,7 @@ abbrev pub piece_list : Piece → List Hidden
 piece_list (Shared s) = s
 piece_list (Made hs) = hs.items
 
--- the token that a borrowed one shows
+-- the value of a borrowed token
 abbrev pub ref_token : TokenRef → Token
 ref_token (ref.Shared t) = t.now
 ref_token (ref.Made h) = h.now.token

@@ -1,4 +1,4 @@
--- What the program's values stand for: words of contracts inside the crate. No definition rests on this file.
+-- The values of the program's types: vocabulary of the code. No definition rests on this file.
 use Rattle.std.specs.Prelude.{◌≡◌, ℕ, suc, ◌<◌, ◌≤◌, List, [], ◌∷◌, ◌++◌, map, Bool, true, false, length, ◌==◌, Option, Some, None, Result, Ok, Err}
 use Rattle.std.specs.Prelude.{Vec}
 use Rattle.std.specs.Global.{Global}
@@ -39,24 +39,24 @@ abbrev pub FittingKnown : Numbered → Option (Vec (Vec Hidden Global) Global) �
 FittingKnown sets None = Unit {0}
 FittingKnown sets (Some v) = ListsKnown sets v.items
 
--- the tokens that were made for an expansion
+-- the tokens that an expansion owns
 abbrev pub held : Expansion → List Hidden
 held Unused = []
 held AsGiven = []
 held (Made v) = v.items
 
--- the sets of all these tokens are there
+-- the hide sets of all these tokens exist
 pub record ExpansionsKnown (sets : Numbered) (es : List Expansion) : Type 0 where
   pub each : AllByRecursion (λ e. AllKnown sets (held e)) es
 
--- nothing stands between the parentheses
+-- there are no tokens between the parentheses
 abbrev pub is_bare : List (Vec Hidden Global) → Bool
 is_bare (v ∷ []) = length v.items == 0
 is_bare _ = false
 
--- ---- turns
+-- ---- expansion steps
 
--- an invocation: a macro's name, the macro, the arguments, the set of the names that hide both the name and its `)`, and what stands behind the `)`
+-- an invocation: the macro name token, the macro, the arguments, the intersection of the hide sets of the name and the `)`, and the tokens after it
 abbrev pub call_in : Numbered → Hidden → Definition → List (Vec Hidden Global) → ℕ → List Hidden → Call
 call_in sets head macro given both behind = record {
   head = hiding sets head;
@@ -66,13 +66,13 @@ call_in sets head macro given both behind = record {
   behind = hidings sets behind;
 }
 
--- the sets of an invocation are there
+-- the hide sets of an invocation exist
 pub record CallKnown (sets : Numbered) (name : Hidden) (given : List (Vec Hidden Global)) (base : ℕ) : Type 0 where
   pub head : HasSets sets name
   pub arguments : ListsKnown sets given
   pub both : IsKnown sets base
 
--- the turn, where this list is left
+-- the expansion step of an action after which this list is left
 abbrev pub turn_in : Numbered → List Hidden → next.Next → Turn
 turn_in sets left next.Done = Done
 turn_in sets left (next.Refused f) = Refused f
@@ -87,23 +87,23 @@ NextKnown sets left next.Replaced = AllKnown sets left
 NextKnown sets left (next.Called head macro given both) = CallKnown sets head given both × AllKnown sets left
 NextKnown sets left _ = Unit {0}
 
--- a replacement, where this list is left
+-- the expansion step of a replacement after which this list is left
 abbrev pub replaced_in : Numbered → List Hidden → Result (Unit {0}) Fault → Turn
 replaced_in sets left (Ok u) = Replaced (hidings sets left)
 replaced_in sets left (Err f) = Failed f
 
--- an invocation that was replaced, where this list is left; or its fault
+-- the expansion step of an invocation after which this list is left, or its fault
 abbrev pub finished_in : Numbered → List Hidden → Option Fault → Turn
 finished_in sets left None = Replaced (hidings sets left)
 finished_in sets left (Some f) = Failed f
 
 -- ---- expansion
 
--- a fault was raised, and this holds of it
+-- a fault was raised, and it has this property
 abbrev pub Raises : Option Fault → (Fault → Type 0) → Type 0
 Raises raised holds = (f : Fault) × (raised ≡ Some f) × holds f
 
--- an argument used by an invocation at this level has this expansion, or this fault, and leaves so much
+-- an argument of an invocation at this level has this expansion or this fault, and leaves this much of the budget
 pub data ExpandsArgument (macros : Macros) (env : Env) (level : ℕ) (head : Token) (left : Option ℕ) (list : List Hiding)
     : Option ℕ → Result (List Hiding) Fault → Type 0 where
   expands : {turns : ℕ} {after : Option ℕ} {tokens : List Hiding}
@@ -116,17 +116,17 @@ pub data ExpandsArgument (macros : Macros) (env : Env) (level : ℕ) (head : Tok
       → ExpandsArgument macros env level head left list after (Err f)
   deep : 256 ≤ level → ExpandsArgument macros env level head left list left (Err (fault 21 head.used head.text))
 
--- an argument used by an invocation at this level is expanded to this, which stands for its expansion
+-- an argument of an invocation at this level has an expansion, and this value of the program stands for it
 abbrev pub HasExpanded : Macros → Env → ℕ → Token → Option ℕ → Option ℕ → Numbered → Numbered → List Hidden → Expansion → Type 0
 HasExpanded macros env level head left after before sets given e = (tokens : List Hiding)
     × (option_map (hidings sets) (option_of given e) ≡ Some tokens)
     × ExpandsArgument macros env level head left (hidings before given) after (Ok tokens)
 
--- the arguments of a call at this level that are to be expanded have these expansions, or this fault, and leave so much
+-- the arguments of an invocation at this level that are to be expanded have these expansions or this fault, and leave this much of the budget
 abbrev pub ExpandsWanted : Macros → Env → ℕ → Call → Option ℕ → Option ℕ → ExpandedArguments → Type 0
 ExpandsWanted macros env level call left after r = ExpandsArguments macros env level call left (wanted call) after r
 
--- a call at this level, where so much is left, comes to this turn: its arguments are expanded, and then it is replaced
+-- an invocation at this level has this expansion step: its arguments are expanded, then it is replaced
 pub data ComesTo (macros : Macros) (env : Env) (level : ℕ) (call : Call) (left : Option ℕ) : Option ℕ → Turn → Type 0 where
   refuses : {after : Option ℕ} {f : Fault}
       → ExpandsWanted macros env level call left after (Err f)
@@ -135,33 +135,33 @@ pub data ComesTo (macros : Macros) (env : Env) (level : ℕ) (call : Call) (left
       → ExpandsWanted macros env level call left after (Ok expanded)
       → ComesTo macros env level call left after (finished call expanded)
 
--- one turn led from the first list to the second, and these tokens passed
+-- one expansion step leads from the first list to the second, and emits these tokens
 pub record Advances (macros : Macros) (env : Env) (level : ℕ) (left : Option ℕ) (list : List Hiding) (after : Option ℕ)
     (next : List Hiding) (tokens : List Hiding) : Type 0 where
   pub turn : (n : ℕ) (out : Outcome)
       → Expands macros env level after n next out
       → Expands macros env level left (suc n) list (record { tokens = tokens ++ out.tokens; fault = out.fault; left = out.left })
 
--- the list ends here, with this fault or none, and so much is left
+-- the list ends here, with this fault or without one, and this much is left of the budget
 abbrev pub EndsWith : Macros → Env → ℕ → Option ℕ → List Hiding → Option Fault → Option ℕ → Type 0
 EndsWith macros env level left list f after = Expands macros env level left 0 list (record { tokens = []; fault = f; left = after })
 
--- one turn led from a list, behind these tokens that passed, to another behind more of them
+-- one expansion step leads from a list to another, and appends the tokens that it emits
 abbrev pub HasAdvanced : Macros → Env → ℕ → Option ℕ → List Hiding → List Hiding → Option ℕ → List Hiding → List Hiding → Type 0
 HasAdvanced macros env level left list passed after next more = (tokens : List Hiding)
     × (more ≡ passed ++ tokens)
     × Advances macros env level left list after next tokens
 
--- a list ended behind these tokens that passed, with this fault or none, and they stayed
+-- a list ended, with this fault or without one, and the emitted tokens stayed
 abbrev pub HasEnded : Macros → Env → ℕ → Option ℕ → List Hiding → List Hiding → Option Fault → Option ℕ → List Hiding → Type 0
 HasEnded macros env level left list passed f after more = EndsWith macros env level left list f after × (more ≡ passed)
 
--- a turn was taken from a list behind these tokens that passed: the list goes on, or ended
+-- one expansion step was made: the list goes on, or it ended
 abbrev pub HasTaken : Macros → Env → ℕ → Option ℕ → List Hiding → List Hiding → Bool → Option Fault → Option ℕ → List Hiding → List Hiding → Type 0
 HasTaken macros env level left list passed true f after next more = (f ≡ None) × HasAdvanced macros env level left list passed after next more
 HasTaken macros env level left list passed false f after next more = HasEnded macros env level left list passed f after more
 
--- the head of a list is invoked, which is counted; nothing passed, and there was no fault
+-- a list begins with this invocation, which is counted; nothing was emitted, and there was no fault
 abbrev pub HasCalled : Macros → Env → Option ℕ → List Hiding → List Hiding → Call → Option Fault → Option ℕ → List Hiding → Type 0
 HasCalled macros env left list passed call f after more =
     (turn_within macros env left list ≡ Called call) × (f ≡ None) × (after ≡ less_one left) × (more ≡ passed)

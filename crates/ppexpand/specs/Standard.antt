@@ -1,5 +1,5 @@
--- Expansion as the standard has it, which knows no budget (6.10.3, 6.10.3.1, 6.10.3.4, 6.10.8.1): a rule for each way to go on, and one for
--- each fault.
+-- Expansion by the rules of the standard, which has no budget (6.10.3, 6.10.3.1, 6.10.3.4, 6.10.8.1). There is one rule for each way to go on, and
+-- one for each fault.
 use Rattle.std.specs.Prelude.{◌≡◌, ℕ, suc, ◌<◌, ◌≤◌, Bool, true, false, List, [], ◌∷◌, map, Option, Some, None, Result, Ok, Err}
 use Rattle.std.specs.FinSet as set
 use Rattle.pptext.specs.declared.tokens.Token.{Token}
@@ -17,19 +17,19 @@ use Rattle.ppexpand.specs.Arguments.{is_open, Closed, Quoted, Unclosed, gather, 
 use Rattle.ppexpand.specs.Turn.{predefined_value, Call, followed_by, fault_at_use, quote_fault, gain_of, no_arguments, macro_of, wanted}
 use Rattle.ppexpand.specs.Turn.{ExpandedArguments, with_expanded}
 
--- a token names this macro, and its hide set hasn't the name (6.10.3, paragraph 9; 6.10.3.4, paragraph 2)
+-- a token names this macro, and its hide set does not have the name (6.10.3, paragraph 9; 6.10.3.4, paragraph 2)
 pub record NamesMacro (macros : Macros) (t : Hiding) (d : Definition) : Type 0 where
   pub no_quote : is_lone_quote t.token ≡ false
   pub not_hidden : set.contains t.hide t.token.text ≡ false
   pub named : macro_of macros t.token ≡ Some d
 
--- it names a function-like macro, and this `(` is next (6.10.3, paragraph 10)
+-- a token names a function-like macro, and this `(` is next (6.10.3, paragraph 10)
 pub record Opens (macros : Macros) (t paren : Hiding) (d : Definition) (names : List Name) (variadic : Variadic) : Type 0 where
   pub names_macro : NamesMacro macros t d
   pub shape : d.shape ≡ FunctionLike names variadic
   pub paren_opens : is_open paren.token ≡ true
 
--- a list begins with this invocation: it has its `)`, and the arguments that its parameters take (6.10.3, paragraphs 4 and 10 to 12)
+-- a list begins with this invocation: it has a matching `)`, and as many arguments as its parameters need (6.10.3, paragraphs 4 and 10 to 12)
 pub record Invokes (macros : Macros) (list : List Hiding) (call : Call) : Type 0 where
   pub paren : Hiding
   pub inside : List Hiding
@@ -48,11 +48,11 @@ abbrev pub opens_next : List Hiding → Bool
 opens_next [] = false
 opens_next (t ∷ ts) = is_open t.token
 
--- what an object-like macro's name is replaced by (6.10.3, paragraph 9), or the fault
+-- the replacement of an object-like macro's name (6.10.3, paragraph 9), or the fault
 abbrev pub object_result : Hiding → Definition → Result Marked Fault
 object_result t d = substituted d no_arguments (set.insert t.hide t.token.text) t.token.used t.token.space
 
--- what an invocation is replaced by once its arguments are expanded (6.10.3.1), or the fault
+-- the replacement of an invocation after its arguments are expanded (6.10.3.1), or the fault
 abbrev pub invocation_result : Call → List (Option (List Hiding)) → Result Marked Fault
 invocation_result call expanded =
     substituted call.macro (record { given = call.arguments; expanded = expanded }) call.gain call.head.token.used call.head.token.space
@@ -69,13 +69,13 @@ mutual
         → macro_of macros t.token ≡ None
         → StandardExpands macros env level rest tokens fault
         → StandardExpands macros env level (t ∷ rest) (t ∷ tokens) fault
-    -- a name is not replaced again in what came of it (6.10.3.4, paragraph 2)
+    -- a name is not replaced again in its own replacement (6.10.3.4, paragraph 2)
     hidden : {level : ℕ} {t : Hiding} {rest tokens : List Hiding} {fault : Option Fault}
         → is_lone_quote t.token ≡ false
         → set.contains t.hide t.token.text ≡ true
         → StandardExpands macros env level rest tokens fault
         → StandardExpands macros env level (t ∷ rest) (t ∷ tokens) fault
-    -- what replaces a name is rescanned with the rest (6.10.3.4, paragraph 1)
+    -- the replacement of a name is rescanned with the rest (6.10.3.4, paragraph 1)
     predefined : {level : ℕ} {t : Hiding} {rest tokens : List Hiding} {fault : Option Fault} {d : Definition} {b : Builtin}
         → NamesMacro macros t d
         → d.shape ≡ Predefined b

@@ -1,5 +1,5 @@
--- What the head of a list calls for: the rules of macro replacement (6.10.3, 6.10.3.1, 6.10.3.4), by cases on whole
--- lists whose tokens carry hide sets.
+-- The expansion step of a list: the rules of macro replacement (6.10.3, 6.10.3.1, 6.10.3.4), by cases on whole
+-- lists whose tokens have hide sets.
 use Rattle.std.specs.Prelude.{ℕ, suc, ℤ, pos, ◌+ℤ◌, nat_abs, decimal, Bool, true, false, List, [], ◌∷◌, ◌++◌, Option, Some, None, Result, Ok}
 use Rattle.std.specs.Prelude.{Err, codes, ◌==◌, if◌then◌else◌}
 use Rattle.std.specs.List.{list_any}
@@ -29,7 +29,7 @@ use Rattle.ppexpand.specs.Arguments.{is_open, Gathered, Closed, Quoted, Unclosed
 
 -- ---- the predefined names (6.10.8.1)
 
--- the presumed line number of a place
+-- the presumed line number of a location
 abbrev pub presumed_line : Env → Place → ℤ
 presumed_line env place = pos place.line +ℤ env.shift
 
@@ -42,7 +42,7 @@ predefined_kind Date = StringLiteral
 predefined_kind Time = StringLiteral
 predefined_kind _ = Number
 
--- where the name is used at this place
+-- the spelling of the replacement; the location is the expansion location of the name
 abbrev pub predefined_text : Builtin → Env → Place → List ℕ
 predefined_text File env used = env.name
 predefined_text Line env used = decimal (nat_abs (presumed_line env used))
@@ -52,17 +52,17 @@ predefined_text Stdc env used = codes "1"
 predefined_text StdcHosted env used = codes "1"
 predefined_text StdcVersion env used = codes "201112L"
 
--- the token that replaces a predefined name: its place and space mark are the name's
+-- the token that replaces a predefined name; it has the locations and the leading-space flag of the name
 abbrev pub predefined_value : Builtin → Env → Hiding → HideSet → Hiding
 predefined_value b env t gain = record {
   token = record { kind = predefined_kind b; text = predefined_text b env t.token.used; space = t.token.space; at = t.token.at; used = t.token.used };
   hide = gain;
 }
 
--- ---- turns
+-- ---- expansion steps
 
--- an invocation of a function-like macro: its name, the macro, an argument for each parameter but a variable argument that is
--- absent, the names that the result gains, and what stands behind the matching `)`
+-- an invocation of a function-like macro: the macro name token, the macro, an argument for each parameter but an absent variable
+-- argument, the names that the replacement hides, and the tokens after the matching `)`
 pub record Call : Type 0 where
   pub head : Hiding
   pub macro : Definition
@@ -70,8 +70,8 @@ pub record Call : Type 0 where
   pub gain : HideSet
   pub behind : List Hiding
 
--- the list is empty; or its head is refused; or its head passes, and the rest is left; or its head is a macro's name that
--- is to be replaced: that fails, or this list replaces it, or it is invoked
+-- The list is empty. Or its first token is refused with a fault, or emitted unchanged, and the rest is left. Or the first token is a macro's name
+-- that is to be replaced: the replacement fails, or this list is the result, or the name is invoked.
 pub data Turn : Type 0 where
   Done : Turn
   Refused : Fault → Turn
@@ -80,13 +80,13 @@ pub data Turn : Type 0 where
   Replaced : List Hiding → Turn
   Called : Call → Turn
 
--- a space mark that is left pending goes to the next token
+-- the next token gets the leading-space flag if a space is pending
 abbrev pub mark_next : Bool → List Hiding → List Hiding
 mark_next true (t ∷ ts) = with_mark true t ∷ ts
 mark_next true [] = []
 mark_next false ts = ts
 
--- a replacement in front of the rest of the list (6.10.3.4)
+-- a replacement before the rest of the list (6.10.3.4)
 abbrev pub followed_by : List Hiding → Marked → List Hiding
 followed_by behind m = m.tokens ++ mark_next m.pending behind
 
@@ -94,14 +94,14 @@ abbrev pub replaced_by : Result Marked Fault → List Hiding → Turn
 replaced_by (Ok m) behind = Replaced (followed_by behind m)
 replaced_by (Err f) behind = Failed f
 
--- a fault at a macro's name, where it is used
+-- a fault at the expansion location of a macro's name
 abbrev pub fault_at_use : ℕ → Hiding → Fault
 fault_at_use n t = fault n t.token.used t.token.text
 
 abbrev pub quote_fault : Hiding → Fault
 quote_fault t = fault 7 t.token.at t.token.text
 
--- what an invocation's result gains: the names that hide both its name and its `)`, and the name
+-- the names that the replacement of an invocation hides: the intersection of the hide sets of the name and the `)`, and the name
 abbrev pub gain_of : HideSet → HideSet → Name → HideSet
 gain_of hide close name = set.insert (set.intersection hide close) name
 
@@ -115,7 +115,7 @@ invoked t d names variadic (Closed as' close behind) = called t d (fitted names 
 invoked t d names variadic (Quoted q) = Failed (quote_fault q)
 invoked t d names variadic Unclosed = Failed (fault_at_use 17 t)
 
--- a function-like macro's name is invoked where `(` is next, and else passes (6.10.3, paragraph 10)
+-- a function-like macro's name is invoked if `(` is next, and otherwise emitted (6.10.3, paragraph 10)
 abbrev pub function_turn : Hiding → Definition → List Name → Variadic → List Hiding → Turn
 function_turn t d names variadic [] = Passes t []
 function_turn t d names variadic (p ∷ rest) =
@@ -149,11 +149,11 @@ abbrev pub is_alone : ℕ → List Operand → Bool
 is_alone i (Param j ∷ []) = i == j
 is_alone i _ = false
 
--- whether the replacement list has this parameter away from `#` and `##`
+-- whether the replacement list uses this parameter without `#` and `##`
 abbrev pub uses_alone : ℕ → List Chain → Bool
 uses_alone i cs = list_any (λ c. is_alone i c.operands) cs
 
--- for the parameters from i on: the arguments that are to be expanded, of which an absent one is the empty list
+-- for the parameters from i on: the arguments that are to be expanded; an absent argument is the empty list
 abbrev pub to_expand : ℕ → List Chain → List Name → List (List Hiding) → List (Option (List Hiding))
 to_expand i cs [] given = []
 to_expand i cs (n ∷ names) given = (if uses_alone i cs then Some (argument_at given i) else None) ∷ to_expand (suc i) cs names given
@@ -161,16 +161,16 @@ to_expand i cs (n ∷ names) given = (if uses_alone i cs then Some (argument_at 
 unfoldable pub wanted : Call → List (Option (List Hiding))
 wanted call = to_expand 0 (chains_of call.macro) (names_in call.macro.shape) call.arguments
 
--- their expansions, with one place for each parameter, or the first fault
+-- the expansions, with one entry for each parameter, or the first fault
 abbrev pub ExpandedArguments : Type 0
 ExpandedArguments = Result (List (Option (List Hiding))) Fault
 
--- the expansion of an argument before those of the arguments after it
+-- adds the expansion of an argument before the expansions of the later ones
 abbrev pub with_expanded : Option (List Hiding) → ExpandedArguments → ExpandedArguments
 with_expanded a (Ok as') = Ok (a ∷ as')
 with_expanded a (Err f) = Err f
 
--- the turn once they are expanded
+-- the expansion step of an invocation after its arguments are expanded
 unfoldable pub finished : Call → List (Option (List Hiding)) → Turn
 finished call expanded = replaced_by
     (substituted call.macro (record { given = call.arguments; expanded = expanded }) call.gain call.head.token.used call.head.token.space)

@@ -1,4 +1,4 @@
-// Which parameters a replacement list uses away from `#` and `##`: their arguments are expanded (6.10.3.1).
+//! Finds the parameters whose arguments are pre-expanded: those that a replacement list uses without `#` and `##` (6.10.3.1).
 ghost use Rattle.std.specs.Prelude.{◌≡◌, ◌<◌, ◌||◌, ℕ, false, IfOk, get_or, length, map};
 ghost use Rattle.ppmacro.specs.Chains.{names_in};
 ghost use Rattle.ppmacro.specs.Patterns.{entry_chain, listed};
@@ -7,7 +7,7 @@ ghost use Rattle.ppexpand.specs.Turn.{is_alone, uses_alone};
 use ppmacro::{Chain, Entry, Macro, Operand, Pattern, Shape};
 use std::alloc::{AllocError, Global};
 
-/// How many parameters a macro has.
+/// Returns the number of parameters of a macro.
 pub(crate) fn parameters_of(replaced: &Macro) -> usize
     ensures { result ≡ length (names_in replaced.now.shape) }
 {
@@ -17,7 +17,7 @@ pub(crate) fn parameters_of(replaced: &Macro) -> usize
     }
 }
 
-/// Marks the parameter that a chain is, where it is one parameter alone.
+/// Sets the entry of a parameter if the chain consists of that parameter alone.
 fn mark(used: &mut Vec<bool>, operands: &[Operand])
     ensures len { length used.new.items ≡ length used.old.items }
     ensures marks { (i : ℕ) → i < length used.old.items → get_or used.new.items i false ≡ get_or used.old.items i false || is_alone i operands.now }
@@ -31,7 +31,7 @@ fn mark(used: &mut Vec<bool>, operands: &[Operand])
     }
 }
 
-/// Marks the parameter that an entry is, where it is one.
+/// Sets the entry of a parameter if the list entry is that parameter.
 fn mark_entry(used: &mut Vec<bool>, entry: &Entry)
     ensures len { length used.new.items ≡ length used.old.items }
     ensures marks { (i : ℕ) → i < length used.old.items → get_or used.new.items i false ≡ get_or used.old.items i false || is_alone i (entry_chain entry.now).operands }
@@ -43,7 +43,7 @@ fn mark_entry(used: &mut Vec<bool>, entry: &Entry)
     }
 }
 
-/// The same for the entries of a list without `#` and `##`.
+/// Returns, for each parameter, whether a replacement list without `#` and `##` uses it.
 fn used_entries(
     alloc: Global,
     parameters: usize,
@@ -59,8 +59,9 @@ fn used_entries(
     Ok(used)
 }
 
-/// For each parameter of a macro, whether this replacement list uses it away from `#` and `##`. The list is passed once, however many
-/// parameters there are.
+/// Returns, for each parameter of a macro, whether its replacement list uses it without `#` and `##`.
+///
+/// The list is read once, whatever the number of parameters.
 #[inline(never)]
 pub(crate) fn used_alone(
     alloc: Global,
@@ -77,7 +78,7 @@ pub(crate) fn used_alone(
     }
 }
 
-/// For each of so many parameters, whether these chains use it away from `#` and `##`.
+/// Returns, for each parameter, whether the chains use it without `#` and `##`.
 fn used_chains(alloc: Global, parameters: usize, chains: &[Chain]) -> Result<Vec<bool>, AllocError>
     ensures len { IfOk result (λ v. length v.items ≡ parameters) }
     ensures used { IfOk result (λ v. (i : ℕ) → i < parameters → get_or v.items i false ≡ uses_alone i chains.now) }

@@ -1,4 +1,4 @@
-// The arguments of an invocation (6.10.3p4, p11, p12).
+//! Collects the arguments of an invocation (6.10.3p4, p11, p12).
 ghost use Rattle.std.specs.Prelude.{◌≡◌, ◌∷◌, ◌++◌, [], IfOk, OnOk};
 ghost use Rattle.ppmacro.specs.Numbered.{Numbered};
 ghost use Rattle.ppmacro.specs.HideSets.{HasSets, hiding, hidings, AllKnown};
@@ -15,24 +15,24 @@ use pptext::Spelling;
 use std::alloc::{AllocError, Global};
 use std::mem;
 
-// Room for so many tokens is asked for at once: few arguments have more.
+/// The initial capacity of an argument, in tokens. Few arguments have more.
 const USUAL: usize = 8;
 
-// So many arguments behind the first have that room. Few invocations have more, and one that has very many mostly has short ones.
+/// The number of arguments after the first that get this capacity. Few invocations have more, and the arguments of those are mostly short.
 const ROOMY: usize = 63;
 
-/// What stands behind the `(` of an invocation.
+/// The result of the search for the `)` of an invocation.
 #[derive(Drop)]
 pub(crate) enum Gathered<'a> {
-    /// Arguments and the matching `)`.
+    /// The arguments and the matching `)`.
     Closed(Vec<Vec<Hidden<'a>>>, Hidden<'a>),
-    /// A lone quote before any matching `)`.
+    /// An unmatched quote before any matching `)`.
     Quoted(Hidden<'a>),
     /// No matching `)`.
     Unclosed,
 }
 
-/// How many commas separate arguments: all, or one for each parameter before the variable argument.
+/// Returns how many commas separate arguments: one for each parameter before the variable argument, or `None` if all do.
 pub(crate) fn separators(names: &[Spelling], variadic: Variadic) -> Option<usize>
     ensures { result ≡ separators names.now variadic }
 {
@@ -42,7 +42,7 @@ pub(crate) fn separators(names: &[Spelling], variadic: Variadic) -> Option<usize
     }
 }
 
-/// How many arguments there are at least.
+/// Returns the least number of arguments.
 fn needed(names: &[Spelling], variadic: Variadic) -> usize
     ensures { result ≡ needed names.now variadic }
 {
@@ -52,14 +52,14 @@ fn needed(names: &[Spelling], variadic: Variadic) -> usize
     }
 }
 
-/// Whether a comma inside so many parentheses separates arguments, where so many commas may.
+/// Returns whether a comma inside `depth` parentheses separates arguments. `commas` is the number of commas that still may; `None` means all.
 fn separates(depth: usize, commas: Option<usize>) -> bool
     ensures { result ≡ separates depth commas }
 {
     depth == 0 && !matches!(commas, Some(0))
 }
 
-/// How many commas may separate arguments once one has.
+/// Returns how many commas may separate arguments after one more has.
 fn fewer(commas: Option<usize>) -> Option<usize>
     ensures { result ≡ fewer commas }
 {
@@ -69,7 +69,7 @@ fn fewer(commas: Option<usize>) -> Option<usize>
     }
 }
 
-/// Ends an argument, which is put behind the others, and begins the next one.
+/// Appends an argument to the others, and begins the next one.
 #[inline]
 fn end_argument<'a>(
     supply: &mut Supply<'a>,
@@ -84,7 +84,7 @@ fn end_argument<'a>(
     put(arguments, mem::replace(argument, begun))
 }
 
-/// Takes the arguments of an invocation with the matching `)` out of the list behind the `(`.
+/// Removes the arguments of an invocation and the matching `)` from the list, which begins after the `(`.
 pub(crate) fn gather<'a>(
     supply: &mut Supply<'a>,
     list: &mut Cursor<'a>,
@@ -113,7 +113,7 @@ pub(crate) fn gather<'a>(
                 return Ok(Gathered::Closed(arguments, hidden));
             }
             ArgumentRole::Comma if separates(depth, commas) => {
-                // It is no argument's, and is done with before what can fail.
+                // The comma belongs to no argument. It is dropped before anything can fail.
                 drop(hidden);
                 end_argument(supply, &mut arguments, &mut argument)?;
                 commas = fewer(commas);
@@ -129,7 +129,7 @@ pub(crate) fn gather<'a>(
     Ok(Gathered::Unclosed)
 }
 
-/// Whether nothing stands between the parentheses.
+/// Returns whether there are no tokens between the parentheses.
 fn is_bare(arguments: &[Vec<Hidden>]) -> bool
     ensures { result ≡ is_bare arguments.now }
 {
@@ -139,7 +139,7 @@ fn is_bare(arguments: &[Vec<Hidden>]) -> bool
     }
 }
 
-/// The arguments by parameter, without a variable argument that is absent; or None where their number is wrong.
+/// Returns the arguments by parameter, or `None` if their number is wrong. An absent variable argument has no entry.
 pub(crate) fn fit<'a>(
     alloc: Global,
     arguments: Vec<Vec<Hidden<'a>>>,

@@ -1,12 +1,12 @@
-// Where a list stands that is expanded.
+//! The context in which a list is expanded.
 use crate::env::Env;
 use ppmacro::Table;
 
-/// What the expansion of a list reads.
+/// The inputs of the expansion of a list. The expansion does not change them.
 #[derive(Drop)]
 pub(crate) struct Context<'t, 'a> {
     pub(crate) table: &'t Table<'a>,
     pub(crate) env: &'t Env,
-    /// How many arguments the list is inside of.
+    /// The number of arguments around the list: 0 for a run of text.
     pub(crate) level: u32,
 }

@@ -1,4 +1,4 @@
-// The list that is being expanded.
+//! The stack of tokens that are still to be expanded.
 ghost use Rattle.std.specs.Prelude.{◌≡◌, ◌∷◌, [], ◌++◌, map, true, Some, MatchOption, IfOk, OnOk};
 ghost use Rattle.std.specs.Option.{option_copied};
 ghost use Rattle.ppmacro.specs.Substituting.{tokens_of};
@@ -12,10 +12,10 @@ use pptext::Token;
 use std::alloc::{AllocError, Global};
 use std::marker::Model;
 
-/// The tokens that are still to be looked at, which contracts see from the next one on.
+/// The tokens that are still to be expanded. Contracts see them as a list that begins with the next token.
 ///
-/// First those that were put before the others, kept from the last one on: to take the next one costs nothing, and to put tokens
-/// before it costs their number. Below them those of a file, the first with a mark where one is pending.
+/// `behind` holds the tokens that replacements pushed, in reverse order: to pop a token takes constant time, and to push tokens takes time
+/// linear in their number. `below` holds the tokens of a file that follow them. If `pending` is set, the first of these has a leading space.
 #[derive(Drop)]
 pub(crate) struct Cursor<'a> {
     behind: Vec<Hidden<'a>>,
@@ -34,19 +34,19 @@ impl<'a> Model for Cursor<'a> {
     ghost view = { λ c. reverse c.behind.items ++ marked c.pending c.below };
 }
 
-/// What stands next in a list.
+/// The next token of a stack, as far as a check without hide sets can tell.
 #[derive(Drop)]
 pub(crate) enum Ahead<'t, 'x, 'a> {
-    /// A token that passes, which is taken out.
+    /// A token that is emitted unchanged. It is popped.
     Passes(Hidden<'x>),
-    /// The name of a macro.
+    /// A token that names this macro.
     Names(&'t Macro<'a>),
-    /// It was not looked at, or it is a lone quote.
+    /// Not known: the token comes from the file, or it is an unmatched quote.
     Unknown,
 }
 
 impl<'a> Cursor<'a> {
-    /// These tokens of a file, each with this hide set.
+    /// Creates a stack of tokens of a file, each with this hide set.
     pub(crate) fn over(alloc: Global, tokens: &'a [Token], hide: Set) -> Cursor<'a>
         ensures { result ≡ map (with_set hide) tokens.now }
     {
@@ -57,7 +57,7 @@ impl<'a> Cursor<'a> {
         }
     }
 
-    /// Copies of these tokens. No token of a file is below them, whatever the hide set of those is.
+    /// Creates a stack of copies of these tokens, without tokens of a file. `hide` has no effect.
     #[inline(never)]
     pub(crate) fn of_clones(
         alloc: Global,
@@ -75,7 +75,7 @@ impl<'a> Cursor<'a> {
         })
     }
 
-    /// The next token, taken out.
+    /// Pops the next token.
     pub(crate) fn next(&mut self) -> Option<Hidden<'a>>
         ensures { MatchOption result ((self.old ≡ []) × (self.new ≡ [])) (λ h. self.old ≡ h ∷ self.new) }
     {
@@ -92,14 +92,14 @@ impl<'a> Cursor<'a> {
         Some(hidden)
     }
 
-    /// Puts a token before the next one.
+    /// Pushes a token.
     pub(crate) fn push(&mut self, hidden: Hidden<'a>) -> Result<(), AllocError>
         ensures { OnOk result (self.new ≡ hidden.entry ∷ self.old) }
     {
         put(&mut self.behind, hidden)
     }
 
-    /// Puts tokens before the next one.
+    /// Pushes tokens, the last one first.
     pub(crate) fn push_all(&mut self, tokens: Vec<Hidden<'a>>) -> Result<(), AllocError>
         ensures { OnOk result (self.new ≡ tokens.entry.items ++ self.old) }
     {
@@ -113,7 +113,7 @@ impl<'a> Cursor<'a> {
         Ok(())
     }
 
-    /// Gives the next token, if there is one, a space mark that is left pending.
+    /// Sets the leading-space flag of the next token, if there is one and a space is pending.
     pub(crate) fn mark_next(&mut self, pending: bool)
         ensures { self.new ≡ marked pending self.old }
     {
@@ -127,7 +127,7 @@ impl<'a> Cursor<'a> {
         self.pending = true;
     }
 
-    /// The next token, taken out, where it passes and is one of those that were put before the others; or the macro that it names.
+    /// Pops the next token if a replacement pushed it and it is emitted unchanged; or returns the macro that it names.
     pub(crate) fn next_plain<'t, 'b>(&mut self, table: &'t Table<'b>) -> Ahead<'t, 'a, 'b>
         ensures { elim result [
           | Ahead.Passes h ↦ (self.old ≡ h ∷ self.new) × (is_plain table.now h.token ≡ true)
@@ -151,7 +151,7 @@ impl<'a> Cursor<'a> {
         }
     }
 
-    /// Takes out tokens of the file that pass, where they are next. The macro that is named behind them, if the token there names one.
+    /// Pops the tokens of the file that are emitted unchanged, if they are next. Also returns the macro that the token after them names.
     pub(crate) fn take_plain<'t, 'b>(
         &mut self,
         table: &'t Table<'b>,

@@ -1,15 +1,15 @@
-// What the predefined names stand for.
+//! The values of the predefined macros.
 use pptext::Spelling;
 
-/// What the predefined names stand for (6.10.8.1), but for those of one value.
+/// The values of the predefined macros that are not constant (6.10.8.1): `__FILE__`, `__LINE__`, `__DATE__` and `__TIME__`.
 #[derive(Drop, Debug)]
 pub struct Env {
-    /// The presumed name of the file, spelled as a string literal.
+    /// The presumed name of the file, spelled as a string literal with its quotes.
     pub name: Spelling,
-    /// The presumed line less the file's own, of each token (6.10.4).
+    /// The presumed line of a token minus its line in the file (6.10.4).
     pub shift: i64,
-    /// `Mmm dd yyyy`, the day on which the unit is translated.
+    /// The date of translation as `Mmm dd yyyy`, without quotes.
     pub date: Spelling,
-    /// `hh:mm:ss`, the time at which it is.
+    /// The time of translation as `hh:mm:ss`, without quotes.
     pub time: Spelling,
 }

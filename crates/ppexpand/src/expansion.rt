@@ -1,4 +1,4 @@
-// The expansion of a list.
+//! Expands lists of tokens (6.10.3.4).
 ghost use Rattle.std.specs.Prelude.{◌≡◌, ℕ, ◌≤◌, ◌++◌, [], List, map, true, false, is_some, Some, None, Ok, Err, IfOk, OnOk, MatchOption, IfSome};
 ghost use Rattle.ppmacro.specs.Chains.{chains_of};
 ghost use Rattle.ppmacro.specs.Patterns.{listed};
@@ -31,16 +31,16 @@ use ppmacro::{Expansion, Hidden, HideSets, Macro, Pattern, Table};
 use pptext::{Fault, Memory, Token};
 use std::alloc::{AllocError, Global};
 
-/// The deepest level of lists: a run of text is at level 0, and an argument one level deeper than its invocation.
+/// The deepest level of lists. A run of text is at level 0, an argument one level deeper than its invocation.
+///
+/// Each level takes stack. So the functions on the way to the next level return small values and write results to their caller's variables,
+/// and the functions that do not lead there are not inlined into them.
 const DEEPEST: u32 = 256;
 
-/// Room for so many tokens that pass one by one serves most runs of text.
+/// The initial capacity for tokens that are emitted one by one. It suffices for most runs of text.
 const ROOM: usize = 32;
 
-// So many levels need stack. What leads from a level to the next returns little by value, and leaves what it found with its caller; what
-// doesn't lead there isn't to be inlined into it.
-
-/// Passes tokens in flight, where they are next. The macro that is named behind them, where a token in flight names one.
+/// Emits the next tokens with hide sets up to one that may be replaced. Returns the macro that this token names, if it has a hide set.
 fn skip_flying<'t, 'x, 'a>(
     table: &'t Table<'a>,
     list: &mut Cursor<'x>,
@@ -58,7 +58,7 @@ fn skip_flying<'t, 'x, 'a>(
     }
 }
 
-/// Passes tokens that name no macro, where they are next. The macro that is named behind them, if the token there names one.
+/// Emits the next tokens that name no macro. Returns the macro that the token after them names.
 #[inline(never)]
 fn skip<'t, 'x, 'a>(
     table: &'t Table<'a>,
@@ -76,7 +76,7 @@ fn skip<'t, 'x, 'a>(
     Ok(named)
 }
 
-/// Whether each of these tokens passes, whatever its hide set is.
+/// Returns whether each token is emitted unchanged, whatever its hide set is.
 #[inline(never)]
 fn all_pass(table: &Table, tokens: &[Hidden]) -> bool
     ensures { result ≡ true → ArePlain table.now tokens.now }
@@ -89,7 +89,7 @@ fn all_pass(table: &Table, tokens: &[Hidden]) -> bool
     true
 }
 
-/// Raises fault 21 at a macro's name: an argument has no expansion.
+/// Raises fault 21 at a macro's name: the argument is nested too deep. There is no expansion.
 #[inline(never)]
 fn raise_depth<'x>(
     head: &Hidden,
@@ -101,7 +101,7 @@ fn raise_depth<'x>(
     Ok(None)
 }
 
-/// Keeps the room of an invocation's arguments, which are done with.
+/// Returns the vectors of an invocation's arguments to the pool.
 #[inline(never)]
 fn keep_arguments<'x>(
     supply: &mut Supply<'x>,
@@ -113,7 +113,7 @@ fn keep_arguments<'x>(
     }
 }
 
-/// The expansion of an argument that came to these tokens; or none where a fault was raised.
+/// Returns the expansion of an argument from the tokens that it emitted, or `None` if a fault was raised.
 #[inline(never)]
 fn made<'x>(
     alloc: Global,
@@ -129,7 +129,7 @@ fn made<'x>(
     Ok(Some(Expansion::Made(passed.into_vec(alloc)?)))
 }
 
-/// The argument of a parameter: no tokens, where it is absent.
+/// Returns the argument of a parameter. An absent one has no tokens.
 fn argument_of<'c, 'x>(arguments: &'c [Vec<Hidden<'x>>], parameter: usize) -> &'c [Hidden<'x>]
     ensures { result.now ≡ argument_at (lists_of arguments.now) parameter }
 {
@@ -140,20 +140,22 @@ fn argument_of<'c, 'x>(arguments: &'c [Vec<Hidden<'x>>], parameter: usize) -> &'
     tokens.as_slice()
 }
 
-/// What the expansion of lists changes, at every level.
+/// The state of an expansion, shared by all levels.
 #[derive(Drop)]
 struct Expander<'x> {
+    /// The state of replacement.
     replacer: Replacer<'x>,
-    /// What is left of the budget.
+    /// The rest of the budget; `None` means no budget.
     left: Option<u64>,
-    /// The fault that ended a list, if one did.
+    /// The fault that ended a list, if any.
     fault: Option<Fault>,
 }
 
 impl<'x> Expander<'x> {
-    /// Takes the next turn of a list, whose next token names the macro `named`, up to an invocation of a function-like macro: that becomes
-    /// `call`, and is still to be followed. What passes is put after `passed`, and the list becomes what is left of it. Whether the list goes
-    /// on; where a fault ended it, the fault is kept.
+    /// Makes one expansion step of a list, whose next token names the macro `named`. Returns whether the list goes on.
+    ///
+    /// Appends emitted tokens to `passed` and removes what is done from `list`. An invocation of a function-like macro is only put in
+    /// `call`: its arguments are still to be expanded. A fault that ends the list is stored.
     #[inline(never)]
     fn take_turn<'t, 'a: 'x>(
         &mut self,
@@ -208,7 +210,7 @@ impl<'x> Expander<'x> {
         }
     }
 
-    /// The expansion of an argument; or none where a fault was raised, 21 where it is too deep, which is kept.
+    /// Expands an argument. Returns `None` if a fault was raised (21 if the argument is nested too deep); the fault is stored.
     #[cycle(expansion)]
     fn expand_argument<'a: 'x>(
         &mut self,
@@ -230,7 +232,7 @@ impl<'x> Expander<'x> {
         if context.level >= DEEPEST {
             return raise_depth(head, &mut self.fault);
         }
-        // Most arguments name no macro, and are what they are expanded to: saves 6 % of the instructions of Boost.Preprocessor's `seq.c`.
+        // Fast path: most arguments name no macro, and expand to themselves.
         if all_pass(context.table, argument) {
             return Ok(Some(Expansion::AsGiven));
         }
@@ -239,7 +241,7 @@ impl<'x> Expander<'x> {
             argument,
             self.replacer.sets.empty(),
         )?;
-        // An argument mostly comes to about as many tokens as it has.
+        // Most arguments expand to about as many tokens as they have.
         let mut passed = Passed::with_room(self.replacer.supply.alloc(), argument.len())?;
         let deeper = Context {
             table: context.table,
@@ -250,8 +252,9 @@ impl<'x> Expander<'x> {
         made(self.replacer.supply.alloc(), passed, &self.fault)
     }
 
-    /// Makes `expanded` the expansions of the arguments that stand away from `#` and `##` in this list, which is the macro's, each by its
-    /// parameter; or keeps the fault that one raised.
+    /// Pre-expands the arguments that the replacement list uses without `#` and `##`, and appends the expansions to `expanded` by parameter.
+    ///
+    /// Stops at the first fault, which is stored. `pattern` is the replacement list of the macro.
     #[cycle(expansion)]
     fn expand_arguments<'a: 'x>(
         &mut self,
@@ -291,7 +294,7 @@ impl<'x> Expander<'x> {
         Ok(())
     }
 
-    /// Replaces an invocation before the rest of its list, its arguments expanded first; or keeps the first fault.
+    /// Replaces an invocation, after its arguments are expanded, and pushes the result onto the rest of its list. The first fault is stored.
     #[cycle(expansion)]
     fn follow<'a: 'x>(
         &mut self,
@@ -325,8 +328,10 @@ impl<'x> Expander<'x> {
             .finish(call, &pattern, expanded, list, &mut self.fault)
     }
 
-    /// One turn, of a list whose next token names the macro `named`: what passes is put after `passed`, and the list becomes what is left
-    /// of it. Whether the list goes on; where a fault ended it, the fault is kept. `call` is room for an invocation.
+    /// Makes one whole expansion step of a list, whose next token names the macro `named`. Returns whether the list goes on.
+    ///
+    /// Appends emitted tokens to `passed` and removes what is done from `list`. A fault that ends the list is stored. `call` is storage for
+    /// an invocation, so that it lies in the caller's frame.
     #[cycle(expansion)]
     fn advance<'t, 'a: 'x>(
         &mut self,
@@ -358,7 +363,7 @@ impl<'x> Expander<'x> {
         Ok(self.fault.is_none())
     }
 
-    /// Expands a list: what passes is put after `passed`. Where a fault ended the list, it is kept.
+    /// Expands a list, and appends the emitted tokens to `passed`. A fault that ends the list is stored.
     #[cycle(expansion)]
     fn expand_list<'a: 'x>(
         &mut self,
@@ -376,9 +381,9 @@ impl<'x> Expander<'x> {
         ensures keeps { Keeps self.old.replacer.sets self.new.replacer.sets }
     {
         loop {
-            // Saves 18 % of the instructions of `deps` on Redis.
+            // Fast path: most tokens name no macro.
             let named = skip(context.table, list, passed)?;
-            // An invocation is done with when its turn is.
+            // The invocation is dropped at the end of the step.
             let goes = {
                 let mut call = None;
                 self.advance(context, named, list, passed, &mut call)
@@ -390,17 +395,20 @@ impl<'x> Expander<'x> {
     }
 }
 
-/// What a list of tokens is expanded to: the tokens that passed, and the fault that ended the list, if one did.
+/// The result of an expansion: the emitted tokens, and the fault that ended the list, if any.
 #[derive(Drop)]
 pub struct Expanded<'a> {
+    /// The emitted tokens.
     pub tokens: Run<'a>,
+    /// The fault that ended the list, if any.
     pub fault: Option<Fault>,
-    /// How many more replacements and openings of files may be made; `None` where there is no budget.
+    /// The rest of the budget of replacements and file openings; `None` means no budget.
     pub left: Option<u64>,
 }
 
-/// Expands tokens of a file, without names that are hidden at first: what passes is put after `passed`. What is left of the budget, and the
-/// fault that ended the list, if one did.
+/// Expands tokens of a file, with empty hide sets at first, and appends the emitted tokens to `passed`.
+///
+/// Returns the rest of the budget, and the fault that ended the list, if any.
 fn expand_tokens<'x, 'a: 'x>(
     alloc: Global,
     context: &Context<'_, 'a>,
@@ -427,7 +435,7 @@ fn expand_tokens<'x, 'a: 'x>(
     Ok((expander.left, expander.fault))
 }
 
-/// Expands a list of tokens of which the first are known to pass.
+/// Expands `front` and `rest`, where the tokens of `front` are emitted unchanged.
 #[inline(never)]
 fn expand_rest<'x, 'a: 'x>(
     alloc: Global,
@@ -455,23 +463,25 @@ fn expand_rest<'x, 'a: 'x>(
     })
 }
 
-/// Expands a list of tokens: each macro's name is replaced, and what it is replaced by is looked at again with what
-/// stands behind it (6.10.3.4), but for names that are hidden from replacement.
+/// Expands a list of tokens: replaces each macro name, and rescans the replacement together with the tokens after it (6.10.3.4). Names
+/// that are in the hide set of their token are not replaced.
 ///
-/// At most `left` names are replaced, where that is some number: each object-like or predefined macro's name, and each invocation of
-/// a function-like macro, before its arguments are looked at. The next one is fault 35 at the place where its name is used.
+/// `left` is a budget: the number of replacements that may be made; `None` means no limit. Each name of an object-like or predefined macro
+/// counts as one, and each invocation of a function-like macro, before its arguments are expanded. One more replacement is fault 35 at
+/// the expansion location of the name.
 ///
-/// What passed before a fault stays. The other faults:
-/// 7, a lone quote, at its own place; and at the place where a macro's name is used
-/// 17, an invocation without its `)`;
-/// 18, another number of arguments than of parameters, but for a variable argument that may be absent;
-/// 19, `##` of two tokens that make no token;
-/// 20, `#` of an argument that makes no string literal;
-/// 21, an argument to be expanded more than 256 levels deep.
+/// The tokens emitted before a fault stay. Fault 7, an unmatched quote, has its spelling location. The other faults have the expansion
+/// location of the macro name:
+///
+/// - 17: an invocation without its `)`;
+/// - 18: a wrong number of arguments, but a variable argument that may be absent is not counted;
+/// - 19: `##` of two tokens that do not form a token;
+/// - 20: `#` of an argument that does not form a string literal;
+/// - 21: an argument to be expanded that is nested more than 256 levels deep.
 ///
 /// # Errors
 ///
-/// `Memory` where memory ran out.
+/// Returns `Memory` if an allocation fails.
 pub fn expand<'x, 'a: 'x>(
     alloc: Global,
     table: &Table<'a>,

@@ -1,4 +1,4 @@
-// Laws of the definitions: functions that do nothing, whose contracts are the laws.
+//! The theorems of the specification: functions that do nothing, whose contracts are the theorems.
 ghost use Rattle.std.specs.Prelude.{◌≡◌, ◌↔◌, ◌<◌, ℕ, List, Option, Some, None};
 ghost use Rattle.std.specs.FinSet as set;
 ghost use Rattle.std.specs.List.{AllPass};
@@ -15,24 +15,25 @@ ghost use Rattle.ppexpand.specs.Laws.{HasOneOutcome, HasOneExpansion, EndsWithin
 ghost use Rattle.ppexpand.specs.Laws.{IsQuoted, NeverClosed, Leads};
 ghost use Rattle.ppexpand.specs.Ending.{hides, Holds, Gains, names_left, IsOutside, Step, Ends, FrontEnds};
 
-/// With any macros, each list of tokens with hide sets has exactly one outcome, at each level of arguments.
+/// Each list of tokens with hide sets has exactly one outcome, for all macros and at each level of arguments.
 pub fn one_outcome()
     ensures { (macros : Macros) (env : Env) (level : ℕ) (left : Option ℕ) (list : List Hiding) → HasOneOutcome macros env level left list }
 {}
 
-/// With any macros, each list of tokens has exactly one expansion (6.10.3.4).
+/// Each list of tokens has exactly one expansion, for all macros (6.10.3.4).
 pub fn one_expansion()
     ensures { (macros : Macros) (env : Env) (left : Option ℕ) (tokens : List Token) → HasOneExpansion macros env left tokens }
 {}
 
-/// Expansion ends: with any macros, from each list only so many turns can be made.
+/// Expansion terminates: for all macros and each list, the number of expansion steps has a bound.
 pub fn expansion_ends()
     ensures { (macros : Macros) (env : Env) (level : ℕ) (left : Option ℕ) (list : List Hiding)
         → (most : ℕ) × EndsWithin macros env level most left list }
 {}
 
-/// Why expansion ends (6.10.3.4): each turn is a step on the hide sets of the list alone; what it puts into a front that hides some names hides one more,
-/// so that fewer macros' names are left to replace there; hence each front ends before what ends, and each list is a front.
+/// Why expansion terminates (6.10.3.4). Each expansion step is a step on the hide sets of the list alone. What it puts into a prefix whose
+/// tokens hide some names hides one name more, so fewer macro names are left to replace there. Hence each prefix terminates before a rest
+/// that terminates, and each list is such a prefix.
 pub fn fronts_end()
     ensures turns { (macros : Macros) (env : Env) (level : ℕ) (left after : Option ℕ) (list next : List Hiding)
         → Leads macros env level left list after next
@@ -43,30 +44,28 @@ pub fn fronts_end()
     ensures lists { (macros : Macros) (list : List HideSet) → Ends macros list }
 {}
 
-/// A token that comes out of expansion is no lone quote, and no name of an object-like or predefined macro outside its hide set (6.10.3.4).
+/// An expanded token is no unmatched quote, and no name of an object-like or predefined macro unless its hide set has the name (6.10.3.4).
 pub fn leaves_settled_tokens()
     ensures { (macros : Macros) (env : Env) (level : ℕ) (left : Option ℕ) (list : List Hiding) (out : Outcome)
         → ExpandsTo macros env level left list out
         → AllPass (is_settled macros) out.tokens }
 {}
 
-/// An invocation's arguments are found exactly where the list behind `(` is laid out as these arguments, their `)` and what stands behind it
-/// (6.10.3).
+/// The arguments of an invocation are found if and only if the list after `(` consists of these arguments, the matching `)` and the rest (6.10.3).
 pub fn finds_arguments()
     ensures { (commas : Option ℕ) (list : List Hiding) (arguments : List (List Hiding)) (close : Hiding) (behind : List Hiding)
         → (gather 0 commas list ≡ Closed arguments close behind) ↔ IsInvocation commas list arguments close behind }
 {}
 
-/// An invocation stops at a lone quote exactly where this quote stands before any `)` that would match, and has no end exactly where no
-/// `)` matches and there is no lone quote (6.4, 6.10.3).
+/// An invocation stops at an unmatched quote if and only if this quote is before any matching `)`. It has no end if and only if no `)`
+/// matches and there is no unmatched quote (6.4, 6.10.3).
 pub fn finds_no_arguments()
     ensures quote { (commas : Option ℕ) (list : List Hiding) (quote : Hiding) → (gather 0 commas list ≡ Quoted quote) ↔ IsQuoted list quote }
     ensures no_end { (commas : Option ℕ) (list : List Hiding) → (gather 0 commas list ≡ Unclosed) ↔ NeverClosed list }
 {}
 
-/// Without a budget nothing is refused for it, and nothing is counted: a turn is what the rules of macro replacement call for (6.10.3,
-/// 6.10.3.4), there is no budget behind an expansion either, and what a list expands to is what it expands to by the standard's rules, which
-/// know no budget.
+/// Without a budget nothing is refused and nothing is counted. An expansion step is what the rules of macro replacement require (6.10.3,
+/// 6.10.3.4). There is no budget after an expansion either. A list expands to what it expands to by the standard's rules, which have no budget.
 pub fn without_a_budget()
     ensures turns { (macros : Macros) (env : Env) (list : List Hiding) → turn_within macros env None list ≡ turn macros env list }
     ensures left { (macros : Macros) (env : Env) (level : ℕ) (list : List Hiding) (out : Outcome)
@@ -78,15 +77,15 @@ pub fn without_a_budget()
         → IsExpansion macros env None tokens e ↔ ((e.left ≡ None) × IsStandardExpansion macros env tokens e.tokens e.fault) }
 {}
 
-/// What an expansion costs and what is left make up the budget.
+/// The cost of an expansion and the rest of the budget add up to the budget.
 pub fn budget_is_spent()
     ensures { (macros : Macros) (env : Env) (level turns : ℕ) (left : Option ℕ) (list : List Hiding) (out : Outcome)
         → (d : Expands macros env level left turns list out)
         → left ≡ plus (count macros env d) out.left }
 {}
 
-/// An expansion within a budget is the one without, where that costs no more; otherwise it ends in fault 35 and leaves nothing, and what
-/// passed is a beginning.
+/// An expansion within a budget equals the one without if that costs no more. Otherwise it ends in fault 35, nothing is left of the budget,
+/// and the emitted tokens are a prefix.
 pub fn budget_caps()
     ensures { (macros : Macros) (env : Env) (level turns : ℕ) (list : List Hiding) (whole : Outcome)
         → (d : Expands macros env level None turns list whole) (b : ℕ) (out : Outcome)

@@ -1,4 +1,4 @@
-// Macro replacement of C11 (6.10.3) by hide sets, and its end.
+//! Macro replacement of C11 (6.10.3) with hide sets, and the proof that it terminates.
 #![tactic(auto)]
 
 mod alone;

@@ -1,9 +1,9 @@
-// Lists that grow.
+//! Appends to vectors.
 ghost use Rattle.std.specs.Prelude.{◌≡◌, ◌∷◌, ◌++◌, [], OnOk};
 
 use std::alloc::AllocError;
 
-/// Puts one more behind the others.
+/// Appends an item.
 #[inline(always)]
 pub(crate) fn put<T: Drop>(items: &mut Vec<T>, item: T) -> Result<(), AllocError>
     ensures { OnOk result (items.new.items ≡ items.old.items ++ item ∷ []) }

@@ -1,4 +1,4 @@
-// What passed.
+//! The output of an expansion.
 ghost use Rattle.std.specs.Prelude.{◌≡◌, ◌∷◌, ◌++◌, [], flat_map, true, IfOk, IfSome, OnOk};
 ghost use Rattle.ppexpand.specs.Pieces.{piece_list};
 ghost use Rattle.ppmacro.specs.Substituting.{tokens_of};
@@ -10,17 +10,20 @@ use pptext::Token;
 use std::alloc::{AllocError, Global};
 use std::marker::Model;
 
-// So many tokens of a file pass one by one: a piece of their own would end the list of those before them, and the next list asks for memory again.
+/// The longest span of a file, in tokens, that is emitted one by one. A piece for it would end the vector of the tokens before it, and the
+/// next vector needs another allocation.
 const FEW: usize = 12;
 
-/// A stretch of a file, or tokens that passed one by one.
+/// A part of an output: a span of a file, or tokens that were emitted one by one.
 #[derive(Drop)]
 pub enum Piece<'a> {
+    /// A span of a file.
     Shared(Stretch<'a>),
+    /// Tokens that were emitted one by one.
     Made(Vec<Hidden<'a>>),
 }
 
-/// Tokens that passed: pieces, and behind them those that passed one by one. Contracts see their list.
+/// The emitted tokens: pieces, then the tokens that were emitted one by one since the last piece. Contracts see them as one list.
 #[derive(Drop)]
 pub(crate) struct Passed<'a> {
     pieces: Vec<Piece<'a>>,
@@ -38,7 +41,7 @@ impl<'a> Model for Passed<'a> {
     ghost view = { λ p. flat_map piece_list p.pieces.items ++ p.singles.items };
 }
 
-// Moves tokens to a list with room for them and no more. The room that they had stays, for those that follow.
+/// Moves tokens to a vector of exactly their number. The capacity of the old vector stays for the tokens that follow.
 fn fitted<'a>(singles: &mut Vec<Hidden<'a>>) -> Result<Vec<Hidden<'a>>, AllocError>
     ensures same { IfOk result (λ v. v.items ≡ singles.old.items) }
     ensures none { OnOk result (singles.new.items ≡ []) }
@@ -48,7 +51,7 @@ fn fitted<'a>(singles: &mut Vec<Hidden<'a>>) -> Result<Vec<Hidden<'a>>, AllocErr
     Ok(fitted)
 }
 
-// Closes the piece of those that passed one by one.
+/// Makes a piece of the tokens that were emitted one by one, if there are any.
 fn close<'a>(pieces: &mut Vec<Piece<'a>>, singles: &mut Vec<Hidden<'a>>) -> Result<(), AllocError>
     ensures same { OnOk result (flat_map piece_list pieces.new.items ≡ flat_map piece_list pieces.old.items ++ singles.old.items) }
     ensures closed { OnOk result (singles.new.items ≡ []) }
@@ -60,7 +63,7 @@ fn close<'a>(pieces: &mut Vec<Piece<'a>>, singles: &mut Vec<Hidden<'a>>) -> Resu
 }
 
 impl<'a> Passed<'a> {
-    /// Nothing.
+    /// Creates an empty output.
     pub(crate) fn new(alloc: Global) -> Passed<'a>
         ensures { result ≡ [] }
     {
@@ -70,7 +73,7 @@ impl<'a> Passed<'a> {
         }
     }
 
-    /// Nothing, with room for so many tokens that pass one by one.
+    /// Creates an empty output, with capacity for `count` tokens that are emitted one by one.
     pub(crate) fn with_room(alloc: Global, count: usize) -> Result<Passed<'a>, AllocError>
         ensures { IfOk result (λ p. p ≡ []) }
     {
@@ -80,7 +83,7 @@ impl<'a> Passed<'a> {
         })
     }
 
-    /// Puts a stretch behind the others.
+    /// Appends a span of a file.
     pub(crate) fn extend(&mut self, stretch: Stretch<'a>) -> Result<(), AllocError>
         ensures { OnOk result (self.new ≡ self.old ++ stretch.entry) }
     {
@@ -91,7 +94,7 @@ impl<'a> Passed<'a> {
         put(&mut self.pieces, Piece::Shared(stretch))
     }
 
-    /// Puts a token behind the others.
+    /// Appends a token.
     #[inline(always)]
     pub(crate) fn push_single(&mut self, hidden: Hidden<'a>) -> Result<(), AllocError>
         ensures { OnOk result (self.new ≡ self.old ++ hidden.entry ∷ []) }
@@ -99,7 +102,7 @@ impl<'a> Passed<'a> {
         put(&mut self.singles, hidden)
     }
 
-    /// Gives back room for more: what passed is kept until all units are done.
+    /// Frees unused capacity. The output lives until all units are done.
     pub(crate) fn fit(&mut self) -> Result<(), AllocError>
         ensures { OnOk result (self.new ≡ self.old) }
     {
@@ -108,14 +111,14 @@ impl<'a> Passed<'a> {
         Ok(())
     }
 
-    /// Whether nothing passed.
+    /// Returns whether the output is empty.
     pub(crate) fn is_empty(&self) -> bool
         ensures { result ≡ true → self.now ≡ [] }
     {
         self.pieces.is_empty() && self.singles.is_empty()
     }
 
-    /// The tokens as one list.
+    /// Returns the tokens as one vector.
     #[inline]
     pub(crate) fn into_vec(self, alloc: Global) -> Result<Vec<Hidden<'a>>, AllocError>
         ensures { IfOk result (λ v. v.items ≡ self.entry) }
@@ -133,7 +136,7 @@ impl<'a> Passed<'a> {
     }
 }
 
-// Puts tokens behind others.
+/// Appends tokens.
 fn push_all<'a>(tokens: &mut Vec<Hidden<'a>>, more: Vec<Hidden<'a>>) -> Result<(), AllocError>
     ensures { OnOk result (tokens.new.items ≡ tokens.old.items ++ more.entry.items) }
 {
@@ -142,7 +145,7 @@ fn push_all<'a>(tokens: &mut Vec<Hidden<'a>>, more: Vec<Hidden<'a>>) -> Result<(
     Ok(())
 }
 
-// Puts the tokens of a stretch behind others.
+/// Appends the tokens of a span.
 fn push_stretch<'a>(tokens: &mut Vec<Hidden<'a>>, stretch: Stretch<'a>) -> Result<(), AllocError>
     ensures { OnOk result (tokens.new.items ≡ tokens.old.items ++ stretch.entry) }
 {
@@ -153,7 +156,7 @@ fn push_stretch<'a>(tokens: &mut Vec<Hidden<'a>>, stretch: Stretch<'a>) -> Resul
     Ok(())
 }
 
-// Puts the tokens of a piece behind others.
+/// Appends the tokens of a piece.
 fn push_piece<'a>(tokens: &mut Vec<Hidden<'a>>, piece: Piece<'a>) -> Result<(), AllocError>
     ensures { OnOk result (tokens.new.items ≡ tokens.old.items ++ piece_list piece.entry) }
 {
@@ -163,8 +166,9 @@ fn push_piece<'a>(tokens: &mut Vec<Hidden<'a>>, piece: Piece<'a>) -> Result<(), 
     }
 }
 
-/// What a list of tokens is expanded to, which contracts see as a list: the tokens of the file in front of the first that names a macro or is
-/// a lone quote, and what passed behind them.
+/// An expanded list of tokens, which contracts see as a list.
+///
+/// It consists of the tokens of the file before the first one that names a macro or is an unmatched quote, and the output after them.
 #[derive(Drop)]
 pub struct Run<'a> {
     front: &'a [Token],
@@ -183,14 +187,14 @@ impl<'a> Model for Run<'a> {
 }
 
 impl<'a> Run<'a> {
-    /// These tokens of the file, and what passed behind them.
+    /// Joins the first tokens of the file and the output after them.
     pub(crate) fn new(front: &'a [Token], passed: Passed<'a>) -> Run<'a>
         ensures { result ≡ front.now ++ tokens_of passed.entry }
     {
         Run { front, passed }
     }
 
-    /// The tokens of the file that come first, then pieces, and behind them tokens that passed one by one.
+    /// Returns the parts in order: the first tokens of the file, the pieces, and the tokens that were emitted one by one at the end.
     pub fn parts(&self) -> (&'a [Token], &[Piece<'a>], &[Hidden<'a>])
         ensures { result.0.now ++ tokens_of (flat_map piece_list result.1.now ++ result.2.now) ≡ self.now }
     {
@@ -198,8 +202,9 @@ impl<'a> Run<'a> {
         (self.front, pieces.as_slice(), singles.as_slice())
     }
 
-    /// The tokens as they stand in the file, where nothing passed behind those in front of the first that names a macro or is a lone quote.
-    /// It doesn't tell whether a name was replaced: it may have been by nothing.
+    /// Returns the tokens as a slice of the file, if no output follows the first tokens of the file.
+    ///
+    /// A name may have been replaced all the same: by no tokens.
     pub fn unchanged(&self) -> Option<&'a [Token]>
         ensures { IfSome result (λ tokens. tokens.now ≡ self.now) }
     {

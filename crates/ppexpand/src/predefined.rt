@@ -1,4 +1,4 @@
-// The values of the predefined names (6.10.8.1).
+//! The replacements of the predefined macros (6.10.8.1).
 ghost use Rattle.std.specs.Prelude.{◌≡◌, IfOk, None, decimal, nat_abs};
 ghost use Rattle.ppmacro.specs.Numbered.{Numbered};
 ghost use Rattle.ppmacro.specs.HideSets.{set_at, hiding};
@@ -11,7 +11,7 @@ use ppmacro::{Builtin, Hidden, Set};
 use pptext::{Kind, Place, Spelling, Token};
 use std::alloc::{AllocError, Global};
 
-/// The kind of a predefined name's value.
+/// Returns the token kind of a predefined macro's replacement.
 fn predefined_kind(builtin: Builtin) -> Kind
     ensures { result ≡ predefined_kind builtin }
 {
@@ -21,7 +21,7 @@ fn predefined_kind(builtin: Builtin) -> Kind
     }
 }
 
-/// A text between quotes.
+/// Returns a text between double quotes.
 fn quoted(alloc: Global, text: &[u8]) -> Result<Vec<u8>, AllocError>
     ensures { IfOk result (λ v. v.items ≡ quoted text.now) }
 {
@@ -31,7 +31,7 @@ fn quoted(alloc: Global, text: &[u8]) -> Result<Vec<u8>, AllocError>
     Ok(literal)
 }
 
-/// The presumed line of a place, in decimal.
+/// Returns the presumed line of a location, in decimal.
 fn presumed_line(alloc: Global, env: &Env, used: Place) -> Result<Vec<u8>, AllocError>
     ensures { IfOk result (λ v. v.items ≡ decimal (nat_abs (presumed_line env.now used))) }
 {
@@ -40,7 +40,7 @@ fn presumed_line(alloc: Global, env: &Env, used: Place) -> Result<Vec<u8>, Alloc
     Vec::from_slice(alloc, buffer.format(line.unsigned_abs()).as_bytes())
 }
 
-/// The spelling of a predefined name's value, where the name is used at this place.
+/// Returns the spelling of a predefined macro's replacement. `used` is the expansion location of the name.
 fn predefined_text(
     alloc: Global,
     builtin: Builtin,
@@ -59,7 +59,7 @@ fn predefined_text(
     }
 }
 
-/// The token that a predefined name is replaced by.
+/// Returns the token that replaces the name of a predefined macro.
 pub(crate) fn predefined_value<'a>(
     alloc: Global,
     builtin: Builtin,

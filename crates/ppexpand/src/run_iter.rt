@@ -1,4 +1,4 @@
-// The tokens of a run, one by one.
+//! Iterates over an expanded list.
 ghost use Rattle.std.specs.Prelude.{◌≡◌, IfOk};
 ghost use Rattle.std.specs.Iterator.{YieldsFirstBy, item_count};
 ghost use Rattle.ppmacro.specs.Substituting.{tokens_of};
@@ -11,15 +11,17 @@ use pptext::{Kind, Place, Token};
 use std::alloc::{AllocError, Global};
 use std::marker::Model;
 
-/// A token of a run, borrowed: one as it stands in its file, or one that passed by itself.
+/// A borrowed token of an expanded list: a token of a file, or a token with a hide set.
 #[derive(Clone, Copy)]
 pub enum TokenRef<'r, 'a> {
+    /// A token of a file.
     Shared(&'a Token),
+    /// A token with a hide set.
     Made(&'r Hidden<'a>),
 }
 
 impl<'r, 'a> TokenRef<'r, 'a> {
-    /// The kind (6.4).
+    /// Returns the kind (6.4).
     pub fn kind(&self) -> Kind
         ensures { result ≡ (ref_token self.now).kind }
     {
@@ -29,7 +31,7 @@ impl<'r, 'a> TokenRef<'r, 'a> {
         }
     }
 
-    /// The bytes of the spelling.
+    /// Returns the bytes of the spelling.
     pub fn text(&self) -> &[u8]
         ensures { result.now ≡ (ref_token self.now).text }
     {
@@ -39,7 +41,7 @@ impl<'r, 'a> TokenRef<'r, 'a> {
         }
     }
 
-    /// Where it is spelled.
+    /// Returns the spelling location.
     pub fn at(&self) -> Place
         ensures { result ≡ (ref_token self.now).at }
     {
@@ -49,7 +51,7 @@ impl<'r, 'a> TokenRef<'r, 'a> {
         }
     }
 
-    /// Where it is used.
+    /// Returns the expansion location.
     pub fn used(&self) -> Place
         ensures { result ≡ (ref_token self.now).used }
     {
@@ -59,7 +61,7 @@ impl<'r, 'a> TokenRef<'r, 'a> {
         }
     }
 
-    /// Its space mark: whether white space or a line's beginning stands before it.
+    /// Returns the leading-space flag: whether the token follows white space or begins a line.
     pub fn space(&self) -> bool
         ensures { result ≡ (ref_token self.now).space }
     {
@@ -69,7 +71,7 @@ impl<'r, 'a> TokenRef<'r, 'a> {
         }
     }
 
-    /// A copy of the token. Fails only where memory runs out.
+    /// Returns a copy of the token. Fails only if an allocation fails.
     pub fn to_token(&self) -> Result<Token, AllocError>
         ensures { IfOk result (λ t. t ≡ ref_token self.now) }
     {
@@ -80,14 +82,14 @@ impl<'r, 'a> TokenRef<'r, 'a> {
     }
 }
 
-/// The tokens of a file, or those that passed one by one.
+/// The tokens of a piece: tokens of a file, or tokens that were emitted one by one.
 #[derive(Clone, Copy)]
 pub(crate) enum Source<'r, 'a> {
     Shared(&'a [Token]),
     Made(&'r [Hidden<'a>]),
 }
 
-/// What is left of the piece that is being read. Contracts see its tokens.
+/// The remaining tokens of a piece. Contracts see them as a list.
 #[derive(Drop)]
 pub(crate) struct Unread<'r, 'a> {
     source: Source<'r, 'a>,
@@ -105,7 +107,7 @@ impl<'r, 'a> Model for Unread<'r, 'a> {
 }
 
 impl<'r, 'a> Unread<'r, 'a> {
-    /// The tokens of a piece.
+    /// Creates the iterator over a piece.
     fn new(piece: &'r Piece<'a>) -> Unread<'r, 'a>
         ensures { result ≡ tokens_of (piece_list piece.now) }
     {
@@ -116,7 +118,7 @@ impl<'r, 'a> Unread<'r, 'a> {
         Unread { source }
     }
 
-    /// The first of them, taken out.
+    /// Removes the first token.
     fn next(&mut self) -> Option<TokenRef<'r, 'a>>
         ensures { YieldsFirstBy ref_token (λ rest. rest) self.old result self.new }
     {
@@ -135,7 +137,7 @@ impl<'r, 'a> Unread<'r, 'a> {
     }
 }
 
-/// What is left of the piece that is being read, and the pieces behind it. Contracts see the tokens of all of them.
+/// The remaining tokens of the current piece, and the pieces after it. Contracts see all their tokens as one list.
 #[derive(Drop)]
 pub(crate) struct Left<'r, 'a> {
     unread: Unread<'r, 'a>,
@@ -155,7 +157,7 @@ impl<'r, 'a> Model for Left<'r, 'a> {
 }
 
 impl<'r, 'a> Left<'r, 'a> {
-    /// The first of the tokens, taken out. Pieces of which nothing is left are passed over.
+    /// Removes the first token. Skips pieces without tokens.
     fn next(&mut self) -> Option<TokenRef<'r, 'a>>
         ensures { YieldsFirstBy ref_token (λ rest. rest) self.old result self.new }
     {
@@ -172,7 +174,7 @@ impl<'r, 'a> Left<'r, 'a> {
     }
 }
 
-/// The tokens of a run in order, borrowed from it. No memory is asked for. Contracts see the list of those that are left.
+/// Iterates over the tokens of an expanded list in order, without allocation. Contracts see the list of the remaining tokens.
 #[derive(Drop)]
 pub struct RunIter<'r, 'a> {
     left: Left<'r, 'a>,
@@ -204,7 +206,7 @@ impl<'r, 'a> Iterator for RunIter<'r, 'a> {
 }
 
 impl<'a> Run<'a> {
-    /// The tokens one by one, in order, each borrowed.
+    /// Returns an iterator over the tokens in order, each borrowed.
     pub fn iter(&self) -> RunIter<'_, 'a>
         ensures { result ≡ self.now }
     {
@@ -222,7 +224,7 @@ impl<'a> Run<'a> {
         }
     }
 
-    /// A copy of the tokens as one list.
+    /// Returns a copy of the tokens as one vector.
     pub fn to_vec(&self, alloc: Global) -> Result<Vec<Token>, AllocError>
         ensures { IfOk result (λ v. v.items ≡ self.now) }
     {

@@ -1,4 +1,4 @@
-// What a token is to macro replacement.
+//! The roles of tokens in an invocation, and the faults at them.
 ghost use Rattle.std.specs.Prelude.{◌≡◌, IfOk, []};
 ghost use Rattle.pptext.specs.Tokens.{is_lone_quote, fault};
 ghost use Rattle.ppexpand.specs.Arguments.{is_open, argument_role, Quote, Open, Close, Comma, Inner};
@@ -7,17 +7,17 @@ use ppmacro::Hidden;
 use pptext::{Fault, Kind};
 use std::alloc::AllocError;
 
-/// Whether a token is `(`.
+/// Returns whether a token is `(`.
 pub(crate) fn is_open(hidden: &Hidden) -> bool
     ensures { result ≡ is_open hidden.now.token }
 {
     hidden.word().is_punct(b"(")
 }
 
-/// What a token is to the search for the `)` of an invocation (6.10.3p10, p11).
+/// The role of a token in the search for the `)` of an invocation (6.10.3p10, p11).
 #[derive(Clone, Copy)]
 pub(crate) enum ArgumentRole {
-    /// A lone quote.
+    /// An unmatched quote.
     Quote,
     Open,
     Close,
@@ -26,7 +26,7 @@ pub(crate) enum ArgumentRole {
     Inner,
 }
 
-/// What a token is to that search.
+/// Returns the role of a token in the search for the `)` of an invocation.
 pub(crate) fn argument_role(hidden: &Hidden) -> ArgumentRole
     ensures { (elim result [ ArgumentRole.Quote ↦ Quote | ArgumentRole.Open ↦ Open | ArgumentRole.Close ↦ Close | ArgumentRole.Comma ↦ Comma | ArgumentRole.Inner ↦ Inner ]) ≡ argument_role hidden.now.token }
 {
@@ -49,28 +49,28 @@ pub(crate) fn argument_role(hidden: &Hidden) -> ArgumentRole
     }
 }
 
-/// Whether a token in flight is `'` or `"` alone.
+/// Returns whether a token is an unmatched `'` or `"`.
 pub(crate) fn is_quote(hidden: &Hidden) -> bool
     ensures { result ≡ is_lone_quote hidden.now.token }
 {
     hidden.word().is_lone_quote()
 }
 
-/// A fault at the place where a token is used.
+/// Returns a fault at the expansion location of a token.
 pub(crate) fn at_use(number: u8, hidden: &Hidden) -> Result<Fault, AllocError>
     ensures { IfOk result (λ f. f ≡ fault number hidden.now.token.used hidden.now.token.text) }
 {
     Fault::of_token(number, hidden.used(), hidden.word())
 }
 
-/// Fault 7, of a lone quote.
+/// Returns fault 7 of an unmatched quote.
 pub(crate) fn lone_quote(hidden: &Hidden) -> Result<Fault, AllocError>
     ensures { IfOk result (λ f. f ≡ fault 7 hidden.now.token.at hidden.now.token.text) }
 {
     Fault::of_token(7, hidden.at(), hidden.word())
 }
 
-/// Fault 35, of a macro's name for whose replacement nothing is left.
+/// Returns fault 35 of a macro's name that exceeds the budget.
 pub(crate) fn over_budget(hidden: &Hidden) -> Fault
     ensures { result ≡ fault 35 hidden.now.token.used [] }
 {

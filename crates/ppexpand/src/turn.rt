@@ -1,4 +1,4 @@
-// What the next token of a list calls for (6.10.3, 6.10.3.4).
+//! Makes the expansion step of a list's next token (6.10.3, 6.10.3.4).
 ghost use Rattle.std.specs.Prelude.{◌≡◌, IfOk, OnOk, List, ◌∷◌, ◌++◌, Some, None, map};
 ghost use Rattle.std.specs.Option.{option_copied};
 ghost use Rattle.std.specs.FinSet as set;
@@ -38,35 +38,37 @@ use pptext::{Fault, Memory, Place, Spelling, Token};
 use std::alloc::AllocError;
 use std::marker::Model;
 
-/// An invocation of a function-like macro, which is taken out of its list.
+/// An invocation of a function-like macro, removed from its list.
 #[derive(Drop)]
 pub(crate) struct Invocation<'t, 'x, 'a> {
-    /// The macro's name.
+    /// The macro name token.
     pub(crate) head: Hidden<'x>,
+    /// The macro.
     pub(crate) replaced: &'t Macro<'a>,
-    /// An argument for each parameter but a variable argument that is absent.
+    /// An argument for each parameter. An absent variable argument has no entry.
     pub(crate) arguments: Vec<Vec<Hidden<'x>>>,
-    /// The names that hide both its name and its `)`; each token of the replacement gains them and the macro's name.
+    /// The intersection of the hide sets of the name and the `)`. Each token of the replacement hides these names and the macro's name.
     pub(crate) both: Set,
 }
 
-/// What is to be done for the next token of a list.
+/// The kind of the action for the next token of a list.
 #[derive(Drop)]
 pub(crate) enum Step<'t, 'x, 'a> {
-    /// There was none.
+    /// There is no token.
     Done,
+    /// The token raises a fault, and no name is replaced.
     Refused(Fault),
-    /// It is a macro's name that is to be replaced, which fails.
+    /// The token is a macro's name whose replacement fails.
     Failed(Fault),
-    /// The token stands for itself.
+    /// The token is emitted unchanged.
     Passes(Hidden<'x>),
-    /// It is replaced in the list.
+    /// The token was replaced in the list.
     Replaced,
-    /// It is to be replaced once the arguments are expanded.
+    /// The token is to be replaced after the arguments are expanded.
     Called(Invocation<'t, 'x, 'a>),
 }
 
-/// What the next token of a list called for, once the list is what is left.
+/// The action for the next token of a list, which is removed from the list with what belongs to it.
 #[derive(Drop)]
 pub(crate) struct Next<'t, 'x, 'a> {
     pub(crate) step: Step<'t, 'x, 'a>,
@@ -88,7 +90,7 @@ impl<'t, 'x, 'a> Model for Next<'t, 'x, 'a> {
     ] };
 }
 
-/// What replaces macros' names in lists.
+/// The state of replacement: a pool of vectors, and the hide sets.
 #[derive(Drop)]
 pub(crate) struct Replacer<'x> {
     pub(crate) supply: Supply<'x>,
@@ -96,7 +98,7 @@ pub(crate) struct Replacer<'x> {
     pub(crate) sets: HideSets,
 }
 
-/// The macro that a token names.
+/// Returns the macro that a token names.
 #[inline(always)]
 pub(crate) fn macro_at<'t, 'a>(table: &'t Table<'a>, token: &Token) -> Option<&'t Macro<'a>>
     ensures { option_copied result ≡ macro_of table.now token.now }
@@ -108,7 +110,7 @@ pub(crate) fn macro_at<'t, 'a>(table: &'t Table<'a>, token: &Token) -> Option<&'
     }
 }
 
-/// A token of a replacement list, with this mark, the names that it gains, and its place of use.
+/// Returns a token of a replacement list with this leading-space flag, these names to hide, and this expansion location.
 fn gained_token<'a>(token: &'a Token, mark: bool, gain: Set, used: Place) -> Hidden<'a>
     ensures is { (sets : Numbered) → hiding sets result ≡ gained (set_at sets gain) used (with_mark mark (plain token.now)) }
     ensures known { (sets : Numbered) → IsKnown sets gain → HasSets sets result }
@@ -119,7 +121,7 @@ fn gained_token<'a>(token: &'a Token, mark: bool, gain: Set, used: Place) -> Hid
     hidden
 }
 
-/// Puts tokens of a replacement list before the rest of the list, each with its own mark.
+/// Pushes tokens of a replacement list, each with its own leading-space flag.
 fn push_gained<'x, 'a: 'x>(
     body: &'a [Token],
     gain: Set,
@@ -138,7 +140,7 @@ fn push_gained<'x, 'a: 'x>(
     Ok(())
 }
 
-/// Puts the tokens of a replacement list without `##` before the rest of the list. Each token gains the names of `base` and that of the macro.
+/// Pushes the tokens of a replacement list without `##`. Each token hides the names of `base` and the macro's name.
 fn replace_by<'x, 'a: 'x>(
     sets: &mut HideSets,
     body: &'a [Token],
@@ -165,7 +167,7 @@ fn replace_by<'x, 'a: 'x>(
     Ok(())
 }
 
-/// The turn of a macro's name whose replacement fails with this fault, at the place where the name is used.
+/// Returns the action for a macro's name whose replacement fails with this fault, at the expansion location of the name.
 fn failed_at<'t, 'x, 'a>(number: u8, head: &Hidden) -> Result<Next<'t, 'x, 'a>, Memory>
     ensures { IfOk result (λ n. n ≡ next.Failed (fault_at number head.now.token.used head.now.token.text)) }
 {
@@ -174,7 +176,7 @@ fn failed_at<'t, 'x, 'a>(number: u8, head: &Hidden) -> Result<Next<'t, 'x, 'a>, 
     })
 }
 
-/// The turn of an invocation whose `)` is found.
+/// Returns the action for an invocation whose `)` is found.
 fn called<'t, 'x, 'a: 'x>(
     sets: &mut HideSets,
     head: Hidden<'x>,
@@ -205,7 +207,7 @@ fn called<'t, 'x, 'a: 'x>(
     })
 }
 
-/// The turn of an invocation in which a lone quote stands.
+/// Returns the action for an invocation that contains an unmatched quote.
 fn failed_quote<'t, 'x, 'a>(quote: &Hidden) -> Result<Next<'t, 'x, 'a>, Memory>
     ensures { IfOk result (λ n. n ≡ next.Failed (fault_at 7 quote.now.token.at quote.now.token.text)) }
 {
@@ -214,7 +216,7 @@ fn failed_quote<'t, 'x, 'a>(quote: &Hidden) -> Result<Next<'t, 'x, 'a>, Memory>
     })
 }
 
-/// The turn of a macro's name where nothing is left of the budget: a name that is to be replaced is refused, and nothing is done for it.
+/// Returns the action for a macro's name if nothing is left of the budget: a name that is to be replaced is refused.
 fn spent_turn<'t, 'x, 'a: 'x>(
     head: Hidden<'x>,
     replaced: &Macro<'a>,
@@ -244,7 +246,7 @@ fn spent_turn<'t, 'x, 'a: 'x>(
     })
 }
 
-/// The turn of a lone quote.
+/// Returns the action for an unmatched quote.
 fn refused_quote<'t, 'x, 'a>(quote: &Hidden) -> Result<Next<'t, 'x, 'a>, Memory>
     ensures { IfOk result (λ n. n ≡ next.Refused (fault_at 7 quote.now.token.at quote.now.token.text)) }
 {
@@ -254,8 +256,9 @@ fn refused_quote<'t, 'x, 'a>(quote: &Hidden) -> Result<Next<'t, 'x, 'a>, Memory>
 }
 
 impl<'x> Replacer<'x> {
-    /// Puts what an invocation of the macro with this replacement list is replaced by before the rest of the list, or raises fault 19 or 20.
-    /// Each token gains the names of `base` and that of the macro.
+    /// Pushes the replacement of an invocation of the macro with this replacement list, or returns fault 19 or 20.
+    ///
+    /// Each token hides the names of `base` and the macro's name.
     fn replace<'a: 'x>(
         &mut self,
         pattern: &Pattern<'a>,
@@ -291,7 +294,7 @@ impl<'x> Replacer<'x> {
         }
     }
 
-    /// The turn of a predefined name.
+    /// Makes the step of a predefined macro's name.
     fn predefined_turn<'t, 'a: 'x>(
         &mut self,
         env: &Env,
@@ -315,7 +318,9 @@ impl<'x> Replacer<'x> {
         })
     }
 
-    /// Replaces an object-like macro's name, or raises fault 19. Each token of the replacement gains the names of `base` and that of the macro.
+    /// Pushes the replacement of an object-like macro's name, or returns fault 19.
+    ///
+    /// Each token hides the names of `base` and the macro's name.
     fn replace_object<'a: 'x>(
         &mut self,
         base: Set,
@@ -332,7 +337,7 @@ impl<'x> Replacer<'x> {
         ensures known { IfOk result (λ r. OnOk r (AllKnown self.new.sets list.new)) }
         ensures keeps { Keeps self.old.sets self.new.sets }
     {
-        // Saves 5 % of the instructions of `deps` on Redis.
+        // Fast path: most object-like macros have no `##`.
         if let Some(body) = replaced.lone_tokens() {
             replace_by(&mut self.sets, body, base, head, list)?;
             return Ok(Ok(()));
@@ -346,7 +351,7 @@ impl<'x> Replacer<'x> {
         self.replace(&pattern, none, base, head, list)
     }
 
-    /// The turn of an object-like macro's name.
+    /// Makes the step of an object-like macro's name.
     fn object_turn<'t, 'a: 'x>(
         &mut self,
         head: &Hidden<'x>,
@@ -373,7 +378,7 @@ impl<'x> Replacer<'x> {
         }
     }
 
-    /// The turn of a function-like macro's name, after which `(` stands.
+    /// Makes the step of a function-like macro's name that is followed by `(`.
     fn invoked<'t, 'a: 'x>(
         &mut self,
         head: Hidden<'x>,
@@ -400,7 +405,7 @@ impl<'x> Replacer<'x> {
         }
     }
 
-    /// The turn of a function-like macro's name.
+    /// Makes the step of a function-like macro's name.
     fn function_turn<'t, 'a: 'x>(
         &mut self,
         head: Hidden<'x>,
@@ -427,12 +432,12 @@ impl<'x> Replacer<'x> {
                 step: Step::Passes(head),
             });
         }
-        // The `(` is done with before there is a turn.
+        // The `(` is dropped before the step.
         drop(next);
         self.invoked(head, replaced, names, variadic, list)
     }
 
-    /// The turn of a macro's name.
+    /// Makes the step of a macro's name.
     fn macro_turn<'t, 'a: 'x>(
         &mut self,
         env: &Env,
@@ -460,8 +465,9 @@ impl<'x> Replacer<'x> {
         }
     }
 
-    /// Takes the next token of a list, which names the macro `named`, and what belongs to its invocation; a replacement is put before
-    /// the rest. Where nothing is left of the budget, a name that is to be replaced is refused.
+    /// Removes the next token of a list, which names the macro `named`, and its invocation, and pushes the replacement.
+    ///
+    /// Returns what is to be done next. If nothing is left of the budget, a name that is to be replaced is refused.
     pub(crate) fn next_turn<'t, 'a: 'x>(
         &mut self,
         context: &Context<'_, 'a>,
@@ -497,8 +503,9 @@ impl<'x> Replacer<'x> {
         self.macro_turn(context.env, head, replaced, list)
     }
 
-    /// Replaces an invocation whose arguments are expanded, before the rest of the list; or `fault` becomes the fault. The replacement list is
-    /// its macro's.
+    /// Pushes the replacement of an invocation whose arguments are expanded, or stores the fault in `fault`.
+    ///
+    /// `pattern` is the replacement list of the macro.
     #[inline(never)]
     pub(crate) fn finish<'a: 'x>(
         &mut self,

@@ -1,4 +1,4 @@
--- How far the uses of `defined` have become numbers.
+-- How far the uses of `defined` have been replaced by numbers.
 use Rattle.std.proofs.Common.{◌≡◌, true, false, List, [], ◌∷◌, ◌++◌, Some, None, append_assoc, length, arith, sym, ap, ◌∙◌, subst, refl}
 use Rattle.std.proofs.lemmas.List.{append-nil}
 use Rattle.pptext.specs.declared.tokens.Token.{Token}
@@ -23,7 +23,7 @@ pub record Follows (macros : Macros) (tokens asked rest : List Token) : Type 0 w
 pub follows_start : (macros : Macros) (tokens : List Token) → Follows macros tokens [] tokens
 follows_start macros tokens = record { onward = λ us h. h; back = λ vs h. record { us = vs; is = refl; asks = h } }
 
--- what a token becomes, with what the tokens behind it become
+-- what a token becomes, with what the tokens after it become
 pub record Begins (macros : Macros) (u : Token) (rest vs : List Token) : Type 0 where
   pub us : List Token
   pub is : vs ≡ u ∷ us

@@ -1,4 +1,4 @@
--- Conditions within a budget beside conditions within a larger one or without one.
+-- Conditions within a budget compared with conditions within a larger one or without one.
 use Rattle.std.proofs.Common.{◌≡◌, ◌≢◌, ℕ, ◌+◌, ◌<◌, List, [], ◌∷◌, Option, Some, None, Result, Ok, Err, refl, ap, ◌∙◌, subst, arith}
 use Rattle.pptext.specs.declared.tokens.Place.{Place}
 use Rattle.pptext.specs.declared.tokens.Token.{Token}
@@ -19,7 +19,7 @@ use Rattle.ppexpr.specs.Conditions.{Condition, taken, Evaluates, no_expression, 
 
 -- ---- the budget
 
--- what a condition spends and what it leaves are the budget
+-- the cost of a condition and the rest of the budget add up to the budget
 pub condition_spends : {macros : Macros} {env : Env} {at : Place} {tokens : List Token} {left after : Option ℕ} {c : Condition} (d : IsCondition macros env at tokens left c after) → left ≡ plus (count_condition d) after
 condition_spends {left = left} (ill_formed none) = plus-nothing left
 condition_spends {macros} {env} (not_replaced asks x leaves faulty) = expansion_spends macros env x ∙ ap (plus (count_expansion x)) leaves
@@ -56,7 +56,7 @@ condition_leaves_none {after = Some n} d = let e = condition_spends d in absurd 
 
 -- ---- without a budget no fault is 35
 
--- the fault of an answer is another one
+-- the fault of a result is another one
 abbrev pub IsOther : {A : Type 0} → Result A Fault → Type 0
 IsOther (Ok x) = Unit {0}
 IsOther (Err f) = f.number ≢ 35

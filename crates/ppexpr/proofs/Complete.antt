@@ -1,4 +1,4 @@
--- The stack machine takes each expression to what its tree means.
+-- The stack machine evaluates each expression to what its tree means.
 use Rattle.std.proofs.Common.{◌≡◌, ℕ, suc, ◌≤◌, ◌<◌, List, [], ◌∷◌, ◌++◌, if◌then◌else◌, refl, sym, ap, ◌∙◌, arith, append_assoc, append-nil}
 use Rattle.std.specs.Prelude.{Some, None, option_and_then}
 use Rattle.std.proofs.lemmas.Bool.{le-leb, lt-leb}
@@ -95,7 +95,7 @@ settled-awaits m p (f ∷ fs) z low high w =
 
 -- ---- what an expression does to the machine
 
--- Behind the expression's symbols, these frames and this operand are over the frames before it, and become what its tree means.
+-- After the expression's symbols, these frames and this operand are above the frames before it, and become what its tree means.
 record Reaches {A : Type 0} (m : Meaning A) (k : ℕ) (fs : List (Frame A)) (s : List Symbol) (t : Tree) : Type 0 where
   above : List (Frame A)
   last : A

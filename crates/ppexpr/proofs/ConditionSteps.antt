@@ -9,7 +9,7 @@ use Rattle.ppexpr.specs.Grammar.{IsExpression}
 use Rattle.ppexpr.specs.Reading.{Denotes}
 use Rattle.ppexpr.specs.Conditions.{Condition, taken, Evaluates, no_expression, has_value}
 
--- what a parser answers
+-- the result of the parser
 abbrev pub Parsed : List Symbol → Option Outcome → Type 0
 Parsed symbols r = MatchOption r (¬ IsExpression symbols) (Denotes symbols)
 

@@ -1,4 +1,4 @@
--- The machine's answer for a list of symbols is exact.
+-- The machine's result for a list of symbols is exact.
 use Rattle.std.proofs.Common.{◌≡◌, ℕ, suc, ◌<◌, ◌≤◌, List, [], length, get_or, drop, refl, sym, ap, subst, ◌∙◌, drop-cons}
 use Rattle.std.specs.Prelude.{Option, Some, None, MatchOption, IfSome, option_and_then}
 use Rattle.std.proofs.lemmas.List.{drop_all}
@@ -25,7 +25,7 @@ no_answer s e = λ x. some_is_none (meaning outcomes x.0) (sym (complete outcome
     some_is_none : (z : Outcome) → Some z ≡ None → ⊥
     some_is_none z h = cc
 
--- what the machine answers is what the symbols denote, or they are no expression
+-- the machine's result is what the symbols denote, or they are no expression
 pub exact : (s : List Symbol) (r : Option Outcome) → run outcomes ([], None) s ≡ r → MatchOption r (¬ IsExpression s) (Denotes s)
 exact s None e = no_answer s e
 exact s (Some z) e = denoted (subst (λ q. IfSome q (Means outcomes s)) e (sound outcomes s))
@@ -43,7 +43,7 @@ stopped s p k d h e f =
     let here = ap (run outcomes p) (drop-cons s k d h) in
     no_answer s (sym e ∙ here ∙ ap (λ t. option_and_then (λ q. run outcomes q (drop (suc k) s)) t) f)
 
--- the machine is behind the last symbol
+-- the machine is after the last symbol
 pub ended : (s : List Symbol) (p : State Outcome) (k : ℕ) (r : Option Outcome)
     → length s ≤ k
     → run outcomes p (drop k s) ≡ run outcomes ([], None) s

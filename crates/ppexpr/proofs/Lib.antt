@@ -1,6 +1,6 @@
--- The lemmas of this crate, by file; the proofs of its functions stand in a folder for each file of the sources.
+-- The lemmas of this crate, by file. The proofs of its functions are in one directory for each source file.
 
--- Where a left shift has no value.
+-- When a left shift has no value.
 pub mod Shifts
 -- Numbers by their digits.
 pub mod Digits
@@ -8,15 +8,15 @@ pub mod Digits
 pub mod Large
 -- The parser's steps over a whole list.
 pub mod Machine
--- The stack machine takes each expression to what its tree means.
+-- The stack machine evaluates each expression to what its tree means.
 pub mod Complete
--- What the stack machine answers is what a tree of the symbols means.
+-- The result of the stack machine is what a tree of the symbols means.
 pub mod Sound
--- The machine's answer for a list of symbols is exact.
+-- The machine's result for a list of symbols is exact.
 pub mod Exact
 -- An expression has one tree.
 pub mod OneTree
--- How far the uses of `defined` have become numbers.
+-- How far the uses of `defined` have been replaced by numbers.
 pub mod Asked
 -- The symbols of the tokens so far.
 pub mod SymbolSteps
@@ -26,13 +26,13 @@ pub mod ConditionSteps
 pub mod Nested
 -- Few symbols are not nested too deep.
 pub mod Shallow
--- A condition in which nothing is replaced is the condition of the symbols that its tokens stand for.
+-- A condition without macro replacement has the result of its tokens' symbols.
 pub mod Unreplaced
--- The truth of a list that asks for definitions alone.
+-- The truth value of a list with `defined` alone.
 pub mod Truths
--- A condition has at most one answer.
+-- A condition has at most one result.
 pub mod OneCondition
--- A condition has an answer.
+-- A condition has a result.
 pub mod SomeCondition
 -- A value has the type of its expression.
 pub mod Types
@@ -40,13 +40,13 @@ pub mod Types
 pub mod Ranges
 -- So does each constant, and the value of each expression of tokens.
 pub mod RangedTokens
--- Integer constants are read exactly where they are laid out.
+-- A text is read as an integer constant if and only if it has the syntax of one.
 pub mod ReadIntegers
--- Character constants are read exactly where they are laid out.
+-- A text is read as a character constant if and only if it has the syntax of one.
 pub mod ReadCharacters
 -- The condition of a guard (6.10.1) whose name is a macro's.
 pub mod GuardConditions
--- Conditions within a budget beside conditions within a larger one or without one.
+-- Conditions within a budget compared with conditions within a larger one or without one.
 pub mod Capped
 -- A condition within a budget is the one without, or fault 35.
 pub mod CappedLaw

@@ -4,7 +4,7 @@ use Rattle.std.specs.List.{suffix_len}
 use Rattle.ppexpr.specs.Symbols.{Symbol}
 use Rattle.ppexpr.specs.Nesting.{is_open, is_close, is_sign, NestsParentheses, NestsSigns}
 
--- every beginning, whether its length is below the list's or not
+-- every prefix, whether its length is below the list's or not
 beginning_within : (s : List Symbol) (k : ℕ) → (j : ℕ) × (j ≤ length s) × (take k s ≡ take j s)
 beginning_within [] zero = (0, omega arith, refl)
 beginning_within [] (suc k) = (0, omega arith, refl)

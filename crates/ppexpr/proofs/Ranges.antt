@@ -54,7 +54,7 @@ range-truth : (b : Bool) → IsInRange (truth b)
 range-truth true = refl
 range-truth false = refl
 
--- ---- operators between two operands
+-- ---- binary operators
 
 abbrev AreInRange : Operands → Type 0
 AreInRange (BothSigned a b) = (is_intmax a ≡ true) × (is_intmax b ≡ true)
@@ -171,7 +171,7 @@ range-binary_value BitOr v w h k = range-bitwise bit_or (converted v w) (or_lt 6
 range-binary_value And v w h k = range-truth (not (is_zero v) && not (is_zero w))
 range-binary_value Or v w h k = range-truth (not (is_zero v) || not (is_zero w))
 
--- ---- operators before an operand
+-- ---- unary operators
 
 range-complement : (z : ℤ) → is_intmax z ≡ true → is_intmax (neg_ℤ (pos 1) -ℤ z) ≡ true
 range-complement (pos n) h = let l = pos_small n h in grind (arith, ints, nat_tests)

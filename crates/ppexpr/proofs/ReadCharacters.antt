@@ -1,4 +1,4 @@
--- Character constants are read exactly where they are laid out.
+-- A text is read as a character constant if and only if it has the syntax of one.
 use Rattle.std.proofs.Common.{◌≡◌, ◌≢◌, ℕ, zero, suc, pos, ◌+◌, ◌*◌, ◌-◌, ◌<◌, ◌≤◌, ◌==◌, Bool, true, false, not, ◌||◌, ◌&&◌, nat_lt, nat_le, nat_eq, List, [], ◌∷◌, ◌++◌, length, take, drop, get_or, Option, Some, None}
 use Rattle.std.proofs.Common.{refl, sym, ap, ◌∙◌, subst, arith, inl, inr}
 use Rattle.std.specs.Prelude.{if◌then◌else◌, codes, option_and_then, Contains, slice_range}
@@ -107,7 +107,7 @@ escape_by s n true h e f g = octal_is s n e (same_Some (number 8 s) n g)
 escape_by s n false true e f g = hexadecimal_is s n f (same_Some (number 16 (drop 1 s)) n g)
 escape_by s n false false e f g = other_is s n g
 
--- ---- what stands between the quotes
+-- ---- the text between the quotes
 
 -- its one byte, where it is no backslash, is neither a quote nor a new-line
 abbrev pub IsSound : List ℕ → Type 0
@@ -213,7 +213,7 @@ constant_of prefix s greatest unsigned v e p sound t =
     let out : s ≡ prefix ++ 39 ∷ (t.body ++ 39 ∷ []) = e ∙ ap (λ (x : List ℕ). prefix ++ x) t.laid_out in
     record { prefix = prefix; body = t.body; greatest = greatest; type_unsigned = unsigned; number = t.number; laid_out = out; type_is = p; character = body_is t.body t.number (sound t.body out) t.reads; fits = t.fits; value = t.value }
 
--- what stands between the quotes of a text, whichever prefix it has, is sound
+-- the text between the quotes, whichever prefix there is, is sound
 abbrev IsSoundText : List ℕ → Type 0
 IsSoundText s = (prefix body : List ℕ) (greatest : ℕ) (unsigned : Bool) → IsPrefix prefix greatest unsigned → s ≡ prefix ++ 39 ∷ (body ++ 39 ∷ []) → IsSound body
 

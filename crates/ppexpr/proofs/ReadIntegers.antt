@@ -1,4 +1,4 @@
--- Integer constants are read exactly where they are laid out.
+-- A text is read as an integer constant if and only if it has the syntax of one.
 use Rattle.std.proofs.Common.{◌≡◌, ◌≢◌, ℕ, zero, suc, pos, ◌+◌, ◌*◌, ◌^◌, ◌<◌, ◌≤◌, Bool, true, false, cond, ◌||◌, ◌&&◌, nat_lt, nat_eq, List, [], ◌∷◌, ◌++◌, length, take, drop, Option, Some, None}
 use Rattle.std.proofs.Common.{refl, sym, ap, ◌∙◌, subst, arith}
 use Rattle.std.specs.Prelude.{if◌then◌else◌, codes}
@@ -21,7 +21,7 @@ use Rattle.ppexpr.specs.Constants.{HasValue, is_unsigned, is_signed, too_large, 
 abbrev step : ℕ → ℕ → ℕ → ℕ
 step base n c = n * base + digit_value c
 
--- digits that are laid out write the number that is read
+-- digits denote the number that is read
 pub number_is : {base m n : ℕ} {digits : List ℕ} → Continues base m digits n → fold (step base) m digits ≡ n
 number_is done = refl
 number_is (digit e w) = number_is w
@@ -41,7 +41,7 @@ pub begin : (base m : ℕ) (s : List ℕ) → Continues base m (take (digits_len
 begin base m [] = done
 begin base m (c ∷ s) = begin_by base m c s (is_digit c base) refl (begin base (step base m c) s)
 
--- what stands after digits begins with none
+-- the text after digits does not begin with a digit
 abbrev pub NoDigit : ℕ → List ℕ → Type 0
 NoDigit base [] = Unit {0}
 NoDigit base (c ∷ s) = is_digit c base ≡ false

@@ -1,4 +1,4 @@
--- Where a left shift has no value.
+-- When a left shift has no value.
 use Rattle.std.proofs.Common.{◌≡◌, ℕ, ℤ, pos, negsuc, ◌*◌, ◌/◌, ◌^◌, ◌<◌, true, Err, refl, arith, int_lt, to_z}
 use Rattle.std.proofs.lemmas.Int.{ints}
 use Rattle.std.proofs.lemmas.Grind.{common_steps}
@@ -10,7 +10,7 @@ use Rattle.ppexpr.specs.Outcomes.{Signed, Shift}
 use Rattle.ppexpr.specs.Operators.{ShiftLeft}
 use Rattle.ppexpr.specs.Values.{left_shift}
 
--- a number above the quotient passes the bound when it is shifted
+-- a number above the quotient exceeds the bound when it is shifted
 past : (n k bound : ℕ) → bound / 2 ^ k < n → bound < n * 2 ^ k
 past n k bound h = (div-lt_iff_lt-mul (pow_pos k)).0 h
 

@@ -1,4 +1,4 @@
--- A condition has an answer.
+-- A condition has a result.
 use Rattle.std.proofs.Common.{◌≡◌, ℕ, zero, suc, ◌+◌, ◌≤◌, ◌⊎◌, inl, inr, Bool, true, false, List, [], ◌∷◌, length, take, map, count_by, Option, Some, None, Result, Ok, Err, refl, arith}
 use Rattle.std.specs.Prelude.{MatchOption}
 use Rattle.std.specs.List.{list_any, suffix_len}
@@ -27,7 +27,7 @@ use Rattle.ppexpr.proofs.Exact.{exact}
 use Rattle.ppexpr.proofs.Unreplaced.{operand_shorter}
 use Rattle.ppexpr.proofs.Machine.{run}
 
--- ---- the uses of `defined` become numbers, or one is ill formed
+-- ---- the uses of `defined` are replaced by numbers, or one is ill-formed
 
 abbrev Answered : Macros → List Token → Type 0
 Answered macros ts = ((us : List Token) × Asks macros ts us) ⊎ ((us : List Token) → ¬ Asks macros ts us)
@@ -40,7 +40,7 @@ behind_question : (macros : Macros) (d : Token) (ts : List Token) (o : Operand) 
 behind_question macros d ts o e k (inl h) = inl (answer macros d o.name ∷ h.0, question e k h.1)
 behind_question macros d ts o e k (inr none) = inr (λ us a. let b : Begins macros (answer macros d o.name) o.rest us = begins_question macros d ts us o e k a in none b.us b.asks)
 
--- what every shorter list is answered
+-- the result for every shorter list
 abbrev Behind : Macros → List Token → Type 0
 Behind macros ts = (rest : List Token) → length rest ≤ length ts → Answered macros rest
 
@@ -67,7 +67,7 @@ not_among : (x : Symbol) (s : List Symbol) (Q : List Symbol → Type 0) → ¬ Q
 not_among x s Q none later zero q = none q
 not_among x s Q none later (suc k) q = later (k, q)
 
--- some beginning of the list has a property that can be decided, or none has it
+-- some prefix of the list has a property that can be decided, or none has it
 somewhere : (s : List Symbol) (Q : List Symbol → Type 0) → ((l : List Symbol) → Q l ⊎ ¬ Q l) → ((k : ℕ) × Q (take k s)) ⊎ ¬ ((k : ℕ) × Q (take k s))
 somewhere [] Q d = elim (d []) [
   | inl q ↦ inl (0, q)

@@ -1,4 +1,4 @@
--- What the stack machine answers is what a tree of the symbols means.
+-- The result of the stack machine is what a tree of the symbols means.
 use Rattle.std.proofs.Common.{◌≡◌, ℕ, zero, suc, ◌≤◌, ◌<◌, List, [], ◌∷◌, ◌++◌, if◌then◌else◌, refl, sym, ap, subst, ◌∙◌, arith, append_assoc, append-nil, inl, inr}
 use Rattle.std.specs.Prelude.{Option, Some, None, IfSome, option_and_then}
 use Rattle.std.proofs.lemmas.Bool.Decides.{leb_tells}
@@ -99,7 +99,7 @@ arms_end xs ys qs zs ns all c d e w =
     ∙ ap (λ l. xs ++ l) (sym (append_assoc ys (c ∷ (qs ++ d ∷ [])) ns))
     ∙ sym (append_assoc xs (ys ++ (c ∷ (qs ++ d ∷ []))) ns) ∙ ap (λ l. l ++ ns) (sym e) ∙ w
 
--- one symbol more behind the operand
+-- one more symbol after the operand
 pushed : (xs ys all : List Symbol) (c : Symbol) → xs ++ ys ≡ all → all ++ c ∷ [] ≡ xs ++ (ys ++ c ∷ [])
 pushed xs ys all c w = ap (λ l. l ++ c ∷ []) (sym w) ∙ append_assoc xs ys (c ∷ [])
 

@@ -1,4 +1,4 @@
--- The truth of a list that asks for definitions alone.
+-- The truth value of a list with `defined` alone.
 use Rattle.std.proofs.Common.{◌≡◌, ℕ, ◌≤◌, Bool, true, false, not, ◌&&◌, ◌||◌, List, [], ◌∷◌, ◌++◌, length, Ok, refl, sym, ap, ◌∙◌, subst, true≢false}
 use Rattle.std.proofs.Common.{arith, append_assoc, append-nil, codes}
 use Rattle.std.proofs.lemmas.Bool.{and_parts}
@@ -41,7 +41,7 @@ mark_undefined t e = rw e refl
 mark_plain : (macros : Macros) (t : Token) → t.kind ≡ Punct → is_plain macros t ≡ true
 mark_plain macros t e = rw e refl
 
--- a punctuator stands for the symbol of its spelling
+-- a punctuator has the symbol of its spelling
 begins_mark : (macros : Macros) (ts rest : List Token) (text : List ℕ) (s : Symbol) → punctuator_among operators text ≡ s → BeginsMark text ts rest → BeginsWith macros ts s rest
 begins_mark macros ts rest text s e m =
     let parts = and_parts _ _ m.spelled in
@@ -76,7 +76,7 @@ unfolding constant_outcome
 taken_truth at true = refl
 taken_truth at false = refl
 
--- ---- one question, and questions that are joined
+-- ---- one use of `defined`, and uses that are joined
 
 pub asked_truth : (macros : Macros) (ts rest : List Token) (b : Bool) → BeginsWith macros ts (Constant (truth b)) rest → BeginsTruth macros 12 ts b rest
 asked_truth macros ts rest b w = record {

@@ -1,4 +1,4 @@
--- A condition in which nothing is replaced is the condition of the symbols that its tokens stand for.
+-- A condition without macro replacement has the result of its tokens' symbols.
 use Rattle.std.proofs.Common.{◌≡◌, ℕ, suc, ◌<◌, ◌⊎◌, inl, inr, ◌&&◌, Bool, true, false, List, [], ◌∷◌, length, Option, Some, None}
 use Rattle.std.proofs.Common.{Ok, refl, sym, subst, append-nil, arith, is_some, codes, if◌then◌else◌}
 use Rattle.std.specs.FinMap as table
@@ -60,7 +60,7 @@ direct_condition macros env at ts left ss c h j =
     let u : Unreplaced macros ts ss = unreplaced macros ts ss h in
     replaced u.asks (expands_as_is macros env left u.asked u.plain) refl refl (constants u.undefined (u.symbols at) j)
 
--- ---- what stands behind an operand and a symbol
+-- ---- the tokens after an operand and a symbol
 
 none_is_some : (p o : Operand) → None ≡ Some o → ⊥
 none_is_some p o e = cc

@@ -9,7 +9,7 @@ use Rattle.ppmacro.specs.Names.{Macros}
 abbrev pub is_defined : Token → Bool
 is_defined t = is_name (codes "defined") t
 
--- the name that `defined` asks for, and what stands behind it
+-- the operand of `defined`: the name, and the tokens after the operand
 pub record Operand : Type 0 where
   pub name : Token
   pub rest : List Token
@@ -25,11 +25,11 @@ abbrev pub operand : List Token → Option Operand
 operand [] = None
 operand (x ∷ rest) = if is_identifier x then Some (record { name = x; rest = rest }) else parenthesized (x ∷ rest)
 
--- the number that stands in the place of `defined`
+-- the number that replaces `defined` and its operand
 abbrev pub answer : Macros → Token → Token → Token
 answer macros d x = record d { kind = Number; text = if is_some (table.get macros x.text) then codes "1" else codes "0" }
 
--- each use of `defined` becomes a number, from the left, and every other token stays; where a use has no name there is no such list
+-- each use of `defined` is replaced by a number, from the left, and every other token stays; if a use has no name, there is no such list
 pub data Asks (macros : Macros) : List Token → List Token → Type 0 where
   nothing : Asks macros [] []
   other : {t : Token} {ts us : List Token} → is_defined t ≡ false → Asks macros ts us → Asks macros (t ∷ ts) (t ∷ us)

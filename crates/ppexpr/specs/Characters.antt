@@ -6,7 +6,7 @@ use Rattle.std.specs.Char.{is_digit}
 use Rattle.ppexpr.specs.Integers.{number}
 use Rattle.ppexpr.specs.Outcomes.{Value, Signed, Unsigned}
 
--- what stands between the quotes
+-- the bytes between the quotes
 abbrev pub quoted : List ℕ → Option (List ℕ)
 quoted s =
     if nat_le 2 (length s) && (slice_index s 0 == 39 && slice_index s (length s - 1) == 39) then Some (slice_range s 1 (length s - 1)) else None
@@ -28,12 +28,12 @@ is_octal_escape s = nat_le (length s) 3 && are_digits 8 s
 abbrev pub is_hexadecimal_escape : List ℕ → Bool
 is_hexadecimal_escape s = starts_with nat_eq s (codes "x") && are_digits 16 (drop 1 s)
 
--- one byte behind the backslash
+-- one byte after the backslash
 abbrev pub other_escape : List ℕ → Option ℕ
 other_escape (c ∷ []) = simple_escape c
 other_escape _ = None
 
--- what stands behind the backslash, by the first rule that fits
+-- the text after the backslash, by the first rule that fits
 abbrev pub escape : List ℕ → Option ℕ
 escape s =
     if is_octal_escape s then Some (number 8 s) else (

@@ -1,4 +1,4 @@
--- Whether the group behind `#if` or `#elif` is taken (6.10.1), or the one fault. `at` is the place of the directive's `#`.
+-- Whether the group after `#if` or `#elif` is taken (6.10.1), or the first fault. `at` is the location of the directive's `#`.
 use Rattle.std.specs.Prelude.{◌≡◌, ℕ, Bool, not, List, [], Option, Some, None, Result, Ok, Err, true, false}
 use Rattle.std.specs.List.{list_any}
 use Rattle.pptext.specs.declared.tokens.Place.{Place}
@@ -28,24 +28,24 @@ failure_fault at (ZeroDivisor o) = fault 26 at (spelling_of o)
 failure_fault at (Overflow o) = fault 27 at (spelling_of o)
 failure_fault at (Shift o) = fault 28 at (spelling_of o)
 
--- taken where the value is not 0
+-- the group is taken if the value is not 0
 abbrev pub taken : Place → Result Value Failure → Condition
 taken at (Ok v) = Ok (not (is_zero v))
 taken at (Err f) = Err (failure_fault at f)
 
 -- ---- the steps, from the last to the first
 
--- no expression is 23, the empty list among them
+-- a list that is no expression, such as the empty list, is fault 23
 pub data Evaluates (at : Place) (symbols : List Symbol) : Condition → Type 0 where
   no_expression : ¬ IsExpression symbols → Evaluates at symbols (Err (fault 23 at []))
   has_value : {o : Outcome} → Denotes symbols o → Evaluates at symbols (taken at o.value)
 
--- too deeply nested is 29
+-- an expression that is nested too deep is fault 29
 pub data Judges (at : Place) (symbols : List Symbol) : Condition → Type 0 where
   too_nested : IsTooNested symbols → Judges at symbols (Err (fault 29 at []))
   not_nested : {c : Condition} → ¬ IsTooNested symbols → Evaluates at symbols c → Judges at symbols c
 
--- `defined` that replacement made is 22; then the first constant from the left without a value is 24 or 25
+-- a `defined` that replacement made is fault 22; then the first constant from the left without a value is fault 24 or 25
 pub data Decides (at : Place) (tokens : List Token) : Condition → Type 0 where
   made_defined : list_any is_defined tokens ≡ true → Decides at tokens (Err (fault 22 at []))
   bad_constant : {f : Fault} → list_any is_defined tokens ≡ false → symbols_of at tokens ≡ Err f → Decides at tokens (Err f)
@@ -55,8 +55,8 @@ pub data Decides (at : Place) (tokens : List Token) : Condition → Type 0 where
       → Judges at symbols c
       → Decides at tokens c
 
--- What is left of the budget before, the answer, and what is left behind it. A use of `defined` without a name is 22; a fault of the replacement is
--- the condition's.
+-- The budget before the condition, the result, and the rest of the budget. A use of `defined` without a name is fault 22. A fault of macro
+-- replacement is the result.
 pub data IsCondition (macros : Macros) (env : Env) (at : Place) (tokens : List Token) : Option ℕ → Condition → Option ℕ → Type 0 where
   ill_formed : {left : Option ℕ}
       → ((asked : List Token) → ¬ Asks macros tokens asked)

@@ -1,11 +1,11 @@
--- How constants are laid out (6.4.4.1, 6.4.4.4), as relations, apart from the tests that read them.
+-- The syntax of constants (6.4.4.1, 6.4.4.4) as relations, independent of the functions that read constants.
 use Rattle.std.specs.Prelude.{◌≡◌, ◌≢◌, ℕ, ◌+◌, ◌*◌, ◌^◌, ◌<◌, ◌≤◌, Bool, true, false, if◌then◌else◌, List, [], ◌∷◌, ◌++◌, length, pos, codes}
 use Rattle.std.specs.Char.{is_digit, digit_value}
 use Rattle.ppexpr.specs.Outcomes.{Value, Signed, Unsigned}
 
 -- ---- digits
 
--- After digits of this base that write m, these digits make it n: each takes the number times the base, and adds its own value.
+-- Digits that denote m, followed by these digits, denote n: each digit multiplies the number by the base, and adds its own value.
 pub data Continues (base : ℕ) : ℕ → List ℕ → ℕ → Type 0 where
   done : {n : ℕ} → Continues base n [] n
   digit : {m n c : ℕ} {digits : List ℕ}
@@ -13,7 +13,7 @@ pub data Continues (base : ℕ) : ℕ → List ℕ → ℕ → Type 0 where
       → Continues base (m * base + digit_value c) digits n
       → Continues base m (c ∷ digits) n
 
--- these digits of a base write this number
+-- these digits of a base denote this number
 abbrev pub Writes : ℕ → List ℕ → ℕ → Type 0
 Writes base digits n = Continues base 0 digits n
 
@@ -33,8 +33,8 @@ pub data IsX : ℕ → Type 0 where
   small_x : IsX 120
   large_x : IsX 88
 
--- A constant without its suffix, and its number: decimal digits, the first of which is no 0, octal digits, the first of which is 0 (48), or `0x` or
--- `0X` and hexadecimal digits, at least one
+-- A constant without its suffix, and its number: decimal digits, the first of which is not 0; octal digits, the first of which is 0 (byte 48); or
+-- `0x` or `0X` and at least one hexadecimal digit.
 pub data IsNumeral : Base → List ℕ → ℕ → Type 0 where
   decimal : {c n : ℕ} {digits : List ℕ} → c ≢ 48 → Writes 10 (c ∷ digits) n → IsNumeral Decimal (c ∷ digits) n
   octal : {n : ℕ} {digits : List ℕ} → Writes 8 (48 ∷ digits) n → IsNumeral Octal (48 ∷ digits) n
@@ -51,7 +51,7 @@ pub data IsLongSuffix : List ℕ → Type 0 where
   small_ll : IsLongSuffix (codes "ll")
   large_ll : IsLongSuffix (codes "LL")
 
--- what stands after the digits, and whether there is a `u` or `U` in it
+-- the text after the digits, and whether it has a `u` or `U`
 pub data IsSuffix : Bool → List ℕ → Type 0 where
   no_suffix : IsSuffix false []
   long : {l : List ℕ} → IsLongSuffix l → IsSuffix false l
@@ -59,8 +59,8 @@ pub data IsSuffix : Bool → List ℕ → Type 0 where
   unsigned_long : {u l : List ℕ} → IsUnsignedSuffix u → IsLongSuffix l → IsSuffix true (u ++ l)
   long_unsigned : {u l : List ℕ} → IsLongSuffix l → IsUnsignedSuffix u → IsSuffix true (l ++ u)
 
--- The value (6.4.4.1p5, 6.10.1p4). With a `u` it is unsigned. Else it is signed where it fits; where it doesn't, it is unsigned, but a decimal constant
--- has none.
+-- The value (6.4.4.1p5, 6.10.1p4). With `u` or `U` it is unsigned. Otherwise it is signed if it fits. If it does not fit, it is unsigned, but a
+-- decimal constant has no value then.
 pub data HasValue (base : Base) : Bool → ℕ → Value → Type 0 where
   is_unsigned : {n : ℕ} → n < 2 ^ 64 → HasValue base true n (Unsigned n)
   is_signed : {n : ℕ} → n < 2 ^ 63 → HasValue base false n (Signed (pos n))
@@ -80,7 +80,7 @@ pub record IsInteger (text : List ℕ) (v : Value) : Type 0 where
 
 -- ---- character constants (6.4.4.4)
 
--- what stands after the backslash of a simple escape sequence, and its value: `'` `"` `?` `\` `a` `b` `f` `n` `r` `t` `v`
+-- the byte after the backslash of a simple escape sequence, and its value: `'` `"` `?` `\` `a` `b` `f` `n` `r` `t` `v`
 pub data IsSimpleEscape : ℕ → ℕ → Type 0 where
   single_quote : IsSimpleEscape 39 39
   double_quote : IsSimpleEscape 34 34
@@ -94,16 +94,16 @@ pub data IsSimpleEscape : ℕ → ℕ → Type 0 where
   horizontal_tab : IsSimpleEscape 116 9
   vertical_tab : IsSimpleEscape 118 11
 
--- What stands between the quotes, and its number: one byte other than `'`, `\` and new-line, or `\` (92) and a simple escape, one to three octal digits,
--- or `x` (120) and hexadecimal digits, at least one
+-- The text between the quotes, and its number: one byte other than `'`, `\` and new-line; or `\` (byte 92) and a simple escape, one to three octal
+-- digits, or `x` (byte 120) and at least one hexadecimal digit.
 pub data IsCharacter : List ℕ → ℕ → Type 0 where
   byte : {c : ℕ} → c ≢ 39 → c ≢ 92 → c ≢ 10 → IsCharacter (c ∷ []) c
   simple : {c n : ℕ} → IsSimpleEscape c n → IsCharacter (92 ∷ c ∷ []) n
   octal_escape : {c n : ℕ} {digits : List ℕ} → length (c ∷ digits) ≤ 3 → Writes 8 (c ∷ digits) n → IsCharacter (92 ∷ c ∷ digits) n
   hexadecimal_escape : {c n : ℕ} {digits : List ℕ} → Writes 16 (c ∷ digits) n → IsCharacter (92 ∷ 120 ∷ c ∷ digits) n
 
--- a prefix, the greatest value of a constant with it, and whether its type is unsigned: none is of the type `int`, `L` of `wchar_t`, `u` of
--- `char16_t` and `U` of `char32_t`
+-- a prefix, the greatest value of a constant with it, and whether its type is unsigned: the type is `int` without a prefix, `wchar_t` with `L`,
+-- `char16_t` with `u` and `char32_t` with `U`
 pub data IsPrefix : List ℕ → ℕ → Bool → Type 0 where
   no_prefix : IsPrefix [] 255 false
   wide : IsPrefix (codes "L") 4294967295 false

@@ -1,5 +1,4 @@
--- Conditions that ask for definitions alone: lists of tokens whose value is a truth. Words of contracts inside the crate: no definition rests on
--- this file.
+-- Conditions with `defined` alone: lists of tokens with a truth value. Vocabulary of the code: no definition rests on this file.
 use Rattle.std.specs.Prelude.{◌≡◌, ℕ, ◌<◌, Bool, true, List, ◌∷◌, ◌++◌, length, Ok}
 use Rattle.pptext.specs.declared.tokens.Place.{Place}
 use Rattle.pptext.specs.declared.tokens.Token.{Token}
@@ -12,13 +11,13 @@ use Rattle.ppexpr.specs.Grammar.{Derives}
 use Rattle.ppexpr.specs.Direct.{StandFor}
 use Rattle.ppexpr.specs.Conditions.{Judges}
 
--- a list begins with a punctuator of this spelling, and goes on with the rest
+-- a list begins with a punctuator of this spelling, and the rest follows
 pub record BeginsMark (text : List ℕ) (ts rest : List Token) : Type 0 where
   pub mark : Token
   pub is : ts ≡ mark ∷ rest
   pub spelled : is_punct text mark ≡ true
 
--- a list begins with an expression of this level that has this truth, and goes on with the rest
+-- a list begins with an expression of this level that has this truth value, and the rest follows
 pub record BeginsTruth (macros : Macros) (level : ℕ) (ts : List Token) (holds : Bool) (rest : List Token) : Type 0 where
   pub symbols : List Symbol
   pub tree : Tree
@@ -27,7 +26,7 @@ pub record BeginsTruth (macros : Macros) (level : ℕ) (ts : List Token) (holds 
   pub value : outcome_of tree ≡ constant_outcome (truth holds)
   pub shorter : length rest < length ts
 
--- a list stands for an expression that has this truth
+-- the symbols of a list are an expression with this truth value
 pub record HasTruth (macros : Macros) (ts : List Token) (holds : Bool) : Type 0 where
   pub symbols : List Symbol
   pub stands : StandFor macros ts symbols

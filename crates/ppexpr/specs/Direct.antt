@@ -1,5 +1,4 @@
--- Conditions in which nothing is replaced: each token stands for a symbol as it is. Words of contracts inside the crate: no definition rests on
--- this file.
+-- Conditions without macro replacement: each token has a symbol as it is. Vocabulary of the code: no definition rests on this file.
 use Rattle.std.specs.Prelude.{◌≡◌, true, false, List, [], ◌∷◌, Some, Ok, is_some}
 use Rattle.std.specs.FinMap as table
 use Rattle.pptext.specs.declared.tokens.Place.{Place}
@@ -16,7 +15,7 @@ pub record StandsFor (macros : Macros) (t : Token) (s : Symbol) : Type 0 where
   pub plain : is_plain macros t ≡ true
   pub symbol : (at : Place) → symbol_of at t ≡ Ok s
 
--- a list begins with what this symbol stands for, and goes on with the rest
+-- a list begins with the tokens of this symbol, and the rest follows
 pub data BeginsWith (macros : Macros) : List Token → Symbol → List Token → Type 0 where
   token : {t : Token} {ts : List Token} {s : Symbol} → is_defined t ≡ false → StandsFor macros t s → BeginsWith macros (t ∷ ts) s ts
   question : {d : Token} {ts : List Token} {o : Operand}
@@ -24,7 +23,7 @@ pub data BeginsWith (macros : Macros) : List Token → Symbol → List Token →
       → operand ts ≡ Some o
       → BeginsWith macros (d ∷ ts) (Constant (truth (is_some (table.get macros o.name.text)))) o.rest
 
--- a list stands for these symbols
+-- a list has these symbols
 pub data StandFor (macros : Macros) : List Token → List Symbol → Type 0 where
   nothing : StandFor macros [] []
   more : {ts rest : List Token} {s : Symbol} {ss : List Symbol} → BeginsWith macros ts s rest → StandFor macros rest ss → StandFor macros ts (s ∷ ss)

@@ -1,4 +1,4 @@
--- The grammar of controlling expressions (6.5, 6.6, 6.10.1): constant expressions without assignment, comma, casts and the like.
+-- The grammar of controlling expressions (6.5, 6.6, 6.10.1): constant expressions without assignment, comma, casts and `sizeof`.
 use Rattle.std.specs.Prelude.{◌≡◌, ℕ, suc, List, [], ◌∷◌, ◌++◌, Some}
 use Rattle.ppexpr.specs.Outcomes.{Value}
 use Rattle.ppexpr.specs.Operators.{Operator as OperatorSign}
@@ -35,7 +35,7 @@ pub data Derives : ℕ → List Symbol → Tree → Type 0 where
   parentheses : {s : List Symbol} {t : Tree} → Derives 0 s t → Derives 13 (Open ∷ (s ++ (Close ∷ []))) t
   unary : {s : List Symbol} {t : Tree} (sign : OperatorSign) (o : Unary) → unary_of sign ≡ Some o →
       Derives 12 s t → Derives 12 (Operator sign ∷ s) (Applied o t)
-  -- a binary operator's left operand may hold operators of its level, its right operand may not: it groups from the left
+  -- a binary operator groups from the left: its left operand may have operators of its level, its right operand may not
   binary : {s r : List Symbol} {t u : Tree} (sign : OperatorSign) (o : Binary) → binary_of sign ≡ Some o →
       Derives (level_of o) s t → Derives (suc (level_of o)) r u → Derives (level_of o) (s ++ (Operator sign ∷ r)) (Joined o t u)
   -- the conditional operator groups from the right, and its middle is a whole expression

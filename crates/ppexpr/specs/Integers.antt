@@ -9,11 +9,11 @@ use Rattle.ppexpr.specs.Outcomes.{Value, Signed, Unsigned}
 
 -- ---- digits
 
--- how many digits of this base begin the text
+-- the number of digits of this base at the start of the text
 abbrev pub digits_len : ℕ → List ℕ → ℕ
 digits_len base s = prefix_len (λ c. is_digit c base) s
 
--- the number that digits write
+-- the number that digits denote
 abbrev pub number : ℕ → List ℕ → ℕ
 number base digits = fold (λ n c. n * base + digit_value c) 0 digits
 
@@ -35,7 +35,7 @@ unsigned_suffixes =
 abbrev pub as_uintmax : ℕ → Option Value
 as_uintmax n = if nat_lt n (2 ^ 64) then Some (Unsigned n) else None
 
--- a decimal constant without `u` is signed; another is unsigned where it has to be (6.4.4.1p5)
+-- a constant without `u` and `U` is signed if it fits; if it does not, it is unsigned, but a decimal constant has no value then (6.4.4.1p5)
 abbrev pub typed : Bool → List ℕ → ℕ → Option Value
 typed decimal suffix n =
     if is_one_of unsigned_suffixes suffix then as_uintmax n else (

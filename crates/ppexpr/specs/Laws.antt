@@ -1,16 +1,16 @@
--- What laws say of values and conditions.
+-- The statements of the theorems about values and conditions.
 use Rattle.std.specs.Prelude.{◌≡◌, ℕ, ◌-◌, ◌^◌, ◌<◌, ◌≤◌, true, Option, Some, Err}
 use Rattle.pptext.specs.declared.tokens.Fault.{Fault}
 use Rattle.ppexpr.specs.Outcomes.{Value, Signed, Unsigned}
 use Rattle.ppexpr.specs.Values.{is_intmax}
 use Rattle.ppexpr.specs.Conditions.{Condition}
 
--- a value that its type has: a signed one from -2^63 to 2^63 - 1, an unsigned one below 2^64 (6.10.1p4, 7.20.1.5)
+-- a value in the range of its type: from -2^63 to 2^63 - 1 if it is signed, below 2^64 if it is unsigned (6.10.1p4, 7.20.1.5)
 abbrev pub IsInRange : Value → Type 0
 IsInRange (Signed z) = is_intmax z ≡ true
 IsInRange (Unsigned n) = n < 2 ^ 64
 
--- a condition with the budget b, and what it leaves, beside that condition without a budget, which costs so many replacements
+-- a condition with the budget b and what is left, compared with that condition without a budget, which makes this number of replacements
 pub record IsCapped (b replacements : ℕ) (whole answer : Condition) (left : Option ℕ) : Type 0 where
   pub enough : replacements ≤ b → (answer ≡ whole) × (left ≡ Some (b - replacements))
   pub short : b < replacements → ((f : Fault) × (answer ≡ Err f) × (f.number ≡ 35)) × (left ≡ Some 0)

@@ -1,4 +1,4 @@
--- Which expressions are too nested: by the depth of parentheses, the number of conditional operators, or signs side by side.
+-- Expressions that are nested too deep: by the depth of parentheses, the number of conditional operators, or consecutive signs.
 use Rattle.std.specs.Prelude.{ℕ, ◌+◌, ◌<◌, ◌≤◌, ◌⊎◌, Bool, true, false, List, take, count_by}
 use Rattle.std.specs.List.{suffix_len}
 use Rattle.ppexpr.specs.Operators.{Plus, Minus, Tilde, Bang}
@@ -24,11 +24,11 @@ is_sign (Operator Tilde) = true
 is_sign (Operator Bang) = true
 is_sign _ = false
 
--- some beginning of the list has 257 more `(` than `)`
+-- some prefix of the list has at least 257 more `(` than `)`
 abbrev pub NestsParentheses : List Symbol → Type 0
 NestsParentheses s = (k : ℕ) × (count_by is_close (take k s) + 257 ≤ count_by is_open (take k s))
 
--- some beginning of the list ends in 257 signs
+-- some prefix of the list ends in at least 257 signs
 abbrev pub NestsSigns : List Symbol → Type 0
 NestsSigns s = (k : ℕ) × (257 ≤ suffix_len is_sign (take k s))
 

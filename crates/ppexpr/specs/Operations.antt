@@ -1,13 +1,13 @@
--- What operators do.
+-- Operators by what they do.
 
--- before an operand (6.5.3.3)
+-- unary operators (6.5.3.3)
 pub data Unary : Type 0 where
   Plus : Unary
   Minus : Unary
   Complement : Unary
   Not : Unary
 
--- between two operands (6.5.5 to 6.5.14)
+-- binary operators (6.5.5 to 6.5.14)
 pub data Binary : Type 0 where
   Multiply : Binary
   Divide : Binary

@@ -1,4 +1,4 @@
--- The operators of controlling expressions by their spelling (6.4.6): `+` and `-` stand before an operand or between two.
+-- The operators of controlling expressions by their spelling (6.4.6). `+` and `-` are unary or binary.
 pub data Operator : Type 0 where
   Plus : Operator
   Minus : Operator

@@ -1,5 +1,5 @@
--- Reading an expression from the left with a stack of what still waits for its last operand: what the parser's own functions
--- say of their steps. No definition rests on this file: what is read is said by the grammar alone.
+-- The parser's stack of what waits for its last operand, and its steps: vocabulary of the code. No definition rests on this file: the grammar alone
+-- says what an expression is.
 use Rattle.std.specs.Prelude.{◌≡◌, ℕ, Bool, List, [], ◌∷◌, Option, Some, None, nat_le, if◌then◌else◌}
 use Rattle.ppexpr.specs.Outcomes.{Value, Outcome}
 use Rattle.ppexpr.specs.Symbols.{Symbol, Constant, Operator, Open, Close, Question, Colon, unary_of, binary_of}
@@ -7,7 +7,7 @@ use Rattle.ppexpr.specs.Operations.{Unary, Binary}
 use Rattle.ppexpr.specs.Grammar.{level_of}
 use Rattle.ppexpr.specs.Values.{constant_outcome, unary_outcome, binary_outcome, choice_outcome}
 
--- What the trees come to, whatever it is: outcomes, or the trees themselves.
+-- What trees are evaluated to: outcomes, or the trees themselves.
 pub record Meaning (A : Type 0) : Type 0 where
   pub leaf : Value → A
   pub applied : Unary → A → A
@@ -17,7 +17,7 @@ pub record Meaning (A : Type 0) : Type 0 where
 abbrev pub outcomes : Meaning Outcome
 outcomes = record { leaf = constant_outcome; applied = unary_outcome; joined = binary_outcome; chosen = choice_outcome }
 
--- What waits: an opening parenthesis, an operator for its last operand (with the operands that it has), or a condition for its `:`.
+-- An entry of the stack: a `(`; an operator that waits for its last operand, with the operands that it has; or a condition that waits for its `:`.
 pub data Frame (A : Type 0) : Type 0 where
   Group : Frame A
   Sign : Unary → Frame A
@@ -25,7 +25,7 @@ pub data Frame (A : Type 0) : Type 0 where
   Test : A → Frame A
   Arms : A → A → Frame A
 
--- the level of the expression that the frame becomes with its last operand; 0 where a closing symbol comes first
+-- the level of the expression that the frame becomes with its last operand; 0 if a closing symbol must come first
 abbrev pub frame_level : {A : Type 0} → Frame A → ℕ
 frame_level Group = 0
 frame_level (Sign o) = 12
@@ -40,7 +40,7 @@ completed m (Left o x) z = m.joined o x z
 completed m (Test x) z = z
 completed m (Arms x y) z = m.chosen x y z
 
--- Behind an operand, the frames of this level or tighter have all their operands: those that stay, and what the operand becomes.
+-- After an operand, the frames of this level or tighter have all their operands. These are the frames that stay, and what the operand becomes.
 abbrev pub kept : {A : Type 0} → ℕ → List (Frame A) → List (Frame A)
 kept p [] = []
 kept p (f ∷ fs) = if nat_le p (frame_level f) then kept p fs else (f ∷ fs)
@@ -49,7 +49,7 @@ abbrev pub settled : {A : Type 0} → Meaning A → ℕ → List (Frame A) → A
 settled m p [] z = z
 settled m p (f ∷ fs) z = if nat_le p (frame_level f) then settled m p fs (completed m f z) else z
 
--- the frames, the innermost first, and the operand just read, where one was
+-- the frames, the innermost first, and the operand that was just read, if any
 abbrev pub State : Type 0 → Type 0
 State A = List (Frame A) × Option A
 
@@ -73,7 +73,7 @@ abbrev pub ended : {A : Type 0} → List (Frame A) → A → Option A
 ended [] z = Some z
 ended (f ∷ fs) z = None
 
--- one symbol more
+-- one more symbol
 abbrev pub step : {A : Type 0} → Meaning A → State A → Symbol → Option (State A)
 step m (fs, None) (Constant v) = Some (fs, Some (m.leaf v))
 step m (fs, None) Open = Some (Group ∷ fs, None)
@@ -85,7 +85,7 @@ step m (fs, Some z) Colon = between (kept 1 fs) (settled m 1 fs z)
 step m (fs, Some z) Close = closed (kept 1 fs) (settled m 1 fs z)
 step m (fs, Some z) s = None
 
--- the parser takes the symbol, or there is no step
+-- the parser reads the symbol, or there is no step
 abbrev pub Takes : State Outcome → Symbol → Bool → State Outcome → Type 0
 Takes old s more new = step outcomes old s ≡ (if more then Some new else None)
 

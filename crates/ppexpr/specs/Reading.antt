@@ -1,4 +1,4 @@
--- What an expression's symbols come to.
+-- The outcome of an expression's symbols.
 use Rattle.std.specs.Prelude.{◌≡◌, List}
 use Rattle.ppexpr.specs.Symbols.{Symbol}
 use Rattle.ppexpr.specs.Outcomes.{Outcome}

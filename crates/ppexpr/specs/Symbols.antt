@@ -1,4 +1,4 @@
--- The symbols of controlling expressions: tokens, once identifiers and constants are numbers (6.10.1).
+-- The symbols of controlling expressions: tokens, with identifiers and constants as numbers (6.10.1).
 use Rattle.std.specs.Prelude.{Option, Some, None}
 use Rattle.ppexpr.specs.Operators.{Operator as OperatorSign}
 use Rattle.ppexpr.specs.Operators as operator
@@ -6,7 +6,7 @@ use Rattle.ppexpr.specs.Operations.{Unary, Binary}
 use Rattle.ppexpr.specs.Operations as operation
 use Rattle.ppexpr.specs.Outcomes.{Value}
 
--- `Other` is any token that stands in no expression
+-- `Other` is any token that no expression contains
 pub data Symbol : Type 0 where
   Constant : Value → Symbol
   Operator : OperatorSign → Symbol

@@ -1,4 +1,4 @@
--- The symbols of a controlling expression's tokens, once its macros are replaced (6.10.1p4).
+-- The symbols of a controlling expression's tokens after macro replacement (6.10.1p4).
 use Rattle.std.specs.Prelude.{ℕ, List, [], ◌∷◌, Option, Some, None, Result, Ok, Err, pos, codes, if◌then◌else◌}
 use Rattle.std.specs.Str.{bytes_eq}
 use Rattle.pptext.specs.declared.tokens.Place.{Place}
@@ -47,7 +47,7 @@ other_punctuator s =
     if bytes_eq (codes "(") s then Open else (if bytes_eq (codes ")") s then Close else (
     if bytes_eq (codes "?") s then Question else (if bytes_eq (codes ":") s then Colon else Other)))
 
--- the operator among these that is spelled so, or another punctuator
+-- the operator with this spelling, if it is one of these; otherwise another punctuator
 abbrev pub punctuator_among : List OperatorSign → List ℕ → Symbol
 punctuator_among [] s = other_punctuator s
 punctuator_among (o ∷ os) s = if bytes_eq (spelling_of o) s then Operator o else punctuator_among os s
@@ -72,7 +72,7 @@ before (Ok s) (Ok ss) = Ok (s ∷ ss)
 before (Ok s) (Err f) = Err f
 before (Err f) ss = Err f
 
--- the symbols, or the first fault from the left; `at` is the place of the directive's `#`
+-- the symbols, or the first fault from the left; `at` is the location of the directive's `#`
 abbrev pub symbols_of : Place → List Token → Result (List Symbol) Fault
 symbols_of at [] = Ok []
 symbols_of at (t ∷ ts) = before (symbol_of at t) (symbols_of at ts)

@@ -2,8 +2,8 @@
 use Rattle.ppexpr.specs.Outcomes.{Value}
 use Rattle.ppexpr.specs.Operations.{Unary, Binary}
 
--- A constant, an operator with its operand, an operator between its operands, or the conditional operator with its three.
--- Parentheses leave no trace.
+-- A constant, a unary operator with its operand, a binary operator with its operands, or the conditional operator with its three operands.
+-- A tree has no node for parentheses.
 pub data Tree : Type 0 where
   Leaf : Value → Tree
   Applied : Unary → Tree → Tree

@@ -1,4 +1,4 @@
--- What an expression comes to (6.5, 6.10.1p4): type and value by recursion on its tree. Values are whole numbers in the range of their type.
+-- The outcome of an expression (6.5, 6.10.1p4): type and value by recursion on its tree. Values are whole numbers in the range of their type.
 use Rattle.std.specs.Prelude.{ℕ, ◌^◌, ◌==◌, Bool, true, false, not, ◌&&◌, ◌||◌, if◌then◌else◌, Result, Ok, Err, ℤ, pos, ◌+ℤ◌, ◌-ℤ◌, ◌*ℤ◌, neg_ℤ}
 use Rattle.std.specs.Prelude.{unsigned_abs, int_lt, int_le, int_div, int_rem, bit_and, bit_or, bit_xor}
 use Rattle.std.specs.Ordering.{int_eq}
@@ -35,7 +35,7 @@ abbrev pub has_unsigned_type : Value → Bool
 has_unsigned_type (Signed z) = false
 has_unsigned_type (Unsigned n) = true
 
--- what a comparison answers: 0 or 1, signed (6.5.8p6)
+-- the result of a comparison: 0 or 1, signed (6.5.8p6)
 abbrev pub truth : Bool → Value
 truth b = Signed (pos (if b then 1 else 0))
 
@@ -50,13 +50,13 @@ signed o z = if is_intmax z then Ok (Signed z) else Err (Overflow o)
 abbrev pub unsigned : ℤ → Answer
 unsigned z = Ok (Unsigned (modulo z))
 
--- ---- operators before an operand (6.5.3.3)
+-- ---- unary operators (6.5.3.3)
 
 abbrev pub negative : Value → Answer
 negative (Signed z) = signed Minus (neg_ℤ z)
 negative (Unsigned n) = unsigned (neg_ℤ (pos n))
 
--- -1 - z has the other value at each bit
+-- -1 - z has each bit of z inverted
 abbrev pub complement : Value → Answer
 complement (Signed z) = Ok (Signed (neg_ℤ (pos 1) -ℤ z))
 complement (Unsigned n) = unsigned (neg_ℤ (pos 1) -ℤ pos n)
@@ -67,7 +67,7 @@ unary_value unary.Minus v = negative v
 unary_value unary.Complement v = complement v
 unary_value unary.Not v = Ok (truth (is_zero v))
 
--- ---- operators between two operands of one type (6.3.1.8): unsigned where either is, and the other is then taken modulo 2^64
+-- ---- binary operators after the usual arithmetic conversions (6.3.1.8): if one operand is unsigned, the other is taken modulo 2^64
 
 pub data Operands : Type 0 where
   BothSigned : ℤ → ℤ → Operands
@@ -82,7 +82,7 @@ abbrev pub arithmetic : Operator → (ℤ → ℤ → ℤ) → Operands → Answ
 arithmetic o f (BothSigned a b) = signed o (f a b)
 arithmetic o f (BothUnsigned a b) = unsigned (f (pos a) (pos b))
 
--- `/` and `%` (6.5.5p5, p6): neither has a value where the quotient, rounded toward 0, has none
+-- `/` and `%` (6.5.5p5, p6): neither has a value if the quotient, rounded toward 0, is out of range
 abbrev pub division : Operator → (ℤ → ℤ → ℤ) → Operands → Answer
 division o f (BothSigned a b) =
     if int_eq b (pos 0) then Err (ZeroDivisor o) else (
@@ -140,7 +140,7 @@ binary_value BitOr v w = bitwise (int_bit_or w64) bit_or (converted v w)
 binary_value And v w = Ok (truth (not (is_zero v) && not (is_zero w)))
 binary_value Or v w = Ok (truth (not (is_zero v) || not (is_zero w)))
 
--- ---- of operands that may have none: the first failure counts, and none of an operand that is not needed
+-- ---- operands that may have no value: the first failure is the result, but a failure in an operand that is not evaluated is ignored
 
 abbrev pub unary_answer : Unary → Answer → Answer
 unary_answer o (Ok v) = unary_value o v
@@ -150,7 +150,7 @@ abbrev pub with_right : Binary → Value → Answer → Answer
 with_right o v (Ok w) = binary_value o v w
 with_right o v (Err f) = Err f
 
--- the left operand decides alone (6.5.13p4, 6.5.14p4)
+-- the left operand alone decides the result (6.5.13p4, 6.5.14p4)
 abbrev pub decides : Binary → Value → Bool
 decides And v = is_zero v
 decides Or v = not (is_zero v)
@@ -160,7 +160,7 @@ abbrev pub binary_answer : Binary → Answer → Answer → Answer
 binary_answer o (Ok v) b = if decides o v then Ok (truth (not (is_zero v))) else with_right o v b
 binary_answer o (Err f) b = Err f
 
--- brought to the type of a choice
+-- converted to the type of a conditional expression
 abbrev pub with_type : Bool → Answer → Answer
 with_type true (Ok v) = Ok (Unsigned (as_unsigned v))
 with_type _ a = a
@@ -189,7 +189,7 @@ binary_unsigned ShiftLeft u w = u
 binary_unsigned ShiftRight u w = u
 binary_unsigned _ u w = false
 
--- ---- trees: the type, which an arm that is not needed has too, and the value or the first failure
+-- ---- trees: the type, to which an operand that is not evaluated contributes, too, and the value or the first failure
 
 unfoldable pub constant_outcome : Value → Outcome
 constant_outcome v = record { unsigned = has_unsigned_type v; value = Ok v }
@@ -200,7 +200,7 @@ unary_outcome o x = record { unsigned = unary_unsigned o x.unsigned; value = una
 unfoldable pub binary_outcome : Binary → Outcome → Outcome → Outcome
 binary_outcome o x y = record { unsigned = binary_unsigned o x.unsigned y.unsigned; value = binary_answer o x.value y.value }
 
--- the type is that of both arms (6.5.15p5)
+-- the type is the common type of the second and third operands (6.5.15p5)
 unfoldable pub choice_outcome : Outcome → Outcome → Outcome → Outcome
 choice_outcome c x y = record { unsigned = x.unsigned || y.unsigned; value = choice_answer (x.unsigned || y.unsigned) c.value x.value y.value }
 

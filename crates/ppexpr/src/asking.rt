@@ -1,4 +1,4 @@
-// `defined` in a controlling expression (6.10.1p1).
+//! Replaces the operator `defined` in a controlling expression (6.10.1p1).
 ghost use Rattle.std.specs.Prelude.{◌≡◌, IfOk, MatchOption, None, Some, List, is_some};
 ghost use Rattle.std.specs.FinMap as map;
 ghost use Rattle.pptext.specs.declared.tokens.Token.{Token};
@@ -8,14 +8,14 @@ use ppmacro::Table;
 use pptext::{Kind, Spelling, Token};
 use std::alloc::{AllocError, Global};
 
-/// Whether a token is the identifier `defined`.
+/// Returns whether a token is the identifier `defined`.
 pub(crate) fn is_defined(token: &Token) -> bool
     ensures { result ≡ is_defined token.now }
 {
     token.is_name(b"defined")
 }
 
-// `( X )`, and what stands behind it.
+/// Reads `( X )`. Returns X and the tokens after the `)`.
 fn parenthesized(tokens: &[Token]) -> Option<(&Token, &[Token])>
     ensures { MatchOption result (parenthesized tokens.now ≡ None)
         (λ o. parenthesized tokens.now ≡ Some (record { name = o.0.now; rest = o.1.now })) }
@@ -30,7 +30,7 @@ fn parenthesized(tokens: &[Token]) -> Option<(&Token, &[Token])>
     }
 }
 
-/// The name that `defined` asks for, and what stands behind it.
+/// Reads the operand of `defined`: `X` or `( X )`. Returns X and the tokens after the operand.
 pub(crate) fn operand(tokens: &[Token]) -> Option<(&Token, &[Token])>
     ensures { MatchOption result (operand tokens.now ≡ None) (λ o. operand tokens.now ≡ Some (record { name = o.0.now; rest = o.1.now })) }
 {
@@ -43,7 +43,7 @@ pub(crate) fn operand(tokens: &[Token]) -> Option<(&Token, &[Token])>
     parenthesized(tokens)
 }
 
-/// Whether an identifier is defined as a macro name.
+/// Returns whether an identifier is defined as a macro name.
 #[inline(always)]
 pub(crate) fn is_macro_name(table: &Table, name: &Token) -> bool
     ensures { result ≡ is_some (map.get table.now name.now.text) }
@@ -51,7 +51,7 @@ pub(crate) fn is_macro_name(table: &Table, name: &Token) -> bool
     table.get(name.text.as_bytes()).is_some()
 }
 
-// The number that stands in the place of `defined`.
+/// Returns the number that replaces `defined` and its operand: 1 if the name is defined, and otherwise 0.
 fn answer(alloc: Global, table: &Table, defined: &Token, name: &Token) -> Result<Token, AllocError>
     ensures { IfOk result (λ t. t ≡ answer table.now defined.now name.now) }
 {
@@ -69,7 +69,7 @@ fn answer(alloc: Global, table: &Table, defined: &Token, name: &Token) -> Result
     })
 }
 
-/// The tokens with a number for each use of `defined`, or none where one is ill formed.
+/// Replaces each use of `defined` by a number. Returns `None` if a use has no operand.
 pub(crate) fn asked(
     alloc: Global,
     table: &Table,

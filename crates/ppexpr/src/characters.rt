@@ -1,4 +1,4 @@
-// Character constants (6.4.4.4).
+//! Reads character constants (6.4.4.4).
 ghost use Rattle.std.specs.Prelude.{◌≡◌, ◌<◌, ◌≤◌, ◌^◌, MatchOption, IfSome, None, Some};
 ghost use Rattle.ppexpr.specs.Characters.{quoted, simple_escape, are_digits, is_octal_escape, is_hexadecimal_escape, other_escape, escape, character};
 ghost use Rattle.ppexpr.specs.Characters.{of_type, character_of};
@@ -8,7 +8,7 @@ ghost use Rattle.std.specs.Char.{is_digit};
 use crate::integers::{is_digit, number};
 use crate::symbols::Value;
 
-// What stands between the quotes.
+/// Returns the bytes between the quotes.
 fn quoted(text: &[u8]) -> Option<&[u8]>
     ensures { MatchOption result (quoted text.now ≡ None) (λ s. quoted text.now ≡ Some s.now) }
 {
@@ -18,7 +18,7 @@ fn quoted(text: &[u8]) -> Option<&[u8]>
     Some(body)
 }
 
-// The value of a simple escape sequence, by the byte behind the backslash.
+/// Returns the value of a simple escape sequence, by the byte after the backslash.
 fn simple_escape(c: u8) -> Option<u64>
     ensures { result ≡ simple_escape c }
 {
@@ -35,35 +35,35 @@ fn simple_escape(c: u8) -> Option<u64>
     }
 }
 
-// Whether it is nothing but digits.
+/// Returns whether each byte is a digit.
 fn all_digits(base: u32, text: &[u8]) -> bool
     ensures { result ≡ list_all (λ c. is_digit c base) text.now }
 {
     text.iter().all(|c| is_digit(*c, base))
 }
 
-// Whether it is at least one digit, and nothing but digits.
+/// Returns whether there is at least one byte, and each byte is a digit.
 fn are_digits(base: u32, text: &[u8]) -> bool
     ensures { result ≡ are_digits base text.now }
 {
     !text.is_empty() && all_digits(base, text)
 }
 
-// Whether it is an octal escape sequence behind the backslash.
+/// Returns whether the text after the backslash is an octal escape sequence.
 fn is_octal_escape(text: &[u8]) -> bool
     ensures { result ≡ is_octal_escape text.now }
 {
     text.len() <= 3 && are_digits(8, text)
 }
 
-// Whether it is a hexadecimal escape sequence behind the backslash.
+/// Returns whether the text after the backslash is a hexadecimal escape sequence.
 fn is_hexadecimal_escape(text: &[u8]) -> bool
     ensures { result ≡ is_hexadecimal_escape text.now }
 {
     text.starts_with(b"x") && are_digits(16, &text[1..])
 }
 
-// The value of an escape sequence that is no number.
+/// Returns the value of an escape sequence that is neither octal nor hexadecimal.
 fn other_escape(text: &[u8]) -> Option<u64>
     ensures { result ≡ other_escape text.now }
 {
@@ -73,7 +73,7 @@ fn other_escape(text: &[u8]) -> Option<u64>
     }
 }
 
-// The number that an escape sequence stands for, by what stands behind the backslash.
+/// Returns the number of an escape sequence, by the text after the backslash.
 fn escape(text: &[u8]) -> Option<u64>
     ensures { MatchOption result (IfSome (escape text.now) (λ n. 2 ^ 64 ≤ n)) (λ n. escape text.now ≡ Some n) }
 {
@@ -86,7 +86,7 @@ fn escape(text: &[u8]) -> Option<u64>
     other_escape(text)
 }
 
-// The number that a character constant stands for, by what stands between the quotes.
+/// Returns the number of a character constant, by the text between the quotes.
 fn character(text: &[u8]) -> Option<u64>
     ensures { MatchOption result (IfSome (character text.now) (λ n. 2 ^ 64 ≤ n)) (λ n. character text.now ≡ Some n) }
 {
@@ -98,7 +98,7 @@ fn character(text: &[u8]) -> Option<u64>
     }
 }
 
-// The constant of this type, by its spelling without a prefix.
+/// Returns the constant of this type, by its spelling without the prefix.
 fn of_type(greatest: u64, unsigned: bool, text: &[u8]) -> Option<Value>
     requires { greatest < 2 ^ 63 }
     ensures { result ≡ of_type greatest unsigned text.now }
@@ -115,7 +115,7 @@ fn of_type(greatest: u64, unsigned: bool, text: &[u8]) -> Option<Value>
     })
 }
 
-/// The value of a character constant with its type, if it has one.
+/// Returns the value of a character constant with its type, if it has one.
 pub(crate) fn character_of(text: &[u8]) -> Option<Value>
     ensures { result ≡ character_of text.now }
 {

@@ -1,4 +1,4 @@
-// Whether the group behind `#if` or `#elif` is taken (6.10.1).
+//! Evaluates the controlling expression of `#if` or `#elif` (6.10.1).
 ghost use Rattle.std.specs.Prelude.{◌≡◌, IfOk, Ok};
 ghost use Rattle.std.specs.List.{list_any};
 ghost use Rattle.pptext.specs.Stops.{IfSettled, settled};
@@ -16,7 +16,7 @@ use ppmacro::Table;
 use pptext::{Fault, Memory, Place, Stop, Token, settled};
 use std::alloc::{AllocError, Global};
 
-// The fault of an expression without a value.
+/// Returns the fault of an expression without a value.
 fn failure_fault(alloc: Global, at: Place, failure: Failure) -> Result<Fault, AllocError>
     ensures { IfOk result (λ f. f ≡ failure_fault at failure) }
 {
@@ -28,7 +28,7 @@ fn failure_fault(alloc: Global, at: Place, failure: Failure) -> Result<Fault, Al
     }
 }
 
-// Whether the value is not 0.
+/// Returns whether the value is not 0.
 fn taken(alloc: Global, at: Place, value: Result<Value, Failure>) -> Result<bool, Stop>
     ensures { IfSettled result (λ c. c ≡ taken at value) }
 {
@@ -38,7 +38,7 @@ fn taken(alloc: Global, at: Place, value: Result<Value, Failure>) -> Result<bool
     }
 }
 
-// The condition of symbols that are nested no deeper than is allowed.
+/// Evaluates symbols that are not nested too deep.
 fn evaluate_symbols(alloc: Global, at: Place, symbols: &[Symbol]) -> Result<bool, Stop>
     ensures { IfSettled result (λ c. Evaluates at symbols.now c) }
 {
@@ -48,7 +48,7 @@ fn evaluate_symbols(alloc: Global, at: Place, symbols: &[Symbol]) -> Result<bool
     taken(alloc, at, outcome.value)
 }
 
-// The condition of symbols.
+/// Evaluates symbols.
 fn judge(alloc: Global, at: Place, symbols: &[Symbol]) -> Result<bool, Stop>
     ensures { IfSettled result (λ c. Judges at symbols.now c) }
 {
@@ -58,14 +58,14 @@ fn judge(alloc: Global, at: Place, symbols: &[Symbol]) -> Result<bool, Stop>
     evaluate_symbols(alloc, at, symbols)
 }
 
-// Whether `defined` is among the tokens.
+/// Returns whether one of the tokens is `defined`.
 fn has_defined(tokens: &[Token]) -> bool
     ensures { result ≡ list_any is_defined tokens.now }
 {
     tokens.iter().any(|token| is_defined(token))
 }
 
-// The condition of tokens whose macros are replaced.
+/// Evaluates tokens after macro replacement.
 fn decide(alloc: Global, at: Place, tokens: &[Token]) -> Result<bool, Stop>
     ensures { IfSettled result (λ c. Decides at tokens.now c) }
 {
@@ -76,7 +76,7 @@ fn decide(alloc: Global, at: Place, tokens: &[Token]) -> Result<bool, Stop>
     judge(alloc, at, symbols.as_slice())
 }
 
-// The same, without a copy of the tokens where they stand as they are.
+/// Evaluates an expanded list. Copies the tokens only if macros were replaced.
 fn decide_run(alloc: Global, at: Place, run: &Run) -> Result<bool, Stop>
     ensures { IfSettled result (λ c. Decides at run.now c) }
 {
@@ -87,7 +87,7 @@ fn decide_run(alloc: Global, at: Place, run: &Run) -> Result<bool, Stop>
     decide(alloc, at, tokens.as_slice())
 }
 
-// The answer beside what is left of the budget.
+/// Returns the result together with the rest of the budget.
 fn beside(
     decided: Result<bool, Stop>,
     left: Option<u64>,
@@ -97,7 +97,7 @@ fn beside(
     Ok((settled(decided)?, left))
 }
 
-// The condition of tokens in which macros may be replaced, and what is left of the budget.
+/// Replaces macros and evaluates the result. Also returns the rest of the budget.
 fn evaluate_replaced(
     alloc: Global,
     table: &Table,
@@ -123,14 +123,24 @@ fn evaluate_replaced(
     }
 }
 
-/// Whether the group behind `#if` or `#elif` is taken (6.10.1), or the one fault: 22 of a use of `defined` that is ill
-/// formed or made by a replacement, the faults of the replacement, 24 and 25 of the first constant without a value, 29 of
-/// too deep an expression, 23 of a list that is no expression, 26 to 28 of a division, an overflow or a shift.
+/// Returns whether the group after `#if` or `#elif` is taken (6.10.1), or the first fault; and the rest of the budget.
 ///
-/// At most `left` names are replaced, where that is some number, and the next one is fault 35 where it is used; what is
-/// left then is given back beside the answer.
+/// `at` is the location of the directive's `#`. `tokens` are the tokens after the directive's name. `left` is a budget: the number of
+/// replacements that may be made; `None` means no limit. One more replacement is fault 35 at the expansion location of the name.
 ///
-/// `at` is the place of the directive's `#`, and `tokens` are those behind the directive's name.
+/// The other faults, in the order of the checks:
+///
+/// - 22: a use of `defined` without a name;
+/// - the faults of macro replacement;
+/// - 22: a `defined` that replacement made;
+/// - 24, 25: the first integer or character constant without a value;
+/// - 29: an expression that is nested too deep;
+/// - 23: a list that is no expression;
+/// - 26, 27, 28: a division by 0, a signed overflow, or a shift without a value.
+///
+/// # Errors
+///
+/// Returns `Memory` if an allocation fails.
 pub fn evaluate(
     alloc: Global,
     table: &Table,
@@ -141,7 +151,7 @@ pub fn evaluate(
 ) -> Result<(Result<bool, Fault>, Option<u64>), Memory>
     ensures { IfOk result (λ r. IsCondition table.now env.now at tokens.now left r.0 r.1) }
 {
-    // Saves 8 % of the instructions of `deps` on Redis, whose conditions mostly ask for definitions alone.
+    // Fast path: most conditions consist of uses of `defined` alone.
     if let Some(taken) = definitions_hold(table, tokens) {
         return Ok((Ok(taken), left));
     }

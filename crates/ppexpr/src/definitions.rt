@@ -1,4 +1,4 @@
-// Conditions that ask for definitions alone, as most: `defined X` and `!defined X`, joined by `&&` and `||`.
+//! The fast path for conditions with `defined` alone: `defined X` and `!defined X`, joined by `&&` and `||`.
 ghost use Rattle.std.specs.Prelude.{IfSome, is_some};
 ghost use Rattle.std.specs.FinMap as table;
 ghost use Rattle.ppexpr.specs.Symbols.{Constant};
@@ -10,10 +10,10 @@ use crate::asking::{is_defined, is_macro_name, operand};
 use ppmacro::Table;
 use pptext::Token;
 
-// So few tokens can't be nested too deep.
+/// The most tokens that cannot be nested too deep.
 const MOST: usize = 256;
 
-// What stands behind the punctuator of this spelling that the tokens begin with.
+/// Returns the tokens after a punctuator of this spelling, if they begin with one.
 fn behind<'x>(tokens: &'x [Token], text: &[u8]) -> Option<&'x [Token]>
     ensures { IfSome result (λ rest. BeginsMark text.now tokens.now rest.now) }
 {
@@ -25,7 +25,7 @@ fn behind<'x>(tokens: &'x [Token], text: &[u8]) -> Option<&'x [Token]>
     }
 }
 
-// Whether the name that the tokens ask for at their beginning is defined, and what stands behind it.
+/// Reads a use of `defined`. Returns whether its name is defined, and the tokens after it.
 #[inline(always)]
 fn question<'x>(table: &Table, tokens: &'x [Token]) -> Option<(bool, &'x [Token])>
     ensures { IfSome result (λ r. BeginsWith table.now tokens.now (Constant (truth r.0)) r.1.now) }
@@ -38,7 +38,7 @@ fn question<'x>(table: &Table, tokens: &'x [Token]) -> Option<(bool, &'x [Token]
     Some((is_macro_name(table, name), rest))
 }
 
-// The same, perhaps behind `!`.
+/// Reads a use of `defined` with or without `!` before it. Returns its truth value, and the tokens after it.
 #[inline(always)]
 fn term<'x>(table: &Table, tokens: &'x [Token]) -> Option<(bool, &'x [Token])>
     ensures { IfSome result (λ r. BeginsTruth table.now 12 tokens.now r.0 r.1.now) }
@@ -51,7 +51,7 @@ fn term<'x>(table: &Table, tokens: &'x [Token]) -> Option<(bool, &'x [Token])>
     Some((holds, rest))
 }
 
-// Terms between `&&` (6.5.13).
+/// Reads terms that are joined by `&&` (6.5.13). Returns their truth value, and the tokens after them.
 fn conjunction<'x>(table: &Table, tokens: &'x [Token]) -> Option<(bool, &'x [Token])>
     ensures { IfSome result (λ r. BeginsTruth table.now 3 tokens.now r.0 r.1.now) }
 {
@@ -64,7 +64,7 @@ fn conjunction<'x>(table: &Table, tokens: &'x [Token]) -> Option<(bool, &'x [Tok
     Some((holds, rest))
 }
 
-/// Whether the condition holds, where it asks for definitions alone (6.5.14).
+/// Returns whether a condition that consists of uses of `defined` alone is true (6.5.14), and `None` for any other condition.
 pub(crate) fn definitions_hold(table: &Table, tokens: &[Token]) -> Option<bool>
     ensures { IfSome result (λ holds. HasTruth table.now tokens.now holds) }
 {

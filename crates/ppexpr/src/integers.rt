@@ -1,4 +1,4 @@
-// Integer constants (6.4.4.1).
+//! Reads integer constants (6.4.4.1).
 ghost use Rattle.std.specs.Prelude.{◌≡◌, length, ◌≤◌, ◌^◌, ◌<◌, MatchOption};
 ghost use Rattle.ppexpr.specs.Integers.{digits_len, number, is_one_of, plain_suffixes, unsigned_suffixes, typed, in_base};
 ghost use Rattle.ppexpr.specs.Integers.{integer_of};
@@ -6,21 +6,21 @@ ghost use Rattle.std.specs.Char.{is_digit, digit_value};
 
 use crate::symbols::Value;
 
-// The value of a digit or a letter, and 36 of any other byte.
+/// Returns the value of a digit or a letter, and 36 for any other byte.
 fn digit_value(c: u8) -> u32
     ensures { result ≡ digit_value c }
 {
     char::from(c).to_digit(36).unwrap_or(36)
 }
 
-/// Whether it is a digit of this base.
+/// Returns whether a byte is a digit of this base.
 pub(crate) fn is_digit(c: u8, base: u32) -> bool
     ensures { result ≡ is_digit c base }
 {
     digit_value(c) < base
 }
 
-// How many digits of this base begin the text.
+/// Returns the number of digits of this base at the start of a text.
 fn digits_len(base: u32, text: &[u8]) -> usize
     ensures value { result ≡ digits_len base text.now }
     ensures within { result ≤ length text.now }
@@ -33,7 +33,7 @@ fn digits_len(base: u32, text: &[u8]) -> usize
     text.len()
 }
 
-/// The number that digits write, below 2^64.
+/// Returns the number that digits denote, if it is below 2^64.
 pub(crate) fn number(base: u32, digits: &[u8]) -> Option<u64>
     requires { 0 < base }
     ensures { MatchOption result (2 ^ 64 ≤ number base digits.now) (λ n. n ≡ number base digits.now) }
@@ -46,14 +46,14 @@ pub(crate) fn number(base: u32, digits: &[u8]) -> Option<u64>
     Some(number)
 }
 
-// Whether it is a suffix that leaves the type open.
+/// Returns whether a text is no suffix or one without `u` and `U`.
 fn is_plain_suffix(text: &[u8]) -> bool
     ensures { result ≡ is_one_of plain_suffixes text.now }
 {
     matches!(text, b"" | b"l" | b"L" | b"ll" | b"LL")
 }
 
-// Whether it is a suffix of an unsigned constant.
+/// Returns whether a text is a suffix with `u` or `U`.
 fn is_unsigned_suffix(text: &[u8]) -> bool
     ensures { result ≡ is_one_of unsigned_suffixes text.now }
 {
@@ -65,7 +65,7 @@ fn is_unsigned_suffix(text: &[u8]) -> bool
     }
 }
 
-// The constant of this number and suffix.
+/// Returns the constant of a number with a suffix, if it has a type.
 fn typed(decimal: bool, suffix: &[u8], number: u64) -> Option<Value>
     ensures { result ≡ typed decimal suffix.now number }
 {
@@ -84,7 +84,7 @@ fn typed(decimal: bool, suffix: &[u8], number: u64) -> Option<Value>
     Some(Value::unsigned(number))
 }
 
-// The constant that is spelled so behind its prefix.
+/// Returns the constant with this spelling after its prefix.
 fn in_base(base: u32, decimal: bool, text: &[u8]) -> Option<Value>
     requires { 0 < base }
     ensures { result ≡ in_base base decimal text.now }
@@ -97,7 +97,7 @@ fn in_base(base: u32, decimal: bool, text: &[u8]) -> Option<Value>
     typed(decimal, suffix, number(base, digits)?)
 }
 
-/// The value of an integer constant with its type, if the spelling is one.
+/// Returns the value of an integer constant with its type, if the text is one.
 pub(crate) fn integer_of(text: &[u8]) -> Option<Value>
     ensures { result ≡ integer_of text.now }
 {

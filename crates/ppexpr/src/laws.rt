@@ -1,4 +1,4 @@
-// Laws of the definitions: functions that do nothing, whose contracts are the laws.
+//! The theorems of the specification: functions that do nothing, whose contracts are the theorems.
 ghost use Rattle.std.specs.Prelude.{◌≡◌, ◌≢◌, ◌↔◌, ℕ, List, Option, Some, None, Ok, Err};
 ghost use Rattle.pptext.specs.declared.tokens.Place.{Place};
 ghost use Rattle.pptext.specs.declared.tokens.Token.{Token};
@@ -24,8 +24,8 @@ pub fn one_tree()
     ensures { (s : List Symbol) (t u : Tree) → Parses s t → Parses s u → t ≡ u }
 {}
 
-/// The value of an expression, where it has one, is of the expression's type, and in its range where the expression is one of tokens: a signed one from
-/// -2^63 to 2^63 - 1, an unsigned one below 2^64; and so is each constant (6.10.1p4).
+/// If an expression has a value, the value has the expression's type. If the expression consists of tokens, the value is in the range of the
+/// type: from -2^63 to 2^63 - 1 if it is signed, below 2^64 if it is unsigned. Each constant is in its range, too (6.10.1p4).
 pub fn value_has_its_type()
     ensures type_is { (t : Tree) (v : Value) → (outcome_of t).value ≡ Ok v → has_unsigned_type v ≡ (outcome_of t).unsigned }
     ensures range { (at : Place) (tokens : List Token) (s : List Symbol) (t : Tree) (v : Value)
@@ -34,14 +34,14 @@ pub fn value_has_its_type()
     ensures characters { (s : List ℕ) (v : Value) → character_of s ≡ Some v → IsInRange v }
 {}
 
-/// A constant is read, with its value, exactly where it is laid out as the standard has it: an integer constant whatever the text is (6.4.4.1), the
-/// constant of one character where the text is spelled as a character constant (6.4.4.4).
+/// A text is read as a constant with this value if and only if it has the syntax of the standard. For an integer constant this holds for any
+/// text (6.4.4.1), for a constant of one character if the text is the spelling of a character constant (6.4.4.4).
 pub fn reads_constants()
     ensures integers { (s : List ℕ) (v : Value) → (integer_of s ≡ Some v) ↔ IsInteger s v }
     ensures characters { (s : List ℕ) (v : Value) → IsCharConst s → (character_of s ≡ Some v) ↔ IsCharacterConstant s v }
 {}
 
-/// A condition is taken, not taken or has one fault, and no two of these; and it leaves one thing of a budget.
+/// A condition has at most one result (true, false or one fault), and at most one rest of the budget.
 pub fn one_condition()
     ensures { (macros : Macros) (env : Env) (at : Place) (tokens : List Token) (left after behind : Option ℕ) (c d : Condition)
         → IsCondition macros env at tokens left c after
@@ -49,27 +49,27 @@ pub fn one_condition()
         → (c ≡ d) × (after ≡ behind) }
 {}
 
-/// Each list of tokens has a condition, whatever the macros are and whatever is left of a budget.
+/// Each list of tokens has a result, for all macros and all budgets.
 pub fn some_condition()
     ensures { (macros : Macros) (env : Env) (at : Place) (tokens : List Token) (left : Option ℕ)
         → (c : Condition) × (after : Option ℕ) × IsCondition macros env at tokens left c after }
 {}
 
-/// Without a budget there is none after a condition either.
+/// Without a budget before a condition there is none after it.
 pub fn without_a_budget()
     ensures { (macros : Macros) (env : Env) (at : Place) (tokens : List Token) (c : Condition) (after : Option ℕ)
         → IsCondition macros env at tokens None c after
         → after ≡ None }
 {}
 
-/// What a condition costs and what it leaves make up the budget.
+/// The cost of a condition and the rest of the budget add up to the budget.
 pub fn budget_is_spent()
     ensures { (macros : Macros) (env : Env) (at : Place) (tokens : List Token) (left after : Option ℕ) (c : Condition)
         → (d : IsCondition macros env at tokens left c after)
         → left ≡ plus (count_condition d) after }
 {}
 
-/// A condition within a budget is the one without, where that costs no more; otherwise it ends in fault 35 and leaves nothing.
+/// A condition within a budget equals the one without if that costs no more. Otherwise it ends in fault 35, and nothing is left.
 pub fn budget_caps()
     ensures { (macros : Macros) (env : Env) (at : Place) (tokens : List Token) (whole : Condition) (rest : Option ℕ)
         → (d : IsCondition macros env at tokens None whole rest) (b : ℕ) (c : Condition) (after : Option ℕ)

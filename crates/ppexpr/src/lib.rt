@@ -1,4 +1,4 @@
-// Conditional inclusion of C11 (6.10.1): the value of the expression behind `#if` and `#elif`.
+//! Conditional inclusion of C11 (6.10.1): evaluates the controlling expressions of `#if` and `#elif`.
 #![tactic(auto)]
 
 mod asking;

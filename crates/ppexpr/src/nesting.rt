@@ -1,14 +1,14 @@
-// How deep an expression is nested.
+//! Checks how deep an expression is nested.
 ghost use Rattle.std.specs.Prelude.{◌≡◌, ◌↔◌, IsTrue, count_by};
 ghost use Rattle.ppexpr.specs.Nesting.{is_question, is_sign, NestsParentheses, NestsSigns, IsTooNested};
 
 use crate::operators::OperatorKind;
 use crate::symbols::{Symbol, SymbolKind};
 
-// The most levels of one kind.
+/// The most levels of each kind.
 const MOST: usize = 256;
 
-// Whether some beginning has too many more `(` than `)`.
+/// Returns whether some prefix has more than 256 more `(` than `)`.
 fn nests_parentheses(symbols: &[Symbol]) -> bool
     ensures { IsTrue result ↔ NestsParentheses symbols.now }
 {
@@ -27,7 +27,7 @@ fn nests_parentheses(symbols: &[Symbol]) -> bool
     false
 }
 
-// How many conditional operators there are.
+/// Returns the number of conditional operators.
 fn questions(symbols: &[Symbol]) -> usize
     ensures { result ≡ count_by is_question symbols.now }
 {
@@ -37,7 +37,7 @@ fn questions(symbols: &[Symbol]) -> usize
         .count()
 }
 
-// Whether a symbol is `+ - ~ !`.
+/// Returns whether a symbol is `+`, `-`, `~` or `!`.
 fn is_sign(symbol: &Symbol) -> bool
     ensures { result ≡ is_sign symbol.now }
 {
@@ -50,7 +50,7 @@ fn is_sign(symbol: &Symbol) -> bool
     )
 }
 
-// Whether too many signs stand side by side.
+/// Returns whether there are more than 256 consecutive signs.
 fn nests_signs(symbols: &[Symbol]) -> bool
     ensures { IsTrue result ↔ NestsSigns symbols.now }
 {
@@ -68,11 +68,12 @@ fn nests_signs(symbols: &[Symbol]) -> bool
     false
 }
 
-/// Whether an expression has parentheses over 256 deep, more than 256 conditional operators, or more than 256 signs side by side.
+/// Returns whether an expression has parentheses nested more than 256 deep, more than 256 conditional operators, or more than 256
+/// consecutive signs (`+`, `-`, `~`, `!`).
 pub(crate) fn is_too_nested(symbols: &[Symbol]) -> bool
     ensures { IsTrue result ↔ IsTooNested symbols.now }
 {
-    // Few symbols can't be nested so deep.
+    // Few symbols cannot be nested too deep.
     if symbols.len() <= MOST {
         return false;
     }

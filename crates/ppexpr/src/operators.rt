@@ -1,18 +1,19 @@
-// Operators: how they are spelled, and what they may stand for. Each type is an enum in a struct, whose model is the value of the
-// definitions: `rt` takes no model for an enum.
+//! Operators by spelling and by operation.
+//!
+//! Each type is an enum in a struct, and the model of the struct is the value of the specification: an enum can have no model.
 ghost use Rattle.std.specs.Prelude.{◌≡◌};
 ghost use Rattle.ppexpr.specs.Tokens.{spelling_of};
 ghost use Rattle.ppexpr.specs.Symbols.{unary_of, binary_of};
 
 use std::marker::Model;
 
-/// An operator by its spelling (6.4.6): `+` and `-` stand before an operand or between two.
+/// An operator by its spelling (6.4.6). `+` and `-` are unary or binary.
 #[derive(Clone, Copy)]
 pub(crate) struct Operator {
     pub(crate) kind: OperatorKind,
 }
 
-/// Which operator it is.
+/// The spelling of an operator.
 #[derive(Clone, Copy)]
 pub(crate) enum OperatorKind {
     Plus,
@@ -92,13 +93,13 @@ impl Model for Operator {
     } };
 }
 
-/// An operator before its operand (6.5.3.3).
+/// A unary operator (6.5.3.3).
 #[derive(Clone, Copy)]
 pub(crate) struct Unary {
     pub(crate) kind: UnaryKind,
 }
 
-/// What it does.
+/// The operation of a unary operator.
 #[derive(Clone, Copy)]
 pub(crate) enum UnaryKind {
     Plus,
@@ -130,13 +131,13 @@ impl Model for Unary {
     } };
 }
 
-/// An operator between its operands (6.5.5 to 6.5.14).
+/// A binary operator (6.5.5 to 6.5.14).
 #[derive(Clone, Copy)]
 pub(crate) struct Binary {
     pub(crate) kind: BinaryKind,
 }
 
-/// What it does.
+/// The operation of a binary operator.
 #[derive(Clone, Copy)]
 pub(crate) enum BinaryKind {
     Multiply,
@@ -210,39 +211,45 @@ impl Model for Binary {
     } };
 }
 
-// Those that may leave an expression without a value.
 impl Operator {
+    /// The operator `+`.
     pub(crate) const PLUS: Operator = Operator {
         kind: OperatorKind::Plus,
     };
 
+    /// The operator `-`.
     pub(crate) const MINUS: Operator = Operator {
         kind: OperatorKind::Minus,
     };
 
+    /// The operator `*`.
     pub(crate) const STAR: Operator = Operator {
         kind: OperatorKind::Star,
     };
 
+    /// The operator `/`.
     pub(crate) const SLASH: Operator = Operator {
         kind: OperatorKind::Slash,
     };
 
+    /// The operator `%`.
     pub(crate) const PERCENT: Operator = Operator {
         kind: OperatorKind::Percent,
     };
 
+    /// The operator `<<`.
     pub(crate) const SHIFT_LEFT: Operator = Operator {
         kind: OperatorKind::ShiftLeft,
     };
 
+    /// The operator `>>`.
     pub(crate) const SHIFT_RIGHT: Operator = Operator {
         kind: OperatorKind::ShiftRight,
     };
 }
 
 impl Operator {
-    /// The spelling (6.4.6).
+    /// Returns the spelling (6.4.6).
     pub(crate) fn spelling(self) -> &'static [u8]
         ensures { result.now ≡ spelling_of self }
     {
@@ -270,7 +277,7 @@ impl Operator {
         }
     }
 
-    /// The operator that it is before an operand (6.5.3.3), if it may stand there.
+    /// Returns the unary operator with this spelling (6.5.3.3), if there is one.
     pub(crate) fn unary(self) -> Option<Unary>
         ensures { result ≡ unary_of self }
     {
@@ -284,7 +291,7 @@ impl Operator {
         Some(Unary { kind })
     }
 
-    /// The operator that it is between two operands (6.5.5 to 6.5.14), if it may stand there.
+    /// Returns the binary operator with this spelling (6.5.5 to 6.5.14), if there is one.
     pub(crate) fn binary(self) -> Option<Binary>
         ensures { result ≡ binary_of self }
     {

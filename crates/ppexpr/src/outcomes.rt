@@ -1,4 +1,4 @@
-// What an expression comes to, from what its operands come to.
+//! Evaluates an expression from the outcomes of its operands.
 ghost use Rattle.std.specs.Prelude.{◌≡◌, Ok};
 ghost use Rattle.ppexpr.specs.Values.{decides, binary_answer, with_type};
 ghost use Rattle.ppexpr.specs.Values.{unary_unsigned, binary_unsigned, constant_outcome, unary_outcome, binary_outcome, choice_outcome};
@@ -8,7 +8,7 @@ use crate::symbols::{Failure, Number, Outcome, Value};
 use crate::values::{binary_value, unary_value};
 
 impl Unary {
-    // Whether the result is of the unsigned type.
+    /// Returns whether the result has the unsigned type.
     fn is_unsigned(self, operand: bool) -> bool
         ensures { result ≡ unary_unsigned self operand }
     {
@@ -20,7 +20,7 @@ impl Unary {
 }
 
 impl Binary {
-    // Whether the result is of the unsigned type.
+    /// Returns whether the result has the unsigned type.
     fn is_unsigned(self, left: bool, right: bool) -> bool
         ensures { result ≡ binary_unsigned self left right }
     {
@@ -38,7 +38,7 @@ impl Binary {
         }
     }
 
-    // Whether the left operand decides alone (6.5.13p4, 6.5.14p4).
+    /// Returns whether the left operand alone decides the result (6.5.13p4, 6.5.14p4).
     fn decides(self, left: Value) -> bool
         ensures { result ≡ decides self left }
     {
@@ -49,7 +49,7 @@ impl Binary {
         }
     }
 
-    // The value from that of the left operand, where there is one.
+    /// Returns the value of the expression, if the left operand has a value.
     fn answer(self, left: Value, right: Result<Value, Failure>) -> Result<Value, Failure>
         ensures { result ≡ binary_answer self (Ok left) right }
     {
@@ -60,7 +60,7 @@ impl Binary {
     }
 }
 
-// Brought to the type of a choice (6.5.15p5).
+/// Converts a value to the type of a conditional expression (6.5.15p5).
 fn with_type(unsigned: bool, value: Result<Value, Failure>) -> Result<Value, Failure>
     ensures { result ≡ with_type unsigned value }
 {
@@ -72,7 +72,7 @@ fn with_type(unsigned: bool, value: Result<Value, Failure>) -> Result<Value, Fai
 
 #[tactic(auto, unfolding(crate::specs::Values::constant_outcome, crate::specs::Values::unary_outcome, crate::specs::Values::binary_outcome, crate::specs::Values::choice_outcome))]
 impl Outcome {
-    /// That of a constant.
+    /// Returns the outcome of a constant.
     pub(crate) fn constant(value: Value) -> Outcome
         ensures { result ≡ constant_outcome value }
     {
@@ -82,7 +82,7 @@ impl Outcome {
         }
     }
 
-    /// That of an operator before its operand.
+    /// Returns the outcome of a unary operator with its operand.
     pub(crate) fn unary(operator: Unary, operand: Outcome) -> Outcome
         ensures { result ≡ unary_outcome operator operand }
     {
@@ -95,7 +95,7 @@ impl Outcome {
         }
     }
 
-    /// That of an operator between its operands.
+    /// Returns the outcome of a binary operator with its operands.
     pub(crate) fn binary(operator: Binary, left: Outcome, right: Outcome) -> Outcome
         ensures { result ≡ binary_outcome operator left right }
     {
@@ -108,7 +108,7 @@ impl Outcome {
         }
     }
 
-    /// That of `test ? yes : no`.
+    /// Returns the outcome of `test ? yes : no`.
     pub(crate) fn choice(test: Outcome, yes: Outcome, no: Outcome) -> Outcome
         ensures { result ≡ choice_outcome test yes no }
     {

@@ -1,4 +1,4 @@
-// Reading an expression by precedence (6.5): from the left, with a stack of what still waits for its last operand.
+//! Parses and evaluates an expression by operator precedence (6.5), with a stack of what waits for its last operand.
 ghost use Rattle.std.specs.Prelude.{◌≡◌, Some, None, IfOk, MatchOption, ◌∷◌, MatchBool, reverse};
 ghost use Rattle.ppexpr.specs.Grammar.{IsExpression, level_of};
 ghost use Rattle.ppexpr.specs.Outcomes.{Outcome};
@@ -10,28 +10,28 @@ use crate::symbols::{Outcome, Symbol, SymbolKind};
 use std::alloc::{AllocError, Global};
 use std::marker::Model;
 
-// The level of a conditional expression (6.5.15).
+/// The level of a conditional expression (6.5.15).
 const CONDITIONAL: u8 = 1;
 
-// The level of its condition, a logical OR expression (6.5.14).
+/// The level of a logical OR expression (6.5.14), such as the condition of a conditional expression.
 const LOGICAL_OR: u8 = 2;
 
-/// What waits for its last operand, or for the symbol that closes it.
+/// An entry of the stack: it waits for its last operand, or for the symbol that closes it.
 #[derive(Clone, Copy)]
 struct Pending {
     kind: PendingKind,
 }
 
-/// What it is.
+/// The kind of an entry.
 #[derive(Clone, Copy)]
 enum PendingKind {
-    /// A parenthesis, for its `)`.
+    /// A `(` that waits for its `)`.
     Group,
     /// A unary operator.
     Sign(Unary),
     /// A binary operator with its left operand.
     Left(Binary, Outcome),
-    /// The condition before a `?`, for its `:`.
+    /// The condition before a `?` that waits for its `:`.
     Test(Outcome),
     /// The condition before a `?` and the operand before its `:`.
     Arms(Outcome, Outcome),
@@ -63,7 +63,7 @@ impl Model for Pending {
     } };
 }
 
-/// An expression as far as it was read: what is pending, the innermost last, and the operand that was just read.
+/// The state of the parser: the stack, the innermost entry last, and the operand that was just read, if any.
 #[derive(Drop)]
 struct Parser {
     pending: Vec<Pending>,
@@ -81,7 +81,7 @@ impl Model for Parser {
 }
 
 impl Binary {
-    // The level of the expressions that it makes: 2 for `||` to 11 for `*`.
+    /// Returns the level of an expression with this operator: from 2 for `||` to 11 for `*`.
     fn level(self) -> u8
         ensures { result ≡ level_of self }
     {
@@ -104,7 +104,7 @@ impl Binary {
 }
 
 impl Pending {
-    // The level of the expression that it becomes; 0 where a closing symbol comes first.
+    /// Returns the level of the expression that the entry becomes; 0 if the entry needs a closing symbol first.
     fn level(self) -> u8
         ensures { result ≡ frame_level self }
     {
@@ -117,6 +117,7 @@ impl Pending {
         }
     }
 
+    /// Returns the outcome that the entry becomes with its last operand.
     fn complete(self, operand: Outcome) -> Outcome
         ensures { result ≡ completed outcomes self operand }
     {
@@ -130,7 +131,7 @@ impl Pending {
     }
 }
 
-// Gives the operand to what waits for one at this level or a tighter one.
+/// Applies the entries at this level or a tighter one to the operand, and removes them.
 fn settle(pending: &mut Vec<Pending>, level: u8, mut operand: Outcome) -> Outcome
     ensures stay { reverse pending.new.items ≡ kept level (reverse pending.old.items) }
     ensures value { result ≡ settled outcomes level (reverse pending.old.items) operand }
@@ -141,7 +142,7 @@ fn settle(pending: &mut Vec<Pending>, level: u8, mut operand: Outcome) -> Outcom
     operand
 }
 
-// Whether a parenthesis is the innermost, which then waits no longer.
+/// Removes the innermost entry. Returns whether it was a `(`.
 fn pop_group(pending: &mut Vec<Pending>) -> bool
     ensures { MatchBool result (reverse pending.old.items ≡ Group ∷ reverse pending.new.items) ((z : Outcome) → closed (reverse pending.old.items) z ≡ None) }
 {
@@ -151,7 +152,7 @@ fn pop_group(pending: &mut Vec<Pending>) -> bool
     matches!(last.kind, PendingKind::Group)
 }
 
-// The condition before a `?` that is the innermost, which then waits no longer.
+/// Removes the innermost entry. Returns its condition if it was a `?`.
 fn pop_test(pending: &mut Vec<Pending>) -> Option<Outcome>
     ensures { MatchOption result ((z : Outcome) → between (reverse pending.old.items) z ≡ None) (λ x. reverse pending.old.items ≡ Test x ∷ reverse pending.new.items) }
 {
@@ -164,7 +165,7 @@ fn pop_test(pending: &mut Vec<Pending>) -> Option<Outcome>
 }
 
 impl Parser {
-    // Takes a symbol where an operand is awaited; false where none begins with it.
+    /// Reads a symbol where an operand is expected. Returns false if no operand begins with it.
     fn begin(&mut self, symbol: Symbol) -> Result<bool, AllocError>
         requires { self.old.1 ≡ None }
         ensures { IfOk result (λ more. Takes self.old symbol more self.new) }
@@ -188,7 +189,7 @@ impl Parser {
         Ok(true)
     }
 
-    // Takes a symbol behind an operand; false where none goes on with it.
+    /// Reads a symbol after an operand. Returns false if no expression continues with it.
     fn go_on(&mut self, operand: Outcome, symbol: Symbol) -> Result<bool, AllocError>
         requires { self.old.1 ≡ Some operand }
         ensures { IfOk result (λ more. Takes self.old symbol more self.new) }
@@ -227,7 +228,7 @@ impl Parser {
         Ok(true)
     }
 
-    // Takes the next symbol; false where no expression goes on with it.
+    /// Reads the next symbol. Returns false if no expression continues with it.
     fn take(&mut self, symbol: Symbol) -> Result<bool, AllocError>
         ensures { IfOk result (λ more. Takes self.old symbol more self.new) }
     {
@@ -237,7 +238,7 @@ impl Parser {
         }
     }
 
-    // The outcome behind the last symbol; None where an operand or a closing symbol is still awaited.
+    /// Returns the outcome after the last symbol, or `None` if an operand or a closing symbol is missing.
     fn finish(self) -> Option<Outcome>
         ensures { result ≡ finish outcomes self }
     {
@@ -250,8 +251,9 @@ impl Parser {
     }
 }
 
-/// What an expression comes to; None where the symbols are none (6.5, 6.6).
-/// Each symbol is pending at most once, so the time is linear in their number.
+/// Evaluates an expression. Returns `None` if the symbols are no expression (6.5, 6.6).
+///
+/// Each symbol is on the stack at most once, so the time is linear in the number of symbols.
 pub(crate) fn parse(alloc: Global, symbols: &[Symbol]) -> Result<Option<Outcome>, AllocError>
     ensures { IfOk result (λ r. MatchOption r (¬ IsExpression symbols.now) (Denotes symbols.now)) }
 {

@@ -1,5 +1,7 @@
-// The symbols of a controlling expression (6.10.1), and what an expression comes to. Each type is seen by contracts as the value of the
-// definitions; a kind whose pattern binds what it holds is copied out of its struct first, since the check refuses the pattern else.
+//! The symbols of a controlling expression (6.10.1), values, and the outcome of an expression.
+//!
+//! Contracts see each type as the value of the specification. Code copies a kind out of its struct before it matches patterns with bindings,
+//! because the check refuses such patterns on a field.
 ghost use Rattle.std.specs.Prelude.{◌≡◌};
 ghost use Rattle.ppexpr.specs.Outcomes as outcome;
 ghost use Rattle.ppexpr.specs.Symbols as symbol;
@@ -13,7 +15,7 @@ pub(crate) struct Value {
     pub(crate) number: Number,
 }
 
-/// The integer with its type.
+/// An integer with its type.
 #[derive(Clone, Copy)]
 pub(crate) enum Number {
     Signed(i64),
@@ -32,7 +34,7 @@ impl Model for Value {
 }
 
 impl Value {
-    /// That of a number in `intmax_t`.
+    /// Creates a value of type `intmax_t`.
     pub(crate) fn signed(number: i64) -> Value
         ensures { result ≡ outcome.Signed number }
     {
@@ -40,7 +42,7 @@ impl Value {
         Value { number }
     }
 
-    /// That of a number in `uintmax_t`.
+    /// Creates a value of type `uintmax_t`.
     pub(crate) fn unsigned(number: u64) -> Value
         ensures { result ≡ outcome.Unsigned number }
     {
@@ -49,13 +51,13 @@ impl Value {
     }
 }
 
-/// A token of an expression, once identifiers and constants are numbers.
+/// A token of an expression, with identifiers and constants as numbers.
 #[derive(Clone, Copy)]
 pub(crate) struct Symbol {
     pub(crate) kind: SymbolKind,
 }
 
-/// What it is.
+/// The kind of a symbol.
 #[derive(Clone, Copy)]
 pub(crate) enum SymbolKind {
     Constant(Value),
@@ -64,7 +66,7 @@ pub(crate) enum SymbolKind {
     Close,
     Question,
     Colon,
-    /// Any token that stands in no expression.
+    /// Any token that no expression contains.
     Other,
 }
 
@@ -98,27 +100,32 @@ impl Model for Symbol {
 }
 
 impl Symbol {
+    /// The symbol `(`.
     pub(crate) const OPEN: Symbol = Symbol {
         kind: SymbolKind::Open,
     };
 
+    /// The symbol `)`.
     pub(crate) const CLOSE: Symbol = Symbol {
         kind: SymbolKind::Close,
     };
 
+    /// The symbol `?`.
     pub(crate) const QUESTION: Symbol = Symbol {
         kind: SymbolKind::Question,
     };
 
+    /// The symbol `:`.
     pub(crate) const COLON: Symbol = Symbol {
         kind: SymbolKind::Colon,
     };
 
+    /// The symbol of a token that no expression contains.
     pub(crate) const OTHER: Symbol = Symbol {
         kind: SymbolKind::Other,
     };
 
-    /// That of a constant.
+    /// Creates the symbol of a constant.
     pub(crate) fn constant(value: Value) -> Symbol
         ensures { result ≡ symbol.Constant value }
     {
@@ -127,20 +134,20 @@ impl Symbol {
     }
 }
 
-/// Why an expression has no value: the fault, by its number, and the operator where it comes up.
+/// Why an expression has no value: the fault, and the operator at which it occurs.
 #[derive(Clone, Copy)]
 pub(crate) struct Failure {
     pub(crate) kind: FailureKind,
 }
 
-/// Which fault it is.
+/// The fault, by its number.
 #[derive(Clone, Copy)]
 pub(crate) enum FailureKind {
     /// 26: a divisor is 0.
     ZeroDivisor(Operator),
     /// 27: a signed result is out of range.
     Overflow(Operator),
-    /// 28: a shift's amount is out of range, or a signed value that is negative, or gets too large, is shifted to the left (6.5.7p3, p4).
+    /// 28: a shift amount is out of range, or a left shift is of a negative value or makes a signed value too large (6.5.7p3, p4).
     Shift(Operator),
 }
 
@@ -166,7 +173,7 @@ impl Model for Failure {
 }
 
 impl Failure {
-    /// A divisor of this operator is 0.
+    /// Creates fault 26: the divisor of this operator is 0.
     pub(crate) fn zero_divisor(operator: Operator) -> Failure
         ensures { result ≡ outcome.ZeroDivisor operator }
     {
@@ -174,7 +181,7 @@ impl Failure {
         Failure { kind }
     }
 
-    /// A signed result of this operator is out of range.
+    /// Creates fault 27: a signed result of this operator is out of range.
     pub(crate) fn overflow(operator: Operator) -> Failure
         ensures { result ≡ outcome.Overflow operator }
     {
@@ -182,7 +189,7 @@ impl Failure {
         Failure { kind }
     }
 
-    /// A shift by this operator has no value.
+    /// Creates fault 28: a shift by this operator has no value.
     pub(crate) fn shift(operator: Operator) -> Failure
         ensures { result ≡ outcome.Shift operator }
     {
@@ -191,7 +198,7 @@ impl Failure {
     }
 }
 
-/// What an expression comes to: its type, which it has even without a value, and its value or the first failure.
+/// The outcome of an expression: its type, which it has even without a value, and its value or the first failure.
 #[derive(Clone, Copy)]
 pub(crate) struct Outcome {
     pub(crate) unsigned: bool,

@@ -1,4 +1,4 @@
-// What a token of a controlling expression stands for.
+//! Converts the tokens of a controlling expression to symbols.
 ghost use Rattle.std.specs.Prelude.{◌≡◌, ◌++◌, ◌∷◌, OnOk, []};
 ghost use Rattle.pptext.specs.Stops.{Answers, IfSettled};
 ghost use Rattle.ppexpr.specs.Tokens.{operators, punctuator_among, symbol_of, symbols_of};
@@ -10,7 +10,7 @@ use crate::symbols::{Symbol, SymbolKind, Value};
 use pptext::{Fault, Kind, Place, Stop, Token};
 use std::alloc::{AllocError, Global};
 
-/// The symbol of a punctuator.
+/// Returns the symbol of a punctuator.
 pub(crate) fn punctuator(text: &[u8]) -> Symbol
     ensures { result ≡ punctuator_among operators text.now }
 {
@@ -45,7 +45,7 @@ pub(crate) fn punctuator(text: &[u8]) -> Symbol
     Symbol { kind }
 }
 
-/// The symbol of a token, or the fault of a constant without a value.
+/// Returns the symbol of a token, or the fault of a constant without a value (24 or 25).
 pub(crate) fn symbol_of(alloc: Global, at: Place, token: &Token) -> Result<Symbol, Stop>
     ensures { IfSettled result (λ s. s ≡ symbol_of at token.now) }
 {
@@ -63,7 +63,7 @@ pub(crate) fn symbol_of(alloc: Global, at: Place, token: &Token) -> Result<Symbo
     }
 }
 
-// Puts a symbol behind the others.
+/// Appends a symbol.
 fn push_symbol(symbols: &mut Vec<Symbol>, symbol: Symbol) -> Result<(), AllocError>
     ensures { OnOk result (symbols.new.items ≡ symbols.old.items ++ symbol ∷ []) }
 {
@@ -71,7 +71,7 @@ fn push_symbol(symbols: &mut Vec<Symbol>, symbol: Symbol) -> Result<(), AllocErr
     Ok(())
 }
 
-/// The symbols of tokens, or the first fault from the left.
+/// Returns the symbols of tokens, or the first fault from the left.
 pub(crate) fn symbols_of(alloc: Global, at: Place, tokens: &[Token]) -> Result<Vec<Symbol>, Stop>
     ensures { Answers result (λ v. v.items) (symbols_of at tokens.now) }
 {

@@ -1,4 +1,4 @@
-// Operators on values (6.5.3.3, 6.5.5 to 6.5.14).
+//! Applies operators to values (6.5.3.3, 6.5.5 to 6.5.14).
 ghost use Rattle.std.specs.Prelude.{◌≡◌, ℤ, pos, FitsSigned, ◌+ℤ◌, ◌-ℤ◌, ◌*ℤ◌, ◌<◌, int_lt, int_le, int_div, int_rem, bit_and, bit_or};
 ghost use Rattle.std.specs.Prelude.{bit_xor, not, MatchOption, Ok, false};
 ghost use Rattle.std.specs.Int.{w64, int_bit_and, int_bit_or, int_bit_xor};
@@ -11,7 +11,7 @@ ghost use Rattle.ppexpr.specs.Values.{arithmetic, division, comparison, bitwise,
 use crate::operators::{Binary, BinaryKind, Operator, Unary, UnaryKind};
 use crate::symbols::{Failure, Number, Value};
 
-/// Two operands of one type.
+/// Two operands after the usual arithmetic conversions.
 #[derive(Clone, Copy)]
 enum Operands {
     BothSigned(i64, i64),
@@ -19,7 +19,7 @@ enum Operands {
 }
 
 impl Value {
-    /// Whether it is 0.
+    /// Returns whether the value is 0.
     pub(crate) fn is_zero(self) -> bool
         ensures { result ≡ is_zero self }
     {
@@ -29,7 +29,7 @@ impl Value {
         }
     }
 
-    /// The value modulo 2^64 (6.3.1.3p2).
+    /// Returns the value modulo 2^64 (6.3.1.3p2).
     pub(crate) fn as_unsigned(self) -> u64
         ensures { result ≡ as_unsigned self }
     {
@@ -39,7 +39,7 @@ impl Value {
         }
     }
 
-    /// What a comparison answers (6.5.8p6).
+    /// Returns the result of a comparison: 1 or 0, signed (6.5.8p6).
     pub(crate) fn truth(holds: bool) -> Value
         ensures { result ≡ truth holds }
     {
@@ -47,7 +47,7 @@ impl Value {
     }
 }
 
-// A signed result, if it is in range.
+/// Returns a signed result, or fault 27 if it is out of range.
 fn signed(operator: Operator, value: Option<i64>) -> Result<Value, Failure>
     ensures { (z : ℤ) → SomeIff value (FitsSigned w64 z) z → result ≡ signed operator z }
 {
@@ -57,7 +57,7 @@ fn signed(operator: Operator, value: Option<i64>) -> Result<Value, Failure>
     }
 }
 
-// `-` before an operand.
+/// Computes unary `-` (6.5.3.3p3).
 fn negative(value: Value) -> Result<Value, Failure>
     ensures { result ≡ negative value }
 {
@@ -67,7 +67,7 @@ fn negative(value: Value) -> Result<Value, Failure>
     }
 }
 
-// `~` before an operand.
+/// Computes `~` (6.5.3.3p4).
 fn complement(value: Value) -> Result<Value, Failure>
     ensures { result ≡ complement value }
 {
@@ -77,7 +77,7 @@ fn complement(value: Value) -> Result<Value, Failure>
     })
 }
 
-/// An operator before a value.
+/// Applies a unary operator to a value.
 pub(crate) fn unary_value(operator: Unary, value: Value) -> Result<Value, Failure>
     ensures { result ≡ unary_value operator value }
 {
@@ -89,7 +89,7 @@ pub(crate) fn unary_value(operator: Unary, value: Value) -> Result<Value, Failur
     }
 }
 
-// The usual conversions (6.3.1.8).
+/// Applies the usual arithmetic conversions (6.3.1.8).
 fn converted(left: Value, right: Value) -> Operands
     ensures { (elim result [ Operands.BothSigned a b ↦ BothSigned a b | Operands.BothUnsigned a b ↦ BothUnsigned a b ]) ≡ converted left right }
 {
@@ -101,7 +101,7 @@ fn converted(left: Value, right: Value) -> Operands
     Operands::BothUnsigned(left.as_unsigned(), right.as_unsigned())
 }
 
-// 6.5.5p4
+/// Computes `*` (6.5.5p4).
 fn product(left: Value, right: Value) -> Result<Value, Failure>
     ensures { result ≡ arithmetic Star (λ a b. a *ℤ b) (converted left right) }
 {
@@ -111,7 +111,7 @@ fn product(left: Value, right: Value) -> Result<Value, Failure>
     }
 }
 
-// 6.5.6p5
+/// Computes binary `+` (6.5.6p5).
 fn sum(left: Value, right: Value) -> Result<Value, Failure>
     ensures { result ≡ arithmetic Plus (λ a b. a +ℤ b) (converted left right) }
 {
@@ -121,7 +121,7 @@ fn sum(left: Value, right: Value) -> Result<Value, Failure>
     }
 }
 
-// 6.5.6p6
+/// Computes binary `-` (6.5.6p6).
 fn difference(left: Value, right: Value) -> Result<Value, Failure>
     ensures { result ≡ arithmetic Minus (λ a b. a -ℤ b) (converted left right) }
 {
@@ -131,7 +131,7 @@ fn difference(left: Value, right: Value) -> Result<Value, Failure>
     }
 }
 
-// 6.5.5p5
+/// Computes `/` (6.5.5p5).
 fn quotient(left: Value, right: Value) -> Result<Value, Failure>
     ensures { result ≡ division Slash int_div (converted left right) }
 {
@@ -147,7 +147,7 @@ fn quotient(left: Value, right: Value) -> Result<Value, Failure>
     }
 }
 
-// 6.5.5p5, p6
+/// Computes `%` (6.5.5p5, p6).
 fn remainder(left: Value, right: Value) -> Result<Value, Failure>
     ensures { result ≡ division Percent int_rem (converted left right) }
 {
@@ -163,7 +163,7 @@ fn remainder(left: Value, right: Value) -> Result<Value, Failure>
     }
 }
 
-// 6.5.8p6
+/// Computes `<` (6.5.8p6).
 fn less(left: Value, right: Value) -> Value
     ensures { Ok result ≡ comparison int_lt (converted left right) }
 {
@@ -173,7 +173,7 @@ fn less(left: Value, right: Value) -> Value
     })
 }
 
-// 6.5.8p6
+/// Computes `<=` (6.5.8p6).
 fn less_or_equal(left: Value, right: Value) -> Value
     ensures { Ok result ≡ comparison int_le (converted left right) }
 {
@@ -183,7 +183,7 @@ fn less_or_equal(left: Value, right: Value) -> Value
     })
 }
 
-// 6.5.8p6
+/// Computes `>` (6.5.8p6).
 fn greater(left: Value, right: Value) -> Value
     ensures { Ok result ≡ comparison (λ a b. int_lt b a) (converted left right) }
 {
@@ -193,7 +193,7 @@ fn greater(left: Value, right: Value) -> Value
     })
 }
 
-// 6.5.8p6
+/// Computes `>=` (6.5.8p6).
 fn greater_or_equal(left: Value, right: Value) -> Value
     ensures { Ok result ≡ comparison (λ a b. int_le b a) (converted left right) }
 {
@@ -203,7 +203,7 @@ fn greater_or_equal(left: Value, right: Value) -> Value
     })
 }
 
-// 6.5.9p3
+/// Computes `==` (6.5.9p3).
 fn equal(left: Value, right: Value) -> Value
     ensures { Ok result ≡ comparison int_eq (converted left right) }
 {
@@ -213,7 +213,7 @@ fn equal(left: Value, right: Value) -> Value
     })
 }
 
-// 6.5.9p3
+/// Computes `!=` (6.5.9p3).
 fn not_equal(left: Value, right: Value) -> Value
     ensures { Ok result ≡ comparison (λ a b. not (int_eq a b)) (converted left right) }
 {
@@ -223,7 +223,7 @@ fn not_equal(left: Value, right: Value) -> Value
     })
 }
 
-// 6.5.10p4
+/// Computes binary `&` (6.5.10p4).
 fn bit_and(left: Value, right: Value) -> Value
     ensures { Ok result ≡ bitwise (int_bit_and w64) bit_and (converted left right) }
 {
@@ -233,7 +233,7 @@ fn bit_and(left: Value, right: Value) -> Value
     }
 }
 
-// 6.5.11p4
+/// Computes `^` (6.5.11p4).
 fn bit_xor(left: Value, right: Value) -> Value
     ensures { Ok result ≡ bitwise (int_bit_xor w64) bit_xor (converted left right) }
 {
@@ -243,7 +243,7 @@ fn bit_xor(left: Value, right: Value) -> Value
     }
 }
 
-// 6.5.12p4
+/// Computes `|` (6.5.12p4).
 fn bit_or(left: Value, right: Value) -> Value
     ensures { Ok result ≡ bitwise (int_bit_or w64) bit_or (converted left right) }
 {
@@ -253,7 +253,7 @@ fn bit_or(left: Value, right: Value) -> Value
     }
 }
 
-// A shift's amount, where it is one.
+/// Returns the amount of a shift, if it is from 0 to 63.
 fn amount(value: Value) -> Option<u32>
     ensures { MatchOption result (is_amount (whole value) ≡ false) (λ n. (whole value ≡ pos n) × (n < 64)) }
 {
@@ -264,7 +264,7 @@ fn amount(value: Value) -> Option<u32>
     }
 }
 
-// `<<` (6.5.7p4).
+/// Computes `<<` by an amount in range (6.5.7p4).
 fn left_shift(value: Value, amount: u32) -> Result<Value, Failure>
     requires { amount < 64 }
     ensures { result ≡ left_shift value amount }
@@ -282,7 +282,7 @@ fn left_shift(value: Value, amount: u32) -> Result<Value, Failure>
     Ok(Value::signed(number << amount))
 }
 
-// `>>` (6.5.7p5).
+/// Computes `>>` by an amount in range (6.5.7p5).
 fn right_shift(value: Value, amount: u32) -> Value
     requires { amount < 64 }
     ensures { Ok result ≡ right_shift value amount }
@@ -293,7 +293,7 @@ fn right_shift(value: Value, amount: u32) -> Value
     }
 }
 
-// `<<` by any amount (6.5.7p3).
+/// Computes `<<` by any amount (6.5.7p3).
 fn shifted_left(left: Value, right: Value) -> Result<Value, Failure>
     ensures { result ≡ shift ShiftLeft left_shift left right }
 {
@@ -303,7 +303,7 @@ fn shifted_left(left: Value, right: Value) -> Result<Value, Failure>
     }
 }
 
-// `>>` by any amount (6.5.7p3).
+/// Computes `>>` by any amount (6.5.7p3).
 fn shifted_right(left: Value, right: Value) -> Result<Value, Failure>
     ensures { result ≡ shift ShiftRight right_shift left right }
 {
@@ -313,7 +313,7 @@ fn shifted_right(left: Value, right: Value) -> Result<Value, Failure>
     }
 }
 
-/// An operator between two values.
+/// Applies a binary operator to two values.
 pub(crate) fn binary_value(operator: Binary, left: Value, right: Value) -> Result<Value, Failure>
     ensures { result ≡ binary_value operator left right }
 {

@@ -10,7 +10,7 @@ use Rattle.ppexpand.proofs.Gathering.{resumed, resumed-token, resumed-argument, 
 use Rattle.ppexpand.proofs.arguments.gather.Goals as goal
 use Rattle.ppexpand.proofs.arguments.gather.Goals.{in-Close-2, in-Comma+else-separates, in-Open, in-Inner}
 
--- which mark of the definitions a mark of the code is
+-- the role in the specification of a role in the code
 abbrev shown_mark : code.ArgumentRole → ArgumentRole
 shown_mark variant.Quote = Quote
 shown_mark variant.Open = Open

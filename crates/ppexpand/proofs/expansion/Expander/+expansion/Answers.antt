@@ -18,7 +18,7 @@ use Rattle.ppexpand.proofs.Skipping.{plain-expands, next-known, more-known, foll
 use Rattle.ppexpand.proofs.Follows.{more_follows, more_falls, end_follows, call_taken}
 use Rattle.ppexpand.proofs.expansion.Expander.+expansion.Goals as goal
 
--- ---- one turn
+-- ---- one step
 
 pub advance-returns-in_default-clause-on : goal.advance-returns-in_default-clause-on
 advance-returns-in_default-clause-on m c = (rw c.in_default.is at c.in_ok-goes.ensures.on) c.args.context.now.level

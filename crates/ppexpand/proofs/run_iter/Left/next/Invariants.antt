@@ -3,7 +3,7 @@ use Rattle.ppmacro.specs.Substituting.{tokens_of}
 use Rattle.ppexpand.specs.Pieces.{piece_list}
 use Rattle.ppexpand.proofs.run_iter.Left.next.Given as goal
 
--- only pieces of which nothing was left were passed over
+-- only pieces without tokens were skipped
 abbrev pub invariant-loop-token : goal.invariant-loop-token
 invariant-loop-token l = l.self-inside.unread ++ tokens_of (flat_map piece_list l.self-inside.pieces.now) ≡ l.fn.self
 

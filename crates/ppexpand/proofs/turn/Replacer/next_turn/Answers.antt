@@ -18,7 +18,7 @@ use Rattle.ppexpand.specs.Shown.{turn_in, NextKnown}
 use Rattle.ppexpand.proofs.TurnLemmas.{turn-quote, turn-hidden, turn-named, turn-unnamed, done-within, refused-within, passes-within, free-within, nothing_left}
 use Rattle.ppexpand.proofs.turn.Replacer.next_turn.Goals as goal
 
--- the turn of a macro's name that isn't hidden
+-- the step of a macro's name that is not hidden
 named : (macros : Macros) (env : Env) (left : Option ℕ) (t : Hiding) (rest : List Hiding) (d : Definition) → is_lone_quote t.token ≡ false → set.contains t.hide t.token.text ≡ false → macro_of macros t.token ≡ Some d
     → turn_within macros env left (t ∷ rest) ≡ within left (t ∷ rest) (macro_turn env t rest d d.shape)
 named macros env left t rest d quote free found = ap (within left (t ∷ rest)) (turn-named macros env t rest quote free ∙ ap (named_turn env t rest) found)
