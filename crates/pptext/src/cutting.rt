@@ -24,17 +24,22 @@ use std::marker::Model;
 /// The lexeme that begins a text, with its length in bytes, or a comment that isn't closed.
 #[derive(Clone, Copy)]
 pub(crate) enum Front {
+    /// A new-line.
     NewLine,
     /// A run of blanks.
     Blank(usize),
+    /// A comment.
     Comment(usize),
+    /// A comment that isn't closed.
     Unclosed,
+    /// A token of this kind.
     Token(Kind, usize),
 }
 
 /// The lexeme that begins a text. Contracts see its kind and its length.
 #[derive(Drop)]
 pub(crate) struct Found {
+    /// The lexeme with its length.
     pub(crate) front: Front,
 }
 

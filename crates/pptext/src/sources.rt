@@ -102,8 +102,11 @@ pub struct Line {
 /// A file without fault: its tokens, lines and groups (6.10). Contracts see the list of its lines.
 #[derive(Drop)]
 pub struct Source {
+    /// The tokens of all lines.
     pub(crate) tokens: Vec<Token>,
+    /// The lines.
     pub(crate) lines: Vec<Line>,
+    /// The index of the include guard's name among the tokens.
     pub(crate) guard: Option<usize>,
 }
 

@@ -16,7 +16,9 @@ use std::marker::Model;
 /// entry for each line note: the number of bytes between it and the line note before, or the start.
 #[derive(Drop)]
 pub(crate) struct Cleaned {
+    /// The codes of the characters.
     pub(crate) codes: Vec<u8>,
+    /// The table of line notes.
     pub(crate) breaks: Vec<u32>,
 }
 

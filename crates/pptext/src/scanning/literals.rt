@@ -9,7 +9,9 @@ ghost use Rattle.pptext.specs.Lone.{IsQuoted, AreLone, StaysOpen};
 /// quotes would be searched n times.
 #[derive(Clone, Copy)]
 pub(crate) struct LoneQuotes {
+    /// The number of bytes after the range of single quotes.
     pub(crate) single: usize,
+    /// The number of bytes after the range of double quotes.
     pub(crate) double: usize,
 }
 
