@@ -1,4 +1,4 @@
--- The folder of a file with a name in normal form.
+-- The directory of a file with a name in normal form.
 use Rattle.std.proofs.Common.{◌≡◌, ℕ, ◌+◌, ◌-◌, ◌==◌, suc, ◌<◌, Bool, true, false, not, ◌&&◌, ◌||◌, cond, List, [], ◌∷◌, ◌++◌, length, get_or}
 use Rattle.std.proofs.Common.{take, drop, drop-cons, Option, Some, None, refl, sym, ap, ◌∙◌, arith}
 use Rattle.std.specs.List.{onto_first, list_all}
@@ -60,7 +60,7 @@ parent_last path s =
     ∙ (ap (λ (b : Bool). cond {A = Option Path} b None (Some (take (suc (length path) - 1) (path ++ s ∷ [])))) (eqb-suc-zero (length path))
     ∙ (ap (λ (n : ℕ). Some (take n (path ++ s ∷ []))) less ∙ ap (λ (p : Path). Some p) (take-append_seam path (s ∷ []))))
 
--- what stands before the last slash of a name leads to its folder
+-- what is before the last slash of a name leads to its directory
 pub before_slash : (name : List ℕ) (i : ℕ) → is_name name ≡ true → i < length name → (get_or name i 0 == 47) ≡ true
     → ((k : ℕ) → i < k → k < length name → (get_or name k 0 == 47) ≡ false) → lead (Some []) (take i name) ≡ parent_of (lead (Some []) name)
 before_slash name i normal within here after =
@@ -77,7 +77,7 @@ before_slash name i normal within here after =
     let parts = and_parts (list_all is_segment (segments front)) (list_all is_segment (last ∷ [])) (sym (list_all-append is_segment (segments front) (last ∷ [])) ∙ (ap (list_all is_segment) (sym cut) ∙ all)) in
     lead_in front parts.0 ∙ sym (ap parent_of (lead_in name all) ∙ (ap parent cut ∙ parent_last (segments front) last))
 
--- and a name without a slash stands in the root
+-- and a name without a slash is in the root
 pub no_slash : (name : List ℕ) → is_name name ≡ true → ((k : ℕ) → k < length name → (get_or name k 0 == 47) ≡ false) → lead (Some []) [] ≡ parent_of (lead (Some []) name)
 no_slash name normal none =
     let alone : segments name ≡ name ∷ [] = no_cut name none in

@@ -1,4 +1,4 @@
--- Whatever happens to a shelf and a desk, what callers have learnt is what rows keep, and what they claimed are the blocks below the next one.
+-- Whatever happens to a shelf and a block counter, what callers have observed is what rows cache, and what they claimed are the blocks below the next one.
 use Rattle.std.proofs.Common.{◌≡◌, ℕ, zero, suc, ◌+◌, ◌<◌, ◌≤◌, nat_lt, min, true, false, List, [], ◌∷◌, ◌++◌, length, get_or, set, Some, None}
 use Rattle.std.proofs.Common.{refl, sym, ◌∙◌, ap, subst, arith, ◌⊎◌, inl, inr}
 use Rattle.std.specs.Prelude.{if◌then◌else◌}
@@ -11,7 +11,7 @@ use Rattle.ppshelf.specs.Files.{Files, file_at, Extends}
 use Rattle.ppshelf.proofs.Files.{none_known}
 use Rattle.ppshelf.specs.Events.{Caller, nobody, Shared, caller_at, learnt_by, changing, learning, keeping, with_block, with_none, advancing, Event, Happens, keeps, reads, claims, finds_none, Happen, none, next, beginning, LearntStays, CallersAgree, times, claims_of, EachBlockOnce}
 
--- all that a caller has learnt is kept
+-- all that a caller has observed is cached
 abbrev Sound : Shared → Type 0
 Sound shared = (caller : ℕ) → Extends shared.kept (learnt_by shared caller)
 
@@ -57,7 +57,7 @@ changed_same shared caller change within = get_or-set_same shared.callers caller
 changed_other : (shared : Shared) (caller : ℕ) (change : Caller → Caller) (who : ℕ) → (who ≡ caller → ⊥) → caller_at (changing shared caller change) who ≡ caller_at shared who
 changed_other shared caller change who other = get_or-set_other shared.callers caller who (change (caller_at shared caller)) nobody other
 
--- what a caller has learnt once some caller learns
+-- what a caller has observed once some caller observes
 learnt_after : (shared : Shared) (caller row : ℕ) (c : Content) (who : ℕ) → caller < length shared.callers
     → (learnt_by (learning shared caller row c) who ≡ learnt_by shared who)
     ⊎ (learnt_by (learning shared caller row c) who ≡ set (learnt_by shared who) row (Some c))
@@ -89,7 +89,7 @@ learns shared caller row c within sound kept =
           ],
     )
 
--- a change of a caller that leaves what it has learnt
+-- a change of a caller that leaves what it has observed
 keeps_learnt : (shared : Shared) (caller : ℕ) (change : Caller → Caller) → ((k : Caller) → (change k).learnt ≡ k.learnt) → caller < length shared.callers → (who : ℕ) → learnt_by (changing shared caller change) who ≡ learnt_by shared who
 keeps_learnt shared caller change same within who =
     elim (cases_eq who caller) [

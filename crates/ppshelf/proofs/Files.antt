@@ -127,7 +127,7 @@ files_of-same sights row s old within read is =
     let same : old ≡ get_or sights row no_sight = get_or_read sights row old within read no_sight in
     map-set_same content_of_sight sights row s no_sight (ap (λ (o : Option Held). option_map (λ (x : Held). x.content) o) (is ∙ ap (λ (x : Sight). x.shown) same))
 
--- a caller that has seen nothing of the first n rows
+-- a caller that has observed nothing of the first n rows
 pub record Unseen (stock : List Spot) (sights : List Sight) (n : ℕ) : Type 0 where
   pub len : length sights ≡ n
   pub each : (row : ℕ) → row < n → ((get_or sights row no_sight).cell ≡ (get_or stock row no_spot).cell) × ((get_or sights row no_sight).shown ≡ None)
@@ -234,7 +234,7 @@ shown_pass may profile hashing rows stock sights row spot s placed same w read i
     pass_set may stock sights row spot s is (omega arith) (spot_is profile hashing rows row spot placed w read ∙ ap (λ (x : Stock). spot_at x row) (sym same))
     (let R : Profile → Type 0 = λ p. FitsRow may p row spot s in subst R (ap (λ (x : Stock). x.profile) (sym same)) fits)
 
--- two passes have met at the rows from n on
+-- two passes are merged at the rows from n on
 pub record Met (may : List ℕ → Content → Type 0) (stock : Stock) (old other new : List Sight) (n : ℕ) : Type 0 where
   pub is : IsPass may stock new
   pub kept : (row : ℕ) → row < n → get_or new row no_sight ≡ get_or old row no_sight
@@ -276,7 +276,7 @@ met_more may stock old other new n spot mine theirs s m w at mine_read theirs_is
           ];
     }
 
--- at the end every row has met
+-- at the end every row is merged
 pub met_agree : (may : List ℕ → Content → Type 0) (stock : Stock) (old other new : List Sight) → Met may stock old other new 0 → length old ≡ length stock.names → Agree (files_of old) (files_of other)
 met_agree may stock old other new m len row c d a b =
     let s = shown_of old row c a in

@@ -215,7 +215,7 @@ given_row contents profile row bytes old new e f =
     let P : List ℕ → Type 0 = λ b. FilledRow (λ (name : List ℕ) (c : Content). c ≡ readable b) profile row old new in
     subst P e f
 
--- what is lawful for a row by its name is lawful for what stands there now
+-- what is permitted for a row by its name is permitted for what stands there now
 pub lawful_here : (profile : Profile) (may : List ℕ → Content → Type 0) (gives : ℕ → List ℕ → Content → Type 0) (old new : List Spot) (row : ℕ) (mine : Spot)
     (bytes theirs : List ℕ)
     → Filling profile gives old new row

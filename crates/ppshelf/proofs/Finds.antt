@@ -37,7 +37,7 @@ module _ (names : List (List ℕ)) where
   first_alone k (Some path) None h = inr (h, refl)
   first_alone k (Some path) (Some row) h = inl (row, (refl, h))
 
-  -- a search that begins behind the folder of number j and has passed over those up to number i
+  -- a search that begins after the directory of number j and has skipped those up to number i
   pub record Passed (folders : List (List ℕ)) (text : List ℕ) (j i : ℕ) : Type 0 where
     pub rest : (found : Option (ℕ × ℕ)) → IsFirstRow names (inside (suc i) (drop i folders) text) found → IsFirstRow names (inside (suc j) (drop j folders) text) found
 
@@ -102,7 +102,7 @@ one_first names good (c ∷ cs) a b x y =
       | inr h ↦ elim y [ inl k ↦ absurd (h.0 k.0 k.1.1.0 k.1.1.1) | inr k ↦ one_first names good cs a b h.1 k.1 ]
     ]
 
--- the candidates in some folders: those in the first j, and those in the others
+-- the candidates in some directories: those in the first j, and those in the others
 parted : (folders : List (List ℕ)) (text : List ℕ) (j k m : ℕ) → m ≡ k + j → inside k folders text ≡ inside k (take j folders) text ++ inside m (drop j folders) text
 parted folders text zero k m e = let same : k ≡ m = omega (arith, e) in ap (λ (n : ℕ). inside n folders text) same
 parted [] text (suc j) k m e = refl
@@ -111,13 +111,13 @@ parted (folder ∷ more) text (suc j) k m e =
     let next : m ≡ suc k + j = omega (arith, e) in
     ap (λ (cs : List Candidate). here ++ cs) (parted more text j (suc k) m next) ∙ sym (append_assoc here (inside (suc k) (take j more) text) (inside m (drop j more) text))
 
--- what is looked for behind a folder is the end of what is looked for in all
+-- the candidates after a directory are the last candidates
 pub behind_ends : (from text : List ℕ) (unit setting : List (List ℕ)) (j : ℕ) → IsEndOf (candidates_behind j unit setting text) (candidates Angle from unit setting text)
 behind_ends from text unit setting j =
     let first : suc j ≡ 1 + j = omega arith in
     (inside 1 (take j (unit ++ setting)) text, parted (unit ++ setting) text j 1 (suc j) first)
 
--- what is found in folders that are numbered from k on has no smaller number
+-- what is found in directories that are numbered from k on has no smaller number
 above_one : (names : List (List ℕ)) (path : Option Path) (k : ℕ) (more : List Candidate) (found : ℕ × ℕ) → (IsFirstRow names more (Some found) → k ≤ found.1) → IsFirstRow names (candidate k path ++ more) (Some found) → k ≤ found.1
 above_one names None k more found later h = later h
 above_one names (Some path) k more found later h =
@@ -130,11 +130,11 @@ above names [] text k found h = absurd (none-some found (sym h))
 above names (folder ∷ more) text k found h =
     above_one names (lead (lead (Some []) folder) text) k (inside (suc k) more text) found (λ r. let l = above names more text (suc k) found r in omega arith) h
 
--- so a search behind a folder finds what it finds in a later one
+-- so a search after a directory finds a file in a later one
 pub found_behind : (names unit setting : List (List ℕ)) (text : List ℕ) (j row folder : ℕ) → IsFirstRow names (candidates_behind j unit setting text) (Some (row, folder)) → j < folder
 found_behind names unit setting text j row folder h = let l = above names (drop j (unit ++ setting)) text (suc j) (row, folder) h in omega arith
 
--- ---- a search has an answer
+-- ---- a search has a result
 
 none_here : (n : List ℕ) (names : List (List ℕ)) (name : List ℕ) → n ≢ name → IsRowOf names name None → IsRowOf (n ∷ names) name None
 none_here n names name other none zero h = other
@@ -145,7 +145,7 @@ row_here n names name true e row h = (Some 0, (omega arith, (bytes_eq-Decides n 
 row_here n names name false e None h = (None, none_here n names name (λ same. let no : bytes_eq n name ≡ true = (bytes_eq-Decides n name).1 same in cc) h)
 row_here n names name false e (Some r) h = (Some (suc r), (omega arith, h.1))
 
--- a name stands among the names or doesn't
+-- a name is among the names or isn't
 some_row_of : (names : List (List ℕ)) (name : List ℕ) → (row : Option ℕ) × IsRowOf names name row
 some_row_of [] name = (None, λ row h. absurd (omega arith))
 some_row_of (n ∷ names) name = row_here n names name (bytes_eq n name) refl (some_row_of names name).0 (some_row_of names name).1
@@ -154,7 +154,7 @@ first_or : (names : List (List ℕ)) (c : Candidate) (cs : List Candidate) (row 
 first_or names c cs None h later k = (later, inr (h, k))
 first_or names c cs (Some r) h later k = (Some (r, c.folder), inl (r, (refl, h)))
 
--- so each list of candidates has an answer, whatever the names
+-- so each list of candidates has a result, whatever the names
 pub some_first : (names : List (List ℕ)) (cs : List Candidate) → (found : Option (ℕ × ℕ)) × IsFirstRow names cs found
 some_first names [] = (None, refl)
 some_first names (c ∷ cs) = first_or names c cs (some_row_of names c.name).0 (some_row_of names c.name).1 (some_first names cs).0 (some_first names cs).1

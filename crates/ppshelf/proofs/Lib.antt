@@ -1,8 +1,8 @@
--- The lemmas of this crate, by file; the proofs of its functions stand in a folder for each file of the sources.
+-- The lemmas of this crate, by file; the proofs of its functions are in a directory for each file of the sources.
 
 -- What a pass knows at a row.
 pub mod Files
--- Whatever happens to a shelf and a desk, what callers have learnt is what rows keep, and what they claimed are the blocks below the next one.
+-- Whatever happens to a shelf and a block counter, what callers have observed is what rows cache, and what they claimed are the blocks below the next one.
 pub mod Events
 -- What a fill keeps from row to row.
 pub mod Filling
@@ -14,7 +14,7 @@ pub mod Naming
 pub mod Paths
 -- Texts whose segments all lead on.
 pub mod Plain
--- The folder of a file with a name in normal form.
+-- The directory of a file with a name in normal form.
 pub mod Beside
 -- The first of several names that a shelf has.
 pub mod Finds

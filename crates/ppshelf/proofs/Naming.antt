@@ -19,7 +19,7 @@ some_found : (row : ℕ) → ◌≡◌ {A = Option ℕ} None (Some row) → ⊥
 some_found row e = cc
 
 module _ {X : Type 0} (items : X → List ℕ) (name : List ℕ) where
-  -- a name that no key is stands at no row
+  -- a name that no key is has no row
   pub no_row : (keys : List X) → list_any (λ x. bytes_eq name (items x)) keys ≡ false → IsRowOf (map items keys) name None
   no_row [] e row within same = absurd (omega arith)
   no_row (k ∷ ks) e zero within same = false≢true (sym (or_parts _ _ e).0 ∙ (bytes_eq-Decides name (items k)).1 (sym same))
@@ -32,7 +32,7 @@ module _ {X : Type 0} (items : X → List ℕ) (name : List ℕ) where
   a_row_by k ks true h later = (0, (omega arith, sym ((bytes_eq-Decides name (items k)).0 h)))
   a_row_by k ks false h later = a_row_below k ks (later refl)
 
-  -- and one that some key is stands at a row
+  -- and one that some key is has a row
   pub a_row : (keys : List X) → list_any (λ x. bytes_eq name (items x)) keys ≡ true → (row : ℕ) × IsRowOf (map items keys) name (Some row)
   a_row [] e = absurd (false≢true e)
   a_row (k ∷ ks) e = a_row_by k ks (bytes_eq name (items k)) refl (λ f. a_row ks (either (bytes_eq name (items k)) (list_any (λ x. bytes_eq name (items x)) ks) e f))
@@ -43,7 +43,7 @@ module _ {X : Type 0} (items : X → List ℕ) (name : List ℕ) where
       let h = position-Some (λ x. bytes_eq name (items x)) (k ∷ ks) row k e in
       (let l = length-map (k ∷ ks) items in let w = h.0 in omega arith, get_or-map items (k ∷ ks) row k [] h.0 ∙ sym ((bytes_eq-Decides name (items (get_or (k ∷ ks) row k))).0 h.1))
 
-  -- the row that a search for the key answers
+  -- the row that a search for the key returns
   pub row_found : (keys : List X) (r : Option ℕ) → r ≡ position (λ x. bytes_eq name (items x)) keys → is_some r ≡ list_any (λ x. bytes_eq name (items x)) keys → IsRowOf (map items keys) name r
   row_found keys None e found = no_row keys (sym found)
   row_found keys (Some row) e found = row_at keys row (sym e)
@@ -137,7 +137,7 @@ same_list : (names : List (List ℕ)) → map (λ (n : List ℕ). n) names ≡ n
 same_list [] = refl
 same_list (n ∷ ns) = ap (λ (l : List (List ℕ)). n ∷ l) (same_list ns)
 
--- a name that the test doesn't find stands at no row, and one that it finds at some
+-- a name that the test doesn't find has no row, and one that it finds at some
 at_no_row : (name : List ℕ) (names : List (List ℕ)) → list_any (bytes_eq name) names ≡ false → IsRowOf names name None
 at_no_row name names e =
     let P : List (List ℕ) → Type 0 = λ l. IsRowOf l name None in

@@ -21,7 +21,7 @@ no_cut (b ∷ text) none =
     slice_split-cons_no (λ b. b == 47) b text (none 0 (omega arith))
     ∙ ap (onto_first b) (no_cut text (λ k below. none (suc k) (omega arith)))
 
--- one more segment behind others
+-- one more segment after others
 pub join_more : (path : List (List ℕ)) (s : List ℕ) → 0 < length path → join_with_byte 47 (path ++ s ∷ []) ≡ (join_with_byte 47 path ++ 47 ∷ []) ++ s
 join_more [] s some = absurd (omega arith)
 join_more (t ∷ []) s some = sym (append_assoc t (47 ∷ []) s)

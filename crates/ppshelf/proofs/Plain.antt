@@ -22,7 +22,7 @@ leads_on path (b ∷ s) plain = on path b s (b == 46) refl (both (not (length (b
     on path b s true is plain = absurd (false≢true (sym (ap not is) ∙ plain))
     on path b s false is plain = rw (is, eqb-suc-zero (length s)) refl
 
--- and several are behind it, whatever says of each that it is one more
+-- and several after it, whatever says of each that it is one more
 pub lead_by : (test : List ℕ → Bool) → ((path : Path) (s : List ℕ) → test s ≡ true → step path s ≡ Some (path ++ s ∷ []))
     → (path : Path) (more : List (List ℕ)) → list_all test more ≡ true → walk (Some path) more ≡ Some (path ++ more)
 lead_by test on path [] all = ap (λ (p : Path). Some p) (sym (append-nil path))
@@ -34,7 +34,7 @@ lead_by test on path (s ∷ more) all =
 lead_on : (path : Path) (more : List (List ℕ)) → list_all is_plain_segment more ≡ true → walk (Some path) more ≡ Some (path ++ more)
 lead_on = lead_by is_plain_segment leads_on
 
--- the spelling of two paths, one behind the other
+-- the spelling of two paths, one after the other
 join_two : (first more : Path) → 0 < length first → 0 < length more → join_with_byte 47 (first ++ more) ≡ join_with_byte 47 first ++ 47 ∷ join_with_byte 47 more
 join_two [] more some next = absurd (omega arith)
 join_two (s ∷ []) [] some next = absurd (omega arith)
@@ -46,7 +46,7 @@ join_two (s ∷ t ∷ first) more some next =
 pub some_segment : (text : List ℕ) → 0 < length (segments text)
 some_segment text = let l = length-slice_split (λ b. b == 47) text in omega arith
 
--- where a name in a folder leads, where both are such texts
+-- where a name in a directory leads, where both are such texts
 led_joined : (folder name : List ℕ) → list_all is_plain_segment (segments folder) ≡ true → list_all is_plain_segment (segments name) ≡ true
     → lead (lead (Some []) folder) name ≡ Some (segments folder ++ segments name)
 led_joined folder name plain plain_too =

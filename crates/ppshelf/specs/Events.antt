@@ -1,19 +1,20 @@
--- What happens to a shelf and a desk that several callers use: their shared state, and the three events that change it.
+-- What happens to a shelf and a block counter that several callers use: their shared state, and the three events that
+-- change it.
 use Rattle.std.specs.Prelude.{◌≡◌, ℕ, suc, ◌+◌, ◌<◌, ◌≤◌, ◌==◌, nat_lt, min, if◌then◌else◌, Bool, true, false, List, [], ◌∷◌, ◌++◌, length, replicate, Some, None, slice_index_or, slice_set}
 use Rattle.ppshelf.specs.Content.{Content}
 use Rattle.ppshelf.specs.Files.{Files, file_at, Extends, Agree}
 
--- A caller: what it has learnt of the shelf, the blocks that it claimed at the desk, in order, and whether it found no block left
+-- A caller: what it has observed of the shelf, the blocks that it claimed, in order, and whether it found no block left
 pub record Caller : Type 0 where
   pub learnt : Files
   pub claims : List ℕ
   pub found_empty : Bool
 
--- one that there is not
+-- the caller with an index past the last
 abbrev pub nobody : Caller
 nobody = record { learnt = []; claims = []; found_empty = false }
 
--- What the rows keep, the number of the next block, and the callers
+-- What the rows cache, the number of the next block, and the callers
 pub record Shared : Type 0 where
   pub kept : Files
   pub block : ℕ
@@ -25,39 +26,39 @@ caller_at shared caller = slice_index_or shared.callers caller nobody
 abbrev pub learnt_by : Shared → ℕ → Files
 learnt_by shared caller = (caller_at shared caller).learnt
 
--- a caller is changed so
+-- the state after a change of one caller
 abbrev pub changing : Shared → ℕ → (Caller → Caller) → Shared
 changing shared caller change = record shared { callers = slice_set shared.callers caller (change (caller_at shared caller)) }
 
--- a caller learns the content of a row
+-- a caller observes the content of a row
 abbrev pub learning : Shared → ℕ → ℕ → Content → Shared
 learning shared caller row c = changing shared caller (λ (k : Caller). record k { learnt = slice_set k.learnt row (Some c) })
 
--- a row keeps a content
+-- a row caches a content
 abbrev pub keeping : Shared → ℕ → Content → Shared
 keeping shared row c = record shared { kept = slice_set shared.kept row (Some c) }
 
--- a caller has the next block
+-- a caller gets the next block
 abbrev pub with_block : ℕ → Caller → Caller
 with_block block k = record k { claims = k.claims ++ block ∷ [] }
 
--- a caller has found that none is left
+-- a caller finds that none is left
 abbrev pub with_none : Caller → Caller
 with_none k = record k { found_empty = true }
 
--- the next block is another
+-- the number of the next block rises by one
 abbrev pub advancing : Shared → Shared
 advancing shared = record shared { block = suc shared.block }
 
--- A caller's look keeps the first content of a row; a later look reads what is kept; a caller claims a block
+-- A caller's look caches the first content of a row; a later look reads what is cached; a caller claims a block
 pub data Event : Type 0 where
   Keep : ℕ → ℕ → Content → Event
   Read : ℕ → ℕ → Event
   Claim : ℕ → Event
 
--- By a caller that is there, over a desk with so many blocks. Keep: a row that keeps nothing gets a content, and the caller learns it. Read: the
--- caller learns what the row keeps. Claim: the caller gets the next block where there is one, and otherwise finds that none is left; the number of the
--- next block rises by one.
+-- An event of an existing caller, over a block counter with `blocks` blocks. Keep: a row that caches nothing gets a
+-- content, and the caller observes it. Read: the caller observes what the row caches. Claim: the caller gets the next
+-- block if there is one, and otherwise finds that none is left. The number of the next block rises by one.
 pub data Happens (blocks : ℕ) : Shared → Event → Shared → Type 0 where
   keeps : {shared : Shared} {caller row : ℕ} {c : Content}
       → caller < length shared.callers
@@ -85,18 +86,18 @@ pub data Happen (blocks : ℕ) : Shared → List Event → Shared → Type 0 whe
       → Happen blocks between events after
       → Happen blocks shared (event ∷ events) after
 
--- no row keeps anything, the next block is the first, and no caller has learnt or claimed anything
+-- the first state: no row caches anything, the next block is the first, and no caller has observed or claimed anything
 abbrev pub beginning : ℕ → ℕ → Shared
 beginning rows callers = record { kept = replicate rows None; block = 0; callers = replicate callers (record nobody { learnt = replicate rows None }) }
 
--- What a caller has learnt stays, whatever happens.
+-- What a caller has observed stays, whatever happens.
 abbrev pub LearntStays : Type 0
 LearntStays =
     (blocks rows callers : ℕ) (events more : List Event) (shared after : Shared)
     → Happen blocks (beginning rows callers) events shared → Happen blocks shared more after
     → (caller : ℕ) → Extends (learnt_by after caller) (learnt_by shared caller)
 
--- Callers agree at every row of which both have learnt.
+-- Callers agree on every row that both have observed.
 abbrev pub CallersAgree : Type 0
 CallersAgree =
     (blocks rows callers : ℕ) (events : List Event) (shared : Shared) → Happen blocks (beginning rows callers) events shared
@@ -104,17 +105,18 @@ CallersAgree =
 
 -- ---- claims
 
--- how often a number stands in the list
+-- how often a number occurs in the list
 abbrev pub times : ℕ → List ℕ → ℕ
 times x [] = 0
 times x (y ∷ ys) = (if y == x then 1 else 0) + times x ys
 
--- what callers claimed, one after another
+-- the blocks that callers claimed, one caller after another
 abbrev pub claims_of : List Caller → List ℕ
 claims_of [] = []
 claims_of (k ∷ ks) = k.claims ++ claims_of ks
 
--- What callers claimed are the blocks below the next one, each once; and where one of them found that none is left, that is every block.
+-- The blocks that callers claimed are those below the next one, each once. If one of them found that none is left, they
+-- are all blocks.
 abbrev pub EachBlockOnce : Type 0
 EachBlockOnce =
     (blocks rows callers : ℕ) (events : List Event) (shared : Shared) → Happen blocks (beginning rows callers) events shared

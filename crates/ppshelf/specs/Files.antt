@@ -1,4 +1,4 @@
--- Files by row: what a shelf holds, and what a caller knows of it.
+-- Files by row: the contents of a shelf, and what a caller has observed of it.
 use Rattle.std.specs.Prelude.{◌≡◌, ℕ, ◌<◌, List, [], length, map, Option, Some, None, IsSome, slice_index_or}
 use Rattle.std.specs.declared.vec.Vec.{Vec}
 use Rattle.pptext.specs.declared.hashing.Hashing.{Hashing}
@@ -6,22 +6,22 @@ use Rattle.pptext.specs.declared.sources.Profile.{Profile}
 use Rattle.ppshelf.specs.Content.{Content, Lawful}
 use Rattle.ppshelf.specs.Names.{name_in}
 
--- The most rows of a shelf
+-- The maximum number of rows of a shelf
 abbrev pub most_rows : ℕ
 most_rows = 65535
 
--- A finite map from rows to contents: at each row its content, or nothing where the row is unknown
+-- A finite map from rows to contents: the content of each row, or nothing if the row is unknown
 abbrev pub Files : Type 0
 Files = List (Option Content)
 
 abbrev pub file_at : Files → ℕ → Option Content
 file_at files row = slice_index_or files row None
 
--- Every row known to the second has the same content in the first
+-- Every row that the second knows has the same content in the first
 abbrev pub Extends : Files → Files → Type 0
 Extends new old = (row : ℕ) (c : Content) → file_at old row ≡ Some c → file_at new row ≡ Some c
 
--- The two maps have one content at every row that both know
+-- The two maps have one content for every row that both know
 abbrev pub Agree : Files → Files → Type 0
 Agree one two = (row : ℕ) (c d : Content) → file_at one row ≡ Some c → file_at two row ≡ Some d → c ≡ d
 
@@ -29,16 +29,16 @@ abbrev pub or_else : {T : Type 0} → Option T → Option T → Option T
 or_else None d = d
 or_else (Some c) d = Some c
 
--- At each row, what either map knows there
+-- For each row, what either map knows
 abbrev pub Joined : Files → Files → Files → Type 0
 Joined one two both = (row : ℕ) → file_at both row ≡ or_else (file_at one row) (file_at two row)
 
--- Every content is lawful for its row's name
+-- Every content is permitted for its row's name
 abbrev pub AllLawful : (List ℕ → Content → Type 0) → List (List ℕ) → Files → Type 0
 AllLawful may names files = (row : ℕ) (c : Content) → file_at files row ≡ Some c → Lawful may (name_in names row) c
 
--- A shelf: the names of its rows, the files that fill put there, the profile by which all are read, how names are hashed, and which shelf it is:
--- no other shelf with a row has its cells
+-- A shelf as callers see it: the names of its rows, the contents from `fill`, the profile by which all are read, the
+-- hash function of the names, and its identity: no other shelf with a row has its cells
 pub record Stock : Type 0 where
   pub names : List (List ℕ)
   pub base : Files
@@ -46,21 +46,21 @@ pub record Stock : Type 0 where
   pub hashing : Hashing
   pub cells : List ℕ
 
--- The shelf that a pass belongs to, and what the pass knows
+-- The shelf that a pass belongs to, and what the pass has observed
 pub record Known : Type 0 where
   pub shelf : Stock
   pub files : Files
 
--- Fill put a content into each row
+-- `fill` put a content into each row
 abbrev pub IsFull : Stock → Type 0
 IsFull shelf = (row : ℕ) → row < length shelf.names → IsSome (file_at shelf.base row)
 
--- What a fill makes of a row: what was there stays, and what it puts where nothing was is one of these contents
+-- What a fill does to a row: a content stays, and an empty row stays empty or gets one of these contents
 abbrev pub Filled : (Content → Type 0) → Option Content → Option Content → Type 0
 Filled P (Some c) new = new ≡ Some c
 Filled P None None = Unit {0}
 Filled P None (Some c) = P c
 
--- The bytes of a row among contents
+-- The bytes of a row, in a list of contents
 abbrev pub bytes_at : {A : Type 0} → List (Vec ℕ A) → ℕ → List ℕ
 bytes_at contents row = slice_index_or (map (λ bytes. bytes.items) contents) row []

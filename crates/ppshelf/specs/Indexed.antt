@@ -1,10 +1,10 @@
--- What an index holds.
+-- The content of an index.
 use Rattle.std.specs.Prelude.{ℕ, List, map}
 use Rattle.std.specs.HashSet.{HashSet, hasher_of}
 use Rattle.std.specs.declared.vec.Vec.{Vec}
 use Rattle.pptext.specs.declared.hashing.Hashing.{Hashing}
 
--- What callers see of an index: its names, and how they are hashed
+-- An index as callers see it: its names and their hash function
 pub record IndexOfNames : Type 0 where
   pub names : List (List ℕ)
   pub hashing : Hashing

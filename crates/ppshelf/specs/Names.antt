@@ -1,23 +1,23 @@
--- Which texts are names of files, and the row of a name.
+-- Names of files, and the row of a name.
 use Rattle.std.specs.Prelude.{◌≡◌, ◌≢◌, ℕ, ◌<◌, ◌==◌, ◌&&◌, ◌||◌, not, Bool, true, false, List, [], ◌∷◌, ◌++◌}
 use Rattle.std.specs.Prelude.{nat_le, codes, length, Option, Some, None, slice_index_or}
 use Rattle.std.specs.List.{list_all, list_any, position, slice_index, slice_split}
 use Rattle.std.specs.Str.{bytes_eq}
 
--- the pieces between two `/`, which is 47
+-- the segments between `/`, which is 47
 abbrev pub segments : List ℕ → List (List ℕ)
 segments text = slice_split (λ b. b == 47) text
 
--- those of what is left, if anything is
+-- the segments of the remaining text, if there is any
 abbrev pub segments_left : Option (List ℕ) → List (List ℕ)
 segments_left None = []
 segments_left (Some text) = segments text
 
--- a piece of a name
+-- a segment of a name
 abbrev pub is_segment : List ℕ → Bool
 is_segment s = not (length s == 0) && not (bytes_eq s (codes ".")) && not (bytes_eq s (codes ".."))
 
--- a piece with a first byte that is no `.`, which is 46
+-- a segment with a first byte that is no `.`, which is 46
 abbrev pub is_plain_segment : List ℕ → Bool
 is_plain_segment s = not (length s == 0) && not (slice_index s 0 == 46)
 
@@ -33,11 +33,11 @@ is_name s = nat_le (length s) 1024 && list_all is_name_byte s && list_all is_seg
 abbrev pub is_folder : List ℕ → Bool
 is_folder s = bytes_eq s (codes ".") || is_name s
 
--- the name of a row, and nothing past the last row
+-- the name of a row, or the empty text past the last row
 abbrev pub name_in : List (List ℕ) → ℕ → List ℕ
 name_in names row = slice_index_or names row []
 
--- the name at this place is in normal form and stands nowhere before
+-- the name of this row is in normal form, and no earlier row has it
 pub record IsNewName (names : List (List ℕ)) (row : ℕ) : Type 0 where
   pub form : is_name (name_in names row) ≡ true
   pub once : (before : ℕ) → before < row → name_in names before ≢ name_in names row
@@ -46,18 +46,18 @@ pub record IsNewName (names : List (List ℕ)) (row : ℕ) : Type 0 where
 abbrev pub AreNames : List (List ℕ) → Type 0
 AreNames names = (row : ℕ) → row < length names → IsNewName names row
 
--- the same as a test: each is in normal form, and none of those behind it is the same
+-- whether the names are in normal form, each once
 abbrev pub are_names : List (List ℕ) → Bool
 are_names [] = true
 are_names (name ∷ more) = is_name name && not (list_any (bytes_eq name) more) && are_names more
 
--- the first name that is out of form or stands before
+-- the first name that isn't in normal form or that an earlier row has
 pub record IsBadName (names : List (List ℕ)) (row : ℕ) : Type 0 where
   pub within : row < length names
   pub bad : IsNewName names row → ⊥
   pub first : (before : ℕ) → before < row → IsNewName names before
 
--- the row of a name is where it stands among the names
+-- the row of a name is its index among the names
 abbrev pub IsRowOf : List (List ℕ) → List ℕ → Option ℕ → Type 0
 IsRowOf names name None = (row : ℕ) → row < length names → name_in names row ≢ name
 IsRowOf names name (Some row) = (row < length names) × (name_in names row ≡ name)
@@ -66,7 +66,8 @@ IsRowOf names name (Some row) = (row < length names) × (name_in names row ≡ n
 abbrev pub row_among : List ℕ → List (List ℕ) → Option ℕ
 row_among name names = position (bytes_eq name) names
 
--- what comes of putting a name behind others: a new one stands there from then on, and one that is among them changes nothing
+-- the result of appending a name to others: a new one is added at the end, and one that occurs among them changes
+-- nothing
 abbrev pub IsPut : List (List ℕ) → List ℕ → Bool → List (List ℕ) → Type 0
 IsPut names name true after = (after ≡ names ++ name ∷ []) × IsRowOf names name None
 IsPut names name false after = (after ≡ names) × ((row : ℕ) × IsRowOf names name (Some row))

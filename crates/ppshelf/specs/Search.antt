@@ -10,7 +10,7 @@ use Rattle.ppshelf.specs.declared.search.Form.TheVariants.{Quote, Angle}
 abbrev pub Path : Type 0
 Path = List (List ℕ)
 
--- without the last segment; the root has no parent
+-- the path without the last segment; the root has no parent
 abbrev pub parent : Path → Option Path
 parent path = if length path == 0 then None else Some (take (length path - 1) path)
 
@@ -18,17 +18,17 @@ parent path = if length path == 0 then None else Some (take (length path - 1) pa
 abbrev pub is_here : List ℕ → Bool
 is_here s = (length s == 0) || bytes_eq s (codes ".")
 
--- one segment on
+-- the path after one more segment
 abbrev pub step : Path → List ℕ → Option Path
 step path s = if is_here s then Some path else (if bytes_eq s (codes "..") then parent path else Some (path ++ s ∷ []))
 
--- along these segments
+-- the path after these segments
 abbrev pub walk : Option Path → List (List ℕ) → Option Path
 walk None more = None
 walk (Some path) [] = Some path
 walk (Some path) (s ∷ more) = walk (step path s) more
 
--- where a text leads from a path
+-- the path to which a text leads from another path
 abbrev pub lead : Option Path → List ℕ → Option Path
 lead start text = walk start (segments text)
 
@@ -40,31 +40,33 @@ parent_of (Some path) = parent path
 abbrev pub spelled : Path → List ℕ
 spelled path = join_with_byte 47 path
 
--- A name that is looked for, and the number of the folder that it is looked for in: 0 is the including file's own
+-- A name that is searched for, and the number of the directory in which it is searched for: 0 for that of the including
+-- file
 pub record Candidate : Type 0 where
   pub name : List ℕ
   pub folder : ℕ
 
--- the candidate in the folder of this number; none where no path leads to it
+-- the candidate in the directory of this number, or none if no path leads to it
 abbrev pub candidate : ℕ → Option Path → List Candidate
 candidate k None = []
 candidate k (Some path) = record { name = spelled path; folder = k } ∷ []
 
--- for the quote form, the name beside the including file
+-- for `"name"`, the candidate in the directory of the including file
 abbrev pub beside : Form → List ℕ → List ℕ → List Candidate
 beside Quote from text = candidate 0 (lead (parent_of (lead (Some []) from)) text)
 beside Angle from text = []
 
--- the names in these folders, which are numbered from k on
+-- the candidates in these directories, which are numbered from k on
 abbrev pub inside : ℕ → List (List ℕ) → List ℕ → List Candidate
 inside k [] text = []
 inside k (folder ∷ more) text = candidate k (lead (lead (Some []) folder) text) ++ inside (suc k) more text
 
--- what is looked for, in order; the search of a unit is its own folders, then the setting's, numbered from 1
+-- all candidates, in order. A unit's search has its own directories, then those of the setting, numbered from 1.
 abbrev pub candidates : Form → List ℕ → List (List ℕ) → List (List ℕ) → List ℕ → List Candidate
 candidates form from unit setting text = beside form from text ++ inside 1 (unit ++ setting) text
 
--- what is looked for behind the folder of number j, by `#include_next` in a file that was found there (gcc's manual, "Wrapper Headers")
+-- the candidates after the directory of number j, for `#include_next` in a file that was found there (gcc's manual,
+-- "Wrapper Headers")
 abbrev pub candidates_behind : ℕ → List (List ℕ) → List (List ℕ) → List ℕ → List Candidate
 candidates_behind j unit setting text = inside (suc j) (drop j (unit ++ setting)) text
 
@@ -77,7 +79,7 @@ abbrev pub IsRowAt : List (List ℕ) → Option Path → Option ℕ → Type 0
 IsRowAt names None row = row ≡ None
 IsRowAt names (Some path) row = IsRowOf names (spelled path) row
 
--- the first candidate that is among the shelf's names, as its row and the number of its folder
+-- the first candidate that is a name of the shelf, as its row and the number of its directory
 abbrev pub IsFirstRow : List (List ℕ) → List Candidate → Option (ℕ × ℕ) → Type 0
 IsFirstRow names [] found = found ≡ None
 IsFirstRow names (c ∷ more) found =

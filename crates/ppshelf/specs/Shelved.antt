@@ -1,4 +1,4 @@
--- What the rows of a shelf and the notes of a pass hold. Only this crate cites it.
+-- The rows of a shelf, and what a pass has observed of them. Only this crate cites it.
 use Rattle.std.specs.Prelude.{◌≡◌, ℕ, ◌<◌, ◌≤◌, List, [], length, map, Option, Some, None, slice_index_or, ◌⊎◌}
 use Rattle.std.specs.Option.{option_map}
 use Rattle.pptext.specs.declared.hashing.Hashing.{Hashing}
@@ -7,14 +7,14 @@ use Rattle.ppshelf.specs.Content.{Content, Lawful}
 use Rattle.ppshelf.specs.Names.{AreNames, name_in}
 use Rattle.ppshelf.specs.Files.{most_rows, Files, file_at, Stock}
 
--- A kept content with its row and name, and the profile that it was read by
+-- A cached content with its row and name, and the profile that it was read by
 pub record Held : Type 0 where
   pub row : ℕ
   pub name : List ℕ
   pub profile : Profile
   pub content : Content
 
--- A row's name, what fill put there, and the name of the cell in which looks keep a content
+-- A row: its name, its content from a fill, and the name of the cell in which looks cache a content
 pub record Spot : Type 0 where
   pub name : List ℕ
   pub base : Option Held
@@ -32,11 +32,11 @@ base_of rows = map (λ (s : Spot). option_map (λ (h : Held). h.content) s.base)
 abbrev pub cells_of : List Spot → List ℕ
 cells_of rows = map (λ (s : Spot). s.cell) rows
 
--- What callers see of rows
+-- The shelf as callers see it, by its rows
 abbrev pub stock_of : Profile → Hashing → List Spot → Stock
 stock_of profile hashing rows = record { names = names_of rows; base = base_of rows; profile = profile; hashing = hashing; cells = cells_of rows }
 
--- A row of what callers see
+-- The row of a shelf as callers see it
 abbrev pub spot_at : Stock → ℕ → Spot
 spot_at shelf row = record {
   name = name_in shelf.names row;
@@ -45,7 +45,7 @@ spot_at shelf row = record {
   cell = slice_index_or shelf.cells row 0;
 }
 
--- What one caller has seen of a row: the name of its cell, what its note knows, and what it was shown
+-- What one caller has observed of a row: the name of its cell, what its note says, and the content that it was given
 pub record Sight : Type 0 where
   pub cell : ℕ
   pub noted : Option Held
@@ -54,7 +54,7 @@ pub record Sight : Type 0 where
 abbrev pub no_sight : Sight
 no_sight = record { cell = 0; noted = None; shown = None }
 
--- What was shown of a row is what fill put there, or what the note knows
+-- What a caller was given for a row is its content from a fill, or what the note says
 pub record Fits (may : List ℕ → Content → Type 0) (profile : Profile) (row : ℕ) (spot : Spot) (sight : Sight) (h : Held) : Type 0 where
   pub row_is : h.row ≡ row
   pub name_is : h.name ≡ spot.name
@@ -70,12 +70,13 @@ pub record FitsRow (may : List ℕ → Content → Type 0) (profile : Profile) (
 abbrev pub IsPlaced : Profile → ℕ → List ℕ → Held → Type 0
 IsPlaced profile row name h = (h.row ≡ row) × (h.name ≡ name) × (h.profile ≡ profile)
 
--- Each base content lies in its own row, and is read by this profile
+-- Each content from a fill is in its own row, and is read by this profile
 abbrev pub Placed : Profile → List Spot → Type 0
 Placed profile rows =
     (row : ℕ) (h : Held) → (slice_index_or rows row no_spot).base ≡ Some h → IsPlaced profile row (slice_index_or rows row no_spot).name h
 
--- A shelf: not too many rows, their names as the index has them, in normal form and each once, each base content in its own row
+-- A shelf: not too many rows, their names as the index has them, in normal form and each once, each content from a fill
+-- in its own row
 pub record IsShelf (profile : Profile) (names : List (List ℕ)) (rows : List Spot) : Type 0 where
   pub small : length rows ≤ most_rows
   pub named : names ≡ names_of rows
@@ -89,7 +90,7 @@ pub record IsPass (may : List ℕ → Content → Type 0) (shelf : Stock) (sight
   pub len : length sights ≡ length shelf.names
   pub rows : (row : ℕ) → row < length shelf.names → FitsRow may shelf.profile row (spot_at shelf row) (slice_index_or sights row no_sight)
 
--- What a fill by a profile does to a row: what was filled stays, and what is new is one of these contents for the row's name
+-- What a fill by a profile does to a row: a content stays, and a new one is one of these contents for the row's name
 pub record FilledRow (puts : List ℕ → Content → Type 0) (profile : Profile) (row : ℕ) (old new : Spot) : Type 0 where
   pub name : new.name ≡ old.name
   pub cell : new.cell ≡ old.cell

@@ -1,4 +1,4 @@
-// Real files.
+//! Files in a directory of the system.
 ghost use Rattle.std.specs.Prelude.{◌≡◌, ◌≤◌, ◌↔◌, ◌++◌, ◌∷◌, suc, take, IfOk, IfSome};
 ghost use Rattle.std.specs.String.{string_bytes};
 ghost use Rattle.ppshelf.specs.Content.{longest};
@@ -12,11 +12,14 @@ use std::io::{ErrorKind, Read};
 use std::rt::Files;
 use std::{fs, io};
 
-/// The files under a folder: that of a name has the path of the folder, `/` and the name.
+/// The files below a directory. The path of a file is the directory, `/` and the file's name.
 ///
-/// Plain files are read, also through links; all else is unreadable. They may change at any time, so nothing is claimed of what a read answers.
+/// Regular files are read, also through links. Everything else is unreadable. Files may change at any time, so nothing
+/// is claimed about what a read returns.
 pub struct FolderDisk<'a, R: Files> {
+    /// The file system.
     pub files: &'a R,
+    /// The path of the directory.
     pub folder: &'a str,
 }
 
@@ -45,8 +48,8 @@ impl<R: Files> Disk for FolderDisk<'_, R> {
     }
 }
 
-// Opens a plain file, or the one to which a link leads, and nothing else: opening a named pipe would wait until somebody writes to it. With it
-// comes its length just now, in bytes, which counts as `LONGEST` where it is more.
+/// Opens a regular file, or one to which a link leads, and returns its current length in bytes, at most `LONGEST`.
+/// Opens nothing else: opening a named pipe would wait until another process writes to it.
 fn open_plain<R: Files>(files: &R, path: &str) -> Result<(R::File, usize), ReadFault>
     ensures { IfOk result (λ r. r.1 ≤ longest) }
 {
@@ -61,6 +64,7 @@ fn open_plain<R: Files>(files: &R, path: &str) -> Result<(R::File, usize), ReadF
     }
 }
 
+/// Returns the path of the file of a name.
 fn path_under(alloc: Global, folder: &str, name: &str) -> Result<String, AllocError>
     ensures { IfOk result (λ path. string_bytes path ≡ folder.now ++ 47 ∷ name.now) }
 {
@@ -70,8 +74,8 @@ fn path_under(alloc: Global, folder: &str, name: &str) -> Result<String, AllocEr
     Ok(path)
 }
 
-// Reads a file up to one byte above `LONGEST`, which shows that it is too long. There is room for `len` bytes from the start, and for one more,
-// by which a read sees the end.
+/// Reads a file up to one byte above `LONGEST`, which shows that it is too long. Allocates capacity for `len` bytes and
+/// one more, with which a read finds the end.
 fn read_start<F: Read + Drop>(alloc: Global, file: F, len: usize) -> Result<Vec<u8>, ReadFault>
     requires { len ≤ longest }
     ensures { IfOk result (λ bytes. IfSome (F.remaining file) (λ all. bytes.items ≡ take (suc longest) all)) }
@@ -85,12 +89,13 @@ fn read_start<F: Read + Drop>(alloc: Global, file: F, len: usize) -> Result<Vec<
     }
 }
 
-// Linux's numbers of two errors for which there is no `ErrorKind`: no file descriptor is left in the whole system, or in this process.
+/// Linux's error number if no file descriptor is left in the whole system. `ErrorKind` has none for it.
 const ENFILE: i32 = 23;
 
+/// Linux's error number if no file descriptor is left in this process.
 const EMFILE: i32 = 24;
 
-// What the system has none of just now, memory or a file descriptor, says nothing about the file.
+/// Returns the fault of a system error. A lack of memory or file descriptors says nothing about the file.
 fn fault_of(error: &io::Error) -> ReadFault
     ensures { (result ≡ Memory) ↔ IsShortage error.now }
 {

@@ -1,4 +1,4 @@
-// The rows of names.
+//! The rows of names.
 ghost use Rattle.std.specs.Prelude.{◌≡◌, [], map, IfErr, IfOk, OnErr};
 ghost use Rattle.std.specs.String.{string_bytes};
 ghost use Rattle.ppshelf.specs.Faults.{IsShelfFault};
@@ -11,7 +11,8 @@ use pptext::{Hashing, Memory};
 use std::alloc::Global;
 use std::marker::Model;
 
-/// Names, each once. The row of a name is its place among them. Contracts see their list, and how they are hashed.
+/// A set of names in order. The row of a name is its index. Contracts see the list of the names, and their hash
+/// function.
 #[derive(Drop)]
 pub struct Index {
     alloc: Global,
@@ -27,7 +28,7 @@ impl Model for Index {
 }
 
 impl Index {
-    /// An index without names, which are hashed so. Takes no memory.
+    /// Creates an empty index with this hash function. Allocates nothing.
     pub fn new(alloc: Global, hashing: Hashing) -> Index
         ensures empty { result.names ≡ [] }
         ensures hashing { result.hashing ≡ hashing }
@@ -38,7 +39,7 @@ impl Index {
         }
     }
 
-    // The same with room for so many names.
+    /// Creates an empty index with capacity for `count` names.
     fn with_capacity(alloc: Global, count: usize, hashing: Hashing) -> Result<Index, Memory>
         ensures empty { IfOk result (λ i. i.names ≡ []) }
         ensures hashing { IfOk result (λ i. i.hashing ≡ hashing) }
@@ -49,14 +50,14 @@ impl Index {
         })
     }
 
-    /// How names are hashed. Takes no memory.
+    /// Returns the hash function of the names. Allocates nothing.
     pub fn hashing(&self) -> Hashing
         ensures { result ≡ self.now.hashing }
     {
         *self.names.hasher()
     }
 
-    /// The row of a name. Takes no memory.
+    /// Returns the row of a name. Allocates nothing.
     pub fn row_of(&self, name: &[u8]) -> Option<usize>
         ensures row { IsRowOf self.now.names name.now result }
         ensures first { result ≡ row_among name.now self.now.names }
@@ -64,7 +65,11 @@ impl Index {
         self.names.get_index_of(name)
     }
 
-    /// Puts a name after the others, unless it is among them, and tells whether it was new. Where memory runs out, the index is as it was.
+    /// Appends a name unless the index has it, and returns whether it was new.
+    ///
+    /// # Errors
+    ///
+    /// An allocation fails. The index is unchanged.
     pub fn push(&mut self, name: &[u8]) -> Result<bool, Memory>
         ensures put { IfOk result (λ new. IsPut self.old.names name.now new self.new.names) }
         ensures hashing { self.new.hashing ≡ self.old.hashing }
@@ -78,7 +83,8 @@ impl Index {
     }
 }
 
-/// An index of these names, hashed so, or the first that is out of form or stands before.
+/// Makes an index of these names, or returns the row of the first name that isn't in normal form or that an earlier row
+/// has.
 pub(crate) fn index_names(
     alloc: Global,
     names: &[String],

@@ -1,4 +1,5 @@
-//! The source files of a list, each with one content for every unit and thread, without a lock, and the search for included files.
+//! The file table: the source files of a list, numbered by rows, each with one content for all units and threads, without a lock; and the
+//! search for included files.
 #![tactic(auto)]
 
 mod disk;

@@ -1,4 +1,4 @@
-// A kept content with its row, its name and the profile that it was read by.
+//! The content of a row, with its name and the profile that it was read by.
 ghost use Rattle.std.specs.Prelude.{◌≡◌, ◌<◌, ◌≤◌, ◌↔◌, length, Ok, Err, option_copied};
 ghost use Rattle.std.specs.Prelude.{IfOk, IfSome, IsTrue, MatchOption, MatchResult, OnErr};
 ghost use Rattle.std.specs.Option.{option_map};
@@ -20,7 +20,8 @@ pub(crate) struct Parsed {
     lines: Result<Source, Fault>,
 }
 
-/// What is known of one row: the bytes of its file with what phases 1 to 3 make of them, or that it cannot be read or has more than `LONGEST` bytes.
+/// The content of one row: the bytes of its file with the result of phases 1 to 3, or that the file can't be read or
+/// has more than `LONGEST` bytes.
 pub struct Loaded<D: Disk> {
     row: usize,
     name: String,
@@ -62,7 +63,7 @@ impl<D: Disk> Drop for Loaded<D> {
     }
 }
 
-// The bytes of a row's file with their lines.
+/// Reads the lines of a row's file from its bytes.
 fn parsed_bytes(
     alloc: Global,
     profile: Profile,
@@ -78,7 +79,7 @@ fn parsed_bytes(
     Ok(Parsed { bytes, lines })
 }
 
-// Asks the disk for the file of a name. `None`: it cannot be read, or is too long.
+/// Reads the file of a name from the disk. Returns None if it can't be read or is too long.
 fn parsed_of<D: Disk>(
     alloc: Global,
     disk: &D,
@@ -103,7 +104,7 @@ fn parsed_of<D: Disk>(
 }
 
 impl<D: Disk> Loaded<D> {
-    // Reads a row from the disk.
+    /// Reads the content of a row from the disk.
     pub(crate) fn read(
         alloc: Global,
         disk: &D,
@@ -126,7 +127,7 @@ impl<D: Disk> Loaded<D> {
         })
     }
 
-    // A row's content of these bytes.
+    /// Makes the content of a row from these bytes.
     pub(crate) fn of_bytes(
         alloc: Global,
         profile: Profile,
@@ -150,7 +151,7 @@ impl<D: Disk> Loaded<D> {
         })
     }
 
-    /// The file's bytes, or `None` where it cannot be read or is too long.
+    /// Returns the file's bytes, or None if it can't be read or is too long.
     pub fn bytes(&self) -> Option<&[u8]>
         ensures { self.now.content ≡ content_of (option_copied result) }
     {
@@ -160,7 +161,7 @@ impl<D: Disk> Loaded<D> {
         }
     }
 
-    /// The file's lines or its first fault, or `None` where it cannot be read or is too long.
+    /// Returns the file's lines or its first fault, or None if it can't be read or is too long.
     pub fn lines(&self) -> Option<Result<&Source, &Fault>>
         ensures { MatchOption result (self.now.content ≡ unreadable) (λ r. MatchResult r
             (λ s. IsRead self.now.profile self.now.row self.now.content (Ok s.now))
@@ -172,7 +173,7 @@ impl<D: Disk> Loaded<D> {
         }
     }
 
-    // Whether the content is that of this row and name, read by this profile.
+    /// Whether the content is that of this row and name, read by this profile.
     pub(crate) fn is_of(&self, profile: Profile, row: usize, name: &str) -> bool
         ensures same { IsTrue result ↔ IsPlaced profile row name.now self.now }
         ensures lawful { Lawful D.may self.now.name self.now.content }
@@ -180,14 +181,15 @@ impl<D: Disk> Loaded<D> {
         self.row == row && self.name.as_str() == name && self.profile == profile
     }
 
-    // For proofs: the content is lawful.
+    /// Shows proofs that the content is permitted. Does nothing.
     pub(crate) fn show_lawful(&self)
         ensures { Lawful D.may self.now.name self.now.content }
     {
         let _row = &self.row;
     }
 
-    // The content itself where it is that of this row and name by this profile. No caller meets another.
+    /// Returns the content itself if it is that of this row and name, read by this profile. It always is, so no caller
+    /// gets an error.
     pub(crate) fn checked(
         &self,
         profile: Profile,

@@ -1,4 +1,4 @@
-// Paths of included files.
+//! Paths of included files.
 ghost use Rattle.std.specs.Prelude.{◌≡◌, ◌∷◌, [], if◌then◌else◌, ℕ, List, length, ◌<◌, IfOk, IfSome, OnOk, ◌++◌, Some, None, option_copied};
 ghost use Rattle.std.specs.List.{join_with_byte};
 ghost use Rattle.ppshelf.specs.Names.{segments, segments_left};
@@ -9,7 +9,7 @@ use pptext::Memory;
 use std::alloc::{AllocError, Global};
 use std::marker::Model;
 
-// The bytes of nearly every name.
+/// A capacity in bytes that is enough for nearly every name.
 pub(crate) const USUAL: usize = 64;
 
 /// A path from the root, which contracts see as the list of its segments.
@@ -26,7 +26,7 @@ impl<'a> Model for Path<'a> {
     ghost view = { λ p. map (λ s. s.now) p.segments.items };
 }
 
-// The bytes before the first `/`, and those behind it.
+/// Returns the bytes before the first `/`, and those after it.
 fn first_segment(text: &[u8]) -> (&[u8], Option<&[u8]>)
     ensures segments { segments text.now ≡ result.0.now ∷ segments_left (option_copied result.1) }
     ensures shorter { IfSome result.1 (λ rest. length rest.now < length text.now) }
@@ -38,6 +38,7 @@ fn first_segment(text: &[u8]) -> (&[u8], Option<&[u8]>)
 }
 
 impl<'a> Path<'a> {
+    /// Returns the path of the root.
     pub(crate) fn root(alloc: Global) -> Path<'a>
         ensures { result ≡ [] }
     {
@@ -46,7 +47,7 @@ impl<'a> Path<'a> {
         }
     }
 
-    // Goes where the text leads, or tells that a `..` of it would lead above the root.
+    /// Follows the segments of a text. Returns false if a `..` would lead above the root.
     pub(crate) fn lead(&mut self, text: &'a [u8]) -> Result<bool, Memory>
         ensures { IfOk result (λ there. spec.lead (Some self.old) text.now ≡ (if there then Some self.new else None)) }
     {
@@ -61,6 +62,7 @@ impl<'a> Path<'a> {
         Ok(true)
     }
 
+    /// Follows one segment. Returns false if it would lead above the root.
     fn step(&mut self, segment: &'a [u8]) -> Result<bool, Memory>
         ensures { IfOk result (λ there. spec.step self.old segment.now ≡ (if there then Some self.new else None)) }
     {
@@ -76,14 +78,14 @@ impl<'a> Path<'a> {
         Ok(true)
     }
 
-    // Goes to the parent, unless this is the root.
+    /// Goes to the parent directory, unless this is the root. Returns whether it did.
     pub(crate) fn leave(&mut self) -> bool
         ensures { spec.parent self.old ≡ (if result then Some self.new else None) }
     {
         self.segments.pop().is_some()
     }
 
-    // The name that the path spells.
+    /// Returns the name that the path spells.
     pub(crate) fn name(&self, alloc: Global) -> Result<Vec<u8>, Memory>
         ensures { IfOk result (λ name. name.items ≡ join_with_byte 47 self.now) }
     {
@@ -98,6 +100,7 @@ impl<'a> Path<'a> {
     }
 }
 
+/// Appends a `/`.
 fn push_slash(name: &mut Vec<u8>) -> Result<(), AllocError>
     ensures { OnOk result (name.new.items ≡ name.old.items ++ 47 ∷ []) }
 {

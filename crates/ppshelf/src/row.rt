@@ -1,4 +1,4 @@
-// Rows that are filled once, and what callers know of them.
+//! Rows that are filled once, and what callers have observed of them.
 ghost use Rattle.std.specs.Prelude.{◌≡◌, ◌<◌, IfOk, OnErr, OnOk, IsSome, IfSome, IsOkAnd, Some, None};
 ghost use Rattle.std.specs.String.{string_bytes};
 ghost use Rattle.ppshelf.specs.Content.{Lawful, readable};
@@ -13,7 +13,7 @@ use std::alloc::Global;
 use std::marker::Model;
 use std::mem;
 
-/// One row: its name, what a fill put there, and the cell in which looks keep a content.
+/// One row: its name, its content from a fill, and the cell in which looks cache a content.
 pub(crate) struct Row<D: Disk> {
     name: String,
     base: Option<Loaded<D>>,
@@ -40,7 +40,7 @@ impl<D: Disk> Drop for Row<D> {
     }
 }
 
-/// What a caller has seen of one row: what it knows of the row's cell, and the content that it was shown.
+/// What a caller has observed of one row: what it knows about the row's cell, and the content that it was given.
 pub(crate) struct Seen<'a, D: Disk> {
     note: Note<Loaded<D>>,
     shown: Option<&'a Loaded<D>>,
@@ -62,6 +62,7 @@ impl<D: Disk> Drop for Seen<'_, D> {
 }
 
 impl<D: Disk> Row<D> {
+    /// Creates an empty row with this name.
     pub(crate) fn new(alloc: Global, name: String) -> Row<D>
         ensures { (result.name ≡ string_bytes name) × (result.base ≡ None) }
     {
@@ -72,13 +73,14 @@ impl<D: Disk> Row<D> {
         }
     }
 
+    /// Returns its name.
     pub(crate) fn name(&self) -> &str
         ensures { result.now ≡ self.now.name }
     {
         self.name.as_str()
     }
 
-    // A caller that has seen nothing of the row.
+    /// Creates the observation of a caller that has observed nothing of the row.
     pub(crate) fn unseen<'a>(&'a self) -> Seen<'a, D>
         ensures { (result.cell ≡ self.now.cell) × (result.shown ≡ None) }
     {
@@ -88,7 +90,7 @@ impl<D: Disk> Row<D> {
         }
     }
 
-    // Reads the row, unless it was filled before.
+    /// Reads the row's file, unless the row was filled before.
     pub(crate) fn fill(
         &mut self,
         alloc: Global,
@@ -107,7 +109,7 @@ impl<D: Disk> Row<D> {
         Ok(())
     }
 
-    // Moves a content to the row, unless it was filled before.
+    /// Moves a content into the row, unless the row was filled before.
     pub(crate) fn put(
         &mut self,
         alloc: Global,
@@ -128,7 +130,7 @@ impl<D: Disk> Row<D> {
         Ok(())
     }
 
-    // Shows a caller the row's content.
+    /// Returns the row's content to a caller, and records that it was observed.
     pub(crate) fn look<'a>(
         &'a self,
         seen: &mut Seen<'a, D>,
@@ -159,7 +161,8 @@ impl<D: Disk> Row<D> {
         Ok(loaded)
     }
 
-    // What the row's cell keeps. Where it is empty, reads the disk and keeps what came, or reads what another kept.
+    /// Returns the content that the row's cell caches. If the cell is empty, reads the disk and caches the content,
+    /// unless another caller does so first.
     fn kept<'a>(
         &'a self,
         note: &mut Note<Loaded<D>>,
@@ -191,7 +194,7 @@ impl<D: Disk> Row<D> {
 }
 
 impl<'a, D: Disk> Seen<'a, D> {
-    // Takes in what another caller has seen of the same row.
+    /// Adds what another caller has observed of the same row.
     pub(crate) fn join(&mut self, place: &Row<D>, profile: Profile, row: usize, other: Self)
         requires mine { FitsRow D.may profile row place.now self.old }
         requires theirs { FitsRow D.may profile row place.now other }

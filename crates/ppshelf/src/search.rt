@@ -1,4 +1,4 @@
-// The search for included files (6.10.2).
+//! The search for included files (6.10.2).
 ghost use Rattle.std.specs.Prelude.{◌≡◌, ◌<◌, ◌+◌, ◌++◌, ◌∷◌, [], length, map, slice_index_or, IfOk, IfSome, OnOk, Some, true};
 ghost use Rattle.std.specs.Option.{option_map};
 ghost use Rattle.std.specs.List.{list_all};
@@ -14,24 +14,27 @@ use memchr::memrchr;
 use pptext::Memory;
 use std::alloc::{AllocError, Global};
 
-/// The form of an include name (6.10.2).
+/// The syntax of an include name (6.10.2).
 #[derive(Clone, Copy, PartialEq, Eq, Debug)]
 pub enum Form {
-    /// `"name"`, which is searched for beside the including file first.
+    /// `"name"`: the directory of the including file is searched first.
     Quote,
     /// `<name>`.
     Angle,
 }
 
-/// The folders that are searched for every include, first those of the unit, then those of the setting. They are numbered from 1.
+/// The directories that are searched for every include: first those of the unit, then those of the setting. They are
+/// numbered from 1.
 #[derive(Clone, Copy)]
 pub struct Folders<'a> {
+    /// The directories of the unit.
     pub unit: &'a [String],
+    /// The directories of the setting.
     pub setting: &'a [String],
 }
 
 impl<'a> Folders<'a> {
-    // The folder behind so many others.
+    /// Returns the directory with index `passed` among all of them.
     fn behind(self, passed: usize) -> &'a [u8]
         requires { passed < length self.unit.now + length self.setting.now }
         ensures { result.now ≡ slice_index_or (map string_bytes self.entry.unit.now ++ map string_bytes self.entry.setting.now) passed [] }
@@ -44,11 +47,15 @@ impl<'a> Folders<'a> {
     }
 }
 
-/// The row of the file that an include line in row `from` names, with the number of the folder that has it, or `None` where no
-/// folder has it. The number of the including file's own folder is 0.
+/// Finds the file that an include line in row `from` names. Returns its row and the number of the directory that has
+/// it, or None if no directory has it. The directory of the including file has number 0.
 ///
-/// Folder and name are joined by `/`. Empty segments and `.` are dropped, and `..` removes the segment before it; a folder from
-/// which it would lead above the root is passed over.
+/// Directory and name are joined by `/`. Empty segments and `.` are dropped, and `..` removes the segment before it. A
+/// directory from which `..` would lead above the root is skipped.
+///
+/// # Errors
+///
+/// An allocation fails.
 pub fn resolve<D: Disk>(
     alloc: Global,
     shelf: &Shelf<D>,
@@ -71,8 +78,12 @@ pub fn resolve<D: Disk>(
     row_inside(alloc, shelf, 0, name, folders, &mut joined)
 }
 
-/// The same for `#include_next` in a file that was found in the folder of this number (gcc's manual, "Wrapper Headers"): the
-/// folders with larger numbers alone are searched, for both forms of the name.
+/// Finds the file that `#include_next` names in a file that was found in the directory with this number (gcc's manual,
+/// "Wrapper Headers"). Only directories with larger numbers are searched, whichever syntax the name has.
+///
+/// # Errors
+///
+/// An allocation fails.
 pub fn resolve_behind<D: Disk>(
     alloc: Global,
     shelf: &Shelf<D>,
@@ -89,7 +100,7 @@ pub fn resolve_behind<D: Disk>(
     row_inside(alloc, shelf, number, name, folders, &mut joined)
 }
 
-// For the quote form, the row beside the including file.
+/// For `"name"`, returns the row of the name in the directory of the including file.
 fn row_beside<D: Disk>(
     alloc: Global,
     shelf: &Shelf<D>,
@@ -111,7 +122,8 @@ fn row_beside<D: Disk>(
     row_in_folder(alloc, shelf, folder, name, is_plain(name), joined)
 }
 
-// The folder of the file with this name: the root, to which the empty text leads, or what stands before the last slash.
+/// Returns the directory of the file with this name: the text before the last slash, or the empty text, which leads to
+/// the root.
 fn folder_of(name: &[u8]) -> &[u8]
     requires { is_name name.now ≡ true }
     ensures { spec.lead (Some []) result.now ≡ spec.parent_of (spec.lead (Some []) name.now) }
@@ -122,7 +134,8 @@ fn folder_of(name: &[u8]) -> &[u8]
     }
 }
 
-// The row of the name in the first folder behind the one of this number that has it, with that folder's number.
+/// Returns the row of the name in the first directory with a number above `number` that has it, and that directory's
+/// number.
 fn row_inside<D: Disk>(
     alloc: Global,
     shelf: &Shelf<D>,
@@ -146,8 +159,8 @@ fn row_inside<D: Disk>(
     Ok(None)
 }
 
-// The row of the name in this folder. Where both are plain, nothing is cut: the name is joined to the folder.
-// Saves 3 % of the instructions of `deps` on Redis.
+/// Returns the row of the name in this directory. If no segment of either begins with `.`, the two are joined without
+/// taking them apart, which saves 3 % of the instructions of `deps` on Redis.
 fn row_in_folder<D: Disk>(
     alloc: Global,
     shelf: &Shelf<D>,
@@ -170,7 +183,7 @@ fn row_in_folder<D: Disk>(
     row_led(alloc, shelf, path, name)
 }
 
-// Both texts with `/` between them, in place of what was there.
+/// Replaces `joined` by both texts with `/` between them.
 fn join(joined: &mut Vec<u8>, folder: &[u8], name: &[u8]) -> Result<(), AllocError>
     ensures { OnOk result (joined.new.items ≡ folder.now ++ 47 ∷ name.now) }
 {
@@ -181,7 +194,7 @@ fn join(joined: &mut Vec<u8>, folder: &[u8], name: &[u8]) -> Result<(), AllocErr
     Ok(())
 }
 
-// The row of the name to which the text leads from a path.
+/// Returns the row of the name to which the text leads from a path.
 fn row_led<'a, D: Disk>(
     alloc: Global,
     shelf: &Shelf<D>,

@@ -1,4 +1,4 @@
-// The shelf, and what one caller knows of it.
+//! The file table (`Shelf`), and what one caller has observed of it (`Pass`).
 ghost use Rattle.std.specs.Prelude.{◌≡◌, ℕ, ◌<◌, ◌≤◌, length, map, replicate, Some, None, slice_set};
 ghost use Rattle.std.specs.Prelude.{IfErr, IfOk, OnErr, OnOk, IfSome, IsOkAnd};
 ghost use Rattle.std.specs.String.{string_bytes};
@@ -17,14 +17,15 @@ use pptext::{Hashing, Memory, Profile};
 use std::alloc::Global;
 use std::marker::Model;
 
-/// The most rows of a shelf.
+/// The maximum number of rows of a shelf.
 pub const MOST_ROWS: usize = 65_535;
 
-/// Files by row, from 0, all read by one profile. A row has one content for all callers: what a fill put there, or else what the first
-/// look kept. Looks at the same time may each read the disk; one of these readings is kept.
+/// A table of files, which are numbered by rows from 0 and read by one profile. A row has one content for all callers:
+/// that of `fill` or `fill_with`, or otherwise the one that the first look cached. Simultaneous looks may each read the
+/// disk, but only one result is cached.
 ///
-/// Contracts see the names of its rows, the files that `fill` put there, its profile, how its names are hashed, and which shelf it is: no two
-/// shelves with a row are equal.
+/// Contracts see the names of its rows, the contents from `fill`, its profile, its hash function, and its identity: no
+/// two shelves with a row are equal.
 pub struct Shelf<D: Disk> {
     alloc: Global,
     profile: Profile,
@@ -54,16 +55,16 @@ impl<D: Disk> Drop for Shelf<D> {
     }
 }
 
-/// Why no shelf was made.
+/// The reason why no shelf was made.
 #[derive(Clone, Copy, PartialEq, Eq, Debug, Drop)]
 pub enum ShelfFault {
     /// The row, from 0, of the first name that isn't in normal form or that an earlier row has.
     Name(usize),
-    /// Memory ran out.
+    /// An allocation fails.
     Memory,
 }
 
-/// What one caller knows of a shelf: a finite map from rows to contents.
+/// What one caller has observed of a shelf: a finite map from rows to contents.
 pub struct Pass<'a, D: Disk> {
     shelf: &'a Shelf<D>,
     rows: Vec<Seen<'a, D>>,
@@ -86,18 +87,20 @@ impl<D: Disk> Drop for Pass<'_, D> {
     }
 }
 
-/// Why a look showed nothing.
+/// The reason why a look returns no content.
 #[derive(Clone, Copy, PartialEq, Eq, Debug, Drop)]
 pub enum LookFault {
-    /// Memory ran out.
+    /// An allocation fails.
     Memory,
 }
 
 impl<D: Disk> Shelf<D> {
-    /// Rows with these names, at most `MOST_ROWS`, in order, to be read by this profile. None is filled. Names are hashed
-    /// by a key that everybody knows: see `with_hasher`.
+    /// Creates a shelf of files with these names, at most `MOST_ROWS`, in order, to be read by this profile. No row is
+    /// filled. Names are hashed with a public key: see `with_hasher`.
     ///
-    /// Fails at the first name that is not in normal form or that stands before.
+    /// # Errors
+    ///
+    /// `Name` with the first row whose name isn't in normal form or occurs before. `Memory` if an allocation fails.
     pub fn new(alloc: Global, names: Vec<String>, profile: Profile) -> Result<Shelf<D>, ShelfFault>
         requires { vec_len names ≤ most_rows }
         ensures names { IfOk result (λ s. s.names ≡ map string_bytes names.items) }
@@ -109,8 +112,12 @@ impl<D: Disk> Shelf<D> {
         Shelf::with_hasher(alloc, names, profile, Hashing::fixed())
     }
 
-    /// The same, with names that are hashed so: those of its rows, and those of the macros of a unit over its files. By a key
-    /// that nobody knows beforehand, names that strangers choose cost no more than others.
+    /// Creates a shelf as `new` does, with this hash function for the names of its rows, and for the names of macros of
+    /// the units over its files. With a secret key, names that an attacker chooses cost no more than others.
+    ///
+    /// # Errors
+    ///
+    /// `Name` with the first row whose name isn't in normal form or occurs before. `Memory` if an allocation fails.
     pub fn with_hasher(
         alloc: Global,
         names: Vec<String>,
@@ -137,7 +144,7 @@ impl<D: Disk> Shelf<D> {
         })
     }
 
-    /// How many rows there are, at most `MOST_ROWS`.
+    /// Returns the number of rows, at most `MOST_ROWS`.
     pub fn len(&self) -> usize
         ensures count { result ≡ length self.now.names }
         ensures small { result ≤ most_rows }
@@ -145,21 +152,21 @@ impl<D: Disk> Shelf<D> {
         self.rows.len()
     }
 
-    /// The profile by which its rows are read. Takes no memory.
+    /// Returns the profile by which its rows are read. Allocates nothing.
     pub fn profile(&self) -> Profile
         ensures { result ≡ self.now.profile }
     {
         self.profile
     }
 
-    /// How names are hashed. Takes no memory.
+    /// Returns the hash function of the names. Allocates nothing.
     pub fn hashing(&self) -> Hashing
         ensures { result ≡ self.now.hashing }
     {
         self.index.hashing()
     }
 
-    /// The row of this name. Takes no memory.
+    /// Returns the row of this name. Allocates nothing.
     pub fn row_of(&self, name: &[u8]) -> Option<usize>
         ensures row { IsRowOf self.now.names name.now result }
         ensures within { IfSome result (λ row. row < length self.now.names) }
@@ -167,7 +174,7 @@ impl<D: Disk> Shelf<D> {
         self.index.row_of(name)
     }
 
-    /// The name of a row.
+    /// Returns the name of a row.
     pub fn name(&self, row: usize) -> &str
         requires { row < length self.now.names }
         ensures { result.now ≡ name_in self.now.names row }
@@ -175,7 +182,8 @@ impl<D: Disk> Shelf<D> {
         self.rows[row].name()
     }
 
-    /// A shelf's names are in normal form, each once, and each has its place in the base. For proofs: it does nothing.
+    /// Shows proofs that a shelf's names are in normal form, each once, and that `fill` has a content or none for each.
+    /// Does nothing.
     pub fn lawful(&self)
         ensures names { AreNames self.now.names }
         ensures base { length self.now.base ≡ length self.now.names }
@@ -183,7 +191,11 @@ impl<D: Disk> Shelf<D> {
         let _rows = &self.rows;
     }
 
-    /// Reads each row that no earlier fill read, whatever a look kept. Where memory runs out, the rows that were read stay.
+    /// Reads the file of each row that no earlier fill read, even if a look has cached a content.
+    ///
+    /// # Errors
+    ///
+    /// An allocation fails. The rows that were read stay filled.
     pub fn fill(&mut self, disk: &D) -> Result<(), Memory>
         ensures shelf { (self.new.names ≡ self.old.names) × (self.new.profile ≡ self.old.profile) × (self.new.cells ≡ self.old.cells) }
         ensures hashing { self.new.hashing ≡ self.old.hashing }
@@ -199,8 +211,12 @@ impl<D: Disk> Shelf<D> {
         Ok(())
     }
 
-    /// Moves contents, one for each row, each of at most `LONGEST` bytes and one that a disk of this type may answer, to the rows that no
-    /// earlier fill read, and reads their lines; those for other rows are dropped. Where memory runs out, the rows that were read stay.
+    /// Moves contents into the rows that no earlier fill read, and reads their lines. There is one for each row, of at
+    /// most `LONGEST` bytes, and it is one that a disk of this type may return. The contents of other rows are dropped.
+    ///
+    /// # Errors
+    ///
+    /// An allocation fails. The rows that were read stay filled.
     pub fn fill_with(&mut self, contents: Vec<Vec<u8>>) -> Result<(), Memory>
         requires count { length contents.items ≡ length self.old.names }
         requires lawful { (row : ℕ) → row < length self.old.names
@@ -221,7 +237,11 @@ impl<D: Disk> Shelf<D> {
         Ok(())
     }
 
-    /// A pass that knows nothing.
+    /// Creates a pass that has observed nothing.
+    ///
+    /// # Errors
+    ///
+    /// An allocation fails.
     pub fn pass(&self) -> Result<Pass<'_, D>, Memory>
         ensures shelf { IfOk result (λ p. p.shelf ≡ self.now) }
         ensures empty { IfOk result (λ p. p.files ≡ replicate (length self.now.names) None) }
@@ -235,10 +255,13 @@ impl<D: Disk> Shelf<D> {
         Ok(Pass { shelf: self, rows })
     }
 
-    /// Shows the pass a row's content. From then on the pass knows it.
+    /// Returns a row's content, which the pass has observed from then on.
     ///
-    /// Takes no memory where the pass knows the row, or where it was filled. Fails only for want of memory, and then the pass
-    /// knows what it knew.
+    /// Allocates nothing if the pass has observed the row or the row was filled.
+    ///
+    /// # Errors
+    ///
+    /// An allocation fails. The pass is unchanged.
     pub fn look<'a>(
         &'a self,
         pass: &mut Pass<'a, D>,
@@ -267,7 +290,7 @@ impl<D: Disk> Shelf<D> {
         Ok(loaded)
     }
 
-    /// Joins two passes of the shelf, which agree wherever both know a row. Takes no memory.
+    /// Merges two passes of the shelf, which agree on every row that both have observed. Allocates nothing.
     pub fn meet<'a>(&'a self, pass: &mut Pass<'a, D>, other: Pass<'a, D>)
         requires mine { pass.old.shelf ≡ self.now }
         requires theirs { other.shelf ≡ self.now }
@@ -284,6 +307,7 @@ impl<D: Disk> Shelf<D> {
     }
 }
 
+/// Creates empty rows with these names.
 fn empty_rows<D: Disk>(alloc: Global, names: Vec<String>) -> Result<Vec<Row<D>>, Memory>
     ensures names { IfOk result (λ rows. names_of rows.items ≡ map string_bytes names.items) }
     ensures empty { IfOk result (λ rows. base_of rows.items ≡ replicate (length names.items) None) }
@@ -298,7 +322,8 @@ fn empty_rows<D: Disk>(alloc: Global, names: Vec<String>) -> Result<Vec<Row<D>>,
 }
 
 impl<'a, D: Disk> Pass<'a, D> {
-    /// What a pass knows of a row is what `fill` put there, if it did, and lawful for the row's name. For proofs: it does nothing.
+    /// Shows proofs that a pass has observed only permitted contents, and those of `fill` for the rows that it filled.
+    /// Does nothing.
     pub fn lawful(&self)
         ensures lawful { AllLawful D.may self.now.shelf.names self.now.files }
         ensures filled { Agree self.now.shelf.base self.now.files }
@@ -307,7 +332,7 @@ impl<'a, D: Disk> Pass<'a, D> {
         let _rows = &self.rows;
     }
 
-    // `look`, but for the clauses that say what is lawful.
+    /// Does what `look` does, without the clauses about permitted contents.
     fn show(
         &mut self,
         shelf: &'a Shelf<D>,
@@ -330,7 +355,7 @@ impl<'a, D: Disk> Pass<'a, D> {
         Ok(loaded)
     }
 
-    // Takes in what the other pass knows.
+    /// Adds what the other pass has observed.
     fn join(&mut self, shelf: &Shelf<D>, other: Self)
         requires mine { self.old.shelf ≡ shelf.now }
         requires theirs { other.shelf ≡ shelf.now }

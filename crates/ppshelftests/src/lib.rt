@@ -1,6 +1,7 @@
-//! Tests of shared files by the public calls of the shelf: what no clause says of them, and vectors from outside.
+//! Tests of the file table by its public functions: what no contract says, and test vectors from outside.
 //!
-//! They stand in a crate of their own, since a crate with tests is proved twice, and apart from those of the other libraries, so that they are proved before these.
+//! They are in a crate of their own, because a crate with tests is proved twice. They are apart from the tests of the
+//! other libraries, so that they are proved before these.
 #![tactic(auto)]
 
 #[cfg(test)]

@@ -1,3 +1,4 @@
+//! Helpers for the tests of the file table.
 ghost use Rattle.std.specs.Prelude.{◌≡◌, ◌≤◌, IfOk, length};
 ghost use Rattle.std.specs.Vec.{vec_len};
 ghost use Rattle.ppshelf.specs.Files.{most_rows};
@@ -17,10 +18,12 @@ use std::sync::atomic::AtomicU64;
 use std::sync::atomic::Ordering::SeqCst;
 use std::test::Fail;
 
-// Answers its reads with the texts `0`, `1`, .. in turn, but has no memory for the read of one number.
+/// A disk that returns the texts `0`, `1`, .. in turn, and fails to allocate at the read of one number.
 #[derive(Drop)]
 struct Counting {
+    /// The number of reads so far.
     reads: AtomicU64,
+    /// The number of the read that fails.
     refused: u64,
 }
 
@@ -46,6 +49,7 @@ impl Disk for Counting {
     }
 }
 
+/// Creates a disk whose read with this number fails.
 fn refusing(refused: u64) -> Counting {
     Counting {
         reads: AtomicU64::new(0),
@@ -53,6 +57,7 @@ fn refusing(refused: u64) -> Counting {
     }
 }
 
+/// Copies names into a vector.
 fn texts(alloc: Global, names: &[&str]) -> Result<Vec<String>, AllocError>
     ensures { IfOk result (λ texts. vec_len texts ≡ length names.now) }
 {
@@ -63,14 +68,14 @@ fn texts(alloc: Global, names: &[&str]) -> Result<Vec<String>, AllocError>
     Ok(texts)
 }
 
-// A shelf of these names, of which none is filled.
+/// Creates a shelf of these names, with no row filled.
 fn named<D: Disk>(alloc: Global, names: &[&str]) -> Result<Shelf<D>, Fail>
     requires { length names.now ≤ most_rows }
 {
     Ok(Shelf::new(alloc, texts(alloc, names)?, Profile::C11)?)
 }
 
-// A disk of one file `a`.
+/// Creates a disk of one file `a`.
 fn disk_of(alloc: Global, text: &[u8]) -> Result<MemoryDisk, AllocError> {
     let mut files = Vec::new(alloc);
     files.push(File {
@@ -80,7 +85,7 @@ fn disk_of(alloc: Global, text: &[u8]) -> Result<MemoryDisk, AllocError> {
     Ok(MemoryDisk { files })
 }
 
-// What a pass is shown of a row, if there is one.
+/// Returns the content that a pass observes of a row, if there is one.
 fn shown_of<'a, D: Disk>(
     shelf: &'a Shelf<D>,
     pass: &mut Pass<'a, D>,
@@ -99,7 +104,7 @@ fn shown_of<'a, D: Disk>(
     Ok(Some(loaded))
 }
 
-// The bytes that it is shown.
+/// Returns the bytes that a pass observes of a row.
 fn bytes_of<'a, D: Disk>(
     shelf: &'a Shelf<D>,
     pass: &mut Pass<'a, D>,
@@ -115,10 +120,11 @@ fn bytes_of<'a, D: Disk>(
     }
 }
 
-// What a row's file was read into: the number of its fault, or how many lines it has and the directive of the second.
+/// The result of reading a row's file: the number of its fault, or how many lines it has and the directive of the
+/// second.
 type Lines = Result<(usize, Option<Directive>), u8>;
 
-// What a content was read into, if it is readable.
+/// Returns the result of reading a content, if it is readable.
 fn lines_in<D: Disk>(loaded: &Loaded<D>) -> Option<Lines> {
     match loaded.lines()? {
         Ok(source) => Some(Ok((source.lines().len(), second_directive(source.lines())))),
@@ -126,7 +132,7 @@ fn lines_in<D: Disk>(loaded: &Loaded<D>) -> Option<Lines> {
     }
 }
 
-// The directive of the second of these lines.
+/// Returns the directive of the second of these lines.
 fn second_directive(lines: &[Line]) -> Option<Directive> {
     match lines {
         [_, line, ..] => line.directive,
@@ -134,7 +140,7 @@ fn second_directive(lines: &[Line]) -> Option<Directive> {
     }
 }
 
-// That a new pass finds this of a row.
+/// Asserts that a new pass observes this result of a row.
 fn assert_lines<D: Disk>(
     rt: &impl Abort,
     shelf: &Shelf<D>,
@@ -151,7 +157,7 @@ fn assert_lines<D: Disk>(
     Ok(())
 }
 
-// Whether these are the bytes of a text.
+/// Whether these are the bytes of a text.
 fn are_bytes(found: Option<&[u8]>, wanted: Option<&str>) -> bool {
     match (found, wanted) {
         (Some(found), Some(wanted)) => found == wanted.as_bytes(),
@@ -160,7 +166,7 @@ fn are_bytes(found: Option<&[u8]>, wanted: Option<&str>) -> bool {
     }
 }
 
-// That a pass is shown this text of a row.
+/// Asserts that a pass observes this text of a row.
 fn assert_shown<'a, D: Disk>(
     rt: &impl Abort,
     shelf: &'a Shelf<D>,
@@ -177,7 +183,7 @@ fn assert_shown<'a, D: Disk>(
     Ok(())
 }
 
-// That a pass is shown these texts of rows.
+/// Asserts that a pass observes these texts of rows.
 fn assert_rows<'a, D: Disk>(
     rt: &impl Abort,
     shelf: &'a Shelf<D>,
@@ -194,7 +200,7 @@ fn assert_rows<'a, D: Disk>(
     Ok(())
 }
 
-// That a new pass is.
+/// Asserts that a new pass observes these texts of rows.
 fn assert_new<D: Disk>(
     rt: &impl Abort,
     shelf: &Shelf<D>,

@@ -1,4 +1,4 @@
--- Stretches of bytes that are characters of their own, and tables of the breaks between them.
+-- Stretches of bytes that are characters of their own, and tables of the line notes between them.
 use Rattle.std.proofs.Common.{◌≡◌, ℕ, zero, suc, ◌⊎◌, inl, inr, ◌+◌, ◌-◌, ◌<◌, ◌≤◌, Bool, true, false, ◌==◌, ◌||◌, if◌then◌else◌, List, [], ◌∷◌, ◌++◌, length}
 use Rattle.std.proofs.Common.{drop, get_or, refl, sym, ap, ◌∙◌, subst, arith, Option, None, Some, length-drop, append_assoc, add-zero}
 use Rattle.std.proofs.lemmas.Bool.{false≢true, cases_lt}
@@ -50,7 +50,7 @@ one_byte s bs code h = first (return_front bs) h
     first true e = cc
     first false e = second (trigraph_front bs == 0) e
 
--- What is no character of one byte is a break.
+-- What is no character of one byte is a line note.
 pub long_code : (s : Bool) (bs : List ℕ) (a n : ℕ) → step_of s bs ≡ Code a n → (n ≡ 1 → ⊥) → IsChanged s bs
 long_code s bs a n is long = λ code e. long (same code (sym is ∙ e))
   where
@@ -133,7 +133,7 @@ pub record Begun (s : Bool) (raw : List ℕ) (start : ℕ) (done : List ℕ) : T
 pub begun_none : (s : Bool) (raw : List ℕ) → Begun s raw 0 []
 begun_none s raw = record { fits = omega arith; table = λ ns h. h }
 
--- the bytes behind a break at an offset
+-- the bytes after a line note at an offset
 pub behind_at : (s : Bool) (raw : List ℕ) (offset len : ℕ) → step_len (step_of s (drop offset raw)) ≡ len → behind_break s (drop offset raw) ≡ drop (offset + len) raw
 behind_at s raw offset len is = ap (λ k. drop k (drop offset raw)) is ∙ drop-drop len offset raw
 
@@ -155,7 +155,7 @@ begun_more s raw start n len done h room stretch is fits = record {
 pub begun_all : (s : Bool) (raw : List ℕ) (start : ℕ) (done : List ℕ) → Begun s raw start done → Stretch s (drop start raw) (length (drop start raw)) → IsTable s raw done
 begun_all s raw start done h last = subst (IsTable s raw) (append-nil done) (h.table [] last)
 
--- The table is read from its front: the next stretch, and what follows behind its break.
+-- The table is read from its front: the next stretch, and what follows after its line note.
 drop_nil : (n : ℕ) → drop {A = ℕ} n [] ≡ []
 drop_nil zero = refl
 drop_nil (suc n) = refl

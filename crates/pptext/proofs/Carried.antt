@@ -16,7 +16,7 @@ use Rattle.pptext.proofs.OnePiece.{opening_begins}
 use Rattle.pptext.proofs.Numbers.{NumberStart}
 use Rattle.pptext.proofs.Lexer.{plain_token, spelled_whole}
 
--- parts behind parts
+-- parts after parts
 more_parts : (P : List ℕ → Type 0) (ps : List (List ℕ)) (b : List ℕ) → AllByRecursion P ps → Repeated P b → Repeated P (flat_map (λ p. p) ps ++ b)
 more_parts P [] b all second = second
 more_parts P (p ∷ ps) b all second =
@@ -27,9 +27,9 @@ carried : (P Q : List ℕ → Type 0) → (text more : List ℕ) → Then P (Rep
 carried P Q text more (a, b, e, x, (ps, all, f)) rest =
     (a, b ++ more, ap (λ z. z ++ more) e ∙ append_assoc a b more, x, subst (λ z. Repeated Q (z ++ more)) (sym f) (more_parts Q ps more all rest))
 
--- ---- a sign behind an exponent's letter
+-- ---- a sign after an exponent's letter
 
--- the last character is that of what stands behind
+-- the last character is that of what follows
 pub last_behind : (front : List ℕ) (c : ℕ) (cs : List ℕ) → last_of (front ++ c ∷ cs) ≡ last_of (c ∷ cs)
 last_behind [] c cs = refl
 last_behind (d ∷ []) c cs = refl
@@ -62,7 +62,7 @@ part_signed p s rest (inr (inr (a, b, is, (c, is_a, h), (d, is_b, g)))) ends t m
     let whole : p ≡ c ∷ d ∷ [] = is ∙ ap (λ z. z ++ b) is_a ∙ ap (λ z. c ∷ z) is_b in
     absurd (sign_apart d (subst (λ z. is_exponent (last_of z) ≡ true) whole ends.0) g)
 
--- what ends a text ends what stands behind its front
+-- what ends a text ends what follows its prefix
 ends_behind : (front : List ℕ) (c : ℕ) (cs : List ℕ) → EndsInExponent (front ++ c ∷ cs) → EndsInExponent (c ∷ cs)
 ends_behind front c cs ends = (
   subst (λ z. is_exponent z ≡ true) (last_behind front c cs) ends.0,

@@ -181,7 +181,7 @@ between_some p q text k l e h g c z =
     let whole : IsOnly (Between p q) text (1 + (1 + k)) = then_only (Exactly (p ∷ [])) (Then (Inner q) (Closed (Inner q) q)) text 1 (1 + k) o.0 (then_only (Inner q) (Closed (Inner q) q) (drop 1 text) 1 k o.1 rest) in
     only_some (Between p q) text (k + 2) (subst (λ i. IsOnly (Between p q) text i) n whole)
 
--- the two sorts of header name
+-- the two kinds of header name
 pub between_head : (p q : ℕ) (text : List ℕ) (n : ℕ) → IsOnly (Between p q) text n → get_or text 0 0 ≡ p
 between_head p q text n o = (begins_one text p [] (exactly_then (Then (Inner q) (Closed (Inner q) q)) (p ∷ []) text n o.fits o.part).1).1
 

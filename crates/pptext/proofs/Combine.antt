@@ -12,7 +12,7 @@ then_lacks P Q text none m fits (a, b, e, pa, qb) =
     let l = front_length text a b m fits e in
     none (length a) (omega (arith, l)) (subst P (front_of text a b m fits e) pa)
 
--- a front of the one, and then another
+-- a prefix of the one, and then another
 after_only : (P Q : List ℕ → Type 0) (text : List ℕ) (n : ℕ) → IsOnly P text n → (m : ℕ) → m ≤ length text → Then P Q (take m text) → (n ≤ m) × (m - n ≤ length (drop n text)) × Q (take (m - n) (drop n text))
 after_only P Q text n p m fits (a, b, e, pa, qb) =
     let l = front_length text a b m fits e in
@@ -88,7 +88,7 @@ pub head_behind : (text : List ℕ) → get_or (drop 1 text) 0 0 ≡ get_or text
 head_behind [] = refl
 head_behind (x ∷ text) = refl
 
--- the bytes of a front of two
+-- the bytes of a prefix of two
 pub two_front : (f g : ℕ → Bool) (text : List ℕ) (m : ℕ) → m ≤ length text → Then (One f) (One g) (take m text) → (m ≡ 2) × (2 ≤ length text) × (f (get_or text 0 0) ≡ true) × (g (get_or text 1 0) ≡ true)
 two_front f g text m fits (a, b, e, (c, ac, fc), (d, bd, gd)) =
     let e' : take m text ≡ (c ∷ d ∷ []) ++ [] = cc in
@@ -158,7 +158,7 @@ room_at text at l = let d : length (drop at text) ≡ length text - at = length-
 pub end_at : (text : List ℕ) (at : ℕ) → length text ≤ at → length (drop at text) ≡ 0
 end_at text at l = let d : length (drop at text) ≡ length text - at = length-drop at text in omega arith
 
--- the one part, and then the one part behind it
+-- the one part, and then the one part after it
 pub then_none_first : (P Q : List ℕ → Type 0) (text : List ℕ) (n : ℕ) → OnlyPart P text n → n ≡ 0 → OnlyPart (Then P Q) text 0
 then_none_first P Q text n p z = only_zero (Then P Q) text (then_lacks P Q text (p.0 z))
 
@@ -169,7 +169,7 @@ pub exactly_lacks : (c : ℕ) (w text : List ℕ) → (get_or text 0 0 ≡ c →
 exactly_lacks c w text h m fits e =
     h (begins_one text c w (sym (front_of text (c ∷ w) [] m fits (e ∙ sym (append-nil (c ∷ w)))))).1
 
--- a first part of a known length, and then what a search behind it answered
+-- a first part of a known length, and then the result of a search after it
 pub then_found : (P Q : List ℕ → Type 0) (text : List ℕ) (n k : ℕ)
     → OnlyPart P text n
     → (n ≡ 0 → ⊥)

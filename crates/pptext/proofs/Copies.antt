@@ -13,7 +13,7 @@ use Rattle.pptext.proofs.CleanSteps.{CodeStep, RemovedStep, Outcome, outcome, op
 use Rattle.pptext.proofs.Breaks.{Begun, begun_all, begun_more, begun_none}
 use Rattle.pptext.proofs.Offsets.{Here, here, placed_at, placed_codes, placed_tail}
 
--- These are the codes of what stands in front of an offset.
+-- These are the codes of what stands before an offset.
 pub record Copied (raw : List ℕ) (offset : ℕ) (done : List ℕ) : Type 0 where
   pub codes : (file : ℕ) → codes_of (text_from file raw 0) ≡ done ++ codes_of (text_from file raw offset)
   pub ends : (file : ℕ) → end_from file raw 0 ≡ end_from file raw offset
@@ -75,7 +75,7 @@ removed_at file raw offset n lt is =
       last = λ l. ap splice_at_end (front file raw offset h) ∙ o.last (omega arith) same ∙ ap (λ (p : Place). Some p) h.at;
     }
 
--- behind the last byte stands the supplied new-line alone
+-- after the last byte there is only the supplied new-line
 pub at_end : (file : ℕ) (raw : List ℕ) → logical_from file raw (length raw) ≡ supply (open_end raw) (end_place file raw)
 at_end file raw =
     let l : length (placed file 1 1 raw) ≡ length raw = sym (length-map (placed file 1 1 raw) (λ (y : Char). y.code)) ∙ ap length (placed_codes raw (start file)) in
@@ -107,7 +107,7 @@ copied_removed raw offset done n h lt is more = record {
   ends = λ file. h.ends file ∙ (removed_at file raw offset n lt is).ends more;
 }
 
--- bytes of their own up to the next break
+-- bytes of their own up to the next line note
 pub record OwnAt (raw : List ℕ) (offset n : ℕ) : Type 0 where
   pub room : offset < length raw
   pub step : step_of (open_end raw) (drop offset raw) ≡ Code (get_or raw offset 0) 1
@@ -152,11 +152,11 @@ copied_own (suc n) raw offset done h front =
     (append_assoc done (b ∷ []) (take n rest) ∙ ap (λ z. done ++ take (suc n) z) (sym (drop_more raw offset 0 one.room)))
     (copied_own n raw (offset + 1) (done ++ b ∷ []) (copied_code raw offset done b 1 h one.room one.step) one.more))
 
--- behind the last byte ends no splice
+-- no splice ends after the last byte
 pub no_splice : (file : ℕ) (raw : List ℕ) → end_from file raw (length raw) ≡ None
 no_splice file raw = ap splice_at_end (at_end file raw) ∙ elim (open_end raw) as (λ t. splice_at_end (supply t (end_place file raw)) ≡ None) [ true ↦ refl | false ↦ refl ]
 
--- where the file's end is no splice, bytes stand behind what is removed
+-- where the file's end is no splice, bytes follow what is removed
 pub removed_inside : (file : ℕ) (raw : List ℕ) (offset n : ℕ) → offset < length raw → step_of (open_end raw) (drop offset raw) ≡ Removed n → end_from file raw offset ≡ None → offset + n < length raw
 removed_inside file raw offset n lt is ends = inside (removed_at file raw offset n lt is)
   where
@@ -184,7 +184,7 @@ whole_open raw codes breaks h table o = record {
   table = table;
 }
 
--- The missing new-line stands behind the last byte.
+-- The missing new-line is after the last byte.
 missing_more : (c : Char) (cs : List Char) → 0 < length cs → missing_newline (c ∷ cs) ≡ missing_newline cs
 missing_more c [] lt = absurd (omega arith)
 missing_more c (d ∷ cs) lt = refl
@@ -220,7 +220,7 @@ clean_ok file bytes raw same h = clean_is file bytes ∙ ap (λ z. unless_at (en
 pub clean_err : (file : ℕ) (bytes raw : List ℕ) (p : Place) → raw ≡ unmarked bytes → end_from file raw 0 ≡ Some p → cleaned file bytes ≡ Err p
 clean_err file bytes raw p same h = clean_is file bytes ∙ ap (λ z. unless_at (end_from file z 0) (text_from file z 0)) (sym same) ∙ ap (λ z. unless_at z (text_from file raw 0)) h
 
--- What is known once so many breaks are counted.
+-- What is known when this many line notes are counted.
 pub record Counted (raw : List ℕ) (start count : ℕ) : Type 0 where
   pub breaks : List ℕ
   pub length : length breaks ≡ count
@@ -231,7 +231,7 @@ pub record Counted (raw : List ℕ) (start count : ℕ) : Type 0 where
 pub counted_none : (raw : List ℕ) → Counted raw 0 0
 counted_none raw = record { breaks = []; length = refl; below = omega arith; begun = begun_none (open_end raw) raw; ends = λ file. refl }
 
--- the table of breaks, and the end, where bytes stand behind a break
+-- the table of line notes, and the end, where bytes follow a line note
 pub counted_more : (raw : List ℕ) (start count n : ℕ) (step : Step)
     → Counted raw start count
     → n < length (drop start raw)
@@ -306,7 +306,7 @@ counted_all raw start count h last =
 pub copied_none : (raw : List ℕ) → Copied raw 0 []
 copied_none raw = record { codes = λ file. refl; ends = λ file. refl }
 
--- the copy and the table behind a stretch and the break there
+-- the copy and the table after a stretch and the line note there
 pub record Copies (raw : List ℕ) (start : ℕ) (codes breaks : List ℕ) : Type 0 where
   pub copied : Copied raw start codes
   pub begun : Begun (open_end raw) raw start breaks
@@ -360,7 +360,7 @@ copies_all raw start codes breaks h last =
       begun_all (open_end raw) raw start breaks h.begun last,
     )
 
--- the file's own bytes, where no break is and the last new-line is there
+-- the file's own bytes, where no line note is and the last new-line is there
 pub own_whole : (raw : List ℕ) → HasBreaks raw 0 → open_end raw ≡ false → Whole raw raw []
 own_whole raw h closed = by h.breaks h.table h.length
   where

@@ -1,4 +1,4 @@
--- A cursor over a file's bytes, which stands in front of one character after another.
+-- A cursor over a file's bytes, which stands before one character after another.
 use Rattle.std.proofs.Common.{◌≡◌, ℕ, suc, ◌+◌, ◌-◌, ◌<◌, ◌≤◌, Bool, true, false, List, [], ◌∷◌, length, take, drop, get_or, sym, ap, ◌∙◌, arith, None, length-drop, add-zero, zero-add, refl, subst}
 use Rattle.std.proofs.lemmas.List.{drop-drop, drop-map, get_or-drop, get_or-take, take_all, length-take-le}
 use Rattle.pptext.specs.declared.tokens.Place.{Place}
@@ -42,11 +42,11 @@ moved file raw breaks c n s = ap (λ p. place_behind p (take n (drop c.offset ra
     ∙ sym (behind_append (take c.offset raw) (take n (drop c.offset raw)) (start file))
     ∙ ap (place_behind (start file)) (sym (take_add c.offset n raw))
 
--- a cursor at a break, whose bytes it passes
+-- a cursor at a line note, whose bytes it passes
 abbrev pub behind : List ℕ → List ℕ → Cursor → ℕ → ℕ → Cursor
 behind raw breaks c passed n = record { passed = passed; offset = c.offset + n; plain = get_or breaks c.next (length raw - (c.offset + n)); next = c.next + 1; at = place_behind c.at (take n (drop c.offset raw)) }
 
--- the stretch behind a break, and what follows in the table
+-- the stretch after a line note, and what follows in the table
 pub record Onward (raw breaks : List ℕ) (offset next n : ℕ) : Type 0 where
   pub stretch : Stretch (open_end raw) (drop (offset + n) raw) (get_or breaks next (length raw - (offset + n)))
   pub table : IsTable (open_end raw) (behind_break (open_end raw) (drop (offset + n + get_or breaks next (length raw - (offset + n))) raw)) (drop (next + 1) breaks)
@@ -165,7 +165,7 @@ stands_at_plain file raw breaks c d s some =
     let one = own_at raw c.offset (c.plain - 1) (own_less (open_end raw) (drop c.offset raw) (suc (c.plain - 1)) c.plain (omega arith) s.stretch.front) in
     stands_at_code file raw breaks c (get_or raw c.offset 0) 1 d s one.room one.step
 
--- a cursor in front of the character sought
+-- a cursor before the character sought
 pub record InFront (file : ℕ) (raw breaks : List ℕ) (to : ℕ) (c : Cursor) : Type 0 where
   pub stands : Stands file raw breaks c
   pub passed : c.passed ≡ to

@@ -44,7 +44,7 @@ state_start profile chars = record { within = omega arith; started = omega arith
 abbrev pub piece_at : List Char → ℕ → ℕ → Sort → Piece
 piece_at chars at n s = record { sort = s; chars = take n (drop at chars) }
 
--- one more piece of any sort
+-- one more lexeme of any kind
 pub record Grown (profile : Profile) (chars : List Char) (at n : ℕ) (s : Sort) (space : Bool) (done : List LogicalLine) (open_tokens : List Token) (pieces : List Piece) : Type 0 where
   pub room : at + n ≤ length chars
   pub cut : CutUpTo profile chars (pieces ++ piece_at chars at n s ∷ []) (drop (at + n) chars)
@@ -207,7 +207,7 @@ module _ (profile : Profile) (chars : List Char) where
         line = g.line ∙ ap (λ (z : List ℕ). spelled (drop start ts) ++ z ∷ []) (sym (ap (λ (u : Token). u.text) is)) ∙ sym (ap spelled more ∙ spelled-append (drop start ts) t);
       }
 
-  -- the end, where the tokens behind the last new-line are dropped
+  -- the end, where the tokens after the last new-line are dropped
   pub cut_all : (at start : ℕ) (space : Bool) (ts : List Token) (ls : List Line) → State profile chars at start space ts ls → length (codes_of chars) ≤ at → CutsInto profile chars (take start ts) ls (Ok tt)
   cut_all at start space ts ls st past =
       let l = codes_length chars in

@@ -1,4 +1,4 @@
--- A cut grows by one piece; the lines of the pieces grow with it.
+-- A cut grows by one lexeme; the lines of the lexemes grow with it.
 use Rattle.std.proofs.Common.{◌≡◌, ℕ, Bool, true, List, [], ◌∷◌, ◌++◌, length, refl, sym, ap, ◌∙◌, subst, append_assoc}
 use Rattle.std.proofs.lemmas.List.{append-nil}
 use Rattle.pptext.specs.declared.tokens.Token.{Token}
@@ -8,7 +8,7 @@ use Rattle.pptext.specs.Clean.{codes_of}
 use Rattle.pptext.specs.Cut.{Piece, laid, with_piece, StandsAt, EachStands, CutUpTo}
 use Rattle.pptext.specs.Lines.{LogicalLine, lines_behind, lines_ended, leaves_space, tokens_after}
 
--- the line that is open behind the pieces
+-- the line that is open after the lexemes
 abbrev pub line_after : List (List ℕ) → List Piece → List (List ℕ)
 line_after line [] = line
 line_after line (p ∷ ps) = line_after (with_piece line p p.sort) ps
@@ -29,7 +29,7 @@ each_more profile line [] p rest each here = (here, tt)
 each_more profile line (q ∷ qs) p rest each here =
     (subst (λ z. StandsAt profile line (codes_of (q.chars ++ z)) (length q.chars) q.sort) (sym (laid_one p qs rest)) each.0, each_more profile (with_piece line q q.sort) qs p rest each.1 here)
 
--- one more piece
+-- one more lexeme
 pub cut_more : (profile : Profile) (chars : List Char) (ps : List Piece) (p : Piece) (rest : List Char)
     → CutUpTo profile chars ps (p.chars ++ rest)
     → StandsAt profile (line_after [] ps) (codes_of (p.chars ++ rest)) (length p.chars) p.sort
@@ -46,7 +46,7 @@ pub line_after-append : (line : List (List ℕ)) (ps : List Piece) (p : Piece) �
 line_after-append line [] p = refl
 line_after-append line (q ∷ qs) p = line_after-append (with_piece line q q.sort) qs p
 
--- What the lines are, as far as the pieces go: whatever pieces follow give the rest.
+-- What the lines are, as far as the lexemes go: whatever lexemes follow give the rest.
 pub LinesSoFar : Profile → List Piece → List LogicalLine → Bool → List Token → Type 0
 LinesSoFar profile ps done space open_tokens =
     (more : List Piece) → lines_behind profile true [] (ps ++ more) ≡ done ++ lines_behind profile space open_tokens more

@@ -36,7 +36,7 @@ one test = record { at = at }
 pub either : {P Q : List ℕ → Type 0} {p q : List ℕ → Bool} → Tests P p → Tests Q q → Tests (Either P Q) (either_test p q)
 either {P} {Q} {p} {q} of_p of_q = record { at = λ s. Decides-or (p s) (q s) (of_p.at s) (of_q.at s) }
 
--- behind a first character
+-- after a first character
 behind : {P : List ℕ → Type 0} {p : List ℕ → Bool} (c : ℕ) → Tests P p → Tests (λ a. P (c ∷ a)) (λ a. p (c ∷ a))
 behind c of_p = record { at = λ a. of_p.at (c ∷ a) }
 

@@ -10,7 +10,7 @@ use Rattle.pptext.specs.Guard.{IsBlankLine, AreBlank, guard_name, GuardedParts, 
 use Rattle.pptext.specs.Grouping.{AreDirected, ClosedAtOnce, FlatGuard}
 use Rattle.pptext.proofs.Trees.{section_lines, branch_line, a_tree, at_most_one}
 
--- the next branch line behind parts stands behind their lines
+-- the next branch line after parts is after their lines
 
 one_role : (depth k : ℕ) (r : LogicalLine) (rs : List LogicalLine) (s : Role) → role r ≡ s → branch_behind depth k (map role (r ∷ rs)) ≡ branch_behind depth k (s ∷ map role rs)
 one_role depth k r rs s e = ap (λ (z : Role). branch_behind depth k (z ∷ map role rs)) e
@@ -117,7 +117,7 @@ text_front [] rest k x all flat = (tt, (k, flat))
 text_front (r ∷ rs) rest k x all (inl here) = let later = text_front rs rest (k + 1) x all.1 here.1 in ((here.0, later.0), later.1)
 text_front (r ∷ rs) rest k x all (inr here) = let opens = here.0 in let text = all.0 in absurd (cc)
 
--- the first line behind the parts of a section is its next branch line
+-- the first line after the parts of a section is its next branch line
 closed_first : (ps : Parts) (h : LogicalLine) (rest : List LogicalLine) (k : ℕ)
     → AreParts ps
     → ((j : ℕ) → branch_behind 0 j (map role (h ∷ rest)) ≡ Some j)

@@ -52,7 +52,7 @@ unfolding within_line
 element_along quote =
     either_passes (one_passes (plain_element_along quote)) (then_passes (exactly_passes (92 ∷ []) refl) (one_passes escaped_along))
 
--- elements, and the quote behind them
+-- elements, and the quote after them
 elements_along : (quote : ℕ) → along (quote ∷ []) ≡ true → Throughout within_line (Then (Repeated (IsElement quote)) (Exactly (quote ∷ [])))
 elements_along quote ends = then_passes (repeated_passes (element_along quote)) (exactly_passes (quote ∷ []) ends)
 

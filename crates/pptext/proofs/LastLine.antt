@@ -123,7 +123,7 @@ cleaned_end file bytes chars e = spliced_end (trigraphs (line_ends file bytes)) 
     kept cs (inl is) = inl (ap trigraphs is)
     kept cs (inr is) = inr (trigraphs_end 0 cs is)
 
--- a piece that is the whole text and ends in a new-line is a new-line
+-- a lexeme that is the whole text and ends in a new-line is a new-line
 blank_last : (text : List ℕ) → length text ≡ 1 → (c : ℕ) → BeginsWith text (c ∷ []) → IsTrue (is_blank c) → last_of text ≡ 10 → ⊥
 blank_last [] l c b t e = omega arith
 blank_last (x ∷ []) l c b t e =
@@ -161,7 +161,7 @@ ends_line profile line text Comment a e = absurd (comment_last text a e)
 ends_line profile line text (Spelled k) (inl (h, is)) e = absurd (header_last text (subst IsHeader (take_all (length text) text (omega arith)) h.spelled) e)
 ends_line profile line text (Spelled k) (inr p) e = absurd (spelling_last text k (subst (Spells k) (take_all (length text) text (omega arith)) p.spelled) e)
 
--- the last_of piece is a new-line
+-- the last lexeme is a new-line
 abbrev EndsLine : List Piece → Type 0
 EndsLine [] = ⊥
 EndsLine (p ∷ []) = p.sort ≡ NewLine

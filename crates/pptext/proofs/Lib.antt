@@ -12,15 +12,15 @@ pub mod Columns
 pub mod CleanSteps
 -- A file's characters from an offset on, and where they stand.
 pub mod Offsets
--- Stretches of bytes that are characters of their own, and tables of the breaks between them.
+-- Stretches of bytes that are characters of their own, and tables of the line notes between them.
 pub mod Breaks
 -- A file's text from an offset on, one step of the reading after another, and the copy made of it.
 pub mod Copies
--- A cursor over a file's bytes, which stands in front of one character after another.
+-- A cursor over a file's bytes, which stands before one character after another.
 pub mod Cursors
--- A cut grows by one piece; the lines of the pieces grow with it.
+-- A cut grows by one lexeme; the lines of the lexemes grow with it.
 pub mod CutSteps
--- What the scanner's fronts of a text stand for.
+-- What the lexemes that the lexer finds stand for.
 pub mod Told
 -- The loop that cuts a text: what it keeps, and each of its turns.
 pub mod CutLoop
@@ -34,7 +34,7 @@ pub mod InLine
 pub mod Table
 -- No two kinds share a spelling, and no spelling begins with white space.
 pub mod OneKind
--- At each place of a text one piece can stand, and it isn't empty; where an unclosed comment opens, none can.
+-- At each place of a text one lexeme can stand, and it isn't empty; where an unclosed comment opens, none can.
 pub mod OnePiece
 -- Tokens that their first byte tells.
 pub mod Light
@@ -60,7 +60,7 @@ pub mod LastLine
 pub mod LoneQuotes
 -- Lines as spans of tokens: each span at its index, and the lines that the spans cut the tokens into.
 pub mod Spans
--- Steps that stop: a fault or want of memory goes up, and where a public call answers.
+-- Steps that fail: how a fault or a failed allocation is returned, also by a public call.
 pub mod Stopping
 -- Names of directives in two tables, one after the other.
 pub mod Named

@@ -51,7 +51,7 @@ element_quote quote text n h p j lt e = cases p.part
         let two : n ≡ 2 = omega (arith, f.0, second.0) in
         at j (omega arith) two (begins_one text 92 [] f.1).1 e
 
--- whatever closes behind a passed quote closes from here on
+-- whatever closes after a passed quote closes from here on
 abbrev pub Passed : ℕ → List ℕ → ℕ → Type 0
 Passed quote text at = (r : ℕ) → r < at → get_or text r 0 ≡ quote → NoFront (IsQuoted quote) (drop at text) → NoFront (IsQuoted quote) (drop (r + 1) text)
 
@@ -77,7 +77,7 @@ lone_opening quote text opening n some le e h =
     let same : (opening - 1) + 1 ≡ opening = omega arith in
     subst (λ i. NoFront (IsQuoted quote) (drop i text)) same (h (opening - 1) le e)
 
--- the opening and what was searched behind it
+-- the opening and what was searched after it
 pub lone_literal : (quote : ℕ) (text : List ℕ) (opening n : ℕ)
     → ((r : ℕ) → r + 1 < opening → get_or text r 0 ≡ quote → ⊥)
     → NoFront (IsQuoted quote) (drop opening text)

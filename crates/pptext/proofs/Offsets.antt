@@ -39,7 +39,7 @@ pub behind_append : (xs ys : List ℕ) (p : Place) → place_behind p (xs ++ ys)
 behind_append [] ys p = refl
 behind_append (x ∷ xs) ys p = behind_append xs ys (behind_byte x p)
 
--- what is known of a place behind bytes
+-- what is known of a place after bytes
 pub record Behind (p q : Place) (n : ℕ) : Type 0 where
   pub file : q.file ≡ p.file
   pub line : q.line ≤ p.line + n
@@ -60,7 +60,7 @@ behind_bounds (b ∷ bs) p h =
 pub take_add : {X : Type 0} (n m : ℕ) (xs : List X) → take (n + m) xs ≡ take n xs ++ take m (drop n xs)
 take_add n m xs = sym (take-append-drop n (take (n + m) xs)) ∙ ap (λ z. z ++ drop n (take (n + m) xs)) (take-take n (n + m) xs (omega arith)) ∙ ap (λ z. take n xs ++ z) (drop-take n m xs)
 
--- the character at an offset, and those behind it
+-- the character at an offset, and those after it
 pub record Here (file : ℕ) (raw : List ℕ) (offset : ℕ) : Type 0 where
   pub head : Char
   pub rest : List Char

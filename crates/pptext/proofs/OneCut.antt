@@ -8,7 +8,7 @@ use Rattle.pptext.specs.Clean.{codes_of}
 use Rattle.pptext.specs.Cut.{Piece, Sort, laid, with_piece, StandsAt, EachStands, Cut, OpensBlock, ClosesAt, Unclosed, head_place}
 use Rattle.pptext.proofs.OnePiece.{one_piece, some_piece, no_piece_open}
 
--- no piece can stand at the beginning of this rest
+-- no lexeme can stand at the beginning of this rest
 Halts : Profile → List Char → Type 0
 Halts profile rest = (line : List (List ℕ)) (n : ℕ) (s : Sort) → n ≤ length rest → StandsAt profile line (codes_of rest) n s → ⊥
 
@@ -23,7 +23,7 @@ halts_here profile line p ps rest here halts e stands =
 same_piece : (p q : Piece) → p.chars ≡ q.chars → p.sort ≡ q.sort → p ≡ q
 same_piece p q chars sort = ap (λ (z : List Char). record { sort = p.sort; chars = z }) chars ∙ ap (λ (z : Sort). record { sort = z; chars = q.chars }) sort
 
--- two cuts of one text that go on as far as pieces can stand are one
+-- two cuts of one text that go on as far as lexemes can stand are one
 one_each : (profile : Profile) (line : List (List ℕ)) (ps qs : List Piece) (r s : List Char) → EachStands profile line ps r → EachStands profile line qs s → Halts profile r → Halts profile s → laid ps ++ r ≡ laid qs ++ s → (ps ≡ qs) × (r ≡ s)
 one_each profile line [] [] r s a b x y e = (refl, e)
 one_each profile line [] (q ∷ qs) r s a b x y e = absurd (halts_here profile line q qs s r x e b.0)

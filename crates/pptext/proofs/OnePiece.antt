@@ -1,4 +1,4 @@
--- At each place of a text one piece can stand, and it isn't empty; where an unclosed comment opens, none can.
+-- At each place of a text one lexeme can stand, and it isn't empty; where an unclosed comment opens, none can.
 use Rattle.std.proofs.Common.{◌≡◌, ℕ, zero, suc, ◌+◌, ◌<◌, ◌≤◌, Bool, true, false, not, ◌||◌, ◌==◌, List, [], ◌∷◌, ◌++◌, length, take, drop, refl}
 use Rattle.std.proofs.Common.{sym, ap, ◌∙◌, subst, inl, inr, ◌⊎◌, arith, append_assoc, length-append, IsTrue, None, Some}
 use Rattle.std.specs.Prelude.{Option, codes, unwrap_or}
@@ -16,7 +16,7 @@ use Rattle.pptext.specs.Cut.{Sort, NewLine, Blank, Comment, Spelled, StandsAt, C
 use Rattle.pptext.proofs.Throughout.{Throughout, one_passes, repeated_passes}
 use Rattle.pptext.proofs.OneKind.{begins, begins_apart, is_visible, one_kind, spelling_visible}
 
--- two longest fronts are one
+-- two longest prefixes are one
 longest_one : (P : List ℕ → Type 0) (text : List ℕ) (m n : ℕ) → Longest P text m → Longest P text n → m ≡ n
 longest_one P text m n a b = cases (cases_lt m n) (cases_lt n m)
   where
@@ -192,7 +192,7 @@ one_token profile line text m n k l (inr p) (inr q) =
     let same : m ≡ n = longest_one IsSpelling text m n p.longest q.longest in
     (same, one_kind (take n text) k l (subst (λ z. Spells k (take z text)) same p.spelled) q.spelled)
 
--- one piece can stand at a place
+-- one lexeme can stand at a place
 pub one_piece : (profile : Profile) (line : List (List ℕ)) (text : List ℕ) (m n : ℕ) (s t : Sort) → StandsAt profile line text m s → StandsAt profile line text n t → (m ≡ n) × (s ≡ t)
 one_piece profile line text m n NewLine NewLine a b = (a.0 ∙ sym b.0, refl)
 one_piece profile line text m n NewLine Blank a b = absurd (begins_apart is_newline is_blank newline_blank text (newline_begins text a.1) (blank_begins text n b))
@@ -226,7 +226,7 @@ comment_some (c ∷ cs) n (inr (o, Some zero, f, e)) =
     absurd (false≢true (ap (λ z. z == 10) (sym slash) ∙ f.1))
 comment_some (c ∷ cs) n (inr (o, Some (suc k), f, e)) = omega arith
 
--- a piece isn't empty
+-- a lexeme isn't empty
 pub some_piece : (profile : Profile) (line : List (List ℕ)) (text : List ℕ) (n : ℕ) (s : Sort) → StandsAt profile line text n s → 0 < n
 some_piece profile line text n NewLine a = omega arith
 some_piece profile line text n Blank a = omega arith
@@ -238,7 +238,7 @@ some_piece profile line text n (Spelled k) (inl (h, e)) = header_some h.spelled
     header_some (inr a) = not_empty (λ c. c == 34) n text (subst (λ z. begins (λ c. c == 34) z ≡ true) (sym (between 34 34 (take n text) a).is) refl)
 some_piece profile line text n (Spelled k) (inr p) = not_empty is_visible n text (spelling_visible (take n text) k p.spelled)
 
--- where a comment opens that is not closed, no piece can stand
+-- where a comment opens that is not closed, no lexeme can stand
 pub no_piece_open : (profile : Profile) (line : List (List ℕ)) (text : List ℕ) (n : ℕ) (s : Sort) → OpensBlock text → ClosesAt text None → StandsAt profile line text n s → ⊥
 no_piece_open profile line text n NewLine o never a =
     begins_apart is_newline is_visible newline_visible text (newline_begins text a.1) (opening_begins is_visible refl text (inl o))

@@ -19,7 +19,7 @@ module _ (profile : Profile) (file : ℕ) (bytes : List ℕ) where
   no_both : (c : List Char) (p : Place) → cleaned file bytes ≡ Ok c → cleaned file bytes ≡ Err p → ⊥
   no_both c p e f = let both : ◌≡◌ {A = Result (List Char) Place} (Ok c) (Err p) = sym e ∙ f in cc
 
-  -- the pieces of the text are one
+  -- the lexemes of the text are one
   one_lines : (c d : List Char) (ps qs : List Piece) → cleaned file bytes ≡ Ok c → cleaned file bytes ≡ Ok d → Cut profile c ps → Cut profile d qs → ps ≡ qs
   one_lines c d ps qs e f a b = one_cut profile c ps qs a (subst (λ (z : List Char). Cut profile z qs) (sym (one_text c d e f)) b)
 

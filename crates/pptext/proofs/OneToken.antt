@@ -60,7 +60,7 @@ stands_alone profile line s t k plain (inr p) =
     opens (inl o) = p.no_comment (inl (begins_more 47 42 s t o))
     opens (inr o) = p.no_comment (inr (begins_more 47 47 s t o))
 
--- the place of a piece among its line and the text behind it
+-- the place of a lexeme among its line and the text after it
 stands_within : (profile : Profile) (line : List (List ℕ)) (ps : List Piece) (rest : List Char) (i : ℕ) (p : Piece)
     → EachStands profile line ps rest
     → i < length ps

@@ -1,4 +1,4 @@
--- Each text is cut into pieces, or a comment that opens in it is not closed; so each file reads in some way.
+-- Each text is cut into lexemes, or a comment that opens in it is not closed; so each file reads in some way.
 use Rattle.std.proofs.Common.{◌≡◌, ◌↔◌, ℕ, zero, suc, ◌+◌, ◌-◌, ◌<◌, ◌≤◌, Bool, true, false, not, ◌&&◌, ◌||◌, ◌==◌, List, [], ◌∷◌, ◌++◌, length, take, drop, get_or}
 use Rattle.std.proofs.Common.{refl, sym, ap, ◌∙◌, subst, inl, inr, ◌⊎◌, arith, append_assoc, length-drop, None, Some, Ok, Err}
 use Rattle.std.specs.Prelude.{Option, Result, Decides, codes}
@@ -136,9 +136,9 @@ closes_told hay k = cases (cases_lt (length hay) (k + 2)) (cases_eq (get_or hay 
     cases (inr fits) (inr n) b = inr (λ h. let z : k + 0 ≡ k = omega arith in n (ap (λ z. get_or hay z 0) (sym z) ∙ h.reads 0 (omega arith)))
     cases (inr fits) (inl e) (inr n) = inr (λ h. n (h.reads 1 (omega arith)))
 
--- ---- the piece at a place
+-- ---- the lexeme at a place
 
--- a piece stands here, or a comment that is not closed opens
+-- a lexeme stands here, or a comment that is not closed opens
 abbrev Found : Profile → List (List ℕ) → List ℕ → Type 0
 Found profile line text = ((n : ℕ) × (s : Sort) × (n ≤ length text) × StandsAt profile line text n s) ⊎ (OpensBlock text × ClosesAt text None)
 
@@ -193,9 +193,9 @@ some_found profile line c cs = cases (begins_told (c ∷ cs) (codes "/*")) (begi
     cases (inr lacks) (inr lacks_line) (inr n) (inr w) =
         token_found profile line c cs (λ h. elim h [ inl a ↦ lacks a | inr b ↦ lacks_line b ]) (visible c n w) (awaits_told profile line) (longest_front IsHeader header_told (c ∷ cs))
 
--- ---- the pieces of a text
+-- ---- the lexemes of a text
 
--- the pieces of a text up to its end, or up to a comment that is not closed
+-- the lexemes of a text up to its end, or up to a comment that is not closed
 record Ended (profile : Profile) (line : List (List ℕ)) (cs : List Char) : Type 0 where
   pieces : List Piece
   rest : List Char

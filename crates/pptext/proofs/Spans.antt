@@ -34,7 +34,7 @@ span_at k start (r ∷ rs) (suc i) d e l =
     ∙ ap (λ (z : ℕ). span z (start + length r.tokens + length (tokens_of (take i rs))) (get_or rs i e) (drop (suc i) rs)) n
     ∙ ap (λ (z : ℕ). span (k + suc i) z (get_or rs i e) (drop (suc i) rs)) m
 
--- the tokens before, on and behind a line
+-- the tokens before, on and after a line
 pub tokens_parted : (rs : List LogicalLine) (i : ℕ) (r : LogicalLine) → i < length rs → length (tokens_of (take i rs)) + length (get_or rs i r).tokens + length (tokens_of (drop (suc i) rs)) ≡ length (tokens_of rs)
 tokens_parted [] i r l = absurd (omega arith)
 tokens_parted (r ∷ rs) zero e l = omega (arith, length-append r.tokens (tokens_of rs))

@@ -1,4 +1,4 @@
--- Steps that stop: a fault or want of memory goes up, and where a public call answers.
+-- Steps that fail: how a fault or a failed allocation is returned, also by a public call.
 use Rattle.std.proofs.Common.{◌≡◌, Result, Ok, Err, IfOk, sym}
 use Rattle.std.proofs.lemmas.Result.{IfOk-at_ok}
 use Rattle.std.specs.Result.{IsErrAnd}

@@ -1,4 +1,4 @@
--- What the scanner's fronts of a text stand for.
+-- What the lexemes that the lexer finds stand for.
 use Rattle.std.proofs.Common.{◌≡◌, ℕ, List, Option, None, Some, subst, sym, ap, ◌∙◌}
 use Rattle.pptext.specs.declared.sources.Profile.{Profile}
 use Rattle.pptext.specs.declared.tokens.Kind.{Kind}

@@ -47,7 +47,7 @@ pub no_fault : (lines : List LogicalLine) (parts : Parts) → Tree lines parts �
 no_fault lines parts tree =
     ap (group_fault []) (sym tree.whole ∙ sym (append-nil (part_lines parts))) ∙ parts_pass parts [] [] tree.each
 
--- lines without fault have a tree: a front of the lines behind open sections is parts, then each section's branches and parts
+-- lines without fault have a tree: a prefix of the lines after open sections is parts, then each section's branches and parts
 
 record Front (Rest : List LogicalLine → Type 0) (lines : List LogicalLine) : Type 0 where
   parts : Parts
@@ -66,7 +66,7 @@ with_text r (Run rs ps) is are = (Run (r ∷ rs) ps, ((λ (e : r ∷ rs ≡ []).
 with_text r (Control q ps) is are = (Run (r ∷ []) (Control q ps), ((λ (e : r ∷ [] ≡ []). cc), (is, tt), (λ (e : ⊥). e), are), refl)
 with_text r (Section q ps bs qs) is are = (Run (r ∷ []) (Section q ps bs qs), ((λ (e : r ∷ [] ≡ []). cc), (is, tt), (λ (e : ⊥). e), are), refl)
 
--- what a line adds to the fronts of the later lines
+-- what a line adds to the prefixes of the later lines
 front_at : (r : LogicalLine) (rs : List LogicalLine) (os : List Open) (s : Role)
     → role r ≡ s
     → ((before : List Open) → group_fault before rs ≡ None → Front (Behind before) rs)
@@ -122,7 +122,7 @@ a_tree lines e =
 pub tree_exactly : (lines : List LogicalLine) → (group_fault [] lines ≡ None) ↔ ((parts : Parts) × Tree lines parts)
 tree_exactly lines = (a_tree lines, λ t. no_fault lines t.0 t.1)
 
--- Reading the lines from the last to the first gives back their tree: the parts that begin them, and behind those the branches and parts
+-- Reading the lines from the last to the first gives back their tree: the parts that begin them, and after those the branches and parts
 -- of each section that is open there.
 
 abbrev Reading : Type 0

@@ -14,7 +14,7 @@ next_role_within Closes k lines n e = absurd (cc)
 next_role_within TextLine k lines n e = absurd (cc)
 next_role_within ControlLine k lines n e = absurd (cc)
 
--- the next branch line stands behind the line, in the file
+-- the next branch line is after the line, in the file
 pub next_within : (r : LogicalLine) (k : ℕ) (lines : List LogicalLine) (n : ℕ) → next_branch k (role r) lines ≡ Some n → (k < n) × (n < k + 1 + length lines)
 next_within r k lines n e = next_role_within (role r) k lines n e
 
@@ -33,7 +33,7 @@ first_branch : (bs : Branches) (last : Bool) (k : ℕ) (rest : List LogicalLine)
 first_branch (End r) last k rest is = ap (λ (z : Role). branch_behind 0 k (z ∷ map role rest)) is
 first_branch (Branch r ps bs) last k rest (before, final, is, parts, more) = ap (λ (z : Role). branch_behind 0 k (z ∷ map role (part_lines ps ++ branch_lines bs ++ rest))) is
 
--- it is the first line of the branches behind the parts of the group
+-- it is the first line of the branches after the parts of the group
 pub next_behind : (ps : Parts) (bs : Branches) (last : Bool) (k : ℕ) (rest : List LogicalLine)
     → AreParts ps
     → AreBranches last bs

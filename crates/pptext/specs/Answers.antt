@@ -1,4 +1,4 @@
--- What reading a file answers, unless memory ran out.
+-- The results of reading a file. Nothing is said if an allocation fails.
 use Rattle.std.specs.Prelude.{◌≡◌, List, [], Result, Ok, Err, None, Some}
 use Rattle.pptext.specs.declared.tokens.Fault.{Fault}
 use Rattle.pptext.specs.declared.sources.Source.{Source}
@@ -11,12 +11,12 @@ abbrev pub Fails : SourceFault → (Result (List LogicalLine) Fault → Type 0) 
 Fails (Bad f) Reads = Reads (Err f)
 Fails Memory Reads = Unit {0}
 
--- where memory sufficed, this is so of the lines or the fault
+-- unless an allocation failed, this holds for the lines or the fault
 abbrev pub Answers : Result Source SourceFault → (Result (List LogicalLine) Fault → Type 0) → Type 0
 Answers (Ok s) Reads = Reads (Ok s)
 Answers (Err e) Reads = Fails e Reads
 
--- what grouping these lines answers
+-- the result of grouping these lines
 abbrev pub GroupsInto : List LogicalLine → Result Source SourceFault → Type 0
 GroupsInto lines (Ok s) = (s ≡ lines) × (group_fault [] lines ≡ None)
 GroupsInto lines (Err (Bad f)) = group_fault [] lines ≡ Some f

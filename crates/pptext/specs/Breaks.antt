@@ -1,28 +1,28 @@
--- The table of breaks: where phases 1 and 2 (5.1.1.2) remove or replace bytes of a file. Only the contracts of private functions, and the view of a
--- type's private fields, cite this.
+-- The table of line notes: where phases 1 and 2 (5.1.1.2) remove or replace bytes of a file. Only the contracts of private functions, and the view
+-- of a type's private fields, cite this.
 use Rattle.std.specs.Prelude.{◌≡◌, ◌<◌, ◌≤◌, ℕ, List, [], ◌∷◌, Bool, length, drop, slice_index}
 use Rattle.pptext.specs.Steps.{Step, Code, Removed, IsChanged, step_of}
 
--- the first n bytes are characters of their own
+-- each of the first n bytes is a character of its own
 pub record OwnFront (supplied : Bool) (bs : List ℕ) (n : ℕ) : Type 0 where
   pub fits : n ≤ length bs
   pub own : (k : ℕ) → k < n → step_of supplied (drop k bs) ≡ Code (slice_index bs k) 1
 
--- and behind them the bytes end, or a break stands
+-- and after them the bytes end, or a line note is there
 pub record Stretch (supplied : Bool) (bs : List ℕ) (n : ℕ) : Type 0 where
   pub front : OwnFront supplied bs n
   pub stops : n < length bs → IsChanged supplied (drop n bs)
 
--- how many bytes are read at once
+-- the number of bytes that the step reads
 abbrev pub step_len : Step → ℕ
 step_len (Code code n) = n
 step_len (Removed n) = n
 
--- the bytes behind the break that stands here
+-- the bytes after the line note that is here
 abbrev pub behind_break : Bool → List ℕ → List ℕ
 behind_break supplied bs = drop (step_len (step_of supplied bs)) bs
 
--- An entry for each break: the length of the stretch between it and the break before, or the start.
+-- An entry for each line note: the number of bytes between it and the line note before, or the start.
 abbrev pub IsTable : Bool → List ℕ → List ℕ → Type 0
 IsTable supplied bs [] = Stretch supplied bs (length bs)
 IsTable supplied bs (n ∷ ns) = (n < length bs) × Stretch supplied bs n × IsTable supplied (behind_break supplied (drop n bs)) ns

@@ -1,4 +1,4 @@
--- What carries on an identifier or a number: with what stands before it, it is one token of that kind.
+-- Text that continues an identifier or a number: together they are one token of that kind.
 use Rattle.std.specs.Prelude.{◌≡◌, ℕ, List, [], ◌∷◌, ◌++◌, IsTrue, ◌⊎◌}
 use Rattle.pptext.specs.Languages.{One, Then, Either, Repeated}
 use Rattle.pptext.specs.Spellings.{is_digit, is_exponent, is_sign, IsUniversal, IsNondigit, IsNumberPart}
@@ -17,7 +17,7 @@ IsNumberRest = Repeated IsNumberPart
 abbrev pub IsSignedRest : List ℕ → Type 0
 IsSignedRest = Then (One is_sign) IsNumberRest
 
--- the last character, or 0 where there is none
+-- the last character, or 0 if there is none
 abbrev pub last_of : List ℕ → ℕ
 last_of [] = 0
 last_of (c ∷ []) = c
@@ -27,11 +27,11 @@ last_of (c ∷ d ∷ cs) = last_of (d ∷ cs)
 abbrev pub EndsInUniversal : List ℕ → Type 0
 EndsInUniversal text = (front name : List ℕ) × (text ≡ front ++ name) × IsUniversal name
 
--- an exponent's letter ends the text, which is no digit of a universal character name
+-- an exponent's letter ends the text, and is no digit of a universal character name
 abbrev pub EndsInExponent : List ℕ → Type 0
 EndsInExponent text = IsTrue (is_exponent (last_of text)) × (¬ EndsInUniversal text)
 
--- more of the kind; a sign carries on a number alone, and only behind an exponent's letter
+-- more of this kind; a sign continues a number only after an exponent's letter
 abbrev pub CarriesOn : Kind → List ℕ → List ℕ → Type 0
 CarriesOn Ident text more = IsIdentRest more
 CarriesOn Number text more = IsNumberRest more ⊎ (EndsInExponent text × IsSignedRest more)

@@ -1,4 +1,4 @@
--- Translation phases 1 and 2 (5.1.1.2): the bytes of a file as characters with their places.
+-- Translation phases 1 and 2 (5.1.1.2): the bytes of a file as characters with their locations.
 use Rattle.std.specs.Prelude.{ℕ, zero, suc, ◌+◌, List, [], ◌∷◌, ◌++◌, map, Bool, false, ◌&&◌, ◌==◌, if◌then◌else◌, Option, None, Some, Result, Ok, Err, length, codes}
 use Rattle.pptext.specs.declared.tokens.Place.{Place}
 use Rattle.pptext.specs.declared.characters.Char.{Char}
@@ -6,7 +6,7 @@ use Rattle.pptext.specs.declared.characters.Char.{Char}
 abbrev pub place : ℕ → ℕ → ℕ → Place
 place file line col = record { file = file; line = line; col = col }
 
--- the place of the byte after one that is no new-line
+-- the location after a byte that is no new-line
 abbrev pub next_col : Place → Place
 next_col p = place p.file p.line (p.col + 1)
 
@@ -18,7 +18,7 @@ abbrev pub head_code : List Char → ℕ
 head_code [] = 0
 head_code (c ∷ cs) = c.code
 
--- the most bytes that a file may have
+-- the maximum length of a file, in bytes
 abbrev pub longest : ℕ
 longest = 16777216
 
@@ -28,28 +28,28 @@ newline = 10
 abbrev pub backslash : ℕ
 backslash = 92
 
--- Each byte with its place from line and column on: a line ends after its LF.
+-- Each byte with its location, from this line and column on. An LF ends a line.
 abbrev pub placed : ℕ → ℕ → ℕ → List ℕ → List Char
 placed file line col [] = []
 placed file line col (b ∷ bs) =
     record { code = b; at = place file line col } ∷ (if b == newline then placed file (line + 1) 1 bs else placed file line (col + 1) bs)
 
--- the bytes behind a byte order mark
+-- the bytes after a byte order mark
 abbrev pub unmarked : List ℕ → List ℕ
 unmarked (a ∷ b ∷ c ∷ bs) = if a == 0xef && (b == 0xbb && c == 0xbf) then bs else a ∷ b ∷ c ∷ bs
 unmarked bs = bs
 
--- whether a CR directly before an LF stands here
+-- whether a CR directly before an LF is here
 abbrev pub is_return_at : List Char → Bool
 is_return_at [] = false
 is_return_at (c ∷ cs) = c.code == 13 && head_code cs == newline
 
--- without each CR directly before an LF
+-- the characters without each CR directly before an LF
 abbrev pub without_returns : List Char → List Char
 without_returns [] = []
 without_returns (c ∷ cs) = if is_return_at (c ∷ cs) then without_returns cs else c ∷ without_returns cs
 
--- a new-line directly after the last byte, where there is text without one
+-- a new-line directly after the last byte, if there is text and it has none
 abbrev pub missing_newline : List Char → List Char
 missing_newline [] = []
 missing_newline (c ∷ []) = if c.code == newline then [] else record { code = newline; at = next_col c.at } ∷ []
@@ -58,17 +58,17 @@ missing_newline (c ∷ d ∷ cs) = missing_newline (d ∷ cs)
 abbrev pub terminated : List Char → List Char
 terminated cs = cs ++ missing_newline cs
 
--- the first list function: line ends
+-- the first of three functions on lists: line ends
 abbrev pub line_ends : ℕ → List ℕ → List Char
 line_ends file bytes = terminated (without_returns (placed file 1 1 (unmarked bytes)))
 
--- the trigraphs (5.2.1.1): the character behind `??`, and the one that the three stand for
+-- the trigraphs (5.2.1.1): the character after `??`, and the one that all three stand for
 abbrev pub trigraph_pairs : List (List ℕ × List ℕ)
 trigraph_pairs =
     (codes "=", codes "#") ∷ (codes "(", codes "[") ∷ (codes "/", backslash ∷ []) ∷ (codes ")", codes "]") ∷ (codes "'", codes "^")
     ∷ (codes "<", codes "{") ∷ (codes "!", codes "|") ∷ (codes ">", codes "}") ∷ (codes "-", codes "~") ∷ []
 
--- the only code of a text of one, or 0
+-- the code of a text of one character, or 0
 abbrev pub only_code : List ℕ → ℕ
 only_code (c ∷ []) = c
 only_code cs = 0
@@ -86,7 +86,7 @@ abbrev pub trigraph_at : List Char → ℕ
 trigraph_at (a ∷ b ∷ c ∷ cs) = if a.code == 63 && b.code == 63 then trigraph c.code else 0
 trigraph_at cs = 0
 
--- Trigraphs are replaced from the left, behind `skip` characters of one before.
+-- Trigraphs are replaced from the left. The next `skip` characters belong to the one before.
 abbrev pub trigraphs_behind : ℕ → List Char → List Char
 trigraphs_behind skip [] = []
 trigraphs_behind (suc skip) (c ∷ cs) = trigraphs_behind skip cs
@@ -94,11 +94,11 @@ trigraphs_behind zero (c ∷ cs) =
     let r = trigraph_at (c ∷ cs) in
     if r == 0 then c ∷ trigraphs_behind 0 cs else record { code = r; at = c.at } ∷ trigraphs_behind 2 cs
 
--- the second: trigraphs
+-- the second function: trigraphs
 abbrev pub trigraphs : List Char → List Char
 trigraphs cs = trigraphs_behind 0 cs
 
--- whether a backslash and a new-line stand here
+-- whether a backslash and a new-line are here
 abbrev pub splice_at : List Char → Bool
 splice_at [] = false
 splice_at (c ∷ cs) = c.code == backslash && head_code cs == newline
@@ -108,11 +108,11 @@ splices_behind skip [] = []
 splices_behind (suc skip) (c ∷ cs) = splices_behind skip cs
 splices_behind zero (c ∷ cs) = if splice_at (c ∷ cs) then splices_behind 1 cs else c ∷ splices_behind 0 cs
 
--- the third: each backslash directly before a new-line is deleted with it
+-- the third function: each backslash directly before a new-line is deleted with it
 abbrev pub splices : List Char → List Char
 splices cs = splices_behind 0 cs
 
--- the place of the backslash, where the text ends in a backslash and a new-line
+-- the location of the backslash, if the text ends in a backslash and a new-line
 abbrev pub splice_at_end : List Char → Option Place
 splice_at_end [] = None
 splice_at_end (c ∷ cs) = if length cs == 1 && splice_at (c ∷ cs) then Some c.at else splice_at_end cs
@@ -121,6 +121,6 @@ abbrev pub unless_at : {X : Type 0} → Option Place → X → Result X Place
 unless_at None x = Ok x
 unless_at (Some p) x = Err p
 
--- the characters behind phases 1 and 2, or the place of a backslash at the end of the file
+-- the characters after phases 1 and 2, or the location of a backslash at the end of the file
 abbrev pub cleaned : ℕ → List ℕ → Result (List Char) Place
 cleaned file bytes = let cs = trigraphs (line_ends file bytes) in unless_at (splice_at_end cs) (splices cs)

@@ -1,4 +1,4 @@
--- Translation phase 3 (5.1.1.2, 6.4): the characters of a text cut into comments, white space, new-lines and tokens.
+-- Translation phase 3 (5.1.1.2, 6.4): a text is tokenized into comments, white space, new-lines and tokens.
 use Rattle.std.specs.Prelude.{◌≡◌, ℕ, ◌+◌, ◌≤◌, List, [], ◌∷◌, ◌++◌, Bool, ◌&&◌, ◌||◌, IsTrue, length, take, drop, ◌⊎◌, codes, Option, None, Some, unwrap_or}
 use Rattle.std.specs.List.{flat_map}
 use Rattle.std.specs.Str.{bytes_eq}
@@ -19,16 +19,16 @@ pub data Sort : Type 0 where
   Comment : Sort
   Spelled : Kind → Sort
 
--- a piece of the text
+-- a lexeme: a part of the text with its kind
 pub record Piece : Type 0 where
   pub sort : Sort
   pub chars : List Char
 
--- the pieces laid end to end
+-- the characters of the lexemes, end to end
 abbrev pub laid : List Piece → List Char
 laid ps = flat_map (λ p. p.chars) ps
 
--- the spellings of the tokens of a line, as far as the pieces go
+-- the spellings of the tokens of a line, up to and including this lexeme
 abbrev pub with_piece : List (List ℕ) → Piece → Sort → List (List ℕ)
 with_piece line p NewLine = []
 with_piece line p Blank = line
@@ -39,7 +39,7 @@ with_piece line p (Spelled k) = line ++ codes_of p.chars ∷ []
 abbrev pub awaits : Profile → List ℕ → Bool
 awaits profile name = bytes_eq name (codes "include") || (is_gnu profile && bytes_eq name (codes "include_next"))
 
--- `#` or `%:`, and such a name: a header name may follow (6.4.7)
+-- a header name may follow: the line so far is `#` or `%:`, and such a name (6.4.7)
 abbrev pub AwaitsHeader : Profile → List (List ℕ) → Type 0
 AwaitsHeader profile (hash ∷ name ∷ []) = IsTrue ((bytes_eq hash (codes "#") || bytes_eq hash (codes "%:")) && awaits profile name)
 AwaitsHeader profile line = ⊥
@@ -53,7 +53,7 @@ OpensBlock text = BeginsWith text (codes "/*")
 abbrev pub OpensLine : List ℕ → Type 0
 OpensLine text = BeginsWith text (codes "//")
 
--- where the comment that opens here has its `*/`, counted from behind the opening
+-- the index of the `*/` of the comment that opens here, counted after the `/*`
 abbrev pub ClosesAt : List ℕ → Option ℕ → Type 0
 ClosesAt text r = FindsNeedle (drop 2 text) (codes "*/") 0 r
 
@@ -62,38 +62,38 @@ abbrev pub CommentAt : List ℕ → ℕ → Type 0
 CommentAt text n =
     (OpensBlock text × (k : ℕ) × ClosesAt text (Some k) × (n ≡ k + 4)) ⊎ (OpensLine text × (r : Option ℕ) × IsFirstByte (is_byte 10) text r × (n ≡ unwrap_or r (length text)))
 
--- a header name of n characters, behind these tokens of its line
+-- a header name of n characters, after these tokens of its line
 pub record HeaderAt (profile : Profile) (line : List (List ℕ)) (text : List ℕ) (n : ℕ) : Type 0 where
   pub awaited : AwaitsHeader profile line
   pub fits : n ≤ length text
   pub spelled : IsHeader (take n text)
 
--- another token of n characters: the longest front that some kind spells
+-- another token of n characters: the longest prefix that some kind spells
 pub record PlainTokenAt (profile : Profile) (line : List (List ℕ)) (text : List ℕ) (n : ℕ) (kind : Kind) : Type 0 where
   pub no_comment : ¬ (OpensBlock text ⊎ OpensLine text)
   pub no_header : (m : ℕ) → ¬ HeaderAt profile line text m
   pub longest : Longest IsSpelling text n
   pub spelled : Spells kind (take n text)
 
--- n characters of this sort begin the text, behind these tokens of its line
+-- n characters of this kind begin the text, after these tokens of its line
 abbrev pub StandsAt : Profile → List (List ℕ) → List ℕ → ℕ → Sort → Type 0
 StandsAt profile line text n NewLine = (n ≡ 1) × BeginsWith text (10 ∷ [])
 StandsAt profile line text n Blank = (n ≡ 1) × (c : ℕ) × BeginsWith text (c ∷ []) × IsTrue (is_blank c)
 StandsAt profile line text n Comment = CommentAt text n
 StandsAt profile line text n (Spelled k) = (HeaderAt profile line text n × (k ≡ Header)) ⊎ PlainTokenAt profile line text n k
 
--- each piece stands in its place, behind these tokens of the line and before this rest
+-- each lexeme is allowed where it is, after these tokens of the line and before this rest
 abbrev pub EachStands : Profile → List (List ℕ) → List Piece → List Char → Type 0
 EachStands profile line [] rest = Unit {0}
 EachStands profile line (p ∷ ps) rest =
     StandsAt profile line (codes_of (p.chars ++ (laid ps ++ rest))) (length p.chars) p.sort × EachStands profile (with_piece line p p.sort) ps rest
 
--- the pieces of a front of the text, and the rest
+-- the lexemes of a prefix of the text, and the rest
 pub record CutUpTo (profile : Profile) (chars : List Char) (pieces : List Piece) (rest : List Char) : Type 0 where
   pub whole : laid pieces ++ rest ≡ chars
   pub each : EachStands profile [] pieces rest
 
--- the pieces of the whole text
+-- the lexemes of the whole text
 abbrev pub Cut : Profile → List Char → List Piece → Type 0
 Cut profile chars pieces = CutUpTo profile chars pieces []
 

@@ -1,4 +1,4 @@
--- Which fault lines without a tree have (6.10), by trees alone.
+-- The fault of lines that have no tree (6.10), by trees alone.
 use Rattle.std.specs.Prelude.{◌≡◌, List, [], ◌∷◌, ◌++◌}
 use Rattle.pptext.specs.declared.tokens.Fault.{Fault}
 use Rattle.pptext.specs.Lines.{LogicalLine}
@@ -11,7 +11,7 @@ HasTree lines = (parts : Parts) × Tree lines parts
 abbrev pub BeginsTree : List LogicalLine → Type 0
 BeginsTree front = (rest : List LogicalLine) × HasTree (front ++ rest)
 
--- This line opens the innermost section that is open after the lines: with one `#endif` more, the lines from it on are one if-section.
+-- This line opens the innermost if-section that is open after the lines: with one `#endif` more, the lines from it on are one if-section.
 pub record Innermost (lines : List LogicalLine) (opening : LogicalLine) : Type 0 where
   pub before : List LogicalLine
   pub rest : List LogicalLine
@@ -22,7 +22,7 @@ pub record Innermost (lines : List LogicalLine) (opening : LogicalLine) : Type 0
   pub branches : Branches
   pub section : Tree (opening ∷ rest ++ end ∷ []) (Section opening parts branches Done)
 
--- With this line, the first such, the lines so far begin no list that has a tree.
+-- This line is the first with which the lines so far begin no list that has a tree.
 pub record FirstWrong (lines before : List LogicalLine) (line : LogicalLine) : Type 0 where
   pub rest : List LogicalLine
   pub whole : lines ≡ before ++ line ∷ rest
@@ -31,9 +31,9 @@ pub record FirstWrong (lines before : List LogicalLine) (line : LogicalLine) : T
 
 -- the fault of lines that have no tree
 pub data IsGroupFault (lines : List LogicalLine) : Fault → Type 0 where
-  -- no section is open before the line
+  -- no if-section is open before the line
   no_section : {before : List LogicalLine} {line : LogicalLine} → FirstWrong lines before line → HasTree before → IsGroupFault lines (fault_at 3 line)
-  -- a section is open there: its `#else` has come
+  -- an if-section is open there: its `#else` has occurred
   after_else : {before : List LogicalLine} {line : LogicalLine} → FirstWrong lines before line → (¬ HasTree before) → IsGroupFault lines (fault_at 4 line)
   -- the lines begin a list that has a tree, and have none
   open_section : {opening : LogicalLine} → BeginsTree lines → (¬ HasTree lines) → Innermost lines opening → IsGroupFault lines (fault_at 5 opening)

@@ -1,5 +1,5 @@
--- Words of the pass that groups a file's lines: spans without branches, their links, the open sections by their lines' indices, and a
--- guard seen without the tree. Only the contracts of private functions cite this.
+-- Predicates on the pass that groups a file's lines: spans without branches, their links, the open if-sections by their lines' indices, and an
+-- include guard found without the tree. Only the contracts of private functions cite this.
 use Rattle.std.specs.Prelude.{◌≡◌, ℕ, ◌+◌, ◌⊎◌, List, [], ◌∷◌, map, length, drop, Bool, Option, None, Some}
 use Rattle.std.specs.List.{AllByRecursion}
 use Rattle.pptext.specs.declared.tokens.Token.{Token}
@@ -10,12 +10,12 @@ use Rattle.pptext.specs.Tree.{Role, Opens, Elses, Closes, role, role_by, branch_
 use Rattle.pptext.specs.Sources.{lines_from, tokens_of, spans}
 use Rattle.pptext.specs.Guard.{IsBlankLine, guard_name}
 
--- the span of a line from token start on, without its next branch line
+-- the span of a line, whose tokens begin at this index, without its next branch line
 abbrev pub draft : ℕ → LogicalLine → Line
 draft start r =
     record { start = start; end = start + length r.tokens; number = r.number; directive = r.directive; next_branch = None }
 
--- the spans of the lines from token start on, without next branch lines
+-- the spans of the lines, whose tokens begin at this index, without next branch lines
 abbrev pub drafts : ℕ → List LogicalLine → List Line
 drafts start [] = []
 drafts start (r ∷ rs) = draft start r ∷ drafts (start + length r.tokens) rs
@@ -24,20 +24,20 @@ drafts start (r ∷ rs) = draft start r ∷ drafts (start + length r.tokens) rs
 abbrev pub AreDirected : List LogicalLine → Type 0
 AreDirected rs = (profile : Profile) × AllByRecursion (IsDirected profile) rs
 
--- the spans, without next branch lines, are those of the lines that they cut the tokens into
+-- the spans, without next branch lines, are those of the lines into which they divide the tokens
 abbrev pub AreDrafts : List Token → List Line → Type 0
 AreDrafts ts ls = (tokens_of (lines_from ts ls) ≡ ts) × (drafts 0 (lines_from ts ls) ≡ ls) × AreDirected (lines_from ts ls)
 
 abbrev pub line_role : Line → Role
 line_role l = role_by l.directive
 
--- in an if-section the next branch line of a line at place k, before lines of these roles
+-- the next branch line of a line with index k, in an if-section, before lines of these roles
 abbrev pub branch_of : ℕ → Role → List Role → Option ℕ
 branch_of k Opens rest = branch_behind 0 (k + 1) rest
 branch_of k (Elses final) rest = branch_behind 0 (k + 1) rest
 branch_of k s rest = None
 
--- the lines from place k on, each with its next branch line
+-- the lines from index k on, each with its next branch line
 abbrev pub linked : ℕ → List Line → List Line
 linked k [] = []
 linked k (l ∷ ls) = record l { next_branch = branch_of k (line_role l) (map line_role ls) } ∷ linked (k + 1) ls
@@ -46,30 +46,30 @@ abbrev pub first : List ℕ → Option ℕ
 first [] = None
 first (k ∷ ks) = Some k
 
--- Going back over a line: its next branch line, and those of the sections that are open before it, the innermost first.
+-- The step back over a line: its next branch line, and those of the if-sections that are open before it, the innermost first.
 abbrev pub step_back : ℕ → Role → List ℕ → Option ℕ × List ℕ
 step_back k Opens behind = (first behind, drop 1 behind)
 step_back k (Elses final) behind = (first behind, k ∷ drop 1 behind)
 step_back k Closes behind = (None, k ∷ behind)
 step_back k s behind = (None, behind)
 
--- the spans are those of the lines that they cut the tokens into
+-- the spans are those of the lines into which they divide the tokens
 abbrev pub AreLines : List Token → List Line → Type 0
 AreLines ts ls = (tokens_of (lines_from ts ls) ≡ ts) × (spans 0 0 (lines_from ts ls) ≡ ls) × AreDirected (lines_from ts ls)
 
--- what a line answers, and leaves of the open sections
+-- the fault of a line, or the if-sections that are open after it
 abbrev pub Takes : Option ℕ × List (ℕ × Bool) → Option ℕ → List (ℕ × Bool) → Type 0
 Takes step None after = step ≡ (None, after)
 Takes step (Some n) after = step.0 ≡ Some n
 
--- a role of lines that have a directive's name
+-- the role of a line whose directive has a name
 abbrev pub IsBranching : Role → Type 0
 IsBranching Opens = Unit {0}
 IsBranching (Elses final) = Unit {0}
 IsBranching Closes = Unit {0}
 IsBranching s = ⊥
 
--- Of the lines behind an opening line, from place k on: the section's next branch line closes it, and no token stands behind that.
+-- Of the lines after an opening line, from index k on: the if-section's next branch line closes it, and no token follows.
 pub record ClosedAtOnce (k : ℕ) (lines : List LogicalLine) : Type 0 where
   pub skipped : ℕ
   pub last : LogicalLine
@@ -79,8 +79,8 @@ pub record ClosedAtOnce (k : ℕ) (lines : List LogicalLine) : Type 0 where
   pub closes : role last ≡ Closes
   pub blank : AllByRecursion IsBlankLine rest
 
--- A guard seen without the tree, of the lines from place k on: the first line with tokens opens a section and names X, and the section
--- is closed at once.
+-- An include guard found without the tree, in the lines from index k on: the first line with tokens opens an if-section and names X, and the
+-- if-section is closed at once.
 abbrev pub FlatGuard : ℕ → List LogicalLine → List ℕ → Type 0
 FlatGuard k [] x = ⊥
 FlatGuard k (r ∷ rs) x =

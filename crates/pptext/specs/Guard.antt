@@ -1,4 +1,4 @@
--- A file that is one guarded section: what a guard is, and of which lines it is one.
+-- Include guards: a file that is one guarded if-section.
 use Rattle.std.specs.Prelude.{◌≡◌, ℕ, List, [], ◌∷◌, Bool, ◌&&◌, if◌then◌else◌, Option, None, Some, codes}
 use Rattle.std.specs.List.{AllByRecursion}
 use Rattle.std.specs.Str.{bytes_eq}
@@ -42,6 +42,6 @@ GuardedParts (Run rs ps) x = AllByRecursion IsBlankLine rs × GuardedParts ps x
 GuardedParts (Section r ps (End e) qs) x = (guard_name r.tokens ≡ Some x) × AreBlank qs
 GuardedParts ps x = ⊥
 
--- the whole file is one section under this guard
+-- the whole file is one if-section with this guard
 abbrev pub GuardedBy : List LogicalLine → List ℕ → Type 0
 GuardedBy lines x = (parts : Parts) × Tree lines parts × GuardedParts parts x

@@ -1,4 +1,4 @@
--- How a name is hashed. Nothing else rests on it but the time that a table takes.
+-- The hash of a name. It affects only the time that a table takes.
 use Rattle.std.specs.Prelude.{ℕ, zero, suc, ◌-◌, ◌*◌, ◌/◌, List, length, if◌then◌else◌, nat_lt, bit_xor}
 use Rattle.std.specs.List.{fold}
 use Rattle.std.specs.Hash.{u64}
@@ -8,7 +8,7 @@ use Rattle.std.specs.RandomState.{initial_hasher}
 use Rattle.std.specs.declared.random_state.RandomState.{RandomState}
 use Rattle.pptext.specs.declared.hashing.NameHasher.{NameHasher}
 
--- the hash behind one word more, and behind the first n words of eight bytes
+-- the hash after one more word, and after the first n words of eight bytes
 abbrev pub joined : ℕ → ℕ → ℕ → ℕ
 joined factor state word = folded_multiply (bit_xor state word) factor
 
@@ -16,7 +16,7 @@ unfoldable pub words : List ℕ → ℕ → ℕ → ℕ → ℕ
 words bs factor state zero = state
 words bs factor state (suc n) = joined factor (words bs factor state n) (read_u64 bs (8 * n))
 
--- the hash behind a text, whose last word is its last eight bytes, or all where it has fewer; the factor is the key with the length
+-- the hash after a text. Its last word is its last eight bytes, or all if it has fewer. The factor is the key with the length.
 unfoldable pub behind : ℕ → ℕ → List ℕ → ℕ
 behind state factor bs =
     if nat_lt (length bs) 8 then joined factor state (read_short bs)
@@ -25,6 +25,6 @@ behind state factor bs =
 abbrev pub write : NameHasher → List ℕ → NameHasher
 write h bs = record { state = behind h.state (bit_xor h.key (length bs)) bs; key = h.key }
 
--- the number that a drawn key gives in this place
+-- the number with this index that a drawn key gives
 abbrev pub drawn : RandomState → ℕ → ℕ
 drawn key place = sip.finish (fold sip.write (initial_hasher key) (u64 place))

@@ -1,4 +1,4 @@
--- Each test of `Kinds` is the language of its name (6.4).
+-- Each test of `Kinds` decides the language of the same name (6.4).
 use Rattle.std.specs.Prelude.{◌≡◌, ℕ, List, Bool, IsTrue, Contains, ◌↔◌, ◌⊎◌, Some}
 use Rattle.pptext.specs.Spellings.{IsUniversal, IsNondigit, IsIdent, IsNumberPart, IsNumber, IsElement, IsCharConst, IsStr, IsOther, Spells, punctuators, is_punctuator}
 use Rattle.pptext.specs.declared.tokens.Kind.{Kind}
@@ -7,7 +7,7 @@ use Rattle.pptext.specs.Sources.{IsLoneQuote}
 use Rattle.pptext.specs.Kinds.{universal_test, nondigit_test, ident_test, number_part_test, number_test, element_test, char_const_test, str_test, other_test}
 use Rattle.pptext.specs.Kinds.{lone_quote_test, comment_test, spelled_kind}
 
--- the test passes the texts of the language, and no others
+-- exactly the texts of the language pass the test
 abbrev pub Tells : (List ℕ → Bool) → (List ℕ → Type 0) → Type 0
 Tells test language = (text : List ℕ) → IsTrue (test text) ↔ language text
 
@@ -25,14 +25,14 @@ pub record TestsAreLanguages : Type 0 where
   pub string_literal : Tells str_test IsStr
   -- 6.4.6
   pub punctuator : Tells is_punctuator (Contains punctuators)
-  -- each other character that isn't white space (6.4)
+  -- each other character that is no white space (6.4)
   pub other : Tells other_test IsOther
   -- the parts of these: a universal character name (6.4.3), a nondigit, what follows a number's first digit, and an element of a literal
   pub universal : Tells universal_test IsUniversal
   pub nondigit : Tells nondigit_test IsNondigit
   pub number_part : Tells number_part_test IsNumberPart
   pub element : (quote : ℕ) → Tells (element_test quote) (IsElement quote)
-  -- what is no token: a quote alone (6.4p3), and what opens a comment (6.4.9)
+  -- what is no token: an unmatched quote (6.4p3), and what opens a comment (6.4.9)
   pub lone_quote : Tells lone_quote_test IsLoneQuote
   pub comment : Tells comment_test OpensComment
   -- the kind that spells a text

@@ -1,4 +1,4 @@
--- The kind of a text (6.4), by tests: each passes the texts of the language of `Languages` or `Spellings` that has its name, and no others.
+-- The kind of a text (6.4), by tests. Exactly the texts of the language of the same name, in `Languages` or `Spellings`, pass a test.
 use Rattle.std.specs.Prelude.{ℕ, List, [], ◌∷◌, Bool, false, not, ◌&&◌, ◌||◌, ◌==◌, length, take, Option, None, Some, if◌then◌else◌, codes}
 use Rattle.std.specs.List.{list_any, list_all}
 use Rattle.std.specs.Str.{bytes_eq}
@@ -22,7 +22,7 @@ one_test test s = false
 abbrev pub either_test : (List ℕ → Bool) → (List ℕ → Bool) → List ℕ → Bool
 either_test p q s = p s || q s
 
--- one of the first, and then one of the second: the first is empty, or it begins with the text's first character
+-- one of the first, and then one of the second. Either the first is empty, or it begins with the text's first character.
 abbrev pub then_test : (List ℕ → Bool) → (List ℕ → Bool) → List ℕ → Bool
 then_test p q [] = p [] && q []
 then_test p q (c ∷ s) = (p [] && q (c ∷ s)) || then_test (λ a. p (c ∷ a)) q s
@@ -86,7 +86,7 @@ lone_quote_test = either_test (exactly_test (39 ∷ [])) (exactly_test (34 ∷ [
 abbrev pub comment_test : List ℕ → Bool
 comment_test s = either_test (exactly_test (codes "/*")) (exactly_test (codes "//")) (take 2 s)
 
--- the kind that spells the text; no two spell the same
+-- the kind that spells the text. No two kinds spell the same text.
 abbrev pub spelled_kind : List ℕ → Option Kind
 spelled_kind s =
     if ident_test s then Some Ident
@@ -97,6 +97,6 @@ spelled_kind s =
     else if other_test s then Some Other
     else None
 
--- the kind of the one token that a text is, but for a lone quote; or that it is none
+-- the kind of the one token that a text is, or None if it is no token or an unmatched quote
 unfoldable pub kind_of : List ℕ → Option Kind
 kind_of text = if lone_quote_test text || comment_test text then None else spelled_kind text

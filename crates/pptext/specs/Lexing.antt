@@ -3,15 +3,15 @@ use Rattle.std.specs.Prelude.{◌≡◌, ℕ, List, Option, None, Some}
 use Rattle.pptext.specs.declared.tokens.Kind.{Kind}
 use Rattle.pptext.specs.Sources.{IsOneToken, IsLoneQuote}
 
--- the text is one token of this kind, and no lone quote; or it is no such token
+-- the text is one token of this kind, and no unmatched quote; or it is no such token
 abbrev pub Lexes : List ℕ → Option Kind → Type 0
 Lexes text None = (k : Kind) → IsOneToken text k → IsLoneQuote text
 Lexes text (Some k) = IsOneToken text k × (¬ IsLoneQuote text)
 
--- what tells each text's kind
+-- a function that returns each text's kind
 pub record IsLexer (kind_of : List ℕ → Option Kind) : Type 0 where
   pub each : (text : List ℕ) → Lexes text (kind_of text)
 
--- each text's kind can be told, and in one way
+-- exactly one function returns each text's kind
 abbrev pub HasOneLexer : Type 0
 HasOneLexer = ((kind_of : List ℕ → Option Kind) × IsLexer kind_of) × ((a b : List ℕ → Option Kind) → IsLexer a → IsLexer b → (text : List ℕ) → a text ≡ b text)

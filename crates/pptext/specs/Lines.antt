@@ -11,18 +11,18 @@ use Rattle.pptext.specs.declared.characters.Char.{Char}
 use Rattle.pptext.specs.Clean.{codes_of}
 use Rattle.pptext.specs.Cut.{Piece, Sort, NewLine, Spelled, head_place}
 
--- a line's tokens, the physical line of its new-line, and the directive, where it is one
+-- a line's tokens, the physical line of its new-line, and the directive if it is one
 pub record LogicalLine : Type 0 where
   pub tokens : List Token
   pub number : ℕ
   pub directive : Option Directive
 
--- the token of a piece; space says that white space or the line's beginning stands before it
+-- the token of a lexeme. `space` says whether white space or the beginning of the line precedes it.
 abbrev pub token_of : Kind → Bool → List Char → Token
 token_of kind space chars =
     let at = head_place chars in record { kind = kind; text = codes_of chars; space = space; at = at; used = at }
 
--- whether white space or a line's beginning stands before what follows the piece
+-- whether white space or the beginning of a line precedes what follows the lexeme
 abbrev pub leaves_space : Sort → Bool
 leaves_space (Spelled k) = false
 leaves_space s = true
@@ -38,11 +38,11 @@ directive_names =
     (codes "if", If) ∷ (codes "ifdef", Ifdef) ∷ (codes "ifndef", Ifndef) ∷ (codes "elif", Elif) ∷ (codes "else", Else) ∷ (codes "endif", Endif)
     ∷ (codes "include", Include) ∷ (codes "define", Define) ∷ (codes "undef", Undef) ∷ (codes "line", Line) ∷ (codes "error", Error) ∷ (codes "pragma", Pragma) ∷ []
 
--- those that C23 added to the branches of an if-section (ISO/IEC 9899:2024, 6.10.2)
+-- the names that C23 added to the branches of an if-section (ISO/IEC 9899:2024, 6.10.2)
 abbrev pub later_names : List (List ℕ × Directive)
 later_names = (codes "elifdef", Elifdef) ∷ (codes "elifndef", Elifndef) ∷ []
 
--- those of GNU C
+-- the names that GNU C added
 abbrev pub gnu_names : List (List ℕ × Directive)
 gnu_names = (codes "include_next", IncludeNext) ∷ (codes "warning", Ignored) ∷ (codes "ident", Ignored) ∷ (codes "sccs", Ignored) ∷ []
 
@@ -50,7 +50,7 @@ abbrev pub named_in : List (List ℕ × Directive) → List ℕ → Directive
 named_in [] name = Unknown
 named_in ((text, d) ∷ more) name = if bytes_eq name text then d else named_in more name
 
--- the directive of a name
+-- the directive that a name is
 abbrev pub directive_named : Profile → List ℕ → Directive
 directive_named C11 name = named_in directive_names name
 directive_named Later name = named_in (directive_names ++ later_names) name
@@ -60,13 +60,13 @@ abbrev pub directive_behind : Profile → List Token → Directive
 directive_behind profile [] = Null
 directive_behind profile (t ∷ ts) = directive_named profile t.text
 
--- the directive of a line, where its first token is `#` or `%:`
+-- the directive of a line, if its first token is `#` or `%:`
 abbrev pub directive_of : Profile → List Token → Option Directive
 directive_of profile [] = None
 directive_of profile (t ∷ ts) =
     if bytes_eq t.text (codes "#") || bytes_eq t.text (codes "%:") then Some (directive_behind profile ts) else None
 
--- a line of these tokens, whose new-line stands in the physical line of this number
+-- the line of these tokens whose new-line is in the physical line of this number
 abbrev pub line_of : Profile → List Token → ℕ → LogicalLine
 line_of profile tokens number = record { tokens = tokens; number = number; directive = directive_of profile tokens }
 
@@ -74,7 +74,7 @@ abbrev pub lines_ended : Profile → List Token → List Char → Sort → List 
 lines_ended profile tokens chars NewLine = line_of profile tokens (head_place chars).line ∷ []
 lines_ended profile tokens chars s = []
 
--- the lines of the pieces, behind these tokens of the first
+-- the lines of the lexemes, after these tokens of the first line
 abbrev pub lines_behind : Profile → Bool → List Token → List Piece → List LogicalLine
 lines_behind profile space tokens [] = []
 lines_behind profile space tokens (p ∷ ps) =
@@ -83,6 +83,6 @@ lines_behind profile space tokens (p ∷ ps) =
 abbrev pub lines_of : Profile → List Piece → List LogicalLine
 lines_of profile ps = lines_behind profile true [] ps
 
--- a line whose directive is that of its tokens
+-- the directive of the line is that of its tokens
 abbrev pub IsDirected : Profile → LogicalLine → Type 0
 IsDirected profile line = line.directive ≡ directive_of profile line.tokens

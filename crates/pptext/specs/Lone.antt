@@ -1,4 +1,4 @@
--- Quotes that nothing closes in their line. Only the contracts of private functions cite this.
+-- Unmatched quotes: those that nothing closes in their line. Only the contracts of private functions cite this.
 use Rattle.std.specs.Prelude.{◌≡◌, ℕ, ◌+◌, ◌-◌, ◌<◌, ◌≤◌, List, [], ◌∷◌, length, drop, slice_index}
 use Rattle.pptext.specs.Languages.{Then, Repeated, Exactly, NoFront}
 use Rattle.pptext.specs.Spellings.{IsElement}
@@ -11,11 +11,12 @@ IsQuoted quote = Then (Repeated (IsElement quote)) (Exactly (quote ∷ []))
 abbrev pub AreLone : ℕ → List ℕ → ℕ → Type 0
 AreLone quote text n = (r : ℕ) → r < n → slice_index text r ≡ quote → NoFront (IsQuoted quote) (drop (r + 1) text)
 
--- nothing closes an opening quote in front of the text, nor a quote among its first n characters
+-- nothing closes an opening quote before the text, nor a quote among its first n characters
 abbrev pub StaysOpen : ℕ → List ℕ → ℕ → Type 0
 StaysOpen quote text n = (n ≤ length text) × NoFront (IsQuoted quote) text × AreLone quote text n
 
--- what is known of the quotes of a text: the single ones are lone up to where so many characters are left, and the double ones up to where so many are
+-- what is known of the quotes of a text: all but the last `single_left` characters have only unmatched single quotes, and all but the last
+-- `double_left` only unmatched double quotes
 pub record KnowsLone (text : List ℕ) (single_left double_left : ℕ) : Type 0 where
   pub single : AreLone 39 text (length text - single_left)
   pub double : AreLone 34 text (length text - double_left)

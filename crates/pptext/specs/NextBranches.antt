@@ -2,8 +2,8 @@
 use Rattle.std.specs.Prelude.{ℕ, ◌+◌, List, [], ◌∷◌, ◌++◌, map, length, Option, None, Some}
 use Rattle.pptext.specs.Tree.{Parts, Done, Run, Control, Section, Branches, End, Branch, part_lines, branch_lines}
 
--- For each line of the parts, of which the first stands at place k: the place of the line that follows its group, which is its section's next branch
--- line or `#endif`; none for a line that begins no group.
+-- For each line of the parts, of which the first has index k: the index of the line that follows its group, which is its if-section's next branch
+-- line or `#endif`. None for a line that begins no group.
 abbrev mutual
   pub part_branches : ℕ → Parts → List (Option ℕ)
   part_branches k Done = []
@@ -13,7 +13,7 @@ abbrev mutual
       let next = k + 1 + length (part_lines ps) in
       Some next ∷ part_branches (k + 1) ps ++ later_branches next bs ++ part_branches (next + length (branch_lines bs)) qs
 
-  -- the same for the branches of a section
+  -- the next branch lines of the branches of an if-section
   pub later_branches : ℕ → Branches → List (Option ℕ)
   later_branches k (End r) = None ∷ []
   later_branches k (Branch r ps bs) =

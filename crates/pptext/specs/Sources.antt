@@ -15,13 +15,13 @@ use Rattle.pptext.specs.Lines.{LogicalLine, lines_of}
 use Rattle.pptext.specs.Tokens.{fault}
 use Rattle.pptext.specs.Tree.{Role, Opens, Elses, role, branch_behind, group_fault}
 
--- in an if-section the next branch line, of a line at place k before these
+-- the next branch line, in an if-section, of a line with index k before these lines
 abbrev pub next_branch : ℕ → Role → List LogicalLine → Option ℕ
 next_branch k Opens rest = branch_behind 0 (k + 1) (map role rest)
 next_branch k (Elses final) rest = branch_behind 0 (k + 1) (map role rest)
 next_branch k s rest = None
 
--- the lines as spans of the tokens, from place k and token start on
+-- the lines as spans of the tokens; the first has index k, and its tokens begin at `start`
 abbrev pub spans : ℕ → ℕ → List LogicalLine → List Line
 spans k start [] = []
 spans k start (r ∷ rs) =
@@ -31,7 +31,7 @@ spans k start (r ∷ rs) =
 abbrev pub tokens_of : List LogicalLine → List Token
 tokens_of rs = flat_map (λ r. r.tokens) rs
 
--- the lines, of tokens and their spans
+-- the lines that these spans of the tokens are
 abbrev pub lines_from : List Token → List Line → List LogicalLine
 lines_from ts ls = map (λ l. record { tokens = take (l.end - l.start) (drop l.start ts); number = l.number; directive = l.directive }) ls
 
@@ -47,21 +47,21 @@ pub record IsSource (profile : Profile) (file : ℕ) (bytes : List ℕ) (lines :
   pub grouped : group_fault [] (lines_of profile pieces) ≡ None
   pub same : lines ≡ lines_of profile pieces
 
--- its first fault
+-- the first fault of a file
 pub data IsFaultOf (profile : Profile) (file : ℕ) (bytes : List ℕ) : Fault → Type 0 where
   -- the last line ends in a backslash
   spliced_end : {p : Place} → cleaned file bytes ≡ Err p → IsFaultOf profile file bytes (file_fault 2 p)
-  -- else a comment is not closed
+  -- otherwise a comment is not closed
   open_comment : {chars : List Char} {p : Place} → cleaned file bytes ≡ Ok chars → Unclosed profile chars p → IsFaultOf profile file bytes (file_fault 1 p)
-  -- else the groups have a fault
+  -- otherwise the groups have a fault
   bad_groups : {chars : List Char} {pieces : List Piece} {f : Fault} → cleaned file bytes ≡ Ok chars → Cut profile chars pieces → group_fault [] (lines_of profile pieces) ≡ Some f → IsFaultOf profile file bytes f
 
--- what reading a file gives
+-- the result of reading a file
 abbrev pub Reads : Profile → ℕ → List ℕ → Result (List LogicalLine) Fault → Type 0
 Reads profile file bytes (Ok lines) = IsSource profile file bytes lines
 Reads profile file bytes (Err f) = IsFaultOf profile file bytes f
 
--- outside an include line the text is one token of this kind; there each profile cuts alike, and C11 stands for all
+-- outside an include line the text is one token of this kind. All profiles tokenize it alike, so C11 stands for all.
 abbrev pub IsOneToken : List ℕ → Kind → Type 0
 IsOneToken text k = let cs = placed 0 1 1 text in Cut C11 cs (record { sort = Spelled k; chars = cs } ∷ [])
 

@@ -1,4 +1,4 @@
--- The grammar of preprocessing tokens (6.4): which spellings each kind has.
+-- The grammar of preprocessing tokens (6.4): the spellings of each kind.
 use Rattle.std.specs.Prelude.{ℕ, List, [], ◌∷◌, Bool, not, ◌&&◌, ◌||◌, ◌==◌, nat_le, IsTrue, Contains, codes}
 use Rattle.std.specs.List.{list_any}
 use Rattle.std.specs.Str.{bytes_eq}
@@ -15,7 +15,7 @@ is_digit c = within 48 57 c
 abbrev pub is_hex : ℕ → Bool
 is_hex c = is_digit c || (within 65 70 c || within 97 102 c)
 
--- a letter, `_`, `$` or a byte from 128 up
+-- a letter, `_`, `$` or a byte of 128 or higher
 abbrev pub is_nondigit : ℕ → Bool
 is_nondigit c = within 65 90 c || (within 97 122 c || (c == 95 || (c == 36 || nat_le 128 c)))
 
@@ -36,7 +36,7 @@ IsUniversal = Either (Then (Exactly (92 ∷ 117 ∷ [])) (IsRun 4 is_hex)) (Then
 abbrev pub IsNondigit : List ℕ → Type 0
 IsNondigit = Either (One is_nondigit) IsUniversal
 
--- a character that may stand at each place of an identifier but the first
+-- a character that is allowed in an identifier after the first
 abbrev pub is_ident_byte : ℕ → Bool
 is_ident_byte c = is_nondigit c || is_digit c
 
@@ -78,7 +78,7 @@ punctuators =
     ∷ codes "%=" ∷ codes "+=" ∷ codes "-=" ∷ codes "<<=" ∷ codes ">>=" ∷ codes "&=" ∷ codes "^=" ∷ codes "|=" ∷ codes "," ∷ codes "#" ∷ codes "##"
     ∷ codes "<:" ∷ codes ":>" ∷ codes "<%" ∷ codes "%>" ∷ codes "%:" ∷ codes "%:%:" ∷ []
 
--- the punctuators as a test
+-- whether the text is a punctuator
 abbrev pub is_punctuator : List ℕ → Bool
 is_punctuator s = list_any (λ p. bytes_eq p s) punctuators
 
@@ -95,11 +95,11 @@ IsBetween open_code close_code =
 abbrev pub IsHeader : List ℕ → Type 0
 IsHeader = Either (IsBetween 60 62) (IsBetween 34 34)
 
--- each other character that isn't white space
+-- each other character that is no white space
 abbrev pub IsOther : List ℕ → Type 0
 IsOther s = One (λ c. not (is_blank c || c == 10)) s × (¬ IsIdent s) × (¬ IsNumber s) × (¬ IsPunct s)
 
--- which spellings a kind has, outside the place of a header name
+-- the spellings of a kind, where no header name is allowed
 abbrev pub Spells : Kind → List ℕ → Type 0
 Spells Ident = IsIdent
 Spells Number = IsNumber
@@ -109,7 +109,7 @@ Spells Punct = IsPunct
 Spells Header = λ _. ⊥
 Spells Other = IsOther
 
--- some kind's spelling
+-- a spelling of some kind
 abbrev pub IsSpelling : List ℕ → Type 0
 IsSpelling s = (k : Kind) × Spells k s
 

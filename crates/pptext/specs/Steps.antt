@@ -1,5 +1,5 @@
--- What begins the rest of a file, for phases 1 and 2 in one reading (5.1.1.2). Only the contracts of private functions, and the view of a type's
--- private fields, cite this.
+-- What the remaining bytes of a file begin with, for phases 1 and 2 in one pass (5.1.1.2). Only the contracts of private functions, and the view of
+-- a type's private fields, cite this.
 use Rattle.std.specs.Prelude.{◌≡◌, ◌≢◌, ℕ, ◌+◌, ◌<◌, ◌≤◌, List, [], ◌∷◌, Bool, true, false, not, ◌&&◌, ◌||◌, ◌==◌, if◌then◌else◌, Option, None, Some, length, drop, slice_index}
 use Rattle.pptext.specs.declared.tokens.Place.{Place}
 use Rattle.pptext.specs.Clean.{place, next_col, newline, backslash, trigraph}
@@ -10,35 +10,35 @@ open_end [] = false
 open_end (b ∷ []) = not (b == newline)
 open_end (b ∷ c ∷ bs) = open_end (c ∷ bs)
 
--- whether a byte may begin something else than a character of its own
+-- whether a byte may begin more than a character of its own
 abbrev pub is_special : ℕ → Bool
 is_special b = b == backslash || b == 63 || b == 13
 
--- the first n bytes are no special ones
+-- none of the first n bytes is special
 abbrev pub PlainFront : List ℕ → ℕ → Type 0
 PlainFront bs n = (n ≤ length bs) × ((k : ℕ) → k < n → is_special (slice_index bs k) ≡ false)
 
--- and the byte behind them is special
+-- and the byte after them is special
 abbrev pub StopsAt : List ℕ → ℕ → Type 0
 StopsAt bs n = (n < length bs) × PlainFront bs n × (is_special (slice_index bs n) ≡ true)
 
--- the code of the trigraph that begins here, or 0
+-- the code of the trigraph that begins the bytes, or 0
 abbrev pub trigraph_front : List ℕ → ℕ
 trigraph_front (a ∷ b ∷ c ∷ bs) = if a == 63 && b == 63 then trigraph c else 0
 trigraph_front bs = 0
 
--- whether a CR directly before an LF begins here
+-- whether a CR directly before an LF begins the bytes
 abbrev pub return_front : List ℕ → Bool
 return_front (a ∷ b ∷ bs) = a == 13 && b == newline
 return_front bs = false
 
--- the length of the new-line that begins here, which at the end may be supplied
+-- the length of the new-line that begins the bytes. At the end of the file it may be supplied.
 abbrev pub newline_front : Bool → List ℕ → Option ℕ
 newline_front supplied [] = if supplied then Some 0 else None
 newline_front supplied (b ∷ bs) = if b == newline then Some 1 else (if return_front (b ∷ bs) then Some 2 else None)
 
--- What begins the rest of a file: a character's code, and how many bytes spell it; or how many bytes are removed, as a CR before an LF and a
--- backslash with its new-line are.
+-- What the remaining bytes begin with: a character's code, with the number of bytes that spell it; or a number of bytes that are removed, which are
+-- a CR before an LF, or a backslash with its new-line.
 pub data Step : Type 0 where
   Code : ℕ → ℕ → Step
   Removed : ℕ → Step
@@ -51,20 +51,20 @@ spliced (Some m) code n = Removed (n + m)
 abbrev pub coded : Bool → List ℕ → ℕ → ℕ → Step
 coded supplied bs code n = if code == backslash then spliced (newline_front supplied (drop n bs)) code n else Code code n
 
--- the character that begins here, or what is removed
+-- the character that begins the bytes, or the bytes that are removed
 abbrev pub step_of : Bool → List ℕ → Step
 step_of supplied bs =
     if return_front bs then Removed 1 else (if trigraph_front bs == 0 then coded supplied bs (slice_index bs 0) 1 else coded supplied bs (trigraph_front bs) 3)
 
--- the byte that begins here isn't a character of its own
+-- the first byte isn't a character of its own
 abbrev pub IsChanged : Bool → List ℕ → Type 0
 IsChanged supplied bs = (code : ℕ) → step_of supplied bs ≢ Code code 1
 
--- the place behind a byte at a place
+-- the location after a byte at this location
 abbrev pub behind_byte : ℕ → Place → Place
 behind_byte b p = if b == newline then place p.file (p.line + 1) 1 else next_col p
 
--- the place behind these bytes, of which the first stands at a place
+-- the location after these bytes, the first of which is at this location
 abbrev pub place_behind : Place → List ℕ → Place
 place_behind p [] = p
 place_behind p (b ∷ bs) = place_behind (behind_byte b p) bs

@@ -1,23 +1,23 @@
--- What a step answers, or why it gives no value.
+-- The results of a step: a value, a fault, or a failed allocation.
 use Rattle.std.specs.Prelude.{◌≡◌, Result, Ok, Err}
 use Rattle.pptext.specs.declared.tokens.Fault.{Fault}
 use Rattle.pptext.specs.declared.tokens.Memory.{Memory}
 use Rattle.pptext.specs.declared.stops.Stop.{Stop}
 use Rattle.pptext.specs.declared.stops.Stop.TheVariants.{Fault as Faulted, Memory as OutOfMemory}
 
--- an answer means this value, and a fault is its fault; want of memory says nothing
+-- a value has this meaning, and a fault is the fault. Nothing is said of a failed allocation.
 abbrev pub Answers : {A B : Type 0} → Result A Stop → (A → B) → Result B Fault → Type 0
 Answers (Ok a) meaning value = Ok (meaning a) ≡ value
 Answers (Err (Faulted f)) meaning value = Err f ≡ value
 Answers (Err OutOfMemory) meaning value = Unit {0}
 
--- where memory sufficed, this is so of the value or the fault
+-- unless an allocation failed, this holds for the value or the fault
 abbrev pub IfSettled : {A : Type 0} → Result A Stop → (Result A Fault → Type 0) → Type 0
 IfSettled (Ok a) P = P (Ok a)
 IfSettled (Err (Faulted f)) P = P (Err f)
 IfSettled (Err OutOfMemory) P = Unit {0}
 
--- the same with want of memory above
+-- the result with the fault in the value, so that a failed allocation is the only error
 abbrev pub settled : {A : Type 0} → Result A Stop → Result (Result A Fault) Memory
 settled (Ok a) = Ok (Ok a)
 settled (Err (Faulted f)) = Ok (Err f)

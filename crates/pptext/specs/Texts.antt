@@ -1,4 +1,5 @@
--- A cleaned text that is read from the front. Only the contracts of private functions, and the view of a type's private fields, cite this.
+-- A text after phases 1 and 2, as it is read from its beginning. Only the contracts of private functions, and the view of a type's private fields,
+-- cite this.
 use Rattle.std.specs.Prelude.{◌≡◌, ◌≢◌, ◌≤◌, ◌<◌, ◌+◌, ℕ, List, [], ◌∷◌, ◌++◌, Bool, Option, None, Some, Result, length, take, drop, slice_index, if◌then◌else◌}
 use Rattle.pptext.specs.declared.tokens.Place.{Place}
 use Rattle.pptext.specs.declared.characters.Char.{Char}
@@ -6,44 +7,44 @@ use Rattle.pptext.specs.Clean.{cleaned, place, placed, newline, without_returns,
 use Rattle.pptext.specs.Breaks.{IsTable, Stretch, behind_break}
 use Rattle.pptext.specs.Steps.{open_end, place_behind}
 
--- no line ends from the character `line` on up to this one
+-- no line ends from the character `line` up to this one
 abbrev pub InLine : List ℕ → ℕ → ℕ → Type 0
 InLine codes line at = (k : ℕ) → line ≤ k → k < at → slice_index codes k ≢ 10
 
--- its characters, and how far their places have been asked for
+-- the characters, and the index of the last one whose location was asked for
 pub record Reading : Type 0 where
   pub chars : List Char
   pub passed : ℕ
 
--- the text of a file's bytes, or the place of the backslash that ends them
+-- the text of a file's bytes, or the location of the backslash that ends them
 abbrev pub Cleans : ℕ → List ℕ → Result (List Char) Place → Type 0
 Cleans file bytes text = cleaned file bytes ≡ text
 
--- the last new-line, where it is supplied
+-- the last new-line, if it is supplied
 abbrev pub supply : Bool → Place → List Char
 supply supplied end = if supplied then record { code = newline; at = end } ∷ [] else []
 
--- the characters behind line ends and trigraphs, with the last new-line at a place if it is supplied
+-- the characters after line ends and trigraphs. If the last new-line is supplied, it is at this location.
 abbrev pub logical : Bool → Place → List Char → List Char
 logical supplied end cs = trigraphs (without_returns cs ++ supply supplied end)
 
 abbrev pub start : ℕ → Place
 start file = place file 1 1
 
--- the same of a file's bytes behind its byte order mark, from an offset on
+-- these characters for a file's bytes after its byte order mark, from an offset on
 abbrev pub logical_from : ℕ → List ℕ → ℕ → List Char
 logical_from file raw offset = logical (open_end raw) (place_behind (start file) raw) (drop offset (placed file 1 1 raw))
 
--- the characters behind phases 1 and 2, from an offset on
+-- the characters after phases 1 and 2, from an offset on
 abbrev pub text_from : ℕ → List ℕ → ℕ → List Char
 text_from file raw offset = splices (logical_from file raw offset)
 
--- the place of a backslash at the end of the file, from an offset on
+-- the location of a backslash at the end of the file, from an offset on
 abbrev pub end_from : ℕ → List ℕ → ℕ → Option Place
 end_from file raw offset = splice_at_end (logical_from file raw offset)
 
--- How far the places of a text have been asked for: the character, the byte of the file from which it is sought, how many bytes stand between that
--- byte and the next break, the table's entry behind that break, and the byte's place.
+-- A position in a text: the index of the next character, the index of the byte in the file from which it is sought, the number of bytes between
+-- that byte and the next line note, the table's entry after that line note, and the byte's location.
 pub record Cursor : Type 0 where
   pub passed : ℕ
   pub offset : ℕ
@@ -51,7 +52,8 @@ pub record Cursor : Type 0 where
   pub next : ℕ
   pub at : Place
 
--- A cursor stands where its next character is sought, so many bytes in front of a break, behind which the table goes on at its next entry.
+-- The cursor is where its next character is sought, `plain` bytes before a line note. The table continues after that line note with the cursor's
+-- next entry.
 pub record Stands (file : ℕ) (raw breaks : List ℕ) (c : Cursor) : Type 0 where
   pub within : c.offset ≤ length raw
   pub at : c.at ≡ place_behind (start file) (take c.offset raw)
@@ -61,20 +63,20 @@ pub record Stands (file : ℕ) (raw breaks : List ℕ) (c : Cursor) : Type 0 whe
   pub next : c.next ≤ c.offset + 1
   pub table : IsTable (open_end raw) (behind_break (open_end raw) (drop (c.offset + c.plain) raw)) (drop c.next breaks)
 
--- These are the codes of a file whose end is no splice, and its table of breaks.
+-- These are the codes of a file that doesn't end in a splice, and its table of line notes.
 pub record Whole (raw done breaks : List ℕ) : Type 0 where
   pub codes : (file : ℕ) → done ≡ codes_of (text_from file raw 0)
   pub ends : (file : ℕ) → end_from file raw 0 ≡ None
   pub table : IsTable (open_end raw) raw breaks
 
--- The file's end is no splice, and it has so many breaks.
+-- The file doesn't end in a splice, and it has `count` line notes.
 pub record HasBreaks (raw : List ℕ) (count : ℕ) : Type 0 where
   pub ends : (file : ℕ) → end_from file raw 0 ≡ None
   pub breaks : List ℕ
   pub table : IsTable (open_end raw) raw breaks
   pub length : length breaks ≡ count
 
--- The file ends in a splice, whose backslash stands at this offset.
+-- The file ends in a splice, whose backslash is at this offset.
 pub record EndsAt (raw : List ℕ) (offset : ℕ) : Type 0 where
   pub within : offset < length raw
   pub ends : (file : ℕ) → end_from file raw 0 ≡ Some (place_behind (start file) (take offset raw))

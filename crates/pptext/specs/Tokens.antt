@@ -1,4 +1,4 @@
--- Words on tokens and faults.
+-- Predicates on tokens and faults.
 use Rattle.std.specs.Prelude.{ℕ, Bool, true, false, ◌&&◌, ◌||◌, List, [], ◌∷◌, codes}
 use Rattle.std.specs.Str.{bytes_eq}
 use Rattle.pptext.specs.declared.tokens.Place.{Place}
@@ -27,18 +27,18 @@ is_other_kind _ = false
 abbrev pub is_identifier : Token → Bool
 is_identifier t = is_identifier_kind t.kind
 
--- an identifier that is spelled so
+-- an identifier with this spelling
 abbrev pub is_name : List ℕ → Token → Bool
 is_name text t = is_identifier t && bytes_eq t.text text
 
--- a punctuator that is spelled so
+-- a punctuator with this spelling
 abbrev pub is_punct : List ℕ → Token → Bool
 is_punct text t = is_punctuator_kind t.kind && bytes_eq t.text text
 
--- a quote that begins no literal (6.4, paragraph 3)
+-- an unmatched quote: one that begins no literal (6.4, paragraph 3)
 abbrev pub is_lone_quote : Token → Bool
 is_lone_quote t = is_other_kind t.kind && (bytes_eq t.text (codes "'") || bytes_eq t.text (34 ∷ []))
 
--- the fault of this number at a place, with the text that it says
+-- the fault with this number, location and text
 abbrev pub fault : ℕ → Place → List ℕ → Fault
 fault number at text = record { number = number; at = at; text = text }

@@ -73,7 +73,7 @@ mutual
     End : LogicalLine → Branches
     Branch : LogicalLine → Parts → Branches → Branches
 
--- the lines of the parts, laid end to end
+-- the lines of the parts, end to end
 abbrev mutual
   pub part_lines : Parts → List LogicalLine
   part_lines Done = []
@@ -89,7 +89,7 @@ abbrev pub BeginsRun : Parts → Type 0
 BeginsRun (Run rs ps) = Unit {0}
 BeginsRun ps = ⊥
 
--- Each line is where its directive's name puts it, a text run is as long as it can be, and nothing but `#endif` follows `#else`.
+-- Each line is where its directive's name puts it, a text run is as long as possible, and only `#endif` follows `#else`.
 abbrev mutual
   pub AreParts : Parts → Type 0
   AreParts Done = Unit {0}
@@ -106,7 +106,7 @@ pub record Tree (lines : List LogicalLine) (parts : Parts) : Type 0 where
   pub whole : part_lines parts ≡ lines
   pub each : AreParts parts
 
--- an open if-section: the line that opened it, and whether its `#else` has come
+-- an open if-section: the line that opened it, and whether its `#else` has occurred
 abbrev pub Open : Type 0
 Open = LogicalLine × Bool
 
@@ -121,7 +121,7 @@ sign_place (t ∷ ts) = t.at
 abbrev pub fault_at : ℕ → LogicalLine → Fault
 fault_at number r = fault number (sign_place r.tokens) (name_of r.tokens)
 
--- what a line does to the open sections, or its fault: 3 without a section, 4 after `#else`
+-- what a line does to the open if-sections, or its fault: 3 outside an if-section, 4 after `#else`
 abbrev pub opened : {L : Type 0} → Role → L → List (L × Bool) → Option ℕ × List (L × Bool)
 opened Opens r os = (None, (r, false) ∷ os)
 opened (Elses final) r [] = (Some 3, [])
@@ -131,22 +131,22 @@ opened Closes r [] = (Some 3, [])
 opened Closes r (o ∷ os) = (None, os)
 opened s r os = (None, os)
 
--- the fault of a file that ends with these sections open
+-- the fault of a file that ends with these if-sections open
 abbrev pub fault_at_end : List Open → Option Fault
 fault_at_end [] = None
 fault_at_end (o ∷ os) = Some (fault_at 5 o.0)
 
--- the fault of this number at a line, or else the fault of the later lines
+-- the fault of this number at a line, or otherwise the fault of the later lines
 abbrev pub fault_or : LogicalLine → Option ℕ → Option Fault → Option Fault
 fault_or r (Some n) later = Some (fault_at n r)
 fault_or r None later = later
 
--- The first fault of the lines from the top, behind these open sections; 5 for a section that is open at the end.
+-- The first fault of the lines from the top, after these open if-sections. It is 5 if an if-section is open at the end.
 abbrev pub group_fault : List Open → List LogicalLine → Option Fault
 group_fault os [] = fault_at_end os
 group_fault os (r ∷ rs) = fault_or r (opened (role r) r os).0 (group_fault (opened (role r) r os).1 rs)
 
--- The place in the list, counted from k, of the next branch line of the section around, behind `depth` inner openings.
+-- The index, counted from k, of the next branch line of the enclosing if-section, after `depth` inner openings.
 abbrev pub branch_behind : ℕ → ℕ → List Role → Option ℕ
 branch_behind depth k [] = None
 branch_behind depth k (Opens ∷ rs) = branch_behind (suc depth) (k + 1) rs

@@ -1,10 +1,12 @@
-// Translation phases 1 and 2 (5.1.1.2): what the bytes of a file stand for.
+//! Translation phases 1 and 2 (5.1.1.2): the characters that the bytes of a file spell.
 use crate::tokens::Place;
 
-/// A character, and the place of its first byte.
+/// A character, and the location of its first byte.
 #[derive(Clone, Copy, PartialEq, Eq, Debug)]
 pub struct Char {
+    /// Its code.
     pub code: u8,
+    /// The location of its first byte.
     pub at: Place,
 }
 

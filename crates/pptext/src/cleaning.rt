@@ -1,4 +1,4 @@
-// A file's bytes as the text behind phases 1 and 2.
+//! Translation phases 1 and 2 (5.1.1.2): makes the text of a file's bytes.
 ghost use Rattle.std.specs.Prelude.{◌≡◌, ◌<◌, ◌≤◌, length, IfOk, MatchOption, MatchResult};
 ghost use Rattle.pptext.specs.Clean.{longest};
 ghost use Rattle.pptext.specs.Breaks.{Stretch};
@@ -11,7 +11,7 @@ use crate::texts::{Cleaned, Text};
 use crate::tokens::Place;
 use std::alloc::{AllocError, Global};
 
-/// Where the first break stands, if there is one.
+/// Returns the index of the first line note: the first byte that phases 1 and 2 remove or replace.
 fn first_break(bytes: &[u8], supplied: bool) -> Option<usize>
     ensures { MatchOption result (Stretch supplied bytes.now (length bytes.now)) (λ at. (at < length bytes.now) × Stretch supplied bytes.now at) }
 {
@@ -31,7 +31,8 @@ fn first_break(bytes: &[u8], supplied: bool) -> Option<usize>
     None
 }
 
-/// How many breaks a file has, or where its last backslash stands, if it ends in a backslash and a new-line.
+/// Returns the number of line notes in a file, or the index of its last backslash if the file ends in a backslash and a
+/// new-line.
 fn count_breaks(raw: &[u8], supplied: bool) -> Result<usize, usize>
     requires { supplied ≡ open_end raw.now }
     ensures { MatchResult result (HasBreaks raw.now) (EndsAt raw.now) }
@@ -50,7 +51,8 @@ fn count_breaks(raw: &[u8], supplied: bool) -> Result<usize, usize>
     Ok(count)
 }
 
-/// What phases 1 and 2 make of a file with so many breaks. The room for all of it is asked for at once.
+/// Copies a file with `count` line notes as phases 1 and 2 change it. Allocates the capacity for the whole text at
+/// once.
 fn copy_cleaned(
     alloc: Global,
     raw: &[u8],
@@ -84,8 +86,8 @@ fn copy_cleaned(
     Ok(Cleaned { codes, breaks })
 }
 
-/// The text of a file's bytes behind phases 1 and 2 (5.1.1.2), or the place of the backslash, where the
-/// file ends in a backslash and a new-line.
+/// Returns the text of a file after phases 1 and 2 (5.1.1.2), or the location of the last backslash if the file ends in
+/// a backslash and a new-line.
 pub(crate) fn clean_text<'a>(
     alloc: Global,
     bytes: &'a [u8],

@@ -1,4 +1,4 @@
-// Directives by name.
+//! Directives by name.
 ghost use Rattle.std.specs.Prelude.{◌≡◌, ◌++◌, codes, ◌||◌};
 ghost use Rattle.std.specs.Str.{bytes_eq};
 ghost use Rattle.pptext.specs.Lines.{later_names, gnu_names, named_in, directive_names, directive_named, directive_of};
@@ -8,14 +8,15 @@ use crate::sources::{Directive, Profile};
 use crate::tokens::{Token, is_spelled};
 
 impl Directive {
-    /// Whether an if-section opens with its line: `#if`, `#ifdef`, `#ifndef` (6.10.1).
+    /// Whether the directive opens an if-section: `#if`, `#ifdef`, `#ifndef` (6.10.1).
     pub fn opens_section(self) -> bool
         ensures { result ≡ opens_section self }
     {
         matches!(self, Directive::If | Directive::Ifdef | Directive::Ifndef)
     }
 
-    /// Whether it is a branch that is entered by a condition: `#elif` (6.10.1), `#elifdef`, `#elifndef` (ISO/IEC 9899:2024, 6.10.2).
+    /// Whether the directive is a branch with a condition: `#elif` (6.10.1), `#elifdef`, `#elifndef` (ISO/IEC
+    /// 9899:2024, 6.10.2).
     pub fn has_condition(self) -> bool
         ensures { result ≡ has_condition self }
     {
@@ -25,7 +26,7 @@ impl Directive {
         )
     }
 
-    /// Whether a group ends before its line: a branch, `#else` among them, or `#endif` (6.10.1).
+    /// Whether a group ends before the directive: `#elif`, `#elifdef`, `#elifndef`, `#else`, `#endif` (6.10.1).
     pub fn ends_group(self) -> bool
         ensures { result ≡ ends_group self }
     {
@@ -36,19 +37,19 @@ impl Directive {
 /// What a line does to the groups of its file (6.10).
 #[derive(Clone, Copy)]
 pub(crate) enum Role {
-    /// a text line
+    /// A text line.
     Text,
-    /// a directive that neither opens, branches nor closes an if-section
+    /// A directive that neither opens, branches nor closes an if-section.
     Control,
-    /// `#if`, `#ifdef`, `#ifndef`
+    /// `#if`, `#ifdef`, `#ifndef`.
     Opens,
-    /// `#else`, where true, or a branch with a condition
+    /// A branch: true for `#else`, false for a branch with a condition.
     Elses(bool),
-    /// `#endif`
+    /// `#endif`.
     Closes,
 }
 
-/// The role of a line by its directive.
+/// Returns the role of a line with this directive.
 pub(crate) fn role_of(directive: Option<Directive>) -> Role
     ensures { (elim result [ Role.Text ↦ TextLine | Role.Control ↦ ControlLine | Role.Opens ↦ Opens | Role.Elses last ↦ Elses last | Role.Closes ↦ Closes ]) ≡ role_by directive }
 {
@@ -62,7 +63,7 @@ pub(crate) fn role_of(directive: Option<Directive>) -> Role
     }
 }
 
-/// The directive of a name in C11.
+/// Returns the directive that a name is in C11.
 fn plain_directive(name: &[u8]) -> Directive
     ensures { result ≡ named_in directive_names name.now }
 {
@@ -105,7 +106,7 @@ fn plain_directive(name: &[u8]) -> Directive
     Directive::Unknown
 }
 
-/// The directive of a name that C23 added.
+/// Returns the directive that a name is, of those that C23 added.
 fn later_directive(name: &[u8]) -> Directive
     ensures { result ≡ named_in later_names name.now }
 {
@@ -118,7 +119,7 @@ fn later_directive(name: &[u8]) -> Directive
     Directive::Unknown
 }
 
-/// The directive of a name that GNU C has beside them.
+/// Returns the directive that a name is, of those that GNU C adds to C23.
 fn gnu_directive(name: &[u8]) -> Directive
     ensures { result ≡ named_in gnu_names name.now }
 {
@@ -137,7 +138,7 @@ fn gnu_directive(name: &[u8]) -> Directive
     Directive::Unknown
 }
 
-/// The directive of a name that C11 doesn't have, in GNU C.
+/// Returns the directive that a name is, of those that C23 and GNU C add to C11.
 fn added_directive(name: &[u8]) -> Directive
     ensures { result ≡ named_in (later_names ++ gnu_names) name.now }
 {
@@ -147,7 +148,7 @@ fn added_directive(name: &[u8]) -> Directive
     }
 }
 
-/// The directive of a name.
+/// Returns the directive that a name is in this profile.
 #[tactic(auto, using(crate::proofs::Named::known_named, crate::proofs::Named::later_named, crate::proofs::Named::gnu_named))]
 fn directive_named(profile: Profile, name: &[u8]) -> Directive
     ensures { result ≡ directive_named profile name.now }
@@ -163,14 +164,14 @@ fn directive_named(profile: Profile, name: &[u8]) -> Directive
     }
 }
 
-/// Whether `#` or its digraph.
+/// Whether the token is `#` or its digraph `%:`.
 pub(crate) fn is_hash(text: &[u8]) -> bool
     ensures { result ≡ (bytes_eq text.now (codes "#") || bytes_eq text.now (codes "%:")) }
 {
     is_spelled(text, b"#") || is_spelled(text, b"%:")
 }
 
-/// The directive of a line's tokens.
+/// Returns the directive of a line with these tokens, or None for a text line.
 pub(crate) fn directive_of(profile: Profile, line: &[Token]) -> Option<Directive>
     ensures { result ≡ directive_of profile line.now }
 {

@@ -1,4 +1,4 @@
-// The groups of a file (6.10), by directive names alone.
+//! The groups of a file (6.10), by directive names alone.
 ghost use Rattle.std.specs.Prelude.{◌≡◌, ◌<◌, ◌^◌, [], length, None};
 ghost use Rattle.pptext.specs.Answers.{GroupsInto};
 ghost use Rattle.pptext.specs.Sources.{lines_from};
@@ -16,7 +16,7 @@ use faults::first_fault;
 use guards::guard_token;
 use std::alloc::Global;
 
-/// The source of these tokens and lines, with its guard.
+/// Makes the source of these tokens and lines, and finds its include guard.
 fn source_of(tokens: Vec<Token>, lines: Vec<Line>) -> Source
     requires are_lines { AreLines tokens.items lines.items }
     requires no_fault { group_fault [] (lines_from tokens.items lines.items) ≡ None }
@@ -30,7 +30,8 @@ fn source_of(tokens: Vec<Token>, lines: Vec<Line>) -> Source
     }
 }
 
-/// The source of these tokens and lines, which have no next branch lines yet, or their first fault.
+/// Makes the source of these tokens and lines, which have no next branch lines yet, or returns the first fault of the
+/// groups.
 pub(crate) fn group_lines(
     alloc: Global,
     tokens: Vec<Token>,

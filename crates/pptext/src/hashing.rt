@@ -1,4 +1,4 @@
-// How names are hashed.
+//! The hash function for tables of names.
 ghost use Rattle.std.specs.Prelude.{◌≡◌, ◌+◌, ◌≤◌, length};
 ghost use Rattle.std.specs.Hash.FoldHasher.{folded_multiply, read_u32, read_u64, read_short};
 ghost use Rattle.pptext.specs.Hashed as hashed;
@@ -6,19 +6,19 @@ ghost use Rattle.pptext.specs.Hashed.{behind, drawn};
 
 use std::hash::{BuildHasher, Hasher, RandomState};
 
-/// How the names of a table are hashed: by a key that nobody knows beforehand, or by one that everybody knows. Nothing that a
-/// table answers depends on it, but for the time that it takes: whoever knows the key can choose names that collide.
+/// A hash function for the names of a table, with a secret or a public key. The key affects how long the table takes,
+/// and nothing that it returns. Whoever knows the key can choose names that collide.
 ///
-/// A name is multiplied by the key eight bytes at a time, and the halves of each product are joined. What it resists is names
-/// that were chosen before the key was drawn. It is no cryptographic hash, and nothing is proved of how seldom names collide.
-/// Beside SipHash it saves 12 % of the instructions of `deps` on Redis.
+/// The function multiplies the name by the key, eight bytes at a time, and folds each product by exclusive or. It
+/// resists names that were chosen before the key was drawn. It is no cryptographic hash, and nothing is proved about
+/// how rarely names collide. Compared with SipHash it saves 12 % of the instructions of `deps` on Redis.
 #[derive(Clone, Copy)]
 pub struct Hashing {
     first: NameHasher,
 }
 
 impl Hashing {
-    /// By a key that everybody knows.
+    /// Creates a hash function with a public key.
     pub fn fixed() -> Hashing
         ensures { result.first ≡ record { state = 0x243f_6a88_85a3_08d3; key = 0x9e37_79b9_7f4a_7c15 } }
     {
@@ -30,7 +30,7 @@ impl Hashing {
         }
     }
 
-    /// By this key.
+    /// Creates a hash function with this key.
     pub fn keyed(key: RandomState) -> Hashing
         ensures { result.first ≡ record { state = drawn key 0; key = drawn key 1 } }
     {
@@ -53,14 +53,14 @@ impl BuildHasher for Hashing {
     }
 }
 
-/// The hash of what was written so far, and the key.
+/// The hash of the bytes written so far, and the key.
 #[derive(Clone, Copy)]
 pub struct NameHasher {
     state: u64,
     key: u64,
 }
 
-// The product of two words, its halves joined by exclusive or.
+/// Returns the product of two words, its halves joined by exclusive or.
 fn product(left: u64, right: u64) -> u64
     ensures { result ≡ folded_multiply left right }
 {
@@ -68,7 +68,7 @@ fn product(left: u64, right: u64) -> u64
     (product & 0xFFFF_FFFF_FFFF_FFFF) as u64 ^ (product >> 64) as u64
 }
 
-// The four bytes from here on, the lowest first.
+/// Reads the four bytes from an index on, the lowest first.
 fn half_word(bytes: &[u8], at: usize) -> u64
     requires { at + 4 ≤ length bytes.now }
     ensures { result ≡ read_u32 bytes.now at }
@@ -76,7 +76,7 @@ fn half_word(bytes: &[u8], at: usize) -> u64
     u32::from_le_bytes([bytes[at], bytes[at + 1], bytes[at + 2], bytes[at + 3]]) as u64
 }
 
-// The eight bytes from here on, the lowest first.
+/// Reads the eight bytes from an index on, the lowest first.
 fn word(bytes: &[u8], at: usize) -> u64
     requires { at + 8 ≤ length bytes.now }
     ensures { result ≡ read_u64 bytes.now at }
@@ -84,7 +84,7 @@ fn word(bytes: &[u8], at: usize) -> u64
     half_word(bytes, at) | half_word(bytes, at + 4) << 32
 }
 
-// Fewer than eight bytes as one word, by reads that may overlap.
+/// Reads fewer than eight bytes as one word, by reads that may overlap.
 fn short_word(bytes: &[u8]) -> u64
     ensures { result ≡ read_short bytes.now }
 {
@@ -98,7 +98,7 @@ fn short_word(bytes: &[u8]) -> u64
     0
 }
 
-// The hash behind a text.
+/// Returns the hash after these bytes.
 fn behind(state: u64, factor: u64, bytes: &[u8]) -> u64
     ensures { result ≡ behind state factor bytes.now }
 {

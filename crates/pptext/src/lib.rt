@@ -1,4 +1,4 @@
-// Translation phases 1 to 3 of C11 (5.1.1.2): a file's bytes as preprocessing tokens, lines and groups.
+//! Translation phases 1 to 3 of C11 (5.1.1.2): reads a file's bytes as preprocessing tokens, lines and groups.
 #![tactic(auto)]
 
 mod characters;

@@ -1,4 +1,4 @@
-// Punctuators.
+//! Punctuators (6.4.6).
 ghost use Rattle.std.specs.Prelude.{◌≡◌, ◌↔◌, ◌≤◌, length, take, IsTrue, [], ◌∷◌};
 ghost use Rattle.pptext.specs.Spellings.{is_punct1, is_punct2, is_punct3, is_punctuator};
 ghost use Rattle.pptext.specs.Languages.{LongestOrNone};
@@ -100,7 +100,7 @@ fn begins_with_punct(text: &[u8], n: usize) -> bool
     }
 }
 
-/// The length of the longest punctuator that begins the text, or 0.
+/// Returns the length of the longest punctuator that begins the text, or 0.
 pub(crate) fn punct_len(text: &[u8]) -> usize
     ensures { LongestOrNone (λ s. IsTrue (is_punctuator s)) text.now result }
 {

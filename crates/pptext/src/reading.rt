@@ -1,4 +1,4 @@
-// Reading a file.
+//! The entry points: read a file, and read a text as one token.
 ghost use Rattle.std.specs.Prelude.{◌≡◌, ◌↔◌, ◌≤◌, ℕ, List, length, IsTrue, IfOk, IfSome, IfNone};
 ghost use Rattle.pptext.specs.Clean.{longest};
 ghost use Rattle.pptext.specs.declared.tokens.Kind.{Kind};
@@ -15,14 +15,14 @@ use crate::tokens::{Fault, Kind, Memory, Place, Token};
 use std::alloc::Global;
 
 impl Source {
-    /// The tokens of all lines, from the first on.
+    /// Returns the tokens of all lines, in order.
     pub fn tokens(&self) -> &[Token]
         ensures { result.now ≡ tokens_of self.now }
     {
         self.tokens.as_slice()
     }
 
-    /// The lines, from the first on, as spans of the tokens.
+    /// Returns the lines, in order, as spans of the tokens.
     pub fn lines(&self) -> &[Line]
         ensures { result.now ≡ spans 0 0 self.now }
     {
@@ -30,26 +30,29 @@ impl Source {
     }
 }
 
-/// A fault of the file with an empty text. Takes no memory.
+/// Makes a fault of the file with an empty text. Allocates nothing.
 fn fault_at(number: u8, at: Place) -> SourceFault
     ensures { result ≡ Bad (file_fault number at) }
 {
     SourceFault::Bad(Fault::bare(number, at))
 }
 
-/// Reads a file of at most `LONGEST` bytes: its lines of preprocessing tokens behind translation phases 1 to 3 (5.1.1.2, 6.4),
-/// and its groups (6.10), both by the directives of this profile. Every place has this file number, and the line and the byte, both
-/// from 1, at which the character was spelled in the file; a byte order mark has no place.
+/// Reads a file of at most `LONGEST` bytes: its lines of preprocessing tokens after translation phases 1 to 3 (5.1.1.2,
+/// 6.4), and its groups (6.10), with the directives of this profile. Locations have this file number, and the line and
+/// byte, both from 1, at which the file spells the character. A byte order mark doesn't count.
 ///
 /// # Errors
 ///
-/// `Bad` with the file's first fault, so that nothing of the file is processed:
-/// 2, at the `\` of a last line that ends in one; else
-/// 1, at the opening of a comment that isn't closed; else the first of
-/// 3, a branch, as `#elif` and `#else` are, or an `#endif` without an open section, and
-/// 4, a branch behind the `#else` of its section; else
-/// 5, at the innermost section that isn't closed. The last three are told at the line's `#`, with the directive's name.
-/// `Memory` where memory ran out.
+/// `Bad` with the first fault of the file:
+/// - 2, at the `\` of a last line that ends in one; otherwise
+/// - 1, at the opening of a comment that isn't closed; otherwise the first of
+/// - 3, a branch (such as `#elif` or `#else`) or an `#endif` outside an if-section, and
+/// - 4, a branch after the `#else` of its if-section; otherwise
+/// - 5, at the innermost if-section that isn't closed.
+///
+/// Faults 3, 4 and 5 are located at the line's `#`, and have the directive's name.
+///
+/// `Memory` if an allocation fails.
 pub fn read_source(
     alloc: Global,
     bytes: &[u8],
@@ -63,25 +66,26 @@ pub fn read_source(
         Ok(text) => text,
         Err(place) => return Err(fault_at(2, place)),
     };
-    // Room for about as many as ordinary C has, so that they seldom move while they grow.
+    // Capacity for about as many as ordinary C has, so that the vectors are seldom moved.
     let mut tokens = Vec::with_capacity(alloc, bytes.len() / 5)?;
     let mut lines = Vec::with_capacity(alloc, bytes.len() / 20)?;
     if let Err(place) = cut_lines(&text, &mut tokens, &mut lines, profile)? {
         return Err(fault_at(1, place));
     }
     drop(text);
-    // A list that grew holds up to as much room again, and these are kept as long as the file.
+    // A vector that grew has up to twice the capacity that it needs, and these live as long as the file.
     tokens.shrink_to_fit();
     lines.shrink_to_fit();
     group_lines(alloc, tokens, lines)
 }
 
-/// Reads a file of at most `LONGEST` bytes as `read_source` does (5.1.1.2, 6.4, 6.10), for a caller that keeps what the file says
-/// whether it has a fault or not: its lines, or its first fault, with places of this file number, lines and bytes from 1.
+/// Reads a file of at most `LONGEST` bytes as `read_source` does (5.1.1.2, 6.4, 6.10), for a caller that keeps the
+/// result whether it is a fault or not: the lines, or the first fault. Locations have this file number, and lines and
+/// bytes from 1.
 ///
 /// # Errors
 ///
-/// Memory ran out.
+/// An allocation fails.
 pub fn read_lines(
     alloc: Global,
     bytes: &[u8],
@@ -99,8 +103,8 @@ pub fn read_lines(
 }
 
 impl Source {
-    /// The name X where the whole file is one if-section of `#ifndef X`, `#if !defined X` or `#if !defined ( X )` without other
-    /// branches, and no line outside it has a token.
+    /// Returns X if the whole file is one if-section of `#ifndef X`, `#if !defined X` or `#if !defined ( X )` without
+    /// other branches, and no line outside it has a token.
     pub fn guard(&self) -> Option<&[u8]>
         ensures none { IfNone result ((x : List ℕ) → ¬ GuardedBy self.now x) }
         ensures some { IfSome result (λ x. GuardedBy self.now x.now) }
@@ -119,8 +123,8 @@ fn is_lone_quote(text: &[u8]) -> bool
     text.len() == 1 && (text[0] == b'\'' || text[0] == b'"')
 }
 
-/// The kind of the one preprocessing token (6.4) that the whole text is outside an include line. None where it is no token, more
-/// than one, white space, a comment, or a quote alone (6.4p3). Takes no memory.
+/// Returns the kind of the one preprocessing token (6.4) that the whole text is outside an include line. Returns None
+/// if the text is no token, more than one, white space, a comment, or an unmatched quote (6.4p3). Allocates nothing.
 #[tactic(auto, using(crate::proofs::OneToken::finds_token))]
 pub fn relex(text: &[u8]) -> Option<Kind>
     ensures none { IfNone result ((k : Kind) → IsOneToken text.now k → IsLoneQuote text.now) }

@@ -1,4 +1,4 @@
-// Bytes, universal character names and identifiers: what begins a text, by its length.
+//! The lengths of bytes, universal character names and identifiers that begin a text.
 ghost use Rattle.std.specs.Prelude.{◌≡◌, ◌↔◌, ◌⊎◌, [], ◌∷◌, ◌||◌, ◌<◌, ◌≤◌, length, take, slice_index, IsTrue};
 ghost use Rattle.std.specs.List.{AllPass};
 ghost use Rattle.pptext.specs.Languages.{OnlyPart, LongestOrNone, Longest, Repeated, One, Either};
@@ -11,21 +11,21 @@ pub(crate) mod headers;
 pub(crate) mod literals;
 pub(crate) mod numbers;
 
-/// Whether a digit.
+/// Whether the byte is a digit.
 fn is_digit(c: u8) -> bool
     ensures { result ≡ is_digit c }
 {
     b'0' <= c && c <= b'9'
 }
 
-/// Whether a hexadecimal digit.
+/// Whether the byte is a hexadecimal digit.
 fn is_hex(c: u8) -> bool
     ensures { result ≡ is_hex c }
 {
     is_digit(c) || b'A' <= c && c <= b'F' || b'a' <= c && c <= b'f'
 }
 
-/// Whether a letter, `_`, `$` or a byte from 128 up.
+/// Whether the byte is a letter, `_`, `$` or 128 or higher.
 pub(crate) fn is_nondigit(c: u8) -> bool
     ensures { result ≡ is_nondigit c }
 {
@@ -39,7 +39,7 @@ fn begins_with_hexes(text: &[u8], n: usize) -> bool
     n <= text.len() && text[..n].iter().all(|c| is_hex(*c))
 }
 
-/// How many digits follow what begins a universal character name, or 0 where none begins.
+/// Returns the number of digits that a universal character name has after this beginning, or 0 if none begins here.
 fn universal_digits(text: &[u8]) -> usize
     ensures short { result ≡ 4 → BeginsWith text.now (92 ∷ 117 ∷ []) }
     ensures long { result ≡ 8 → BeginsWith text.now (92 ∷ 85 ∷ []) }
@@ -59,7 +59,7 @@ fn universal_digits(text: &[u8]) -> usize
     }
 }
 
-/// The length of a universal character name that begins the text, or 0.
+/// Returns the length of the universal character name that begins the text, or 0.
 #[inline(never)]
 fn universal_len(text: &[u8]) -> usize
     ensures { OnlyPart IsUniversal text.now result }
@@ -74,7 +74,7 @@ fn universal_len(text: &[u8]) -> usize
     digits + 2
 }
 
-/// The length of a nondigit that begins the text, or 0.
+/// Returns the length of the nondigit that begins the text, or 0.
 fn nondigit_len(text: &[u8]) -> usize
     ensures { OnlyPart IsNondigit text.now result }
 {
@@ -87,7 +87,7 @@ fn nondigit_len(text: &[u8]) -> usize
     universal_len(text)
 }
 
-// For each byte whether it is a nondigit and no letter of a literal's prefix.
+/// For each byte, whether it is a nondigit but no letter of a literal's prefix.
 static WORD_STARTS: [u8; 256] = *b"\
     00000000000000000000000000000000\
     00001000000000000000000000000000\
@@ -98,14 +98,14 @@ static WORD_STARTS: [u8; 256] = *b"\
     11111111111111111111111111111111\
     11111111111111111111111111111111";
 
-/// Whether an identifier begins with this byte, and no literal.
+/// Whether the byte begins an identifier and can't begin a literal.
 pub(crate) fn starts_word(c: u8) -> bool
     ensures { result ≡ starts_word c }
 {
     WORD_STARTS[c as usize] == b'1'
 }
 
-// For each byte whether it is a nondigit or a digit. Saves 5 % of the instructions of `deps` on SQLite.
+/// For each byte, whether it is a nondigit or a digit. The table saves 5 % of the instructions of `deps` on SQLite.
 static IDENT_BYTES: [u8; 256] = *b"\
     00000000000000000000000000000000\
     00001000000000001111111111000000\
@@ -116,14 +116,14 @@ static IDENT_BYTES: [u8; 256] = *b"\
     11111111111111111111111111111111\
     11111111111111111111111111111111";
 
-/// Whether a nondigit or a digit.
+/// Whether the byte is a nondigit or a digit.
 fn is_ident_byte(c: u8) -> bool
     ensures { result ≡ is_ident_byte c }
 {
     IDENT_BYTES[c as usize] == b'1'
 }
 
-/// The length of the nondigits and digits that begin the text.
+/// Returns the length of the nondigits and digits that begin the text.
 #[inline(always)]
 fn ident_rest_len(text: &[u8]) -> usize
     ensures fits { result ≤ length text.now }
@@ -147,7 +147,7 @@ fn ident_rest_len(text: &[u8]) -> usize
     at
 }
 
-/// The length of the longest identifier that begins the text, whose first byte is a nondigit (6.4.2).
+/// Returns the length of the longest identifier that begins the text, whose first byte is a nondigit (6.4.2).
 #[inline(always)]
 pub(crate) fn word_len(text: &[u8]) -> usize
     requires some { 0 < length text.now }
@@ -158,7 +158,7 @@ pub(crate) fn word_len(text: &[u8]) -> usize
     1 + ident_rest_len(&text[1..])
 }
 
-/// The length of the longest identifier that begins the text (6.4.2), or 0.
+/// Returns the length of the longest identifier that begins the text (6.4.2), or 0.
 pub(crate) fn ident_len(text: &[u8]) -> usize
     ensures { LongestOrNone IsIdent text.now result }
 {

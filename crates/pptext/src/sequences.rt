@@ -1,9 +1,9 @@
-// Lists that contracts see as such.
+//! Vectors that contracts see as lists.
 ghost use Rattle.std.specs.Prelude.{◌≡◌};
 
 use std::marker::Model;
 
-/// Elements in a row, which contracts see as their list.
+/// A vector of elements, which contracts see as the list of the elements.
 #[derive(Clone, Drop, Debug)]
 pub struct Sequence<T> {
     items: Vec<T>,
@@ -18,14 +18,14 @@ impl<T> Model for Sequence<T> {
 }
 
 impl<T> Sequence<T> {
-    /// These elements.
+    /// Makes the sequence of these elements.
     pub fn new(items: Vec<T>) -> Sequence<T>
         ensures { result ≡ items.items }
     {
         Self { items }
     }
 
-    /// The elements, given back.
+    /// Returns the vector of the elements.
     pub fn into_vec(self) -> Vec<T>
         ensures { result.items ≡ self }
     {
@@ -33,7 +33,7 @@ impl<T> Sequence<T> {
         items
     }
 
-    /// The elements.
+    /// Returns the elements.
     pub fn as_slice(&self) -> &[T]
         ensures { result.now ≡ self.now }
     {

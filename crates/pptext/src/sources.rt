@@ -1,4 +1,4 @@
-// A file as its tokens, lines and groups.
+//! A file as its tokens, lines and groups.
 ghost use Rattle.std.specs.Prelude.{◌≡◌};
 ghost use Rattle.pptext.specs.Profiles.{has_later, is_gnu};
 
@@ -6,30 +6,30 @@ use crate::tokens::{Fault, Token};
 use std::alloc::{AllocError, AllocFailed};
 use std::marker::Model;
 
-/// The most bytes that a file may have.
+/// The maximum length of a file, in bytes.
 pub const LONGEST: usize = 16_777_216;
 
-/// Which rules there are.
+/// The rules in use.
 #[derive(Clone, Copy, PartialEq, Eq, Debug)]
 pub enum Profile {
-    /// Those of ISO/IEC 9899:2011.
+    /// The rules of ISO/IEC 9899:2011.
     C11,
-    /// Those, and `#elifdef`, `#elifndef` of ISO/IEC 9899:2024 (6.10.2), and `#pragma once`.
+    /// C11 with `#elifdef` and `#elifndef` of ISO/IEC 9899:2024 (6.10.2), and `#pragma once`.
     Later,
-    /// Those, and the rules of GNU C that the headers of Linux need: named variadic parameters, variable arguments that may be absent,
-    /// `#include_next`, `__has_include`, and `#warning`, `#ident` and `#sccs`, which do nothing.
+    /// `Later` with the rules of GNU C that the headers of Linux need: named variadic parameters, variable arguments
+    /// that may be absent, `#include_next`, `__has_include`, and `#warning`, `#ident` and `#sccs`, which do nothing.
     Gnu,
 }
 
 impl Profile {
-    /// Whether what ISO/IEC 9899:2024 added is there, and `#pragma once`.
+    /// Whether the profile has the directives that ISO/IEC 9899:2024 added, and `#pragma once`.
     pub fn has_later(self) -> bool
         ensures { result ≡ has_later self }
     {
         matches!(self, Profile::Later | Profile::Gnu)
     }
 
-    /// Whether the rules of GNU C are there.
+    /// Whether the profile has the rules of GNU C.
     pub fn is_gnu(self) -> bool
         ensures { result ≡ is_gnu self }
     {
@@ -37,71 +37,76 @@ impl Profile {
     }
 }
 
-/// What a directive's name says (6.10).
+/// A directive, by its name (6.10).
 ///
 /// A line is a directive if its first token is `#` or `%:`. The name is the token after it.
 #[derive(Clone, Copy, PartialEq, Eq, Debug)]
 pub enum Directive {
-    /// `#if` (6.10.1)
+    /// `#if` (6.10.1).
     If,
-    /// `#ifdef` (6.10.1)
+    /// `#ifdef` (6.10.1).
     Ifdef,
-    /// `#ifndef` (6.10.1)
+    /// `#ifndef` (6.10.1).
     Ifndef,
-    /// `#elif` (6.10.1)
+    /// `#elif` (6.10.1).
     Elif,
-    /// `#elifdef` (ISO/IEC 9899:2024, 6.10.2)
+    /// `#elifdef` (ISO/IEC 9899:2024, 6.10.2).
     Elifdef,
-    /// `#elifndef` (ISO/IEC 9899:2024, 6.10.2)
+    /// `#elifndef` (ISO/IEC 9899:2024, 6.10.2).
     Elifndef,
-    /// `#else` (6.10.1)
+    /// `#else` (6.10.1).
     Else,
-    /// `#endif` (6.10.1)
+    /// `#endif` (6.10.1).
     Endif,
-    /// `#include` (6.10.2)
+    /// `#include` (6.10.2).
     Include,
-    /// `#include_next`: the search goes on behind the folder in which this file was found (GNU C, "Wrapper Headers")
+    /// `#include_next`: the search continues after the directory in which this file was found (GNU C, "Wrapper
+    /// Headers").
     IncludeNext,
-    /// `#define` (6.10.3)
+    /// `#define` (6.10.3).
     Define,
-    /// `#undef` (6.10.3.5)
+    /// `#undef` (6.10.3.5).
     Undef,
-    /// `#line` (6.10.4)
+    /// `#line` (6.10.4).
     Line,
-    /// `#error` (6.10.5)
+    /// `#error` (6.10.5).
     Error,
-    /// `#pragma` (6.10.6)
+    /// `#pragma` (6.10.6).
     Pragma,
-    /// `#` alone, the null directive (6.10.7)
+    /// `#` alone, the null directive (6.10.7).
     Null,
-    /// `#warning`, `#ident`, `#sccs`: nothing is done, whatever stands behind them (GNU C, "Diagnostics", "Other Directives")
+    /// `#warning`, `#ident`, `#sccs`: do nothing, whatever follows (GNU C, "Diagnostics", "Other Directives").
     Ignored,
-    /// any other token after the `#`, a non-directive (6.10)
+    /// Any other token after the `#`: a non-directive (6.10).
     Unknown,
 }
 
-/// A line of a file behind translation phase 3: a new-line outside a comment ends it (5.1.1.2), so that a comment may join several logical
-/// source lines.
+/// A line of a file after translation phase 3. A new-line outside a comment ends it (5.1.1.2), so a comment may join
+/// several logical source lines.
 #[derive(Clone, Copy, PartialEq, Eq, Debug)]
 pub struct Line {
-    /// The index of its first token among the file's tokens, from 0; where it has none, that of the next one.
+    /// The index of its first token among the file's tokens, from 0, or the index of the next token if the line has
+    /// none.
     pub start: usize,
-    /// The index behind its last token.
+    /// The index after its last token.
     pub end: usize,
-    /// The physical line that its new-line stands in, from 1.
+    /// The physical line of its new-line, from 1.
     pub number: u32,
-    /// The directive, where it is one.
+    /// The directive, if the line is one.
     pub directive: Option<Directive>,
-    /// For `#if`, `#ifdef`, `#ifndef` and for a branch, as `#elif` and `#else` are, the index, from 0, of the line of the next branch
-    /// or the `#endif` of the same if-section (6.10.1); for other lines nothing.
+    /// For `#if`, `#ifdef`, `#ifndef` and a branch (such as `#elif` or `#else`), the index of the line of the next
+    /// branch or the `#endif` of the same if-section, from 0 (6.10.1). For other lines, None.
     pub next_branch: Option<usize>,
 }
 
 /// A file without fault: its tokens, lines and groups (6.10). Contracts see the list of its lines.
 #[derive(Drop)]
 pub struct Source {
+    /// The tokens of all lines.
     pub(crate) tokens: Vec<Token>,
+    /// The lines.
     pub(crate) lines: Vec<Line>,
+    /// The index of the include guard's name among the tokens.
     pub(crate) guard: Option<usize>,
 }
 
@@ -123,20 +128,21 @@ impl Model for Source {
         (λ i. (i < length s.tokens.items) × ((d : Token) → GuardedBy (lines_from s.tokens.items s.lines.items) (slice_index_or s.tokens.items i d).text)) };
 }
 
-/// Why a file can't be read.
+/// The reason why a file can't be read.
 #[derive(Drop, Debug)]
 pub enum SourceFault {
-    /// The file's first fault: its number, place and text.
+    /// The first fault of the file: its number, location and text.
     ///
     /// - 2: the last line ends in a backslash (5.1.1.2). The text is empty.
     /// - 1: a comment is not closed (5.1.1.2, 6.4.9). The text is empty.
-    /// - 3: a branch, as `#elif` and `#else` are, or `#endif` outside an if-section (6.10p1).
-    /// - 4: a branch behind the `#else` of its if-section (6.10p1).
-    /// - 5: an if-section has no `#endif` (6.10p1), told of the innermost one that is open.
+    /// - 3: a branch (such as `#elif` or `#else`) or `#endif` outside an if-section (6.10p1).
+    /// - 4: a branch after the `#else` of its if-section (6.10p1).
+    /// - 5: an if-section has no `#endif` (6.10p1). It is the innermost that is open.
     ///
-    /// At 3, 4 and 5 the place is that of the line's `#`, and the text is the directive's name; at 5 those of the opening line.
+    /// The location of 3, 4 and 5 is that of the line's `#`, and the text is the directive's name. For 5 the line is
+    /// the one that opens the if-section.
     Bad(Fault),
-    /// Memory ran out.
+    /// An allocation fails.
     Memory,
 }
 

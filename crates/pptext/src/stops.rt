@@ -1,4 +1,4 @@
-// Why a step gives no value.
+//! The error of a step.
 ghost use Rattle.std.specs.Prelude.{◌≡◌};
 ghost use Rattle.pptext.specs.Stops.{settled};
 ghost use Rattle.pptext.specs.declared.stops.Stop.TheVariants.{Memory as OutOfMemory};
@@ -6,10 +6,12 @@ ghost use Rattle.pptext.specs.declared.stops.Stop.TheVariants.{Memory as OutOfMe
 use crate::tokens::{Fault, Memory};
 use std::alloc::AllocError;
 
-/// Why a step gives no value: a fault of the source, or want of memory.
+/// The reason why a step has no value: a fault of the source, or a failed allocation.
 #[derive(Drop)]
 pub enum Stop {
+    /// A fault of the source.
     Fault(Fault),
+    /// An allocation fails.
     Memory,
 }
 
@@ -29,7 +31,8 @@ impl From<Memory> for Stop {
     }
 }
 
-/// A fault as part of the answer, and want of memory as its error: what public calls answer.
+/// Moves a fault from the error to the value, so that a failed allocation is the only error. Public functions return
+/// results of this form.
 pub fn settled<T>(outcome: Result<T, Stop>) -> Result<Result<T, Fault>, Memory>
     ensures { result ≡ settled outcome }
 {

@@ -1,4 +1,4 @@
-// A cleaned text: its characters, and where each was spelled.
+//! The text of a file after phases 1 and 2: its characters, and where each is spelled.
 ghost use Rattle.std.specs.Prelude.{◌≡◌, ◌+◌, ◌-◌, ◌<◌, ◌≤◌, ◌^◌, [], MatchOption, length, slice_index_or, take, drop};
 ghost use Rattle.pptext.specs.Clean.{longest, codes_of, place};
 ghost use Rattle.pptext.specs.Steps.{place_behind};
@@ -10,18 +10,21 @@ use crate::characters::steps::{Step, has_open_end, next_step};
 use crate::tokens::Place;
 use std::marker::Model;
 
-/// What phases 1 and 2 make of a file: its characters' codes, and the table of breaks.
+/// The text of a file that phases 1 and 2 change: the codes of its characters, and its table of line notes.
 ///
-/// A break stands where bytes are removed or replaced: a CR before an LF, a splice, or a trigraph. For each break the table
-/// has the number of bytes between the break before, or the start, and it.
+/// A line note marks where bytes are removed or replaced: a CR before an LF, a splice, or a trigraph. The table has an
+/// entry for each line note: the number of bytes between it and the line note before, or the start.
 #[derive(Drop)]
 pub(crate) struct Cleaned {
+    /// The codes of the characters.
     pub(crate) codes: Vec<u8>,
+    /// The table of line notes.
     pub(crate) breaks: Vec<u32>,
 }
 
-/// How far the places of a text have been asked for: the character, the byte of the file from which it is sought, how many
-/// bytes stand between that byte and the next break, the table's entry behind that break, and the byte's place.
+/// A position in a text: the index of the next character, the index of the byte in the file from which it is sought,
+/// the number of bytes between that byte and the next line note, the table's entry after that line note, and the byte's
+/// location.
 #[derive(Clone, Copy)]
 struct Cursor {
     passed: usize,
@@ -42,7 +45,7 @@ impl Model for Cursor {
 }
 
 impl Cursor {
-    /// Passes so many of the bytes in front of the next break.
+    /// Advances by `len` of the bytes before the next line note.
     #[inline(always)]
     fn pass(&mut self, raw: &[u8], len: usize)
         requires small { length raw.now ≤ longest }
@@ -60,7 +63,7 @@ impl Cursor {
         self.plain -= len;
     }
 
-    /// The cursor behind a break of this length.
+    /// Returns the cursor after a line note whose bytes are `len` in number.
     fn skip(self, raw: &[u8], breaks: &[u32], len: usize) -> Cursor
         requires small { length raw.now ≤ longest }
         requires fits { self.offset + len ≤ length raw.now }
@@ -85,7 +88,7 @@ impl Cursor {
         }
     }
 
-    /// Passes so many of the bytes in front of the next break, among which no line ends.
+    /// Advances by `len` of the bytes before the next line note, if no line ends among them.
     #[inline(always)]
     fn pass_along(&mut self, len: usize)
         requires offset { self.old.offset + len ≤ longest }
@@ -100,9 +103,9 @@ impl Cursor {
         self.plain -= len;
     }
 
-    /// Brings the cursor in front of this character, where no line ends from the character `line` on up to it. After that
-    /// character no bytes are searched for the ends of lines. Both ways beside `walk` save 7 % of the instructions of `deps` on
-    /// SQLite, and an eighth of its mispredicted branches.
+    /// Advances the cursor to this character. No line ends from the character `line` up to it. From `line` on, no bytes
+    /// are searched for ends of lines. Two fast paths before `walk` save 7 % of the instructions of `deps` on SQLite,
+    /// and an eighth of its mispredicted branches.
     #[inline(always)]
     fn seek(&mut self, raw: &[u8], breaks: &[u32], to: usize, line: usize)
         requires small { length raw.now ≤ longest }
@@ -127,7 +130,7 @@ impl Cursor {
         self.pass(raw, ahead);
     }
 
-    /// The same for a character that may stand behind breaks.
+    /// Advances the cursor to a character that may be after line notes.
     #[inline(never)]
     fn walk(&mut self, raw: &[u8], breaks: &[u32], to: usize)
         requires small { length raw.now ≤ longest }
@@ -142,7 +145,7 @@ impl Cursor {
         *self = self.walked(raw, breaks, to);
     }
 
-    /// The cursor in front of a character that may stand behind breaks.
+    /// Returns the cursor at a character that may be after line notes.
     fn walked(self, raw: &[u8], breaks: &[u32], to: usize) -> Cursor
         requires small { length raw.now ≤ longest }
         requires stands { Stands self.at.file raw.now breaks.now self }
@@ -181,7 +184,7 @@ impl Cursor {
     }
 }
 
-/// The length of the stretch in front of this break, or of the last one, behind all breaks.
+/// Returns the number of bytes before this line note, or before the end of the file if there is none.
 fn stretch_at(breaks: &[u32], at: usize, last: usize) -> usize
     ensures { result ≡ slice_index_or breaks.now at last }
 {
@@ -191,7 +194,7 @@ fn stretch_at(breaks: &[u32], at: usize, last: usize) -> usize
     }
 }
 
-/// The table of breaks, which is empty where phases 1 and 2 change nothing.
+/// Returns the table of line notes, which is empty if phases 1 and 2 change nothing.
 fn breaks_of(cleaned: &Option<Cleaned>) -> &[u32]
     ensures { MatchOption cleaned.now (result.now ≡ []) (λ c. result.now ≡ c.breaks.items) }
 {
@@ -201,7 +204,7 @@ fn breaks_of(cleaned: &Option<Cleaned>) -> &[u32]
     }
 }
 
-/// A text behind phases 1 and 2.
+/// The text of a file after phases 1 and 2.
 #[derive(Drop)]
 pub(crate) struct Text<'a> {
     file: u32,
@@ -224,7 +227,8 @@ impl<'a> Model for Text<'a> {
 }
 
 impl<'a> Text<'a> {
-    /// The text of a file's bytes behind its byte order mark, with what phases 1 and 2 make of them unless they are clean.
+    /// Makes the text of a file's bytes after its byte order mark. `cleaned` is the changed text, if phases 1 and 2
+    /// change anything.
     pub(crate) fn new(file: u32, raw: &'a [u8], cleaned: Option<Cleaned>) -> Text<'a>
         requires small { length raw.now ≤ longest }
         requires made { MatchOption cleaned (Whole raw.now raw.now []) (λ c. Whole raw.now c.codes.items c.breaks.items) }
@@ -233,7 +237,7 @@ impl<'a> Text<'a> {
         Text { file, raw, cleaned }
     }
 
-    /// The characters' codes.
+    /// Returns the codes of the characters.
     pub(crate) fn codes(&self) -> &[u8]
         ensures { result.now ≡ codes_of self.now }
     {
@@ -243,7 +247,7 @@ impl<'a> Text<'a> {
         }
     }
 
-    /// The characters' places, from the first on.
+    /// Creates a reader of the characters' locations, from the first character on.
     pub(crate) fn places(&self) -> Places<'_>
         ensures { result ≡ record { chars = self.now; passed = 0 } }
     {
@@ -268,9 +272,9 @@ impl<'a> Text<'a> {
     }
 }
 
-/// The places of a text's characters, which are asked for from the front on.
+/// The locations of a text's characters, in order.
 ///
-/// They are found by passing the file's bytes from break to break.
+/// They are found by reading the file's bytes from line note to line note.
 #[derive(Drop)]
 pub(crate) struct Places<'a> {
     raw: &'a [u8],
@@ -293,8 +297,8 @@ impl<'a> Model for Places<'a> {
 }
 
 impl<'a> Places<'a> {
-    /// The place of a character, which stands no further in front than the one asked for before. No line ends from the character
-    /// `line` on up to it.
+    /// Returns the location of a character, which must not be before the last one asked for. No line ends from the
+    /// character `line` up to it.
     #[inline(always)]
     pub(crate) fn place(&mut self, at: usize, line: usize) -> Place
         requires within { at < length self.old.chars }

@@ -1,4 +1,4 @@
-// The token that begins a text: the longest that some kind's grammar allows (6.4).
+//! The token that begins a text: the longest that the grammar of some kind allows (6.4).
 ghost use Rattle.std.specs.Prelude.{◌≡◌, ◌≢◌, ◌↔◌, ◌<◌, ◌≤◌, ℕ, length, take, IsTrue, IfNone, IfSome, slice_index, false};
 ghost use Rattle.pptext.specs.Languages.{Longest, NoFront};
 ghost use Rattle.pptext.specs.Spellings.{IsCharConst, IsSpelling, IsStr, Spells, is_blank};
@@ -15,7 +15,7 @@ use crate::scanning::numbers::number_len;
 use crate::sources::Profile;
 use crate::tokens::{Kind, Token, is_spelled};
 
-/// Whether a header name may follow this name of a directive: `include` (6.10.2), and in GNU C `include_next`.
+/// Whether a header name may follow this directive's name: `include` (6.10.2), and in GNU C `include_next`.
 fn awaits(profile: Profile, name: &[u8]) -> bool
     ensures { result ≡ awaits profile name.now }
 {
@@ -35,7 +35,7 @@ fn awaits_header(profile: Profile, line: &[Token]) -> bool
     awaits(profile, line[1].text.as_bytes())
 }
 
-/// The length of the header name that begins the text behind these tokens of its line, or 0.
+/// Returns the length of the header name that begins the text, after these tokens of its line, or 0.
 fn header_at(text: &[u8], line: &[Token], profile: Profile) -> usize
     ensures none { result ≡ 0 → (m : ℕ) → ¬ HeaderAt profile (spelled line.now) text.now m }
     ensures some { 0 < result → HeaderAt profile (spelled line.now) text.now result }
@@ -46,7 +46,7 @@ fn header_at(text: &[u8], line: &[Token], profile: Profile) -> usize
     header_len(text)
 }
 
-/// The kind and length of the literal that begins the text. Most texts show by their first byte that none does.
+/// Returns the kind and length of the literal that begins the text. The first byte of most texts shows that none does.
 fn literal_at(text: &[u8], lone: &mut LoneQuotes) -> Option<(Kind, usize)>
     requires some { 0 < length text.now }
     requires lone { KnowsLone text.now lone.old.single lone.old.double }
@@ -70,9 +70,9 @@ fn literal_at(text: &[u8], lone: &mut LoneQuotes) -> Option<(Kind, usize)>
     None
 }
 
-/// The kind and length of the token that begins the text where no header name stands. A literal is
-/// longer than the identifier that its prefix is, and a number than a period; no other kinds begin
-/// alike. So the first that is found is the longest.
+/// Returns the kind and length of the token that begins the text where no header name is allowed. A literal is longer
+/// than the identifier that its prefix is, and a number is longer than a period. No other two kinds begin alike. So the
+/// first kind that matches gives the longest token.
 fn plain_token_at(text: &[u8], lone: &mut LoneQuotes) -> (Kind, usize)
     requires some { 0 < length text.now }
     requires no_newline { slice_index text.now 0 ≢ 10 }
@@ -101,8 +101,8 @@ fn plain_token_at(text: &[u8], lone: &mut LoneQuotes) -> (Kind, usize)
     (Kind::Other, 1)
 }
 
-/// The kind and length of the token that begins here, behind these tokens of its line, where this much is
-/// known of the quotes.
+/// Returns the kind and length of the token that begins the text, after these tokens of its line. `lone` holds what is
+/// known of unmatched quotes.
 pub(crate) fn token_at(
     text: &[u8],
     line: &[Token],

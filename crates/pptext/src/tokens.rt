@@ -1,4 +1,4 @@
-// Places, preprocessing tokens and faults.
+//! Locations, preprocessing tokens and faults.
 ghost use Rattle.std.specs.Prelude.{◌≡◌, ◌<◌, ◌≤◌, List, ℕ, IfOk, IfSome, IfNone, OnErr, OnOk, length, take, [], ◌++◌, Some, None};
 ghost use Rattle.std.specs.Str.{bytes_eq};
 ghost use Rattle.pptext.specs.Tokens.{is_identifier, is_name, is_punct, is_lone_quote, fault};
@@ -7,10 +7,10 @@ use crate::sequences::Sequence;
 use std::alloc::{AllocError, AllocFailed, Global};
 use std::marker::Model;
 
-/// How many bytes of a spelling stand in the token itself: nearly all spellings are no longer.
+/// The maximum length of a spelling that is stored in the token itself. Nearly all spellings are this short.
 const SHORT: usize = 14;
 
-/// Want of memory.
+/// A failed allocation.
 #[derive(Clone, Copy, PartialEq, Eq, Debug)]
 pub struct Memory;
 
@@ -26,34 +26,44 @@ impl<T: Drop> From<AllocFailed<T>> for Memory {
     }
 }
 
-/// A place in a file: its number, and the line and the byte in it, which count from 1.
+/// A location in a file: the file's number, the line from 1, and the byte in the line from 1.
 #[derive(Clone, Copy, PartialEq, Eq, Debug)]
 pub struct Place {
+    /// The file's number.
     pub file: u32,
+    /// The physical line, from 1.
     pub line: u32,
+    /// The byte in the line, from 1.
     pub col: u32,
 }
 
-/// The kinds of preprocessing tokens.
+/// The kinds of preprocessing tokens (6.4).
 #[derive(Clone, Copy, PartialEq, Eq, Debug)]
 pub enum Kind {
+    /// An identifier (6.4.2).
     Ident,
+    /// A preprocessing number (6.4.8).
     Number,
+    /// A character constant (6.4.4.4).
     CharConst,
+    /// A string literal (6.4.5).
     Str,
+    /// A punctuator (6.4.6).
     Punct,
+    /// A header name (6.4.7).
     Header,
+    /// Each other character that is no white space (6.4).
     Other,
 }
 
-/// The bytes of a spelling: the first so many of the room in the value, or all of them on the heap.
+/// The bytes of a spelling: a length and an array that begins with them, or all of them on the heap.
 #[derive(Drop, Debug)]
 enum Bytes {
     Short(u8, [u8; SHORT]),
     Long(Box<Vec<u8>>),
 }
 
-/// A spelling, which contracts see as the list of its bytes. One of up to 14 bytes takes no memory beside the value.
+/// A spelling, which contracts see as the list of its bytes. A spelling of up to 14 bytes allocates nothing.
 #[derive(Drop, Debug)]
 pub struct Spelling {
     bytes: Bytes,
@@ -70,7 +80,7 @@ impl Model for Spelling {
     ghost invariant = { λ s. elim s.bytes [ Short n room ↦ n ≤ 14 | Long v ↦ 14 < length v.value.items ] };
 }
 
-/// A spelling of a copy of these bytes in the value itself.
+/// Copies at most 14 bytes into a spelling.
 fn short(bytes: &[u8]) -> Spelling
     requires { length bytes.now ≤ 14 }
     ensures { result ≡ bytes.now }
@@ -83,7 +93,7 @@ fn short(bytes: &[u8]) -> Spelling
 }
 
 impl Spelling {
-    /// A spelling of no bytes.
+    /// Creates a spelling of no bytes.
     pub fn empty() -> Spelling
         ensures { result ≡ [] }
     {
@@ -92,7 +102,7 @@ impl Spelling {
         }
     }
 
-    /// A spelling of these bytes.
+    /// Makes a spelling of these bytes.
     pub fn new(bytes: Vec<u8>) -> Result<Spelling, AllocError>
         ensures { IfOk result (λ s. s ≡ bytes.items) }
     {
@@ -105,7 +115,7 @@ impl Spelling {
         })
     }
 
-    /// A spelling of a copy of these bytes.
+    /// Copies bytes into a spelling.
     pub fn from_slice(alloc: Global, bytes: &[u8]) -> Result<Spelling, AllocError>
         ensures { IfOk result (λ s. s ≡ bytes.now) }
     {
@@ -115,7 +125,7 @@ impl Spelling {
         Spelling::new(Vec::from_slice(alloc, bytes)?)
     }
 
-    /// A spelling of a copy of the first n bytes of a text, where they stand in the value itself and the text fills its room.
+    /// Copies the first n bytes of a text into a spelling, if it allocates nothing and the text has at least 14 bytes.
     #[inline(always)]
     pub(crate) fn front_in_place(text: &[u8], n: usize) -> Option<Spelling>
         requires { n ≤ length text.now }
@@ -124,7 +134,8 @@ impl Spelling {
         if n > SHORT || text.len() < SHORT {
             return None;
         }
-        // Bytes behind the spelling are copied too. A copy of one length saves 2 % of the instructions of `deps` on SQLite.
+        // Bytes after the spelling are copied too. A copy of constant length saves 2 % of the instructions of `deps` on
+        // SQLite.
         let mut room = [0; SHORT];
         room.copy_from_slice(&text[..SHORT]);
         Some(Self {
@@ -132,7 +143,7 @@ impl Spelling {
         })
     }
 
-    /// A spelling of a copy of the first n bytes of a text.
+    /// Copies the first n bytes of a text into a spelling.
     pub(crate) fn front(alloc: Global, text: &[u8], n: usize) -> Result<Spelling, AllocError>
         requires { n ≤ length text.now }
         ensures { IfOk result (λ s. s ≡ take n text.now) }
@@ -143,7 +154,7 @@ impl Spelling {
         }
     }
 
-    /// Puts bytes after the others. Bytes of its own are moved seldom while they grow. On an error the spelling is what it was.
+    /// Appends bytes. A long spelling seldom moves as it grows. On an error the spelling is unchanged.
     pub fn extend(&mut self, alloc: Global, more: &[u8]) -> Result<(), AllocError>
         ensures ok { OnOk result (self.new ≡ self.old ++ more.now) }
         ensures err { OnErr result (self.new ≡ self.old) }
@@ -158,7 +169,7 @@ impl Spelling {
         Ok(())
     }
 
-    /// The bytes.
+    /// Returns the bytes.
     pub fn as_bytes(&self) -> &[u8]
         ensures { result.now ≡ self.now }
     {
@@ -168,7 +179,8 @@ impl Spelling {
         }
     }
 
-    /// The room in the value itself where up to 14 bytes stand, the first so many of it. None: there are more, which stand elsewhere.
+    /// Returns the array in the value itself, which begins with the spelling, and the spelling's length. Returns None
+    /// if the spelling is longer than 14 bytes and is on the heap.
     pub fn in_place(&self) -> Option<(&[u8; 14], usize)>
         ensures some { IfSome result (λ room. (room.1 ≤ 14) × (take room.1 room.0.now ≡ self.now)) }
         ensures none { IfNone result (14 < length self.now) }
@@ -212,7 +224,7 @@ impl Eq for Spelling {
     ghost laws = { nat_list_eq_equiv };
 }
 
-/// Whether the bytes are these.
+/// Whether the bytes are equal to this text.
 #[inline]
 pub(crate) fn is_spelled(bytes: &[u8], text: &[u8]) -> bool
     ensures { result ≡ bytes_eq bytes.now text.now }
@@ -225,12 +237,13 @@ pub(crate) fn is_spelled(bytes: &[u8], text: &[u8]) -> bool
 pub struct Token {
     /// Its spelling.
     pub text: Spelling,
-    /// Where it is spelled.
+    /// Its spelling location.
     pub at: Place,
-    /// Where it is used: of a token that came of a replacement, the place of the macro's name.
+    /// Its expansion location. For a token that a macro's replacement made, it is the location of the macro's name.
     pub used: Place,
+    /// Its kind.
     pub kind: Kind,
-    /// Its space mark: whether white space or a line's beginning stands before it.
+    /// Its leading-space flag: whether white space or the beginning of a line precedes it.
     pub space: bool,
 }
 
@@ -242,21 +255,21 @@ impl Token {
         matches!(self.kind, Kind::Ident)
     }
 
-    /// Whether it is the identifier that is spelled so.
+    /// Whether it is the identifier with this spelling.
     pub fn is_name(&self, text: &[u8]) -> bool
         ensures { result ≡ is_name text.now self.now }
     {
         self.is_identifier() && self.text.as_bytes() == text
     }
 
-    /// Whether it is the punctuator that is spelled so.
+    /// Whether it is the punctuator with this spelling.
     pub fn is_punct(&self, text: &[u8]) -> bool
         ensures { result ≡ is_punct text.now self.now }
     {
         matches!(self.kind, Kind::Punct) && self.text.as_bytes() == text
     }
 
-    /// Whether it is `'` or `"` alone (6.4p3).
+    /// Whether it is an unmatched `'` or `"` (6.4p3).
     pub fn is_lone_quote(&self) -> bool
         ensures { result ≡ is_lone_quote self.now }
     {
@@ -265,18 +278,19 @@ impl Token {
     }
 }
 
-/// A fault of a file or a unit, by its number.
+/// A fault of a file or a unit.
 #[derive(Clone, PartialEq, Eq, Drop, Debug)]
 pub struct Fault {
+    /// Its number.
     pub number: u8,
-    /// Where it is told.
+    /// Its location.
     pub at: Place,
-    /// A name or a spelling that it is about, or a message; may be empty.
+    /// The name or spelling that it is about, or a message. May be empty.
     pub text: Spelling,
 }
 
 impl Fault {
-    /// The fault of this number at a place, with this text.
+    /// Makes the fault with this number, location and text.
     pub fn new(alloc: Global, number: u8, at: Place, text: &[u8]) -> Result<Fault, AllocError>
         ensures { IfOk result (λ f. f ≡ fault number at text.now) }
     {
@@ -287,7 +301,7 @@ impl Fault {
         })
     }
 
-    /// The fault of this number at a place, with no text. Takes no memory.
+    /// Makes the fault with this number and location, and an empty text. Allocates nothing.
     pub fn bare(number: u8, at: Place) -> Fault
         ensures { result ≡ fault number at [] }
     {
@@ -298,7 +312,7 @@ impl Fault {
         }
     }
 
-    /// The fault of this number at a place, with a token's spelling.
+    /// Makes the fault with this number and location, whose text is the spelling of a token.
     pub fn of_token(number: u8, at: Place, token: &Token) -> Result<Fault, AllocError>
         ensures { IfOk result (λ f. f ≡ fault number at token.now.text) }
     {
@@ -310,5 +324,5 @@ impl Fault {
     }
 }
 
-/// Tokens, which contracts see as their list.
+/// A sequence of tokens, which contracts see as their list.
 pub type Tokens = Sequence<Token>;

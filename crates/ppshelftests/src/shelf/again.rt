@@ -1,4 +1,4 @@
-// Looks that are made again where they are refused memory.
+//! Looks that are repeated if an allocation fails.
 ghost use Rattle.std.specs.Prelude.{◌≡◌};
 
 use super::{assert_new, assert_rows, assert_shown, named};
@@ -13,8 +13,8 @@ const NAMES: &[&str] = &[
     "one.c", "call.c", "twice.c", "h.h", "src/a.c", "src/x.h", "inc/x.h", "inc/y.h",
 ];
 
-/// Their texts by their rows: one token, an invocation that reaches behind what it is replaced by, a guarded header twice, the header, and headers
-/// that are looked for in folders. No file has the last name.
+/// The texts by their rows: one token, an invocation that takes tokens after its replacement, a guarded header twice,
+/// the header, and headers that are searched for in directories. No file has the last name.
 const ROWS: &[(usize, Option<&str>)] = &[
     (0, Some("x\n")),
     (1, Some("#define f(a) a*g\n#define g(a) f(a)\nf(2)(9)\n")),
@@ -29,7 +29,7 @@ const ROWS: &[(usize, Option<&str>)] = &[
     (7, None),
 ];
 
-// The disk of these files.
+/// Creates the disk of these files.
 fn disk_of(alloc: Global) -> Result<MemoryDisk, AllocError> {
     let mut files = Vec::new(alloc);
     for (name, &(_row, text)) in NAMES.iter().zip(ROWS) {
@@ -43,7 +43,7 @@ fn disk_of(alloc: Global) -> Result<MemoryDisk, AllocError> {
     Ok(MemoryDisk { files })
 }
 
-// That a pass is shown this text of a row. Where memory is refused, the pass looks again.
+/// Asserts that a pass observes this text of a row. If an allocation fails, the pass looks again.
 fn assert_shown_again<'a>(
     rt: &impl Abort,
     shelf: &'a Shelf<MemoryDisk>,
@@ -61,7 +61,8 @@ fn assert_shown_again<'a>(
     Ok(())
 }
 
-// That a pass is shown these texts of rows. Each stays as it was where the look of a later row is made again, and another pass is shown it too.
+/// Asserts that a pass observes these texts of rows. Each stays unchanged if the look at a later row is repeated, and
+/// another pass observes it too.
 fn assert_looks_again(
     rt: &impl Abort,
     shelf: &Shelf<MemoryDisk>,

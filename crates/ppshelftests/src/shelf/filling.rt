@@ -1,4 +1,4 @@
-// Fills, by reads and by contents that are moved to the rows.
+//! Fills, by reads and by contents that are moved into the rows.
 ghost use Rattle.std.specs.Prelude.{◌≡◌, ℕ, ◌<◌, ◌≤◌, length, true};
 ghost use Rattle.ppshelf.specs.Content.{longest};
 ghost use Rattle.ppshelf.specs.Files.{bytes_at};
@@ -18,7 +18,7 @@ fn a_fill_goes_on_after_want_of_memory(rt: HostRuntime) -> Result<(), Fail> {
     assert!(rt; shelf.fill(&disk) == Err(Memory));
     shelf.fill(&disk)?;
     assert!(rt; disk.reads.load(SeqCst) == 4);
-    // what its fills read is shown without a read
+    // What a fill read is returned without another read.
     let rows = [(0, Some("0\n")), (2, Some("3\n"))];
     Ok(assert_new(&rt, &shelf, &refusing(0), &rows)?)
 }
@@ -32,7 +32,7 @@ fn a_fill_reads_what_a_look_has_kept(rt: HostRuntime) -> Result<(), Fail> {
     Ok(assert_new(&rt, &shelf, &disk, &[(0, Some("1\n"))])?)
 }
 
-// Whether each content is short enough for a row.
+/// Whether each content is short enough for a row.
 fn are_short(contents: &[Vec<u8>]) -> bool
     ensures { result ≡ true → (row : ℕ) → row < length contents.now → length (bytes_at contents.now row) ≤ longest }
 {
@@ -44,7 +44,7 @@ fn are_short(contents: &[Vec<u8>]) -> bool
     true
 }
 
-// Moves texts to the rows.
+/// Moves texts into the rows.
 fn fill_with_texts(alloc: Global, shelf: &mut Shelf<Counting>, texts: &[&str]) -> Result<(), Fail> {
     let mut contents = Vec::new(alloc);
     for text in texts {
@@ -56,7 +56,7 @@ fn fill_with_texts(alloc: Global, shelf: &mut Shelf<Counting>, texts: &[&str]) -
     Ok(shelf.fill_with(contents)?)
 }
 
-// That the rows have the texts of the first fill, of which the second has a fault.
+/// Asserts that the rows have the texts of the first fill, the second of which has a fault.
 fn assert_moved(rt: &impl Abort, shelf: &Shelf<Counting>, disk: &Counting) -> Result<(), Memory> {
     assert_new(rt, shelf, disk, &[(0, Some("x\n")), (1, Some("/*"))])?;
     assert_lines(rt, shelf, disk, 0, Some(Ok((1, None))))?;
@@ -69,7 +69,7 @@ fn contents_are_moved_to_rows(rt: HostRuntime) -> Result<(), Fail> {
     let mut shelf = named(alloc, &["a.c", "h.h"])?;
     let disk = refusing(0);
     fill_with_texts(alloc, &mut shelf, &["x\n", "/*"])?;
-    // rows that are filled stay
+    // Filled rows stay as they are.
     fill_with_texts(alloc, &mut shelf, &["y\n", "z\n"])?;
     shelf.fill(&disk)?;
     assert_moved(&rt, &shelf, &disk)?;

@@ -1,4 +1,4 @@
-// Searches for included files: the rows that they find, and the numbers of the folders.
+//! Searches for included files: the rows that they find, and the numbers of the directories.
 use super::{named, texts};
 use ppshelf::{Folders, Form, MemoryDisk, Shelf, resolve, resolve_behind};
 use pptext::Memory;
@@ -8,7 +8,8 @@ use std::test::Fail;
 
 const NAMES: &[&str] = &["src/a.c", "src/h.h", "one/h.h", "two/h.h", "three/h.h"];
 
-/// Names that `src/a.c` includes in a form, with the row and the folder's number of what is found.
+/// The names that `src/a.c` includes, with their syntax, the row of the file that is found and the number of its
+/// directory.
 const INCLUDED: &[(Form, &str, Option<(usize, usize)>)] = &[
     (Form::Quote, "h.h", Some((1, 0))),
     (Form::Angle, "h.h", Some((2, 1))),
@@ -16,7 +17,7 @@ const INCLUDED: &[(Form, &str, Option<(usize, usize)>)] = &[
     (Form::Angle, "k.h", None),
 ];
 
-/// Numbers of folders, with what is found of `h.h` behind them.
+/// Numbers of directories, with the file that a search for `h.h` after that directory finds.
 const BEHIND: &[(usize, Option<(usize, usize)>)] = &[
     (0, Some((2, 1))),
     (1, Some((3, 2))),

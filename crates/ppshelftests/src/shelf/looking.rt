@@ -1,4 +1,4 @@
-// Looks by several passes and threads.
+//! Looks by several passes and threads.
 ghost use Rattle.std.specs.Prelude.{◌≡◌, IfOk};
 
 use super::{Counting, assert_new, assert_rows, bytes_of, lines_in, named, refusing};
@@ -11,7 +11,7 @@ use std::test::Fail;
 use std::thread;
 use std::thread::Threads;
 
-// That two passes are shown the same, and that one knows what the other knew once they have met.
+/// Asserts that two passes observe the same contents, and that after a merge one has observed what the other had.
 fn assert_passes_meet(
     rt: &impl Abort,
     shelf: &Shelf<Counting>,
@@ -39,7 +39,7 @@ fn passes_find_the_same(rt: HostRuntime) -> Result<(), Fail> {
     Ok(())
 }
 
-// Looks at both rows and hands the pass out.
+/// Looks at both rows and returns the pass.
 fn all_looked_at<'a>(
     shelf: &'a Shelf<Counting>,
     disk: &Counting,
@@ -53,7 +53,7 @@ fn all_looked_at<'a>(
     Ok(pass)
 }
 
-// What two threads are shown, and have met over.
+/// Returns what two threads observe, after their passes are merged.
 fn by_two_threads<'a, R: Threads>(
     rt: &R,
     shelf: &'a Shelf<Counting>,
@@ -73,7 +73,7 @@ fn by_two_threads<'a, R: Threads>(
     Ok(met)
 }
 
-// The same of four.
+/// Returns what four threads observe, after their passes are merged.
 fn by_four_threads<'a, R: Threads + Sync>(
     rt: &R,
     shelf: &'a Shelf<Counting>,
@@ -93,7 +93,7 @@ fn by_four_threads<'a, R: Threads + Sync>(
     Ok(met)
 }
 
-// All rows, of which each is looked at while those before it are open.
+/// Looks at each row while the contents of the earlier ones are borrowed, and returns all contents.
 fn all_open<'a>(
     alloc: Global,
     shelf: &'a Shelf<Counting>,
@@ -115,12 +115,12 @@ fn all_open<'a>(
     Ok(open)
 }
 
-// Whether a content has these bytes, a number and its new-line.
+/// Whether a content has these bytes, a number and its new-line.
 fn is_number(loaded: &Loaded<Counting>, text: &str) -> bool {
     lines_in(loaded) == Some(Ok((1, None))) && loaded.bytes() == Some(text.as_bytes())
 }
 
-// Whether three contents are the first numbers.
+/// Whether three contents are the first numbers.
 fn are_numbers(open: &[&Loaded<Counting>]) -> bool {
     match open {
         [one, two, three] => {
@@ -130,7 +130,7 @@ fn are_numbers(open: &[&Loaded<Counting>]) -> bool {
     }
 }
 
-// That contents stay as they are while later rows are looked at.
+/// Asserts that contents stay unchanged during looks at later rows.
 fn assert_outlive(rt: &impl Abort, alloc: Global, shelf: &Shelf<Counting>) -> Result<(), Memory> {
     let mut pass = shelf.pass()?;
     let open = all_open(alloc, shelf, &mut pass, &refusing(99))?;
@@ -145,7 +145,7 @@ fn contents_outlive_later_looks(rt: HostRuntime) -> Result<(), Fail> {
     Ok(assert_outlive(&rt, alloc, &shelf)?)
 }
 
-// Whether two passes are shown the same of the first row.
+/// Whether two passes observe the same content of the first row.
 fn share_first<'a>(
     shelf: &'a Shelf<Counting>,
     one: &mut Pass<'a, Counting>,
@@ -159,7 +159,7 @@ fn share_first<'a>(
     Ok(first.is_some() && bytes_of(shelf, two, 0, disk)? == first)
 }
 
-// That a pass is shown what four threads have been shown.
+/// Asserts that a pass observes what four threads have observed.
 fn assert_same_by_threads<R: Abort + Threads + Sync>(
     rt: &R,
     shelf: &Shelf<Counting>,
@@ -178,7 +178,8 @@ fn threads_find_the_same(rt: HostRuntime) -> Result<(), Fail> {
     Ok(())
 }
 
-// That a pass is shown a row once there is memory for it, and that then it and another are shown it without a read.
+/// Asserts that a pass observes a row as soon as an allocation succeeds, and that from then on it and another pass
+/// observe the row without a read.
 fn assert_read_once(rt: &impl Abort, shelf: &Shelf<Counting>) -> Result<(), Memory> {
     let mut pass = shelf.pass()?;
     let first = bytes_of(shelf, &mut pass, 0, &refusing(0));

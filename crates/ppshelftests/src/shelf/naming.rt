@@ -1,4 +1,4 @@
-// Names in normal form, the rows of a shelf's names, and the search among them.
+//! Names in normal form, the rows of a shelf's names, and the search among them.
 ghost use Rattle.std.specs.Prelude.{◌≤◌, length};
 ghost use Rattle.ppshelf.specs.Files.{most_rows};
 
@@ -10,7 +10,7 @@ use std::hash::RandomState;
 use std::process::Abort;
 use std::test::Fail;
 
-/// How a key of its own hashes names.
+/// Creates a hash function with a random key.
 fn drawn(rt: &HostRuntime) -> Result<Hashing, Fail> {
     match RandomState::new(rt) {
         Ok(key) => Ok(Hashing::keyed(key)),
@@ -18,13 +18,13 @@ fn drawn(rt: &HostRuntime) -> Result<Hashing, Fail> {
     }
 }
 
-/// Names that are put into an index, and whether each was new.
+/// Names that are appended to an index, and whether each was new.
 const PUT: &[(&str, bool)] = &[("a", true), ("inc/b.h", true), ("a", false)];
 
 /// Names, and the row of each.
 const NUMBERED: &[(&str, Option<usize>)] = &[("a", Some(0)), ("inc/b.h", Some(1)), ("b", None)];
 
-/// Puts names into an index, and finds them there.
+/// Appends names to an index, and finds them there.
 fn assert_numbers(rt: &impl Abort, index: &mut Index) -> Result<(), Memory> {
     for &(name, is_new) in PUT {
         assert!(rt;
@@ -45,7 +45,7 @@ fn an_index_numbers_each_name_once(rt: HostRuntime) -> Result<(), Fail> {
     Ok(assert_numbers(&rt, &mut index)?)
 }
 
-// That no shelf is made of these names, for the one in this place.
+/// Asserts that no shelf is made of these names, because of the one at this index.
 fn assert_refuses(rt: &impl Abort, alloc: Global, names: &[&str], place: usize) -> Result<(), Fail>
     requires { length names.now ≤ most_rows }
 {
@@ -68,13 +68,14 @@ fn a_shelf_refuses_the_first_bad_name(rt: HostRuntime) -> Result<(), Fail> {
     assert_refuses(&rt, rt.alloc(), &["a", "b/", "a"], 1)
 }
 
-// A shelf of `a` and `inc/b.h` whose names are hashed so.
+/// Creates a shelf of `a` and `inc/b.h` with this hash function.
 fn keyed(alloc: Global, hashing: Hashing) -> Result<Shelf<MemoryDisk>, Fail> {
     let names = texts(alloc, &["a", "inc/b.h"])?;
     Ok(Shelf::with_hasher(alloc, names, Profile::C11, hashing)?)
 }
 
-// That it finds its rows by their names, and from the first one the second. How it says that it hashes them.
+/// Asserts that a shelf finds its rows by their names, and the second from the first, and that it returns its hash
+/// function.
 fn assert_finds(
     rt: &impl Abort,
     alloc: Global,

@@ -1,4 +1,4 @@
-// How a file is read: with its fault, and by the shelf's profile.
+//! How a file is read: with its fault, and by the shelf's profile.
 use super::{assert_lines, assert_new, disk_of, named, texts};
 use ppshelf::{MemoryDisk, Shelf};
 use pptext::{Directive, Profile};
@@ -6,7 +6,7 @@ use std::alloc::Global;
 use std::process::Abort;
 use std::test::Fail;
 
-// The first row has the fault of a comment without an end, and the second is not there.
+/// The first row has the fault of a comment without an end, and the second does not exist.
 #[test]
 fn a_file_is_kept_with_its_fault(rt: HostRuntime) -> Result<(), Fail> {
     let disk = disk_of(rt.alloc(), b"x /*".as_slice())?;
@@ -17,7 +17,7 @@ fn a_file_is_kept_with_its_fault(rt: HostRuntime) -> Result<(), Fail> {
     Ok(assert_new(&rt, &shelf, &disk, &[(0, Some("x /*")), (1, None)])?)
 }
 
-// That a shelf of this profile finds this directive by a look, and by a fill.
+/// Asserts that a shelf of this profile finds this directive by a look, and by a fill.
 fn assert_reads_by(
     rt: &impl Abort,
     alloc: Global,
@@ -33,7 +33,7 @@ fn assert_reads_by(
     Ok(assert_lines(rt, &shelf, disk, 0, Some(Ok((3, Some(directive)))))?)
 }
 
-// A line that is a directive by the later profile alone.
+/// A line that is a directive only in the later profile.
 #[test]
 fn a_shelf_reads_by_its_profile(rt: HostRuntime) -> Result<(), Fail> {
     let alloc = rt.alloc();

@@ -1,11 +1,11 @@
-// Where bytes stand in a file.
+//! Locations of bytes in a file.
 ghost use Rattle.std.specs.Prelude.{◌≡◌, ◌≢◌, ◌+◌, ◌<◌, ◌^◌, ℕ, length, slice_index, false};
 ghost use Rattle.pptext.specs.Steps.{place_behind};
 
 use crate::tokens::Place;
 use memchr::memchr;
 
-/// The place behind these bytes, of which the first stands at `start`: a line ends after its LF.
+/// Returns the location after these bytes, if the first is at `start`. An LF ends a line.
 pub(crate) fn place_behind(start: Place, bytes: &[u8]) -> Place
     requires line { start.line + length bytes.now < 2 ^ 32 }
     requires col { start.col + length bytes.now < 2 ^ 32 }
@@ -16,7 +16,7 @@ pub(crate) fn place_behind(start: Place, bytes: &[u8]) -> Place
     place
 }
 
-/// Moves the place of the first of these bytes behind them.
+/// Moves a location from the first of these bytes to after the last.
 #[inline(always)]
 #[tactic(auto, using(crate::proofs::PlaceLines::no_line_passed))]
 pub(crate) fn move_behind(place: &mut Place, bytes: &[u8])
@@ -32,8 +32,8 @@ pub(crate) fn move_behind(place: &mut Place, bytes: &[u8])
     }
 }
 
-/// Moves the place of the first of these bytes behind it where it is an LF, and gives the others. The place asked for last in a
-/// line is that of its end, so the first token of the next one mostly stands behind an LF and few bytes.
+/// Moves the location of the first byte past it if that byte is an LF, and returns the remaining bytes. The last
+/// location asked for in a line is that of its end, so the next token's is usually after an LF and a few bytes.
 #[inline(always)]
 fn pass_newline<'a>(place: &mut Place, bytes: &'a [u8]) -> &'a [u8]
     requires line { place.old.line + length bytes.now < 2 ^ 32 }
@@ -65,7 +65,7 @@ fn has_newline(bytes: &[u8]) -> bool
     false
 }
 
-/// The same where a line ends among the bytes, which is seldom: a comment of many lines may be among them.
+/// Moves a location past bytes among which lines end. This is rare: the bytes may hold a comment of many lines.
 #[inline(never)]
 fn move_behind_lines(place: &mut Place, bytes: &[u8])
     requires line { place.old.line + length bytes.now < 2 ^ 32 }

@@ -1,20 +1,20 @@
-// What begins the rest of a file, read from the front.
+//! Translation phases 1 and 2 one step at a time: what the remaining bytes of a file begin with.
 ghost use Rattle.std.specs.Prelude.{◌≡◌, ◌<◌, MatchOption, length};
 ghost use Rattle.pptext.specs.Clean.{trigraph, unmarked};
 ghost use Rattle.pptext.specs.Steps.{Code, PlainFront, Removed, StopsAt, newline_front, open_end, step_of, trigraph_front};
 
 use memchr::memchr3;
 
-/// What begins the rest of a file.
+/// What the remaining bytes of a file begin with.
 #[derive(Clone, Copy)]
 pub(crate) enum Step {
-    /// A character's code, and how many bytes spell it.
+    /// A character: its code, and the number of bytes that spell it.
     Code(u8, usize),
-    /// Bytes that phases 1 and 2 remove: a CR before an LF, or a backslash with its new-line.
+    /// A number of bytes that phases 1 and 2 remove: a CR before an LF, or a backslash with its new-line.
     Removed(usize),
 }
 
-/// The bytes behind a byte order mark.
+/// Returns the bytes after the byte order mark, if there is one.
 pub(crate) fn unmarked(bytes: &[u8]) -> &[u8]
     ensures { result.now ≡ unmarked bytes.now }
 {
@@ -24,7 +24,7 @@ pub(crate) fn unmarked(bytes: &[u8]) -> &[u8]
     }
 }
 
-/// Whether the bytes are text whose last line has no LF.
+/// Whether the bytes end in a line without an LF.
 pub(crate) fn has_open_end(bytes: &[u8]) -> bool
     ensures { result ≡ open_end bytes.now }
 {
@@ -34,7 +34,7 @@ pub(crate) fn has_open_end(bytes: &[u8]) -> bool
     }
 }
 
-/// What `??` and this character stand for, or 0.
+/// Returns the character that `??` and this one stand for (5.2.1.1), or 0.
 pub(crate) fn trigraph(code: u8) -> u8
     ensures { result ≡ trigraph code }
 {
@@ -52,14 +52,14 @@ pub(crate) fn trigraph(code: u8) -> u8
     }
 }
 
-/// Where the first byte stands that may be no character of its own, if there is one.
+/// Returns the index of the first byte that may be more than a character of its own: a backslash, `?` or CR.
 pub(crate) fn first_special(rest: &[u8]) -> Option<usize>
     ensures { MatchOption result (PlainFront rest.now (length rest.now)) (λ at. StopsAt rest.now at) }
 {
     memchr3(b'\\', b'?', b'\r', rest)
 }
 
-/// The code of the trigraph that begins here, or 0.
+/// Returns the character of the trigraph that begins the bytes, or 0.
 fn trigraph_front(rest: &[u8]) -> u8
     ensures { result ≡ trigraph_front rest.now }
 {
@@ -69,7 +69,8 @@ fn trigraph_front(rest: &[u8]) -> u8
     }
 }
 
-/// The length of the new-line that begins here, which at the end of the file may be supplied.
+/// Returns the length in bytes of the new-line that begins the bytes. It is 0 at the end of a file whose last new-line
+/// is supplied.
 fn newline_len(rest: &[u8], supplied: bool) -> Option<usize>
     ensures { result ≡ newline_front supplied rest.now }
 {
@@ -81,7 +82,8 @@ fn newline_len(rest: &[u8], supplied: bool) -> Option<usize>
     }
 }
 
-/// What begins the rest of a file whose last new-line may be supplied.
+/// Returns what the remaining bytes begin with. `supplied` says whether the file's last new-line is missing and
+/// supplied.
 pub(crate) fn next_step(rest: &[u8], supplied: bool) -> Step
     requires { 0 < length rest.now }
     ensures { (elim result [ Step.Code code n ↦ Code code n | Step.Removed n ↦ Removed n ]) ≡ step_of supplied rest.now }

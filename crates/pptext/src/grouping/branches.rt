@@ -1,4 +1,4 @@
-// The next branch line of each line that opens or branches an if-section (6.10.1).
+//! The next branch line of each line that opens or branches an if-section (6.10.1).
 ghost use Rattle.std.specs.Prelude.{◌≡◌, reverse, IfOk, MatchResult};
 ghost use Rattle.pptext.specs.Tree.{role_by};
 ghost use Rattle.pptext.specs.Grouping.{step_back, linked};
@@ -7,7 +7,8 @@ use crate::directives::{Role, role_of};
 use crate::sources::{Directive, Line, SourceFault};
 use std::alloc::{AllocFailed, Global};
 
-/// Goes back over the line of this directive at this index: its next branch line. The stack has that of each section that is open, the innermost on top.
+/// Passes a line with this directive on the way from the last line to the first, and returns its next branch line. The
+/// stack holds the next branch line of each open if-section, the innermost on top.
 fn step_back(
     behind: &mut Vec<usize>,
     at: usize,
@@ -30,7 +31,7 @@ fn step_back(
     }
 }
 
-/// Gives each line its next branch line, from the last line to the first.
+/// Sets the next branch line of each line, from the last line to the first.
 fn link_branches(alloc: Global, lines: &mut [Line]) -> Result<(), SourceFault>
     ensures { MatchResult result (λ _. lines.new ≡ linked 0 lines.old) (λ e. e ≡ SourceFault.Memory) }
 {
@@ -42,7 +43,7 @@ fn link_branches(alloc: Global, lines: &mut [Line]) -> Result<(), SourceFault>
     Ok(())
 }
 
-/// The lines, each with its next branch line.
+/// Returns the lines, each with its next branch line.
 pub(super) fn linked_lines(alloc: Global, lines: Vec<Line>) -> Result<Vec<Line>, SourceFault>
     ensures { MatchResult result (λ v. v.items ≡ linked 0 lines.items) (λ e. e ≡ SourceFault.Memory) }
 {

@@ -1,4 +1,4 @@
-// The faults of a file's groups.
+//! The faults of a file's groups.
 ghost use Rattle.std.specs.Prelude.{◌≡◌, ◌+◌, ◌<◌, ◌^◌, [], length, reverse, slice_index_or, IfOk, MatchResult};
 ghost use Rattle.pptext.specs.declared.sources.Line.{Line};
 ghost use Rattle.pptext.specs.declared.tokens.Token.{Token};
@@ -14,7 +14,7 @@ use crate::tokens::{Fault, Token};
 use std::alloc::{AllocError, AllocFailed, Global};
 use std::marker::Model;
 
-/// An open if-section: the index of its opening line, and whether its `#else` has come.
+/// An open if-section: the index of its opening line, and whether its `#else` has occurred.
 #[derive(Clone, Copy)]
 struct Section {
     opening: u32,
@@ -31,7 +31,8 @@ impl Model for Section {
     ghost inverse = { λ s. record { opening = s.0; last = s.1 } };
 }
 
-/// Takes the line of this directive at this index in, or answers its fault: 3 outside a section, 4 behind `#else` (6.10p1). The innermost section stands last.
+/// Updates the stack of open if-sections for a line with this directive at this index, or returns the number of its
+/// fault: 3 outside an if-section, 4 after `#else` (6.10p1). The innermost if-section is last.
 fn take_line(
     open_sections: &mut Vec<Section>,
     at: usize,
@@ -69,7 +70,8 @@ fn take_line(
     }
 }
 
-/// The fault of this number at the directive whose `#` has this index: its place is that of the `#`, its text the name behind.
+/// Makes the fault of a directive. It is located at the `#`, which has index `sign`, and its text is the directive's
+/// name.
 fn fault_of(number: u8, tokens: &[Token], sign: usize) -> Result<Fault, AllocError>
     requires { sign + 1 < length tokens.now }
     ensures { (d : Token) → IfOk result (λ f. f ≡ fault number (slice_index_or tokens.now sign d).at (slice_index_or tokens.now (sign + 1) d).text) }
@@ -77,7 +79,7 @@ fn fault_of(number: u8, tokens: &[Token], sign: usize) -> Result<Fault, AllocErr
     Fault::of_token(number, tokens[sign].at, &tokens[sign + 1])
 }
 
-/// The fault of this number at the line of this index.
+/// Makes the fault of the directive line at this index.
 fn fault_at(number: u8, tokens: &[Token], lines: &[Line], at: usize) -> Result<Fault, AllocError>
     requires are_lines { AreLines tokens.now lines.now }
     requires within { at < length lines.now }
@@ -87,7 +89,7 @@ fn fault_at(number: u8, tokens: &[Token], lines: &[Line], at: usize) -> Result<F
     fault_of(number, tokens, lines[at].start)
 }
 
-/// The first fault of the groups.
+/// Returns the first fault of the groups, if there is one.
 pub(super) fn first_fault(
     alloc: Global,
     tokens: &[Token],
@@ -97,7 +99,7 @@ pub(super) fn first_fault(
     requires few { length lines.now < 2 ^ 32 }
     ensures { MatchResult result (λ f. f ≡ group_fault [] (lines_from tokens.now lines.now)) (λ e. e ≡ SourceFault.Memory) }
 {
-    // A line that opens a section has two tokens at the least.
+    // A line that opens an if-section has at least two tokens.
     let most = lines.len().min(tokens.len() / 2);
     let mut open_sections = Vec::with_capacity(alloc, most)?;
     for (at, line) in lines.iter().enumerate() {

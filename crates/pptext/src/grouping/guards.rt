@@ -1,4 +1,4 @@
-// The guard of a file: one if-section without other branches, and no token outside it.
+//! The include guard of a file: one if-section without other branches, and no token outside it.
 ghost use Rattle.std.specs.Prelude.{◌≡◌, ◌+◌, ◌<◌, ◌≤◌, length, ℕ, List, take, drop, ◌-◌, None, Some, IfNone, IfSome, slice_index_or, IsTrue, ◌↔◌};
 ghost use Rattle.std.specs.Str.{bytes_eq};
 ghost use Rattle.pptext.specs.declared.sources.Line.{Line};
@@ -12,28 +12,28 @@ use crate::directives::{Role, role_of};
 use crate::sources::Line;
 use crate::tokens::Token;
 
-/// Whether the token is spelled so.
+/// Whether the token has this spelling.
 fn is_named(token: &Token, text: &[u8]) -> bool
     ensures { result ≡ bytes_eq token.now.text text.now }
 {
     token.text.as_bytes() == text
 }
 
-/// Whether `if ! defined`.
+/// Whether the tokens are `if ! defined`.
 fn is_not_defined(name: &Token, not: &Token, defined: &Token) -> bool
     ensures { result ≡ is_not_defined name.now not.now defined.now }
 {
     is_named(name, b"if") && is_named(not, b"!") && is_named(defined, b"defined")
 }
 
-/// Whether `(` and `)`.
+/// Whether the tokens are `(` and `)`.
 fn are_parentheses(left: &Token, right: &Token) -> bool
     ensures { result ≡ are_parentheses left.now right.now }
 {
     is_named(left, b"(") && is_named(right, b")")
 }
 
-/// This index, where the token is an identifier and the test is true.
+/// Returns this index if the test is true and the token is an identifier.
 fn ident_if(test: bool, token: &Token, index: usize) -> Option<usize>
     ensures none { IfNone result (ident_if test token.now ≡ None) }
     ensures some { IfSome result (λ i. (i ≡ index) × (ident_if test token.now ≡ Some token.now.text)) }
@@ -44,7 +44,7 @@ fn ident_if(test: bool, token: &Token, index: usize) -> Option<usize>
     None
 }
 
-/// The index of X in a line `#ifndef X`, `#if ! defined X` or `#if ! defined ( X )`.
+/// Returns the index of X in a line `#ifndef X`, `#if ! defined X` or `#if ! defined ( X )`.
 fn name_index(line: &[Token]) -> Option<usize>
     ensures none { IfNone result (guard_name line.now ≡ None) }
     ensures some { IfSome result (λ i. (i < length line.now) × ((d : Token) → guard_name line.now ≡ Some (slice_index_or line.now i d).text)) }
@@ -60,7 +60,7 @@ fn name_index(line: &[Token]) -> Option<usize>
     }
 }
 
-/// The index of that X among the file's tokens.
+/// Returns the index, among the file's tokens, of the X of such a line.
 fn guard_index(tokens: &[Token], line: Line) -> Option<usize>
     requires begins { line.start ≤ line.end }
     requires within { line.end ≤ length tokens.now }
@@ -73,7 +73,7 @@ fn guard_index(tokens: &[Token], line: Line) -> Option<usize>
     Some(line.start + index)
 }
 
-/// Whether the line at this index is an `#endif`, and the file's last with tokens.
+/// Whether the line at this index is an `#endif` and no token of the file follows it.
 fn ends_file(tokens: &[Token], lines: &[Line], last: usize) -> bool
     requires { last < length lines.now }
     ensures { (d : Line) → IsTrue result ↔ (line_role (slice_index_or lines.now last d) ≡ Closes) × ((slice_index_or lines.now last d).end ≡ length tokens.now) }
@@ -85,7 +85,7 @@ fn ends_file(tokens: &[Token], lines: &[Line], last: usize) -> bool
     }
 }
 
-/// Whether the section that the line at this index opens has no other branch, and no token stands behind it.
+/// Whether the if-section that the line at this index opens has no other branch, and no token follows it.
 fn closes_file(tokens: &[Token], lines: &[Line], at: usize) -> bool
     requires are_lines { AreLines tokens.now lines.now }
     requires within { at < length lines.now }
@@ -98,7 +98,7 @@ fn closes_file(tokens: &[Token], lines: &[Line], at: usize) -> bool
     }
 }
 
-/// The index of the guard's token, where the line at this index, the first with tokens, opens the one section.
+/// Returns the index of the guard's token. The line at this index, the first with tokens, must open the if-section.
 fn guard_at(tokens: &[Token], lines: &[Line], at: usize) -> Option<usize>
     requires are_lines { AreLines tokens.now lines.now }
     requires within { at < length lines.now }
@@ -115,7 +115,7 @@ fn guard_at(tokens: &[Token], lines: &[Line], at: usize) -> Option<usize>
     guard_index(tokens, lines[at])
 }
 
-/// The index of the guard's token, where the file is one guarded section.
+/// Returns the index of the guard's token if the whole file is one guarded if-section.
 pub(super) fn guard_token(tokens: &[Token], lines: &[Line]) -> Option<usize>
     requires { AreLines tokens.now lines.now }
     ensures none { IfNone result ((x : List ℕ) → ¬ FlatGuard 0 (lines_from tokens.now lines.now) x) }

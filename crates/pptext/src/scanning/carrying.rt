@@ -1,4 +1,4 @@
-// What carries on an identifier or a number that stands before it (6.4.2, 6.4.8).
+//! Text that continues the identifier or number before it (6.4.2, 6.4.8).
 ghost use Rattle.std.specs.Prelude.{◌≡◌, ◌↔◌, ◌<◌, ◌≤◌, ◌-◌, length, drop, IsTrue};
 ghost use Rattle.pptext.specs.Spellings.{IsUniversal};
 ghost use Rattle.pptext.specs.Carrying.{IsIdentRest, IsNumberRest, IsSignedRest, EndsInUniversal, EndsInExponent, CarriesOn};
@@ -7,26 +7,27 @@ use super::numbers::{is_exponent, is_sign, number_rest_len};
 use super::{ident_rest_len, universal_len};
 use crate::tokens::Kind;
 
-/// The lengths of the two forms of a universal character name.
+/// The length of `\u` and four digits.
 const SHORT: usize = 6;
 
+/// The length of `\U` and eight digits.
 const LONG: usize = 10;
 
-/// Whether it is more of an identifier.
+/// Whether the text continues an identifier.
 fn is_ident_rest(text: &[u8]) -> bool
     ensures { IsTrue result ↔ IsIdentRest text.now }
 {
     ident_rest_len(text) == text.len()
 }
 
-/// Whether it is more of a number.
+/// Whether the text continues a number.
 fn is_number_rest(text: &[u8]) -> bool
     ensures { IsTrue result ↔ IsNumberRest text.now }
 {
     number_rest_len(text) == text.len()
 }
 
-/// Whether it is a sign and more of a number.
+/// Whether the text is a sign that continues a number, and more of it.
 fn is_signed_rest(text: &[u8]) -> bool
     ensures { IsTrue result ↔ IsSignedRest text.now }
 {
@@ -54,7 +55,7 @@ fn ends_in_universal(text: &[u8]) -> bool
     ends_in_name_of(text, SHORT) || ends_in_name_of(text, LONG)
 }
 
-/// Whether an exponent's letter ends the text, which is no digit of a universal character name.
+/// Whether the text ends in the letter of an exponent that is no digit of a universal character name.
 fn ends_in_exponent(text: &[u8]) -> bool
     ensures { IsTrue result ↔ EndsInExponent text.now }
 {
@@ -64,9 +65,10 @@ fn ends_in_exponent(text: &[u8]) -> bool
     is_exponent(text[text.len() - 1]) && !ends_in_universal(text)
 }
 
-/// Whether these bytes carry on a text of this kind: more nondigits and digits an identifier (6.4.2); these, periods and signed exponents a
-/// number (6.4.8), a sign also where the text ends with an exponent's letter. If the text is one token of that kind, so are both together.
-/// It looks at the last bytes of the text alone, however long it is.
+/// Whether `more` continues a token of this kind with the spelling `text`. An identifier continues with nondigits and
+/// digits (6.4.2). A number continues with these, periods and signed exponents (6.4.8), and with a sign if the text
+/// ends in an exponent's letter. If the text is one token of that kind, so is the whole. Only the last bytes of the
+/// text are read, however long it is.
 pub fn carries_on(kind: Kind, text: &[u8], more: &[u8]) -> bool
     ensures { IsTrue result ↔ CarriesOn kind text.now more.now }
 {

@@ -1,9 +1,9 @@
-// Header names (6.4.7).
+//! Header names (6.4.7).
 ghost use Rattle.std.specs.Prelude.{◌||◌, ◌==◌, not, [], ◌∷◌};
 ghost use Rattle.pptext.specs.Languages.{OnlyPart, Repeated, Then, Exactly, One};
 ghost use Rattle.pptext.specs.Spellings.{IsBetween, IsHeader};
 
-/// The length of the characters up to the closing one, with it, or 0 where none closes in this line.
+/// Returns the length of the characters up to and including the closing one, or 0 if none closes in this line.
 fn between_rest_len(text: &[u8], closing: u8) -> usize
     ensures { OnlyPart (Then (Repeated (One (λ c. not (c == closing || c == 10)))) (Exactly (closing ∷ []))) text.now result }
 {
@@ -20,7 +20,7 @@ fn between_rest_len(text: &[u8], closing: u8) -> usize
     0
 }
 
-/// The length of what begins the text between two characters, with both, or 0.
+/// Returns the length of a text between two characters, including both, or 0 if none begins the text.
 fn between_len(text: &[u8], opening: u8, closing: u8) -> usize
     ensures { OnlyPart (IsBetween opening closing) text.now result }
 {
@@ -43,7 +43,7 @@ fn between_len(text: &[u8], opening: u8, closing: u8) -> usize
     rest + 2
 }
 
-/// The length of the header name that begins the text, or 0.
+/// Returns the length of the header name that begins the text, or 0.
 pub(crate) fn header_len(text: &[u8]) -> usize
     ensures { OnlyPart IsHeader text.now result }
 {

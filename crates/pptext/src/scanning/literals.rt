@@ -1,20 +1,22 @@
-// Character constants (6.4.4.4) and string literals (6.4.5).
+//! Character constants (6.4.4.4) and string literals (6.4.5).
 ghost use Rattle.std.specs.Prelude.{◌≡◌, ◌≢◌, ◌↔◌, ◌⊎◌, ◌+◌, ◌-◌, ◌<◌, ◌≤◌, ℕ, [], ◌∷◌, length, drop, IsTrue, slice_index, Contains};
 ghost use Rattle.pptext.specs.Languages.{OnlyPart, NoFront, IsOnly, Then, Exactly};
 ghost use Rattle.pptext.specs.Spellings.{IsElement, IsCharConst, IsStr, char_prefixes, str_prefixes};
 ghost use Rattle.pptext.specs.Lone.{IsQuoted, AreLone, StaysOpen};
 
-/// How far the quotes of each kind are known to be lone, that is closed by no other in their line.
-/// Each number counts the bytes that are left there, so it holds as the text is passed over.
-/// Without it a line of n lone quotes would be searched n times.
+/// How far the quotes of each kind are known to be unmatched, that is, not closed in their line. Each number counts the
+/// bytes of the text after that range, so it stays valid as the text is read. Without this, a line of n unmatched
+/// quotes would be searched n times.
 #[derive(Clone, Copy)]
 pub(crate) struct LoneQuotes {
+    /// The number of bytes after the range of single quotes.
     pub(crate) single: usize,
+    /// The number of bytes after the range of double quotes.
     pub(crate) double: usize,
 }
 
 impl LoneQuotes {
-    /// Nothing is known of the quotes of a text of so many bytes.
+    /// Creates the record for a text of `len` bytes of whose quotes nothing is known.
     pub(crate) fn unknown(len: usize) -> LoneQuotes
         ensures { result ≡ record { single = len; double = len } }
     {
@@ -28,27 +30,28 @@ impl LoneQuotes {
 /// What follows an opening quote.
 #[derive(Clone, Copy)]
 pub(crate) enum Quoted {
-    /// So many bytes, with the closing quote.
+    /// The number of bytes up to and including the closing quote.
     Closed(usize),
-    /// No closing quote in this line. The quotes among so many bytes aren't closed either.
+    /// No closing quote in this line. The quotes among the first bytes, of which this is the number, aren't closed
+    /// either.
     Lone(usize),
 }
 
-/// Whether a prefix of one letter: u, U or L.
+/// Whether the byte is a prefix of one letter: u, U or L.
 fn is_prefix(c: u8) -> bool
     ensures { IsTrue result ↔ (c ≡ 117) ⊎ ((c ≡ 85) ⊎ (c ≡ 76)) }
 {
     c == b'u' || c == b'U' || c == b'L'
 }
 
-/// Whether a literal may begin with this byte: a quote, or the letter of a prefix.
+/// Whether the byte may begin a literal: a quote, or the letter of a prefix.
 pub(crate) fn may_open_literal(c: u8) -> bool
     ensures { IsTrue result ↔ (c ≡ 39) ⊎ ((c ≡ 34) ⊎ ((c ≡ 117) ⊎ ((c ≡ 85) ⊎ (c ≡ 76)))) }
 {
     c == b'\'' || c == b'"' || is_prefix(c)
 }
 
-/// The length of the prefix and quote that open a character constant, or 0.
+/// Returns the length of the prefix and quote that open a character constant, or 0.
 fn char_opening_len(text: &[u8]) -> usize
     ensures { OnlyPart (Then (Contains char_prefixes) (Exactly (39 ∷ []))) text.now result }
 {
@@ -70,7 +73,7 @@ fn char_opening_len(text: &[u8]) -> usize
     0
 }
 
-/// The length of the prefix and quote that open a string literal, or 0.
+/// Returns the length of the prefix and quote that open a string literal, or 0.
 fn str_opening_len(text: &[u8]) -> usize
     ensures { OnlyPart (Then (Contains str_prefixes) (Exactly (34 ∷ []))) text.now result }
 {
@@ -106,7 +109,7 @@ fn opens_u8(text: &[u8]) -> bool
     text.len() >= 3 && text[0] == b'u' && text[1] == b'8' && text[2] == b'"'
 }
 
-/// The length of the element that begins the text, between quotes of this kind, or 0.
+/// Returns the length of the element that begins the text between quotes of this kind, or 0.
 fn element_len(text: &[u8], quote: u8) -> usize
     requires { quote ≢ 92 }
     ensures { OnlyPart (IsElement quote) text.now result }
@@ -132,7 +135,7 @@ fn element_len(text: &[u8], quote: u8) -> usize
     2
 }
 
-/// What follows an opening quote: its elements (6.4.4.4, 6.4.5) up to the closing one.
+/// Returns what follows an opening quote: its elements (6.4.4.4, 6.4.5) up to the closing quote.
 fn quoted_rest(text: &[u8], quote: u8) -> Quoted
     requires { quote ≢ 92 }
     ensures { elim result [ Quoted.Closed n ↦ IsOnly (IsQuoted quote) text.now n | Quoted.Lone n ↦ StaysOpen quote text.now n ] }
@@ -151,8 +154,8 @@ fn quoted_rest(text: &[u8], quote: u8) -> Quoted
     Quoted::Lone(at)
 }
 
-/// The length of the literal that begins with an opening of this length, or 0 where no quote closes it.
-/// The quotes of its kind are known to be lone up to where `left` bytes are left.
+/// Returns the length of the literal whose opening has this length, or 0 if no quote closes it. The quotes of its kind
+/// are known to be unmatched, up to the last `left` bytes.
 fn literal_len(text: &[u8], opening: usize, quote: u8, left: &mut usize) -> usize
     requires some { 0 < opening }
     requires fits { opening ≤ length text.now }
@@ -183,8 +186,8 @@ fn begins_with_byte(text: &[u8], c: u8) -> bool
     !text.is_empty() && text[0] == c
 }
 
-/// The length of the character constant that begins the text, or 0.
-/// Single quotes are known to be lone up to where `left` bytes are left.
+/// Returns the length of the character constant that begins the text, or 0. Single quotes are known to be unmatched, up
+/// to the last `left` bytes.
 pub(crate) fn char_const_len(text: &[u8], left: &mut usize) -> usize
     requires { AreLone 39 text.now (length text.now - left.old) }
     ensures part { OnlyPart IsCharConst text.now result }
@@ -200,8 +203,8 @@ pub(crate) fn char_const_len(text: &[u8], left: &mut usize) -> usize
     literal_len(text, opening, b'\'', left)
 }
 
-/// The length of the string literal that begins the text, or 0.
-/// Double quotes are known to be lone up to where `left` bytes are left.
+/// Returns the length of the string literal that begins the text, or 0. Double quotes are known to be unmatched, up to
+/// the last `left` bytes.
 pub(crate) fn str_len(text: &[u8], left: &mut usize) -> usize
     requires { AreLone 34 text.now (length text.now - left.old) }
     ensures part { OnlyPart IsStr text.now result }

@@ -1,25 +1,25 @@
-// Preprocessing numbers (6.4.8).
+//! Preprocessing numbers (6.4.8).
 ghost use Rattle.std.specs.Prelude.{◌≡◌, ◌↔◌, ◌||◌, ◌==◌, ◌≤◌, [], ◌∷◌, length, IsTrue, slice_index};
 ghost use Rattle.pptext.specs.Languages.{NextPart, OnlyPart, LongestOrNone, Longest, Repeated, Then, Either, Exactly, One};
 ghost use Rattle.pptext.specs.Spellings.{is_digit, is_exponent, is_sign, IsNumberPart, IsNumber};
 
 use super::{is_digit, nondigit_len};
 
-/// Whether e, E, p or P.
+/// Whether the byte is e, E, p or P.
 pub(super) fn is_exponent(c: u8) -> bool
     ensures { result ≡ is_exponent c }
 {
     c == b'e' || c == b'E' || c == b'p' || c == b'P'
 }
 
-/// Whether a sign.
+/// Whether the byte is a sign.
 pub(super) fn is_sign(c: u8) -> bool
     ensures { result ≡ is_sign c }
 {
     c == b'+' || c == b'-'
 }
 
-/// Whether a digit or a period.
+/// Whether the byte is a digit or a period.
 fn is_digit_or_period(c: u8) -> bool
     ensures { result ≡ (is_digit c || c == 46) }
 {
@@ -46,7 +46,7 @@ fn begins_with_fraction(text: &[u8]) -> bool
     text.len() >= 2 && text[0] == b'.' && is_digit(text[1])
 }
 
-/// The length of the next part of a number, or 0.
+/// Returns the length of the next part of a number, or 0.
 fn number_part_len(text: &[u8]) -> usize
     ensures { NextPart IsNumberPart text.now result }
 {
@@ -62,7 +62,7 @@ fn number_part_len(text: &[u8]) -> usize
     nondigit_len(text)
 }
 
-/// The length of the parts of a number that begin the text.
+/// Returns the length of the parts of a number that begin the text.
 pub(super) fn number_rest_len(text: &[u8]) -> usize
     ensures fits { result ≤ length text.now }
     ensures longest { Longest (Repeated IsNumberPart) text.now result }
@@ -77,7 +77,7 @@ pub(super) fn number_rest_len(text: &[u8]) -> usize
     }
 }
 
-/// The length of the digit, or the period and digit, with which a number begins, or 0.
+/// Returns the length of the digit, or the period and digit, that begins a number, or 0.
 fn number_start_len(text: &[u8]) -> usize
     ensures { OnlyPart (Either (One is_digit) (Then (Exactly (46 ∷ [])) (One is_digit))) text.now result }
 {
@@ -93,7 +93,7 @@ fn number_start_len(text: &[u8]) -> usize
     0
 }
 
-/// The length of the longest number that begins the text, or 0.
+/// Returns the length of the longest number that begins the text, or 0.
 pub(crate) fn number_len(text: &[u8]) -> usize
     ensures { LongestOrNone IsNumber text.now result }
 {

@@ -2,7 +2,7 @@ use Rattle.std.proofs.Common.{◌≡◌, ◌++◌, ◌∙◌, ℕ, List, [], tak
 use Rattle.std.specs.Option.{IfSome, option_map}
 use Rattle.ppshelf.proofs.folder_disk.read_start.Goals as goal
 
--- what a reader that stops after so many bytes gives
+-- what a reader that stops after N bytes returns
 start_of : (left all : Option (List ℕ)) (bytes before : List ℕ) (limit most : ℕ)
     → left ≡ all
     → before ≡ []

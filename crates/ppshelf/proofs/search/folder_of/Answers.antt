@@ -4,7 +4,7 @@ use Rattle.ppshelf.specs.Search.{lead}
 use Rattle.ppshelf.proofs.Beside.{before_slash, no_slash}
 use Rattle.ppshelf.proofs.search.folder_of.Goals as goal
 
--- what the folder is cut to is the text before the last slash, in whatever way the code writes its length
+-- what the directory is cut to is the text before the last slash, in whatever way the code writes its length
 pub returns-in-Some : goal.returns-in-Some
 returns-in-Some c =
     let h = c.in-Some.ensures.0 in

@@ -10,7 +10,7 @@ use Rattle.pptext.proofs.cleaning.copy_cleaned.Goals.{then-supplied+in_ok-push-2
 stretch_codes : (raw codes : List ℕ) (start n : ℕ) → codes ++ take (start + n - start) (drop start raw) ≡ codes ++ take n (drop start raw)
 stretch_codes raw codes start n = ap (λ k. codes ++ take k (drop start raw)) (omega arith)
 
--- behind a break less is left
+-- after a line note less is left
 nearer : (start ahead len end : ℕ) → start + ahead < end → 0 < len → end - (start + ahead + len) < end - start
 nearer start ahead len end lt some = omega arith
 

@@ -13,7 +13,7 @@ abbrev meant : code.Step → Step
 meant (variant.Code code n) = Code code n
 meant (variant.Removed n) = Removed n
 
--- behind a break less is left
+-- after a line note less is left
 nearer : (start ahead len end : ℕ) → start + ahead < end → 0 < len → end - (start + ahead + len) < end - start
 nearer start ahead len end lt some = omega arith
 

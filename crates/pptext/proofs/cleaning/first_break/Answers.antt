@@ -24,7 +24,7 @@ loop-ahead-preserved c =
     let is : step_of c.args.supplied (drop at bytes) ≡ Code code 1 = sym (simp take_rest at c.in-Code.ensures) ∙ ap (λ n. Code code n) c.if-len-ne1.false in
     own_code c.args.supplied bytes at code here.1 here.0 is
 
--- a break there
+-- a line note there
 break_at : (s : Bool) (bytes : List ℕ) (at : ℕ) → (at < length bytes) × OwnFront s bytes at → IsChanged s (drop at bytes) → (at < length bytes) × Stretch s bytes at
 break_at s bytes at here changed = (here.0, record { front = here.1; stops = λ lt. changed })
 

@@ -33,7 +33,7 @@ plain_here quote text lt own no_backslash =
     only_some (IsElement quote) text 1
     (either_left (One (plain quote)) Escape text 1 (one_here (plain quote) text lt own) (then_lacks (Exactly (92 ∷ [])) (One escaped) text (exactly_lacks 92 [] text no_backslash)))
 
--- a backslash with nothing behind
+-- a backslash with nothing after it
 escape_cut : (quote : ℕ) (text : List ℕ) → length text ≡ 1 → get_or text 0 0 ≡ 92 → OnlyPart (IsElement quote) text 0
 escape_cut quote text one e =
     let l = length-drop 1 text in

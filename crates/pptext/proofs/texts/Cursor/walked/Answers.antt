@@ -6,7 +6,7 @@ use Rattle.pptext.proofs.Copies.{code_at, removed_at}
 use Rattle.pptext.proofs.Cursors.{arrives, bounds, opened, pass_code, pass_plain, skip_removed, stands_at_code, stands_at_end}
 use Rattle.pptext.proofs.texts.Cursor.walked.Goals as goal
 
--- what begins the rest behind this offset, as it was asked for
+-- what the bytes after this offset begin with, as it was asked for
 step_here : (raw : List ℕ) (supplied : Bool) (asked offset : ℕ) (step : Step) → supplied ≡ open_end raw → asked ≡ offset → step ≡ step_of supplied (drop asked raw) → step_of (open_end raw) (drop offset raw) ≡ step
 step_here raw supplied asked offset step end same is = ap (λ s. step_of s (drop offset raw)) (sym end) ∙ ap (λ k. step_of supplied (drop k raw)) (sym same) ∙ sym is
 
