@@ -36,6 +36,7 @@ fn is_wanted(found: &Result<bool, Fault>, wanted: Result<bool, u8>) -> bool {
     }
 }
 
+/// The macros that the expressions use.
 const MACROS: &str = "#define ONE 1\n#define SAME(x) x\n";
 
 /// Expressions and budgets, each with its condition or the number of its fault, and the rest of the budget.

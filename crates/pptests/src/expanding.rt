@@ -117,6 +117,7 @@ fn assert_expanded(
     assert_expanded_by(rt, alloc, &table, tokens, case)
 }
 
+/// The expansions of lines.
 const CASES: &[Case] = &[
     // several parts, and a single one
     (

@@ -32,6 +32,7 @@ fn shelf_of(alloc: Global, profile: Profile, files: Files) -> Result<Shelf<Memor
     Ok(Shelf::new(alloc, names, profile)?)
 }
 
+/// Returns a disk of these files.
 fn disk_of(alloc: Global, files: Files) -> Result<MemoryDisk, AllocError> {
     let mut disk = MemoryDisk {
         files: Vec::new(alloc),
@@ -45,6 +46,7 @@ fn disk_of(alloc: Global, files: Files) -> Result<MemoryDisk, AllocError> {
     Ok(disk)
 }
 
+/// Returns copies of these texts.
 fn texts_of(alloc: Global, given: &[&str]) -> Result<Texts, AllocError> {
     let mut texts = Vec::new(alloc);
     for text in given {
@@ -53,10 +55,12 @@ fn texts_of(alloc: Global, given: &[&str]) -> Result<Texts, AllocError> {
     Ok(Texts::new(texts))
 }
 
+/// Returns a copy of a text.
 fn text_of(alloc: Global, text: &str) -> Result<Text, AllocError> {
     Ok(Text::new(String::from_str(alloc, text)?))
 }
 
+/// Returns a setting with this date and time.
 fn setting_of(
     alloc: Global,
     profile: Profile,
@@ -85,12 +89,14 @@ fn unit_of(alloc: Global, profile: Profile, file: usize, defines: &[&str]) -> Re
     })
 }
 
+/// Appends a token's spelling and a space to a text.
 fn push_token(text: &mut Vec<u8>, token: &Token) -> Result<(), AllocError> {
     text.extend_from_slice(token.text.as_bytes())?;
     text.push(b' ')?;
     Ok(())
 }
 
+/// Appends an item to a text.
 fn push_item(alloc: Global, text: &mut Vec<u8>, item: &Item) -> Result<(), AllocError> {
     match item {
         Item::Token(token) => push_token(text, token),

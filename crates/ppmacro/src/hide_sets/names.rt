@@ -33,6 +33,7 @@ impl<'n> Model for HiddenName<'n> {
 }
 
 impl HiddenName<'_> {
+    /// Returns the name as a key.
     fn key(&self) -> Key<'_>
         ensures { result ≡ self.now }
     {

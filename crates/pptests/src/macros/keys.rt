@@ -2,10 +2,11 @@
 use pptext::Hashing;
 use std::hash::{BuildHasher, Hasher};
 
-/// Two names that collide.
+/// A name that collides with the next one.
 const COLLIDING: &str =
     "aaaaabkDZlJeGuI7aaaaasv0Hp5QKjqTaaaaasv0Hp5QKjqTaaaaasv0Hp5QKjqTaaaaasv0Hp5QKjqT";
 
+/// The name that `COLLIDING` collides with.
 const ALSO_COLLIDING: &str =
     "aaaaabkDZlJeGuI7aaaaasv0Hp5QKjqTaaaaasv0Hp5QKjqTaaaaasv0Hp5QKjqTaaaaaRCW9dtu4yQE";
 

@@ -98,6 +98,7 @@ fn assert_files(
     Ok(())
 }
 
+/// Lines by profile, and the first fault.
 const LINES: &[(Profile, &str, &str)] = &[
     (
         Profile::C11,
@@ -164,6 +165,7 @@ const LINKS: &[(Profile, &str, &str)] = &[
     ),
 ];
 
+/// Files with and without a guard.
 const GUARDS: &[(Profile, &str, &str)] = &[
     (Profile::C11, "\n#ifndef X\na\n#endif\n\n", "X"),
     (Profile::C11, "# if !defined X\n#endif", "X"),

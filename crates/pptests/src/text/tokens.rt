@@ -3,6 +3,7 @@ use pptext::{Fault, Kind, Place, Spelling, Stop, Token, Tokens, settled};
 use std::alloc::{AllocError, Global};
 use std::test::Fail;
 
+/// The location of the tests.
 const AT: Place = Place {
     file: 1,
     line: 2,
