@@ -95,7 +95,6 @@ fn parse<R: Env + AllocGlobal>(rt: &R) -> Result<Options, Error>
 /// Returns the command-line arguments.
 fn given_words<R: Env + AllocGlobal>(
     rt: &R,
-    /// Builds the parser.
     command: &mut Command<'_>,
 ) -> Result<Vec<String>, Error> {
     match env::args(rt) {
@@ -134,6 +133,7 @@ fn number(matches: &ArgMatches<'_>, option: &str, most: usize) -> usize
     matches.get_one::<usize>(option).unwrap_or(1).clamp(1, most)
 }
 
+/// Builds the parser.
 fn command<'a>(alloc: Global) -> Result<Command<'a>, AllocError> {
     Command::new(alloc, "cppunits")
         .version(VERSION)
