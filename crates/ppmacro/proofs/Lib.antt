@@ -24,6 +24,8 @@ pub mod Gaining
 pub mod ArgumentLemmas
 -- Tries of words.
 pub mod Tries
+-- Sets that are there already.
+pub mod Standing
 -- Pairs that are known, while nodes and pairs are added.
 pub mod Remembering
 -- Numbers of sets, and the sets of names that they stand for.

@@ -1,6 +1,6 @@
 -- Sets of numbers as nodes of a trie of words, each with 64 members: the number n is bit n % 64 of the word n / 64. Only the contracts of private
 -- functions, and the view of a type's private fields, cite this.
-use Rattle.std.specs.Prelude.{◌≡◌, ℕ, zero, suc, ◌<◌, ◌/◌, ◌%◌, ◌^◌, Bool, true, nat_eq, List, [], ◌∷◌, ◌++◌, length, slice_index_or, if◌then◌else◌}
+use Rattle.std.specs.Prelude.{◌≡◌, ℕ, zero, suc, ◌<◌, ◌≤◌, ◌/◌, ◌%◌, ◌^◌, Bool, true, nat_eq, List, [], ◌∷◌, ◌++◌, length, slice_index_or, if◌then◌else◌}
 use Rattle.std.specs.Int.{bit_at}
 
 -- a set of numbers: word 0 is `here`, word 2w + 1 the word w of the set with the number `left`, word 2w + 2 that of the set with the number `right`
@@ -45,9 +45,10 @@ pub record IsWithin (limit : ℕ) (node : Node) : Type 0 where
   pub left : node.left < limit
   pub right : node.right < limit
 
--- the first node is that of the empty set, each other leads to nodes before it, and no two are the same
+-- the first node is that of the empty set, each other leads to nodes before it, no two are the same, and there are at most 4,294,967,295
 pub record IsPool (ns : List Node) : Type 0 where
   pub some : 0 < length ns
+  pub few : length ns ≤ 4294967295
   pub empty : node_at ns 0 ≡ no_node
   pub older : (n : ℕ) → 0 < n → n < length ns → IsWithin n (node_at ns n)
   pub different : (m n : ℕ) → m < length ns → n < length ns → node_at ns m ≡ node_at ns n → m ≡ n
@@ -68,8 +69,3 @@ first = no_node ∷ []
 -- a word with this bit alone, and the others without one
 abbrev pub word_with : ℕ → ℕ → ℕ → ℕ
 word_with index bit w = if nat_eq w index then 2 ^ bit else 0
-
--- a node with this number is there, below the limit of 4,294,967,295 nodes
-pub record IsNumbered (ns : List Node) (n : ℕ) : Type 0 where
-  pub there : n < length ns
-  pub below : n < 4294967295

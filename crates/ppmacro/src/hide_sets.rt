@@ -1,5 +1,5 @@
 // Hide sets: the names that a token is not to be replaced by any more.
-ghost use Rattle.std.specs.Prelude.{◌≡◌, ◌↔◌, IsTrue, ℕ, Some, Ok, IfOk};
+ghost use Rattle.std.specs.Prelude.{◌≡◌, ◌↔◌, IsTrue, ℕ, Some, Ok, IfOk, OnErr};
 ghost use Rattle.std.specs.FinSet as set;
 ghost use Rattle.ppmacro.specs.HideSets.{set_at, IsKnown, Keeps, starting};
 ghost use Rattle.ppmacro.specs.Pairs.{union_known, meet_known, KeepsPairs};
@@ -117,14 +117,15 @@ impl HideSets {
         }
     }
 
-    /// A set with one name more. Fails only for want of memory, which more sets than can be numbered count as, but none that is there; then every set is
-    /// what it was.
+    /// A set with one name more. Fails only for want of memory, which more sets than can be numbered count as; then every set is what it was.
+    /// Where that set is there, it succeeds and changes nothing.
     pub fn with(&mut self, hide: Set, name: &[u8]) -> Result<Set, Memory>
         requires { IsKnown self.old hide }
         ensures set { IfOk result (λ s. set_at self.new s ≡ set.insert (set_at self.old hide) name.now) }
         ensures known { IfOk result (λ s. IsKnown self.new s) }
         ensures keeps { Keeps self.old self.new }
         ensures pairs { (self.new.unions ≡ self.old.unions) × (self.new.meets ≡ self.old.meets) }
+        ensures there { (n : ℕ) → IsKnown self.old n → set_at self.old n ≡ set.insert (set_at self.old hide) name.now → (result ≡ Ok n) × (self.new ≡ self.old) }
     {
         let (alloc, set) = (self.alloc, hide.number);
         let named = self.names.number_for(alloc, name)?;
@@ -133,6 +134,7 @@ impl HideSets {
     }
 
     /// The names of either set. A second call at the same two sets gives the same answer, takes no memory and succeeds. Fails as `with` does.
+    /// Where that set is there, none is made: memory can fail for the pair alone.
     pub fn union(&mut self, left: Set, right: Set) -> Result<Set, Memory>
         requires left { IsKnown self.old left }
         requires right { IsKnown self.old right }
@@ -143,6 +145,8 @@ impl HideSets {
         ensures again { (n : ℕ) → union_known self.old.unions left right ≡ Some n → (result ≡ Ok n) × (self.new ≡ self.old) }
         ensures unions { KeepsPairs self.old.unions self.new.unions }
         ensures meets { self.new.meets ≡ self.old.meets }
+        ensures there { (n : ℕ) → IsKnown self.old n → set_at self.old n ≡ set.union (set_at self.old left) (set_at self.old right)
+            → IfOk result (λ m. m ≡ n) × (self.new.sets ≡ self.old.sets) × OnErr result (self.new ≡ self.old) }
     {
         let (nodes, pairs) = (&mut self.nodes, &mut self.unions);
         let operation = Operation {
@@ -153,6 +157,7 @@ impl HideSets {
     }
 
     /// The names of both sets. A second call at the same two sets gives the same answer, takes no memory and succeeds. Fails as `with` does.
+    /// Where that set is there, none is made: memory can fail for the pair alone.
     pub fn meet(&mut self, left: Set, right: Set) -> Result<Set, Memory>
         requires left { IsKnown self.old left }
         requires right { IsKnown self.old right }
@@ -163,6 +168,8 @@ impl HideSets {
         ensures again { (n : ℕ) → meet_known self.old.meets left right ≡ Some n → (result ≡ Ok n) × (self.new ≡ self.old) }
         ensures meets { KeepsPairs self.old.meets self.new.meets }
         ensures unions { self.new.unions ≡ self.old.unions }
+        ensures there { (n : ℕ) → IsKnown self.old n → set_at self.old n ≡ set.intersection (set_at self.old left) (set_at self.old right)
+            → IfOk result (λ m. m ≡ n) × (self.new.sets ≡ self.old.sets) × OnErr result (self.new ≡ self.old) }
     {
         let (nodes, pairs) = (&mut self.nodes, &mut self.meets);
         let operation = Operation {
