@@ -28,7 +28,7 @@ fn behind<'x>(tokens: &'x [Token], text: &[u8]) -> Option<&'x [Token]>
 // Whether the name that the tokens ask for at their beginning is defined, and what stands behind it.
 #[inline(always)]
 fn question<'x>(table: &Table, tokens: &'x [Token]) -> Option<(bool, &'x [Token])>
-    ensures { IfSome result (λ r. BeginsWith table.now tokens.now (Constant (truth r.0)) r.1.now) }
+    ensures { IfSome result (λ r. BeginsWith table.now.macros tokens.now (Constant (truth r.0)) r.1.now) }
 {
     let (first, behind) = tokens.split_first()?;
     if !is_defined(first) {
@@ -41,7 +41,7 @@ fn question<'x>(table: &Table, tokens: &'x [Token]) -> Option<(bool, &'x [Token]
 // The same, perhaps behind `!`.
 #[inline(always)]
 fn term<'x>(table: &Table, tokens: &'x [Token]) -> Option<(bool, &'x [Token])>
-    ensures { IfSome result (λ r. BeginsTruth table.now 12 tokens.now r.0 r.1.now) }
+    ensures { IfSome result (λ r. BeginsTruth table.now.macros 12 tokens.now r.0 r.1.now) }
 {
     if let Some(behind) = behind(tokens, b"!") {
         let (holds, rest) = question(table, behind)?;
@@ -53,7 +53,7 @@ fn term<'x>(table: &Table, tokens: &'x [Token]) -> Option<(bool, &'x [Token])>
 
 // Terms between `&&` (6.5.13).
 fn conjunction<'x>(table: &Table, tokens: &'x [Token]) -> Option<(bool, &'x [Token])>
-    ensures { IfSome result (λ r. BeginsTruth table.now 3 tokens.now r.0 r.1.now) }
+    ensures { IfSome result (λ r. BeginsTruth table.now.macros 3 tokens.now r.0 r.1.now) }
 {
     let (mut holds, mut rest) = term(table, tokens)?;
     while let Some(next) = behind(rest, b"&&") {
@@ -66,7 +66,7 @@ fn conjunction<'x>(table: &Table, tokens: &'x [Token]) -> Option<(bool, &'x [Tok
 
 /// Whether the condition holds, where it asks for definitions alone (6.5.14).
 pub(crate) fn definitions_hold(table: &Table, tokens: &[Token]) -> Option<bool>
-    ensures { IfSome result (λ holds. HasTruth table.now tokens.now holds) }
+    ensures { IfSome result (λ holds. HasTruth table.now.macros tokens.now holds) }
 {
     if tokens.len() > MOST {
         return None;
