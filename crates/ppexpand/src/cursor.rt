@@ -130,8 +130,8 @@ impl<'a> Cursor<'a> {
     /// Pops the next token if a replacement pushed it and it is emitted unchanged; or returns the macro that it names.
     pub(crate) fn next_plain<'t, 'b>(&mut self, table: &'t Table<'b>) -> Ahead<'t, 'a, 'b>
         ensures { elim result [
-          | Ahead.Passes h ↦ (self.old ≡ h ∷ self.new) × (is_plain table.now h.token ≡ true)
-          | Ahead.Names m ↦ (self.new ≡ self.old) × (next_macro table.now (tokens_of self.old) ≡ Some m.now)
+          | Ahead.Passes h ↦ (self.old ≡ h ∷ self.new) × (is_plain table.now.macros h.token ≡ true)
+          | Ahead.Names m ↦ (self.new ≡ self.old) × (next_macro table.now.macros (tokens_of self.old) ≡ Some m.now)
           | Ahead.Unknown ↦ self.new ≡ self.old
         ] }
     {
@@ -157,8 +157,8 @@ impl<'a> Cursor<'a> {
         table: &'t Table<'b>,
     ) -> (Stretch<'a>, Option<&'t Macro<'b>>)
         ensures laid_out { self.old ≡ result.0 ++ self.new }
-        ensures plain { ArePlain table.now result.0 }
-        ensures named { option_copied result.1 ≡ next_macro table.now (tokens_of self.new) }
+        ensures plain { ArePlain table.now.macros result.0 }
+        ensures named { option_copied result.1 ≡ next_macro table.now.macros (tokens_of self.new) }
     {
         if let Some(last) = self.behind.last() {
             return (self.below.none(), macro_at(table, last.word()));

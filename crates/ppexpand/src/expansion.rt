@@ -46,8 +46,8 @@ fn skip_flying<'t, 'x, 'a>(
     list: &mut Cursor<'x>,
     passed: &mut Passed<'x>,
 ) -> Result<Option<&'t Macro<'a>>, AllocError>
-    ensures skipped { OnOk result (HasSkipped table.now list.old passed.old list.new passed.new) }
-    ensures named { IfOk result (λ r. IfSome r (λ m. Some m.now ≡ next_macro table.now (tokens_of list.new))) }
+    ensures skipped { OnOk result (HasSkipped table.now.macros list.old passed.old list.new passed.new) }
+    ensures named { IfOk result (λ r. IfSome r (λ m. Some m.now ≡ next_macro table.now.macros (tokens_of list.new))) }
 {
     loop {
         match list.next_plain(table) {
@@ -65,8 +65,8 @@ fn skip<'t, 'x, 'a>(
     list: &mut Cursor<'x>,
     passed: &mut Passed<'x>,
 ) -> Result<Option<&'t Macro<'a>>, AllocError>
-    ensures skipped { OnOk result (HasSkipped table.now list.old passed.old list.new passed.new) }
-    ensures named { IfOk result (λ r. option_copied r ≡ next_macro table.now (tokens_of list.new)) }
+    ensures skipped { OnOk result (HasSkipped table.now.macros list.old passed.old list.new passed.new) }
+    ensures named { IfOk result (λ r. option_copied r ≡ next_macro table.now.macros (tokens_of list.new)) }
 {
     if let Some(named) = skip_flying(table, list, passed)? {
         return Ok(Some(named));
@@ -79,7 +79,7 @@ fn skip<'t, 'x, 'a>(
 /// Returns whether each token is emitted unchanged, whatever its hide set is.
 #[inline(never)]
 fn all_pass(table: &Table, tokens: &[Hidden]) -> bool
-    ensures { result ≡ true → ArePlain table.now tokens.now }
+    ensures { result ≡ true → ArePlain table.now.macros tokens.now }
 {
     for hidden in tokens {
         if !is_plain(table, hidden.word()) {
@@ -165,15 +165,15 @@ impl<'x> Expander<'x> {
         passed: &mut Passed<'x>,
         call: &mut Option<Invocation<'t, 'x, 'a>>,
     ) -> Result<bool, Memory>
-        requires named { option_copied named ≡ next_macro context.now.table.now (tokens_of list.old) }
+        requires named { option_copied named ≡ next_macro context.now.table.now.macros (tokens_of list.old) }
         requires no_fault { self.old.fault ≡ None }
         requires no_call { call.old ≡ None }
         requires list_known { AllKnown self.old.replacer.sets list.old }
         requires passed_known { AllKnown self.old.replacer.sets passed.old }
         ensures on { IfOk result (λ goes. MatchOption call.new
-            ((level : ℕ) → HasTaken context.now.table.now context.now.env.now level self.old.left (hidings self.old.replacer.sets list.old)
+            ((level : ℕ) → HasTaken context.now.table.now.macros context.now.env.now level self.old.left (hidings self.old.replacer.sets list.old)
             (hidings self.old.replacer.sets passed.old) goes self.new.fault self.new.left (hidings self.new.replacer.sets list.new) (hidings self.new.replacer.sets passed.new))
-            (λ c. HasCalled context.now.table.now context.now.env.now self.old.left (hidings self.old.replacer.sets list.old)
+            (λ c. HasCalled context.now.table.now.macros context.now.env.now self.old.left (hidings self.old.replacer.sets list.old)
             (hidings self.old.replacer.sets passed.old) (call_in self.new.replacer.sets c.head c.replaced.now c.arguments.items c.both list.new)
             self.new.fault self.new.left (hidings self.new.replacer.sets passed.new))) }
         ensures call_known { OnOk result (IfSome call.new (λ c. CallKnown self.new.replacer.sets c.head c.arguments.items c.both × AllKnown self.new.replacer.sets list.new)) }
@@ -222,9 +222,9 @@ impl<'x> Expander<'x> {
         requires known { AllKnown self.old.replacer.sets argument.now }
         requires no_fault { self.old.fault ≡ None }
         ensures is { IfOk result (λ r. MatchOption r
-            (Raises self.new.fault (λ f. ExpandsArgument context.now.table.now context.now.env.now context.now.level head.now.token
+            (Raises self.new.fault (λ f. ExpandsArgument context.now.table.now.macros context.now.env.now context.now.level head.now.token
             self.old.left (hidings self.old.replacer.sets argument.now) self.new.left (Err f)))
-            (λ e. (self.new.fault ≡ None) × HasExpanded context.now.table.now context.now.env.now context.now.level head.now.token
+            (λ e. (self.new.fault ≡ None) × HasExpanded context.now.table.now.macros context.now.env.now context.now.level head.now.token
             self.old.left self.new.left self.old.replacer.sets self.new.replacer.sets argument.now e)) }
         ensures known { IfOk result (λ r. IfSome r (λ e. AllKnown self.new.replacer.sets (held e))) }
         ensures keeps { Keeps self.old.replacer.sets self.new.replacer.sets }
@@ -269,10 +269,10 @@ impl<'x> Expander<'x> {
         requires none { expanded.old.items ≡ [] }
         requires no_fault { self.old.fault ≡ None }
         ensures is { OnOk result (MatchOption self.new.fault
-            ((behind : List Hidden) → ExpandsWanted context.now.table.now context.now.env.now context.now.level
+            ((behind : List Hidden) → ExpandsWanted context.now.table.now.macros context.now.env.now context.now.level
             (call_in self.old.replacer.sets call.now.head call.now.replaced.now call.now.arguments.items call.now.both behind) self.old.left self.new.left
             (Ok (expanded_in self.new.replacer.sets call.now.arguments.items expanded.new.items)))
-            (λ f. (behind : List Hidden) → ExpandsWanted context.now.table.now context.now.env.now context.now.level
+            (λ f. (behind : List Hidden) → ExpandsWanted context.now.table.now.macros context.now.env.now context.now.level
             (call_in self.old.replacer.sets call.now.head call.now.replaced.now call.now.arguments.items call.now.both behind) self.old.left self.new.left
             (Err f))) }
         ensures known { OnOk result (self.new.fault ≡ None → ExpansionsKnown self.new.replacer.sets expanded.new.items) }
@@ -306,7 +306,7 @@ impl<'x> Expander<'x> {
         requires call_known { CallKnown self.old.replacer.sets call.now.head call.now.arguments.items call.now.both }
         requires list_known { AllKnown self.old.replacer.sets list.old }
         requires no_fault { self.old.fault ≡ None }
-        ensures is { OnOk result (ComesTo context.now.table.now context.now.env.now context.now.level
+        ensures is { OnOk result (ComesTo context.now.table.now.macros context.now.env.now context.now.level
             (call_in self.old.replacer.sets call.now.head call.now.replaced.now call.now.arguments.items call.now.both list.old) self.old.left self.new.left
             (finished_in self.new.replacer.sets list.new self.new.fault)) }
         ensures known { OnOk result (self.new.fault ≡ None → AllKnown self.new.replacer.sets list.new) }
@@ -342,13 +342,13 @@ impl<'x> Expander<'x> {
         call: &mut Option<Invocation<'t, 'x, 'a>>,
     ) -> Result<bool, Memory>
         requires level { context.now.level ≤ 256 }
-        requires named { option_copied named ≡ next_macro context.now.table.now (tokens_of list.old) }
+        requires named { option_copied named ≡ next_macro context.now.table.now.macros (tokens_of list.old) }
         requires list_known { AllKnown self.old.replacer.sets list.old }
         requires passed_known { AllKnown self.old.replacer.sets passed.old }
         requires no_fault { self.old.fault ≡ None }
         requires no_call { call.old ≡ None }
         ensures on { IfOk result (λ goes.
-            HasTaken context.now.table.now context.now.env.now context.now.level self.old.left (hidings self.old.replacer.sets list.old)
+            HasTaken context.now.table.now.macros context.now.env.now context.now.level self.old.left (hidings self.old.replacer.sets list.old)
             (hidings self.old.replacer.sets passed.old) goes self.new.fault self.new.left (hidings self.new.replacer.sets list.new) (hidings self.new.replacer.sets passed.new)) }
         ensures list_known { IfOk result (λ goes. goes ≡ true → AllKnown self.new.replacer.sets list.new) }
         ensures passed_known { OnOk result (AllKnown self.new.replacer.sets passed.new) }
@@ -375,7 +375,7 @@ impl<'x> Expander<'x> {
         requires known { AllKnown self.old.replacer.sets list.old }
         requires none { passed.old ≡ [] }
         requires no_fault { self.old.fault ≡ None }
-        ensures outcome { OnOk result (ExpandsTo context.now.table.now context.now.env.now context.now.level self.old.left (hidings self.old.replacer.sets list.old)
+        ensures outcome { OnOk result (ExpandsTo context.now.table.now.macros context.now.env.now context.now.level self.old.left (hidings self.old.replacer.sets list.old)
             (record { tokens = hidings self.new.replacer.sets passed.new; fault = self.new.fault; left = self.new.left })) }
         ensures known { OnOk result (AllKnown self.new.replacer.sets passed.new) }
         ensures keeps { Keeps self.old.replacer.sets self.new.replacer.sets }
@@ -418,7 +418,7 @@ fn expand_tokens<'x, 'a: 'x>(
 ) -> Result<(Option<u64>, Option<Fault>), Memory>
     requires level { context.now.level ≡ 0 }
     requires none { passed.old ≡ [] }
-    ensures { IfOk result (λ r. (sets : Numbered) × ExpandsTo context.now.table.now context.now.env.now 0 left (map plain tokens.now)
+    ensures { IfOk result (λ r. (sets : Numbered) × ExpandsTo context.now.table.now.macros context.now.env.now 0 left (map plain tokens.now)
         (record { tokens = hidings sets passed.new; fault = r.1; left = r.0 })) }
 {
     let sets = HideSets::with_hasher(alloc, context.table.hashing())?;
@@ -445,8 +445,8 @@ fn expand_rest<'x, 'a: 'x>(
     front: &'x [Token],
     rest: &'x [Token],
 ) -> Result<Expanded<'x>, Memory>
-    requires plain { AllByRecursion (λ t. is_plain table.now t ≡ true) front.now }
-    ensures { IfOk result (λ e. IsExpansion table.now env.now left (front.now ++ rest.now) e) }
+    requires plain { AllByRecursion (λ t. is_plain table.now.macros t ≡ true) front.now }
+    ensures { IfOk result (λ e. IsExpansion table.now.macros env.now left (front.now ++ rest.now) e) }
 {
     let context = Context {
         table,
@@ -489,7 +489,7 @@ pub fn expand<'x, 'a: 'x>(
     left: Option<u64>,
     tokens: &'x [Token],
 ) -> Result<Expanded<'x>, Memory>
-    ensures { IfOk result (λ e. IsExpansion table.now env.now left tokens.now e) }
+    ensures { IfOk result (λ e. IsExpansion table.now.macros env.now left tokens.now e) }
 {
     let (front, rest) = split_plain(table, tokens);
     if rest.is_empty() {

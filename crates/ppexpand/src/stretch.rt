@@ -30,7 +30,7 @@ impl<'a> Model for Stretch<'a> {
 
 /// Returns whether a token is emitted unchanged, whatever its hide set is.
 pub(crate) fn is_plain(table: &Table, token: &Token) -> bool
-    ensures { result ≡ is_plain table.now token.now }
+    ensures { result ≡ is_plain table.now.macros token.now }
 {
     !token.is_lone_quote() && macro_at(table, token).is_none()
 }
@@ -38,8 +38,8 @@ pub(crate) fn is_plain(table: &Table, token: &Token) -> bool
 /// Returns how many of the first tokens are emitted unchanged, and the macro that the token after them names.
 fn plain_len<'t, 'b>(table: &'t Table<'b>, tokens: &[Token]) -> (usize, Option<&'t Macro<'b>>)
     ensures within { result.0 ≤ length tokens.now }
-    ensures plain { AllByRecursion (λ t. is_plain table.now t ≡ true) (take result.0 tokens.now) }
-    ensures named { option_copied result.1 ≡ next_macro table.now (drop result.0 tokens.now) }
+    ensures plain { AllByRecursion (λ t. is_plain table.now.macros t ≡ true) (take result.0 tokens.now) }
+    ensures named { option_copied result.1 ≡ next_macro table.now.macros (drop result.0 tokens.now) }
 {
     for (count, token) in tokens.iter().enumerate() {
         let named = macro_at(table, token);
@@ -53,7 +53,7 @@ fn plain_len<'t, 'b>(table: &'t Table<'b>, tokens: &[Token]) -> (usize, Option<&
 /// Splits tokens into those that are emitted unchanged, up to the first that may not be, and the rest.
 pub(crate) fn split_plain<'x>(table: &Table, tokens: &'x [Token]) -> (&'x [Token], &'x [Token])
     ensures laid_out { tokens.now ≡ result.0.now ++ result.1.now }
-    ensures plain { AllByRecursion (λ t. is_plain table.now t ≡ true) result.0.now }
+    ensures plain { AllByRecursion (λ t. is_plain table.now.macros t ≡ true) result.0.now }
 {
     let (count, _) = plain_len(table, tokens);
     tokens.split_at(count)
@@ -103,7 +103,7 @@ impl<'a> Stretch<'a> {
 
     /// Returns the macro that the first token names.
     pub(crate) fn next_macro<'t, 'b>(&self, table: &'t Table<'b>) -> Option<&'t Macro<'b>>
-        ensures { option_copied result ≡ next_macro table.now (tokens_of self.now) }
+        ensures { option_copied result ≡ next_macro table.now.macros (tokens_of self.now) }
     {
         macro_at(table, self.tokens.first()?)
     }
@@ -114,8 +114,8 @@ impl<'a> Stretch<'a> {
         table: &'t Table<'b>,
     ) -> (Stretch<'a>, Option<&'t Macro<'b>>)
         ensures laid_out { self.old ≡ result.0 ++ self.new }
-        ensures plain { ArePlain table.now result.0 }
-        ensures named { option_copied result.1 ≡ next_macro table.now (tokens_of self.new) }
+        ensures plain { ArePlain table.now.macros result.0 }
+        ensures named { option_copied result.1 ≡ next_macro table.now.macros (tokens_of self.new) }
     {
         let (count, named) = plain_len(table, self.tokens);
         let (front, rest) = self.tokens.split_at(count);

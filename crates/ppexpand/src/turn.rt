@@ -101,7 +101,7 @@ pub(crate) struct Replacer<'x> {
 /// Returns the macro that a token names.
 #[inline(always)]
 pub(crate) fn macro_at<'t, 'a>(table: &'t Table<'a>, token: &Token) -> Option<&'t Macro<'a>>
-    ensures { option_copied result ≡ macro_of table.now token.now }
+    ensures { option_copied result ≡ macro_of table.now.macros token.now }
 {
     if token.is_identifier() {
         table.get(token.text.as_bytes())
@@ -475,9 +475,9 @@ impl<'x> Replacer<'x> {
         named: Option<&'t Macro<'a>>,
         list: &mut Cursor<'x>,
     ) -> Result<Next<'t, 'x, 'a>, Memory>
-        requires named { option_copied named ≡ next_macro context.now.table.now (tokens_of list.old) }
+        requires named { option_copied named ≡ next_macro context.now.table.now.macros (tokens_of list.old) }
         requires known { AllKnown self.old.sets list.old }
-        ensures is { IfOk result (λ n. turn_in self.new.sets list.new n ≡ turn_within context.now.table.now context.now.env.now left (hidings self.old.sets list.old)) }
+        ensures is { IfOk result (λ n. turn_in self.new.sets list.new n ≡ turn_within context.now.table.now.macros context.now.env.now left (hidings self.old.sets list.old)) }
         ensures known { IfOk result (λ n. NextKnown self.new.sets list.new n) }
         ensures keeps { Keeps self.old.sets self.new.sets }
     {

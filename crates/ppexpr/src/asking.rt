@@ -46,14 +46,14 @@ pub(crate) fn operand(tokens: &[Token]) -> Option<(&Token, &[Token])>
 /// Returns whether an identifier is defined as a macro name.
 #[inline(always)]
 pub(crate) fn is_macro_name(table: &Table, name: &Token) -> bool
-    ensures { result ≡ is_some (map.get table.now name.now.text) }
+    ensures { result ≡ is_some (map.get table.now.macros name.now.text) }
 {
     table.get(name.text.as_bytes()).is_some()
 }
 
 /// Returns the number that replaces `defined` and its operand: 1 if the name is defined, and otherwise 0.
 fn answer(alloc: Global, table: &Table, defined: &Token, name: &Token) -> Result<Token, AllocError>
-    ensures { IfOk result (λ t. t ≡ answer table.now defined.now name.now) }
+    ensures { IfOk result (λ t. t ≡ answer table.now.macros defined.now name.now) }
 {
     let digit = if is_macro_name(table, name) {
         b"1".as_slice()
@@ -75,7 +75,7 @@ pub(crate) fn asked(
     table: &Table,
     tokens: &[Token],
 ) -> Result<Option<Vec<Token>>, AllocError>
-    ensures { IfOk result (λ r. MatchOption r ((us : List Token) → ¬ Asks table.now tokens.now us) (λ v. Asks table.now tokens.now v.items)) }
+    ensures { IfOk result (λ r. MatchOption r ((us : List Token) → ¬ Asks table.now.macros tokens.now us) (λ v. Asks table.now.macros tokens.now v.items)) }
 {
     let mut asked = Vec::new(alloc);
     let mut rest = tokens;

@@ -106,7 +106,7 @@ fn evaluate_replaced(
     at: Place,
     tokens: &[Token],
 ) -> Result<(Result<bool, Fault>, Option<u64>), Memory>
-    ensures { IfOk result (λ r. IsCondition table.now env.now at tokens.now left r.0 r.1) }
+    ensures { IfOk result (λ r. IsCondition table.now.macros env.now at tokens.now left r.0 r.1) }
 {
     let Some(asked) = asked(alloc, table, tokens)? else {
         return Ok((Err(Fault::bare(22, at)), left));
@@ -149,7 +149,7 @@ pub fn evaluate(
     at: Place,
     tokens: &[Token],
 ) -> Result<(Result<bool, Fault>, Option<u64>), Memory>
-    ensures { IfOk result (λ r. IsCondition table.now env.now at tokens.now left r.0 r.1) }
+    ensures { IfOk result (λ r. IsCondition table.now.macros env.now at tokens.now left r.0 r.1) }
 {
     // Fast path: most conditions consist of uses of `defined` alone.
     if let Some(taken) = definitions_hold(table, tokens) {

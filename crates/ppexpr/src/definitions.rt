@@ -28,7 +28,7 @@ fn behind<'x>(tokens: &'x [Token], text: &[u8]) -> Option<&'x [Token]>
 /// Reads a use of `defined`. Returns whether its name is defined, and the tokens after it.
 #[inline(always)]
 fn question<'x>(table: &Table, tokens: &'x [Token]) -> Option<(bool, &'x [Token])>
-    ensures { IfSome result (λ r. BeginsWith table.now tokens.now (Constant (truth r.0)) r.1.now) }
+    ensures { IfSome result (λ r. BeginsWith table.now.macros tokens.now (Constant (truth r.0)) r.1.now) }
 {
     let (first, behind) = tokens.split_first()?;
     if !is_defined(first) {
@@ -41,7 +41,7 @@ fn question<'x>(table: &Table, tokens: &'x [Token]) -> Option<(bool, &'x [Token]
 /// Reads a use of `defined` with or without `!` before it. Returns its truth value, and the tokens after it.
 #[inline(always)]
 fn term<'x>(table: &Table, tokens: &'x [Token]) -> Option<(bool, &'x [Token])>
-    ensures { IfSome result (λ r. BeginsTruth table.now 12 tokens.now r.0 r.1.now) }
+    ensures { IfSome result (λ r. BeginsTruth table.now.macros 12 tokens.now r.0 r.1.now) }
 {
     if let Some(behind) = behind(tokens, b"!") {
         let (holds, rest) = question(table, behind)?;
@@ -53,7 +53,7 @@ fn term<'x>(table: &Table, tokens: &'x [Token]) -> Option<(bool, &'x [Token])>
 
 /// Reads terms that are joined by `&&` (6.5.13). Returns their truth value, and the tokens after them.
 fn conjunction<'x>(table: &Table, tokens: &'x [Token]) -> Option<(bool, &'x [Token])>
-    ensures { IfSome result (λ r. BeginsTruth table.now 3 tokens.now r.0 r.1.now) }
+    ensures { IfSome result (λ r. BeginsTruth table.now.macros 3 tokens.now r.0 r.1.now) }
 {
     let (mut holds, mut rest) = term(table, tokens)?;
     while let Some(next) = behind(rest, b"&&") {
@@ -66,7 +66,7 @@ fn conjunction<'x>(table: &Table, tokens: &'x [Token]) -> Option<(bool, &'x [Tok
 
 /// Returns whether a condition that consists of uses of `defined` alone is true (6.5.14), and `None` for any other condition.
 pub(crate) fn definitions_hold(table: &Table, tokens: &[Token]) -> Option<bool>
-    ensures { IfSome result (λ holds. HasTruth table.now tokens.now holds) }
+    ensures { IfSome result (λ holds. HasTruth table.now.macros tokens.now holds) }
 {
     if tokens.len() > MOST {
         return None;

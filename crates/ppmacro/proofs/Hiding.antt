@@ -262,3 +262,58 @@ insert-gained s r = same-by _ _ (λ q.
     once true false = refl
     once false true = refl
     once false false = refl
+
+-- ---- sets of names that are there
+
+past-names : (names : List Name) (ns : List Node) → IsNamed names ns → (n x : ℕ) → n < length ns → length names ≤ x → member ns n x ≡ false
+past-names names ns d n x l h = not-true (member ns n x) (λ t. let w = d.within n x l t in absurd (omega (arith, w, h)))
+
+-- a node with the names of what is made of two sets has the members
+pub made-members : (o : Operation) (names : List Name) (ns : List Node) (a b n : ℕ)
+    → IsNamed names ns
+    → a < length ns
+    → b < length ns
+    → n < length ns
+    → hide_set names ns n ≡ made_of o (hide_set names ns a) (hide_set names ns b)
+    → (x : ℕ)
+    → member ns n x ≡ joined o (member ns a x) (member ns b x)
+made-members o names ns a b n d la lb ln e x = split (cases_lt x (length names))
+  where
+    split : (x < length names) ⊎ (length names ≤ x) → member ns n x ≡ joined o (member ns a x) (member ns b x)
+    split (inl l) =
+        let q = get_or names x [] in
+        let at : (k : ℕ) → member ns k x ≡ set.contains (hide_set names ns k) q = λ k. has-own names ns k x q d.distinct l refl in
+        at n ∙ ap (λ s. set.contains s q) e ∙ contains-made o (hide_set names ns a) (hide_set names ns b) q ∙ (λ i. joined o (sym (at a) i) (sym (at b) i))
+    split (inr l) = past-names names ns d n x ln l ∙ sym ((λ i. joined o (past-names names ns d a x la l i) (past-names names ns d b x lb l i)) ∙ joined-none o)
+
+-- a node with the names of a set and one more has the set's members and that of the name
+pub more-members : (names : List Name) (ns : List Node) (a x n : ℕ) (r : Name)
+    → IsNamed names ns
+    → a < length ns
+    → n < length ns
+    → x < length names
+    → get_or names x [] ≡ r
+    → hide_set names ns n ≡ set.insert (hide_set names ns a) r
+    → (y : ℕ)
+    → member ns n y ≡ (nat_eq y x || member ns a y)
+more-members names ns a x n r d la ln lx is e y = split (cases_lt y (length names))
+  where
+    split : (y < length names) ⊎ (length names ≤ y) → member ns n y ≡ (nat_eq y x || member ns a y)
+    split (inl l) =
+        let q = get_or names y [] in
+        let at : (k : ℕ) → member ns k y ≡ set.contains (hide_set names ns k) q = λ k. has-own names ns k y q d.distinct l refl in
+        let zx : 0 + x ≡ x = omega arith in
+        let zy : 0 + y ≡ y = omega arith in
+        let same : same_name q r ≡ nat_eq y x = sym (at-one names x 0 q r d.distinct lx is) ∙ at-own (λ k. nat_eq k (0 + x)) 0 y names d.distinct l ∙ (λ i. nat_eq (zy i) (zx i)) in
+        at n ∙ ap (λ s. set.contains s q) e ∙ set.contains-insert nat_list_cmp_total (hide_set names ns a) r q ∙ (λ i. same i || sym (at a) i)
+    split (inr l) =
+        let apart = differs y x (λ h. omega (arith, h, lx, l)) in
+        past-names names ns d n y ln l ∙ sym (λ i. apart i || past-names names ns d a y la l i)
+
+-- its name has a number
+pub more-named : (names : List Name) (ns : List Node) (n : ℕ) (s : HideSet) (r : Name)
+    → IsDistinct same_name names
+    → hide_set names ns n ≡ set.insert s r
+    → ¬ (AllByRecursion (λ y. same_name r y ≡ false) names)
+more-named names ns n s r d e none =
+    true≢false (sym (ap (λ t. set.contains t r) e ∙ set.contains-insert nat_list_cmp_total s r r ∙ (λ i. name-self r i || set.contains s r)) ∙ sym (has-none names ns n r d none))

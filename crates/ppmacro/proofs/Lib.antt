@@ -24,6 +24,8 @@ pub mod Gaining
 pub mod ArgumentLemmas
 -- Tries of words.
 pub mod Tries
+-- Sets that exist.
+pub mod Standing
 -- Cached pairs, while nodes and pairs are added.
 pub mod Remembering
 -- The sets of names that numbers refer to.

@@ -223,7 +223,7 @@ below-lt ns (suc f) n x p l =
     let s = node_at ns n in
     made-below s.here (word_below ns f s.left) (word_below ns f s.right) x w.here (λ y. below-lt ns f s.left y p w.left) (λ y. below-lt ns f s.right y p w.right)
 
-word-lt : (ns : List Node) (n x : ℕ) → IsPool ns → n < length ns → word ns n x < 2 ^ 64
+pub word-lt : (ns : List Node) (n x : ℕ) → IsPool ns → n < length ns → word ns n x < 2 ^ 64
 unfolding word
 word-lt ns n x p l = below-lt ns (suc x) n x p l
 
@@ -241,10 +241,10 @@ child ns k zero n p l a b h = subst (IsWithin k) (sym p.empty) (record { here = 
     pos (inr z) = omega (arith, z, b)
 child ns k (suc m) n p l a b h = let o = p.older (suc m) (omega arith) l in record { here = o.here; left = omega (arith, o.left, a); right = omega (arith, o.right, a) }
 
-node-same : (s t : Node) → s.here ≡ t.here → s.left ≡ t.left → s.right ≡ t.right → s ≡ t
+pub node-same : (s t : Node) → s.here ≡ t.here → s.left ≡ t.left → s.right ≡ t.right → s ≡ t
 node-same s t a b c = λ i. record { here = a i; left = b i; right = c i }
 
-abbrev Alike : List Node → ℕ → ℕ → Type 0
+abbrev pub Alike : List Node → ℕ → ℕ → Type 0
 Alike ns m n = (w : ℕ) → word ns m w ≡ word ns n w
 
 abbrev LawfulBelow : List Node → ℕ → Type 0
@@ -268,10 +268,24 @@ lawful-below ns p (suc k) zero zero lm ln a b h = refl
 lawful-below ns p (suc k) zero (suc n) lm ln a b h = lawful-step ns k zero (suc n) (lawful-below ns p k) p lm ln a b (inr (omega arith)) (inl (omega arith)) h
 lawful-below ns p (suc k) (suc m) n lm ln a b h = lawful-step ns k (suc m) n (lawful-below ns p k) p lm ln a b (inl (omega arith)) (inr (omega arith)) h
 
+pub words-lawful : (ns : List Node) (m n : ℕ) → IsPool ns → m < length ns → n < length ns → Alike ns m n → m ≡ n
+words-lawful ns m n p lm ln h = lawful-below ns p (suc (m + n)) m n lm ln (omega arith) (omega arith) h
+
+-- a set's words by its members
+pub words-of : (ns : List Node) (n : ℕ) (f : ℕ → ℕ)
+    → IsPool ns
+    → n < length ns
+    → ((w : ℕ) → f w < 2 ^ 64)
+    → ((x : ℕ) → member ns n x ≡ has_bit (f (x / 64)) (x % 64))
+    → (w : ℕ)
+    → word ns n w ≡ f w
+words-of ns n f p l b h w = same_from_bits_below 64 (word ns n w) (f w) (word-lt ns n w p l) (b w) (λ i k.
+    let div : (w * 64 + i) / 64 ≡ w = omega (arith, k) in
+    let rem : (w * 64 + i) % 64 ≡ i = omega (arith, k) in
+    same-bit (word ns n w) (f w) i (sym (member-at ns n w i k) ∙ h (w * 64 + i) ∙ (λ j. has_bit (f (div j)) (rem j))))
+
 pub lawful : (ns : List Node) (m n : ℕ) → IsPool ns → m < length ns → n < length ns → ((x : ℕ) → member ns m x ≡ member ns n x) → m ≡ n
-lawful ns m n p lm ln h = lawful-below ns p (suc (m + n)) m n lm ln (omega arith) (omega arith) (λ w.
-    same_from_bits_below 64 (word ns m w) (word ns n w) (word-lt ns m w p lm) (word-lt ns n w p ln) (λ i l.
-    same-bit (word ns m w) (word ns n w) i (sym (member-at ns m w i l) ∙ h (w * 64 + i) ∙ member-at ns n w i l)))
+lawful ns m n p lm ln h = words-lawful ns m n p lm ln (words-of ns m (word ns n) p lm (λ w. word-lt ns n w p ln) (λ x. h x ∙ sym (member-bit ns n x)))
 
 -- ---- one node more
 
@@ -288,13 +302,14 @@ at-new ns node n l = split (dec n (length ns))
 keeps-push : (ns : List Node) (node : Node) → Keeps ns (ns ++ node ∷ [])
 keeps-push ns node = record { more = node ∷ []; is = refl }
 
-pub pool-push : (ns : List Node) (node : Node) → IsPool ns → IsWithin (length ns) node → ((n : ℕ) → n < length ns → ¬ (node_at ns n ≡ node)) → IsPool (ns ++ node ∷ [])
-pool-push ns node p w new =
+pub pool-push : (ns : List Node) (node : Node) → IsPool ns → length ns < 4294967295 → IsWithin (length ns) node → ((n : ℕ) → n < length ns → ¬ (node_at ns n ≡ node)) → IsPool (ns ++ node ∷ [])
+pool-push ns node p room w new =
     let keeps = keeps-push ns node in
     let at : (n : ℕ) → n < length ns → node_at (ns ++ node ∷ []) n ≡ node_at ns n = λ n l. at-keeps ns (ns ++ node ∷ []) n keeps l in
     let last : (n : ℕ) → n ≡ length ns → node_at (ns ++ node ∷ []) n ≡ node = λ n e. ap (node_at (ns ++ node ∷ [])) e ∙ at-end ns node in
     record {
       some = length-keeps ns (ns ++ node ∷ []) 0 keeps p.some;
+      few = omega (arith, length-append ns (node ∷ []), room);
       empty = at 0 p.some ∙ p.empty;
       older = λ n z l. elim (at-new ns node n l) [
         | inl h ↦ subst (IsWithin n) (sym (at n h)) (p.older n z h)
@@ -313,10 +328,10 @@ pool-push ns node p w new =
     }
 
 module _ (eq : Node → Node → Bool) (exact : (s t : Node) → Decides (eq s t) (s ≡ t)) where
-  pub pool-insert : (ns : List Node) (node : Node) → IsPool ns → IsWithin (length ns) node → IsPool (insert_key eq ns node)
-  pool-insert ns node p w = elim (list_any (eq node) ns) as (λ b. list_any (eq node) ns ≡ b → IsPool (if b then ns else ns ++ node ∷ [])) [
+  pub pool-insert : (ns : List Node) (node : Node) → IsPool ns → length ns < 4294967295 → IsWithin (length ns) node → IsPool (insert_key eq ns node)
+  pool-insert ns node p room w = elim (list_any (eq node) ns) as (λ b. list_any (eq node) ns ≡ b → IsPool (if b then ns else ns ++ node ∷ [])) [
     | true ↦ λ _. p
-    | false ↦ λ e. pool-push ns node p w (λ n l same. true≢false (sym (list_any_at (eq node) ns n no_node l ((exact node (node_at ns n)).1 (sym same))) ∙ e))
+    | false ↦ λ e. pool-push ns node p room w (λ n l same. true≢false (sym (list_any_at (eq node) ns n no_node l ((exact node (node_at ns n)).1 (sym same))) ∙ e))
   ] refl
 
   pub keeps-insert : (ns : List Node) (node : Node) → Keeps ns (insert_key eq ns node)
@@ -347,7 +362,7 @@ same_node-self s = λ i. eq-eqb s.here s.here refl i && (eq-eqb s.left s.left re
 pub same_node-Decides : (s t : Node) → (same_node s t ≡ true) ↔ (s ≡ t)
 same_node-Decides s t = (same_node-true s t, λ e. ap (same_node s) (sym e) ∙ same_node-self s)
 
-pub pool-after : (ns : List Node) (node : Node) → IsPool ns → IsWithin (length ns) node → IsPool (insert_key same_node ns node)
+pub pool-after : (ns : List Node) (node : Node) → IsPool ns → length ns < 4294967295 → IsWithin (length ns) node → IsPool (insert_key same_node ns node)
 pool-after = pool-insert same_node same_node-Decides
 
 pub keeps-insert_node : (ns : List Node) (node : Node) → Keeps ns (insert_key same_node ns node)
@@ -391,7 +406,7 @@ half-same j k a b c = omega (arith, a, b, c)
 half-alike : (j k : ℕ) → (¬ (j % 2 ≡ 0)) → (¬ (k % 2 ≡ 0)) → j / 2 ≡ k / 2 → suc j ≡ suc k
 half-alike j k a b c = omega (arith, a, b, c)
 
-one-left : (k bit x : ℕ) → k % 2 ≡ 0 → word_with (suc k) bit x ≡ made 0 (word_with (k / 2) bit) (λ _. 0) x
+pub one-left : (k bit x : ℕ) → k % 2 ≡ 0 → word_with (suc k) bit x ≡ made 0 (word_with (k / 2) bit) (λ _. 0) x
 one-left k bit zero e = λ i. if differs 0 (suc k) (λ h. omega (arith, h)) i then 2 ^ bit else 0
 one-left k bit (suc j) e = elim (nat_eq (j % 2) 0) as (λ t. nat_eq (j % 2) 0 ≡ t → word_with (suc k) bit (suc j) ≡ (if t then word_with (k / 2) bit (j / 2) else 0)) [
   | true ↦ λ h. ap (λ t. if t then 2 ^ bit else 0) (same-tests (nat_eq (suc j) (suc k)) (nat_eq (j / 2) (k / 2))
@@ -400,7 +415,7 @@ one-left k bit (suc j) e = elim (nat_eq (j % 2) 0) as (λ t. nat_eq (j % 2) 0 �
   | false ↦ λ h. (λ i. if differs (suc j) (suc k) (λ s. true≢false (sym (eq-eqb (j % 2) 0 (omega (arith, s, e))) ∙ h)) i then 2 ^ bit else 0)
 ] refl
 
-one-right : (k bit x : ℕ) → (¬ (k % 2 ≡ 0)) → word_with (suc k) bit x ≡ made 0 (λ _. 0) (word_with (k / 2) bit) x
+pub one-right : (k bit x : ℕ) → (¬ (k % 2 ≡ 0)) → word_with (suc k) bit x ≡ made 0 (λ _. 0) (word_with (k / 2) bit) x
 one-right k bit zero e = λ i. if differs 0 (suc k) (λ h. omega (arith, h)) i then 2 ^ bit else 0
 one-right k bit (suc j) e = elim (nat_eq (j % 2) 0) as (λ t. nat_eq (j % 2) 0 ≡ t → word_with (suc k) bit (suc j) ≡ (if t then 0 else word_with (k / 2) bit (j / 2))) [
   | true ↦ λ h. (λ i. if differs (suc j) (suc k) (λ s. let f = eqb-true (j % 2) 0 h in e (omega (arith, s, f))) i then 2 ^ bit else 0)
@@ -499,6 +514,20 @@ with-is index bit x l = elim (nat_eq (x / 64) index) as (λ t. nat_eq (x / 64) i
   | false ↦ λ h. no-bit (x % 64) ∙ sym (differs x (index * 64 + bit) (λ z. true≢false (sym (eq-eqb (x / 64) index (omega (arith, z, l))) ∙ h)))
 ] refl
 
+-- the bits of words with one bit more
+pub inserted-bits : (ns : List Node) (set index bit : ℕ) → bit < 64 → (x : ℕ) → has_bit (bit_or (word ns set (x / 64)) (word_with index bit (x / 64))) (x % 64) ≡ (nat_eq x (index * 64 + bit) || member ns set x)
+unfolding member
+inserted-bits ns set index bit l x =
+    bit-joined Union (word ns set (x / 64)) (word_with index bit (x / 64)) (x % 64)
+    ∙ turned (has_bit (word ns set (x / 64)) (x % 64)) (has_bit (word_with index bit (x / 64)) (x % 64))
+    ∙ (λ i. with-is index bit x l i || has_bit (word ns set (x / 64)) (x % 64))
+  where
+    turned : (a b : Bool) → (a || b) ≡ (b || a)
+    turned true true = refl
+    turned true false = refl
+    turned false true = refl
+    turned false false = refl
+
 -- A set with one more bit in a word has one more number.
 pub member-inserted : (old new : List Node) (set n index bit : ℕ)
     → bit < 64
@@ -506,17 +535,7 @@ pub member-inserted : (old new : List Node) (set n index bit : ℕ)
     → (x : ℕ)
     → member new n x ≡ (nat_eq x (index * 64 + bit) || member old set x)
 unfolding member
-member-inserted old new set n index bit l is x =
-    (λ i. has_bit (is (x / 64) i) (x % 64))
-    ∙ bit-joined Union (word old set (x / 64)) (word_with index bit (x / 64)) (x % 64)
-    ∙ turned (has_bit (word old set (x / 64)) (x % 64)) (has_bit (word_with index bit (x / 64)) (x % 64))
-    ∙ (λ i. with-is index bit x l i || has_bit (word old set (x / 64)) (x % 64))
-  where
-    turned : (a b : Bool) → (a || b) ≡ (b || a)
-    turned true true = refl
-    turned true false = refl
-    turned false true = refl
-    turned false false = refl
+member-inserted old new set n index bit l is x = (λ i. has_bit (is (x / 64) i) (x % 64)) ∙ inserted-bits old set index bit l x
 
 -- ---- two sets together
 
@@ -547,13 +566,18 @@ join-set op old mid after new one two l r n x p q u k1 k2 kl kr km ka kn isl isr
     ∙ made-both op s.here t.here (word old s.left) (word old s.right) (word old t.left) (word old t.right) x
     ∙ (λ i. op (sym (word-made old one x) i) (sym (word-made old two x) i))
 
+-- the bits of what is made of two words
+pub joined-bits : (o : Operation) (ns : List Node) (one two x : ℕ) → has_bit (joined_word o (word ns one (x / 64)) (word ns two (x / 64))) (x % 64) ≡ joined o (member ns one x) (member ns two x)
+unfolding member
+joined-bits o ns one two x = bit-joined o (word ns one (x / 64)) (word ns two (x / 64)) (x % 64)
+
 -- The result of two sets' words has the result of their members.
 pub member-joined : (o : Operation) (old new : List Node) (one two n : ℕ)
     → ((w : ℕ) → word new n w ≡ joined_word o (word old one w) (word old two w))
     → (x : ℕ)
     → member new n x ≡ joined o (member old one x) (member old two x)
 unfolding member
-member-joined o old new one two n is x = (λ i. has_bit (is (x / 64) i) (x % 64)) ∙ bit-joined o (word old one (x / 64)) (word old two (x / 64)) (x % 64)
+member-joined o old new one two n is x = (λ i. has_bit (is (x / 64) i) (x % 64)) ∙ joined-bits o old one two x
 
 pub word-zero : (ns : List Node) (n x : ℕ) → x ≤ 0 → word ns n x ≡ (node_at ns n).here
 word-zero ns n zero h = word-made ns n 0
@@ -649,6 +673,7 @@ half-below index bit limit l = omega (arith, l)
 pub pool-first : IsPool first
 pool-first = record {
   some = omega arith;
+  few = omega arith;
   empty = refl;
   older = λ n z l. absurd (omega (arith, z, l));
   different = λ m n lm ln e. omega (arith, lm, ln);

@@ -12,7 +12,7 @@ use Rattle.ppmacro.specs.Pairs.{Answered, KeepsPairs}
 use Rattle.ppmacro.specs.Numbered.{Numbered}
 use Rattle.ppmacro.specs.HideSets.{set_at, IsKnown, Keeps}
 use Rattle.ppmacro.specs.Remembered.{AreAnswers, AreKept}
-use Rattle.ppmacro.proofs.Hiding.{IsNamed, made_of, set-at, known-at, at-known, sets-keep, past-by, made-is, lawful-names, sets-named, bounded-more, insert-is, set-named, hide-none}
+use Rattle.ppmacro.proofs.Hiding.{IsNamed, made_of, set-at, known-at, at-known, sets-keep, past-by, made-is, lawful-names, sets-named, bounded-more, insert-is, set-named, hide-none, made-members, more-members}
 use Rattle.ppmacro.proofs.KeepLemmas.{pairs-are}
 use Rattle.ppmacro.proofs.Remembering.{answers-keep}
 use Rattle.ppmacro.proofs.Tries.{member-none}
@@ -145,3 +145,58 @@ pub with-seen : (names more after : List Name) (old new : List Node) (v : Number
 with-seen names more after old new v a a' x n q grown d lx at is bounded same la ln h =
     set-at after new n ln ∙ insert-is after old new a x n q d lx at h
     ∙ ap (λ s. set.insert s q) ((λ i. hide_set (grown i) old a) ∙ set-named names more old a bounded la ∙ set-seen names old v a a' is same la)
+
+-- ---- sets that are there
+
+named-by : {names : List Name} {ns : List Node} {us ms : Answered} → AreKept names ns us ms → IsNamed names ns
+named-by k = record { distinct = k.distinct; within = λ n x l e. k.bounded.each n x l e }
+
+-- a set that is there with one name more
+pub more-there : (s : Inside) {v : Numbered} {a a' : ℕ} (n : ℕ) (q : Name)
+    → seen s ≡ v
+    → a ≡ a'
+    → IsKnown v a'
+    → IsKnown v n
+    → set_at v n ≡ set.insert (set_at v a') q
+    → hide_set s.names s.nodes.keys n ≡ set.insert (hide_set s.names s.nodes.keys a) q
+more-there s {v = v} {a = a} {a' = a'} n q is same ka kn e =
+    let sets = ap (λ v. v.sets) is in
+    set-seen s.names s.nodes.keys v n n sets refl (node-asked s is refl kn)
+    ∙ e
+    ∙ ap (λ t. set.insert t q) (sym (set-seen s.names s.nodes.keys v a a' sets same (node-asked s is same ka)))
+
+pub more-seen : (s : Inside) {v : Numbered} {a a' : ℕ} (n x : ℕ) (q : Name)
+    → seen s ≡ v
+    → AreKept s.names s.nodes.keys s.unions s.meets
+    → a ≡ a'
+    → IsKnown v a'
+    → IsKnown v n
+    → x < length s.names
+    → get_or s.names x [] ≡ q
+    → set_at v n ≡ set.insert (set_at v a') q
+    → (y : ℕ)
+    → member s.nodes.keys n y ≡ (nat_eq y x || member s.nodes.keys a y)
+more-seen s {a = a} n x q is k same ka kn lx at e =
+    more-members s.names s.nodes.keys a x n q (named-by k) (node-asked s is same ka) (node-asked s is refl kn) lx at (more-there s n q is same ka kn e)
+
+-- a set that is there and made of two
+pub both-seen : (o : Operation) (s : Inside) {v : Numbered} {a b a' b' : ℕ} (n : ℕ)
+    → seen s ≡ v
+    → AreKept s.names s.nodes.keys s.unions s.meets
+    → a ≡ a'
+    → b ≡ b'
+    → IsKnown v a'
+    → IsKnown v b'
+    → IsKnown v n
+    → set_at v n ≡ made_of o (set_at v a') (set_at v b')
+    → (x : ℕ)
+    → member s.nodes.keys n x ≡ joined o (member s.nodes.keys a x) (member s.nodes.keys b x)
+both-seen o s {v = v} {a = a} {b = b} n is k sa sb ka kb kn e =
+    let sets = ap (λ v. v.sets) is in
+    let la = node-asked s is sa ka in
+    let lb = node-asked s is sb kb in
+    let ln = node-asked s is refl kn in
+    made-members o s.names s.nodes.keys a b n (named-by k) la lb ln
+    (set-seen s.names s.nodes.keys v n n sets refl ln
+    ∙ e
+    ∙ (λ i. made_of o (sym (set-seen s.names s.nodes.keys v _ _ sets sa la) i) (sym (set-seen s.names s.nodes.keys v _ _ sets sb lb) i)))

@@ -4,6 +4,7 @@ use Rattle.std.specs.Ordering.{nat_cmp}
 use Rattle.std.specs.Cmp.Lexicographic.{slice_cmp}
 use Rattle.std.specs.FinSet as set
 use Rattle.std.specs.FinMap.{FinMap}
+use Rattle.pptext.specs.declared.hashing.Hashing.{Hashing}
 use Rattle.ppmacro.specs.declared.macros.Definition.{Definition}
 
 -- The spelling of an identifier.
@@ -16,3 +17,8 @@ HideSet = set.FinSet (slice_cmp nat_cmp)
 
 abbrev pub Macros : Type 0
 Macros = FinMap (slice_cmp nat_cmp) Definition
+
+-- What callers see of a table: its macros, and how their names are hashed
+pub record TableOfMacros : Type 0 where
+  pub macros : Macros
+  pub hashing : Hashing

@@ -1,6 +1,6 @@
 -- Sets of numbers as nodes of a trie of words. A word has 64 members: the number n is bit n % 64 of the word n / 64. Only
 -- contracts of private functions and the view of private fields use them.
-use Rattle.std.specs.Prelude.{◌≡◌, ℕ, zero, suc, ◌<◌, ◌/◌, ◌%◌, ◌^◌, Bool, true, nat_eq, List, [], ◌∷◌, ◌++◌, length, slice_index_or, if◌then◌else◌}
+use Rattle.std.specs.Prelude.{◌≡◌, ℕ, zero, suc, ◌<◌, ◌≤◌, ◌/◌, ◌%◌, ◌^◌, Bool, true, nat_eq, List, [], ◌∷◌, ◌++◌, length, slice_index_or, if◌then◌else◌}
 use Rattle.std.specs.Int.{bit_at}
 
 -- A set of numbers. Word 0 is `here`. Word 2w + 1 is word w of the set with the number `left`, and word 2w + 2 is word w of the
@@ -46,9 +46,11 @@ pub record IsWithin (limit : ℕ) (node : Node) : Type 0 where
   pub left : node.left < limit
   pub right : node.right < limit
 
--- A pool of nodes: the first is the empty set, each other node has children before it, and no two are equal.
+-- A pool of nodes: the first is the empty set, each other node has children before it, no two are equal, and there are at
+-- most 4,294,967,295.
 pub record IsPool (ns : List Node) : Type 0 where
   pub some : 0 < length ns
+  pub few : length ns ≤ 4294967295
   pub empty : node_at ns 0 ≡ no_node
   pub older : (n : ℕ) → 0 < n → n < length ns → IsWithin n (node_at ns n)
   pub different : (m n : ℕ) → m < length ns → n < length ns → node_at ns m ≡ node_at ns n → m ≡ n
@@ -69,8 +71,3 @@ first = no_node ∷ []
 -- The words of the set with only this bit in the word with this index.
 abbrev pub word_with : ℕ → ℕ → ℕ → ℕ
 word_with index bit w = if nat_eq w index then 2 ^ bit else 0
-
--- A node exists, and its number is below the limit of 4,294,967,295.
-pub record IsNumbered (ns : List Node) (n : ℕ) : Type 0 where
-  pub there : n < length ns
-  pub below : n < 4294967295

@@ -187,7 +187,7 @@ fn refusal_of(
     name: &[u8],
     definition: &Definition,
 ) -> Result<Option<Refusal>, AllocError>
-    ensures { IfOk result (λ r. r ≡ refusal_of profile table.now name.now definition.now) }
+    ensures { IfOk result (λ r. r ≡ refusal_of profile table.now.macros name.now definition.now) }
 {
     let shape = &definition.shape;
     let body = definition.body.as_slice();
@@ -222,7 +222,7 @@ fn fitting<'a>(
     name: &'a Token,
     line: &'a [Token],
 ) -> Result<Result<Named<'a>, Refused<'a>>, AllocError>
-    ensures { (at : Place) → IfOk result (λ r. faulted at r ≡ under_name at name.now.text (fitting profile table.now name.now.text (read_definition profile line.now))) }
+    ensures { (at : Place) → IfOk result (λ r. faulted at r ≡ under_name at name.now.text (fitting profile table.now.macros name.now.text (read_definition profile line.now))) }
 {
     let definition = match read_definition(alloc, profile, line, table.hashing())? {
         Ok(definition) => definition,
@@ -244,7 +244,7 @@ fn judged<'a>(
     table: &Table,
     line: &'a [Token],
 ) -> Result<Result<Named<'a>, Refused<'a>>, AllocError>
-    ensures { (at : Place) → IfOk result (λ r. faulted at r ≡ judged profile table.now at line.now) }
+    ensures { (at : Place) → IfOk result (λ r. faulted at r ≡ judged profile table.now.macros at line.now) }
 {
     let Some(name) = line.first() else {
         return Ok(Err(Refused {
@@ -269,7 +269,8 @@ fn judged<'a>(
 
 /// Inserts a definition into the table.
 fn enter<'a>(table: &mut Table<'a>, named: Named<'a>) -> Result<(), AllocError>
-    ensures ok { OnOk result (table.new ≡ finite_map.insert table.old named.entry.name named.entry.definition) }
+    ensures ok { OnOk result (table.new.macros ≡ finite_map.insert table.old.macros named.entry.name named.entry.definition) }
+    ensures hashing { table.new.hashing ≡ table.old.hashing }
     ensures err { OnErr result (table.new ≡ table.old) }
 {
     let Named { name, definition } = named;
@@ -302,7 +303,8 @@ pub fn define<'a>(
     at: Place,
     line: &'a [Token],
 ) -> Result<Result<(), Fault>, Memory>
-    ensures defined { IfOk result (λ r. Leaves table.old table.new r (after_define profile table.old at line.now)) }
+    ensures defined { IfOk result (λ r. Leaves table.old.macros table.new.macros r (after_define profile table.old.macros at line.now)) }
+    ensures hashing { table.new.hashing ≡ table.old.hashing }
     ensures memory { OnErr result (table.new ≡ table.old) }
 {
     match judged(alloc, profile, table, line)? {
@@ -320,7 +322,7 @@ fn undefined<'a>(
     table: &Table,
     line: &'a [Token],
 ) -> Result<Text<'a>, Refused<'a>>
-    ensures { (at : Place) → faulted at result ≡ undefined profile table.now at line.now }
+    ensures { (at : Place) → faulted at result ≡ undefined profile table.now.macros at line.now }
 {
     let [name] = line else {
         return Err(Refused {
@@ -357,7 +359,8 @@ pub fn undef<'a>(
     at: Place,
     line: &'a [Token],
 ) -> Result<Result<(), Fault>, Memory>
-    ensures undefined { IfOk result (λ r. Leaves table.old table.new r (after_undef profile table.old at line.now)) }
+    ensures undefined { IfOk result (λ r. Leaves table.old.macros table.new.macros r (after_undef profile table.old.macros at line.now)) }
+    ensures hashing { table.new.hashing ≡ table.old.hashing }
     ensures memory { OnErr result (table.new ≡ table.old) }
 {
     match undefined(profile, table, line) {

@@ -1,5 +1,5 @@
 //! Hide sets: the names that may not replace a token (Prosser's algorithm).
-ghost use Rattle.std.specs.Prelude.{◌≡◌, ◌↔◌, IsTrue, ℕ, Some, Ok, IfOk};
+ghost use Rattle.std.specs.Prelude.{◌≡◌, ◌↔◌, IsTrue, ℕ, Some, Ok, IfOk, OnErr};
 ghost use Rattle.std.specs.FinSet as set;
 ghost use Rattle.ppmacro.specs.HideSets.{set_at, IsKnown, Keeps, starting};
 ghost use Rattle.ppmacro.specs.Pairs.{union_known, meet_known, KeepsPairs};
@@ -117,14 +117,15 @@ impl HideSets {
         }
     }
 
-    /// Returns a set with one more name. Fails only if an allocation fails, or if 4,294,967,295 nodes exist and the result isn't
-    /// one of them. Existing sets never change.
+    /// Returns a set with one more name. Fails only if an allocation fails, or if the result is a new set and 4,294,967,295 nodes
+    /// exist. If the result exists, succeeds and changes nothing. Existing sets never change.
     pub fn with(&mut self, hide: Set, name: &[u8]) -> Result<Set, Memory>
         requires { IsKnown self.old hide }
         ensures set { IfOk result (λ s. set_at self.new s ≡ set.insert (set_at self.old hide) name.now) }
         ensures known { IfOk result (λ s. IsKnown self.new s) }
         ensures keeps { Keeps self.old self.new }
         ensures pairs { (self.new.unions ≡ self.old.unions) × (self.new.meets ≡ self.old.meets) }
+        ensures there { (n : ℕ) → IsKnown self.old n → set_at self.old n ≡ set.insert (set_at self.old hide) name.now → (result ≡ Ok n) × (self.new ≡ self.old) }
     {
         let (alloc, set) = (self.alloc, hide.number);
         let named = self.names.number_for(alloc, name)?;
@@ -132,7 +133,8 @@ impl HideSets {
         Ok(Set { number })
     }
 
-    /// Returns the union of two sets. A repeated call returns the same set, allocates nothing and succeeds. Fails like `with`.
+    /// Returns the union of two sets. A repeated call returns the same set, allocates nothing and succeeds. Fails like `with`; if the
+    /// result exists, only the memory for the pair can be missing, and no set is added.
     pub fn union(&mut self, left: Set, right: Set) -> Result<Set, Memory>
         requires left { IsKnown self.old left }
         requires right { IsKnown self.old right }
@@ -143,6 +145,8 @@ impl HideSets {
         ensures again { (n : ℕ) → union_known self.old.unions left right ≡ Some n → (result ≡ Ok n) × (self.new ≡ self.old) }
         ensures unions { KeepsPairs self.old.unions self.new.unions }
         ensures meets { self.new.meets ≡ self.old.meets }
+        ensures there { (n : ℕ) → IsKnown self.old n → set_at self.old n ≡ set.union (set_at self.old left) (set_at self.old right)
+            → IfOk result (λ m. m ≡ n) × (self.new.sets ≡ self.old.sets) × OnErr result (self.new ≡ self.old) }
     {
         let (nodes, pairs) = (&mut self.nodes, &mut self.unions);
         let operation = Operation {
@@ -153,7 +157,7 @@ impl HideSets {
     }
 
     /// Returns the intersection of two sets. A repeated call returns the same set, allocates nothing and succeeds. Fails like
-    /// `with`.
+    /// `with`; if the result exists, only the memory for the pair can be missing, and no set is added.
     pub fn meet(&mut self, left: Set, right: Set) -> Result<Set, Memory>
         requires left { IsKnown self.old left }
         requires right { IsKnown self.old right }
@@ -164,6 +168,8 @@ impl HideSets {
         ensures again { (n : ℕ) → meet_known self.old.meets left right ≡ Some n → (result ≡ Ok n) × (self.new ≡ self.old) }
         ensures meets { KeepsPairs self.old.meets self.new.meets }
         ensures unions { self.new.unions ≡ self.old.unions }
+        ensures there { (n : ℕ) → IsKnown self.old n → set_at self.old n ≡ set.intersection (set_at self.old left) (set_at self.old right)
+            → IfOk result (λ m. m ≡ n) × (self.new.sets ≡ self.old.sets) × OnErr result (self.new ≡ self.old) }
     {
         let (nodes, pairs) = (&mut self.nodes, &mut self.meets);
         let operation = Operation {

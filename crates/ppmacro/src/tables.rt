@@ -17,7 +17,7 @@ use std::marker::Model;
 /// The initial capacity, about the number of macros of a unit in a large project. A table that grows moves its entries.
 const USUAL: usize = 4_096;
 
-/// The macros of a unit. Contracts see a finite map from names to definitions.
+/// The macros of a unit. Contracts see a finite map from names to definitions, and how the names are hashed.
 ///
 /// Most identifiers name no macro, and a filter rejects most of these at once.
 #[derive(Drop)]
@@ -27,19 +27,23 @@ pub struct Table<'a> {
 }
 
 impl<'a> Model for Table<'a> {
-    ghost use Rattle.ppmacro.specs.Names.{Macros};
+    ghost use Rattle.ppmacro.specs.Names.{TableOfMacros};
 
-    ghost Value = { Macros };
+    ghost Value = { TableOfMacros };
 
     ghost use Rattle.std.specs.FinMap as table;
-    ghost use Rattle.std.specs.Coded.{coded_list, coded_ℕ};
+    ghost use Rattle.std.specs.Coded.{codes, coded_list, coded_ℕ};
+    ghost use Rattle.std.specs.Ordering.{nat_cmp};
+    ghost use Rattle.std.specs.Cmp.Lexicographic.{slice_cmp};
     ghost use Rattle.ppmacro.specs.contracts.macros.Macro as macro_contract;
     ghost use Rattle.std.specs.Prelude.{[]};
     ghost use mir.Syntax.{named};
 
-    ghost coded = { table.code (coded_list coded_ℕ) ((macro_contract.the_row (record { mir = named 1; lft = [] })).coded) };
+    ghost coded = { Prim.hlevel (codes, table.code {R = slice_cmp nat_cmp} (coded_list coded_ℕ) ((macro_contract.the_row (record { mir = named 1; lft = [] })).coded)) };
 
-    ghost view = { λ t. table.from_entries t.macros.entries };
+    ghost use Rattle.std.specs.HashMap.{hasher_of};
+
+    ghost view = { λ t. record { macros = table.from_entries t.macros.entries; hashing = hasher_of t.macros } };
 
     ghost use Rattle.ppmacro.specs.Marks.{AreMarked};
 
@@ -78,7 +82,7 @@ impl<'a> Table<'a> {
     /// Creates a table of the predefined macros (6.10.8.1). The hash function has a fixed key: see `with_hasher` for untrusted
     /// names.
     pub fn new(alloc: Global) -> Result<Table<'a>, Memory>
-        ensures { IfOk result (λ t. t ≡ predefined) }
+        ensures { IfOk result (λ t. t.macros ≡ predefined) }
     {
         Table::with_hasher(alloc, Hashing::fixed())
     }
@@ -86,21 +90,25 @@ impl<'a> Table<'a> {
     /// Creates a table of the predefined macros that hashes names with `hashing`. With a random key, untrusted names cost no more
     /// than others.
     pub fn with_hasher(alloc: Global, hashing: Hashing) -> Result<Table<'a>, Memory>
-        ensures { IfOk result (λ t. t ≡ predefined) }
+        ensures macros { IfOk result (λ t. t.macros ≡ predefined) }
+        ensures hashing { IfOk result (λ t. t.hashing ≡ hashing) }
     {
         let mut table = Table::empty(alloc, hashing)?;
         table.predefine_all()?;
         Ok(table)
     }
 
-    /// Returns the hash function of the table.
-    pub fn hashing(&self) -> Hashing {
+    /// Returns how its names are hashed: the `Hashing` that was given.
+    pub fn hashing(&self) -> Hashing
+        ensures { result ≡ self.now.hashing }
+    {
         *self.macros.hasher()
     }
 
     /// Creates an empty table.
     fn empty(alloc: Global, hashing: Hashing) -> Result<Table<'a>, Memory>
-        ensures { IfOk result (λ t. t ≡ table.empty) }
+        ensures macros { IfOk result (λ t. t.macros ≡ table.empty) }
+        ensures hashing { IfOk result (λ t. t.hashing ≡ hashing) }
     {
         let macros = IndexMap::with_capacity_and_hasher(alloc, USUAL, hashing)?;
         let marks = Marks::new(alloc)?;
@@ -109,8 +117,9 @@ impl<'a> Table<'a> {
 
     /// Inserts the predefined macros into an empty table.
     fn predefine_all(&mut self) -> Result<(), AllocError>
-        requires { self.old ≡ table.empty }
-        ensures { OnOk result (self.new ≡ predefined) }
+        requires { self.old.macros ≡ table.empty }
+        ensures macros { OnOk result (self.new.macros ≡ predefined) }
+        ensures hashing { self.new.hashing ≡ self.old.hashing }
     {
         self.predefine(b"__STDC_VERSION__", Builtin::StdcVersion)?;
         self.predefine(b"__STDC_HOSTED__", Builtin::StdcHosted)?;
@@ -123,7 +132,8 @@ impl<'a> Table<'a> {
 
     /// Inserts a predefined macro.
     fn predefine(&mut self, name: &'a [u8], builtin: Builtin) -> Result<(), AllocError>
-        ensures { OnOk result (self.new ≡ table.insert self.old name.now (predefined_as builtin)) }
+        ensures macros { OnOk result (self.new.macros ≡ table.insert self.old.macros name.now (predefined_as builtin)) }
+        ensures hashing { self.new.hashing ≡ self.old.hashing }
     {
         let definition = Definition {
             shape: Shape::Predefined(builtin),
@@ -135,7 +145,7 @@ impl<'a> Table<'a> {
     /// Returns the macro of a name.
     #[inline(always)]
     pub fn get(&self, name: &[u8]) -> Option<&Macro<'a>>
-        ensures { option_copied result ≡ table.get self.now name.now }
+        ensures { option_copied result ≡ table.get self.now.macros name.now }
     {
         // The filter rejects most names without a call: this saves 9 % of the instructions of `deps` on Redis.
         let mark = self.marks.at(name);
@@ -148,7 +158,7 @@ impl<'a> Table<'a> {
     /// Returns the macro of a name. Tries the index `place` first, which needs no hash.
     #[inline(never)]
     fn look_up(&self, place: usize, name: &[u8]) -> Option<&Macro<'a>>
-        ensures { option_copied result ≡ table.get self.now name.now }
+        ensures { option_copied result ≡ table.get self.now.macros name.now }
     {
         let Some((key, found)) = self.macros.get_index(place) else {
             return self.find(name);
@@ -162,7 +172,7 @@ impl<'a> Table<'a> {
     /// Returns the macro of a name, by its hash.
     #[inline(never)]
     fn find(&self, name: &[u8]) -> Option<&Macro<'a>>
-        ensures { option_copied result ≡ table.get self.now name.now }
+        ensures { option_copied result ≡ table.get self.now.macros name.now }
     {
         let Some(index) = self.macros.get_index_of(&Key { bytes: name }) else {
             return None;
@@ -175,14 +185,15 @@ impl<'a> Table<'a> {
 
     /// Whether a name must not be defined or undefined by a directive (6.10.8p2, 6.10.3p5).
     pub(crate) fn is_reserved(&self, profile: Profile, name: &[u8]) -> bool
-        ensures { result ≡ is_reserved profile self.now name.now }
+        ensures { result ≡ is_reserved profile self.now.macros name.now }
     {
         is_fixed(profile.is_gnu(), self.get(name)) || is_barred(name)
     }
 
     /// Inserts a macro, in place of the one before.
     pub(crate) fn insert(&mut self, name: &'a [u8], definition: Macro<'a>) -> Result<(), AllocError>
-        ensures ok { OnOk result (self.new ≡ table.insert self.old name.now definition.entry) }
+        ensures ok { OnOk result (self.new.macros ≡ table.insert self.old.macros name.now definition.entry) }
+        ensures hashing { self.new.hashing ≡ self.old.hashing }
         ensures err { OnErr result (self.new ≡ self.old) }
     {
         match self.macros.insert_full(Key { bytes: name }, definition) {
@@ -196,7 +207,8 @@ impl<'a> Table<'a> {
 
     /// Removes the macro of a name, if there is one.
     pub(crate) fn remove(&mut self, name: &'a [u8])
-        ensures { self.new ≡ table.remove self.old name.now }
+        ensures macros { self.new.macros ≡ table.remove self.old.macros name.now }
+        ensures hashing { self.new.hashing ≡ self.old.hashing }
     {
         self.macros.swap_remove(&Key { bytes: name });
     }

@@ -42,14 +42,17 @@ impl<'x> Model for State<'x> {
     ghost Value = { State };
 
     ghost use Rattle.std.specs.Prelude.{[]};
-    ghost use Rattle.std.specs.Coded.{codes};
-    ghost use Rattle.ppmacro.specs.contracts.tables.Table as table_contract;
+    ghost use Rattle.std.specs.Coded.{codes, coded_list, coded_ℕ};
+    ghost use Rattle.std.specs.Ordering.{nat_cmp};
+    ghost use Rattle.std.specs.Cmp.Lexicographic.{slice_cmp};
+    ghost use Rattle.std.specs.FinMap as table;
+    ghost use Rattle.ppmacro.specs.contracts.macros.Macro as macro_contract;
     ghost use mir.Syntax.{named};
 
-    ghost coded = { Prim.hlevel (codes, (table_contract.the_row (record { mir = named 1; lft = [] })).coded) };
+    ghost coded = { Prim.hlevel (codes, table.code {R = slice_cmp nat_cmp} (coded_list coded_ℕ) ((macro_contract.the_row (record { mir = named 1; lft = [] })).coded)) };
 
     ghost view = { λ s. record {
-      macros = s.macros;
+      macros = s.macros.macros;
       items = s.items;
       deps = s.deps;
       once = s.once;
@@ -75,7 +78,7 @@ impl<'x> State<'x> {
 
     /// Creates a state with no items and no opened files.
     fn untouched(alloc: Global, macros: Table<'x>, left: Option<u64>, env: Env) -> State<'x>
-        ensures { result ≡ record { macros = macros.entry; items = []; deps = []; once = []; left = left; env = env; folder = None } }
+        ensures { result ≡ record { macros = macros.entry.macros; items = []; deps = []; once = []; left = left; env = env; folder = None } }
     {
         State {
             macros,

@@ -68,7 +68,7 @@ fn same_shape(left: &Shape, right: &Shape) -> bool
 
 /// Whether a name has a different definition.
 pub(crate) fn clashes(table: &Table, name: &[u8], definition: &Definition) -> bool
-    ensures { result ≡ clashes (finite_map.get table.now name.now) definition.now }
+    ensures { result ≡ clashes (finite_map.get table.now.macros name.now) definition.now }
 {
     let Some(macro_before) = table.get(name) else {
         return false;

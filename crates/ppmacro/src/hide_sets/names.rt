@@ -1,5 +1,5 @@
 //! The names of hide sets, by number.
-ghost use Rattle.std.specs.Prelude.{◌≡◌, ◌<◌, ◌++◌, List, ℕ, false, IfOk, IfSome, IfNone, OnErr, length, slice_index_or, []};
+ghost use Rattle.std.specs.Prelude.{◌≡◌, ◌<◌, ◌++◌, List, ℕ, false, IfOk, IfSome, IfNone, IsOk, OnErr, length, slice_index_or, []};
 ghost use Rattle.std.specs.List.{AllByRecursion, IsDistinct};
 ghost use Rattle.ppmacro.specs.Members.{same_name};
 
@@ -128,6 +128,7 @@ impl NameNumbers {
         ensures keeps { (more : List (List ℕ)) × (self.new ≡ self.old ++ more) }
         ensures distinct { IsDistinct same_name self.new }
         ensures err { OnErr result (self.new ≡ self.old) }
+        ensures there { ¬ (AllByRecursion (λ y. same_name name.now y ≡ false) self.old) → IsOk result × (self.new ≡ self.old) }
     {
         if let Some(number) = self.number_of(name) {
             return Ok(number);

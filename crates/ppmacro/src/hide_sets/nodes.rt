@@ -2,7 +2,7 @@
 //! common parts.
 ghost use Rattle.std.specs.Prelude.{◌≡◌, Some, None, Ok, ◌<◌, ◌||◌, ◌+◌, ◌*◌, ℕ, IfOk, IfSome, OnErr, ◌≤◌, [], length, nat_eq};
 ghost use Rattle.std.specs.Int.RustNames.{bit_or};
-ghost use Rattle.ppmacro.specs.Nodes.{node_at, word, word_with, member, IsPool, Keeps, IsWithin, IsBounded, IsNumbered, first};
+ghost use Rattle.ppmacro.specs.Nodes.{node_at, word, word_with, member, IsPool, Keeps, IsWithin, IsBounded, first};
 ghost use Rattle.ppmacro.specs.Operations.{joined, joined_word, known};
 ghost use Rattle.ppmacro.specs.Pairs.{union_known, meet_known, KeepsPairs};
 ghost use Rattle.ppmacro.specs.Remembered.{AreAnswers};
@@ -106,16 +106,14 @@ fn read(nodes: &IndexSet<Node, Hashing>, number: u32) -> Node
 /// Returns the number of an existing node. Used once the pool is full.
 #[inline(never)]
 fn number_among(nodes: &IndexSet<Node, Hashing>, node: Node) -> Result<u32, AllocError>
+    requires { IsPool nodes.now.keys }
     ensures known { IfOk result (λ n. n < length nodes.now.keys) }
     ensures is { IfOk result (λ n. node_at nodes.now.keys n ≡ node) }
-    ensures there { (n : ℕ) → IsPool nodes.now.keys → IsNumbered nodes.now.keys n → node_at nodes.now.keys n ≡ node → result ≡ Ok n }
+    ensures there { (n : ℕ) → n < length nodes.now.keys → node_at nodes.now.keys n ≡ node → result ≡ Ok n }
 {
     let Some(number) = nodes.get_index_of(&node) else {
         return Err(AllocError);
     };
-    if number >= MOST {
-        return Err(AllocError);
-    }
     Ok(number as u32)
 }
 
@@ -129,7 +127,7 @@ fn number_for(nodes: &mut IndexSet<Node, Hashing>, node: Node) -> Result<u32, Al
     ensures is { IfOk result (λ n. node_at nodes.new.keys n ≡ node) }
     ensures fresh { IfOk result (λ m. (n : ℕ) → length nodes.old.keys ≤ n → n < length nodes.new.keys → n ≡ m) }
     ensures err { OnErr result (nodes.new.keys ≡ nodes.old.keys) }
-    ensures there { (n : ℕ) → IsNumbered nodes.old.keys n → node_at nodes.old.keys n ≡ node → (result ≡ Ok n) × (nodes.new.keys ≡ nodes.old.keys) }
+    ensures there { (n : ℕ) → n < length nodes.old.keys → node_at nodes.old.keys n ≡ node → (result ≡ Ok n) × (nodes.new.keys ≡ nodes.old.keys) }
 {
     if nodes.len() >= MOST {
         return number_among(nodes, node);
@@ -157,6 +155,7 @@ fn number_beside(
     ensures is { IfOk result (λ n. node_at nodes.new.keys n ≡ node) }
     ensures fresh { IfOk result (λ m. (n : ℕ) → length nodes.old.keys ≤ n → n < length nodes.new.keys → n ≡ m) }
     ensures err { OnErr result (nodes.new.keys ≡ nodes.old.keys) }
+    ensures there { (n : ℕ) → n < length nodes.old.keys → node_at nodes.old.keys n ≡ node → (result ≡ Ok n) × (nodes.new.keys ≡ nodes.old.keys) }
 {
     if read(nodes, one) == node {
         return Ok(one);
@@ -207,6 +206,8 @@ pub(crate) fn insert(
     ensures known { IfOk result (λ n. n < length nodes.new.keys) }
     ensures bounded { (limit : ℕ) → number < limit → IsBounded limit nodes.old.keys → IsBounded limit nodes.new.keys }
     ensures set { IfOk result (λ n. (x : ℕ) → member nodes.new.keys n x ≡ (nat_eq x number || member nodes.old.keys set x)) }
+    ensures there { (n : ℕ) → n < length nodes.old.keys → ((x : ℕ) → member nodes.old.keys n x ≡ (nat_eq x number || member nodes.old.keys set x))
+        → (result ≡ Ok n) × (nodes.new.keys ≡ nodes.old.keys) }
 {
     let more = insert_bit(nodes, set, number / WORD, number % WORD)?;
     Ok(more)
@@ -227,6 +228,8 @@ fn insert_bit(
     ensures known { IfOk result (λ n. n < length nodes.new.keys) }
     ensures bounded { (limit : ℕ) → index * 64 + bit < limit → IsBounded limit nodes.old.keys → IsBounded limit nodes.new.keys }
     ensures set { IfOk result (λ n. (w : ℕ) → word nodes.new.keys n w ≡ bit_or (word nodes.old.keys set w) (word_with index bit w)) }
+    ensures there { (n : ℕ) → n < length nodes.old.keys → ((w : ℕ) → word nodes.old.keys n w ≡ bit_or (word nodes.old.keys set w) (word_with index bit w))
+        → (result ≡ Ok n) × (nodes.new.keys ≡ nodes.old.keys) }
 {
     let node = read(nodes, set);
     if index == 0 {
@@ -312,6 +315,9 @@ fn make(
     ensures known { IfOk result (λ n. n < length nodes.new.keys) }
     ensures bounded { (limit : ℕ) → IsBounded limit nodes.old.keys → IsBounded limit nodes.new.keys }
     ensures set { IfOk result (λ n. (w : ℕ) → word nodes.new.keys n w ≡ joined_word operation (word nodes.old.keys one w) (word nodes.old.keys two w)) }
+    ensures there { (n : ℕ) → n < length nodes.old.keys
+        → ((w : ℕ) → word nodes.old.keys n w ≡ joined_word operation (word nodes.old.keys one w) (word nodes.old.keys two w))
+        → (result ≡ Ok n) × (nodes.new.keys ≡ nodes.old.keys) }
 {
     match settled(operation, one, two) {
         Some(number) => Ok(number),
@@ -337,6 +343,9 @@ fn make_node(
     ensures known { IfOk result (λ n. n < length nodes.new.keys) }
     ensures bounded { (limit : ℕ) → IsBounded limit nodes.old.keys → IsBounded limit nodes.new.keys }
     ensures set { IfOk result (λ n. (w : ℕ) → word nodes.new.keys n w ≡ joined_word operation (word nodes.old.keys one w) (word nodes.old.keys two w)) }
+    ensures there { (n : ℕ) → n < length nodes.old.keys
+        → ((w : ℕ) → word nodes.old.keys n w ≡ joined_word operation (word nodes.old.keys one w) (word nodes.old.keys two w))
+        → (result ≡ Ok n) × (nodes.new.keys ≡ nodes.old.keys) }
 {
     let first = read(nodes, one);
     let second = read(nodes, two);
@@ -368,6 +377,9 @@ pub(crate) fn join(
     ensures set { IfOk result (λ n. (x : ℕ) → member nodes.new.keys n x ≡ joined operation (member nodes.old.keys one x) (member nodes.old.keys two x)) }
     ensures remembered { IfOk result (λ n. known operation pairs.new one two ≡ Some n) }
     ensures again { (n : ℕ) → known operation pairs.old one two ≡ Some n → (result ≡ Ok n) × (pairs.new ≡ pairs.old) × (nodes.new.keys ≡ nodes.old.keys) }
+    ensures there { (n : ℕ) → n < length nodes.old.keys
+        → ((x : ℕ) → member nodes.old.keys n x ≡ joined operation (member nodes.old.keys one x) (member nodes.old.keys two x))
+        → IfOk result (λ m. m ≡ n) × (nodes.new.keys ≡ nodes.old.keys) × OnErr result (pairs.new ≡ pairs.old) }
 {
     match known(pairs, operation, one, two) {
         Some(number) => Ok(number),

@@ -11,11 +11,11 @@ pub returns-then-is_empty : goal.returns-then-is_empty
 returns-then-is_empty c =
     let rest = c.split_plain.result.1.now in
     let none : rest ≡ [] = nil_from_length rest (search rules) in
-    expansion-behind c.args.table.now c.args.env.now c.args.left c.args.tokens.now c.split_plain.result.0.now rest _ (ended c.args.left None) c.split_plain.ensures.laid_out c.split_plain.ensures.plain
-    (subst (λ ts. ExpandsTo c.args.table.now c.args.env.now 0 c.args.left (map plain ts) (ended c.args.left None)) (sym none) (expands-nothing c.args.table.now c.args.env.now 0 c.args.left))
+    expansion-behind c.args.table.now.macros c.args.env.now c.args.left c.args.tokens.now c.split_plain.result.0.now rest _ (ended c.args.left None) c.split_plain.ensures.laid_out c.split_plain.ensures.plain
+    (subst (λ ts. ExpandsTo c.args.table.now.macros c.args.env.now 0 c.args.left (map plain ts) (ended c.args.left None)) (sym none) (expands-nothing c.args.table.now.macros c.args.env.now 0 c.args.left))
     (c.new-then-is_empty.ensures ∙ (λ i. c.split_plain.result.0.now ++ tokens_of (c.new.ensures i)))
     refl
     refl
 
 pub returns : goal.returns
-returns c = subst (λ ts. IfOk c.expand_rest.result (λ e. IsExpansion c.args.table.now c.args.env.now c.args.left ts e)) (sym c.split_plain.ensures.laid_out) c.expand_rest.ensures
+returns c = subst (λ ts. IfOk c.expand_rest.result (λ e. IsExpansion c.args.table.now.macros c.args.env.now c.args.left ts e)) (sym c.split_plain.ensures.laid_out) c.expand_rest.ensures

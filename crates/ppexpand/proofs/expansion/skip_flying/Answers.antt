@@ -4,11 +4,11 @@ use Rattle.ppexpand.proofs.Skipping.{skipped-none, skipped-on, skipped-one}
 use Rattle.ppexpand.proofs.expansion.skip_flying.Goals as goal
 
 pub loop-hidden-init : goal.loop-hidden-init
-loop-hidden-init c = skipped-none c.args.table.now c.args.list.now c.args.passed.now
+loop-hidden-init c = skipped-none c.args.table.now.macros c.args.list.now c.args.passed.now
 
 pub loop-hidden-preserved : goal.loop-hidden-preserved
 loop-hidden-preserved c =
-    let macros = c.args.table.now in
+    let macros = c.args.table.now.macros in
     let list = c.loop-hidden.list in
     let passed = c.loop-hidden.passed in
     let one = skipped-one macros c.in-Passes.hidden list c.next_plain.new.self passed c.in-Passes.ensures.0 c.in-Passes.ensures.1 in

@@ -4,4 +4,4 @@ use Rattle.ppexpand.specs.Lists.{is_plain}
 use Rattle.ppexpand.proofs.stretch.plain_len.Given as goal
 
 abbrev pub invariant-loop-count : goal.invariant-loop-count
-invariant-loop-count l = AllByRecursion (λ t. is_plain l.table t ≡ true) (take l.count l.tokens)
+invariant-loop-count l = AllByRecursion (λ t. is_plain l.table.macros t ≡ true) (take l.count l.tokens)

@@ -20,7 +20,7 @@ allowed p m at t ts named free = rw named (rw free refl)
 pub returns : goal.returns
 returns c at =
     let p = c.args.profile in
-    let m = c.args.table.now in
+    let m = c.args.table.now.macros in
     let name = c.in-Some.name.now in
     let line = split-first c.args.line.now name c.in-Some.ensures.value in
     let named : is_identifier name ≡ true = sym c.is_identifier.ensures ∙ c.if-not-is_identifier.false in

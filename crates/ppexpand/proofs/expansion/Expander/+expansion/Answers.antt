@@ -37,9 +37,9 @@ advance-returns-clause-on m c =
     let t = c.follow.new.self.replacer.sets in
     let called = rw c.in-Some.is at c.in_ok-goes.ensures.on in
     let call = call_of s c.in-Some.found c.take_turn.new.list in
-    let invokes : ComesTo c.args.context.now.table.now c.args.context.now.env.now c.args.context.now.level call _ c.follow.new.self.left (finished_in t c.follow.new.list c.follow.new.self.fault) =
-    subst (λ l. ComesTo c.args.context.now.table.now c.args.context.now.env.now c.args.context.now.level call l c.follow.new.self.left (finished_in t c.follow.new.list c.follow.new.self.fault)) called.2 c.in_ok-follow.ensures.is in
-    call_taken c.args.context.now.table.now c.args.context.now.env.now c.args.context.now.level c.args.self.now.left (hidings c.args.self.now.replacer.sets c.args.list.now) call called.0 t c.follow.new.list _ _ c.follow.new.self.fault c.follow.new.self.left _ c.is_none.ensures
+    let invokes : ComesTo c.args.context.now.table.now.macros c.args.context.now.env.now c.args.context.now.level call _ c.follow.new.self.left (finished_in t c.follow.new.list c.follow.new.self.fault) =
+    subst (λ l. ComesTo c.args.context.now.table.now.macros c.args.context.now.env.now c.args.context.now.level call l c.follow.new.self.left (finished_in t c.follow.new.list c.follow.new.self.fault)) called.2 c.in_ok-follow.ensures.is in
+    call_taken c.args.context.now.table.now.macros c.args.context.now.env.now c.args.context.now.level c.args.self.now.left (hidings c.args.self.now.replacer.sets c.args.list.now) call called.0 t c.follow.new.list _ _ c.follow.new.self.fault c.follow.new.self.left _ c.is_none.ensures
     (hidings-keeps _ c.in_ok-follow.ensures.keeps c.in_ok-goes.ensures.passed_known ∙ called.3)
     invokes
 
@@ -84,11 +84,11 @@ follow-returns-clause-is m c =
     let made = c.expand_arguments.new.expanded.items in
     let call = call_of s c.args.call.now list in
     let none = raised_none c.expand_arguments.new.self.fault (sym c.is_some.ensures ∙ c.if-is_some.false) in
-    let args : ExpandsArguments c.args.context.now.table.now c.args.context.now.env.now c.args.context.now.level call c.args.self.now.left (wanted call) c.expand_arguments.new.self.left (Ok (expanded_in u c.args.call.now.arguments.items made)) =
+    let args : ExpandsArguments c.args.context.now.table.now.macros c.args.context.now.env.now c.args.context.now.level call c.args.self.now.left (wanted call) c.expand_arguments.new.self.left (Ok (expanded_in u c.args.call.now.arguments.items made)) =
     (rw none at c.in_ok-expand_arguments.ensures.is) list in
     let same = call_of-keeps c.args.call.now list c.in_ok-expand_arguments.ensures.keeps c.requires.call_known c.requires.list_known in
     on_ok_weaker c.finish.result
-    (λ e. subst (ComesTo c.args.context.now.table.now c.args.context.now.env.now c.args.context.now.level call c.args.self.now.left c.expand_arguments.new.self.left)
+    (λ e. subst (ComesTo c.args.context.now.table.now.macros c.args.context.now.env.now c.args.context.now.level call c.args.self.now.left c.expand_arguments.new.self.left)
     (sym (e ∙ (λ i. finished (same i) (expanded_in u c.args.call.now.arguments.items (c.as_slice-expanded.ensures.value i)))))
     (finishes args))
     c.finish.ensures.is
@@ -113,8 +113,8 @@ expand_argument-returns-then-all_pass-clause-is m c =
       (
         hidings s list,
         refl,
-        argument_expands c.args.context.now.table.now c.args.context.now.env.now c.args.context.now.level c.args.head.now.token c.args.self.now.left c.args.self.now.left (hidings s list) (hidings s list) None
-            (omega (arith, c.if-context-ge-DEEPEST.false)) refl (plain-expands c.args.context.now.table.now c.args.context.now.env.now (c.args.context.now.level + 1) c.args.self.now.left s list (c.all_pass.ensures c.if-all_pass.true)),
+        argument_expands c.args.context.now.table.now.macros c.args.context.now.env.now c.args.context.now.level c.args.head.now.token c.args.self.now.left c.args.self.now.left (hidings s list) (hidings s list) None
+            (omega (arith, c.if-context-ge-DEEPEST.false)) refl (plain-expands c.args.context.now.table.now.macros c.args.context.now.env.now (c.args.context.now.level + 1) c.args.self.now.left s list (c.all_pass.ensures c.if-all_pass.true)),
       ),
     )
 
@@ -127,14 +127,14 @@ expand_argument-expand_list-requires m c = (
 pub expand_argument-returns-clause-is : goal.expand_argument-returns-clause-is
 expand_argument-returns-clause-is m c =
     IfOk-weaker c.made.result _ _
-    (argument_outcome c.args.context.now.table.now c.args.context.now.env.now c.args.context.now.level c.args.head.now.token c.args.self.now.left c.expand_list.new.self.left c.args.self.now.replacer.sets c.expand_list.new.self.replacer.sets
+    (argument_outcome c.args.context.now.table.now.macros c.args.context.now.env.now c.args.context.now.level c.args.head.now.token c.args.self.now.left c.expand_list.new.self.left c.args.self.now.replacer.sets c.expand_list.new.self.replacer.sets
     c.args.argument.now c.in_ok-list.list c.expand_list.new.passed c.expand_list.new.self.fault (omega (arith, c.if-context-ge-DEEPEST.false)) c.in_ok-list.ensures c.in_ok-expand_list.ensures.outcome)
     c.made.ensures
 
 pub expand_argument-returns-clause-known : goal.expand_argument-returns-clause-known
 expand_argument-returns-clause-known m c =
     IfOk-weaker c.made.result _ _
-    (argument_known c.args.context.now.table.now c.args.context.now.env.now c.args.context.now.level c.args.head.now.token c.args.self.now.left c.expand_list.new.self.left c.args.self.now.replacer.sets c.expand_list.new.self.replacer.sets
+    (argument_known c.args.context.now.table.now.macros c.args.context.now.env.now c.args.context.now.level c.args.head.now.token c.args.self.now.left c.expand_list.new.self.left c.args.self.now.replacer.sets c.expand_list.new.self.replacer.sets
     c.args.argument.now c.in_ok-list.list c.expand_list.new.passed c.expand_list.new.self.fault c.in_ok-expand_list.ensures.known)
     c.made.ensures
 
@@ -145,7 +145,7 @@ expand_arguments-loop-parameter-init m c = record {
   no_fault = c.requires.no_fault;
   known = rw c.requires.none (record { each = tt });
   keeps = keeps-all c.args.self.now.replacer.sets;
-  follows = λ behind. rw c.requires.none (arguments_first c.args.context.now.table.now c.args.context.now.env.now c.args.context.now.level (call_of c.args.self.now.replacer.sets c.args.call.now behind) c.args.self.now.left);
+  follows = λ behind. rw c.requires.none (arguments_first c.args.context.now.table.now.macros c.args.context.now.env.now c.args.context.now.level (call_of c.args.self.now.replacer.sets c.args.call.now behind) c.args.self.now.left);
 }
 
 pub expand_arguments-loop-parameter-preserved-then-not-alone : goal.expand_arguments-loop-parameter-preserved-then-not-alone
@@ -169,7 +169,7 @@ expand_arguments-loop-parameter-preserved-then-not-alone m c =
       keeps = c.loop-parameter.invariant.keeps;
       follows = λ behind.
           (let call = call_of s c.args.call.now behind in
-          follows_unused c.args.context.now.table.now c.args.context.now.env.now c.args.context.now.level c.args.self.now.left c.loop-parameter.self.left c.loop-parameter.self.left s u u vs cs names i done c.put.new.items.items call (wanted call)
+          follows_unused c.args.context.now.table.now.macros c.args.context.now.env.now c.args.context.now.level c.args.self.now.left c.loop-parameter.self.left c.loop-parameter.self.left s u u vs cs names i done c.put.new.items.items call (wanted call)
           less c.loop-parameter.invariant.count unused made (c.loop-parameter.invariant.follows behind));
     }
 
@@ -200,11 +200,11 @@ expand_arguments-returns-in-None-clause-is m c =
     let argument : hidings u c.argument_of-tokens.result.now ≡ hidings s (argument_at (lists_of vs) i) =
     ap (hidings u) tokens_are ∙ hidings-keeps (argument_at (lists_of vs) i) c.loop-parameter.invariant.keeps (argument-known s vs i c.requires.known.arguments) in
     let raised = rw c.in-None.is at c.in_ok-expansion.ensures.is in
-    let one : ExpandsArgument c.args.context.now.table.now c.args.context.now.env.now c.args.context.now.level c.args.call.now.head.token c.loop-parameter.self.left (hidings s (argument_at (lists_of vs) i)) c.expand_argument.new.self.left (Err raised.0) =
-    subst (λ l. ExpandsArgument c.args.context.now.table.now c.args.context.now.env.now c.args.context.now.level c.args.call.now.head.token c.loop-parameter.self.left l c.expand_argument.new.self.left (Err raised.0)) argument raised.2 in
+    let one : ExpandsArgument c.args.context.now.table.now.macros c.args.context.now.env.now c.args.context.now.level c.args.call.now.head.token c.loop-parameter.self.left (hidings s (argument_at (lists_of vs) i)) c.expand_argument.new.self.left (Err raised.0) =
+    subst (λ l. ExpandsArgument c.args.context.now.table.now.macros c.args.context.now.env.now c.args.context.now.level c.args.call.now.head.token c.loop-parameter.self.left l c.expand_argument.new.self.left (Err raised.0)) argument raised.2 in
     rw raised.1 (λ behind.
     let call = call_of s c.args.call.now behind in
-    follows_refused c.args.context.now.table.now c.args.context.now.env.now c.args.context.now.level c.args.self.now.left c.loop-parameter.self.left c.expand_argument.new.self.left s u u vs cs names i done done call (wanted call)
+    follows_refused c.args.context.now.table.now.macros c.args.context.now.env.now c.args.context.now.level c.args.self.now.left c.loop-parameter.self.left c.expand_argument.new.self.left s u u vs cs names i done done call (wanted call)
     raised.0 less is_used one (c.loop-parameter.invariant.follows behind))
 
 pub expand_arguments-returns-in-None-clause-known : goal.expand_arguments-returns-in-None-clause-known
@@ -232,8 +232,8 @@ expand_arguments-loop-parameter-preserved m c =
     let made_is = rw c.in-Some.is at c.in_ok-expansion.ensures.is in
     let e = c.in-Some.expansion in
     let tokens = made_is.1.0 in
-    let one : ExpandsArgument c.args.context.now.table.now c.args.context.now.env.now c.args.context.now.level c.args.call.now.head.token c.loop-parameter.self.left (hidings s (argument_at (lists_of vs) i)) c.expand_argument.new.self.left (Ok tokens) =
-    subst (λ l. ExpandsArgument c.args.context.now.table.now c.args.context.now.env.now c.args.context.now.level c.args.call.now.head.token c.loop-parameter.self.left l c.expand_argument.new.self.left (Ok tokens)) argument made_is.1.2 in
+    let one : ExpandsArgument c.args.context.now.table.now.macros c.args.context.now.env.now c.args.context.now.level c.args.call.now.head.token c.loop-parameter.self.left (hidings s (argument_at (lists_of vs) i)) c.expand_argument.new.self.left (Ok tokens) =
+    subst (λ l. ExpandsArgument c.args.context.now.table.now.macros c.args.context.now.env.now c.args.context.now.level c.args.call.now.head.token c.loop-parameter.self.left l c.expand_argument.new.self.left (Ok tokens)) argument made_is.1.2 in
     let here_is : option_map (hidings w) (option_of (argument_at (lists_of vs) i) e) ≡ Some tokens =
     subst (λ g. option_map (hidings w) (option_of g e) ≡ Some tokens) tokens_are made_is.1.1 in
     let tokens_known : AllKnown w (held e) = rw c.in-Some.is at c.in_ok-expansion.ensures.known in
@@ -247,7 +247,7 @@ expand_arguments-loop-parameter-preserved m c =
       keeps = keeps-after c.loop-parameter.invariant.keeps keeps;
       follows = λ behind.
           (let call = call_of s c.args.call.now behind in
-          follows_used c.args.context.now.table.now c.args.context.now.env.now c.args.context.now.level c.args.self.now.left c.loop-parameter.self.left c.expand_argument.new.self.left s u w vs cs names i done c.put-in-Some.new.items.items call (wanted call)
+          follows_used c.args.context.now.table.now.macros c.args.context.now.env.now c.args.context.now.level c.args.self.now.left c.loop-parameter.self.left c.expand_argument.new.self.left s u w vs cs names i done c.put-in-Some.new.items.items call (wanted call)
           e tokens less c.loop-parameter.invariant.count is_used made keeps given_known c.loop-parameter.invariant.known here_is one (c.loop-parameter.invariant.follows behind));
     }
 
@@ -263,7 +263,7 @@ expand_arguments-returns-clause-is m c =
     subst (λ n. n ≤ i) (ap length c.deref-alone-items.ensures.value ∙ c.in_ok-used.ensures.len) (omega (arith, c.loop-parameter-test.false)) in
     rw c.loop-parameter.invariant.no_fault (λ behind.
     let call = call_of s c.args.call.now behind in
-    follows_all c.args.context.now.table.now c.args.context.now.env.now c.args.context.now.level c.args.self.now.left c.loop-parameter.self.left s u vs (chains_of c.args.call.now.replaced.now) names
+    follows_all c.args.context.now.table.now.macros c.args.context.now.env.now c.args.context.now.level c.args.self.now.left c.loop-parameter.self.left s u vs (chains_of c.args.call.now.replaced.now) names
     i done call (wanted call) end (c.loop-parameter.invariant.follows behind))
 
 pub expand_arguments-returns-clause-known : goal.expand_arguments-returns-clause-known
@@ -297,8 +297,8 @@ expand_list-returns-then-not-branch-clause-outcome m c =
     let start = hidings c.args.self.now.replacer.sets c.args.list.now in
     let list = c.skip.new.list in
     let passed = c.skip.new.passed in
-    let here = follows_skip c.args.context.now.table.now c.args.context.now.env.now c.args.context.now.level c.loop-named.self.left sets c.args.self.now.left start c.loop-named.list c.loop-named.passed list passed c.in_ok-named.ensures.skipped c.loop-named.invariant.follows in
-    end_follows c.args.context.now.table.now c.args.context.now.env.now c.args.context.now.level c.args.self.now.left start (hidings sets passed) c.loop-named.self.left (hidings sets list) c.advance-goes.new.self.fault c.advance-goes.new.self.left
+    let here = follows_skip c.args.context.now.table.now.macros c.args.context.now.env.now c.args.context.now.level c.loop-named.self.left sets c.args.self.now.left start c.loop-named.list c.loop-named.passed list passed c.in_ok-named.ensures.skipped c.loop-named.invariant.follows in
+    end_follows c.args.context.now.table.now.macros c.args.context.now.env.now c.args.context.now.level c.args.self.now.left start (hidings sets passed) c.loop-named.self.left (hidings sets list) c.advance-goes.new.self.fault c.advance-goes.new.self.left
     (hidings c.advance-goes.new.self.replacer.sets c.advance-goes.new.passed) here (rw c.if-not-branch.true at c.in_ok-goes.ensures.on)
 
 pub expand_list-loop-named-preserved : goal.expand_list-loop-named-preserved
@@ -308,14 +308,14 @@ expand_list-loop-named-preserved m c =
     let list = c.skip.new.list in
     let passed = c.skip.new.passed in
     let taken = rw c.if-not-branch.false at c.in_ok-goes.ensures.on in
-    let here = follows_skip c.args.context.now.table.now c.args.context.now.env.now c.args.context.now.level c.loop-named.self.left sets c.args.self.now.left start c.loop-named.list c.loop-named.passed list passed c.in_ok-named.ensures.skipped c.loop-named.invariant.follows in
+    let here = follows_skip c.args.context.now.table.now.macros c.args.context.now.env.now c.args.context.now.level c.loop-named.self.left sets c.args.self.now.left start c.loop-named.list c.loop-named.passed list passed c.in_ok-named.ensures.skipped c.loop-named.invariant.follows in
     record {
       low = c.loop-named.invariant.low;
       list_known = c.in_ok-goes.ensures.list_known c.if-not-branch.false;
       passed_known = c.in_ok-goes.ensures.passed_known;
       no_fault = taken.0;
       keeps = keeps-after c.loop-named.invariant.keeps c.in_ok-goes.ensures.keeps;
-      follows = more_follows c.args.context.now.table.now c.args.context.now.env.now c.args.context.now.level c.args.self.now.left start (hidings sets passed) c.loop-named.self.left (hidings sets list) c.advance-goes.new.self.left
+      follows = more_follows c.args.context.now.table.now.macros c.args.context.now.env.now c.args.context.now.level c.args.self.now.left start (hidings sets passed) c.loop-named.self.left (hidings sets list) c.advance-goes.new.self.left
           (hidings c.advance-goes.new.self.replacer.sets c.advance-goes.new.list) (hidings c.advance-goes.new.self.replacer.sets c.advance-goes.new.passed) here taken.1;
     }
 
@@ -324,7 +324,7 @@ expand_list-loop-named-smaller m c =
     let sets = c.loop-named.self.replacer.sets in
     let list = c.skip.new.list in
     let passed = c.skip.new.passed in
-    let after = more_falls c.args.context.now.table.now c.args.context.now.env.now c.args.context.now.level c.loop-named.self.left (hidings sets list) (hidings sets passed) c.advance-goes.new.self.left
+    let after = more_falls c.args.context.now.table.now.macros c.args.context.now.env.now c.args.context.now.level c.loop-named.self.left (hidings sets list) (hidings sets passed) c.advance-goes.new.self.left
     (hidings c.advance-goes.new.self.replacer.sets c.advance-goes.new.list) (hidings c.advance-goes.new.self.replacer.sets c.advance-goes.new.passed) (rw c.if-not-branch.false at c.in_ok-goes.ensures.on).1 in
-    let skipped = skip_falls c.args.context.now.table.now c.args.context.now.env.now c.args.context.now.level c.loop-named.self.left sets c.loop-named.list c.loop-named.passed list passed c.in_ok-named.ensures.skipped in
+    let skipped = skip_falls c.args.context.now.table.now.macros c.args.context.now.env.now c.args.context.now.level c.loop-named.self.left sets c.loop-named.list c.loop-named.passed list passed c.in_ok-named.ensures.skipped in
     omega (arith, after, skipped)

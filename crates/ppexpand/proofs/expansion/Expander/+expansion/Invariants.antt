@@ -31,11 +31,11 @@ invariant-expand_list-loop-named l = record {
   passed_known : AllKnown l.self.replacer.sets l.passed;
   no_fault : l.self.fault ≡ None;
   keeps : Keeps l.fn.self.replacer.sets l.self.replacer.sets;
-  follows : Follows l.context.table.now l.context.env.now l.context.level l.fn.self.left (hidings l.fn.self.replacer.sets l.fn.list) (hidings l.self.replacer.sets l.passed) l.self.left (hidings l.self.replacer.sets l.list);
+  follows : Follows l.context.table.now.macros l.context.env.now l.context.level l.fn.self.left (hidings l.fn.self.replacer.sets l.fn.list) (hidings l.self.replacer.sets l.passed) l.self.left (hidings l.self.replacer.sets l.list);
 }
 
 abbrev pub decreases-expand_list-loop-named : goal.decreases-expand_list-loop-named
-decreases-expand_list-loop-named l = turns_left l.context.table.now l.context.env.now l.context.level l.self.left (hidings l.self.replacer.sets l.list)
+decreases-expand_list-loop-named l = turns_left l.context.table.now.macros l.context.env.now l.context.level l.self.left (hidings l.self.replacer.sets l.list)
 
 abbrev pub invariant-expand_arguments-loop-parameter : goal.invariant-expand_arguments-loop-parameter
 invariant-expand_arguments-loop-parameter l = record {
@@ -45,7 +45,7 @@ invariant-expand_arguments-loop-parameter l = record {
   no_fault : l.self.fault ≡ None;
   keeps : Keeps l.fn.self.replacer.sets l.self.replacer.sets;
   follows : (behind : List Hidden)
-      → ArgumentsFollow l.context.table.now l.context.env.now l.context.level (call_of l.fn.self.replacer.sets l.call behind) l.fn.self.left (wanted (call_of l.fn.self.replacer.sets l.call behind))
+      → ArgumentsFollow l.context.table.now.macros l.context.env.now l.context.level (call_of l.fn.self.replacer.sets l.call behind) l.fn.self.left (wanted (call_of l.fn.self.replacer.sets l.call behind))
       (expanded_in l.self.replacer.sets l.call.arguments.items l.expanded.items) l.self.left
       (to_expand l.parameter (chains_of l.call.replaced.now) (drop l.parameter (names_in l.call.replaced.now.shape)) (given_in l.fn.self.replacer.sets l.call.arguments.items));
 }

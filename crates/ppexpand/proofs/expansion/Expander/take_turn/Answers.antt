@@ -12,7 +12,7 @@ use Rattle.ppexpand.proofs.expansion.Expander.take_turn.Goals as goal
 
 pub returns-in-Done-clause-on : goal.returns-in-Done-clause-on
 returns-in-Done-clause-on c =
-    let t : turn_within c.args.context.now.table.now c.args.context.now.env.now c.args.self.now.left (hidings c.args.self.now.replacer.sets c.args.list.now) ≡ Done =
+    let t : turn_within c.args.context.now.table.now.macros c.args.context.now.env.now c.args.self.now.left (hidings c.args.self.now.replacer.sets c.args.list.now) ≡ Done =
     sym (ap (turn_in c.next_turn.new.self.sets c.next_turn.new.list) (sym (stepped c.next.inside c.next.view_is c.in-Done.is)) ∙ c.in_ok-next.ensures.is) in
     rw (c.requires.no_call, c.requires.no_fault) (λ level. (done t, hidings-keeps _ c.in_ok-next.ensures.keeps c.requires.passed_known))
 
@@ -21,7 +21,7 @@ returns-in-Done-clause-passed_known c = known-keeps _ c.in_ok-next.ensures.keeps
 
 pub returns-in-Refused-clause-on : goal.returns-in-Refused-clause-on
 returns-in-Refused-clause-on c =
-    let t : turn_within c.args.context.now.table.now c.args.context.now.env.now c.args.self.now.left (hidings c.args.self.now.replacer.sets c.args.list.now) ≡ Refused c.in-Refused.found =
+    let t : turn_within c.args.context.now.table.now.macros c.args.context.now.env.now c.args.self.now.left (hidings c.args.self.now.replacer.sets c.args.list.now) ≡ Refused c.in-Refused.found =
     sym (ap (turn_in c.next_turn.new.self.sets c.next_turn.new.list) (sym (stepped c.next.inside c.next.view_is c.in-Refused.is)) ∙ c.in_ok-next.ensures.is) in
     rw c.requires.no_call (λ level. (refused t, hidings-keeps _ c.in_ok-next.ensures.keeps c.requires.passed_known))
 
@@ -31,10 +31,10 @@ returns-in-Refused-clause-passed_known c = known-keeps _ c.in_ok-next.ensures.ke
 pub returns-in-Failed-clause-on : goal.returns-in-Failed-clause-on
 returns-in-Failed-clause-on c =
     let s = c.args.self.now.replacer.sets in
-    let t : turn_within c.args.context.now.table.now c.args.context.now.env.now c.args.self.now.left (hidings s c.args.list.now) ≡ Failed c.in-Failed.found =
+    let t : turn_within c.args.context.now.table.now.macros c.args.context.now.env.now c.args.self.now.left (hidings s c.args.list.now) ≡ Failed c.in-Failed.found =
     sym (ap (turn_in c.next_turn.new.self.sets c.next_turn.new.list) (sym (stepped c.next.inside c.next.view_is c.in-Failed.is)) ∙ c.in_ok-next.ensures.is) in
     rw c.requires.no_call (λ level. (
-      subst (EndsWith c.args.context.now.table.now c.args.context.now.env.now level c.args.self.now.left (hidings s c.args.list.now) (Some c.in-Failed.found)) (sym c.less_one-self.ensures) (failed t),
+      subst (EndsWith c.args.context.now.table.now.macros c.args.context.now.env.now level c.args.self.now.left (hidings s c.args.list.now) (Some c.in-Failed.found)) (sym c.less_one-self.ensures) (failed t),
       hidings-keeps _ c.in_ok-next.ensures.keeps c.requires.passed_known,
     ))
 
@@ -46,7 +46,7 @@ returns-in_ok-push_single-in-Passes-clause-on c =
     let s = c.next_turn.new.self.sets in
     let passed = c.args.passed.now in
     let head = c.in-Passes.head in
-    let t : turn_within c.args.context.now.table.now c.args.context.now.env.now c.args.self.now.left (hidings c.args.self.now.replacer.sets c.args.list.now) ≡ Passes (hiding s head) (hidings s c.next_turn.new.list) =
+    let t : turn_within c.args.context.now.table.now.macros c.args.context.now.env.now c.args.self.now.left (hidings c.args.self.now.replacer.sets c.args.list.now) ≡ Passes (hiding s head) (hidings s c.next_turn.new.list) =
     sym (ap (turn_in s c.next_turn.new.list) (sym (stepped c.next.inside c.next.view_is c.in-Passes.is)) ∙ c.in_ok-next.ensures.is) in
     let shown : hidings s c.push_single.new.self ≡ hidings c.args.self.now.replacer.sets passed ++ hiding s head ∷ [] =
     ap (hidings s) c.in_ok-push_single-in-Passes.ensures ∙ map-append (hiding s) passed (head ∷ []) ∙ ap (λ hs. hs ++ hiding s head ∷ []) (hidings-keeps passed c.in_ok-next.ensures.keeps c.requires.passed_known) in
@@ -61,7 +61,7 @@ returns-in_ok-push_single-in-Passes-clause-passed_known c =
 pub returns-in-Replaced-clause-on : goal.returns-in-Replaced-clause-on
 returns-in-Replaced-clause-on c =
     let s = c.next_turn.new.self.sets in
-    let t : turn_within c.args.context.now.table.now c.args.context.now.env.now c.args.self.now.left (hidings c.args.self.now.replacer.sets c.args.list.now) ≡ Replaced (hidings s c.next_turn.new.list) =
+    let t : turn_within c.args.context.now.table.now.macros c.args.context.now.env.now c.args.self.now.left (hidings c.args.self.now.replacer.sets c.args.list.now) ≡ Replaced (hidings s c.next_turn.new.list) =
     sym (ap (turn_in s c.next_turn.new.list) (sym (stepped c.next.inside c.next.view_is c.in-Replaced.is)) ∙ c.in_ok-next.ensures.is) in
     let same = hidings-keeps _ c.in_ok-next.ensures.keeps c.requires.passed_known ∙ sym (append-nil _) in
     rw c.requires.no_call (λ level. (
@@ -71,7 +71,7 @@ returns-in-Replaced-clause-on c =
         same,
         record {
           turn = λ n out d.
-              replaced t (subst (λ l. Expands c.args.context.now.table.now c.args.context.now.env.now level l n (hidings s c.next_turn.new.list) out) c.less_one-self-in-Replaced.ensures d);
+              replaced t (subst (λ l. Expands c.args.context.now.table.now.macros c.args.context.now.env.now level l n (hidings s c.next_turn.new.list) out) c.less_one-self-in-Replaced.ensures d);
         },
       ),
     ))
@@ -83,7 +83,7 @@ pub returns-in-Called-clause-on : goal.returns-in-Called-clause-on
 returns-in-Called-clause-on c =
     let s = c.next_turn.new.self.sets in
     let list = c.next_turn.new.list in
-    let t : turn_within c.args.context.now.table.now c.args.context.now.env.now c.args.self.now.left (hidings c.args.self.now.replacer.sets c.args.list.now) ≡ Called (call_of s c.in-Called.found list) =
+    let t : turn_within c.args.context.now.table.now.macros c.args.context.now.env.now c.args.self.now.left (hidings c.args.self.now.replacer.sets c.args.list.now) ≡ Called (call_of s c.in-Called.found list) =
     sym (ap (turn_in s list) (sym (stepped c.next.inside c.next.view_is c.in-Called.is)) ∙ c.in_ok-next.ensures.is) in
     (t, c.requires.no_fault, c.less_one-self-in-Called.ensures, hidings-keeps _ c.in_ok-next.ensures.keeps c.requires.passed_known)
 

@@ -31,7 +31,7 @@ named_next macros h rest list is named = ap (λ l. next_macro macros (tokens_of 
 pub returns-in_default-clause-is : goal.returns-in_default-clause-is
 unfolding turn
 returns-in_default-clause-is c =
-    sym (done-within c.args.left []) ∙ ap (λ l. turn_within c.args.context.now.table.now c.args.context.now.env.now c.args.left (hidings c.args.self.now.sets l)) (sym c.in_default.ensures.0)
+    sym (done-within c.args.left []) ∙ ap (λ l. turn_within c.args.context.now.table.now.macros c.args.context.now.env.now c.args.left (hidings c.args.self.now.sets l)) (sym c.in_default.ensures.0)
 
 pub returns-then-is_quote-clause-is : goal.returns-then-is_quote-clause-is
 returns-then-is_quote-clause-is c =
@@ -39,9 +39,9 @@ returns-then-is_quote-clause-is c =
     let t = hiding s c.in-Some.head in
     let rest = hidings s c.next.new.self in
     let quote : is_lone_quote c.in-Some.head.token ≡ true = sym c.is_quote.ensures ∙ c.if-is_quote.true in
-    let whole : Refused (quote_fault t) ≡ turn_within c.args.context.now.table.now c.args.context.now.env.now c.args.left (hidings s c.args.list.now) =
-    sym (ap (within c.args.left (t ∷ rest)) (turn-quote c.args.context.now.table.now c.args.context.now.env.now t rest quote) ∙ refused-within c.args.left (t ∷ rest) (quote_fault t))
-    ∙ ap (λ l. turn_within c.args.context.now.table.now c.args.context.now.env.now c.args.left (hidings s l)) (sym c.in-Some.ensures) in
+    let whole : Refused (quote_fault t) ≡ turn_within c.args.context.now.table.now.macros c.args.context.now.env.now c.args.left (hidings s c.args.list.now) =
+    sym (ap (within c.args.left (t ∷ rest)) (turn-quote c.args.context.now.table.now.macros c.args.context.now.env.now t rest quote) ∙ refused-within c.args.left (t ∷ rest) (quote_fault t))
+    ∙ ap (λ l. turn_within c.args.context.now.table.now.macros c.args.context.now.env.now c.args.left (hidings s l)) (sym c.in-Some.ensures) in
     IfOk-weaker c.refused_quote.result _ _ (λ n is. ap (turn_in s c.next.new.self) is ∙ whole) c.refused_quote.ensures
 
 pub returns-then-is_quote-clause-known : goal.returns-then-is_quote-clause-known
@@ -54,8 +54,8 @@ returns-then-hides-clause-is c =
     let rest = hidings s c.next.new.self in
     let quote : is_lone_quote c.in-Some.head.token ≡ false = sym c.is_quote.ensures ∙ c.if-is_quote.false in
     let hidden : set.contains (hide_of s c.in-Some.head) c.in-Some.head.token.text ≡ true = sym c.hides.ensures ∙ c.if-hides.true in
-    sym (ap (within c.args.left (t ∷ rest)) (turn-hidden c.args.context.now.table.now c.args.context.now.env.now t rest quote hidden) ∙ passes-within c.args.left (t ∷ rest) t rest)
-    ∙ ap (λ l. turn_within c.args.context.now.table.now c.args.context.now.env.now c.args.left (hidings s l)) (sym c.in-Some.ensures)
+    sym (ap (within c.args.left (t ∷ rest)) (turn-hidden c.args.context.now.table.now.macros c.args.context.now.env.now t rest quote hidden) ∙ passes-within c.args.left (t ∷ rest) t rest)
+    ∙ ap (λ l. turn_within c.args.context.now.table.now.macros c.args.context.now.env.now c.args.left (hidings s l)) (sym c.in-Some.ensures)
 
 pub returns-in_default-named-clause-is : goal.returns-in_default-named-clause-is
 returns-in_default-named-clause-is c =
@@ -63,9 +63,9 @@ returns-in_default-named-clause-is c =
     let t = hiding s c.in-Some.head in
     let rest = hidings s c.next.new.self in
     let quote : is_lone_quote c.in-Some.head.token ≡ false = sym c.is_quote.ensures ∙ c.if-is_quote.false in
-    let none : macro_of c.args.context.now.table.now c.in-Some.head.token ≡ None = named_next c.args.context.now.table.now _ _ c.args.list.now c.in-Some.ensures c.requires.named ∙ ap option_copied c.in_default-named.is in
-    sym (ap (within c.args.left (t ∷ rest)) (turn-unnamed c.args.context.now.table.now c.args.context.now.env.now t rest quote none) ∙ passes-within c.args.left (t ∷ rest) t rest)
-    ∙ ap (λ l. turn_within c.args.context.now.table.now c.args.context.now.env.now c.args.left (hidings s l)) (sym c.in-Some.ensures)
+    let none : macro_of c.args.context.now.table.now.macros c.in-Some.head.token ≡ None = named_next c.args.context.now.table.now.macros _ _ c.args.list.now c.in-Some.ensures c.requires.named ∙ ap option_copied c.in_default-named.is in
+    sym (ap (within c.args.left (t ∷ rest)) (turn-unnamed c.args.context.now.table.now.macros c.args.context.now.env.now t rest quote none) ∙ passes-within c.args.left (t ∷ rest) t rest)
+    ∙ ap (λ l. turn_within c.args.context.now.table.now.macros c.args.context.now.env.now c.args.left (hidings s l)) (sym c.in-Some.ensures)
 
 pub returns-then-is_spent-clause-is : goal.returns-then-is_spent-clause-is
 returns-then-is_spent-clause-is c =
@@ -75,9 +75,9 @@ returns-then-is_spent-clause-is c =
     let none : c.args.left ≡ Some 0 = nothing_left c.args.left (sym c.is_spent.ensures ∙ c.if-is_spent.true) in
     let quote = sym c.is_quote.ensures ∙ c.if-is_quote.false in
     let hidden = sym c.hides.ensures ∙ c.if-hides.false in
-    let macro = named_next c.args.context.now.table.now _ _ c.args.list.now c.in-Some.ensures c.requires.named ∙ ap option_copied c.in-Some-named.is in
-    let whole = sym (named c.args.context.now.table.now c.args.context.now.env.now (Some 0) t rest _ quote hidden macro)
-    ∙ (λ i. turn_within c.args.context.now.table.now c.args.context.now.env.now (sym none i) (hidings s (sym c.in-Some.ensures i))) in
+    let macro = named_next c.args.context.now.table.now.macros _ _ c.args.list.now c.in-Some.ensures c.requires.named ∙ ap option_copied c.in-Some-named.is in
+    let whole = sym (named c.args.context.now.table.now.macros c.args.context.now.env.now (Some 0) t rest _ quote hidden macro)
+    ∙ (λ i. turn_within c.args.context.now.table.now.macros c.args.context.now.env.now (sym none i) (hidings s (sym c.in-Some.ensures i))) in
     IfOk-weaker c.spent_turn.result _ _ (λ n is. is s c.args.context.now.env.now ∙ whole) c.spent_turn.ensures.is
 
 pub returns-then-is_spent-clause-known : goal.returns-then-is_spent-clause-known
@@ -94,8 +94,8 @@ returns-clause-is c =
     let some = sym c.is_spent.ensures ∙ c.if-is_spent.false in
     let quote = sym c.is_quote.ensures ∙ c.if-is_quote.false in
     let hidden = sym c.hides.ensures ∙ c.if-hides.false in
-    let macro = named_next c.args.context.now.table.now _ _ c.args.list.now c.in-Some.ensures c.requires.named ∙ ap option_copied c.in-Some-named.is in
+    let macro = named_next c.args.context.now.table.now.macros _ _ c.args.list.now c.in-Some.ensures c.requires.named ∙ ap option_copied c.in-Some-named.is in
     let whole = sym (free-within c.args.left (t ∷ rest) _ some)
-    ∙ sym (named c.args.context.now.table.now c.args.context.now.env.now c.args.left t rest _ quote hidden macro)
-    ∙ ap (λ l. turn_within c.args.context.now.table.now c.args.context.now.env.now c.args.left (hidings s l)) (sym c.in-Some.ensures) in
+    ∙ sym (named c.args.context.now.table.now.macros c.args.context.now.env.now c.args.left t rest _ quote hidden macro)
+    ∙ ap (λ l. turn_within c.args.context.now.table.now.macros c.args.context.now.env.now c.args.left (hidings s l)) (sym c.in-Some.ensures) in
     subst (λ u. IfOk c.macro_turn.result (λ n. turn_in c.macro_turn.new.self.sets c.macro_turn.new.list n ≡ u)) whole c.macro_turn.ensures.is

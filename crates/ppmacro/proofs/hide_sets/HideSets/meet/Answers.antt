@@ -1,8 +1,10 @@
-use Rattle.std.proofs.Common.{refl}
+use Rattle.std.proofs.Common.{◌≡◌, ◌∙◌, refl, ap}
+use Rattle.ppmacro.specs.Members.{hide_sets}
 use Rattle.ppmacro.specs.Operations.{Meet}
 use Rattle.ppmacro.proofs.KeepLemmas.{pairs-are}
-use Rattle.ppmacro.proofs.Viewed.{node-asked, keeps-seen, made-seen, kept-made}
+use Rattle.ppmacro.proofs.Viewed.{both-seen, node-asked, keeps-seen, made-seen, kept-made}
 use Rattle.ppmacro.proofs.Hiding.{known-at}
+use Rattle.ppmacro.proofs.Standing.{refused}
 use Rattle.ppmacro.proofs.hide_sets.HideSets.meet.Goals as goal
 
 pub join-requires-clause-one : goal.join-requires-clause-one
@@ -31,3 +33,17 @@ pub returns-clause-set : goal.returns-clause-set
 returns-clause-set c =
     made-seen Meet c.self.inside c.join.new.nodes.keys c.self.view_is c.self.invariant.distinct c.left.view_is c.right.view_is c.requires.left
     c.requires.right c.in_ok-number.ensures.known c.in_ok-number.ensures.set
+
+pub returns-in_err-number-clause-there : goal.returns-in_err-number-clause-there
+returns-in_err-number-clause-there c = λ n k e.
+    let members = both-seen Meet c.self.inside n c.self.view_is c.self.invariant c.left.view_is c.right.view_is c.requires.left c.requires.right k e in
+    let found = c.in_err-number.ensures.there n (node-asked c.self.inside c.self.view_is refl k) members in
+    let same = (λ i. record { sets = hide_sets c.self.inside.names (found.1 i); unions = c.self.inside.unions; meets = (found.2 i) }) ∙ c.self.view_is in
+    let told = refused c.from_residual.result (λ m. m ≡ n) _ c.from_residual.ensures.0 same in
+    (told.0, ap (λ v. v.sets) same, told.1)
+
+pub returns-clause-there : goal.returns-clause-there
+returns-clause-there c = λ n k e.
+    let members = both-seen Meet c.self.inside n c.self.view_is c.self.invariant c.left.view_is c.right.view_is c.requires.left c.requires.right k e in
+    let found = c.in_ok-number.ensures.there n (node-asked c.self.inside c.self.view_is refl k) members in
+    (found.0, (λ i. hide_sets c.self.inside.names (found.1 i)) ∙ ap (λ v. v.sets) c.self.view_is, tt)

@@ -1,6 +1,7 @@
-use Rattle.std.proofs.Common.{refl, ap}
-use Rattle.ppmacro.proofs.Viewed.{node-known, keeps-named, kept-named, with-seen}
-use Rattle.ppmacro.proofs.Hiding.{known-at}
+use Rattle.std.proofs.Common.{◌≡◌, ◌<◌, [], length, get_or, refl, ap, ◌∙◌, subst, Ok}
+use Rattle.ppmacro.specs.Members.{hide_sets}
+use Rattle.ppmacro.proofs.Viewed.{node-asked, more-there, more-seen, node-known, keeps-named, kept-named, with-seen}
+use Rattle.ppmacro.proofs.Hiding.{known-at, more-named}
 use Rattle.ppmacro.proofs.hide_sets.HideSets.with.Goals as goal
 
 pub insert-requires-clause-known : goal.insert-requires-clause-known
@@ -38,3 +39,32 @@ returns-clause-set c =
     with-seen names c.in_ok-named.ensures.keeps.0 c.number_for.new.self ns c.insert.new.nodes.keys c.args.self.now c.hide.inside.number c.args.hide
     c.in_ok-named.named c.in_ok-number.number c.args.name.now c.in_ok-named.ensures.keeps.1 c.in_ok-named.ensures.distinct c.in_ok-named.ensures.found.0
     c.in_ok-named.ensures.found.1 sets c.self.invariant.bounded c.hide.view_is l c.in_ok-number.ensures.known c.in_ok-number.ensures.set
+
+-- what is there
+
+pub returns-in_err-named-clause-there : goal.returns-in_err-named-clause-there
+returns-in_err-named-clause-there c = λ n k e.
+    let is = more-there c.self.inside n c.args.name.now c.self.view_is c.hide.view_is c.requires k e in
+    let named = more-named c.self.inside.names c.self.inside.nodes.keys n _ c.args.name.now c.self.invariant.distinct is in
+    absurd (cc (c.in_err-named.ensures.there named).0)
+
+pub returns-in_err-number-clause-there : goal.returns-in_err-number-clause-there
+returns-in_err-number-clause-there c = λ n k e.
+    let is = more-there c.self.inside n c.args.name.now c.self.view_is c.hide.view_is c.requires k e in
+    let named = more-named c.self.inside.names c.self.inside.nodes.keys n _ c.args.name.now c.self.invariant.distinct is in
+    let same = (c.in_ok-named.ensures.there named).1 in
+    let lx = subst (λ ns. c.in_ok-named.named < length ns) same c.in_ok-named.ensures.found.0 in
+    let at = subst (λ ns. get_or ns c.in_ok-named.named [] ≡ c.args.name.now) same c.in_ok-named.ensures.found.1 in
+    let members = more-seen c.self.inside n c.in_ok-named.named c.args.name.now c.self.view_is c.self.invariant c.hide.view_is c.requires k lx at e in
+    absurd (cc (c.in_err-number.ensures.there n (node-asked c.self.inside c.self.view_is refl k) members).0)
+
+pub returns-clause-there : goal.returns-clause-there
+returns-clause-there c = λ n k e.
+    let is = more-there c.self.inside n c.args.name.now c.self.view_is c.hide.view_is c.requires k e in
+    let named = more-named c.self.inside.names c.self.inside.nodes.keys n _ c.args.name.now c.self.invariant.distinct is in
+    let same = (c.in_ok-named.ensures.there named).1 in
+    let lx = subst (λ ns. c.in_ok-named.named < length ns) same c.in_ok-named.ensures.found.0 in
+    let at = subst (λ ns. get_or ns c.in_ok-named.named [] ≡ c.args.name.now) same c.in_ok-named.ensures.found.1 in
+    let members = more-seen c.self.inside n c.in_ok-named.named c.args.name.now c.self.view_is c.self.invariant c.hide.view_is c.requires k lx at e in
+    let found = c.in_ok-number.ensures.there n (node-asked c.self.inside c.self.view_is refl k) members in
+    (ap Ok (cc found.0), (λ i. record { sets = hide_sets (same i) (found.1 i); unions = c.self.inside.unions; meets = c.self.inside.meets }) ∙ c.self.view_is)

@@ -1,8 +1,9 @@
 use Rattle.std.proofs.Common.{◌<◌, ◌∙◌, ◌-◌, ◌/◌, ◌%◌, ◌^◌, ◌*◌, ◌+◌, arith, length, subst, sym}
 use Rattle.std.specs.Int.RustNames.{bit_or}
 use Rattle.std.proofs.lemmas.Nat.{one_shl, or_lt, mod_below}
-use Rattle.ppmacro.specs.Nodes.{word, word_with, IsBounded}
+use Rattle.ppmacro.specs.Nodes.{Node, node_at, word, word_with, IsBounded}
 use Rattle.ppmacro.proofs.Tries.{insert-here, insert-left, insert-right, member-inserted, pos-of, within-at, bounded-on, bounded-insert, half-below, keeps-on, length-keeps}
+use Rattle.ppmacro.proofs.Standing.{HasMore, here-there, left-asked, left-found, right-asked, right-found}
 use Rattle.ppmacro.proofs.hide_sets.nodes.+insert_bit.Goals as goal
 
 pub number_for-requires-clause-within : goal.number_for-requires-clause-within
@@ -122,3 +123,85 @@ returns-in_err-even-clause-bounded t c = λ limit l b.
 
 pub returns-in_err-whole-clause-bounded : goal.returns-in_err-whole-clause-bounded
 returns-in_err-whole-clause-bounded t c = λ limit l b. subst (IsBounded limit) (sym c.in_err-whole.ensures.err) b
+
+-- what is there
+
+pub returns-then-index-eq0-clause-there : goal.returns-then-index-eq0-clause-there
+returns-then-index-eq0-clause-there t c = λ n l h.
+    let old = c.args.nodes.now.keys in
+    let at = c.node.view_is ∙ c.read-node.ensures in
+    c.in_ok-whole.ensures.there n l
+    (here-there old n c.args.set c.args.bit c.requires.pool l c.requires.known (subst (λ k. HasMore old n c.args.set k c.args.bit) c.if-index-eq0.true h)
+    ∙ sym (λ i. record { here = bit_or (at i).here (one_shl c.args.bit 64 c.requires.bit i); left = (at i).left; right = (at i).right }))
+
+pub returns-in_err-whole-clause-there : goal.returns-in_err-whole-clause-there
+returns-in_err-whole-clause-there t c = λ n l h.
+    let old = c.args.nodes.now.keys in
+    let at = c.node.view_is ∙ c.read-node.ensures in
+    absurd (cc (c.in_err-whole.ensures.there n l
+    (here-there old n c.args.set c.args.bit c.requires.pool l c.requires.known (subst (λ k. HasMore old n c.args.set k c.args.bit) c.if-index-eq0.true h)
+    ∙ sym (λ i. record { here = bit_or (at i).here (one_shl c.args.bit 64 c.requires.bit i); left = (at i).left; right = (at i).right }))).0)
+
+pub returns-in_err-left-clause-there : goal.returns-in_err-left-clause-there
+returns-in_err-left-clause-there t c = λ n l h.
+    let old = c.args.nodes.now.keys in
+    let at = c.node.view_is ∙ c.read-node.ensures in
+    let node : Node = record { here = c.node.inside.here; left = c.node.inside.left; right = c.node.inside.right } in
+    let asked = left-asked old n c.args.set c.args.index c.args.bit node at c.requires.pool l c.if-index-eq0.false c.if-rest-eq0.true h in
+    let left = c.in_err-left.ensures.there (node_at old n).left asked.0 asked.1 in
+    absurd (cc left.0)
+
+pub returns-in_err-odd-clause-there : goal.returns-in_err-odd-clause-there
+returns-in_err-odd-clause-there t c = λ n l h.
+    let old = c.args.nodes.now.keys in
+    let at = c.node.view_is ∙ c.read-node.ensures in
+    let node : Node = record { here = c.node.inside.here; left = c.node.inside.left; right = c.node.inside.right } in
+    let asked = left-asked old n c.args.set c.args.index c.args.bit node at c.requires.pool l c.if-index-eq0.false c.if-rest-eq0.true h in
+    let left = c.in_ok-left.ensures.there (node_at old n).left asked.0 asked.1 in
+    let at-odd = left-found old c.insert_bit.new.nodes.keys n c.args.set c.args.index c.args.bit c.in_ok-left.left node at c.requires.pool l c.requires.known c.if-index-eq0.false
+    c.if-rest-eq0.true h (cc left.0) left.1 in
+    absurd (cc (c.in_err-odd.ensures.there n at-odd.0 at-odd.1).0)
+
+pub returns-in_ok-odd-clause-there : goal.returns-in_ok-odd-clause-there
+returns-in_ok-odd-clause-there t c = λ n l h.
+    let old = c.args.nodes.now.keys in
+    let at = c.node.view_is ∙ c.read-node.ensures in
+    let node : Node = record { here = c.node.inside.here; left = c.node.inside.left; right = c.node.inside.right } in
+    let asked = left-asked old n c.args.set c.args.index c.args.bit node at c.requires.pool l c.if-index-eq0.false c.if-rest-eq0.true h in
+    let left = c.in_ok-left.ensures.there (node_at old n).left asked.0 asked.1 in
+    let at-odd = left-found old c.insert_bit.new.nodes.keys n c.args.set c.args.index c.args.bit c.in_ok-left.left node at c.requires.pool l c.requires.known c.if-index-eq0.false
+    c.if-rest-eq0.true h (cc left.0) left.1 in
+    let whole = c.in_ok-odd.ensures.there n at-odd.0 at-odd.1 in
+    (whole.0, whole.1 ∙ left.1)
+
+pub returns-in_err-right-clause-there : goal.returns-in_err-right-clause-there
+returns-in_err-right-clause-there t c = λ n l h.
+    let old = c.args.nodes.now.keys in
+    let at = c.node.view_is ∙ c.read-node.ensures in
+    let node : Node = record { here = c.node.inside.here; left = c.node.inside.left; right = c.node.inside.right } in
+    let asked = right-asked old n c.args.set c.args.index c.args.bit node at c.requires.pool l c.if-index-eq0.false c.if-rest-eq0.false h in
+    let right = c.in_err-right.ensures.there (node_at old n).right asked.0 asked.1 in
+    absurd (cc right.0)
+
+pub returns-in_err-even-clause-there : goal.returns-in_err-even-clause-there
+returns-in_err-even-clause-there t c = λ n l h.
+    let old = c.args.nodes.now.keys in
+    let at = c.node.view_is ∙ c.read-node.ensures in
+    let node : Node = record { here = c.node.inside.here; left = c.node.inside.left; right = c.node.inside.right } in
+    let asked = right-asked old n c.args.set c.args.index c.args.bit node at c.requires.pool l c.if-index-eq0.false c.if-rest-eq0.false h in
+    let right = c.in_ok-right.ensures.there (node_at old n).right asked.0 asked.1 in
+    let at-even = right-found old c.insert_bit-else-rest-eq0.new.nodes.keys n c.args.set c.args.index c.args.bit c.in_ok-right.right node at c.requires.pool l c.requires.known c.if-index-eq0.false
+    c.if-rest-eq0.false h (cc right.0) right.1 in
+    absurd (cc (c.in_err-even.ensures.there n at-even.0 at-even.1).0)
+
+pub returns-in_ok-even-clause-there : goal.returns-in_ok-even-clause-there
+returns-in_ok-even-clause-there t c = λ n l h.
+    let old = c.args.nodes.now.keys in
+    let at = c.node.view_is ∙ c.read-node.ensures in
+    let node : Node = record { here = c.node.inside.here; left = c.node.inside.left; right = c.node.inside.right } in
+    let asked = right-asked old n c.args.set c.args.index c.args.bit node at c.requires.pool l c.if-index-eq0.false c.if-rest-eq0.false h in
+    let right = c.in_ok-right.ensures.there (node_at old n).right asked.0 asked.1 in
+    let at-even = right-found old c.insert_bit-else-rest-eq0.new.nodes.keys n c.args.set c.args.index c.args.bit c.in_ok-right.right node at c.requires.pool l c.requires.known c.if-index-eq0.false
+    c.if-rest-eq0.false h (cc right.0) right.1 in
+    let whole = c.in_ok-even.ensures.there n at-even.0 at-even.1 in
+    (whole.0, whole.1 ∙ right.1)

@@ -1,8 +1,9 @@
-use Rattle.std.proofs.Common.{◌∙◌, sym, subst}
-use Rattle.ppmacro.specs.Nodes.{word, IsBounded}
+use Rattle.std.proofs.Common.{◌∙◌, refl, sym, ap, subst, Ok}
+use Rattle.ppmacro.specs.Nodes.{Node, node_at, word, IsBounded}
 use Rattle.ppmacro.specs.Operations.{joined_word}
-use Rattle.ppmacro.proofs.Tries.{join-set, member-joined, bounded-on, bounded-join, keeps-on, length-keeps}
+use Rattle.ppmacro.proofs.Tries.{join-set, member-joined, bounded-on, bounded-join, keeps-on, length-keeps, words-lawful}
 use Rattle.ppmacro.proofs.Remembering.{settled-is}
+use Rattle.ppmacro.proofs.Standing.{lefts-asked, rights-asked, joined-found}
 use Rattle.ppmacro.proofs.hide_sets.nodes.+making.Goals as goal
 
 pub make-returns-in-Some-clause-known : goal.make-returns-in-Some-clause-known
@@ -66,3 +67,70 @@ make_node-returns-in_err-right-clause-bounded t c = λ limit b. c.make-2.ensures
 pub make_node-returns-in_err-both-clause-bounded : goal.make_node-returns-in_err-both-clause-bounded
 make_node-returns-in_err-both-clause-bounded t c = λ limit b.
     subst (IsBounded limit) (sym c.in_err-both.ensures.err) (c.in_ok-right.ensures.bounded limit (c.in_ok-left.ensures.bounded limit b))
+
+-- what is there
+
+pub make-returns-in-Some-clause-there : goal.make-returns-in-Some-clause-there
+make-returns-in-Some-clause-there t c = λ n l h.
+    let old = c.args.nodes.now.keys in
+    let made = settled-is c.args.operation old c.args.one c.args.two c.in-Some.number c.requires.pool c.requires.one c.requires.two (sym c.settled.ensures ∙ c.in-Some.is) in
+    (ap Ok (words-lawful old c.in-Some.number n c.requires.pool made.within l (λ w. made.is w ∙ sym (h w))), refl)
+
+pub make_node-returns-in_err-left-clause-there : goal.make_node-returns-in_err-left-clause-there
+make_node-returns-in_err-left-clause-there t c = λ n l h.
+    let old = c.args.nodes.now.keys in
+    let op = joined_word c.args.operation in
+    let one = c.first.view_is ∙ c.read-first.ensures in
+    let two = c.second.view_is ∙ c.read-second.ensures in
+    let first : Node = record { here = c.first.inside.here; left = c.first.inside.left; right = c.first.inside.right } in
+    let second : Node = record { here = c.second.inside.here; left = c.second.inside.left; right = c.second.inside.right } in
+    let lefts = lefts-asked op old n c.args.one c.args.two first second one two c.requires.pool l h in
+    let left = c.in_err-left.ensures.there (node_at old n).left lefts.0 lefts.1 in
+    absurd (cc left.0)
+
+pub make_node-returns-in_err-right-clause-there : goal.make_node-returns-in_err-right-clause-there
+make_node-returns-in_err-right-clause-there t c = λ n l h.
+    let old = c.args.nodes.now.keys in
+    let op = joined_word c.args.operation in
+    let one = c.first.view_is ∙ c.read-first.ensures in
+    let two = c.second.view_is ∙ c.read-second.ensures in
+    let first : Node = record { here = c.first.inside.here; left = c.first.inside.left; right = c.first.inside.right } in
+    let second : Node = record { here = c.second.inside.here; left = c.second.inside.left; right = c.second.inside.right } in
+    let lefts = lefts-asked op old n c.args.one c.args.two first second one two c.requires.pool l h in
+    let left = c.in_ok-left.ensures.there (node_at old n).left lefts.0 lefts.1 in
+    let rights = rights-asked op old c.make.new.nodes.keys n c.args.one c.args.two first second one two c.requires.pool l h left.1 in
+    let right = c.in_err-right.ensures.there (node_at old n).right rights.0 rights.1 in
+    absurd (cc right.0)
+
+pub make_node-returns-in_err-both-clause-there : goal.make_node-returns-in_err-both-clause-there
+make_node-returns-in_err-both-clause-there t c = λ n l h.
+    let old = c.args.nodes.now.keys in
+    let op = joined_word c.args.operation in
+    let one = c.first.view_is ∙ c.read-first.ensures in
+    let two = c.second.view_is ∙ c.read-second.ensures in
+    let first : Node = record { here = c.first.inside.here; left = c.first.inside.left; right = c.first.inside.right } in
+    let second : Node = record { here = c.second.inside.here; left = c.second.inside.left; right = c.second.inside.right } in
+    let lefts = lefts-asked op old n c.args.one c.args.two first second one two c.requires.pool l h in
+    let left = c.in_ok-left.ensures.there (node_at old n).left lefts.0 lefts.1 in
+    let rights = rights-asked op old c.make.new.nodes.keys n c.args.one c.args.two first second one two c.requires.pool l h left.1 in
+    let right = c.in_ok-right.ensures.there (node_at old n).right rights.0 rights.1 in
+    let both = joined-found op old c.make.new.nodes.keys c.make-2.new.nodes.keys n c.args.one c.args.two _ c.in_ok-left.left c.in_ok-right.right first second one two l h
+    c.joins-here.ensures (cc left.0) (cc right.0) left.1 right.1 in
+    absurd (cc (c.in_err-both.ensures.there n both.0 both.1).0)
+
+pub make_node-returns-clause-there : goal.make_node-returns-clause-there
+make_node-returns-clause-there t c = λ n l h.
+    let old = c.args.nodes.now.keys in
+    let op = joined_word c.args.operation in
+    let one = c.first.view_is ∙ c.read-first.ensures in
+    let two = c.second.view_is ∙ c.read-second.ensures in
+    let first : Node = record { here = c.first.inside.here; left = c.first.inside.left; right = c.first.inside.right } in
+    let second : Node = record { here = c.second.inside.here; left = c.second.inside.left; right = c.second.inside.right } in
+    let lefts = lefts-asked op old n c.args.one c.args.two first second one two c.requires.pool l h in
+    let left = c.in_ok-left.ensures.there (node_at old n).left lefts.0 lefts.1 in
+    let rights = rights-asked op old c.make.new.nodes.keys n c.args.one c.args.two first second one two c.requires.pool l h left.1 in
+    let right = c.in_ok-right.ensures.there (node_at old n).right rights.0 rights.1 in
+    let both = joined-found op old c.make.new.nodes.keys c.make-2.new.nodes.keys n c.args.one c.args.two _ c.in_ok-left.left c.in_ok-right.right first second one two l h
+    c.joins-here.ensures (cc left.0) (cc right.0) left.1 right.1 in
+    let whole = c.in_ok-both.ensures.there n both.0 both.1 in
+    (whole.0, whole.1 ∙ right.1 ∙ left.1)

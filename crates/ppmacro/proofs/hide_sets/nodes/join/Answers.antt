@@ -1,9 +1,10 @@
-use Rattle.std.proofs.Common.{◌∙◌, sym, subst}
+use Rattle.std.proofs.Common.{◌≡◌, ◌∙◌, refl, sym, subst}
 use Rattle.ppmacro.specs.Pairs.{answer_of}
 use Rattle.ppmacro.specs.Operations.{joined}
 use Rattle.ppmacro.specs.Remembered.{AreAnswers}
-use Rattle.ppmacro.proofs.Tries.{member-joined}
+use Rattle.ppmacro.proofs.Tries.{lawful, member-joined}
 use Rattle.ppmacro.proofs.Remembering.{known-is, unknown, known-by, answers-keep, answers-put, answer-put, is-answer}
+use Rattle.ppmacro.proofs.Standing.{join-words, refused}
 use Rattle.ppmacro.proofs.hide_sets.nodes.join.Goals as goal
 
 pub returns-in-Some-clause-known : goal.returns-in-Some-clause-known
@@ -41,3 +42,23 @@ returns-in_ok-put-in-None-clause-remembered c =
     let k = unknown c.args.operation c.args.pairs.now c.args.one c.args.two (sym c.known.ensures ∙ c.in-None.is) in
     known-by c.args.operation c.args.pairs.now c.put.new.self c.args.one c.args.two c.in_ok-both-in-None.both k
     ((λ i. answer_of (c.in_ok-put-in-None.ensures.ok i) c.args.one c.args.two) ∙ answer-put c.args.pairs.now c.args.one c.args.two c.in_ok-both-in-None.both k.none)
+
+pub returns-in-Some-clause-there : goal.returns-in-Some-clause-there
+returns-in-Some-clause-there c = λ n l h.
+    let old = c.args.nodes.now.keys in
+    (lawful old c.in-Some.number n c.requires.pool (returns-in-Some-clause-known c) l (λ x. returns-in-Some-clause-set c x ∙ sym (h x)), refl, tt)
+
+pub returns-in_err-both-in-None-clause-there : goal.returns-in_err-both-in-None-clause-there
+returns-in_err-both-in-None-clause-there c = λ n l h.
+    absurd (cc (c.in_err-both-in-None.ensures.there n l (join-words c.args.operation c.args.nodes.now.keys n c.args.one c.args.two c.requires.pool l c.requires.one c.requires.two h)).0)
+
+pub returns-in_err-put-in-None-clause-there : goal.returns-in_err-put-in-None-clause-there
+returns-in_err-put-in-None-clause-there c = λ n l h.
+    let made = c.in_ok-both-in-None.ensures.there n l (join-words c.args.operation c.args.nodes.now.keys n c.args.one c.args.two c.requires.pool l c.requires.one c.requires.two h) in
+    let told = refused c.from_residual-in_err-put-in-None.result (λ m. m ≡ n) (c.put.new.self ≡ c.args.pairs.now) c.from_residual-in_err-put-in-None.ensures.0 c.in_err-put-in-None.ensures.err in
+    (told.0, made.1, told.1)
+
+pub returns-in_ok-put-in-None-clause-there : goal.returns-in_ok-put-in-None-clause-there
+returns-in_ok-put-in-None-clause-there c = λ n l h.
+    let made = c.in_ok-both-in-None.ensures.there n l (join-words c.args.operation c.args.nodes.now.keys n c.args.one c.args.two c.requires.pool l c.requires.one c.requires.two h) in
+    (cc made.0, made.1, tt)

@@ -1,19 +1,12 @@
-use Rattle.std.proofs.Common.{◌∙◌, sym, ap, arith, Ok}
+use Rattle.std.proofs.Common.{◌∙◌, sym, ap, Ok}
 use Rattle.ppmacro.proofs.Tries.{searched}
 use Rattle.ppmacro.proofs.hide_sets.nodes.number_among.Goals as goal
-
-pub returns-then-number-ge-MOST-clause-there : goal.returns-then-number-ge-MOST-clause-there
-returns-then-number-ge-MOST-clause-there c = λ n p k e.
-    let ns = c.args.nodes.now.keys in
-    let at = searched ns c.args.node c.in-Some.number (sym c.get_index_of.ensures.index ∙ c.in-Some.is) in
-    let same = p.different n c.in-Some.number k.there at.0 (e ∙ sym at.1) in
-    absurd (omega (arith, same, k.below, c.if-number-ge-MOST.true))
 
 pub returns-clause-is : goal.returns-clause-is
 returns-clause-is c = (searched c.args.nodes.now.keys c.args.node c.in-Some.number (sym c.get_index_of.ensures.index ∙ c.in-Some.is)).1
 
 pub returns-clause-there : goal.returns-clause-there
-returns-clause-there c = λ n p k e.
+returns-clause-there c = λ n k e.
     let ns = c.args.nodes.now.keys in
     let at = searched ns c.args.node c.in-Some.number (sym c.get_index_of.ensures.index ∙ c.in-Some.is) in
-    ap Ok (p.different c.in-Some.number n at.0 k.there (at.1 ∙ sym e))
+    ap Ok (c.requires.different c.in-Some.number n at.0 k (at.1 ∙ sym e))

@@ -1,10 +1,10 @@
-use Rattle.std.proofs.Common.{◌≡◌, ◌∙◌, ◌<◌, length, sym, subst, ap, Ok}
+use Rattle.std.proofs.Common.{◌≡◌, ◌∙◌, ◌<◌, length, arith, sym, subst, ap, Ok}
 use Rattle.ppmacro.specs.Nodes.{IsPool, Keeps, node_at}
 use Rattle.ppmacro.proofs.Tries.{pool-after, keeps-insert_node, at-got, same_node-true, fresh-after, inserted-there}
 use Rattle.ppmacro.proofs.hide_sets.nodes.number_for.Goals as goal
 
 pub returns-clause-pool : goal.returns-clause-pool
-returns-clause-pool c = subst IsPool (sym c.in-Ok.ensures.keys) (pool-after c.args.nodes.now.keys c.args.node c.requires.pool c.requires.within)
+returns-clause-pool c = subst IsPool (sym c.in-Ok.ensures.keys) (pool-after c.args.nodes.now.keys c.args.node c.requires.pool (omega (arith, c.len.ensures.len, c.if-len-ge-MOST.false)) c.requires.within)
 
 pub returns-clause-keeps : goal.returns-clause-keeps
 returns-clause-keeps c = subst (Keeps c.args.nodes.now.keys) (sym c.in-Ok.ensures.keys) (keeps-insert_node c.args.nodes.now.keys c.args.node)
@@ -23,7 +23,7 @@ returns-clause-fresh c = λ n a l.
 pub returns-clause-there : goal.returns-clause-there
 returns-clause-there c = λ n k e.
     let ns = c.args.nodes.now.keys in
-    let same = c.in-Ok.ensures.keys ∙ inserted-there ns c.args.node n k.there e in
+    let same = c.in-Ok.ensures.keys ∙ inserted-there ns c.args.node n k e in
     let within = subst (λ xs. c.in-Ok.number < length xs) same c.in-Ok.ensures.within in
     let is = subst (λ xs. node_at xs c.in-Ok.number ≡ c.args.node) same (returns-clause-is c) in
-    (ap Ok (c.requires.pool.different c.in-Ok.number n within k.there (is ∙ sym e)), same)
+    (ap Ok (c.requires.pool.different c.in-Ok.number n within k (is ∙ sym e)), same)

@@ -11,7 +11,7 @@ pub returns-in-Ok-clause-ok : goal.returns-in-Ok-clause-ok
 returns-in-Ok-clause-ok c = let old = c.self.inside.macros.entries in
     updates-get old c.insert_full.new.self.entries c.args.name.now (Some c.args.definition) (table.insert (table.from_entries old) c.args.name.now c.args.definition)
     c.in-Ok.ensures.updates.0 (λ q. table.get-insert nat_list_cmp_total (table.from_entries old) c.args.name.now c.args.definition q)
-    ∙ ap (λ m. table.insert m c.args.name.now c.args.definition) c.self.view_is
+    ∙ ap (λ t. table.insert t.macros c.args.name.now c.args.definition) c.self.view_is
 
 pub invariant_of-self : goal.invariant_of-self
 invariant_of-self c =

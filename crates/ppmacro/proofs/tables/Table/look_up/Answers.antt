@@ -13,4 +13,4 @@ returns-then-eq c =
     sym c.in-Some.ensures.value
     ∙ lookup-get c.in-Some.key.now entries
     ∙ ap (λ n. table.get (table.from_entries {R = slice_cmp nat_cmp} entries) n) same
-    ∙ ap (λ m. table.get m c.args.name.now) c.self.view_is
+    ∙ ap (λ t. table.get t.macros c.args.name.now) c.self.view_is

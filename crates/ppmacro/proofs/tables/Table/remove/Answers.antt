@@ -7,11 +7,11 @@ use Rattle.ppmacro.specs.Marks.{AreMarked}
 use Rattle.ppmacro.proofs.Marked.{marked-remove}
 use Rattle.ppmacro.proofs.tables.Table.remove.Goals as goal
 
-pub returns : goal.returns
-returns c = let old = c.self.inside.macros.entries in
+pub returns-clause-macros : goal.returns-clause-macros
+returns-clause-macros c = let old = c.self.inside.macros.entries in
     updates-get old c.swap_remove.new.self.entries c.args.name.now None (table.remove (table.from_entries old) c.args.name.now)
     c.swap_remove.ensures.updates.0 (λ q. table.get-remove nat_list_cmp_total (table.from_entries old) c.args.name.now q)
-    ∙ ap (λ m. table.remove m c.args.name.now) c.self.view_is
+    ∙ ap (λ t. table.remove t.macros c.args.name.now) c.self.view_is
 
 pub invariant_of-self : goal.invariant_of-self
 invariant_of-self c =

@@ -1,5 +1,5 @@
 use Rattle.std.proofs.Common.{rules}
 use Rattle.ppmacro.proofs.tables.Table.with_hasher.Goals as goal
 
-pub returns : goal.returns
-returns c = search rules
+pub returns-clause-macros : goal.returns-clause-macros
+returns-clause-macros c = search rules
