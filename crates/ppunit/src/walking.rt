@@ -1,12 +1,13 @@
 //! Walks over the lines of a file in the order of execution: the groups that are taken and no others (6.10.1). The
 //! lines of an included file come before the line after its include line.
-ghost use Rattle.std.specs.Prelude.{◌≡◌, ◌<◌, ◌≤◌, ◌+◌, ℕ, suc, Bool, true, false, None, Some, IfOk};
+ghost use Rattle.std.specs.Prelude.{◌≡◌, ◌<◌, ◌≤◌, ◌+◌, ℕ, suc, Bool, true, false, if◌then◌else◌, None, Some, IfOk};
 ghost use Rattle.std.specs.Prelude.{List, ◌++◌, drop, length};
 ghost use Rattle.std.specs.List.{AllByRecursion};
 ghost use Rattle.std.specs.Result.{result_err};
 ghost use Rattle.pptext.specs.Lines.{LogicalLine};
 ghost use Rattle.pptext.specs.Stops.{IfSettled};
-ghost use Rattle.pptext.specs.Tree.{Parts, Branches, branch_lines, AreBranches, opens_section, ends_group};
+ghost use Rattle.pptext.specs.Tree.{Parts, Branches, branch_lines, AreBranches};
+ghost use Rattle.pptext.specs.Classes.{opens_section, ends_group};
 ghost use Rattle.pptext.specs.declared.sources.Directive.{Directive};
 ghost use Rattle.ppshelf.specs.Files.{Files, Extends};
 ghost use Rattle.ppunit.specs.Group.{Controls, Includes};
@@ -23,7 +24,7 @@ use crate::opening::{Around, Entered, OpenFile, Opening, open, resolve_in};
 use crate::stack::Stack;
 use crate::states::State;
 use ppshelf::{Disk, Pass};
-use pptext::{Directive, Source, Stop, Token};
+use pptext::{Class, Directive, Source, Stop, Token};
 use std::alloc::Global;
 use std::marker::Model;
 
@@ -187,6 +188,14 @@ fn include<'x, 'a: 'x, D: Disk>(
     open(around, pass, state, depth + 1, sign(line), opening)
 }
 
+/// Returns the number of the directory after which the search of an include line begins, if it doesn't begin with the first:
+/// at `#include_next`, that of the file.
+fn folder_before(next: bool, state: &State) -> Option<usize>
+    ensures { result ≡ (if next then state.now.folder else None) }
+{
+    if next { state.folder } else { None }
+}
+
 /// Executes a control line. Returns the file that it opens, if it opens one.
 fn do_line<'x, 'a: 'x, D: Disk>(
     around: &Around<'a, '_, D>,
@@ -213,24 +222,20 @@ fn do_line<'x, 'a: 'x, D: Disk>(
         tokens,
         number: _,
     } = line;
-    if directive == Directive::Error {
-        return Err(Stop::Fault(error(around.alloc, tokens)?));
+    match directive.class() {
+        Class::Error => Err(Stop::Fault(error(around.alloc, tokens)?)),
+        Class::Ignored => Ok(None),
+        Class::Includes(next) => {
+            refuse_lone_quote(tokens)?;
+            let folder = folder_before(next, state);
+            include(around, pass, state, depth, Opening { row, folder }, tokens)
+        }
+        _ => {
+            refuse_lone_quote(tokens)?;
+            control(around.alloc, state, around.profile(), line)?;
+            Ok(None)
+        }
     }
-    if directive == Directive::Ignored {
-        return Ok(None);
-    }
-    refuse_lone_quote(tokens)?;
-    if directive == Directive::Include {
-        let from = Opening { row, folder: None };
-        return include(around, pass, state, depth, from, tokens);
-    }
-    if directive == Directive::IncludeNext {
-        let folder = state.folder;
-        let from = Opening { row, folder };
-        return include(around, pass, state, depth, from, tokens);
-    }
-    control(around.alloc, state, around.profile(), line)?;
-    Ok(None)
 }
 
 /// The next line to process: the first of a file that was just opened, if there is one, and then the line at index
