@@ -1,23 +1,14 @@
 //! A filter of fingerprints of macro names. It rejects most identifiers that name no macro, and guesses the index of a macro in
 //! the table.
-ghost use Rattle.std.specs.Prelude.{◌≡◌, ◌+◌, ◌<◌, ◌≤◌, ℕ, List, length, min};
-ghost use Rattle.std.specs.Hash.FoldHasher.{read_u32};
+ghost use Rattle.std.specs.Prelude.{◌≡◌, ◌+◌, ◌<◌, ℕ, List, length, min};
 ghost use Rattle.ppmacro.specs.Marks.{mark_of, short_mark, at};
 
+use pptext::half_word;
 use std::alloc::{AllocError, Global};
 use std::marker::Model;
 
 /// The number of slots. A fingerprint is the index of a slot.
 const MARKS: usize = 32_768;
-
-/// Returns four bytes, in little-endian order, as a number.
-fn half_word(bytes: &[u8], at: usize) -> u64
-    requires { at + 4 ≤ length bytes.now }
-    ensures value { result ≡ read_u32 bytes.now at }
-    ensures bound { result < 4_294_967_296 }
-{
-    u32::from_le_bytes([bytes[at], bytes[at + 1], bytes[at + 2], bytes[at + 3]]) as u64
-}
 
 /// Returns the fingerprint of a name.
 #[tactic(auto, unfolding(crate::specs::Marks::mark_of))]
