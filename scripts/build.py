@@ -265,7 +265,8 @@ def shared(word):
     """The options that deps, dump and faults share."""
     word.add_argument("--program", metavar="FILE", help="run this program (default: cppunits on PATH)")
     word.add_argument("--workers", metavar="N", type=lambda text: number(text, 1, 64, int), help="preprocess N units in parallel")
-    word.add_argument("--profile", choices=("c11", "later", "gnu"), default="gnu", help="set the rules: gnu for headers of Linux (default: gnu)")
+    word.add_argument("--profile", choices=("c11", "later", "gnu"), default="gnu",
+                      help="set the rules: gnu for headers of Linux, later for C23's branches and #pragma once (default: gnu)")
     word.add_argument("--list", metavar="FILE", help="write the list here, with names below / (and with contents if -include made files)")
     word.add_argument("--query-driver", metavar="GLOB", action="append", default=[],
                       help="allow compilers whose paths match, like '/srv/cross/bin/*-gcc' (may be repeated)")

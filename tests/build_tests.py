@@ -395,7 +395,7 @@ class Runs(Builds):
         write(self.top, {"compile_commands.json": json.dumps([{"directory": self.top, "file": "a.c", "command": "gcc -c a.c"}]), "out": "as it was"})
         slow = "#!/bin/sh\ntouch %(top)s/begun\nprintf 'unit 0 '\nexec sleep 30\n"
         self.compiler("bin/slow", slow)
-        for number in signal.SIGINT, signal.SIGTERM:
+        for number in signal.SIGINT, signal.SIGTERM, signal.SIGHUP:
             for compiler, word in (COMPILER, self.path("bin/slow")), (slow, program()):
                 self.compiler("bin/gcc", compiler)
                 for task, more in ("dump", ["--output", "out"]), ("deps", ["--into", "d"]):
@@ -405,9 +405,9 @@ class Runs(Builds):
             self.assertEqual(file.read(), "as it was")
 
     def interrupted(self, words, number):
-        # a shell that runs these tests in the background has them ignore SIGINT
+        # a shell that runs these tests in the background has them ignore SIGINT, and nohup SIGHUP
         process = subprocess.Popen(words, cwd=self.top, env=self.environment(), stdout=subprocess.PIPE, stderr=subprocess.PIPE,
-                                   preexec_fn=lambda: signal.signal(signal.SIGINT, signal.SIG_DFL))
+                                   preexec_fn=lambda: signal.signal(number, signal.SIG_DFL))
         while not os.path.exists(self.path("begun")) and process.poll() is None:
             time.sleep(0.02)
         os.unlink(self.path("begun"))
